@@ -1,0 +1,24 @@
+use thiserror::Error;
+
+/// The outside failed: a read, a write, or the choice of a file.
+#[derive(Clone, Copy, Debug, PartialEq, Eq, Error)]
+#[error("the outside failed")]
+pub struct Failed;
+
+/// Why a sink took nothing of a piece.
+#[derive(Clone, Copy, Debug, PartialEq, Eq, Error)]
+pub enum SinkFault {
+    #[error("the sink failed")]
+    Failed,
+    #[error("the sink is out of memory")]
+    OutOfMemory,
+}
+
+/// Why a text was sent in part.
+#[derive(Clone, Copy, Debug, PartialEq, Eq, Error)]
+pub enum WriteFault {
+    #[error("the sink failed")]
+    Failed,
+    #[error("the sink is out of memory")]
+    OutOfMemory,
+}

@@ -1,0 +1,220 @@
+//! Forms in memory, which tell their bytes to contracts. Each fails at the calls whose numbers, from 0, it was given.
+ghost use Rattle.std.specs.Prelude.{◌≡◌, ◌<◌, ◌≤◌, ◌↔◌, ◌⊎◌, [], Some, None, length, min, Err, IsErr, IfOk, OnOk, OnErr};
+ghost use Rattle.std.specs.Io.{ReadsAtMost};
+ghost use Rattle.std.specs.Io.KnownBytes.{ReadConsumes, WriteAppends};
+ghost use Rattle.route_io.specs.Calls.{IsToFail, after_call, after_write, none_made};
+ghost use Rattle.route_io.specs.Causes.{HasCause, SinkHasCause};
+ghost use Rattle.route_io.specs.Files.{first_of_name};
+ghost use Rattle.route_io.specs.Forms.{IsFull, room};
+
+use crate::calls::CallList;
+pub use crate::shelf::NamedFile;
+use crate::shelf::Shelf;
+use crate::sure::{SureSink, SureSource};
+use crate::{Failed, Folder, Sink, SinkFault, Source};
+use std::alloc::Global;
+use std::marker::Model;
+
+/// Bytes in memory as a source.
+#[derive(Drop)]
+pub struct MemorySource {
+    source: SureSource,
+    calls: CallList,
+}
+
+impl Model for MemorySource {
+    ghost use Rattle.route_io.specs.Forms.{SourceInMemory};
+
+    ghost Value = { SourceInMemory };
+
+    ghost view = { λ s. record { left = s.source; calls = s.calls } };
+}
+
+impl MemorySource {
+    /// A source of these bytes, whose calls of these numbers fail.
+    pub fn new(bytes: Vec<u8>, fails: Vec<u64>) -> Self
+        ensures left { result.left ≡ bytes.items }
+        ensures calls { result.calls ≡ none_made fails.items }
+    {
+        MemorySource {
+            source: SureSource::new(bytes),
+            calls: CallList::new(fails),
+        }
+    }
+}
+
+impl Source for MemorySource {
+    ghost left = { λ s. Some s.left };
+
+    ghost faults = { λ s. s.calls.faults };
+
+    ghost files = { λ _. None };
+
+    fn read(&mut self, buf: &mut [u8]) -> Result<usize, Failed>
+        ensures listed { IsErr result ↔ IsToFail self.old.calls }
+        ensures counted { self.new.calls ≡ after_call self.old.calls result }
+        ensures count { IfOk result (λ n. n ≡ min (length self.old.left) (length buf.old)) }
+
+        // what every source promises
+        ensures within { ReadsAtMost result buf.new }
+        ensures bytes { ReadConsumes (Some self.old.left) (Some self.new.left) result buf.new }
+        ensures cause { HasCause self.old.calls.faults self.new.calls.faults result }
+    {
+        self.calls.make()?;
+        self.source.read(buf)
+    }
+}
+
+/// A sink in memory that takes no more bytes in all than its bound.
+#[derive(Drop)]
+pub struct MemorySink {
+    sink: SureSink,
+    bound: u64,
+    calls: CallList,
+}
+
+impl Model for MemorySink {
+    ghost use Rattle.std.specs.Prelude.{◌≤◌, length};
+    ghost use Rattle.route_io.specs.Forms.{SinkInMemory};
+
+    ghost Value = { SinkInMemory };
+
+    ghost view = { λ s. record { sent = s.sink.sent; bound = s.bound; wants = s.sink.wants; calls = s.calls } };
+
+    ghost invariant = { λ s. length s.sink.sent ≤ s.bound };
+}
+
+impl MemorySink {
+    /// A sink whose calls of these numbers fail, and each call once it took `bound` bytes.
+    pub fn new(alloc: Global, bound: u64, fails: Vec<u64>) -> Self
+        ensures sent { result.sent ≡ [] }
+        ensures bound { result.bound ≡ bound }
+        ensures wants { result.wants ≡ 0 }
+        ensures calls { result.calls ≡ none_made fails.items }
+    {
+        MemorySink {
+            sink: SureSink::new(alloc),
+            bound,
+            calls: CallList::new(fails),
+        }
+    }
+
+    /// The bytes that it took.
+    pub fn sent(&self) -> &[u8]
+        ensures { result.now ≡ self.now.sent }
+    {
+        self.sink.sent()
+    }
+}
+
+impl Sink for MemorySink {
+    ghost sent = { λ s. Some s.sent };
+
+    ghost faults = { λ s. s.calls.faults };
+
+    ghost wants = { λ s. s.wants };
+
+    fn write(&mut self, piece: &[u8]) -> Result<usize, SinkFault>
+        requires { 0 < length piece.now }
+        ensures failed { (result ≡ Err SinkFault.Failed) ↔
+            (IsToFail self.old.calls ⊎ IsFull self.old) }
+        ensures counted { self.new.calls ≡ after_write self.old.calls result }
+
+        // It takes what fits.
+        ensures count { IfOk result (λ n. n ≡ min (length piece.now) (room self.old)) }
+        ensures within_bound { length self.new.sent ≤ self.new.bound }
+        ensures same_bound { self.new.bound ≡ self.old.bound }
+
+        // what every sink promises
+        ensures bytes { WriteAppends (Some self.old.sent) (Some self.new.sent) result piece.now }
+        ensures cause { SinkHasCause self.old.calls.faults self.new.calls.faults
+            self.old.wants self.new.wants result }
+    {
+        if self.calls.make().is_err() {
+            return Err(SinkFault::Failed);
+        }
+        let room = self.bound - self.sink.sent().len() as u64;
+        if room == 0 {
+            self.calls.fail();
+            return Err(SinkFault::Failed);
+        }
+        let fits = piece.len().min(room as usize);
+        self.sink.write(&piece[..fits])
+    }
+}
+
+/// Files in memory as a folder. Selections and reads are numbered together.
+#[derive(Drop)]
+pub struct MemoryFolder {
+    shelf: Shelf,
+    calls: CallList,
+}
+
+impl Model for MemoryFolder {
+    ghost use Rattle.route_io.specs.Forms.{FolderInMemory};
+
+    ghost Value = { FolderInMemory };
+
+    ghost view = { λ f. record { files = f.shelf.files; left = f.shelf.left; calls = f.calls } };
+}
+
+impl MemoryFolder {
+    /// A folder of these files, whose calls of these numbers fail.
+    pub fn new(files: Vec<NamedFile>, fails: Vec<u64>) -> Self
+        ensures files { result.files ≡ files.items }
+        ensures closed { result.left ≡ [] }
+        ensures calls { result.calls ≡ none_made fails.items }
+    {
+        MemoryFolder {
+            shelf: Shelf::new(files),
+            calls: CallList::new(fails),
+        }
+    }
+}
+
+impl Source for MemoryFolder {
+    ghost left = { λ f. Some f.left };
+
+    ghost faults = { λ f. f.calls.faults };
+
+    ghost files = { λ f. Some (first_of_name f.files) };
+
+    fn read(&mut self, buf: &mut [u8]) -> Result<usize, Failed>
+        ensures listed { IsErr result ↔ IsToFail self.old.calls }
+        ensures counted { self.new.calls ≡ after_call self.old.calls result }
+        ensures count { IfOk result (λ n. n ≡ min (length self.old.left) (length buf.old)) }
+        ensures same_files { self.new.files ≡ self.old.files }
+
+        // what every source promises
+        ensures within { ReadsAtMost result buf.new }
+        ensures bytes { ReadConsumes (Some self.old.left) (Some self.new.left) result buf.new }
+        ensures cause { HasCause self.old.calls.faults self.new.calls.faults result }
+    {
+        self.calls.make()?;
+        Ok(self.shelf.give(buf))
+    }
+}
+
+impl Folder for MemoryFolder {
+    ghost admits = { λ _. Unit {0} };
+
+    fn select(&mut self, name: &str) -> Result<(), Failed>
+        ensures failed { IsErr result ↔
+            (IsToFail self.old.calls ⊎ (first_of_name self.old.files name.now ≡ None)) }
+        ensures counted { self.new.calls ≡ after_call self.old.calls result }
+        ensures same_files { self.new.files ≡ self.old.files }
+
+        // what every folder promises
+        ensures opened { OnOk result (first_of_name self.old.files name.now ≡ Some self.new.left) }
+        ensures closed { OnErr result (self.new.left ≡ []) }
+        ensures cause { HasCause self.old.calls.faults self.new.calls.faults result }
+    {
+        self.shelf.close();
+        self.calls.make()?;
+        if self.shelf.open(name).is_err() {
+            self.calls.fail();
+            return Err(Failed);
+        }
+        Ok(())
+    }
+}

@@ -1,0 +1,189 @@
+//! Forms in memory that fail at a missing name alone. They tell their bytes to contracts.
+ghost use Rattle.std.specs.Prelude.{◌≡◌, ◌<◌, ◌↔◌, [], Some, None, Ok, length, min, IsErr, IfOk, IfErr, OnOk, OnErr};
+ghost use Rattle.std.specs.Io.{ReadsAtMost};
+ghost use Rattle.std.specs.Io.KnownBytes.{ReadConsumes, WriteAppends};
+ghost use Rattle.route_io.specs.Calls.{count_up};
+ghost use Rattle.route_io.specs.Causes.{HasCause, SinkHasCause};
+ghost use Rattle.route_io.specs.Files.{first_of_name};
+
+use crate::calls::count;
+use crate::front::copy_front;
+use crate::shelf::{NamedFile, Shelf};
+use crate::{Failed, Folder, Sink, SinkFault, Source};
+use std::alloc::Global;
+use std::marker::Model;
+
+/// Bytes in memory as a source that never fails.
+#[derive(Drop)]
+pub struct SureSource {
+    bytes: Vec<u8>,
+    given: usize,
+}
+
+impl Model for SureSource {
+    ghost use Rattle.std.specs.Prelude.{ℕ, ◌≤◌, List, drop, vec_len};
+
+    ghost Value = { List ℕ };
+
+    ghost view = { λ s. drop s.given s.bytes.items };
+
+    ghost invariant = { λ s. s.given ≤ vec_len s.bytes };
+}
+
+impl SureSource {
+    /// A source of these bytes.
+    pub fn new(bytes: Vec<u8>) -> Self
+        ensures { result ≡ bytes.items }
+    {
+        SureSource { bytes, given: 0 }
+    }
+}
+
+impl Source for SureSource {
+    ghost left = { λ s. Some s };
+
+    ghost faults = { λ _. 0 };
+
+    ghost files = { λ _. None };
+
+    fn read(&mut self, buf: &mut [u8]) -> Result<usize, Failed>
+        ensures never_fails { result ≡ Ok (min (length self.old) (length buf.old)) }
+
+        // what every source promises
+        ensures within { ReadsAtMost result buf.new }
+        ensures bytes { ReadConsumes (Some self.old) (Some self.new) result buf.new }
+    {
+        let given = copy_front(&self.bytes[self.given..], buf);
+        self.given += given;
+        Ok(given)
+    }
+}
+
+/// A sink in memory that never fails. It may want memory.
+#[derive(Drop)]
+pub struct SureSink {
+    sent: Vec<u8>,
+    wants: u64,
+}
+
+impl Model for SureSink {
+    ghost use Rattle.route_io.specs.Forms.{SureSinkState};
+
+    ghost Value = { SureSinkState };
+
+    ghost view = { λ s. record { sent = s.sent.items; wants = s.wants } };
+}
+
+impl SureSink {
+    /// A sink that took nothing yet.
+    pub fn new(alloc: Global) -> Self
+        ensures sent { result.sent ≡ [] }
+        ensures wants { result.wants ≡ 0 }
+    {
+        SureSink {
+            sent: Vec::new(alloc),
+            wants: 0,
+        }
+    }
+
+    /// The bytes that it took.
+    pub fn sent(&self) -> &[u8]
+        ensures { result.now ≡ self.now.sent }
+    {
+        &self.sent
+    }
+}
+
+impl Sink for SureSink {
+    ghost sent = { λ s. Some s.sent };
+
+    ghost faults = { λ _. 0 };
+
+    ghost wants = { λ s. s.wants };
+
+    fn write(&mut self, piece: &[u8]) -> Result<usize, SinkFault>
+        requires { 0 < length piece.now }
+        ensures never_fails { IfErr result (λ fault. fault ≡ SinkFault.OutOfMemory) }
+        ensures whole { IfOk result (λ n. n ≡ length piece.now) }
+
+        // what every sink promises
+        ensures bytes { WriteAppends (Some self.old.sent) (Some self.new.sent) result piece.now }
+        ensures cause { SinkHasCause 0 0 self.old.wants self.new.wants result }
+    {
+        if self.sent.extend_from_slice(piece).is_err() {
+            count(&mut self.wants);
+            return Err(SinkFault::OutOfMemory);
+        }
+        Ok(piece.len())
+    }
+}
+
+/// Files in memory as a folder that fails at a missing name alone.
+#[derive(Drop)]
+pub struct SureFolder {
+    shelf: Shelf,
+    missing: u64,
+}
+
+impl Model for SureFolder {
+    ghost use Rattle.route_io.specs.Forms.{SureFolderState};
+
+    ghost Value = { SureFolderState };
+
+    ghost view = { λ f. record { files = f.shelf.files; left = f.shelf.left; missing = f.missing } };
+}
+
+impl SureFolder {
+    /// A folder of these files, of which none is selected yet.
+    pub fn new(files: Vec<NamedFile>) -> Self
+        ensures files { result.files ≡ files.items }
+        ensures closed { result.left ≡ [] }
+        ensures missing { result.missing ≡ 0 }
+    {
+        SureFolder {
+            shelf: Shelf::new(files),
+            missing: 0,
+        }
+    }
+}
+
+impl Source for SureFolder {
+    ghost left = { λ f. Some f.left };
+
+    ghost faults = { λ f. f.missing };
+
+    ghost files = { λ f. Some (first_of_name f.files) };
+
+    fn read(&mut self, buf: &mut [u8]) -> Result<usize, Failed>
+        ensures never_fails { result ≡ Ok (min (length self.old.left) (length buf.old)) }
+        ensures same_files { self.new.files ≡ self.old.files }
+        ensures same_count { self.new.missing ≡ self.old.missing }
+
+        // what every source promises
+        ensures within { ReadsAtMost result buf.new }
+        ensures bytes { ReadConsumes (Some self.old.left) (Some self.new.left) result buf.new }
+    {
+        Ok(self.shelf.give(buf))
+    }
+}
+
+impl Folder for SureFolder {
+    ghost admits = { λ _. Unit {0} };
+
+    fn select(&mut self, name: &str) -> Result<(), Failed>
+        ensures missing { IsErr result ↔ (first_of_name self.old.files name.now ≡ None) }
+        ensures counted { OnErr result (self.new.missing ≡ count_up self.old.missing) }
+        ensures same_files { self.new.files ≡ self.old.files }
+
+        // what every folder promises
+        ensures opened { OnOk result (first_of_name self.old.files name.now ≡ Some self.new.left) }
+        ensures closed { OnErr result (self.new.left ≡ []) }
+        ensures cause { HasCause self.old.missing self.new.missing result }
+    {
+        let opened = self.shelf.open(name);
+        if opened.is_err() {
+            count(&mut self.missing);
+        }
+        opened
+    }
+}

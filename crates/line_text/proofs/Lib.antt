@@ -1,0 +1,9 @@
+pub mod Digits
+pub mod FieldLemmas
+pub mod LfLemmas
+pub mod LineLemmas
+pub mod MarkLemmas
+pub mod PlaceLemmas
+pub mod Ranges
+pub mod Steps
+pub mod Told

@@ -1,0 +1,44 @@
+use Rattle.std.proofs.Common.{Ok, length, ap, ◌∙◌, arith}
+use Rattle.std.proofs.lemmas.Result.{err_from_is_err_and}
+use Rattle.line_text.specs.Pieces.{LacksLf}
+use Rattle.line_text.proofs.Steps.{advances_broken, advances_whole, advances_end, holds_more, searched_within, searched_none, still_within}
+use Rattle.line_text.proofs.lines.Lines.read_line.Goals as goal
+
+pub returns-in_err-take_line-clause-line : goal.returns-in_err-take_line-clause-line
+returns-in_err-take_line-clause-line g c =
+    let p = err_from_is_err_and c.from_residual.result c.from_residual.ensures.1 in
+    rw (p.1, p.2) (advances_broken _ _ _ _ _ c.loop-self.invariant.holds _ c.in_err-take_line.ensures)
+
+pub returns-then-branch-clause-line : goal.returns-then-branch-clause-line
+returns-then-branch-clause-line g c =
+    advances_whole _ _ _ _ _ c.loop-self.invariant.holds (rw c.if-branch.true at c.in_ok-take_line.ensures)
+
+pub refill-requires-clause-room : goal.refill-requires-clause-room
+refill-requires-clause-room g c =
+    let lacks : LacksLf c.loop-self.self c.take_line.new.self = rw c.if-branch.false at c.in_ok-take_line.ensures in
+    rw lacks.same lacks.short
+
+pub loop-self-smaller : goal.loop-self-smaller
+loop-self-smaller g c =
+    let lacks : LacksLf c.loop-self.self c.take_line.new.self = rw c.if-branch.false at c.in_ok-take_line.ensures in
+    let more = c.in-Ok-true.ensures.more (ap (λ b. Ok b) c.in-Ok-true.field-0-test) in
+    omega (arith, ap (λ reading. length reading.held) lacks.same, lacks.short)
+
+pub loop-self-preserved : goal.loop-self-preserved
+loop-self-preserved g c =
+    let lacks : LacksLf c.loop-self.self c.take_line.new.self = rw c.if-branch.false at c.in_ok-take_line.ensures in
+    record {
+      holds = holds_more _ _ _ lacks c.refill.ensures.stays _ _ _ _ c.loop-self.invariant.holds c.refill.ensures.rest;
+      within = rw c.held-searched.ensures (searched_within _ _ _ lacks c.refill.ensures.stays c.refill.ensures.grows);
+      none = rw c.held-searched.ensures (searched_none _ _ _ lacks c.refill.ensures.stays c.refill.ensures.grows);
+      faults = c.in-Ok-true.ensures.cause.stands ∙ c.loop-self.invariant.faults;
+      files = c.refill.ensures.files ∙ c.loop-self.invariant.files;
+    }
+
+pub returns-in-Ok-false-clause-line : goal.returns-in-Ok-false-clause-line
+returns-in-Ok-false-clause-line g c =
+    let lacks : LacksLf c.loop-self.self c.take_line.new.self = rw c.if-branch.false at c.in_ok-take_line.ensures in
+    let end = c.in-Ok-false.ensures.end (ap (λ b. Ok b) c.in-Ok-false.field-0-test) in
+    let holds = holds_more _ _ _ lacks c.refill.ensures.stays _ _ _ _ c.loop-self.invariant.holds c.refill.ensures.rest in
+    advances_end _ _ _ _ _ holds c.take_rest.result c.take_rest.ensures.some c.take_rest.ensures.none
+    (still_within _ _ _ lacks c.refill.ensures.stays end.0) end.1

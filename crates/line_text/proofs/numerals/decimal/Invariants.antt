@@ -1,0 +1,5 @@
+use Rattle.line_text.proofs.Digits.{ReadsFront}
+use Rattle.line_text.proofs.numerals.decimal.Given as goal
+
+abbrev pub invariant-loop-byte : goal.invariant-loop-byte
+invariant-loop-byte l = ReadsFront l.text l.greatest l.byte-index l.value

@@ -1,0 +1,6 @@
+pub mod Fields
+pub mod Lines
+pub mod Marks
+pub mod Numerals
+pub mod Pieces
+pub mod Reading

@@ -1,0 +1,68 @@
+ghost use Rattle.std.specs.Prelude.{◌≡◌, ◌≤◌, [], drop, length, MatchOption};
+ghost use Rattle.std.specs.List.{position_or_len};
+ghost use Rattle.line_text.specs.Fields.{FieldAt, FirstField, fields_of, is_blank, is_filled};
+
+/// The first field of a text, and what stands behind it.
+pub fn next_field(text: &[u8]) -> Option<(&[u8], &[u8])>
+    ensures { MatchOption result (fields_of text.now ≡ [])
+        (λ found. FirstField text.now found.0.now found.1.now) }
+{
+    let text = behind_blanks(text);
+    if text.is_empty() {
+        return None;
+    }
+    Some(text.split_at(filled_len(text)))
+}
+
+/// Where the field number `i`, from 0, starts and where it ends.
+pub fn field(text: &[u8], i: usize) -> Option<(usize, usize)>
+    ensures { MatchOption result (length (fields_of text.now) ≤ i)
+        (λ place. FieldAt text.now i place.0 place.1) }
+{
+    let mut rest = text;
+    for _ in 0..i {
+        (_, rest) = next_field(rest)?;
+    }
+    let (found, rest) = next_field(rest)?;
+    let end = text.len() - rest.len();
+    Some((end - found.len(), end))
+}
+
+/// What stands behind the blanks that a text begins with.
+fn behind_blanks(text: &[u8]) -> &[u8]
+    ensures { result.now ≡ drop (position_or_len is_filled text.now) text.now }
+{
+    &text[blank_len(text)..]
+}
+
+/// How many blanks a text begins with.
+fn blank_len(text: &[u8]) -> usize
+    ensures value { result ≡ position_or_len is_filled text.now }
+    ensures within { result ≤ length text.now }
+{
+    for (i, byte) in text.iter().enumerate() {
+        if !is_blank(*byte) {
+            return i;
+        }
+    }
+    text.len()
+}
+
+/// How many bytes other than blanks a text begins with.
+fn filled_len(text: &[u8]) -> usize
+    ensures value { result ≡ position_or_len is_blank text.now }
+    ensures within { result ≤ length text.now }
+{
+    for (i, byte) in text.iter().enumerate() {
+        if is_blank(*byte) {
+            return i;
+        }
+    }
+    text.len()
+}
+
+fn is_blank(byte: u8) -> bool
+    ensures { result ≡ is_blank byte }
+{
+    byte == b' ' || byte == b'\t'
+}

@@ -1,0 +1,18 @@
+//! Lines, fields and decimal numbers of text that comes in pieces.
+//!
+//! A line of a text is what stands before an LF, or what stands after the last LF where that isn't empty. A field
+//! of a line is a longest run of bytes other than space and tab. A number is one or more ASCII digits.
+#![tactic(auto)]
+
+mod fields;
+mod limits;
+mod lines;
+mod numerals;
+
+pub use fields::{field, next_field};
+pub use limits::{LineFault, LineLimits};
+pub use lines::{BUFFER_SIZE, LONGEST_LINE, Lines};
+pub use numerals::{Numeral, decimal, put_decimal};
+
+#[cfg(test)]
+mod tests;

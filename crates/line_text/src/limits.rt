@@ -1,0 +1,21 @@
+use thiserror::Error;
+
+/// How many bytes a line may have before its LF, and how many the whole input may have.
+#[derive(Clone, Copy, Debug, PartialEq, Eq)]
+pub struct LineLimits {
+    pub line: u32,
+    pub total: u64,
+}
+
+/// Why there is no next line.
+#[derive(Clone, Copy, Debug, PartialEq, Eq, Error)]
+pub enum LineFault {
+    #[error("the source failed")]
+    Read,
+    #[error("the line is too long")]
+    TooLong,
+    #[error("the input is too long")]
+    Total,
+    #[error("out of memory")]
+    OutOfMemory,
+}

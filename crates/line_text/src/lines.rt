@@ -1,0 +1,327 @@
+ghost use Rattle.std.specs.Prelude.{◌≡◌, ◌≢◌, ◌↔◌, ◌+◌, ◌-◌, ◌<◌, ◌≤◌, ◌++◌, List, [], length, take, drop, false, true, Ok, Err, Some, IfOk, OnOk, OnErr, IfSome, IfNone, IsSome, IsTrue, MatchOption, slice_range};
+ghost use Rattle.std.specs.Result.{result_err};
+ghost use Rattle.std.specs.Io.KnownBytes.{Keeps, Consumes, IsAtEnd};
+ghost use Rattle.route_io.specs.Causes.{HasCause};
+ghost use Rattle.line_text.specs.Lines.{first_lf, without_cr};
+ghost use Rattle.line_text.specs.Marks.{first_fault, line_fault};
+ghost use Rattle.line_text.specs.Pieces.{Advances, Grows, TakesHeld, past_line};
+ghost use Rattle.line_text.specs.Reading.{Reading, Counts, CountsNone, InLimits, ReadHasCause, Tells, begun, rest_of};
+
+use crate::{LineFault, LineLimits};
+use cost_vector::OutOfMemory;
+use memchr::memchr;
+use route_io::{Failed, Source};
+use std::alloc::Global;
+use std::marker::Model;
+
+/// The greatest limit of a line.
+pub const LONGEST_LINE: u32 = 65_536;
+
+/// The size of the one buffer, twice the longest line: a line that is held in part always leaves room.
+pub const BUFFER_SIZE: usize = 131_072;
+
+/// Reads the lines of a source, which may give its bytes in any pieces.
+///
+/// A line is looked at where it lies in the buffer. The bytes of a line that is held in part are moved only where the
+/// buffer's end is reached.
+#[derive(Drop)]
+pub struct Lines {
+    limits: LineLimits,
+    buffer: Vec<u8>,
+    text_start: usize,
+    text_end: usize,
+    held_start: usize,
+    held_end: usize,
+    number: u64,
+    passed: u64,
+    fault: Option<LineFault>,
+}
+
+impl Model for Lines {
+    ghost use Rattle.std.specs.Prelude.{◌≡◌, ◌≢◌, ◌-◌, Some, slice_range, vec_len};
+    ghost use Rattle.line_text.specs.declared.limits.LineFault.TheVariants.{OutOfMemory};
+    ghost use Rattle.line_text.specs.declared.lines.TheConstants.{BUFFER_SIZE};
+    ghost use Rattle.line_text.specs.Pieces.{InBounds, InPlace};
+    ghost use Rattle.line_text.specs.Reading.{Reading, InLimits};
+
+    ghost Value = { Reading };
+
+    ghost view = { λ lines. record {
+      limits = lines.limits;
+      held = slice_range lines.buffer.items lines.held_start lines.held_end;
+      text = slice_range lines.buffer.items lines.text_start lines.text_end;
+      number = lines.number;
+      passed = lines.passed;
+      fault = lines.fault;
+    } };
+
+    ghost invariant = { λ lines. (vec_len lines.buffer ≡ BUFFER_SIZE)
+        × InPlace BUFFER_SIZE lines.text_start lines.text_end lines.held_start lines.held_end
+        × InBounds lines.limits (lines.text_end - lines.text_start) lines.number lines.passed
+        × (lines.fault ≢ Some OutOfMemory) };
+}
+
+impl Lines {
+    /// Takes the one buffer that the reader has.
+    pub fn new(alloc: Global, limits: LineLimits) -> Result<Lines, OutOfMemory>
+        requires some { 1 ≤ limits.line }
+        requires fits { limits.line ≤ LONGEST_LINE }
+        ensures { IfOk result (λ lines. lines ≡ begun limits) }
+    {
+        Ok(Lines {
+            limits,
+            buffer: vec![in alloc; 0; BUFFER_SIZE]?,
+            text_start: 0,
+            text_end: 0,
+            held_start: 0,
+            held_end: 0,
+            number: 0,
+            passed: 0,
+            fault: None,
+        })
+    }
+
+    /// Makes the next line current and answers true, or false where the input has ended and no byte is left.
+    ///
+    /// `TooLong` is a line with more bytes before its LF than the limit, and `Total` one in which the first byte past the
+    /// total stands. Where both are so, the byte that comes first decides, and at one byte it is `TooLong`.
+    pub fn next_line<S: Source>(&mut self, source: &mut S) -> Result<bool, LineFault>
+        // A kept fault is answered again. Nothing changes then, and nothing is read.
+        ensures again { IfSome self.old.fault (λ fault. result ≡ Err fault) }
+        ensures stays { IsSome self.old.fault → self.new ≡ self.old }
+        ensures reads_nothing { IsSome self.old.fault → source.new ≡ source.old }
+
+        // A fault is kept, and no other answer leaves one.
+        ensures keeps_fault { self.new.fault ≡ result_err result }
+        ensures takes_no_memory { result ≢ Err LineFault.OutOfMemory }
+
+        // What holds over every source.
+        ensures counts { IfNone self.old.fault (Counts self.old self.new result) }
+        ensures limits { self.new.limits ≡ self.old.limits }
+        ensures in_limits { InLimits self.new }
+        ensures in_the_buffer { length self.new.held ≤ BUFFER_SIZE }
+
+        // Where the source tells its bytes, the lines are those of what is left, in whatever pieces it comes.
+        ensures lines { IfNone self.old.fault (IfSome (rest_of self.old (S.left source.old))
+            (λ rest. Tells self.old self.new rest (rest_of self.new (S.left source.new)) result)) }
+
+        // The source's failures alone make a failed read.
+        ensures cause { IfNone self.old.fault
+            (ReadHasCause (S.faults source.old) (S.faults source.new) result) }
+        ensures never_falls { S.faults source.old ≤ S.faults source.new }
+        ensures files { S.files source.new ≡ S.files source.old }
+    {
+        if let Some(fault) = self.fault {
+            return Err(fault);
+        }
+        let answer = self.read_line(source);
+        self.fault = answer.err();
+        answer
+    }
+
+    /// The current line without its LF and without one CR at its end. It is empty where there is none.
+    pub fn text(&self) -> &[u8]
+        ensures value { result.now ≡ self.now.text }
+        ensures within { length result.now ≤ self.now.limits.line }
+    {
+        &self.buffer[self.text_start..self.text_end]
+    }
+
+    /// The current line's number, from 1. It is 0 before the first line.
+    pub fn number(&self) -> u64
+        ensures value { result ≡ self.now.number }
+        ensures in_limits { InLimits self.now }
+    {
+        self.number
+    }
+
+    /// What `next_line` does where no fault is kept.
+    fn read_line<S: Source>(&mut self, source: &mut S) -> Result<bool, LineFault>
+        ensures line { Advances self.old self.new (S.left source.old) (S.left source.new) result }
+        ensures cause { ReadHasCause (S.faults source.old) (S.faults source.new) result }
+        ensures never_falls { S.faults source.old ≤ S.faults source.new }
+        ensures files { S.files source.new ≡ S.files source.old }
+    {
+        self.drop_text();
+        let mut searched = 0;
+        loop {
+            if self.take_line(searched)? {
+                return Ok(true);
+            }
+            searched = self.held().len();
+            match self.refill(source) {
+                Ok(true) => {}
+                Ok(false) => return Ok(self.take_rest()),
+                Err(Failed) => return Err(LineFault::Read),
+            }
+        }
+    }
+
+    /// There is no current line from here on.
+    fn drop_text(&mut self)
+        ensures { self.new ≡ record self.old { text = [] } }
+    {
+        self.text_start = 0;
+        self.text_end = 0;
+    }
+
+    /// The bytes that are held.
+    fn held(&self) -> &[u8]
+        ensures { result.now ≡ self.now.held }
+    {
+        &self.buffer[self.held_start..self.held_end]
+    }
+
+    /// Takes the first line that is held, if its LF is held. It isn't among the first `searched` bytes.
+    fn take_line(&mut self, searched: usize) -> Result<bool, LineFault>
+        requires within { searched ≤ length self.old.held }
+        requires none { searched ≤ first_lf self.old.held }
+        ensures { TakesHeld self.old self.new result }
+    {
+        let Some(raw) = find_lf(self.held(), searched) else {
+            let size = self.held().len();
+            self.judge(size, size)?;
+            return Ok(false);
+        };
+        self.judge(raw, raw + 1)?;
+        self.pass(raw, raw + 1);
+        Ok(true)
+    }
+
+    /// Takes the last line, which has no LF, if there is a byte of it.
+    fn take_rest(&mut self) -> bool
+        requires no_lf { first_lf self.old.held ≡ length self.old.held }
+        requires within { first_fault self.old.limits self.old.passed self.old.held ≡ None }
+        ensures some { IsTrue result
+            → (0 < length self.old.held) × (self.new ≡ past_line self.old) }
+        ensures none { result ≡ false → (self.old.held ≡ []) × (self.new ≡ self.old) }
+    {
+        let size = self.held().len();
+        if size == 0 {
+            return false;
+        }
+        self.pass(size, size);
+        true
+    }
+
+    /// The fault of a line that has `raw` bytes before its LF and `size` bytes with it.
+    fn judge(&self, raw: usize, size: usize) -> Result<(), LineFault>
+        requires { raw ≤ size }
+        ensures fault { result_err result ≡ line_fault self.now.limits self.now.passed raw size }
+        ensures short { OnOk result (raw ≤ LONGEST_LINE) }
+        ensures some { OnErr result (0 < size) }
+    {
+        let room = self.limits.total - self.passed;
+        let line = u64::from(self.limits.line);
+        if raw as u64 > line && line <= room {
+            return Err(LineFault::TooLong);
+        }
+        if size as u64 > room {
+            return Err(LineFault::Total);
+        }
+        Ok(())
+    }
+
+    /// Makes the first `raw` bytes that are held the current line, which takes `size` bytes with its LF.
+    fn pass(&mut self, raw: usize, size: usize)
+        requires with_lf { raw ≤ size }
+        requires some { 0 < size }
+        requires held { size ≤ length self.old.held }
+        requires line { raw ≤ self.old.limits.line }
+        requires total { self.old.passed + size ≤ self.old.limits.total }
+        ensures { self.new ≡ record self.old {
+          held = drop size self.old.held;
+          text = without_cr (take raw self.old.held);
+          number = self.old.number + 1;
+          passed = self.old.passed + size;
+        } }
+    {
+        let start = self.held_start;
+        self.text_start = start;
+        self.text_end = start + text_len(&self.buffer[start..start + raw]);
+        self.held_start = start + size;
+        self.number += 1;
+        self.passed += size as u64;
+    }
+
+    /// Reads once behind the bytes that are held. False is the end of input.
+    fn refill<S: Source>(&mut self, source: &mut S) -> Result<bool, Failed>
+        requires room { length self.old.held ≤ LONGEST_LINE }
+        requires no_text { self.old.text ≡ [] }
+        ensures stays { self.new ≡ record self.old { held = self.new.held } }
+        ensures grows { Grows self.old.held self.new.held }
+        ensures more { result ≡ Ok true → length self.old.held < length self.new.held }
+        ensures end { result ≡ Ok false
+            → (self.new.held ≡ self.old.held) × IsAtEnd (S.left source.new) }
+        ensures failed { OnErr result (self.new.held ≡ self.old.held) }
+        ensures rest { Keeps
+            (rest_of self.old (S.left source.old)) (rest_of self.new (S.left source.new)) }
+        ensures cause { HasCause (S.faults source.old) (S.faults source.new) result }
+        ensures files { S.files source.new ≡ S.files source.old }
+    {
+        let held = self.held_end - self.held_start;
+        let start = make_room(self.buffer.as_mut_slice(), self.held_start, self.held_end);
+        self.held_start = start;
+        self.held_end = start + held;
+        let taken = read_behind(source, self.buffer.as_mut_slice(), start + held)?;
+        self.held_end = start + held + taken;
+        Ok(taken > 0)
+    }
+}
+
+/// Where the first LF stands. It isn't among the first `searched` bytes.
+fn find_lf(bytes: &[u8], searched: usize) -> Option<usize>
+    requires within { searched ≤ length bytes.now }
+    requires none { searched ≤ first_lf bytes.now }
+    ensures { MatchOption result (first_lf bytes.now ≡ length bytes.now)
+        (λ at. (first_lf bytes.now ≡ at) × (at < length bytes.now)) }
+{
+    match memchr(b'\n', &bytes[searched..]) {
+        Some(at) => Some(searched + at),
+        None => None,
+    }
+}
+
+/// The length of a line without one CR at its end.
+fn text_len(line: &[u8]) -> usize
+    ensures text { take result line.now ≡ without_cr line.now }
+    ensures within { result ≤ length line.now }
+{
+    if line.last() == Some(&b'\r') {
+        line.len() - 1
+    } else {
+        line.len()
+    }
+}
+
+/// Leaves room behind the bytes from `start` up to `end`, and answers where they start then. They are moved to the front
+/// only where they reach the buffer's end.
+fn make_room(buffer: &mut [u8], start: usize, end: usize) -> usize
+    requires ordered { start ≤ end }
+    requires within { end ≤ length buffer.old }
+    requires short { end - start < length buffer.old }
+    ensures kept { slice_range buffer.new result (result + (end - start))
+        ≡ slice_range buffer.old start end }
+    ensures room { result + (end - start) < length buffer.new }
+{
+    if start < end && end < buffer.len() {
+        return start;
+    }
+    buffer.copy_within(start..end, 0);
+    0
+}
+
+/// Reads once into what is free behind the first `filled` bytes.
+fn read_behind<S: Source>(source: &mut S, buffer: &mut [u8], filled: usize) -> Result<usize, Failed>
+    requires { filled < length buffer.old }
+    ensures within { IfOk result (λ taken. filled + taken ≤ length buffer.new) }
+    ensures front { take filled buffer.new ≡ take filled buffer.old }
+    ensures bytes { IfOk result (λ taken. Consumes
+        (S.left source.old) (S.left source.new) (slice_range buffer.new filled (filled + taken))) }
+    ensures end { result ≡ Ok 0 → IsAtEnd (S.left source.new) }
+    ensures failed { OnErr result (Keeps (S.left source.old) (S.left source.new)) }
+    ensures cause { HasCause (S.faults source.old) (S.faults source.new) result }
+    ensures files { S.files source.new ≡ S.files source.old }
+{
+    source.read(&mut buffer[filled..])
+}

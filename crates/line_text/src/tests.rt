@@ -1,0 +1,189 @@
+ghost use Rattle.std.specs.Prelude.{◌≡◌, None};
+
+use crate::{
+    LONGEST_LINE, LineFault, LineLimits, Lines, Numeral, decimal, field, next_field, put_decimal,
+};
+use route_io::sure::SureSink;
+use route_io::{Failed, Source};
+use std::alloc::{AllocError, Global};
+use std::test::Fail;
+
+/// Gives a text in pieces of one length, and fails once `fails_at` bytes are left.
+#[derive(Drop)]
+struct Pieces<'a> {
+    text: &'a [u8],
+    length: usize,
+    fails_at: usize,
+    faults: u64,
+}
+
+impl<'a> Pieces<'a> {
+    fn new(text: &'a [u8], length: usize) -> Pieces<'a> {
+        Pieces {
+            text,
+            length,
+            fails_at: usize::MAX,
+            faults: 0,
+        }
+    }
+}
+
+impl Source for Pieces<'_> {
+    ghost left = { λ _. None };
+
+    ghost faults = { λ pieces. pieces.faults };
+
+    ghost files = { λ _. None };
+
+    fn read(&mut self, buf: &mut [u8]) -> Result<usize, Failed> {
+        if self.text.len() == self.fails_at {
+            self.faults = self.faults.saturating_add(1);
+            return Err(Failed);
+        }
+        let count = self.length.min(buf.len()).min(self.text.len());
+        let (front, rest) = self.text.split_at(count);
+        buf[..count].copy_from_slice(front);
+        self.text = rest;
+        Ok(count)
+    }
+}
+
+/// Each line with `/` behind it, and then how the lines end: `.` for the end of input, `l`, `t`, `r` for a fault.
+fn shown(alloc: Global, source: &mut Pieces, limits: LineLimits) -> Result<Vec<u8>, AllocError> {
+    let mut shown = Vec::new(alloc);
+    if limits.line == 0 || limits.line > LONGEST_LINE {
+        return Ok(shown);
+    }
+    let Ok(mut lines) = Lines::new(alloc, limits) else {
+        return Err(AllocError);
+    };
+    for _ in 0..100 {
+        let end = match lines.next_line(source) {
+            Ok(true) => {
+                shown.extend_from_slice(lines.text())?;
+                b'/'
+            }
+            Ok(false) => b'.',
+            Err(LineFault::TooLong) => b'l',
+            Err(LineFault::Total) => b't',
+            Err(LineFault::Read) => b'r',
+            Err(LineFault::OutOfMemory) => b'm',
+        };
+        shown.push(end)?;
+        if end != b'/' {
+            break;
+        }
+    }
+    Ok(shown)
+}
+
+fn limits(line: u32, total: u64) -> LineLimits
+    ensures { result.line ≡ line }
+{
+    LineLimits { line, total }
+}
+
+#[test]
+fn lines_come_in_any_pieces(rt: HostRuntime) -> Result<(), Fail> {
+    let alloc = rt.alloc();
+    for length in [1, 2, 3, 100] {
+        let wide = limits(100, u64::MAX);
+        let cases: [(&[u8], LineLimits, &[u8]); 12] = [
+            (b"", wide, b"."),
+            (b"\n", wide, b"/."),
+            (b"a\r\nb\r\r\n\r\n\nc", wide, b"a/b\r///c/."),
+            (b"a\nb\r", wide, b"a/b/."),
+            (b"12345678\n12345678", limits(8, 17), b"12345678/12345678/."),
+            (b"12345678\n123456789", limits(8, 100), b"12345678/l"),
+            (b"1234567\r\n", limits(7, 100), b"l"),
+            (b"p sp 1 0\nc 3456789", limits(8, 9), b"p sp 1 0/t"),
+            (b"p sp 1 0\nc 3456789", limits(8, 16), b"p sp 1 0/t"),
+            (b"p sp 1 0\nc 3456789", limits(8, 17), b"p sp 1 0/l"),
+            (b"p sp 1 0\n", limits(8, 8), b"t"),
+            (b"p sp 1 0", limits(8, 8), b"p sp 1 0/."),
+        ];
+        for (text, limits, wanted) in cases {
+            let mut source = Pieces::new(text, length);
+            let got = shown(alloc, &mut source, limits)?;
+            assert_eq!(rt; got.as_slice(), wanted);
+        }
+    }
+    Ok(())
+}
+
+#[test]
+fn lines_cross_the_buffers_end(rt: HostRuntime) -> Result<(), Fail> {
+    let alloc = rt.alloc();
+    let mut text = Vec::new(alloc);
+    for byte in [b'a', b'b', b'c', b'd', b'e'] {
+        text.extend_from_slice(&vec![in alloc; byte; 65_536]?)?;
+        text.push(b'\n')?;
+    }
+    for length in [1, 7, 131_072] {
+        let mut source = Pieces::new(&text, length);
+        let mut lines = Lines::new(alloc, limits(65_536, u64::MAX))?;
+        for byte in [b'a', b'b', b'c', b'd', b'e'] {
+            assert_eq!(rt; lines.next_line(&mut source), Ok(true));
+            assert_eq!(rt; lines.text().len(), 65_536);
+            assert!(rt; lines.text().iter().all(|b| *b == byte));
+        }
+        assert_eq!(rt; lines.next_line(&mut source), Ok(false));
+        assert_eq!(rt; lines.number(), 5);
+    }
+    Ok(())
+}
+
+#[test]
+fn a_failed_read_is_kept(rt: HostRuntime) -> Result<(), Fail> {
+    let mut source = Pieces::new(b"a\nb\nc", 2);
+    source.fails_at = 1;
+    let mut lines = Lines::new(rt.alloc(), limits(8, 100))?;
+    assert_eq!(rt; lines.next_line(&mut source), Ok(true));
+    assert_eq!(rt; lines.next_line(&mut source), Ok(true));
+    assert_eq!(rt; lines.next_line(&mut source), Err(LineFault::Read));
+    source.fails_at = usize::MAX;
+    assert_eq!(rt; lines.next_line(&mut source), Err(LineFault::Read));
+    assert_eq!(rt; source.text, b"c".as_slice());
+    assert_eq!(rt; lines.number(), 2);
+    Ok(())
+}
+
+#[test]
+fn fields_stand_between_blanks(rt: HostRuntime) {
+    let line = b" p\tsp  1 0 ";
+    assert_eq!(rt; field(line, 0), Some((1, 2)));
+    assert_eq!(rt; field(line, 1), Some((3, 5)));
+    assert_eq!(rt; field(line, 3), Some((9, 10)));
+    assert_eq!(rt; field(line, 4), None);
+    assert_eq!(rt;
+        next_field(b"\ta b"),
+        Some((b"a".as_slice(), b" b".as_slice()))
+    );
+    assert_eq!(rt; next_field(b" \t "), None);
+}
+
+#[test]
+fn digits_write_numbers(rt: HostRuntime) {
+    let cases: [(&[u8], u64, Numeral); 9] = [
+        (b"", 9, Numeral::NotDigits),
+        (b"+1", 9, Numeral::NotDigits),
+        (b"99999999999999999999x", 9, Numeral::NotDigits),
+        (b"007", 7, Numeral::Value(7)),
+        (b"8", 7, Numeral::Above),
+        (b"0000000000000000000000000000009", 9, Numeral::Value(9)),
+        (b"4294967296", 4_294_967_295, Numeral::Above),
+        (b"18446744073709551615", u64::MAX, Numeral::Value(u64::MAX)),
+        (b"18446744073709551616", u64::MAX, Numeral::Above),
+    ];
+    for (text, greatest, wanted) in cases {
+        assert_eq!(rt; decimal(text, greatest), wanted);
+    }
+}
+
+#[test]
+fn decimals_are_sent(rt: HostRuntime) {
+    let mut sink = SureSink::new(rt.alloc());
+    assert_eq!(rt; put_decimal(&mut sink, 0), Ok(()));
+    assert_eq!(rt; put_decimal(&mut sink, u64::MAX), Ok(()));
+    assert_eq!(rt; sink.sent(), b"018446744073709551615".as_slice());
+}

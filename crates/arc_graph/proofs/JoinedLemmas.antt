@@ -1,0 +1,52 @@
+-- What network a joiner makes of files that agree.
+use Rattle.std.proofs.Common.{◌≡◌, ℕ, ◌+◌, ◌<◌, ◌≤◌, true, false, List, [], ◌∷◌, ◌∙◌}
+use Rattle.std.proofs.Common.{Option, Some, None, Bool, cond, length, map, take, get_or, inr, arith, sym, zero-add, ap, refl}
+use Rattle.std.specs.Bool.{MatchBool}
+use Rattle.std.specs.List.{enumerate_from}
+use Rattle.std.proofs.lemmas.List.{length-map, get_or-map, same_lists}
+use Rattle.std.proofs.lemmas.List.FromFn.{length-enumerate_from, get_or-enumerate_from}
+use Rattle.arc_graph.specs.declared.file.ArcLine.{ArcLine}
+use Rattle.arc_graph.specs.Files.{Contents, ends_of}
+use Rattle.arc_graph.specs.Agreement.{Agree, joined, vector_at}
+use Rattle.arc_graph.specs.Joining.{Joining, IsJoining}
+use Rattle.arc_graph.specs.StandsFor.{StandsFor}
+use Rattle.arc_graph.specs.Stored.{is_zero, state_in, states_of}
+use Rattle.arc_graph.proofs.ZeroLemmas.{zero_at}
+
+-- the places of an arc that isn't all zero say its vector
+state_joined : (j : Joining) (first : Contents) (others : List Contents) (place : ℕ) → IsJoining j → StandsFor j (first ∷ others) → Agree (first ∷ others)
+    → place < length j.ends → state_in j.begun (get_or j.vectors place []) ≡ Some (vector_at (first ∷ others) place)
+state_joined j first others place kept stands agree within =
+    let v = get_or j.vectors place [] in
+    let test : is_zero v ≡ false =
+    by_test (is_zero v) (zero_at j first others place kept stands agree.sizes within) (λ only. agree.arcs (place + 1) (inr only)) in
+    ap (λ t. cond t None (Some (take j.begun v))) test ∙ ap Some (stands.weights place within) where
+      by_test : (t : Bool) {Z : Type 0} → MatchBool t Z (¬ Z) → ¬ Z → t ≡ false
+      by_test true is none = absurd (none is)
+      by_test false is none = refl
+
+states_joined : (j : Joining) (first : Contents) (others : List Contents) → IsJoining j → StandsFor j (first ∷ others) → Agree (first ∷ others)
+    → states_of j.begun j.vectors ≡ map (λ (p : ℕ × ArcLine). Some (vector_at (first ∷ others) p.0)) (enumerate_from 0 first.arcs)
+states_joined j first others kept stands agree =
+    let state_of_arc : ℕ × ArcLine → Option (List ℕ) = λ p. Some (vector_at (first ∷ others) p.0) in
+    let arcs = enumerate_from 0 first.arcs in
+    let any : ArcLine = record { tail = 0; head = 0; weight = 0 } in
+    let ends : length j.ends ≡ length first.arcs = ap length (stands.ends first refl) ∙ length-map first.arcs ends_of in
+    let count : length arcs ≡ length first.arcs = length-enumerate_from 0 first.arcs in
+    let left : length (states_of j.begun j.vectors) ≡ length j.vectors = length-map j.vectors (state_in j.begun) in
+    let right : length (map state_of_arc arcs) ≡ length arcs = length-map arcs state_of_arc in
+    same_lists (states_of j.begun j.vectors) (map state_of_arc arcs) (omega (arith, kept.matched)) (λ k d inside.
+    get_or-map (state_in j.begun) j.vectors k [] d (omega arith)
+    ∙ state_joined j first others k kept stands agree (omega (arith, kept.matched))
+    ∙ ap (λ n. Some (vector_at (first ∷ others) n)) (sym (zero-add k))
+    ∙ ap state_of_arc (sym (get_or-enumerate_from 0 first.arcs k (0, any) (omega (arith, kept.matched))))
+    ∙ sym (get_or-map state_of_arc arcs k (0, any) d (omega (arith, kept.matched))))
+
+pub network_joined : (j : Joining) (files : List Contents) → IsJoining j → 1 ≤ j.begun → StandsFor j files → Agree files
+    → record { nodes = j.nodes; ends = j.ends; criteria = j.begun; states = states_of j.begun j.vectors } ≡ joined files
+network_joined j [] kept some stands agree = absurd (omega (arith, stands.begun))
+network_joined j (first ∷ others) kept some stands agree =
+    let nodes = stands.nodes first refl in
+    let ends = stands.ends first refl in
+    let criteria = stands.begun in
+    let states = states_joined j first others kept stands agree in cc

@@ -1,0 +1,107 @@
+-- The least number of a kind when one number more may be of it.
+use Rattle.std.proofs.Common.{◌≡◌, ℕ, ◌<◌, ◌≤◌, ◌⊎◌, Option, Some, None, arith, inl, inr, sym, subst}
+use Rattle.std.specs.Option.{option_or}
+use Rattle.arc_graph.specs.declared.join.OtherEnds.{OtherEnds}
+use Rattle.arc_graph.specs.Lists.{IsLeastIfAny}
+use Rattle.arc_graph.specs.Faults.{AreLeastIfAny, IsEarlier}
+use Rattle.std.proofs.lemmas.Bool.{cases_lt}
+
+-- the least with P is the least with Q, where both hold of the same numbers
+pub least_same : (P Q : ℕ → Type 0) (o : Option ℕ) → ((n : ℕ) → P n → Q n) → ((n : ℕ) → Q n → P n) → IsLeastIfAny P o → IsLeastIfAny Q o
+least_same P Q None to back least = λ n q. least n (back n q)
+least_same P Q (Some m) to back least = record { holds = to m least.holds; none_below = λ n below q. least.none_below n below (back n q) }
+
+-- Q holds of the numbers that P holds of, and of n, above them all, where N holds
+pub record Adds (P Q : ℕ → Type 0) (n : ℕ) (N : Type 0) : Type 0 where
+  pub kept : (m : ℕ) → P m → Q m
+  pub added : N → Q n
+  pub only : (m : ℕ) → Q m → P m ⊎ ((m ≡ n) × N)
+  pub above : (m : ℕ) → P m → m < n
+
+pub least_without : (P Q : ℕ → Type 0) (n : ℕ) (N : Type 0) (o : Option ℕ) → Adds P Q n N → ¬ N → IsLeastIfAny P o → IsLeastIfAny Q o
+least_without P Q n N o adds not_here least =
+    least_same P Q o adds.kept (λ k q. elim (adds.only k q) [ inl p ↦ p | inr new ↦ absurd (not_here new.1) ]) least
+
+-- the least of before, or else the number that is added
+pub least_or : (P Q : ℕ → Type 0) (n : ℕ) (N : Type 0) (o : Option ℕ) → Adds P Q n N → N → IsLeastIfAny P o → IsLeastIfAny Q (option_or o (Some n))
+least_or P Q n N None adds here none = record {
+  holds = adds.added here;
+  none_below = λ k below q. elim (adds.only k q) [ inl p ↦ none k p | inr new ↦ omega (arith, new.0) ];
+}
+least_or P Q n N (Some m) adds here least =
+    let below_new : m < n = adds.above m least.holds in
+    record {
+      holds = adds.kept m least.holds;
+      none_below = λ k below q. elim (adds.only k q) [ inl p ↦ least.none_below k below p | inr new ↦ omega (arith, new.0) ];
+    }
+
+-- the same for pairs of an arc and a file
+pub pair_same : (D E : ℕ → ℕ → Type 0) (o : Option OtherEnds) → ((a f : ℕ) → D a f → E a f) → ((a f : ℕ) → E a f → D a f) → AreLeastIfAny D o
+    → AreLeastIfAny E o
+pair_same D E None to back least = λ a f e. least a f (back a f e)
+pair_same D E (Some o) to back least = (
+  record {
+    holds = (least.0.holds.0, to o.arc least.0.holds.0 least.0.holds.1);
+    none_below = λ a below e. least.0.none_below a below (e.0, back a e.0 e.1);
+  },
+  record { holds = to o.arc o.file least.1.holds; none_below = λ f below e. least.1.none_below f below (back o.arc f e) },
+)
+
+-- E holds of the pairs that D holds of, and of arc a in file f, after all files that D has there, where N holds
+pub record AddsPair (D E : ℕ → ℕ → Type 0) (a f : ℕ) (N : Type 0) : Type 0 where
+  pub kept : (x y : ℕ) → D x y → E x y
+  pub added : N → E a f
+  pub only : (x y : ℕ) → E x y → D x y ⊎ ((x ≡ a) × (y ≡ f) × N)
+  pub above : (y : ℕ) → D a y → y < f
+
+pub pair_if : (D E : ℕ → ℕ → Type 0) (a f : ℕ) (N M : Type 0) → (N → M) → (M → N) → AddsPair D E a f N → AddsPair D E a f M
+pair_if D E a f N M to back adds = record {
+  kept = adds.kept;
+  added = λ m. adds.added (back m);
+  only = λ x y e. elim (adds.only x y e) [ inl d ↦ inl d | inr new ↦ inr (new.0, new.1, to new.2) ];
+  above = adds.above;
+}
+
+pair_kept : (D E : ℕ → ℕ → Type 0) (N : Type 0) (here told : OtherEnds) → AddsPair D E here.arc here.file N → told.arc ≤ here.arc
+    → AreLeastIfAny D (Some told) → AreLeastIfAny E (Some told)
+pair_kept D E N here told adds up_to least = (
+  record {
+    holds = (least.0.holds.0, adds.kept told.arc least.0.holds.0 least.0.holds.1);
+    none_below = λ x below e. elim (adds.only x e.0 e.1) [ inl d ↦ least.0.none_below x below (e.0, d) | inr new ↦ omega (arith, new.0) ];
+  },
+  record {
+    holds = adds.kept told.arc told.file least.1.holds;
+    none_below = λ y below e. elim (adds.only told.arc y e) [
+      | inl d ↦ least.1.none_below y below d
+      | inr new ↦ omega (arith, new.1, adds.above told.file (subst (λ x. D x told.file) new.0 least.1.holds))
+    ];
+  },
+)
+
+pair_added : (D E : ℕ → ℕ → Type 0) (N : Type 0) (here : OtherEnds) → AddsPair D E here.arc here.file N → N → ((x y : ℕ) → x ≤ here.arc → ¬ D x y)
+    → AreLeastIfAny E (Some here)
+pair_added D E N here adds differs none = (
+  record {
+    holds = (here.file, adds.added differs);
+    none_below = λ x below e. elim (adds.only x e.0 e.1) [ inl d ↦ none x e.0 (omega arith) d | inr new ↦ omega (arith, new.0) ];
+  },
+  record {
+    holds = adds.added differs;
+    none_below = λ y below e. elim (adds.only here.arc y e) [ inl d ↦ none here.arc y (omega arith) d | inr new ↦ omega (arith, new.1) ];
+  },
+)
+
+-- the earlier of the least of before and what is added
+pub pair_earlier : (D E : ℕ → ℕ → Type 0) (N : Type 0) (o : Option OtherEnds) (here e : OtherEnds) → AddsPair D E here.arc here.file N → N
+    → IsEarlier o here e → AreLeastIfAny D o → AreLeastIfAny E (Some e)
+pair_earlier D E N None here e adds differs is none =
+    subst (λ x. AreLeastIfAny E (Some x)) (sym is) (pair_added D E N here adds differs (λ x y up_to. none x y))
+pair_earlier D E N (Some told) here e adds differs is least = elim (cases_lt here.arc told.arc) [
+  | inl before ↦
+      subst (λ x. AreLeastIfAny E (Some x)) (sym (is.1 before)) (pair_added D E N here adds differs (λ x y up_to d. least.0.none_below x (omega arith) (y, d)))
+  | inr after ↦ subst (λ x. AreLeastIfAny E (Some x)) (sym (is.0 after)) (pair_kept D E N here told adds after least)
+]
+
+pub pair_without : (D E : ℕ → ℕ → Type 0) (a f : ℕ) (N : Type 0) (o : Option OtherEnds) → AddsPair D E a f N → ¬ N → AreLeastIfAny D o → AreLeastIfAny E o
+pair_without D E a f N o adds not_here least =
+    pair_same D E o adds.kept (λ x y e. elim (adds.only x y e) [ inl d ↦ d | inr new ↦ absurd (not_here new.2) ]) least

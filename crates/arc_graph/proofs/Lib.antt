@@ -1,0 +1,17 @@
+pub mod Places
+pub mod JoiningLemmas
+pub mod Least
+pub mod Gets
+pub mod SizeLemmas
+pub mod WeightLemmas
+pub mod EndsLemmas
+pub mod StandingLemmas
+pub mod FaultLemmas
+pub mod ZeroLemmas
+pub mod JoinedLemmas
+pub mod ChainLemmas
+pub mod LayoutLemmas
+pub mod GraphLemmas
+pub mod ListLaws
+pub mod WalkLaws
+pub mod RelaxLaws

@@ -1,0 +1,100 @@
+-- Laws of walks: going on along an arc at either end, the two readings, and what the costs of walks have in common.
+use Rattle.std.proofs.Common.{◌≡◌, ℕ, ◌-◌, List, [], ◌∷◌, ◌++◌, length, reverse, replicate, Some, IfSome, ◌↔◌, refl, sym, ap, subst, ◌∙◌}
+use Rattle.std.proofs.lemmas.List.{length-replicate, reverse-append, reverse-reverse}
+use Rattle.cost_vector.specs.Costs.{plus}
+use Rattle.cost_vector.proofs.Vectors.{length-plus, plus_assoc, plus-zeros, zeros-plus}
+use Rattle.arc_graph.specs.Network.{Network, IsNetwork, IsNode, IsVector, Leads}
+use Rattle.arc_graph.specs.Walks.{IsWalk, Arrives}
+use Rattle.arc_graph.proofs.ListLaws.{all_got}
+
+module _ (net : Network) (is : IsNetwork net) where
+  abbrev zeros : List ℕ
+  zeros = replicate net.criteria 0
+
+  -- ---- arcs
+
+  pub leads_from_node : (k u v : ℕ) (w : List ℕ) → Leads net k u w v → IsNode net.nodes u
+  leads_from_node k u v w arc = all_got (λ e. IsNode net.nodes e.0) net.ends (k - 1) (u, v) is.tails arc.ends
+
+  pub leads_to_node : (k u v : ℕ) (w : List ℕ) → Leads net k u w v → IsNode net.nodes v
+  leads_to_node k u v w arc = all_got (λ e. IsNode net.nodes e.1) net.ends (k - 1) (u, v) is.heads arc.ends
+
+  pub leads_by_vector : (k u v : ℕ) (w : List ℕ) → Leads net k u w v → IsVector net.criteria w
+  leads_by_vector k u v w arc = all_got (λ s. IfSome s (IsVector net.criteria)) net.states (k - 1) (Some w) is.vectors arc.passable
+
+  -- ---- costs of walks have a component for each criterion, and walks lead to nodes
+
+  pub length_of_arrival : (q : List ℕ) (s v : ℕ) (c : List ℕ) → Arrives net s q v c → length c ≡ net.criteria
+  length_of_arrival [] s v c walk = ap length walk.2 ∙ length-replicate net.criteria 0
+  length_of_arrival (k ∷ before) s v c walk =
+      let whole = (leads_by_vector k walk.at v walk.by walk.leads).whole in
+      let so_far = length_of_arrival before s walk.at walk.before walk.walk in
+      ap length walk.cost ∙ length-plus walk.before walk.by (so_far ∙ sym whole) ∙ so_far
+
+  pub node_of_arrival : (q : List ℕ) (s v : ℕ) (c : List ℕ) → Arrives net s q v c → IsNode net.nodes v
+  node_of_arrival [] s v c walk = subst (IsNode net.nodes) walk.1 walk.0
+  node_of_arrival (k ∷ before) s v c walk = leads_to_node k walk.at v walk.by walk.leads
+
+  -- ---- one arc more
+
+  -- at the end
+  pub walk_on : (p : List ℕ) (s u v k : ℕ) (b w : List ℕ) → IsWalk net s p u b → Leads net k u w v → IsWalk net s (p ++ k ∷ []) v (plus b w)
+  walk_on [] s u v k b w walk arc =
+      let whole = (leads_by_vector k u v w arc).whole in record {
+        by = w;
+        at = v;
+        onward = zeros;
+        leads = subst (λ x. Leads net k x w v) (sym walk.1) arc;
+        walk = (leads_to_node k u v w arc, refl, refl);
+        cost = ap (λ x. plus x w) walk.2 ∙ zeros-plus net.criteria w whole ∙ sym (plus-zeros net.criteria w whole);
+      }
+  walk_on (j ∷ rest) s u v k b w walk arc = record {
+    by = walk.by;
+    at = walk.at;
+    onward = plus walk.onward w;
+    leads = walk.leads;
+    walk = walk_on rest walk.at u v k walk.onward w walk.walk arc;
+    cost = ap (λ x. plus x w) walk.cost ∙ plus_assoc walk.by walk.onward w;
+  }
+
+  -- at the start, read backwards
+  pub arrives_from : (q : List ℕ) (s u v k : ℕ) (w c : List ℕ) → Leads net k s w u → Arrives net u q v c → Arrives net s (q ++ k ∷ []) v (plus w c)
+  arrives_from [] s u v k w c arc walk =
+      let whole = (leads_by_vector k s u w arc).whole in record {
+        at = s;
+        by = w;
+        before = zeros;
+        walk = (leads_from_node k s u w arc, refl, refl);
+        leads = subst (λ x. Leads net k s w x) walk.1 arc;
+        cost = ap (plus w) walk.2 ∙ plus-zeros net.criteria w whole ∙ sym (zeros-plus net.criteria w whole);
+      }
+  arrives_from (j ∷ before) s u v k w c arc walk = record {
+    at = walk.at;
+    by = walk.by;
+    before = plus w walk.before;
+    walk = arrives_from before s u walk.at k w walk.before arc walk.walk;
+    leads = walk.leads;
+    cost = ap (plus w) walk.cost ∙ sym (plus_assoc w walk.before walk.by);
+  }
+
+  -- ---- the two readings agree
+
+  pub arrives_by_walk : (p : List ℕ) (s v : ℕ) (c : List ℕ) → IsWalk net s p v c → Arrives net s (reverse p) v c
+  arrives_by_walk [] s v c walk = walk
+  arrives_by_walk (k ∷ rest) s v c walk =
+      let onward = arrives_by_walk rest walk.at v walk.onward walk.walk in
+      let whole = arrives_from (reverse rest) s walk.at v k walk.by walk.onward walk.leads onward in
+      subst (λ q. Arrives net s q v c) (sym (reverse-append (k ∷ []) rest)) (subst (Arrives net s (reverse rest ++ k ∷ []) v) (sym walk.cost) whole)
+
+  pub walk_by_arrival : (q : List ℕ) (s v : ℕ) (c : List ℕ) → Arrives net s q v c → IsWalk net s (reverse q) v c
+  walk_by_arrival [] s v c walk = walk
+  walk_by_arrival (k ∷ before) s v c walk =
+      let so_far = walk_by_arrival before s walk.at walk.before walk.walk in
+      let whole = walk_on (reverse before) s walk.at v k walk.before walk.by so_far walk.leads in
+      subst (λ p. IsWalk net s p v c) (sym (reverse-append (k ∷ []) before)) (subst (IsWalk net s (reverse before ++ k ∷ []) v) (sym walk.cost) whole)
+
+  pub readings_agree : (p : List ℕ) (s v : ℕ) (c : List ℕ) → IsWalk net s p v c ↔ Arrives net s (reverse p) v c
+  readings_agree p s v c = (
+    arrives_by_walk p s v c,
+    λ walk. subst (λ q. IsWalk net s q v c) (reverse-reverse p) (walk_by_arrival (reverse p) s v c walk),
+  )

@@ -1,0 +1,151 @@
+-- Which arcs have only zero weights, and what network the others make.
+use Rattle.std.proofs.Common.{◌≡◌, ℕ, ◌+◌, ◌-◌, ◌<◌, ◌≤◌, zero, suc, true, false, List, [], ◌∷◌, ◌∙◌}
+use Rattle.std.proofs.Common.{Option, Some, None, Bool, cond, length, sum, get_or, nat_lt, inl, inr, arith, sym, subst, ap, refl}
+use Rattle.std.specs.Prelude.{slice_get, position, nat_eq, replicate, IsSomeAnd}
+use Rattle.std.specs.Bool.{MatchBool}
+use Rattle.std.specs.Cmp.Lexicographic.{pointwise}
+use Rattle.std.specs.List.{AllByRecursion, position_or_len}
+use Rattle.std.specs.Option.{option_map, option_map_or}
+use Rattle.std.proofs.lemmas.Bool.{ltb-false, eqb-true, and_parts, cases_eq, true≢false, MatchBool-at_true}
+use Rattle.std.proofs.lemmas.List.{length-map}
+use Rattle.std.proofs.lemmas.List.Quantifiers.{position-Some}
+use Rattle.std.proofs.lemmas.List.Sums.{sum_by-cons, fails_before_first}
+use Rattle.std.proofs.lemmas.Option.{slice_get-map}
+use Rattle.arc_graph.specs.declared.file.ArcLine.{ArcLine}
+use Rattle.arc_graph.specs.Files.{Contents, size_of, ends_of}
+use Rattle.arc_graph.specs.Agreement.{AgreeInSize, IsZeroArc, vector_at, weight_at}
+use Rattle.arc_graph.specs.Joining.{Joining, IsJoining}
+use Rattle.arc_graph.specs.Lists.{IsLeastWith}
+use Rattle.arc_graph.specs.StandsFor.{StandsFor}
+use Rattle.arc_graph.specs.Stored.{IsStored, is_zero}
+use Rattle.arc_graph.proofs.Places.{all_at, nonzero_four, sum_front}
+
+abbrev is_zeros : List ℕ → Bool
+is_zeros xs = pointwise nat_eq xs (replicate (length xs) 0)
+
+-- four places are zero exactly where they add up to 0
+four_sum : (v : List ℕ) (t : Bool) → length v ≡ 4 → is_zero v ≡ t → MatchBool t (sum v ≡ 0) (0 < sum v)
+four_sum (a ∷ b ∷ x ∷ y ∷ []) true four test =
+    let one = and_parts (nat_eq a 0) (is_zeros (b ∷ x ∷ y ∷ [])) test in
+    let two = and_parts (nat_eq b 0) (is_zeros (x ∷ y ∷ [])) one.1 in
+    let three = and_parts (nat_eq x 0) (is_zeros (y ∷ [])) two.1 in
+    let four = and_parts (nat_eq y 0) true three.1 in omega (arith, eqb-true a 0 one.0, eqb-true b 0 two.0, eqb-true x 0 three.0, eqb-true y 0 four.0)
+four_sum (a ∷ b ∷ x ∷ y ∷ []) false four test = let some = nonzero_four a b x y test in omega arith
+four_sum _ _ four test = absurd (omega arith)
+
+abbrev HasZero : ℕ → Contents → Type 0
+HasZero place f = IsSomeAnd (slice_get f.arcs place) (λ (arc : ArcLine). arc.weight ≡ 0)
+
+zero_of : (arcs : List ArcLine) (place : ℕ) → place < length arcs → option_map_or (λ (arc : ArcLine). arc.weight) (slice_get arcs place) 0 ≡ 0
+    → IsSomeAnd (slice_get arcs place) (λ (arc : ArcLine). arc.weight ≡ 0)
+zero_of [] place within none = absurd (omega arith)
+zero_of (x ∷ xs) zero within none = none
+zero_of (x ∷ xs) (suc place) within none = zero_of xs place (omega arith) none
+
+weight_of : (o : Option ArcLine) → IsSomeAnd o (λ (arc : ArcLine). arc.weight ≡ 0) → option_map_or (λ (arc : ArcLine). arc.weight) o 0 ≡ 0
+weight_of (Some arc) is = is
+weight_of None is = absurd is
+
+-- a vector adds up to 0 exactly where each file's weight is 0
+all_zero : (files : List Contents) (place : ℕ) → AllByRecursion (λ f. place < length f.arcs) files → sum (vector_at files place) ≡ 0
+    → AllByRecursion (HasZero place) files
+all_zero [] place have none = tt
+all_zero (f ∷ fs) place have none =
+    let parts = sum_by-cons (λ n. n) (weight_at place f) (vector_at fs place) in
+    (zero_of f.arcs place have.0 (omega (arith, parts)), all_zero fs place have.1 (omega (arith, parts)))
+
+none_left : (files : List Contents) (place : ℕ) → AllByRecursion (HasZero place) files → sum (vector_at files place) ≡ 0
+none_left [] place zeros = refl
+none_left (f ∷ fs) place zeros =
+    omega (arith, sum_by-cons (λ n. n) (weight_at place f) (vector_at fs place), weight_of (slice_get f.arcs place) zeros.0, none_left fs place zeros.1)
+
+all_from_get : {X : Type 0} (P : X → Type 0) (xs : List X) → ((i : ℕ) (x : X) → slice_get xs i ≡ Some x → P x) → AllByRecursion P xs
+all_from_get P [] each = tt
+all_from_get P (x ∷ xs) each = (each 0 x refl, all_from_get P xs (λ i y at. each (suc i) y at))
+
+-- files that agree in size have as many arcs
+same_arcs : (first : Contents) (others : List Contents) → AgreeInSize (first ∷ others)
+    → (i : ℕ) (f : Contents) → slice_get (first ∷ others) i ≡ Some f → length f.arcs ≡ length first.arcs
+same_arcs first others sizes i f at =
+    let place : i ≡ i + 1 - 1 = omega arith in
+    elim (cases_eq (length f.arcs) (length first.arcs)) [
+      | inl same ↦ same
+      | inr other ↦ absurd (sizes (i + 1) (record {
+        first = size_of first;
+        other = size_of f;
+        sizes_are = record {
+          counted = omega arith;
+          first_is = refl;
+          other_is = slice_get-map size_of (first ∷ others) (i + 1 - 1) ∙ ap (option_map size_of) (subst (λ n. slice_get (first ∷ others) n ≡ Some f) place at);
+        };
+        differs = λ e. other (ap (λ (s : ℕ × ℕ). s.1) e);
+      }))
+    ]
+
+-- at each place of the first file the test tells whether the arc has only zero weights
+pub zero_at : (j : Joining) (first : Contents) (others : List Contents) (place : ℕ) → IsJoining j → StandsFor j (first ∷ others) → AgreeInSize (first ∷ others)
+    → place < length j.ends
+    → MatchBool (is_zero (get_or j.vectors place [])) (IsZeroArc (first ∷ others) (place + 1)) (¬ IsZeroArc (first ∷ others) (place + 1))
+zero_at j first others place kept stands sizes within =
+    let files = first ∷ others in
+    let v = get_or j.vectors place [] in
+    let stored : IsStored j.begun v = all_at (IsStored j.begun) j.vectors place [] kept.stored (omega (arith, kept.matched)) in
+    let total : sum v ≡ sum (vector_at files place) = sym (sum_front j.begun v stored.filler) ∙ ap sum (stands.weights place within) in
+    let count : length j.ends ≡ length first.arcs = ap length (stands.ends first refl) ∙ length-map first.arcs ends_of in
+    let have : AllByRecursion (λ f. place < length f.arcs) files =
+    all_from_get (λ f. place < length f.arcs) files (λ i f at. let same = same_arcs first others sizes i f at in omega arith) in
+    let here : place ≡ place + 1 - 1 = omega arith in
+    by_test (is_zero v)
+    (λ none. record { counted = omega arith; zero = subst (λ p. AllByRecursion (HasZero p) files) here (all_zero files place have (sym total ∙ none)) })
+    (λ some only. let none = none_left files place (subst (λ p. AllByRecursion (HasZero p) files) (sym here) only.zero) in omega (arith, some, total, none))
+    (four_sum v (is_zero v) stored.four refl) where
+      by_test : (t : Bool) {P Q Z : Type 0} → (P → Z) → (Q → ¬ Z) → MatchBool t P Q → MatchBool t Z (¬ Z)
+      by_test true to out is = to is
+      by_test false to out is = out is
+
+position_none : {X : Type 0} (p : X → Bool) (xs : List X) (d : X) → position p xs ≡ None → (k : ℕ) → k < length xs → p (get_or xs k d) ≡ false
+position_none p xs d none k within = by_test (nat_lt (position_or_len p xs) (length xs)) refl none where
+  by_test : (t : Bool) → nat_lt (position_or_len p xs) (length xs) ≡ t → cond t (Some (position_or_len p xs)) None ≡ None → p (get_or xs k d) ≡ false
+  by_test true test is = absurd cc
+  by_test false test is = let past = ltb-false (position_or_len p xs) (length xs) test in fails_before_first p xs k d (omega arith)
+
+is_some_within : {X : Type 0} (P : X → Type 0) (xs : List X) (i : ℕ) → IsSomeAnd (slice_get xs i) P → i < length xs
+is_some_within P [] i is = absurd is
+is_some_within P (x ∷ xs) zero is = omega arith
+is_some_within P (x ∷ xs) (suc i) is = let rest = is_some_within P xs i is in omega arith
+
+-- an arc with only zero weights is one of the first file's, and the test tells of it
+told_zero : (j : Joining) (first : Contents) (others : List Contents) (a : ℕ) → IsJoining j → StandsFor j (first ∷ others) → AgreeInSize (first ∷ others)
+    → IsZeroArc (first ∷ others) a → (a - 1 < length j.vectors) × (is_zero (get_or j.vectors (a - 1) []) ≡ true)
+told_zero j first others a kept stands sizes only =
+    let inside = is_some_within _ first.arcs (a - 1) only.zero.0 in
+    let count : length j.ends ≡ length first.arcs = ap length (stands.ends first refl) ∙ length-map first.arcs ends_of in
+    let there : a - 1 < length j.ends = omega arith in
+    let here : a ≡ a - 1 + 1 = omega (arith, only.counted) in
+    let test = zero_at j first others (a - 1) kept stands sizes there in
+    (omega (arith, kept.matched), by_test (is_zero (get_or j.vectors (a - 1) [])) test (subst (IsZeroArc (first ∷ others)) here only)) where
+      by_test : (t : Bool) {Z : Type 0} → MatchBool t Z (¬ Z) → Z → t ≡ true
+      by_test true is holds = refl
+      by_test false is holds = absurd (is holds)
+
+-- the first place that tests as zero is that of the least such arc
+pub zero_told : (j : Joining) (files : List Contents) (place : ℕ) → IsJoining j → 1 ≤ j.begun → StandsFor j files → AgreeInSize files
+    → position is_zero j.vectors ≡ Some place → IsLeastWith (IsZeroArc files) (place + 1)
+zero_told j [] place kept some stands sizes told = absurd (omega (arith, stands.begun))
+zero_told j (first ∷ others) place kept some stands sizes told =
+    let first_at = position-Some is_zero j.vectors place [] told in
+    let there : place < length j.ends = omega (arith, first_at.0, kept.matched) in
+    record {
+      holds = MatchBool-at_true _ _ first_at.1 (zero_at j first others place kept stands sizes there);
+      none_below = λ a below only.
+          let tested = (told_zero j first others a kept stands sizes only).1 in
+          let before = first_at.2 (a - 1) (omega (arith, only.counted)) in absurd cc;
+    }
+
+-- and where none does, there is none
+pub none_told : (j : Joining) (files : List Contents) → IsJoining j → 1 ≤ j.begun → StandsFor j files → AgreeInSize files → position is_zero j.vectors ≡ None
+    → (a : ℕ) → ¬ IsZeroArc files a
+none_told j [] kept some stands sizes told a only = absurd (omega (arith, stands.begun))
+none_told j (first ∷ others) kept some stands sizes told a only =
+    let tested = told_zero j first others a kept stands sizes only in
+    let fails = position_none is_zero j.vectors [] told (a - 1) tested.0 in true≢false (sym tested.1 ∙ fails)

@@ -1,0 +1,36 @@
+use Rattle.std.proofs.Common.{arith, subst, sym, ◌∙◌}
+use Rattle.std.proofs.lemmas.List.{take_all}
+use Rattle.arc_graph.proofs.StandingLemmas.{stands_more}
+use Rattle.std.specs.List.{AllByRecursion}
+use Rattle.arc_graph.specs.declared.file.ArcLine.{ArcLine}
+use Rattle.arc_graph.specs.Network.{IsNode}
+use Rattle.arc_graph.proofs.Places.{all_at}
+use Rattle.arc_graph.proofs.join.add_file.Goals as goal
+
+pub push-requires-clause-tail : goal.push-requires-clause-tail
+push-requires-clause-tail c =
+    let Tail : ArcLine → Type 0 = λ a. IsNode c.args.file.now.nodes a.tail in
+    let each = subst (AllByRecursion Tail) (sym c.arcs-arcs.ensures) c.nodes.ensures.contents.tails in
+    rw c.loop-arc.invariant.nodes (all_at Tail _ c.loop-arc.arc-index _ each c.loop-arc-test.true)
+
+pub push-requires-clause-head : goal.push-requires-clause-head
+push-requires-clause-head c =
+    let Head : ArcLine → Type 0 = λ a. IsNode c.args.file.now.nodes a.head in
+    let each = subst (AllByRecursion Head) (sym c.arcs-arcs.ensures) c.nodes.ensures.contents.heads in
+    rw c.loop-arc.invariant.nodes (all_at Head _ c.loop-arc.arc-index _ each c.loop-arc-test.true)
+
+pub loop-arc-preserved : goal.loop-arc-preserved
+loop-arc-preserved c = record {
+  begun = omega (arith, c.in_ok-push.ensures.begun);
+  nodes = omega (arith, c.in_ok-push.ensures.nodes);
+  arcs = omega (arith, c.in_ok-push.ensures.arcs);
+  come = omega (arith, c.in_ok-push.ensures.come);
+  stands = λ files stands.
+      stands_more _ files c.args.file.now.nodes c.arcs-arcs.result.now c.loop-arc.arc-index _ c.loop-arc-test.true
+      (c.in_ok-push.ensures.files files _ (c.loop-arc.invariant.stands files stands));
+}
+
+pub returns-clause-files : goal.returns-clause-files
+returns-clause-files c = λ files stands.
+    let all = take_all c.loop-arc.arc-index c.arcs-arcs.result.now (omega arith) ∙ c.arcs-arcs.ensures in
+    rw all at (c.loop-arc.invariant.stands files stands)

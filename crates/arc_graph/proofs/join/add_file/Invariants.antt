@@ -1,0 +1,15 @@
+use Rattle.std.proofs.Common.{◌≡◌, ◌+◌, ◌++◌, ◌∷◌, List, [], length, take}
+use Rattle.arc_graph.specs.Files.{Contents}
+use Rattle.arc_graph.specs.StandsFor.{StandsFor}
+use Rattle.arc_graph.proofs.join.add_file.Given as goal
+
+-- the file is begun, and its arcs so far have come
+abbrev pub invariant-loop-arc : goal.invariant-loop-arc
+invariant-loop-arc l = record {
+  begun : l.joiner.begun ≡ l.fn.joiner.begun + 1;
+  nodes : l.joiner.due_nodes ≡ l.file.nodes;
+  arcs : l.joiner.due_arcs ≡ length l.arcs;
+  come : l.joiner.come ≡ l.arc-index;
+  stands : (files : List Contents) → StandsFor l.fn.joiner files
+      → StandsFor l.joiner (files ++ record { nodes = l.file.nodes; arcs = take l.arc-index l.arcs } ∷ []);
+}

@@ -1,0 +1,34 @@
+-- What a weight file says.
+use Rattle.std.specs.Prelude.{ℕ, ◌^◌, ◌≤◌, List, [], ◌∷◌, ◌++◌, length}
+use Rattle.std.specs.List.{AllByRecursion}
+use Rattle.arc_graph.specs.Network.{IsNode}
+use Rattle.arc_graph.specs.declared.file.ArcLine.{ArcLine}
+
+-- how many nodes there are, and the arcs in the order of their lines
+pub record Contents : Type 0 where
+  pub nodes : ℕ
+  pub arcs : List ArcLine
+
+-- the number of nodes and of arcs
+abbrev pub size_of : Contents → ℕ × ℕ
+size_of file = (file.nodes, length file.arcs)
+
+-- the tail and the head
+abbrev pub ends_of : ArcLine → ℕ × ℕ
+ends_of arc = (arc.tail, arc.head)
+
+-- a file of this many nodes and no arc yet
+abbrev pub empty_file : ℕ → Contents
+empty_file nodes = record { nodes = nodes; arcs = [] }
+
+-- the file with one arc more
+abbrev pub with_arc : Contents → ArcLine → Contents
+with_arc file arc = record { nodes = file.nodes; arcs = file.arcs ++ arc ∷ [] }
+
+-- the file is within the limits of a graph, and its arcs' ends are nodes
+pub record IsContents (file : Contents) : Type 0 where
+  pub some_node : 1 ≤ file.nodes
+  pub nodes : file.nodes ≤ 2 ^ 23
+  pub arcs : length file.arcs ≤ 2 ^ 24
+  pub tails : AllByRecursion (λ (a : ArcLine). IsNode file.nodes a.tail) file.arcs
+  pub heads : AllByRecursion (λ (a : ArcLine). IsNode file.nodes a.head) file.arcs

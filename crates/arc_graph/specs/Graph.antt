@@ -1,0 +1,78 @@
+-- A network in two parts, the graph and the states of its arcs, and what relaxing a label gives.
+use Rattle.std.specs.Prelude.{◌≡◌, ℕ, ◌+◌, ◌-◌, ◌^◌, ◌<◌, ◌≤◌, ◌==◌, List, [], ◌∷◌, Option, IfSome, length}
+use Rattle.std.specs.Prelude.{slice_get, if◌then◌else◌}
+use Rattle.std.specs.List.{AllByRecursion, filter_map}
+use Rattle.std.specs.Option.{option_map, option_map_or, option_and_then}
+use Rattle.cost_vector.specs.declared.label.ArcNo.{ArcNo}
+use Rattle.cost_vector.specs.declared.label.Label.{Label}
+use Rattle.cost_vector.specs.Costs.{plus}
+use Rattle.arc_graph.specs.Network.{Network, IsNode, IsVector}
+
+-- the nodes, the tail and the head of each arc, and the number of criteria
+pub record Arcs : Type 0 where
+  pub nodes : ℕ
+  pub criteria : ℕ
+  pub ends : List (ℕ × ℕ)
+
+-- for each arc its vector, or None where it is shut
+pub record States : Type 0 where
+  pub criteria : ℕ
+  pub states : List (Option (List ℕ))
+
+-- the graph is within the limits, and its ends are nodes
+pub record IsGraph (g : Arcs) : Type 0 where
+  pub some_node : 1 ≤ g.nodes
+  pub nodes : g.nodes ≤ 2 ^ 23
+  pub arcs : length g.ends ≤ 2 ^ 24
+  pub two : 2 ≤ g.criteria
+  pub four : g.criteria ≤ 4
+  pub tails : AllByRecursion (λ e. IsNode g.nodes e.0) g.ends
+  pub heads : AllByRecursion (λ e. IsNode g.nodes e.1) g.ends
+
+-- each vector has a weight for each criterion, of 32 bits, and isn't all zero
+pub record AreStates (w : States) : Type 0 where
+  pub vectors : AllByRecursion (λ s. IfSome s (IsVector w.criteria)) w.states
+  pub small : AllByRecursion (λ s. IfSome s (AllByRecursion (λ x. x < 2 ^ 32))) w.states
+
+-- the states are those of the graph's arcs
+pub record Match (g : Arcs) (w : States) : Type 0 where
+  pub criteria : w.criteria ≡ g.criteria
+  pub arcs : length w.states ≡ length g.ends
+
+-- both parts together
+abbrev pub network : Arcs → States → Network
+network g w = record { nodes = g.nodes; ends = g.ends; criteria = g.criteria; states = w.states }
+
+-- the numbers of the arcs with this tail, ascending, where the list's first arc has the number k
+abbrev pub numbers_from : ℕ → List (ℕ × ℕ) → ℕ → List ArcNo
+numbers_from k [] tail = []
+numbers_from k (e ∷ es) tail =
+    if e.0 == tail then record { 0 = k } ∷ numbers_from (k + 1) es tail else numbers_from (k + 1) es tail
+
+-- the arcs that lead from a node, ascending
+abbrev pub out_arcs_of : Arcs → ℕ → List ArcNo
+out_arcs_of g tail = numbers_from 1 g.ends tail
+
+-- the tail of an arc, counted from 1
+abbrev pub tail_of : Arcs → ArcNo → ℕ
+tail_of g a = option_map_or (λ (e : ℕ × ℕ). e.0) (slice_get g.ends (a.0 - 1)) 0
+
+-- the head of an arc, counted from 1
+abbrev pub head_of : Arcs → ArcNo → ℕ
+head_of g a = option_map_or (λ (e : ℕ × ℕ). e.1) (slice_get g.ends (a.0 - 1)) 0
+
+-- the state of an arc, counted from 1
+abbrev pub state_of : States → ArcNo → Option (List ℕ)
+state_of w a = option_and_then (λ s. s) (slice_get w.states (a.0 - 1))
+
+-- the label that a walk of this cost gets by going on along an arc, unless it is shut
+abbrev pub label_by : Arcs → States → List ℕ → ArcNo → Option Label
+label_by g w cost a = option_map (λ v. record { node = record { 0 = head_of g a }; cost = plus cost v; arc = a }) (state_of w a)
+
+-- the labels of all passable arcs that lead from a node, by ascending arc
+abbrev pub relaxed : Arcs → States → ℕ → List ℕ → List Label
+relaxed g w node cost = filter_map (label_by g w cost) (out_arcs_of g node)
+
+-- each component has room for one more weight
+abbrev pub HasRoom : List ℕ → Type 0
+HasRoom cost = AllByRecursion (λ x. x + (2 ^ 32 - 1) < 2 ^ 64) cost

@@ -1,0 +1,34 @@
+-- What a joiner keeps of the files that came so far.
+use Rattle.std.specs.Prelude.{◌≡◌, ℕ, ◌^◌, ◌≤◌, List, Option, length}
+use Rattle.std.specs.List.{AllByRecursion}
+use Rattle.arc_graph.specs.declared.join.OtherEnds.{OtherEnds}
+use Rattle.arc_graph.specs.Network.{IsNode}
+use Rattle.arc_graph.specs.Stored.{IsStored}
+
+-- the first file's nodes and ends, each arc's weights so far, how many files were begun, what the one begun last is to
+-- have and how many of its arcs have come, and the faults that would be told
+pub record Joining : Type 0 where
+  pub nodes : ℕ
+  pub ends : List (ℕ × ℕ)
+  pub vectors : List (List ℕ)
+  pub begun : ℕ
+  pub due_nodes : ℕ
+  pub due_arcs : ℕ
+  pub come : ℕ
+  pub other_size : Option ℕ
+  pub other_ends : Option OtherEnds
+
+-- what every joiner keeps
+pub record IsJoining (j : Joining) : Type 0 where
+  pub files : j.begun ≤ 4
+  pub come : j.come ≤ j.due_arcs
+  pub due : j.due_arcs ≤ 2 ^ 24
+  pub none_begun : j.begun ≡ 0 → length j.ends ≡ 0
+  pub first_begun : j.begun ≡ 1 → (length j.ends ≡ j.come) × (j.due_nodes ≡ j.nodes)
+  pub some_node : 1 ≤ j.begun → 1 ≤ j.nodes
+  pub nodes : j.nodes ≤ 2 ^ 23
+  pub arcs : length j.ends ≤ 2 ^ 24
+  pub matched : length j.vectors ≡ length j.ends
+  pub tails : AllByRecursion (λ e. IsNode j.nodes e.0) j.ends
+  pub heads : AllByRecursion (λ e. IsNode j.nodes e.1) j.ends
+  pub stored : AllByRecursion (IsStored j.begun) j.vectors

@@ -1,0 +1,14 @@
+pub mod Lists
+pub mod Network
+pub mod Walks
+pub mod Best
+pub mod Answers
+pub mod Files
+pub mod Agreement
+pub mod Graph
+pub mod Layout
+pub mod Stored
+pub mod Joining
+pub mod Joiner
+pub mod Faults
+pub mod StandsFor

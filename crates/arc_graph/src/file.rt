@@ -1,0 +1,99 @@
+ghost use Rattle.std.specs.Prelude.{◌≡◌, ◌<◌, ◌≤◌, ◌^◌, [], ◌∷◌, ◌++◌, length, OnOk, OnErr};
+ghost use Rattle.arc_graph.specs.Network.{IsNode};
+
+use crate::graph::Ends;
+use cost_vector::{NodeNo, OutOfMemory};
+use std::alloc::Global;
+use std::marker::Model;
+
+/// The greatest number of nodes of a graph.
+pub const MAX_NODES: u32 = 1 << 23;
+
+/// The greatest number of arcs of a graph.
+pub const MAX_ARCS: u32 = 1 << 24;
+
+/// One arc of a weight file: its ends, numbered from 1, and its weight by the file's criterion.
+#[derive(Clone, Copy, Debug, PartialEq, Eq)]
+pub struct ArcLine {
+    pub tail: u32,
+    pub head: u32,
+    pub weight: u32,
+}
+
+impl ArcLine {
+    ghost use Rattle.std.specs.Prelude.{◌≡◌};
+    ghost use Rattle.arc_graph.specs.Files.{ends_of};
+    ghost use Rattle.arc_graph.specs.Layout.{pair_of};
+
+    /// Its ends, without the weight.
+    pub(crate) fn ends(self) -> Ends
+        ensures { pair_of result ≡ ends_of self }
+    {
+        Ends {
+            tail: NodeNo(self.tail),
+            head: NodeNo(self.head),
+        }
+    }
+}
+
+/// What one weight file says: how many nodes there are, and the arcs in the order of their lines.
+#[derive(Debug, Drop)]
+pub struct ArcFile {
+    nodes: u32,
+    arcs: Vec<ArcLine>,
+}
+
+impl Model for ArcFile {
+    ghost use Rattle.arc_graph.specs.Files.{Contents, IsContents};
+
+    ghost Value = { Contents };
+
+    ghost view = { λ f. record { nodes = f.nodes; arcs = f.arcs.items } };
+
+    ghost invariant = { λ f. IsContents (record { nodes = f.nodes; arcs = f.arcs.items }) };
+}
+
+impl ArcFile {
+    ghost use Rattle.arc_graph.specs.Files.{IsContents};
+
+    /// A file of this many nodes and no arc yet.
+    pub fn new(alloc: Global, nodes: u32) -> ArcFile
+        requires some_node { 1 ≤ nodes }
+        requires limit { nodes ≤ MAX_NODES }
+        ensures nodes { result.nodes ≡ nodes }
+        ensures empty { result.arcs ≡ [] }
+    {
+        ArcFile {
+            nodes,
+            arcs: Vec::new(alloc),
+        }
+    }
+
+    /// The number of nodes.
+    pub fn nodes(&self) -> u32
+        ensures count { result ≡ self.now.nodes }
+        ensures contents { IsContents self.now }
+    {
+        self.nodes
+    }
+
+    /// The arcs in the order of their lines.
+    pub fn arcs(&self) -> &[ArcLine]
+        ensures { result.now ≡ self.now.arcs }
+    {
+        &self.arcs
+    }
+
+    /// Adds the next arc. At an error the file is as it was.
+    pub fn push(&mut self, a: ArcLine) -> Result<(), OutOfMemory>
+        requires tail { IsNode self.old.nodes a.tail }
+        requires head { IsNode self.old.nodes a.head }
+        requires room { length self.old.arcs < MAX_ARCS }
+        ensures nodes { self.new.nodes ≡ self.old.nodes }
+        ensures ok { OnOk result (self.new.arcs ≡ self.old.arcs ++ a ∷ []) }
+        ensures err { OnErr result (self.new.arcs ≡ self.old.arcs) }
+    {
+        self.arcs.push(a)?;
+        Ok(())
+    }
+}

@@ -1,0 +1,18 @@
+//! The joined graph: the arcs that several weight files list alike, and for each arc the vector of its weights.
+#![tactic(auto)]
+
+mod file;
+mod graph;
+mod join;
+mod laws;
+mod relaxing;
+#[cfg(test)]
+mod tests;
+mod weights;
+
+pub use file::{ArcFile, ArcLine};
+pub use graph::Graph;
+pub use join::{JoinFault, Joiner, join_files};
+pub use laws::files_have_one_fault_at_most;
+pub use relaxing::relax;
+pub use weights::Weights;

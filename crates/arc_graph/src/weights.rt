@@ -1,0 +1,80 @@
+ghost use Rattle.std.specs.Prelude.{◌≡◌, ◌≤◌, ◌<◌, ◌-◌, ◌^◌, length, IfOk, IfSome};
+ghost use Rattle.std.specs.List.{AllByRecursion};
+ghost use Rattle.arc_graph.specs.Network.{IsVector};
+ghost use Rattle.arc_graph.specs.Graph.{AreStates, state_of};
+ghost use Rattle.arc_graph.specs.Stored.{AreStored, states_of};
+
+use cost_vector::{ArcNo, OutOfMemory, Weight};
+use std::alloc::Global;
+use std::marker::Model;
+
+/// The weights of one arc, in the order of the criteria; all are 0 where the arc is shut.
+pub(crate) type Places = [u32; 4];
+
+/// For each arc its vector, or that it is shut. A vector is never all zero, so four zeros stand for a shut arc.
+#[derive(Debug, Drop)]
+pub struct Weights {
+    alloc: Global,
+    criteria: usize,
+    vectors: Vec<Places>,
+}
+
+impl Model for Weights {
+    ghost use Rattle.arc_graph.specs.Graph.{States};
+    ghost use Rattle.arc_graph.specs.Stored.{AreStored, states_of};
+
+    ghost Value = { States };
+
+    ghost view = { λ w. record { criteria = w.criteria; states = states_of w.criteria w.vectors.items } };
+
+    ghost invariant = { λ w. AreStored w.criteria w.vectors.items };
+}
+
+impl Weights {
+    /// Weights that lie in memory as these places.
+    pub(crate) fn of_places(alloc: Global, criteria: usize, vectors: Vec<Places>) -> Weights
+        requires { AreStored criteria vectors.items }
+        ensures { result
+            ≡ record { criteria = criteria; states = states_of criteria vectors.items } }
+    {
+        Weights {
+            alloc,
+            criteria,
+            vectors,
+        }
+    }
+
+    /// The number of arcs.
+    pub fn arcs(&self) -> u32
+        ensures count { result ≡ length self.now.states }
+        ensures states { AreStates self.now }
+    {
+        self.vectors.len() as u32
+    }
+
+    /// The vector of an arc, or `None` where the arc is shut.
+    pub fn get(&self, a: ArcNo) -> Option<Weight>
+        requires counted { 1 ≤ a.0 }
+        requires there { a.0 ≤ length self.now.states }
+        ensures state { result ≡ state_of self.now a }
+        ensures vector { IfSome result (IsVector self.now.criteria) }
+        ensures small { IfSome result (AllByRecursion (λ x. x < 2 ^ 32)) }
+    {
+        let places = self.vectors[a.0 as usize - 1];
+        if places == [0; 4] {
+            return None;
+        }
+        Some(Weight::of_numbers(&places[..self.criteria]))
+    }
+
+    /// The same weights again, in memory of their own.
+    pub fn try_copy(&self) -> Result<Weights, OutOfMemory>
+        ensures { IfOk result (λ copy. copy ≡ self.now) }
+    {
+        Ok(Weights {
+            alloc: self.alloc,
+            criteria: self.criteria,
+            vectors: Vec::from_slice(self.alloc, &self.vectors)?,
+        })
+    }
+}

@@ -1,0 +1,10 @@
+pub mod LineSteps
+pub mod Capping
+pub mod Finding
+pub mod Telling
+pub mod Limits
+pub mod Accepting
+pub mod FirstFault
+pub mod Deciding
+pub mod Collecting
+pub mod FormLemmas

@@ -1,0 +1,5 @@
+use Rattle.gr_reader.proofs.Deciding.{files_are_read}
+use Rattle.gr_reader.proofs.laws.files_are_read.Goals as goal
+
+pub returns : goal.returns
+returns c = files_are_read

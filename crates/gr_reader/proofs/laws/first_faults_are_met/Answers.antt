@@ -1,0 +1,5 @@
+use Rattle.gr_reader.proofs.Deciding.{first_faults_are_met}
+use Rattle.gr_reader.proofs.laws.first_faults_are_met.Goals as goal
+
+pub returns : goal.returns
+returns c = first_faults_are_met

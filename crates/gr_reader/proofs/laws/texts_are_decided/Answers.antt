@@ -1,0 +1,5 @@
+use Rattle.gr_reader.proofs.Deciding.{texts_are_decided}
+use Rattle.gr_reader.proofs.laws.texts_are_decided.Goals as goal
+
+pub returns : goal.returns
+returns c = texts_are_decided

@@ -1,0 +1,27 @@
+-- The kinds of faults.
+use Rattle.std.specs.Prelude.{ℕ}
+use Rattle.line_text.specs.declared.limits.LineFault.{LineFault}
+use Rattle.line_text.specs.declared.limits.LineFault.TheVariants as lines
+use Rattle.gr_reader.specs.declared.fault.FileFault.{FileFault}
+use Rattle.gr_reader.specs.declared.fault.FileFault.TheVariants.{Line, Read, OutOfMemory}
+use Rattle.gr_reader.specs.declared.fault.LineKind.{LineKind}
+use Rattle.gr_reader.specs.declared.fault.LineKind.TheVariants.{BadLine, NoProblem, SecondProblem, SizeRange, NodeRange, WeightRange, CountWrong, LineTooLong, FileTooLong}
+
+-- the number of a kind
+abbrev pub kind_number : LineKind → ℕ
+kind_number BadLine = 1
+kind_number NoProblem = 2
+kind_number SecondProblem = 3
+kind_number SizeRange = 4
+kind_number NodeRange = 5
+kind_number WeightRange = 6
+kind_number CountWrong = 7
+kind_number LineTooLong = 8
+kind_number FileTooLong = 9
+
+-- a fault of a reader of lines, found at this line, as a file's fault
+abbrev pub told_as : LineFault → ℕ → FileFault
+told_as lines.TooLong line = Line LineTooLong line
+told_as lines.Total line = Line FileTooLong line
+told_as lines.Read line = Read
+told_as lines.OutOfMemory line = OutOfMemory

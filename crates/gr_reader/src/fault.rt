@@ -1,0 +1,82 @@
+ghost use Rattle.std.specs.Prelude.{◌≡◌};
+ghost use Rattle.gr_reader.specs.Kinds.{kind_number, told_as};
+
+use cost_vector::OutOfMemory;
+use line_text::LineFault;
+use thiserror::Error;
+
+/// How many bytes a line may have before its LF, and how many the whole file may have.
+#[derive(Clone, Copy, Debug, PartialEq, Eq)]
+pub struct FileLimits {
+    pub line: u32,
+    pub file: u64,
+}
+
+/// What is wrong with a line, or with the place behind the last line.
+#[derive(Clone, Copy, Debug, PartialEq, Eq)]
+pub enum LineKind {
+    /// The line has none of the forms.
+    BadLine = 1,
+    /// No problem line stands before an arc line, or none in the whole file.
+    NoProblem = 2,
+    /// A problem line stands before this one.
+    SecondProblem = 3,
+    /// The problem line's numbers are out of range.
+    SizeRange = 4,
+    /// An end of the arc isn't a node.
+    NodeRange = 5,
+    /// The arc's weight is too great.
+    WeightRange = 6,
+    /// There are more arc lines, or at the end fewer, than the problem line says.
+    CountWrong = 7,
+    /// The line has more bytes than its limit.
+    LineTooLong = 8,
+    /// The file's limit ends within the line.
+    FileTooLong = 9,
+}
+
+impl LineKind {
+    /// The number of the kind, 1 to 9.
+    pub fn number(self) -> u8
+        ensures { result ≡ kind_number self }
+    {
+        self as u8
+    }
+}
+
+/// Why a file can't be read to its end. Lines are numbered from 1.
+#[derive(Clone, Copy, Debug, PartialEq, Eq, Error)]
+pub enum FileFault {
+    #[error("line {line} is faulty")]
+    Line { kind: LineKind, line: u64 },
+    #[error("the source failed")]
+    Read,
+    #[error("out of memory")]
+    OutOfMemory,
+}
+
+impl FileFault {
+    /// What a reader of lines found at this line.
+    pub fn at_line(fault: LineFault, line: u64) -> FileFault
+        ensures { result ≡ told_as fault line }
+    {
+        let kind = match fault {
+            LineFault::TooLong => LineKind::LineTooLong,
+            LineFault::Total => LineKind::FileTooLong,
+            LineFault::Read => return FileFault::Read,
+            LineFault::OutOfMemory => return FileFault::OutOfMemory,
+        };
+        FileFault::Line { kind, line }
+    }
+}
+
+impl From<OutOfMemory> for FileFault {
+    ghost use Rattle.std.specs.Prelude.{◌≡◌};
+    ghost use Rattle.gr_reader.specs.declared.fault.FileFault.TheVariants as fault;
+
+    ghost from_gives = { λ _ e. e ≡ fault.OutOfMemory };
+
+    fn from(_: OutOfMemory) -> FileFault {
+        FileFault::OutOfMemory
+    }
+}

@@ -1,0 +1,94 @@
+-- What a search keeps of the spots that it has come to: the permanent ones, in that order, and the waiting ones.
+use Rattle.std.specs.Prelude.{◌≡◌, ◌≢◌, ℕ, ◌*◌, ◌-◌, ◌^◌, ◌≤◌, ◌⊎◌, ◌==◌, List, Option, length, map, filter, replicate, Any}
+use Rattle.std.specs.List.{AllByRecursion}
+use Rattle.cost_vector.specs.declared.label.Spot.{Spot}
+use Rattle.cost_vector.specs.Costs.{AtMost, plus, Within, LexLess}
+use Rattle.arc_graph.specs.Lists.{Pairwise, IsIn, AreDistinct}
+use Rattle.arc_graph.specs.Network.{Network, Leads}
+use Rattle.arc_graph.specs.Walks.{Arrives}
+use Rattle.arc_graph.specs.Answers.{IsRelevant}
+use Rattle.arc_graph.specs.Graph.{Arcs, States, network}
+use Rattle.plain_search.specs.declared.query.Query.{Query}
+
+-- what is sought: the best costs of a node within a limit, from another
+pub record Task : Type 0 where
+  pub net : Network
+  pub from : ℕ
+  pub to : ℕ
+  pub limit : List (Option ℕ)
+
+-- the task of a query
+abbrev pub task_of : Arcs → States → Query → Task
+task_of g w query = record { net = network g w; from = query.from.0; to = query.to.0; limit = query.limit }
+
+-- the pair of a node and a cost is relevant to the task
+abbrev pub IsRelevantTo : Task → ℕ → List ℕ → Type 0
+IsRelevantTo task v c = IsRelevant task.net task.from task.to task.limit v c
+
+-- a node, reached at a cost
+abbrev pub spot_at : ℕ → List ℕ → Spot
+spot_at v c = record { node = record { 0 = v }; cost = c }
+
+-- the costs of a node among spots
+abbrev pub costs_at : ℕ → List Spot → List (List ℕ)
+costs_at node spots = map (λ (x : Spot). x.cost) (filter (λ (x : Spot). x.node.0 == node) spots)
+
+-- Spot e makes spot x needless: its cost is at most that of x, at the same node, or it is a smaller cost of the target.
+pub record Prunes (to : ℕ) (e x : Spot) : Type 0 where
+  pub at_most : AtMost e.cost x.cost
+  pub place : (e.node.0 ≡ x.node.0) ⊎ ((e.node.0 ≡ to) × (e.cost ≢ x.cost))
+
+-- some spot of the list does
+abbrev pub IsPruned : ℕ → List Spot → Spot → Type 0
+IsPruned to spots x = Any (λ e. Prunes to e x) spots
+
+-- the spot needs no look of its own: a permanent or a waiting one prunes it, or its cost is beyond the limit
+abbrev pub IsCovered : ℕ → List (Option ℕ) → List Spot → List Spot → Spot → Type 0
+IsCovered to limit permanent waiting x = IsPruned to permanent x ⊎ (IsPruned to waiting x ⊎ (¬ Within limit x.cost))
+
+-- the spots without those that x prunes
+pub record TakesOut (to : ℕ) (x : Spot) (before after : List Spot) : Type 0 where
+  pub old : (y : Spot) → IsIn y after → IsIn y before
+  pub kept : (y : Spot) → IsIn y before → Prunes to x y ⊎ IsIn y after
+  pub gone : (y : Spot) → IsIn y after → ¬ Prunes to x y
+
+-- spot x joins the waiting ones in place of those that it prunes, unless it is covered already
+pub record Adds (to : ℕ) (limit : List (Option ℕ)) (permanent before : List Spot) (x : Spot) (after : List Spot) : Type 0 where
+  pub old_or_new : (y : Spot) → IsIn y after → IsIn y before ⊎ ((y ≡ x) × Within limit x.cost × (¬ IsPruned to permanent x))
+  pub kept : (y : Spot) → IsIn y before → IsPruned to after y
+  pub added : IsCovered to limit permanent after x
+
+-- x stands in the list, and no cost there is lexicographically less
+pub record IsLeastOf (spots : List Spot) (x : Spot) : Type 0 where
+  pub there : IsIn x spots
+  pub least : (y : Spot) → IsIn y spots → ¬ LexLess y.cost x.cost
+
+-- each arc that leads on from e leads to a spot that is covered
+abbrev pub IsExpanded : Task → List Spot → List Spot → Spot → Type 0
+IsExpanded task permanent waiting e =
+    (k v : ℕ) (by : List ℕ) → Leads task.net k e.node.0 by v → IsCovered task.to task.limit permanent waiting (spot_at v (plus e.cost by))
+
+-- no component is greater than that many weights can make it
+abbrev pub IsSumOf : ℕ → List ℕ → Type 0
+IsSumOf count cost = AllByRecursion (λ n. n ≤ count * (2 ^ 32 - 1)) cost
+
+-- x may wait beside the permanent spots: a walk reaches it, and its cost isn't lexicographically less than a permanent one
+pub record MayWait (task : Task) (permanent : List Spot) (x : Spot) : Type 0 where
+  pub walk : (q : List ℕ) × Arrives task.net task.from q x.node.0 x.cost
+  pub later : (e : Spot) → IsIn e permanent → ¬ LexLess x.cost e.cost
+  pub small : IsSumOf (length permanent) x.cost
+
+-- the permanent spots are relevant pairs, each once, in ascending lexicographic order; what waits isn't needless
+pub record AreSpots (task : Task) (permanent waiting : List Spot) : Type 0 where
+  pub relevant : (e : Spot) → IsIn e permanent → IsRelevantTo task e.node.0 e.cost
+  pub distinct : AreDistinct permanent
+  pub ascending : Pairwise (λ a b. ¬ LexLess b.cost a.cost) permanent
+  pub may_wait : (x : Spot) → IsIn x waiting → MayWait task permanent x
+  pub within : (x : Spot) → IsIn x waiting → Within task.limit x.cost
+  pub fresh : (x : Spot) → IsIn x waiting → ¬ IsPruned task.to permanent x
+
+-- besides, the start is covered, and so is all that leads on from the permanent spots
+pub record IsSearch (task : Task) (permanent waiting : List Spot) : Type 0 where
+  pub spots : AreSpots task permanent waiting
+  pub started : IsCovered task.to task.limit permanent waiting (spot_at task.from (replicate task.net.criteria 0))
+  pub expanded : (e : Spot) → IsIn e permanent → IsExpanded task permanent waiting e

@@ -1,0 +1,46 @@
+ghost use Rattle.std.specs.Prelude.{◌≡◌, ◌≤◌, length, IfOk, OnOk, IsErrOf};
+ghost use Rattle.arc_graph.specs.Network.{IsNode};
+ghost use Rattle.arc_graph.specs.Graph.{Match, network};
+ghost use Rattle.arc_graph.specs.Answers.{AreBestCosts, Passes};
+
+use crate::query::{MAX_BUDGET, Query, SearchFault};
+use crate::search::Search;
+use arc_graph::{Graph, Weights};
+use cost_vector::{Cost, Spot};
+use std::alloc::Global;
+
+/// The nondominated costs of the walks from a node to a node within a limit, in strictly ascending lexicographic order.
+pub fn plain_search(
+    alloc: Global,
+    graph: &Graph,
+    weights: &Weights,
+    query: &Query,
+) -> Result<Vec<Cost>, SearchFault>
+    requires weights { Match graph.now weights.now }
+    requires from { IsNode graph.now.nodes query.now.from.0 }
+    requires to { IsNode graph.now.nodes query.now.to.0 }
+    requires limit { length query.now.limit ≡ graph.now.criteria }
+    requires budget { query.now.budget ≤ MAX_BUDGET }
+
+    // An answer comes exactly where the budget isn't passed, but for want of memory.
+    ensures answer { IfOk result (λ costs. AreBestCosts (network graph.now weights.now)
+        query.now.from.0 query.now.to.0 query.now.limit costs.items) }
+    ensures in_budget { OnOk result (¬ Passes (network graph.now weights.now)
+        query.now.from.0 query.now.to.0 query.now.limit query.now.budget) }
+    ensures budget { IsErrOf result SearchFault.Budget → Passes (network graph.now weights.now)
+        query.now.from.0 query.now.to.0 query.now.limit query.now.budget }
+{
+    prove!(query.from.0 <= graph.nodes());
+    prove!(graph.arcs() == weights.arcs());
+    let mut search = Search::new(alloc);
+    let start = Spot {
+        node: query.from,
+        cost: Cost::zero(graph.criteria()),
+    };
+    search.add(query, &start)?;
+    search.run(alloc, graph, weights, query)?;
+    if !search.is_done() {
+        return Err(SearchFault::Budget);
+    }
+    Ok(search.costs_at(alloc, query.to)?)
+}

@@ -1,0 +1,183 @@
+ghost use Rattle.std.specs.Prelude.{◌≡◌, ◌≤◌, ◌<◌, ◌⊎◌, ◌↔◌, [], ◌∷◌, ◌++◌, length, IsTrue, IfOk, OnOk, IfSome, IfNone, Contains, All};
+ghost use Rattle.cost_vector.specs.Costs.{LexLess};
+ghost use Rattle.arc_graph.specs.Graph.{IsGraph, AreStates, Match};
+ghost use Rattle.plain_search.specs.Search.{Prunes, IsPruned, IsLeastOf, TakesOut};
+
+use crate::query::{MAX_BUDGET, Query};
+use arc_graph::{Graph, Weights, relax};
+use cost_vector::{Cost, NodeNo, OutOfMemory, Spot};
+use std::alloc::Global;
+
+/// The spots that a search has come to.
+#[derive(Drop)]
+pub(crate) struct Search {
+    /// Those made permanent, in that order.
+    permanent: Vec<Spot>,
+    waiting: Vec<Spot>,
+}
+
+impl Search {
+    ghost use Rattle.plain_search.specs.Search.{task_of, costs_at, IsCovered, Adds, IsSearch};
+
+    /// No spot yet.
+    pub(crate) fn new(alloc: Global) -> Search
+        ensures permanent { result.permanent.items ≡ [] }
+        ensures waiting { result.waiting.items ≡ [] }
+    {
+        Search {
+            permanent: Vec::new(alloc),
+            waiting: Vec::new(alloc),
+        }
+    }
+
+    /// Whether no spot waits.
+    pub(crate) fn is_done(&self) -> bool
+        ensures { IsTrue result ↔ (self.now.waiting.items ≡ []) }
+    {
+        self.waiting.is_empty()
+    }
+
+    /// The permanent costs of a node, in the order in which they became so.
+    pub(crate) fn costs_at(&self, alloc: Global, node: NodeNo) -> Result<Vec<Cost>, OutOfMemory>
+        ensures { IfOk result (λ costs. costs.items ≡ costs_at node.0 self.now.permanent.items) }
+    {
+        let spots = self.permanent.iter().filter(|spot| spot.node == node);
+        Ok(spots.map(|spot| spot.cost).collect(alloc)?)
+    }
+
+    /// Makes the least waiting spot permanent until none waits, but at most as often as the budget says. After an error
+    /// the search is only dropped.
+    pub(crate) fn run(
+        &mut self,
+        alloc: Global,
+        graph: &Graph,
+        weights: &Weights,
+        query: &Query,
+    ) -> Result<(), OutOfMemory>
+        requires graph { IsGraph graph.now }
+        requires states { AreStates weights.now }
+        requires weights { Match graph.now weights.now }
+        requires limit { length query.now.limit ≡ graph.now.criteria }
+        requires budget { query.now.budget ≤ MAX_BUDGET }
+        requires begun { self.old.permanent.items ≡ [] }
+        requires search { IsSearch (task_of graph.now weights.now query.now)
+            self.old.permanent.items self.old.waiting.items }
+        ensures search { OnOk result (IsSearch (task_of graph.now weights.now query.now)
+            self.new.permanent.items self.new.waiting.items) }
+        ensures in_budget { OnOk result (length self.new.permanent.items ≤ query.now.budget) }
+        ensures ended { OnOk result
+            ((self.new.waiting.items ≡ []) ⊎ (length self.new.permanent.items ≡ query.now.budget)) }
+    {
+        for _ in 0..query.budget {
+            let Some(spot) = least(&self.waiting) else {
+                return Ok(());
+            };
+            self.expand(alloc, graph, weights, query, &spot)?;
+        }
+        Ok(())
+    }
+
+    /// Makes the least waiting spot permanent, and adds the spots that lie one arc further.
+    fn expand(
+        &mut self,
+        alloc: Global,
+        graph: &Graph,
+        weights: &Weights,
+        query: &Query,
+        spot: &Spot,
+    ) -> Result<(), OutOfMemory>
+        requires graph { IsGraph graph.now }
+        requires states { AreStates weights.now }
+        requires weights { Match graph.now weights.now }
+        requires limit { length query.now.limit ≡ graph.now.criteria }
+        requires room { length self.old.permanent.items < MAX_BUDGET }
+        requires least { IsLeastOf self.old.waiting.items spot.now }
+        requires search { IsSearch (task_of graph.now weights.now query.now)
+            self.old.permanent.items self.old.waiting.items }
+        ensures permanent { OnOk result
+            (self.new.permanent.items ≡ self.old.permanent.items ++ spot.now ∷ []) }
+        ensures search { OnOk result (IsSearch (task_of graph.now weights.now query.now)
+            self.new.permanent.items self.new.waiting.items) }
+    {
+        self.settle(query.to, spot)?;
+        let labels = relax(alloc, graph, weights, spot)?;
+        for label in &labels {
+            let next = Spot {
+                node: label.node,
+                cost: label.cost,
+            };
+            self.add(query, &next)?;
+        }
+        Ok(())
+    }
+
+    /// Makes a spot permanent, and takes out the waiting ones that it prunes, itself among them.
+    fn settle(&mut self, to: NodeNo, spot: &Spot) -> Result<(), OutOfMemory>
+        ensures permanent { OnOk result
+            (self.new.permanent.items ≡ self.old.permanent.items ++ spot.now ∷ []) }
+        ensures waiting { OnOk result (TakesOut to.0 spot.now self.old.waiting.items self.new.waiting.items) }
+    {
+        self.permanent.push(*spot)?;
+        take_out(&mut self.waiting, to, spot);
+        Ok(())
+    }
+
+    /// Lets a spot wait in place of those that it prunes, unless it is covered already.
+    pub(crate) fn add(&mut self, query: &Query, spot: &Spot) -> Result<(), OutOfMemory>
+        requires { length query.now.limit ≡ length spot.now.cost }
+        ensures permanent { self.new.permanent.items ≡ self.old.permanent.items }
+        ensures waiting { OnOk result (Adds query.now.to.0 query.now.limit
+            self.old.permanent.items self.old.waiting.items spot.now self.new.waiting.items) }
+    {
+        if self.covers(query, spot) {
+            return Ok(());
+        }
+        take_out(&mut self.waiting, query.to, spot);
+        self.waiting.push(*spot)?;
+        Ok(())
+    }
+
+    /// Whether a permanent or waiting spot prunes this one, or its cost is beyond the limit.
+    fn covers(&self, query: &Query, spot: &Spot) -> bool
+        requires { length query.now.limit ≡ length spot.now.cost }
+        ensures { IsTrue result ↔ IsCovered query.now.to.0 query.now.limit
+            self.now.permanent.items self.now.waiting.items spot.now }
+    {
+        any_prunes(&self.permanent, query.to, spot)
+            || any_prunes(&self.waiting, query.to, spot)
+            || !query.limit.holds(&spot.cost)
+    }
+}
+
+/// Whether an entry makes a spot needless: its cost is at most the spot's, at the same node, or it is a smaller cost of
+/// the target.
+fn prunes(to: NodeNo, entry: &Spot, spot: &Spot) -> bool
+    ensures { IsTrue result ↔ Prunes to.0 entry.now spot.now }
+{
+    entry.cost.count() == spot.cost.count()
+        && entry.cost.at_most(&spot.cost)
+        && (entry.node == spot.node || entry.node == to && entry.cost != spot.cost)
+}
+
+/// Whether one of the entries prunes a spot.
+fn any_prunes(entries: &[Spot], to: NodeNo, spot: &Spot) -> bool
+    ensures { IsTrue result ↔ IsPruned to.0 entries.now spot.now }
+{
+    entries.iter().any(|entry| prunes(to, entry, spot))
+}
+
+/// Takes out the spots that a spot prunes.
+fn take_out(spots: &mut Vec<Spot>, to: NodeNo, spot: &Spot)
+    ensures { TakesOut to.0 spot.now spots.old.items spots.new.items }
+{
+    spots.retain(|other| !prunes(to, spot, other));
+}
+
+/// A spot of the lexicographically least cost.
+fn least(spots: &[Spot]) -> Option<Spot>
+    ensures none { IfNone result (spots.now ≡ []) }
+    ensures there { IfSome result (Contains spots.now) }
+    ensures least { IfSome result (λ x. All (λ y. ¬ LexLess y.cost x.cost) spots.now) }
+{
+    spots.iter().copied().min_by_key(|spot| spot.cost)
+}

@@ -1,0 +1,101 @@
+-- What shows that the words ask for a command.
+use Rattle.std.proofs.Common.{◌≡◌, ◌≢◌, ◌∙◌, ℕ, ap, ap₂, refl, subst, sym, true, List, [], Option, Some, None}
+use Rattle.std.specs.Prelude.{codes, if◌then◌else◌, option_and_then}
+use Rattle.std.specs.Str.{bytes_eq}
+use Rattle.clap.specs.Words.{App, Row, Text, fault_of, is_simple_and_free, matches_of}
+use Rattle.command_words.specs.Apps.{app_for, word_of}
+use Rattle.command_words.specs.Words.{AreWords, Asked, Asks, AsksAs, AsksCosts, AsksQuery, CostsAsked, IsGiven, IsGivenOr, IsNamed, NamesFiles, QueryAsked, costs}
+use Rattle.line_text.specs.declared.numerals.Numeral.TheVariants.{Value}
+use Rattle.command_words.specs.declared.apps.Name.{Name}
+use Rattle.command_words.specs.declared.apps.Name.TheVariants.{Costs}
+
+-- each command's arguments are of the kind whose matches are a function of the words
+pub apps_simple : (name : Name) → is_simple_and_free (app_for name) ≡ true
+apps_simple Costs = refl
+
+-- ---- the words name one command at most
+
+-- the command that a word names
+abbrev name_for : Text → Option Name
+name_for word = if bytes_eq word (codes "costs") then Some Costs else None
+
+named_back : (name : Name) → name_for (word_of name) ≡ Some name
+named_back Costs = refl
+
+same_name : (words : List Text) (m n : Name) → IsNamed words m → IsNamed words n → m ≡ n
+same_name words m n a b =
+    let same : Some (word_of m) ≡ Some (word_of n) = sym a ∙ b in
+    let back : Some m ≡ Some n = sym (named_back m) ∙ ap (option_and_then name_for) same ∙ named_back n in cc
+
+-- the arguments of the command that the words name take them, and the values are its values
+abbrev AsksUnder : List Text → Name → Asked → Type 0
+AsksUnder words name asked = (fault_of (app_for name) words ≡ []) × AsksAs name (matches_of (app_for name) words) asked
+
+under_name : (words : List Text) (name : Name) (asked : Asked) → IsNamed words name → Asks words asked → AsksUnder words name asked
+under_name words name asked named a =
+    subst (λ (n : Name). AsksUnder words n asked) (same_name words a.name name a.named named) (a.accepted, a.values)
+
+-- ---- what the words ask for, by a parse for the command that they name
+
+pub asks_by : (words : List Text) (asked : Asked) (name : Name) (app : App) (rows : List Row) → IsNamed words name → app ≡ app_for name
+    → fault_of app words ≡ [] → rows ≡ matches_of app words → AsksAs name rows asked → Asks words asked
+asks_by words asked name app rows named is_app accepted is_rows values = record {
+  name = name;
+  named = named;
+  accepted = ap (λ a. fault_of a words) (sym is_app) ∙ accepted;
+  values = subst (λ r. AsksAs name r asked) (is_rows ∙ ap (λ a. matches_of a words) is_app) values;
+}
+
+pub none_accepted : (words : List Text) (name : Name) (app : App) → IsNamed words name → app ≡ app_for name → fault_of app words ≢ [] → ¬ AreWords words
+none_accepted words name app named is_app faulty (asked, a) =
+    faulty (ap (λ b. fault_of b words) is_app ∙ (under_name words name asked named a).0)
+
+pub none_fits : (words : List Text) (name : Name) (app : App) (rows : List Row) → IsNamed words name → app ≡ app_for name
+    → rows ≡ matches_of app words → ((asked : Asked) → ¬ AsksAs name rows asked) → ¬ AreWords words
+none_fits words name app rows named is_app is_rows none (asked, a) =
+    let is_values = is_rows ∙ ap (λ b. matches_of b words) is_app in
+    none asked (subst (λ r. AsksAs name r asked) (sym is_values) (under_name words name asked named a).1)
+
+-- ---- the words ask for one thing at most
+
+same_number : (least greatest m n : ℕ) (given : Option Text) → IsGiven least greatest given m → IsGiven least greatest given n → m ≡ n
+same_number least greatest m n (Some text) a b =
+    let e : Value m ≡ Value n = sym a.value ∙ b.value in cc
+same_number least greatest m n None a b = absurd a
+
+same_number_or : (other least greatest m n : ℕ) (given : Option Text) → IsGivenOr other least greatest given m
+    → IsGivenOr other least greatest given n → m ≡ n
+same_number_or other least greatest m n (Some text) a b = same_number least greatest m n (Some text) a b
+same_number_or other least greatest m n None a b = a ∙ sym b
+
+same_query : (rows : List Row) (a b : QueryAsked) → AsksQuery rows a → AsksQuery rows b → a ≡ b
+same_query rows a b x y =
+    let from = same_number _ _ a.from b.from _ x.from y.from in
+    let to = same_number _ _ a.to b.to _ x.to y.to in
+    let budget = same_number_or _ _ _ a.budget b.budget _ x.budget y.budget in
+    let query : ℕ → ℕ → ℕ → QueryAsked = λ f t n. record { from = f; to = t; budget = n } in
+    let e : query a.from a.to a.budget ≡ query b.from b.to b.budget = cc in e
+
+same_files : (rows : List Row) (a b : List Text) → NamesFiles rows a → NamesFiles rows b → a ≡ b
+same_files rows a b x y = let e : Some a ≡ Some b = sym x.all ∙ y.all in cc
+
+same_costs : (rows : List Row) (a b : CostsAsked) → AsksCosts rows a → AsksCosts rows b → a ≡ b
+same_costs rows a b x y =
+    let query = same_query rows a.query b.query x.query y.query in
+    let files = same_files rows a.files b.files x.files y.files in
+    let costs_of : QueryAsked → List Text → CostsAsked = λ q f. record { query = q; files = f } in
+    ap₂ costs_of query files
+
+costs_alone : (rows : List Row) (asked : Asked) → AsksAs Costs rows asked → (c : CostsAsked) × (costs c ≡ asked) × AsksCosts rows c
+costs_alone rows (costs c) values = (c, refl, values)
+
+same_values : (name : Name) (rows : List Row) (a b : Asked) → AsksAs name rows a → AsksAs name rows b → a ≡ b
+same_values Costs rows a b x y =
+    let (c, is_a, values) = costs_alone rows a x in
+    let (d, is_b, others) = costs_alone rows b y in
+    sym is_a ∙ ap costs (same_costs rows c d values others) ∙ is_b
+
+pub asks_one : (words : List Text) (a b : Asked) → Asks words a → Asks words b → a ≡ b
+asks_one words a b x y =
+    let (accepted, values) = under_name words y.name a y.named x in
+    same_values y.name (matches_of (app_for y.name) words) a b values y.values

@@ -1,0 +1,38 @@
+-- The commands by name, and what `clap` is told of each.
+use Rattle.std.specs.Prelude.{Bool, true, false, Some, codes}
+use Rattle.clap.specs.Words.{App, Rule, Text, new_app, new_rule, with_rule}
+use Rattle.clap.specs.declared.builder.action.ArgAction.TheVariants.{Append, Set}
+use Rattle.command_words.specs.declared.apps.Name.{Name}
+use Rattle.command_words.specs.declared.apps.Name.TheVariants.{Costs}
+
+-- the word that names a command
+abbrev pub word_of : Name → Text
+word_of Costs = codes "costs"
+
+-- an option with one value, `--name value` or `--name=value`, given at most once
+abbrev pub option_rule : Text → Bool → Rule
+option_rule name is_required = record (new_rule name) {
+  long = Some name;
+  action = Some Set;
+  required = is_required;
+}
+
+-- the words that are no option and no value of one, of which there is at least one
+abbrev pub files_rule : Rule
+files_rule = record (new_rule (codes "files")) { action = Some Append; required = true }
+
+-- a command with no arguments, not even the flags for help and the version
+abbrev pub bare_app : Text → App
+bare_app name = record (new_app name) {
+  top = record (new_app name).top { disable_help_flag = true; disable_version_flag = true };
+}
+
+-- `costs --from S --to T [--budget B] FILES`
+abbrev pub costs_app : App
+costs_app = with_rule (with_rule (with_rule (with_rule (bare_app (word_of Costs))
+    (option_rule (codes "from") true)) (option_rule (codes "to") true))
+    (option_rule (codes "budget") false)) files_rule
+
+-- the arguments of a command
+abbrev pub app_for : Name → App
+app_for Costs = costs_app

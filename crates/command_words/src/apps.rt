@@ -1,0 +1,70 @@
+//! The commands by name, and what `clap` is told of each.
+ghost use Rattle.std.specs.Prelude.{◌≡◌, IfOk};
+ghost use Rattle.clap.specs.Words.{app_of, with_rule};
+ghost use Rattle.command_words.specs.Apps.{bare_app, costs_app, files_rule, option_rule};
+
+use clap::{Arg, ArgAction, Command};
+use std::alloc::{AllocError, Global};
+
+/// A command's name.
+#[derive(Clone, Copy)]
+pub(crate) enum Name {
+    Costs,
+}
+
+impl Name {
+    ghost use Rattle.command_words.specs.Apps.{app_for};
+
+    /// The arguments of the command.
+    pub(crate) fn app<'a>(self, alloc: Global) -> Result<Command<'a>, AllocError>
+        ensures { IfOk result (λ c. app_of c ≡ app_for self) }
+    {
+        match self {
+            Name::Costs => costs(alloc),
+        }
+    }
+}
+
+fn costs<'a>(alloc: Global) -> Result<Command<'a>, AllocError>
+    ensures { IfOk result (λ c. app_of c ≡ costs_app) }
+{
+    let command = bare(alloc, "costs");
+    let command = with_option(alloc, command, "from", true)?;
+    let command = with_option(alloc, command, "to", true)?;
+    let command = with_option(alloc, command, "budget", false)?;
+    with_files(alloc, command)
+}
+
+// A command with no flags for help and the version.
+fn bare<'a>(alloc: Global, name: &'a str) -> Command<'a>
+    ensures { app_of result ≡ bare_app name.entry.now }
+{
+    Command::new(alloc, name)
+        .disable_help_flag(true)
+        .disable_version_flag(true)
+}
+
+fn with_option<'a>(
+    alloc: Global,
+    command: Command<'a>,
+    name: &'a str,
+    required: bool,
+) -> Result<Command<'a>, AllocError>
+    ensures { IfOk result (λ c.
+        app_of c ≡ with_rule (app_of command.entry) (option_rule name.entry.now required)) }
+{
+    let option = Arg::new(alloc, name)
+        .long(name)
+        .action(ArgAction::Set)
+        .required(required);
+    command.arg(option)
+}
+
+fn with_files<'a>(alloc: Global, command: Command<'a>) -> Result<Command<'a>, AllocError>
+    ensures { IfOk result (λ c. app_of c ≡ with_rule (app_of command.entry) files_rule) }
+{
+    let files = Arg::new(alloc, "files")
+        .action(ArgAction::Append)
+        .required(true);
+    command.arg(files)
+}

@@ -1,0 +1,130 @@
+//! Reads the words of a command line into a command.
+#![tactic(auto)]
+
+ghost use Rattle.std.specs.Prelude.{◌≡◌, ◌≢◌, ◌↔◌, IfOk, IfSome, IfNone, [], true};
+ghost use Rattle.clap.specs.Words.{app_of, fault_of, found_of, is_simple_and_free, kind_of};
+ghost use Rattle.clap.specs.Words.{matches_of, rows_of};
+ghost use Rattle.command_words.specs.Words.{AreWords, Asks, IsNamed, asked_of, texts_of};
+
+mod apps;
+mod numbers;
+#[cfg(test)]
+mod tests;
+mod values;
+
+use apps::Name;
+use clap::ArgMatches;
+use clap::error::ErrorKind;
+use std::alloc::{AllocError, Global};
+use thiserror::Error;
+
+/// The budget of a query that gives none.
+pub const DEFAULT_BUDGET: u32 = 10_000_000;
+/// The greatest budget.
+pub const GREATEST_BUDGET: u32 = 50_000_000;
+/// The greatest number that may stand for a node.
+pub const GREATEST_NODE: u32 = u32::MAX;
+/// The fewest files of weights, of which each is one criterion.
+pub const LEAST_FILES: usize = 2;
+/// The most files of weights.
+pub const MOST_FILES: usize = 4;
+
+/// A query from one node to another.
+#[derive(Clone, Copy, Debug, PartialEq, Eq)]
+pub struct Query {
+    pub from: u32,
+    pub to: u32,
+    /// The most labels that the search may settle.
+    pub budget: u32,
+}
+
+/// The words of `costs`.
+#[derive(Debug, Drop)]
+pub struct CostsWords<'a> {
+    pub query: Query,
+    pub files: Vec<&'a str>,
+}
+
+/// What the words of a command line ask for.
+#[derive(Debug, Drop)]
+pub enum Command<'a> {
+    /// The costs of one query.
+    Costs(CostsWords<'a>),
+}
+
+/// Why no command was read.
+#[derive(Clone, Copy, Debug, PartialEq, Eq, Error)]
+pub enum WordsFault {
+    /// The words are those of no command.
+    #[error("the words are those of no command")]
+    Refused,
+    /// Memory ran out.
+    #[error("out of memory")]
+    OutOfMemory,
+}
+
+impl From<AllocError> for WordsFault {
+    ghost use Rattle.command_words.specs.declared.WordsFault.TheVariants.{OutOfMemory};
+
+    ghost from_gives = { λ _ fault. fault ≡ OutOfMemory };
+
+    fn from(_error: AllocError) -> WordsFault {
+        WordsFault::OutOfMemory
+    }
+}
+
+impl From<clap::Error> for WordsFault {
+    ghost use Rattle.clap.specs.declared.error.kind.ErrorKind.TheVariants as kind;
+    ghost use Rattle.command_words.specs.declared.WordsFault.TheVariants.{OutOfMemory};
+
+    ghost from_gives = { λ error fault.
+        (fault ≡ OutOfMemory) ↔ (kind_of error ≡ kind.OutOfMemory) };
+
+    fn from(error: clap::Error) -> WordsFault {
+        match error.kind() {
+            ErrorKind::OutOfMemory => WordsFault::OutOfMemory,
+            _ => WordsFault::Refused,
+        }
+    }
+}
+
+/// Reads the words of a command line, of which the first names the command.
+///
+/// The words after it are `--name value` or `--name=value` in any order, and the names of files. Behind a
+/// word `--` all words name files. The texts of the command are those of the words.
+pub fn read_words<'a>(alloc: Global, words: &'a [String]) -> Result<Command<'a>, WordsFault>
+    ensures asked { IfOk result (λ c. Asks (texts_of words.entry.now) (asked_of c)) }
+    ensures only { IfOk result (λ c. (other : _) → Asks (texts_of words.entry.now) other
+        → other ≡ asked_of c) }
+    ensures refused { result ≡ Err WordsFault.Refused → ¬ AreWords (texts_of words.entry.now) }
+{
+    let name = name_of(words).ok_or(WordsFault::Refused)?;
+    let matches = matches_of(name.app(alloc)?, words)?;
+    values::read(alloc, name, &matches)
+}
+
+fn name_of(words: &[String]) -> Option<Name>
+    ensures named { IfSome result (IsNamed (texts_of words.now)) }
+    ensures refused { IfNone result ((name : Name) → ¬ IsNamed (texts_of words.now) name) }
+{
+    match words.first()?.as_str() {
+        "costs" => Some(Name::Costs),
+        _ => None,
+    }
+}
+
+// The values that the words give to the command's arguments.
+fn matches_of<'a>(
+    command: clap::Command<'a>,
+    words: &'a [String],
+) -> Result<ArgMatches<'a>, WordsFault>
+    requires { is_simple_and_free (app_of command) ≡ true }
+    ensures accepted { IfOk result (λ m.
+        fault_of (app_of command.entry) (texts_of words.entry.now) ≡ []) }
+    ensures rows { IfOk result (λ m. rows_of (found_of m)
+        ≡ matches_of (app_of command.entry) (texts_of words.entry.now)) }
+    ensures refused { result ≡ Err WordsFault.Refused
+        → fault_of (app_of command.entry) (texts_of words.entry.now) ≢ [] }
+{
+    Ok(command.try_get_matches_from(words)?)
+}

@@ -1,0 +1,57 @@
+//! Options whose values are numbers.
+ghost use Rattle.std.specs.Prelude.{◌≡◌, IfNone, IfSome, option_map};
+ghost use Rattle.clap.specs.Words.{first_of, found_of, rows_of};
+ghost use Rattle.command_words.specs.Words.{IsGiven, IsGivenOr, IsNumber};
+
+use clap::ArgMatches;
+use line_text::{Numeral, decimal};
+
+/// The number that an option gives.
+pub(crate) fn required_number(
+    matches: &ArgMatches,
+    id: &str,
+    least: u32,
+    greatest: u32,
+) -> Option<u32>
+    ensures given { IfSome result
+        (IsGiven least greatest (first_of id.now (rows_of (found_of matches.now)))) }
+    ensures refused { IfNone result ((n : _) →
+        ¬ IsGiven least greatest (first_of id.now (rows_of (found_of matches.now))) n) }
+{
+    number(value(matches, id)?, least, greatest)
+}
+
+/// The number that an option gives, or `other` where it isn't given.
+pub(crate) fn number_or(
+    other: u32,
+    matches: &ArgMatches,
+    id: &str,
+    least: u32,
+    greatest: u32,
+) -> Option<u32>
+    ensures given { IfSome result
+        (IsGivenOr other least greatest (first_of id.now (rows_of (found_of matches.now)))) }
+    ensures refused { IfNone result ((n : _) →
+        ¬ IsGivenOr other least greatest (first_of id.now (rows_of (found_of matches.now))) n) }
+{
+    match value(matches, id) {
+        Some(text) => number(text, least, greatest),
+        None => Some(other),
+    }
+}
+
+fn value<'a>(matches: &ArgMatches<'a>, id: &str) -> Option<&'a str>
+    ensures { option_map (λ s. s.now) result ≡ first_of id.now (rows_of (found_of matches.now)) }
+{
+    matches.get_str(id)
+}
+
+fn number(text: &str, least: u32, greatest: u32) -> Option<u32>
+    ensures value { IfSome result (IsNumber least greatest text.now) }
+    ensures refused { IfNone result ((n : _) → ¬ IsNumber least greatest text.now n) }
+{
+    match decimal(text.as_bytes(), u64::from(greatest)) {
+        Numeral::Value(n) if u64::from(least) <= n => Some(n as u32),
+        _ => None,
+    }
+}

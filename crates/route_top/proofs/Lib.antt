@@ -1,0 +1,3 @@
+pub mod Sending
+pub mod Admitting
+pub mod SendLemmas

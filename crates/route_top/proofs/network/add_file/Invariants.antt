@@ -1,0 +1,18 @@
+use Rattle.std.proofs.Common.{◌≡◌, ◌+◌, ◌-◌, Bool, true, false, None}
+use Rattle.route_top.proofs.network.add_file.Given as goal
+
+-- the arcs so far have come to the joiner, and nothing has failed
+abbrev pub invariant-arcs : goal.invariant-arcs
+invariant-arcs g l = record {
+  begun : l.joiner.begun ≡ l.fn.joiner.begun + 1;
+  nodes : l.joiner.due_nodes ≡ l.lines.nodes;
+  arcs : l.joiner.due_arcs ≡ l.lines.arcs;
+  come : l.joiner.come ≡ l.lines.come;
+  reads : l.lines.begun ≡ true;
+  goes_on : l.lines.fault ≡ None;
+  stands : g.F.Source.faults l.folder ≡ g.F.Source.faults l.fn.folder;
+  files : g.F.Source.files l.folder ≡ g.F.Source.files l.fn.folder;
+}
+
+abbrev pub decreases-arcs : goal.decreases-arcs
+decreases-arcs g l = l.lines.arcs - l.lines.come

@@ -1,0 +1,11 @@
+use Rattle.std.proofs.Common.{◌≡◌}
+use Rattle.route_top.proofs.network.read_network.Given as goal
+
+-- the files so far have come whole to the joiner, and nothing has failed
+abbrev pub invariant-loop-name : goal.invariant-loop-name
+invariant-loop-name g l = record {
+  begun : l.joiner.begun ≡ l.name-index;
+  whole : l.joiner.come ≡ l.joiner.due_arcs;
+  stands : g.F.Source.faults l.folder ≡ g.F.Source.faults l.fn.folder;
+  files : g.F.Source.files l.folder ≡ g.F.Source.files l.fn.folder;
+}

@@ -1,0 +1,32 @@
+use Rattle.std.proofs.Common.{◌∙◌, Err, arith, refl}
+use Rattle.std.proofs.lemmas.Result.{err_from_is_err_and}
+use Rattle.route_top.proofs.SendLemmas.{cause_after}
+use Rattle.route_top.specs.Pieces.{text_of}
+use Rattle.route_top.proofs.Sending.{said_all, said_next, said_part}
+use Rattle.route_top.proofs.reply.put_pieces.Goals as goal
+
+pub loop-piece-preserved : goal.loop-piece-preserved
+loop-piece-preserved g c = record {
+  sent = said_next text_of c.args.pieces.now c.loop-piece.piece-index _ _ c.loop-piece-test.true refl _ _ _
+      c.loop-piece.invariant.sent c.in_ok-put_piece.ensures.bytes;
+  same_faults = c.in_ok-put_piece.ensures.cause.0 ∙ c.loop-piece.invariant.same_faults;
+  same_wants = c.in_ok-put_piece.ensures.cause.1 ∙ c.loop-piece.invariant.same_wants;
+}
+
+pub returns-in_err-put_piece-clause-bytes : goal.returns-in_err-put_piece-clause-bytes
+returns-in_err-put_piece-clause-bytes g c =
+    let p = err_from_is_err_and c.from_residual.result c.from_residual.ensures.1 in
+    rw p.1 (said_part text_of c.args.pieces.now c.loop-piece.piece-index _ _ c.loop-piece-test.true refl _ _ _
+    c.loop-piece.invariant.sent c.in_err-put_piece.ensures.bytes)
+
+pub returns-in_err-put_piece-clause-cause : goal.returns-in_err-put_piece-clause-cause
+returns-in_err-put_piece-clause-cause g c =
+    let p = err_from_is_err_and c.from_residual.result c.from_residual.ensures.1 in
+    rw (p.1, p.2) (cause_after {T = Unit {0}} _ _ _ _ _ _ (Err c.in_err-put_piece.field-0.0)
+    c.loop-piece.invariant.same_faults c.loop-piece.invariant.same_wants c.in_err-put_piece.ensures.cause)
+
+pub returns : goal.returns
+returns g c = record {
+  bytes = said_all text_of c.args.pieces.now c.loop-piece.piece-index _ _ (omega arith) c.loop-piece.invariant.sent;
+  cause = (c.loop-piece.invariant.same_faults, c.loop-piece.invariant.same_wants);
+}

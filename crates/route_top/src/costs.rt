@@ -1,0 +1,99 @@
+//! The command `costs`.
+ghost use Rattle.std.specs.Prelude.{◌≡◌, ◌≤◌, length, IfErr, All, vec_len};
+ghost use Rattle.cost_vector.specs.Costs.{no_limit};
+ghost use Rattle.arc_graph.specs.Graph.{Match};
+ghost use Rattle.plain_search.specs.declared.query.TheConstants.{MAX_BUDGET};
+ghost use Rattle.command_words.specs.Words.{costs_asked};
+ghost use Rattle.route_top.specs.Stops.{FolderHasCause, OutHasCause, IsWordless};
+
+use crate::network::read_network;
+use crate::reply::{put_costs, put_refusal};
+use crate::stop::Stop;
+use arc_graph::{Graph, Weights};
+use command_words::{CostsWords, Query};
+use cost_vector::{Limit, NodeNo, OutOfMemory};
+use plain_search::{SearchFault, plain_search};
+use route_io::sure::SureSink;
+use route_io::{Folder, Sink, WriteFault, put_all};
+use std::alloc::Global;
+
+/// Answers one query over the named files. Its reply is made in memory first, so that only a fault of `out` cuts it.
+pub(crate) fn run<'a, F: Folder, K: Sink>(
+    alloc: Global,
+    asked: &CostsWords<'a>,
+    folder: &mut F,
+    out: &mut K,
+) -> Result<(), Stop<'a>>
+    requires admitted { All F.admits (costs_asked asked.now).files }
+    requires two { 2 ≤ vec_len asked.now.files }
+    requires four { vec_len asked.now.files ≤ 4 }
+    requires budget { asked.now.query.budget ≤ MAX_BUDGET }
+    ensures stops { IfErr result IsWordless }
+    ensures folder { FolderHasCause (F.faults folder.old) (F.faults folder.new) result }
+    ensures out { OutHasCause (K.faults out.old) (K.faults out.new) result }
+    ensures files { F.files folder.new ≡ F.files folder.old }
+{
+    let (graph, weights) = read_network(alloc, folder, &asked.files)?;
+    let mut reply = SureSink::new(alloc);
+    let answered = put_reply(alloc, &graph, &weights, &asked.query, &mut reply)?;
+    match put_all(out, reply.sent()) {
+        Ok(()) if answered => Ok(()),
+        Ok(()) => Err(Stop::Refused),
+        Err(WriteFault::Failed) => Err(Stop::Out),
+        Err(WriteFault::OutOfMemory) => Err(Stop::OutOfMemory),
+    }
+}
+
+/// Writes the reply to a query at epoch 0, and tells whether it is an answer and no refusal.
+fn put_reply(
+    alloc: Global,
+    graph: &Graph,
+    weights: &Weights,
+    query: &Query,
+    reply: &mut SureSink,
+) -> Result<bool, OutOfMemory>
+    requires matched { Match graph.now weights.now }
+    requires budget { query.now.budget ≤ MAX_BUDGET }
+{
+    let (from, to) = (query.from, query.to);
+    if !graph.has_node(from) || !graph.has_node(to) {
+        return refuse(reply, query, " node");
+    }
+    match plain_search(alloc, graph, weights, &unlimited(graph, query)) {
+        Ok(costs) => {
+            kept(put_costs(reply, from, to, &costs))?;
+            Ok(true)
+        }
+        Err(SearchFault::Budget) => refuse(reply, query, " budget"),
+        Err(SearchFault::OutOfMemory) => Err(OutOfMemory),
+    }
+}
+
+/// Writes a refusal, which is no answer.
+fn refuse(reply: &mut SureSink, query: &Query, why: &str) -> Result<bool, OutOfMemory> {
+    kept(put_refusal(reply, query.from, query.to, why))?;
+    Ok(false)
+}
+
+/// A write to memory fails only for want of it.
+fn kept(written: Result<(), WriteFault>) -> Result<(), OutOfMemory> {
+    match written {
+        Ok(()) => Ok(()),
+        Err(_) => Err(OutOfMemory),
+    }
+}
+
+/// The query as the search takes it, without a limit.
+fn unlimited(graph: &Graph, query: &Query) -> plain_search::Query
+    ensures from { result.from.0 ≡ query.now.from }
+    ensures to { result.to.0 ≡ query.now.to }
+    ensures limit { result.limit ≡ no_limit graph.now.criteria }
+    ensures budget { result.budget ≡ query.now.budget }
+{
+    plain_search::Query {
+        from: NodeNo(query.from),
+        to: NodeNo(query.to),
+        limit: Limit::none(graph.criteria()),
+        budget: query.budget,
+    }
+}

@@ -1,0 +1,133 @@
+//! The lines that the program writes.
+ghost use Rattle.std.specs.Prelude.{◌≡◌, ◌++◌, ℕ, List, length, codes};
+ghost use Rattle.std.specs.List.{flat_map};
+ghost use Rattle.route_io.specs.Causes.{WriteHasCause};
+ghost use Rattle.route_io.specs.Sent.{SendsOrPrefix};
+ghost use Rattle.route_top.specs.Pieces.{text_of, texts_of};
+ghost use Rattle.route_top.specs.Texts.{and_number, cost_line, costs_reply, end_line, refusal};
+
+use cost_vector::Cost;
+use line_text::put_decimal;
+use route_io::{Sink, WriteFault, put_all};
+
+/// A part of a line: a text, or a space and a number in decimal.
+#[derive(Clone, Copy, Debug)]
+pub(crate) enum Piece<'a> {
+    Text(&'a str),
+    Number(u64),
+}
+
+/// Sends the pieces in order.
+pub(crate) fn put_pieces<K: Sink>(sink: &mut K, pieces: &[Piece<'_>]) -> Result<(), WriteFault>
+    ensures bytes { SendsOrPrefix (K.sent sink.old) (K.sent sink.new) (texts_of pieces.now) result }
+    ensures cause { WriteHasCause (K.faults sink.old) (K.faults sink.new) (K.wants sink.old) (K.wants sink.new) result }
+{
+    for piece in pieces {
+        put_piece(sink, piece)?;
+    }
+    Ok(())
+}
+
+/// Sends one piece.
+fn put_piece<K: Sink>(sink: &mut K, piece: &Piece<'_>) -> Result<(), WriteFault>
+    ensures bytes { SendsOrPrefix (K.sent sink.old) (K.sent sink.new) (text_of piece.now) result }
+    ensures cause { WriteHasCause (K.faults sink.old) (K.faults sink.new) (K.wants sink.old) (K.wants sink.new) result }
+{
+    match piece {
+        Piece::Text(text) => put_all(sink, text.as_bytes()),
+        Piece::Number(number) => {
+            put_all(sink, b" ")?;
+            put_decimal(sink, *number)
+        }
+    }
+}
+
+/// Sends the answer of costs at epoch 0: a line with their number, and then a line for each cost.
+pub(crate) fn put_costs<K: Sink>(
+    sink: &mut K,
+    from: u32,
+    to: u32,
+    costs: &[Cost],
+) -> Result<(), WriteFault>
+    ensures bytes { SendsOrPrefix (K.sent sink.old) (K.sent sink.new) (costs_reply 0 from to costs.now) result }
+    ensures cause { WriteHasCause (K.faults sink.old) (K.faults sink.new) (K.wants sink.old) (K.wants sink.new) result }
+{
+    put_head(sink, from, to, costs.len() as u64)?;
+    put_lines(sink, costs)
+}
+
+/// Sends the first line of that answer.
+fn put_head<K: Sink>(sink: &mut K, from: u32, to: u32, count: u64) -> Result<(), WriteFault>
+    ensures bytes { SendsOrPrefix (K.sent sink.old) (K.sent sink.new)
+        (codes "r" ++ and_number 0 ++ and_number from ++ and_number to ++ and_number count ++ end_line) result }
+    ensures cause { WriteHasCause (K.faults sink.old) (K.faults sink.new) (K.wants sink.old) (K.wants sink.new) result }
+{
+    use Piece::{Number, Text};
+    put_pieces(
+        sink,
+        &[
+            Text("r"),
+            Number(0),
+            Number(u64::from(from)),
+            Number(u64::from(to)),
+            Number(count),
+            Text("\n"),
+        ],
+    )
+}
+
+/// Sends the line of one cost.
+fn put_cost<K: Sink>(sink: &mut K, cost: &Cost) -> Result<(), WriteFault>
+    ensures bytes { SendsOrPrefix (K.sent sink.old) (K.sent sink.new) (cost_line cost.now) result }
+    ensures cause { WriteHasCause (K.faults sink.old) (K.faults sink.new) (K.wants sink.old) (K.wants sink.new) result }
+{
+    put_all(sink, b"v")?;
+    put_components(sink, cost)?;
+    put_all(sink, b"\n")
+}
+
+/// Sends the line that refuses a query at epoch 0.
+pub(crate) fn put_refusal<K: Sink>(
+    sink: &mut K,
+    from: u32,
+    to: u32,
+    why: &str,
+) -> Result<(), WriteFault>
+    ensures bytes { SendsOrPrefix (K.sent sink.old) (K.sent sink.new) (refusal 0 from to why.now) result }
+    ensures cause { WriteHasCause (K.faults sink.old) (K.faults sink.new) (K.wants sink.old) (K.wants sink.new) result }
+{
+    use Piece::{Number, Text};
+    put_pieces(
+        sink,
+        &[
+            Text("x"),
+            Number(0),
+            Number(u64::from(from)),
+            Number(u64::from(to)),
+            Text(why),
+            Text("\n"),
+        ],
+    )
+}
+
+/// Sends each component of a cost behind a space.
+fn put_components<K: Sink>(sink: &mut K, cost: &Cost) -> Result<(), WriteFault>
+    ensures bytes { SendsOrPrefix (K.sent sink.old) (K.sent sink.new) (flat_map and_number cost.now) result }
+    ensures cause { WriteHasCause (K.faults sink.old) (K.faults sink.new) (K.wants sink.old) (K.wants sink.new) result }
+{
+    for place in 0..cost.count() {
+        put_piece(sink, &Piece::Number(cost.component(place)))?;
+    }
+    Ok(())
+}
+
+/// Sends a line for each cost.
+fn put_lines<K: Sink>(sink: &mut K, costs: &[Cost]) -> Result<(), WriteFault>
+    ensures bytes { SendsOrPrefix (K.sent sink.old) (K.sent sink.new) (flat_map cost_line costs.now) result }
+    ensures cause { WriteHasCause (K.faults sink.old) (K.faults sink.new) (K.wants sink.old) (K.wants sink.new) result }
+{
+    for cost in costs {
+        put_cost(sink, cost)?;
+    }
+    Ok(())
+}

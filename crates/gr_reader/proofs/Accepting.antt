@@ -32,7 +32,8 @@ told_line limits total state line lines limit form =
     (read_lines limits total (with_form (past total state line) form) lines)
 
 -- an accepted arc line
-arc_accepted : (known : Sizes) (come tail head weight : ℕ) → form_kind (Some known) come (Arc tail head weight) ≡ None → (come < known.arcs) × IsArc known.nodes (record { tail = tail; head = head; weight = weight })
+arc_accepted : (known : Sizes) (come tail head weight : ℕ) → form_kind (Some known) come (Arc tail head weight) ≡ None → (come < known.arcs)
+    × IsArc known.nodes (record { tail = tail; head = head; weight = weight })
 arc_accepted known come tail head weight e =
     let facts : (come < known.arcs) × (1 ≤ tail) × (tail ≤ known.nodes) × (1 ≤ head) × (head ≤ known.nodes) × (weight < 2 ^ 32) = grind (arith, nat_tests) in
     (facts.0, record { tail = (facts.1, facts.2); head = (facts.3, facts.4); weight = facts.5 })
@@ -54,8 +55,10 @@ record Follows (limits : FileLimits) (total : ℕ) (known : Sizes) (come passed 
   in_range : AllByRecursion (IsArc known.nodes) arcs
 
 -- One more arc line stands before them.
-arc_before : (limits : FileLimits) (total : ℕ) (known : Sizes) (come passed tail head weight : ℕ) (line : List ℕ) (lines : List (List ℕ)) (arcs : List ArcLine) → limit_of limits total passed line ≡ None
-    → form_of (without_cr line) ≡ Some (Arc tail head weight) → form_kind (Some known) come (Arc tail head weight) ≡ None → Follows limits total known (come + 1) (passed + size_in total passed line) lines arcs
+arc_before : (limits : FileLimits) (total : ℕ) (known : Sizes) (come passed tail head weight : ℕ) (line : List ℕ) (lines : List (List ℕ))
+    (arcs : List ArcLine) → limit_of limits total passed line ≡ None
+    → form_of (without_cr line) ≡ Some (Arc tail head weight) → form_kind (Some known) come (Arc tail head weight) ≡ None
+    → Follows limits total known (come + 1) (passed + size_in total passed line) lines arcs
     → Follows limits total known come passed (line ∷ lines) (record { tail = tail; head = head; weight = weight } ∷ arcs)
 arc_before limits total known come passed tail head weight line lines arcs limit form accepted later = record {
   unbroken = (limit, later.unbroken);
@@ -71,22 +74,27 @@ module _ (limits : FileLimits) (total : ℕ) (known : Sizes) where
       (come number passed : ℕ) → come ≤ known.arcs → (read_lines limits total (behind known come number passed) lines).end ≡ None
       → Follows limits total known come passed lines (read_lines limits total (behind known come number passed) lines).arcs
 
-  accepts-end : (come number passed : ℕ) (full : Bool) → come ≤ known.arcs → nat_le known.arcs come ≡ full → (ends (behind known come number passed) (cond full None (Some CountWrong))).end ≡ None
+  accepts-end : (come number passed : ℕ) (full : Bool) → come ≤ known.arcs → nat_le known.arcs come ≡ full
+      → (ends (behind known come number passed) (cond full None (Some CountWrong))).end ≡ None
       → Follows limits total known come passed [] (ends (behind known come number passed) (cond full None (Some CountWrong))).arcs
   accepts-end come number passed false most e accepted = absurd cc
   accepts-end come number passed true most e accepted =
       let all : known.arcs ≤ come = grind (arith, nat_tests) in
       record { unbroken = tt; forms = refl; count = omega arith; in_range = tt }
 
-  accepts-arc : (line : List ℕ) (lines : List (List ℕ)) → Accepts lines → (come number passed tail head weight : ℕ) → limit_of limits total passed line ≡ None → form_of (without_cr line) ≡ Some (Arc tail head weight)
+  accepts-arc : (line : List ℕ) (lines : List (List ℕ)) → Accepts lines → (come number passed tail head weight : ℕ)
+      → limit_of limits total passed line ≡ None → form_of (without_cr line) ≡ Some (Arc tail head weight)
       → (kind : Option LineKind) → form_kind (Some known) come (Arc tail head weight) ≡ kind
-      → (line_told kind (past total (behind known come number passed) line) (Some (Arc tail head weight)) (read_lines limits total (behind known (come + 1) (number + 1) (passed + size_in total passed line)) lines)).end ≡ None
+      → (line_told kind (past total (behind known come number passed) line) (Some (Arc tail head weight))
+      (read_lines limits total (behind known (come + 1) (number + 1) (passed + size_in total passed line)) lines)).end ≡ None
       → Follows limits total known come passed (line ∷ lines)
-      (line_told kind (past total (behind known come number passed) line) (Some (Arc tail head weight)) (read_lines limits total (behind known (come + 1) (number + 1) (passed + size_in total passed line)) lines)).arcs
+      (line_told kind (past total (behind known come number passed) line) (Some (Arc tail head weight))
+      (read_lines limits total (behind known (come + 1) (number + 1) (passed + size_in total passed line)) lines)).arcs
   accepts-arc line lines later come number passed tail head weight limit form (Some kind) e accepted = absurd cc
   accepts-arc line lines later come number passed tail head weight limit form None e accepted =
       let due = (arc_accepted known come tail head weight e).0 in
-      arc_before limits total known come passed tail head weight line lines _ limit form e (later (come + 1) (number + 1) (passed + size_in total passed line) (omega arith) accepted)
+      arc_before limits total known come passed tail head weight line lines _ limit form e
+      (later (come + 1) (number + 1) (passed + size_in total passed line) (omega arith) accepted)
 
   accepts-line : (line : List ℕ) (lines : List (List ℕ)) → Accepts lines → (come number passed : ℕ) → come ≤ known.arcs
       → (limit : Option LineKind) → limit_of limits total passed line ≡ limit → (form : Option Form) → form_of (without_cr line) ≡ form
@@ -112,23 +120,27 @@ module _ (limits : FileLimits) (total : ℕ) (known : Sizes) where
       (come number passed : ℕ) (arcs : List ArcLine) → Follows limits total known come passed lines arcs
       → read_lines limits total (behind known come number passed) lines ≡ record { sizes = Some known; arcs = arcs; end = None }
 
-  tells-end : (come number passed : ℕ) (arcs : List ArcLine) → Follows limits total known come passed [] arcs → ends (behind known come number passed) (cond (nat_le known.arcs come) None (Some CountWrong)) ≡ record { sizes = Some known; arcs = arcs; end = None }
+  tells-end : (come number passed : ℕ) (arcs : List ArcLine) → Follows limits total known come passed [] arcs
+      → ends (behind known come number passed) (cond (nat_le known.arcs come) None (Some CountWrong)) ≡ record { sizes = Some known; arcs = arcs; end = None }
   tells-end come number passed [] follows =
       let full : nat_le known.arcs come ≡ true = grind (arith, nat_tests, follows.count) in
       ap (λ b. ends (behind known come number passed) (cond b None (Some CountWrong))) full
   tells-end come number passed (arc ∷ arcs) follows = let e = follows.forms in absurd cc
 
-  tells-line : (line : List ℕ) (lines : List (List ℕ)) → Tells lines → (come number passed : ℕ) (arcs : List ArcLine) → Follows limits total known come passed (line ∷ lines) arcs → (form : Option Form) → form_of (without_cr line) ≡ form
+  tells-line : (line : List ℕ) (lines : List (List ℕ)) → Tells lines → (come number passed : ℕ) (arcs : List ArcLine)
+      → Follows limits total known come passed (line ∷ lines) arcs → (form : Option Form) → form_of (without_cr line) ≡ form
       → told_line limits total (behind known come number passed) line lines None form ≡ record { sizes = Some known; arcs = arcs; end = None }
   tells-line line lines later come number passed arcs follows None e =
-      later come (number + 1) (passed + size_in total passed line) arcs (record { unbroken = follows.unbroken.1; forms = rw e at follows.forms; count = follows.count; in_range = follows.in_range })
+      later come (number + 1) (passed + size_in total passed line) arcs
+      (record { unbroken = follows.unbroken.1; forms = rw e at follows.forms; count = follows.count; in_range = follows.in_range })
   tells-line line lines later come number passed [] follows (Some form) e =
       let forms = rw e at follows.forms in absurd cc
   tells-line line lines later come number passed (arc ∷ arcs) follows (Some form) e =
       let forms = rw e at follows.forms in
       let first = head_is form (forms_of lines) (form_of_arc arc) (map form_of_arc arcs) forms in
       let accepted = arc_fits known come arc (omega (arith, follows.count)) follows.in_range.0 in
-      let rest = later (come + 1) (number + 1) (passed + size_in total passed line) arcs (record { unbroken = follows.unbroken.1; forms = first.1; count = omega (arith, follows.count); in_range = follows.in_range.1 }) in
+      let rest = later (come + 1) (number + 1) (passed + size_in total passed line) arcs
+      (record { unbroken = follows.unbroken.1; forms = first.1; count = omega (arith, follows.count); in_range = follows.in_range.1 }) in
       rw (first.0, accepted) (ap (before (Some (form_of_arc arc))) rest)
 
   tells : (lines : List (List ℕ)) → Tells lines
@@ -152,10 +164,12 @@ record TellsFile (limits : FileLimits) (total passed : ℕ) (lines : List (List 
 module _ (limits : FileLimits) (total : ℕ) where
   abbrev AcceptsFile : List (List ℕ) → Type 0
   AcceptsFile lines =
-      (number passed : ℕ) → (read_lines limits total (in_front number passed) lines).end ≡ None → TellsFile limits total passed lines (read_lines limits total (in_front number passed) lines)
+      (number passed : ℕ) → (read_lines limits total (in_front number passed) lines).end ≡ None
+      → TellsFile limits total passed lines (read_lines limits total (in_front number passed) lines)
 
   -- the problem line comes first
-  file-problem : (line : List ℕ) (lines : List (List ℕ)) (number passed nodes arcs : ℕ) → limit_of limits total passed line ≡ None → form_of (without_cr line) ≡ Some (Problem nodes arcs)
+  file-problem : (line : List ℕ) (lines : List (List ℕ)) (number passed nodes arcs : ℕ) → limit_of limits total passed line ≡ None
+      → form_of (without_cr line) ≡ Some (Problem nodes arcs)
       → (right : Bool) → in_range nodes arcs ≡ right
       → (line_told (cond (not right) (Some SizeRange) None) (past total (in_front number passed) line) (Some (Problem nodes arcs))
       (read_lines limits total (behind (record { nodes = nodes; arcs = arcs }) 0 (number + 1) (passed + size_in total passed line)) lines)).end ≡ None
@@ -179,7 +193,8 @@ module _ (limits : FileLimits) (total : ℕ) where
         };
       }
 
-  file-line : (line : List ℕ) (lines : List (List ℕ)) → AcceptsFile lines → (number passed : ℕ) → (limit : Option LineKind) → limit_of limits total passed line ≡ limit
+  file-line : (line : List ℕ) (lines : List (List ℕ)) → AcceptsFile lines → (number passed : ℕ) → (limit : Option LineKind)
+      → limit_of limits total passed line ≡ limit
       → (form : Option Form) → form_of (without_cr line) ≡ form → (told_line limits total (in_front number passed) line lines limit form).end ≡ None
       → TellsFile limits total passed (line ∷ lines) (told_line limits total (in_front number passed) line lines limit form)
   file-line line lines later number passed (Some kind) broken form e accepted = absurd cc
@@ -206,11 +221,13 @@ module _ (limits : FileLimits) (total : ℕ) where
       (number passed nodes : ℕ) (arcs : List ArcLine) → IsFile limits total passed lines nodes arcs
       → read_lines limits total (in_front number passed) lines ≡ record { sizes = said nodes (length arcs); arcs = arcs; end = None }
 
-  told_file-line : (line : List ℕ) (lines : List (List ℕ)) → FileTells lines → (number passed nodes : ℕ) (arcs : List ArcLine) → IsFile limits total passed (line ∷ lines) nodes arcs
+  told_file-line : (line : List ℕ) (lines : List (List ℕ)) → FileTells lines → (number passed nodes : ℕ) (arcs : List ArcLine)
+      → IsFile limits total passed (line ∷ lines) nodes arcs
       → (form : Option Form) → form_of (without_cr line) ≡ form
       → told_line limits total (in_front number passed) line lines None form ≡ record { sizes = said nodes (length arcs); arcs = arcs; end = None }
   told_file-line line lines later number passed nodes arcs file None e =
-      later (number + 1) (passed + size_in total passed line) nodes arcs (record { unbroken = file.unbroken.1; forms = rw e at file.forms; in_size = file.in_size; in_range = file.in_range })
+      later (number + 1) (passed + size_in total passed line) nodes arcs
+      (record { unbroken = file.unbroken.1; forms = rw e at file.forms; in_size = file.in_size; in_range = file.in_range })
   told_file-line line lines later number passed nodes arcs file (Some form) e =
       let forms = rw e at file.forms in
       let first = head_is form (forms_of lines) (Problem nodes (length arcs)) (map form_of_arc arcs) forms in
@@ -231,7 +248,8 @@ in_size-parts nodes arcs e = grind (arith, nat_tests)
 
 -- A reading that ends without a fault is of a weight file.
 pub reading_is : (limits : FileLimits) (bytes : List ℕ) → (read_rest limits at_start bytes).end ≡ None
-    → (nodes : ℕ) × ((read_rest limits at_start bytes).sizes ≡ said nodes (length (read_rest limits at_start bytes).arcs)) × IsGr limits bytes nodes (read_rest limits at_start bytes).arcs
+    → (nodes : ℕ) × ((read_rest limits at_start bytes).sizes ≡ said nodes (length (read_rest limits at_start bytes).arcs))
+    × IsGr limits bytes nodes (read_rest limits at_start bytes).arcs
 reading_is limits bytes accepted =
     let told = accepts_file limits (0 + length bytes) (lines_of bytes) 0 0 accepted in
     let all : 0 + length bytes ≡ length bytes = omega arith in
@@ -251,10 +269,12 @@ reading_is limits bytes accepted =
     )
 
 -- A weight file is read to its end.
-pub file_is_read : (limits : FileLimits) (bytes : List ℕ) (nodes : ℕ) (arcs : List ArcLine) → IsGr limits bytes nodes arcs → read_rest limits at_start bytes ≡ record { sizes = said nodes (length arcs); arcs = arcs; end = None }
+pub file_is_read : (limits : FileLimits) (bytes : List ℕ) (nodes : ℕ) (arcs : List ArcLine) → IsGr limits bytes nodes arcs
+    → read_rest limits at_start bytes ≡ record { sizes = said nodes (length arcs); arcs = arcs; end = None }
 file_is_read limits bytes nodes arcs file =
     let all : length bytes ≡ 0 + length bytes = omega arith in
-    let unbroken = (let P : ℕ → Type 0 = λ total. Unbroken limits total 0 (lines_of bytes) in subst P all (file_unbroken limits bytes file.short_lines file.short_file)) in
+    let unbroken = (let P : ℕ → Type 0 = λ total. Unbroken limits total 0 (lines_of bytes) in
+    subst P all (file_unbroken limits bytes file.short_lines file.short_file)) in
     told_file limits (0 + length bytes) (lines_of bytes) 0 0 nodes arcs (record {
       unbroken = unbroken;
       forms = file.lines;

@@ -58,17 +58,21 @@ capped-accepted (Some sizes) come (Problem nodes arcs) small e = absurd cc
 capped-accepted None come (Arc tail head weight) small e = absurd cc
 capped-accepted (Some sizes) come (Arc tail head weight) small e =
     let in_size = arc-small sizes.nodes (nat_le sizes.arcs come) tail head weight small e in
-    ap (λ n. Arc n (capped_number head) (capped_number weight)) (small_is tail in_size.0) ∙ ap (λ n. Arc tail n (capped_number weight)) (small_is head in_size.1) ∙ ap (Arc tail head) (small_is weight in_size.2)
+    ap (λ n. Arc n (capped_number head) (capped_number weight)) (small_is tail in_size.0)
+    ∙ ap (λ n. Arc tail n (capped_number weight)) (small_is head in_size.1) ∙ ap (Arc tail head) (small_is weight in_size.2)
 capped-accepted None come Malformed small e = absurd cc
 capped-accepted (Some sizes) come Malformed small e = absurd cc
 
 -- a line gives the same with its numbers capped
 module _ (limits : FileLimits) (total : ℕ) (sizes : Option Sizes) (come : ℕ) (small : AreSmall sizes) (here : State) (lines : List (List ℕ)) where
   by_kind : (form : Form) (kind : Option LineKind) → form_kind sizes come form ≡ kind → form_kind sizes come (capped form) ≡ form_kind sizes come form
-      → given limits total (form_kind sizes come form) here (Some form) lines ≡ given limits total (form_kind sizes come (capped form)) here (Some (capped form)) lines
+      → given limits total (form_kind sizes come form) here (Some form) lines ≡ given limits total (form_kind sizes come (capped form)) here
+      (Some (capped form)) lines
   unfolding given
   by_kind form (Some kind) e same = rw (same, e) refl
   by_kind form None e same = rw (same, capped-accepted sizes come form small e) refl
 
-  pub given-capped : (form : Form) → given limits total (form_kind sizes come form) here (Some form) lines ≡ given limits total (form_kind sizes come (capped form)) here (Some (capped form)) lines
+  pub given-capped : (form : Form)
+      → given limits total (form_kind sizes come form) here (Some form) lines ≡ given limits total (form_kind sizes come (capped form)) here
+      (Some (capped form)) lines
   given-capped form = by_kind form (form_kind sizes come form) refl (form_kind-capped sizes come form small)

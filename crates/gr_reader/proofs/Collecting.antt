@@ -20,36 +20,45 @@ pub record Collects (arcs : List ArcLine) (whole later : Told) : Type 0 where
   pub parts : whole ≡ record later { arcs = arcs ++ later.arcs }
 
 -- no arc has come yet
-pub collects_none : (told : Told) (gr : GrReading) (nodes arcs : ℕ) (after : Option (List ℕ)) (come : List ArcLine) → gr.nodes ≡ nodes → gr.arcs ≡ arcs → gr.come ≡ 0 → come ≡ []
+pub collects_none : (told : Told) (gr : GrReading) (nodes arcs : ℕ) (after : Option (List ℕ)) (come : List ArcLine) → gr.nodes ≡ nodes → gr.arcs ≡ arcs
+    → gr.come ≡ 0 → come ≡ []
     → TellsSizes gr.lines told after nodes arcs → IsSomeAnd after (λ rest. Collects come told (told_by gr rest))
 collects_none told gr nodes arcs after come e f g h tells =
-    let same = tells.same ∙ ap (λ n. told_of gr.lines (said n arcs) 0 tells.rest) (sym e) ∙ ap (λ n. told_of gr.lines (said gr.nodes n) 0 tells.rest) (sym f) ∙ ap (λ n. told_of gr.lines (said gr.nodes gr.arcs) n tells.rest) (sym g) in
+    let same = tells.same ∙ ap (λ n. told_of gr.lines (said n arcs) 0 tells.rest) (sym e)
+    ∙ ap (λ n. told_of gr.lines (said gr.nodes n) 0 tells.rest) (sym f) ∙ ap (λ n. told_of gr.lines (said gr.nodes gr.arcs) n tells.rest) (sym g) in
     rw (tells.left, h) (record { parts = same })
 
 -- one more arc has come
-pub collects_more : (told : Told) (old new : GrReading) (arc : ArcLine) (rest : List ℕ) (after : Option (List ℕ)) (come more : List ArcLine) → new.nodes ≡ old.nodes → new.arcs ≡ old.arcs → new.come ≡ old.come + 1
+pub collects_more : (told : Told) (old new : GrReading) (arc : ArcLine) (rest : List ℕ) (after : Option (List ℕ)) (come more : List ArcLine)
+    → new.nodes ≡ old.nodes → new.arcs ≡ old.arcs → new.come ≡ old.come + 1
     → more ≡ come ++ arc ∷ [] → Collects come told (told_by old rest) → TellsArc new.lines (said old.nodes old.arcs) old.come (told_by old rest) after arc
     → IsSomeAnd after (λ rest. Collects more told (told_by new rest))
 collects_more told old new arc rest after come more e f g h collects tells =
     let later = told_by new tells.rest in
     let same : told_of new.lines (said old.nodes old.arcs) (old.come + 1) tells.rest ≡ later =
-    ap (λ n. told_of new.lines (said n old.arcs) (old.come + 1) tells.rest) (sym e) ∙ ap (λ n. told_of new.lines (said new.nodes n) (old.come + 1) tells.rest) (sym f) ∙ ap (λ n. told_of new.lines (said new.nodes new.arcs) n tells.rest) (sym g) in
+    ap (λ n. told_of new.lines (said n old.arcs) (old.come + 1) tells.rest) (sym e)
+    ∙ ap (λ n. told_of new.lines (said new.nodes n) (old.come + 1) tells.rest) (sym f)
+    ∙ ap (λ n. told_of new.lines (said new.nodes new.arcs) n tells.rest) (sym g) in
     let first = tells.first ∙ ap (before (Some (form_of_arc arc))) same in
-    let whole = collects.parts ∙ ap (λ (later : Told). record later { arcs = come ++ later.arcs }) first ∙ ap (λ all. record later { arcs = all }) (sym (append_assoc come (arc ∷ []) later.arcs)) in
+    let whole = collects.parts ∙ ap (λ (later : Told). record later { arcs = come ++ later.arcs }) first
+    ∙ ap (λ all. record later { arcs = all }) (sym (append_assoc come (arc ∷ []) later.arcs)) in
     rw (tells.left, h) (record { parts = whole })
 
-known_start : (limits : FileLimits) (left : Option (List ℕ)) (P : Told → Type 0) {Q : List ℕ → Type 0} → IfSome (rest_of (unread limits).lines left) (λ rest. P (told_of (unread limits).lines None 0 rest))
+known_start : (limits : FileLimits) (left : Option (List ℕ)) (P : Told → Type 0) {Q : List ℕ → Type 0}
+    → IfSome (rest_of (unread limits).lines left) (λ rest. P (told_of (unread limits).lines None 0 rest))
     → ((bytes : List ℕ) → P (read_rest limits at_start bytes) → Q bytes) → IfSome left Q
 known_start limits None P told each = tt
 known_start limits (Some bytes) P told each = each bytes told
 
 -- what is told of the rest before the first line is told of the text
-pub of_start : (limits : FileLimits) (gr : GrReading) (left : Option (List ℕ)) (P : Told → Type 0) {Q : List ℕ → Type 0} → gr ≡ unread limits → IfSome (rest_of gr.lines left) (λ rest. P (told_of gr.lines None 0 rest))
+pub of_start : (limits : FileLimits) (gr : GrReading) (left : Option (List ℕ)) (P : Told → Type 0) {Q : List ℕ → Type 0} → gr ≡ unread limits
+    → IfSome (rest_of gr.lines left) (λ rest. P (told_of gr.lines None 0 rest))
     → ((bytes : List ℕ) → P (read_rest limits at_start bytes) → Q bytes) → IfSome left Q
 of_start limits gr left P e told each =
     known_start limits left P (subst (λ (r : GrReading). IfSome (rest_of r.lines left) (λ rest. P (told_of r.lines None 0 rest))) e told) each
 
-pub begins_badly : (lines : Reading) (told : Told) (after : Option (List ℕ)) (fault : FileFault) → BeginTells lines told after (Err fault) → ReadTells told (Err fault)
+pub begins_badly : (lines : Reading) (told : Told) (after : Option (List ℕ)) (fault : FileFault) → BeginTells lines told after (Err fault)
+    → ReadTells told (Err fault)
 begins_badly lines told after (Line kind line) tells = ap (λ t. t.end) tells
 begins_badly lines told after Read tells = tt
 begins_badly lines told after OutOfMemory tells = tt
@@ -62,7 +71,9 @@ module _ (limits : FileLimits) (bytes : List ℕ) where
   is_sound (Err Read) tells = tt
   is_sound (Err OutOfMemory) tells = tt
 
-  file_is : (file : Contents) (nodes : ℕ) (arcs : List ArcLine) → ◌≡◌ {A = Told} (record { sizes = said file.nodes (length file.arcs); arcs = file.arcs; end = None }) (record { sizes = said nodes (length arcs); arcs = arcs; end = None })
+  file_is : (file : Contents) (nodes : ℕ) (arcs : List ArcLine)
+      → ◌≡◌ {A = Told} (record { sizes = said file.nodes (length file.arcs); arcs = file.arcs; end = None })
+      (record { sizes = said nodes (length arcs); arcs = arcs; end = None })
       → file ≡ record { nodes = nodes; arcs = arcs }
   file_is file nodes arcs e =
       let nodes_are : file.nodes ≡ nodes = ap (λ (sizes : Sizes). sizes.nodes) (same_Some _ _ (ap (λ (told : Told). told.sizes) e)) in

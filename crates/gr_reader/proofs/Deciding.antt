@@ -26,7 +26,8 @@ module _ (limits : FileLimits) (bytes : List ℕ) where
       let nodes_are = said-nodes found.0 nodes (length (read_rest limits at_start bytes).arcs) (length arcs) (sym found.1 ∙ ap (λ told. told.sizes) e) in
       subst (λ (n : ℕ). IsGr limits bytes n arcs) nodes_are (subst (IsGr limits bytes found.0) arcs_are found.2)
 
-  by_end : (end : Option Fault) → (read_rest limits at_start bytes).end ≡ end → ((nodes : ℕ) × (arcs : List ArcLine) × IsGr limits bytes nodes arcs) ⊎ ((kind : LineKind) × (line : ℕ) × GrFault limits bytes kind line)
+  by_end : (end : Option Fault) → (read_rest limits at_start bytes).end ≡ end
+      → ((nodes : ℕ) × (arcs : List ArcLine) × IsGr limits bytes nodes arcs) ⊎ ((kind : LineKind) × (line : ℕ) × GrFault limits bytes kind line)
   by_end None e = let found = reading_is limits bytes e in inl (found.0, (read_rest limits at_start bytes).arcs, found.2)
   by_end (Some fault) e = inr (fault.kind, fault.line, fault_is_first limits bytes fault.kind fault.line e)
 

@@ -16,7 +16,8 @@ use Rattle.gr_reader.proofs.LineSteps.{given, told_of-taken, told_of-broken}
 use Rattle.gr_reader.proofs.Capping.{given-capped}
 
 -- what is told of a rest that is known, and of what is left of it
-pub joined : (known left : Option (List ℕ)) {P Q : List ℕ → Type 0} (S : List ℕ → List ℕ → Type 0) → IfSome known (λ rest. IsSomeAnd left (S rest)) → IfSome left P
+pub joined : (known left : Option (List ℕ)) {P Q : List ℕ → Type 0} (S : List ℕ → List ℕ → Type 0) → IfSome known (λ rest. IsSomeAnd left (S rest))
+    → IfSome left P
     → ((rest more : List ℕ) → S rest more → P more → Q rest) → IfSome known Q
 joined None left S skips told each = tt
 joined (Some rest) None S skips told each = absurd skips
@@ -43,14 +44,16 @@ ignored_is (Some line) e = absurd cc
 
 module _ (old now new : Reading) (after : Option (List ℕ)) (limits : new.limits ≡ now.limits) where
   -- one more line is ignored
-  pub skips_line : (rest more : List ℕ) → Skips old now rest more → now.number + 1 ≡ new.number → TakesLine now new more after → None ≡ option_map capped (form_of new.text)
+  pub skips_line : (rest more : List ℕ) → Skips old now rest more → now.number + 1 ≡ new.number → TakesLine now new more after
+      → None ≡ option_map capped (form_of new.text)
       → IsSomeAnd after (Skips old new rest)
   unfolding given
   skips_line rest more skips number taken ignored =
       let e = ignored_is (form_of new.text) ignored in
       rw taken.left (λ sizes come small. skips sizes come small ∙ told_of-taken now new more after taken limits (sym number) sizes come ∙ rw e refl)
 
-  pub finds_form : (rest more : List ℕ) (form : Form) → Skips old now rest more → now.number + 1 ≡ new.number → TakesLine now new more after → Some form ≡ option_map capped (form_of new.text)
+  pub finds_form : (rest more : List ℕ) (form : Form) → Skips old now rest more → now.number + 1 ≡ new.number → TakesLine now new more after
+      → Some form ≡ option_map capped (form_of new.text)
       → FindsForm old new rest after form
   unfolding given
   finds_form rest more form skips number taken says =
@@ -60,11 +63,13 @@ module _ (old now new : Reading) (after : Option (List ℕ)) (limits : new.limit
         left = taken.left;
         told = λ sizes come small.
             let first = told_of-taken now new more after taken limits (sym number) sizes come in
-            let same = given-capped (file_limits new.limits) (new.passed + length (after_line more)) sizes come small (state_of new sizes come) (lines_of (after_line more)) line.0 in
+            let same = given-capped (file_limits new.limits) (new.passed + length (after_line more)) sizes come small (state_of new sizes come)
+            (lines_of (after_line more)) line.0 in
             skips sizes come small ∙ (rw line.1 at first) ∙ (rw (← line.2) at same);
       }
 
-answer_of-broken : (now : Reading) (rest : List ℕ) (fault : LineFault) → answer_of now.limits now.passed rest ≡ Err fault → (0 < length rest) × (first_fault now.limits now.passed rest ≡ Some fault)
+answer_of-broken : (now : Reading) (rest : List ℕ) (fault : LineFault) → answer_of now.limits now.passed rest ≡ Err fault → (0 < length rest)
+    × (first_fault now.limits now.passed rest ≡ Some fault)
 answer_of-broken now [] fault e = absurd cc
 answer_of-broken now (byte ∷ rest) fault e = (omega arith, by_fault (first_fault now.limits now.passed (byte ∷ rest)) e) where
   by_fault : (broken : Option LineFault) → line_answer broken ≡ Err fault → broken ≡ Some fault
@@ -72,7 +77,8 @@ answer_of-broken now (byte ∷ rest) fault e = (omega arith, by_fault (first_fau
   by_fault (Some broken) e = cc
 
 -- a line breaks a limit
-pub finds_fault : (old now new : Reading) (rest more : List ℕ) (after : Option (List ℕ)) (fault : LineFault) → Skips old now rest more → CountsNone now new → Tells now new more after (Err fault)
+pub finds_fault : (old now new : Reading) (rest more : List ℕ) (after : Option (List ℕ)) (fault : LineFault) → Skips old now rest more → CountsNone now new
+    → Tells now new more after (Err fault)
     → FindsFault old rest (told_as fault (new.number + 1))
 finds_fault old now new rest more after lines.Read skips counts tells = tt
 finds_fault old now new rest more after lines.OutOfMemory skips counts tells = tt

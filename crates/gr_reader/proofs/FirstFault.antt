@@ -48,18 +48,22 @@ module _ (total : ℕ) (front : List (List ℕ)) (line : List ℕ) where
 
   -- with these forms behind those in front
   state_is : (sizes : Option Sizes) (come : ℕ) → sizes ≡ sizes_in (forms_of (front ++ line ∷ [])) → come ≡ count_by is_arc (forms_of (front ++ line ∷ []))
-      → a_state sizes come (length front + 1) (min (sum_by with_lf front) total + size_in total (min (sum_by with_lf front) total) line) ≡ state_behind total (front ++ line ∷ [])
+      → a_state sizes come (length front + 1) (min (sum_by with_lf front) total + size_in total (min (sum_by with_lf front) total) line) ≡ state_behind
+      total (front ++ line ∷ [])
   state_is sizes come e f =
       same_state sizes _ come _ _ _ _ _ e f (sym (length_push front line))
       (passed_more total (sum_by with_lf front) (length line) ∙ ap (λ n. min n total) (sym (sum_by_push with_lf front line)))
 
-  state_problem : (sizes : Option Sizes) (nodes arcs : ℕ) → sizes_in (forms_of front) ≡ sizes → form_kind sizes (count_by is_arc (forms_of front)) (Problem nodes arcs) ≡ None
+  state_problem : (sizes : Option Sizes) (nodes arcs : ℕ) → sizes_in (forms_of front) ≡ sizes
+      → form_kind sizes (count_by is_arc (forms_of front)) (Problem nodes arcs) ≡ None
       → forms_of (front ++ line ∷ []) ≡ forms_of front ++ Problem nodes arcs ∷ []
-      → a_state (said nodes arcs) (count_by is_arc (forms_of front)) (length front + 1) (min (sum_by with_lf front) total + size_in total (min (sum_by with_lf front) total) line) ≡ state_behind total (front ++ line ∷ [])
+      → a_state (said nodes arcs) (count_by is_arc (forms_of front)) (length front + 1)
+      (min (sum_by with_lf front) total + size_in total (min (sum_by with_lf front) total) line) ≡ state_behind total (front ++ line ∷ [])
   state_problem (Some known) nodes arcs e accepted forms = absurd cc
   state_problem None nodes arcs e accepted forms =
       let count = sum_by_push (λ (f : Form). cond (is_arc f) 1 0) (forms_of front) (Problem nodes arcs) in
-      state_is (said nodes arcs) _ (sym (sizes_in-problem (forms_of front) nodes arcs e) ∙ ap sizes_in (sym forms)) (omega (arith, count) ∙ ap (count_by is_arc) (sym forms))
+      state_is (said nodes arcs) _ (sym (sizes_in-problem (forms_of front) nodes arcs e) ∙ ap sizes_in (sym forms)) (omega (arith, count)
+      ∙ ap (count_by is_arc) (sym forms))
 
   pub state_more : (limit : Option LineKind) (form : Option Form) → form_of (without_cr line) ≡ form
       → option_or limit (option_and_then (form_kind (sizes_in (forms_of front)) (count_by is_arc (forms_of front))) form) ≡ None
@@ -104,7 +108,8 @@ module _ (limits : FileLimits) (total : ℕ) (lines : List (List ℕ)) where
   abbrev Says : ℕ → Told → Type 0
   Says from told = MatchOption told.end (IsNone limits total lines from) (IsFirst limits total lines from)
 
-  kind_here : (front back : List (List ℕ)) → front ++ back ≡ lines → kind_in limits total lines (length front) ≡ kind_there limits total (state_behind total front) (slice_get back 0)
+  kind_here : (front back : List (List ℕ)) → front ++ back ≡ lines
+      → kind_in limits total lines (length front) ≡ kind_there limits total (state_behind total front) (slice_get back 0)
   kind_here front back e =
       rw (← e, take_at front back (length front) refl, slice_get-front front back) refl
 
@@ -117,7 +122,8 @@ module _ (limits : FileLimits) (total : ℕ) (lines : List (List ℕ)) where
       ⊎_elim (λ e. subst (λ (k : ℕ). kind_in limits total lines k ≡ None) e none) (λ lt. later i lt p) (from_there from i le)
 
   -- a place that isn't faulty is passed
-  passes : (from : ℕ) (end : Option Fault) → kind_in limits total lines from ≡ None → MatchOption end (IsNone limits total lines (from + 1)) (IsFirst limits total lines (from + 1))
+  passes : (from : ℕ) (end : Option Fault) → kind_in limits total lines from ≡ None
+      → MatchOption end (IsNone limits total lines (from + 1)) (IsFirst limits total lines (from + 1))
       → MatchOption end (IsNone limits total lines from) (IsFirst limits total lines from)
   passes from None none later = none_from from none (λ i. i ≤ length lines) later
   passes from (Some fault) none later = record {
@@ -130,9 +136,11 @@ module _ (limits : FileLimits) (total : ℕ) (lines : List (List ℕ)) where
   }
 
   -- the place behind the last line
-  says_end : (front : List (List ℕ)) → front ++ [] ≡ lines → (kind : Option LineKind) → end_kind (state_behind total front) ≡ kind → Says (length front) (ends (state_behind total front) kind)
+  says_end : (front : List (List ℕ)) → front ++ [] ≡ lines → (kind : Option LineKind) → end_kind (state_behind total front) ≡ kind
+      → Says (length front) (ends (state_behind total front) kind)
   says_end front e kind k = by_kind kind (kind_here front [] e ∙ k) (ap length (sym e ∙ append-nil front)) where
-    by_kind : (kind : Option LineKind) → kind_in limits total lines (length front) ≡ kind → length lines ≡ length front → Says (length front) (ends (state_behind total front) kind)
+    by_kind : (kind : Option LineKind) → kind_in limits total lines (length front) ≡ kind → length lines ≡ length front
+        → Says (length front) (ends (state_behind total front) kind)
     by_kind None here last = λ i le within. let same : length front ≡ i = omega arith in subst (λ (k : ℕ). kind_in limits total lines k ≡ None) same here
     by_kind (Some kind) here last = record {
       place = length front;
@@ -153,7 +161,9 @@ module _ (limits : FileLimits) (total : ℕ) (lines : List (List ℕ)) where
   says_line : (front : List (List ℕ)) (line : List ℕ) (back : List (List ℕ)) → front ++ line ∷ back ≡ lines
       → Says (length (front ++ line ∷ [])) (read_lines limits total (state_behind total (front ++ line ∷ [])) back)
       → (kind : Option LineKind) → line_kind limits total (state_behind total front) line ≡ kind
-      → Says (length front) (line_told kind (past total (state_behind total front) line) (form_of (without_cr line)) (read_lines limits total (with_form (past total (state_behind total front) line) (form_of (without_cr line))) back))
+      → Says (length front)
+      (line_told kind (past total (state_behind total front) line) (form_of (without_cr line))
+      (read_lines limits total (with_form (past total (state_behind total front) line) (form_of (without_cr line))) back))
   says_line front line back e later (Some kind) k = record {
     place = length front;
     counted = refl;
@@ -172,7 +182,8 @@ module _ (limits : FileLimits) (total : ℕ) (lines : List (List ℕ)) where
   says : (back front : List (List ℕ)) → front ++ back ≡ lines → Says (length front) (read_lines limits total (state_behind total front) back)
   says [] front e = says_end front e (end_kind (state_behind total front)) refl
   says (line ∷ back) front e =
-      says_line front line back e (says back (front ++ line ∷ []) (append_assoc front (line ∷ []) back ∙ e)) (line_kind limits total (state_behind total front) line) refl
+      says_line front line back e (says back (front ++ line ∷ []) (append_assoc front (line ∷ []) back ∙ e))
+      (line_kind limits total (state_behind total front) line) refl
 
 -- ---- the whole text
 
@@ -182,7 +193,8 @@ module _ (limits : FileLimits) (bytes : List ℕ) where
       let total : 0 + length bytes ≡ length bytes = omega arith in
       let start : min 0 (length bytes) ≡ 0 = omega arith in
       let same : read_lines limits (length bytes) (state_behind (length bytes) []) (lines_of bytes) ≡ read_rest limits at_start bytes =
-      ap (λ n. read_lines limits (length bytes) (a_state None 0 0 n) (lines_of bytes)) start ∙ ap (λ n. read_lines limits n at_start (lines_of bytes)) (sym total) in
+      ap (λ n. read_lines limits (length bytes) (a_state None 0 0 n) (lines_of bytes)) start
+      ∙ ap (λ n. read_lines limits n at_start (lines_of bytes)) (sym total) in
       subst (Says limits (length bytes) (lines_of bytes) 0) same (says limits (length bytes) (lines_of bytes) (lines_of bytes) [] refl)
 
   first_is : (fault : Fault) → IsFirst limits (length bytes) (lines_of bytes) 0 fault → GrFault limits bytes fault.kind fault.line
@@ -196,7 +208,8 @@ module _ (limits : FileLimits) (bytes : List ℕ) where
       }
 
   -- there is one first faulty place
-  same_first : (fault : Fault) (kind : LineKind) (line : ℕ) → IsFirst limits (length bytes) (lines_of bytes) 0 fault → GrFault limits bytes kind line → fault ≡ record { kind = kind; line = line }
+  same_first : (fault : Fault) (kind : LineKind) (line : ℕ) → IsFirst limits (length bytes) (lines_of bytes) 0 fault → GrFault limits bytes kind line
+      → fault ≡ record { kind = kind; line = line }
   same_first fault kind line found first =
       ⊎_elim
       (λ early. let none = first.first found.place early in let some = found.faulty in absurd cc)
@@ -215,14 +228,19 @@ module _ (limits : FileLimits) (bytes : List ℕ) where
       (cases_lt found.place (line - 1))
 
   -- The fault that a reading meets is that of the first faulty line.
-  pub fault_is_first : (kind : LineKind) (line : ℕ) → (read_rest limits at_start bytes).end ≡ Some (record { kind = kind; line = line }) → GrFault limits bytes kind line
+  pub fault_is_first : (kind : LineKind) (line : ℕ) → (read_rest limits at_start bytes).end ≡ Some (record { kind = kind; line = line })
+      → GrFault limits bytes kind line
   fault_is_first kind line e =
-      first_is (record { kind = kind; line = line }) (subst (λ (end : Option Fault). MatchOption end (IsNone limits (length bytes) (lines_of bytes) 0) (IsFirst limits (length bytes) (lines_of bytes) 0)) e all_says)
+      first_is (record { kind = kind; line = line })
+      (subst (λ (end : Option Fault). MatchOption end (IsNone limits (length bytes) (lines_of bytes) 0)
+      (IsFirst limits (length bytes) (lines_of bytes) 0)) e all_says)
 
   -- A reading meets that fault.
-  pub first_is_fault : (kind : LineKind) (line : ℕ) → GrFault limits bytes kind line → (read_rest limits at_start bytes).end ≡ Some (record { kind = kind; line = line })
+  pub first_is_fault : (kind : LineKind) (line : ℕ) → GrFault limits bytes kind line
+      → (read_rest limits at_start bytes).end ≡ Some (record { kind = kind; line = line })
   first_is_fault kind line first = by_end (read_rest limits at_start bytes).end all_says where
-    by_end : (end : Option Fault) → MatchOption end (IsNone limits (length bytes) (lines_of bytes) 0) (IsFirst limits (length bytes) (lines_of bytes) 0) → end ≡ Some (record { kind = kind; line = line })
+    by_end : (end : Option Fault) → MatchOption end (IsNone limits (length bytes) (lines_of bytes) 0) (IsFirst limits (length bytes) (lines_of bytes) 0)
+        → end ≡ Some (record { kind = kind; line = line })
     by_end None none =
         let here = none (line - 1) (omega arith) (omega (arith, first.counted, first.within)) in
         let there = first.faulty in

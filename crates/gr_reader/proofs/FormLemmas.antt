@@ -11,7 +11,8 @@ capped-unwrap_or None = refl
 capped-unwrap_or (Some form) = refl
 
 -- a line that is neither blank nor a comment
-pub form_of-first : (line word rest : List ℕ) (found : Option Form) → FirstField line word rest → nat_eq (slice_index word 0) 99 ≡ false → found ≡ option_map capped (form_from word (fields_of rest))
+pub form_of-first : (line word rest : List ℕ) (found : Option Form) → FirstField line word rest → nat_eq (slice_index word 0) 99 ≡ false
+    → found ≡ option_map capped (form_from word (fields_of rest))
     → Some (unwrap_or found Malformed) ≡ option_map capped (form_of line)
 form_of-first line word rest found first other e =
     let says : Form = unwrap_or (form_from word (fields_of rest)) Malformed in

@@ -18,10 +18,12 @@ limit_of limits total passed line = limit_kind (line_fault (line_limits limits) 
 abbrev pub with_lf : List ℕ → ℕ
 with_lf line = length line + 1
 
-limit_none : (limits : FileLimits) (passed raw size : ℕ) → limit_kind (line_fault (line_limits limits) passed raw size) ≡ None → (raw ≤ limits.line) × (passed + size ≤ limits.file)
+limit_none : (limits : FileLimits) (passed raw size : ℕ) → limit_kind (line_fault (line_limits limits) passed raw size) ≡ None → (raw ≤ limits.line)
+    × (passed + size ≤ limits.file)
 limit_none limits passed raw size e = grind (arith, nat_tests)
 
-none_from : (limits : FileLimits) (passed raw size : ℕ) → raw ≤ limits.line → passed + size ≤ limits.file → limit_kind (line_fault (line_limits limits) passed raw size) ≡ None
+none_from : (limits : FileLimits) (passed raw size : ℕ) → raw ≤ limits.line → passed + size ≤ limits.file
+    → limit_kind (line_fault (line_limits limits) passed raw size) ≡ None
 none_from limits passed raw size short within = grind (arith, nat_tests)
 
 module _ (limits : FileLimits) (total : ℕ) where
@@ -55,10 +57,14 @@ module _ (limits : FileLimits) (total : ℕ) where
   unbroken-reached passed (line ∷ lines) within unbroken =
       unbroken-reached (passed + size_in total passed line) lines (limit_none limits passed (length line) _ unbroken.0).1 unbroken.1
 
-  unbroken_from : (passed : ℕ) (lines : List (List ℕ)) → AllByRecursion (λ line. length line ≤ limits.line) lines → reached passed lines ≤ limits.file → Unbroken passed lines
+  unbroken_from : (passed : ℕ) (lines : List (List ℕ)) → AllByRecursion (λ line. length line ≤ limits.line) lines → reached passed lines ≤ limits.file
+      → Unbroken passed lines
   unbroken_from passed [] short within = tt
-  unbroken_from passed (line ∷ lines) short within =
-      (none_from limits passed (length line) _ short.0 (omega (arith, reached-ge (passed + size_in total passed line) lines, within)), unbroken_from (passed + size_in total passed line) lines short.1 within)
+  unbroken_from passed (line ∷ lines) short within = (
+    none_from limits passed (length line) _ short.0 (omega (arith, reached-ge (passed + size_in total passed line) lines, within)),
+    unbroken_from
+        (passed + size_in total passed line) lines short.1 within,
+  )
 
 onto_first-sum : (byte : ℕ) (lines : List (List ℕ)) → 1 + sum_by with_lf lines ≤ sum_by with_lf (onto_first byte lines)
 onto_first-sum byte [] = omega arith
@@ -81,6 +87,7 @@ pub file_short : (limits : FileLimits) (bytes : List ℕ) → Unbroken limits (l
 file_short limits bytes unbroken =
     omega (arith, unbroken-reached limits (length bytes) 0 (lines_of bytes) (omega arith) unbroken, reached-all limits bytes)
 
-pub file_unbroken : (limits : FileLimits) (bytes : List ℕ) → AllByRecursion (λ line. length line ≤ limits.line) (lines_of bytes) → length bytes ≤ limits.file → Unbroken limits (length bytes) 0 (lines_of bytes)
+pub file_unbroken : (limits : FileLimits) (bytes : List ℕ) → AllByRecursion (λ line. length line ≤ limits.line) (lines_of bytes)
+    → length bytes ≤ limits.file → Unbroken limits (length bytes) 0 (lines_of bytes)
 file_unbroken limits bytes short within =
     unbroken_from limits (length bytes) 0 (lines_of bytes) short (omega (arith, reached-all limits bytes))

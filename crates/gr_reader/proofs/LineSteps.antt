@@ -20,7 +20,8 @@ unfoldable pub given : FileLimits → ℕ → Option LineKind → State → Opti
 given limits total kind here form lines = line_told kind here form (read_lines limits total (with_form here form) lines)
 
 read_lines-cons : (limits : FileLimits) (total : ℕ) (state : State) (line : List ℕ) (lines : List (List ℕ))
-    → read_lines limits total state (line ∷ lines) ≡ given limits total (line_kind limits total state line) (past total state line) (form_of (without_cr line)) lines
+    → read_lines limits total state (line ∷ lines) ≡ given limits total (line_kind limits total state line) (past total state line)
+    (form_of (without_cr line)) lines
 unfolding given
 read_lines-cons limits total state line lines = refl
 
@@ -34,14 +35,18 @@ length-rest : (rest : List ℕ) → length rest ≡ line_size rest + length (aft
 length-rest rest = omega (arith, length-raw_line rest, first_lf-le rest, length-drop (first_lf rest + 1) rest)
 
 -- the fault of a line whose broken limit is known
-line_kind-known : (limits : LineLimits) (total : ℕ) (state : State) (line : List ℕ) (size : ℕ) (broken : Option LineFault) → size_in total state.passed line ≡ size
+line_kind-known : (limits : LineLimits) (total : ℕ) (state : State) (line : List ℕ) (size : ℕ) (broken : Option LineFault)
+    → size_in total state.passed line ≡ size
     → line_fault limits state.passed (length line) size ≡ broken
-    → line_kind (file_limits limits) total state line ≡ option_or (limit_kind broken) (option_and_then (form_kind state.sizes state.come) (form_of (without_cr line)))
+    → line_kind (file_limits limits) total state line ≡ option_or (limit_kind broken)
+    (option_and_then (form_kind state.sizes state.come) (form_of (without_cr line)))
 line_kind-known limits total state line size broken sized e =
-    ap (λ b. option_or (limit_kind b) (option_and_then (form_kind state.sizes state.come) (form_of (without_cr line)))) (ap (line_fault limits state.passed (length line)) sized ∙ e)
+    ap (λ b. option_or (limit_kind b) (option_and_then (form_kind state.sizes state.come) (form_of (without_cr line))))
+    (ap (line_fault limits state.passed (length line)) sized ∙ e)
 
 -- the place behind a line
-past-is : (total : ℕ) (old : Reading) (sizes : Option Sizes) (come : ℕ) (line : List ℕ) (number passed : ℕ) → number ≡ old.number + 1 → passed ≡ old.passed + size_in total old.passed line
+past-is : (total : ℕ) (old : Reading) (sizes : Option Sizes) (come : ℕ) (line : List ℕ) (number passed : ℕ) → number ≡ old.number + 1
+    → passed ≡ old.passed + size_in total old.passed line
     → past total (state_of old sizes come) line ≡ record { sizes = sizes; come = come; number = number; passed = passed }
 past-is total old sizes come line number passed e f =
     let at : ℕ → ℕ → State = λ n p. record { sizes = sizes; come = come; number = n; passed = p } in
@@ -59,10 +64,12 @@ module _ (old : Reading) (rest : List ℕ) (sizes : Option Sizes) (come : ℕ) (
       let kind_is : line_kind (file_limits old.limits) total state (raw_line rest) ≡ Some kind =
       line_kind-known old.limits total state (raw_line rest) (line_size rest) (Some fault) (size_in-rest old.passed rest) broken
       ∙ ap (λ k. option_or k (option_and_then (form_kind sizes come) (form_of (without_cr (raw_line rest))))) named in
-      first ∙ ap (λ k. given (file_limits old.limits) total k (past total state (raw_line rest)) (form_of (without_cr (raw_line rest))) (lines_of (after_line rest))) kind_is
+      first ∙ ap (λ k. given (file_limits old.limits) total k (past total state (raw_line rest)) (form_of (without_cr (raw_line rest)))
+      (lines_of (after_line rest))) kind_is
 
 -- The first line of the rest is taken.
-module _ (old new : Reading) (rest : List ℕ) (after : Option (List ℕ)) (taken : TakesLine old new rest after) (limits : new.limits ≡ old.limits) (number : new.number ≡ old.number + 1) where
+module _ (old new : Reading) (rest : List ℕ) (after : Option (List ℕ)) (taken : TakesLine old new rest after) (limits : new.limits ≡ old.limits)
+    (number : new.number ≡ old.number + 1) where
   unbroken : first_fault old.limits old.passed rest ≡ None
   unbroken = by_rest rest taken.answer where
     by_fault : (fault : Option LineFault) → line_answer fault ≡ Ok true → fault ≡ None
@@ -74,13 +81,15 @@ module _ (old new : Reading) (rest : List ℕ) (after : Option (List ℕ)) (take
     by_rest (byte ∷ rest) e = by_fault (first_fault old.limits old.passed (byte ∷ rest)) e
 
   pub told_of-taken : (sizes : Option Sizes) (come : ℕ)
-      → told_of old sizes come rest ≡ given (file_limits new.limits) (new.passed + length (after_line rest)) (option_and_then (form_kind sizes come) (form_of new.text)) (state_of new sizes come) (form_of new.text) (lines_of (after_line rest))
+      → told_of old sizes come rest ≡ given (file_limits new.limits) (new.passed + length (after_line rest))
+      (option_and_then (form_kind sizes come) (form_of new.text)) (state_of new sizes come) (form_of new.text) (lines_of (after_line rest))
   told_of-taken sizes come =
       let total : ℕ = old.passed + length rest in
       let state : State = state_of old sizes come in
       let first = ap (read_lines (file_limits old.limits) total state) taken.lines in
       let kind_is = line_kind-known old.limits total state (raw_line rest) (line_size rest) None (size_in-rest old.passed rest) unbroken in
-      let place = past-is total old sizes come (raw_line rest) new.number new.passed number (taken.passed ∙ ap (λ n. old.passed + n) (sym (size_in-rest old.passed rest))) in
+      let place = past-is total old sizes come (raw_line rest) new.number new.passed number (taken.passed
+      ∙ ap (λ n. old.passed + n) (sym (size_in-rest old.passed rest))) in
       let all : total ≡ new.passed + length (after_line rest) = omega (arith, taken.passed, length-rest rest) in
       first ∙ read_lines-cons (file_limits old.limits) total state (raw_line rest) (lines_of (after_line rest))
       ∙ rw (kind_is, place, ← taken.text, all, ← limits) refl

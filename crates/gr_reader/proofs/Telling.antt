@@ -22,7 +22,8 @@ ends-sizes : (state : State) (kind : Option LineKind) → (ends state kind).size
 ends-sizes state None = refl
 ends-sizes state (Some kind) = refl
 
-arc_line-sizes : (kind : Option LineKind) (here : State) (tail head weight : ℕ) (later : Told) → later.sizes ≡ here.sizes → (line_told kind here (Some (Arc tail head weight)) later).sizes ≡ here.sizes
+arc_line-sizes : (kind : Option LineKind) (here : State) (tail head weight : ℕ) (later : Told) → later.sizes ≡ here.sizes
+    → (line_told kind here (Some (Arc tail head weight)) later).sizes ≡ here.sizes
 arc_line-sizes None here tail head weight later e = e
 arc_line-sizes (Some kind) here tail head weight later e = refl
 
@@ -42,7 +43,8 @@ module _ (limits : FileLimits) (total : ℕ) (known : Sizes) where
   stay-line line lines later come number passed (Some (Problem nodes arcs)) None = refl
   stay-line line lines later come number passed (Some Malformed) None = refl
   stay-line line lines later come number passed (Some (Arc tail head weight)) None =
-      arc_line-sizes (form_kind (Some known) come (Arc tail head weight)) (past total (at come number passed) line) tail head weight _ (later (come + 1) (number + 1) _)
+      arc_line-sizes (form_kind (Some known) come (Arc tail head weight)) (past total (at come number passed) line) tail head weight _
+      (later (come + 1) (number + 1) _)
 
   pub told_of-sizes : (lines : List (List ℕ)) → Stay lines
   told_of-sizes [] come number passed = ends-sizes (at come number passed) _
@@ -50,12 +52,15 @@ module _ (limits : FileLimits) (total : ℕ) (known : Sizes) where
 
 -- What `begin` answers.
 module _ (old new : Reading) (rest : List ℕ) (after : Option (List ℕ)) where
-  pub begin_accepts : (form : Form) (nodes arcs : ℕ) → FindsForm old new rest after form → IsAccepted None 0 form (Problem nodes arcs) → TellsSizes new (told_of old None 0 rest) after nodes arcs
+  pub begin_accepts : (form : Form) (nodes arcs : ℕ) → FindsForm old new rest after form → IsAccepted None 0 form (Problem nodes arcs)
+      → TellsSizes new (told_of old None 0 rest) after nodes arcs
   begin_accepts form nodes arcs found accepted =
       let same = found.told None 0 tt ∙ told_problem new form nodes arcs found.more accepted in
       record {
         rest = found.more;
         left = found.left;
-        sizes_are = ap (λ told. told.sizes) same ∙ told_of-sizes (file_limits new.limits) (new.passed + length found.more) (record { nodes = nodes; arcs = arcs }) (lines_of found.more) 0 new.number new.passed;
+        sizes_are = ap (λ told. told.sizes) same
+            ∙ told_of-sizes (file_limits new.limits) (new.passed + length found.more) (record { nodes = nodes; arcs = arcs }) (lines_of found.more) 0
+            new.number new.passed;
         same = same;
       }

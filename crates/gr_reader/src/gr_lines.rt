@@ -148,11 +148,12 @@ impl GrLines {
 
         // Where the source tells its bytes, the answer is that of the file's text.
         ensures tells { GoesOn self.old → IfSome (rest_of self.old.lines (S.left source.old))
-            (λ rest. ArcTells self.new.lines (said self.old.nodes self.old.arcs) self.old.come (told_by self.old rest)
-            (rest_of self.new.lines (S.left source.new)) result) }
+            (λ rest. ArcTells self.new.lines (said self.old.nodes self.old.arcs) self.old.come
+            (told_by self.old rest) (rest_of self.new.lines (S.left source.new)) result) }
 
         // The source's failures alone make a failed read.
-        ensures cause { IfNone self.old.fault (ReadHasCause (S.faults source.old) (S.faults source.new) result) }
+        ensures cause { IfNone self.old.fault
+            (ReadHasCause (S.faults source.old) (S.faults source.new) result) }
         ensures never_falls { S.faults source.old ≤ S.faults source.new }
         ensures files { S.files source.new ≡ S.files source.old }
     {
@@ -176,12 +177,19 @@ impl GrLines {
 fn read_sizes<S: Source>(lines: &mut Lines, source: &mut S) -> Result<(u32, u32), FileFault>
     requires fits { lines.old.limits.total ≤ 2 ^ 63 }
     requires goes_on { lines.old.fault ≡ None }
+
+    // Where the source tells its bytes, the answer is that of the file's text.
     ensures tells { IfSome (rest_of lines.old (S.left source.old))
-        (λ rest. BeginTells lines.new (told_of lines.old None 0 rest) (rest_of lines.new (S.left source.new)) result) }
+        (λ rest. BeginTells lines.new (told_of lines.old None 0 rest)
+        (rest_of lines.new (S.left source.new)) result) }
+
+    // What holds over every source.
     ensures goes_on { OnOk result (lines.new.fault ≡ None) }
     ensures range { IfOk result (λ sizes. AreSizes sizes.0 sizes.1) }
     ensures takes_no_memory { result ≢ Err FileFault.OutOfMemory }
     ensures limits { lines.new.limits ≡ lines.old.limits }
+
+    // The source's failures alone make a failed read.
     ensures cause { ReadHasCause (S.faults source.old) (S.faults source.new) result }
     ensures never_falls { S.faults source.old ≤ S.faults source.new }
     ensures files { S.files source.new ≡ S.files source.old }
@@ -206,15 +214,22 @@ fn read_arc<S: Source>(
     requires fits { lines.old.limits.total ≤ 2 ^ 63 }
     requires goes_on { lines.old.fault ≡ None }
     requires nodes { nodes ≤ 2 ^ 23 }
+
+    // Where the source tells its bytes, the answer is that of the file's text.
     ensures tells { IfSome (rest_of lines.old (S.left source.old))
-        (λ rest. ArcTells lines.new (said nodes arcs) come (told_of lines.old (said nodes arcs) come rest)
+        (λ rest. ArcTells lines.new (said nodes arcs) come
+        (told_of lines.old (said nodes arcs) come rest)
         (rest_of lines.new (S.left source.new)) result) }
+
+    // What holds over every source.
     ensures goes_on { OnOk result (lines.new.fault ≡ None) }
     ensures in_range { IfOk result (λ found. IfSome found (IsArc nodes)) }
     ensures some_due { IfOk result (λ found. OnSome found (come < arcs)) }
     ensures none_due { result ≡ Ok None → arcs ≤ come }
     ensures takes_no_memory { result ≢ Err FileFault.OutOfMemory }
     ensures limits { lines.new.limits ≡ lines.old.limits }
+
+    // The source's failures alone make a failed read.
     ensures cause { ReadHasCause (S.faults source.old) (S.faults source.new) result }
     ensures never_falls { S.faults source.old ≤ S.faults source.new }
     ensures files { S.files source.new ≡ S.files source.old }
@@ -229,15 +244,22 @@ fn read_arc<S: Source>(
     }
 }
 
-/// Reads up to the next line that isn't ignored, and answers what it says. None is the end of the file.
+/// Reads up to the next line that isn't ignored, and answers what it says. None is the file's end.
 fn next_form<S: Source>(lines: &mut Lines, source: &mut S) -> Result<Option<Form>, FileFault>
     requires fits { lines.old.limits.total ≤ 2 ^ 63 }
     requires goes_on { lines.old.fault ≡ None }
+
+    // Where the source tells its bytes, the answer is that of the file's text.
     ensures tells { IfSome (rest_of lines.old (S.left source.old))
-        (λ rest. FormTells lines.old lines.new rest (rest_of lines.new (S.left source.new)) result) }
+        (λ rest. FormTells lines.old lines.new rest
+        (rest_of lines.new (S.left source.new)) result) }
+
+    // What holds over every source.
     ensures goes_on { OnOk result (lines.new.fault ≡ None) }
     ensures takes_no_memory { result ≢ Err FileFault.OutOfMemory }
     ensures limits { lines.new.limits ≡ lines.old.limits }
+
+    // The source's failures alone make a failed read.
     ensures cause { ReadHasCause (S.faults source.old) (S.faults source.new) result }
     ensures never_falls { S.faults source.old ≤ S.faults source.new }
     ensures files { S.files source.new ≡ S.files source.old }
@@ -257,7 +279,8 @@ fn next_form<S: Source>(lines: &mut Lines, source: &mut S) -> Result<Option<Form
 /// The sizes in the first line that isn't ignored.
 fn sizes_of(form: Form) -> Result<(u32, u32), LineKind>
     ensures range { IfOk result (λ sizes. AreSizes sizes.0 sizes.1) }
-    ensures accepted { IfOk result (λ sizes. IsAccepted None 0 form (Form.Problem sizes.0 sizes.1)) }
+    ensures accepted { IfOk result
+        (λ sizes. IsAccepted None 0 form (Form.Problem sizes.0 sizes.1)) }
     ensures refused { IfErr result (λ kind. form_kind None 0 form ≡ Some kind) }
 {
     match form {
@@ -273,11 +296,12 @@ fn sizes_of(form: Form) -> Result<(u32, u32), LineKind>
     }
 }
 
-/// The arc in a line behind the problem line, which said so many nodes and arcs, and `come` arc lines.
+/// The arc in a line behind the problem line's numbers and `come` arc lines.
 fn arc_in(form: Form, nodes: u32, arcs: u32, come: u32) -> Result<ArcLine, LineKind>
     ensures in_range { IfOk result (IsArc nodes) }
     ensures due { OnOk result (come < arcs) }
-    ensures accepted { IfOk result (λ arc. IsAccepted (said nodes arcs) come form (form_of_arc arc)) }
+    ensures accepted { IfOk result
+        (λ arc. IsAccepted (said nodes arcs) come form (form_of_arc arc)) }
     ensures refused { IfErr result (λ kind. form_kind (said nodes arcs) come form ≡ Some kind) }
 {
     match form {

@@ -19,8 +19,8 @@ pub fn read_gr<S: Source>(
     requires line { limits.line ≤ LONGEST_LINE }
     requires file { limits.file ≤ 2 ^ 63 }
 
-    // Where the source tells its bytes, a file is answered exactly for its text, and a fault exactly where it is the
-    // first one, but for the source's failures and want of memory.
+    // Where the source tells its bytes, a file is answered exactly for its text, and a fault of a line exactly
+    // where it is the first, but for the source's failures and want of memory.
     ensures sound { IfSome (S.left source.old) (λ bytes. IsSound limits bytes result) }
     ensures accepts { IfSome (S.left source.old) (λ bytes. AcceptsFiles limits bytes result) }
     ensures refuses { IfSome (S.left source.old) (λ bytes. RefusesFaults limits bytes result) }
@@ -42,7 +42,8 @@ fn read_arcs<S: Source>(
     requires some { 1 ≤ limits.line }
     requires line { limits.line ≤ LONGEST_LINE }
     requires file { limits.file ≤ 2 ^ 63 }
-    ensures tells { IfSome (S.left source.old) (λ bytes. ReadTells (read_rest limits at_start bytes) result) }
+    ensures tells { IfSome (S.left source.old)
+        (λ bytes. ReadTells (read_rest limits at_start bytes) result) }
     ensures cause { ReadHasCause (S.faults source.old) (S.faults source.new) result }
     ensures never_falls { S.faults source.old ≤ S.faults source.new }
     ensures files { S.files source.new ≡ S.files source.old }

@@ -6,4 +6,5 @@ use Rattle.gr_reader.proofs.form.form_of.Goals as goal
 pub returns : goal.returns
 returns c =
     let other : nat_eq (slice_index c.in_ok-word.word.now 0) 99 ≡ false = grind (arith, nat_tests, c.if-word-eq99.false) in
-    ap (λ form. Some form) c.unwrap_or.ensures ∙ form_of-first c.args.line.now c.in_ok-word.word.now c.in_ok-word.rest.now _ c.in_ok-word.ensures other c.form_behind.ensures
+    ap (λ form. Some form) c.unwrap_or.ensures
+    ∙ form_of-first c.args.line.now c.in_ok-word.word.now c.in_ok-word.rest.now _ c.in_ok-word.ensures other c.form_behind.ensures

@@ -9,7 +9,8 @@ invariant-lines g l = record {
   goes_on : l.lines.fault ≡ None;
   count : g.S.Source.faults l.source ≡ g.S.Source.faults l.initial.source;
   files : g.S.Source.files l.source ≡ g.S.Source.files l.initial.source;
-  skips : IfSome (rest_of l.initial.lines (g.S.Source.left l.initial.source)) (λ rest. IsSomeAnd (rest_of l.lines (g.S.Source.left l.source)) (Skips l.initial.lines l.lines rest));
+  skips : IfSome (rest_of l.initial.lines (g.S.Source.left l.initial.source))
+      (λ rest. IsSomeAnd (rest_of l.lines (g.S.Source.left l.source)) (Skips l.initial.lines l.lines rest));
 }
 
 abbrev pub decreases-lines : goal.decreases-lines

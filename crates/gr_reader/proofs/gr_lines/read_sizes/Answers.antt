@@ -5,4 +5,5 @@ use Rattle.gr_reader.proofs.gr_lines.read_sizes.Goals as goal
 pub returns-in-Ok-clause-tells : goal.returns-in-Ok-clause-tells
 returns-in-Ok-clause-tells g c =
     let tells = rw c.in-Some.is at c.in_ok-form.ensures.tells in
-    of_known _ tells (λ rest found. begin_accepts c.args.lines.now c.next_form.new.lines rest _ c.in-Some.form c.in-Ok.sizes.0 c.in-Ok.sizes.1 found c.in-Ok.ensures.accepted)
+    of_known _ tells (λ rest found. begin_accepts c.args.lines.now c.next_form.new.lines rest _ c.in-Some.form c.in-Ok.sizes.0 c.in-Ok.sizes.1 found
+    c.in-Ok.ensures.accepted)

@@ -14,7 +14,8 @@ returns-in_err-nodes-clause-tells g c =
     let after = rest_of lines (g.S.Source.left c.begin.new.source) in
     let fault = c.in_err-nodes.field-0.0 in
     rw (p.1, p.2)
-    (of_start c.args.limits c.in_ok-lines.lines (g.S.Source.left c.args.source.now) (λ told. BeginTells lines told after (Err fault)) c.in_ok-lines.ensures c.in_err-nodes.ensures.tells (λ bytes told. begins_badly lines _ after fault told))
+    (of_start c.args.limits c.in_ok-lines.lines (g.S.Source.left c.args.source.now) (λ told. BeginTells lines told after (Err fault)) c.in_ok-lines.ensures
+    c.in_err-nodes.ensures.tells (λ bytes told. begins_badly lines _ after fault told))
 
 pub loop-file-init : goal.loop-file-init
 loop-file-init g c =
@@ -29,8 +30,10 @@ loop-file-init g c =
       arcs = search rules;
       count = search rules;
       files = search rules;
-      tells = of_start c.args.limits c.in_ok-lines.lines (g.S.Source.left c.args.source.now) (λ told. BeginTells gr.lines told after (Ok (c.in_ok-nodes.nodes, c.in_ok-nodes.field-0-1))) c.in_ok-lines.ensures c.in_ok-nodes.ensures.tells
-          (λ bytes told. collects_none _ gr _ _ after c.new-file.result.arcs c.in_ok-nodes.ensures.nodes c.in_ok-nodes.ensures.arcs c.in_ok-nodes.ensures.none_come c.new-file.ensures.empty told);
+      tells = of_start c.args.limits c.in_ok-lines.lines (g.S.Source.left c.args.source.now)
+          (λ told. BeginTells gr.lines told after (Ok (c.in_ok-nodes.nodes, c.in_ok-nodes.field-0-1))) c.in_ok-lines.ensures c.in_ok-nodes.ensures.tells
+          (λ bytes told. collects_none _ gr _ _ after c.new-file.result.arcs c.in_ok-nodes.ensures.nodes c.in_ok-nodes.ensures.arcs
+          c.in_ok-nodes.ensures.none_come c.new-file.ensures.empty told);
     }
 
 pub loop-file-preserved : goal.loop-file-preserved
@@ -48,5 +51,6 @@ loop-file-preserved g c =
       count = search rules;
       files = search rules;
       tells = joined (g.S.Source.left c.args.source.now) _ _ c.loop-file.invariant.tells tells
-          (λ bytes rest collects told. collects_more _ c.loop-file.lines c.next_arc.new.self c.in-Some.arc rest _ c.loop-file.file.arcs c.push.new.self.arcs c.in_ok-arc.ensures.nodes c.in_ok-arc.ensures.arcs counts pushed collects told);
+          (λ bytes rest collects told. collects_more _ c.loop-file.lines c.next_arc.new.self c.in-Some.arc rest _ c.loop-file.file.arcs
+          c.push.new.self.arcs c.in_ok-arc.ensures.nodes c.in_ok-arc.ensures.arcs counts pushed collects told);
     }

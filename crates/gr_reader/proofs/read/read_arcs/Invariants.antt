@@ -15,7 +15,9 @@ invariant-loop-file g l = record {
   arcs : l.lines.arcs ≤ 2 ^ 24;
   count : g.S.Source.faults l.source ≡ g.S.Source.faults l.fn.source;
   files : g.S.Source.files l.source ≡ g.S.Source.files l.fn.source;
-  tells : IfSome (g.S.Source.left l.fn.source) (λ bytes. IsSomeAnd (rest_of l.lines.lines (g.S.Source.left l.source)) (λ rest. Collects l.file.arcs (read_rest l.fn.limits at_start bytes) (told_by l.lines rest)));
+  tells : IfSome (g.S.Source.left l.fn.source)
+      (λ bytes. IsSomeAnd (rest_of l.lines.lines (g.S.Source.left l.source))
+      (λ rest. Collects l.file.arcs (read_rest l.fn.limits at_start bytes) (told_by l.lines rest)));
 }
 
 abbrev pub decreases-loop-file : goal.decreases-loop-file

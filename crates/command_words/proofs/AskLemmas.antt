@@ -4,23 +4,28 @@ use Rattle.std.specs.Prelude.{codes, if◌then◌else◌, option_and_then}
 use Rattle.std.specs.Str.{bytes_eq}
 use Rattle.clap.specs.Words.{App, Row, Text, fault_of, is_simple_and_free, matches_of}
 use Rattle.command_words.specs.Apps.{app_for, word_of}
-use Rattle.command_words.specs.Words.{AreWords, Asked, Asks, AsksAs, AsksCosts, AsksQuery, CostsAsked, IsGiven, IsGivenOr, IsNamed, NamesFiles, QueryAsked, costs}
+use Rattle.command_words.specs.Words.{AreWords, Asked, Asks, AsksAs, AsksCosts, AsksQuery, CostsAsked, IsGiven, IsGivenOr, IsNamed, NamesFiles, QueryAsked, check, costs}
 use Rattle.line_text.specs.declared.numerals.Numeral.TheVariants.{Value}
 use Rattle.command_words.specs.declared.apps.Name.{Name}
-use Rattle.command_words.specs.declared.apps.Name.TheVariants.{Costs}
+use Rattle.command_words.specs.declared.apps.Name.TheVariants.{Check, Costs}
 
 -- each command's arguments are of the kind whose matches are a function of the words
 pub apps_simple : (name : Name) → is_simple_and_free (app_for name) ≡ true
 apps_simple Costs = refl
+apps_simple Check = refl
 
 -- ---- the words name one command at most
 
 -- the command that a word names
 abbrev name_for : Text → Option Name
-name_for word = if bytes_eq word (codes "costs") then Some Costs else None
+name_for word =
+    if bytes_eq word (codes "costs") then Some Costs
+    else if bytes_eq word (codes "check") then Some Check
+    else None
 
 named_back : (name : Name) → name_for (word_of name) ≡ Some name
 named_back Costs = refl
+named_back Check = refl
 
 same_name : (words : List Text) (m n : Name) → IsNamed words m → IsNamed words n → m ≡ n
 same_name words m n a b =
@@ -88,12 +93,21 @@ same_costs rows a b x y =
 
 costs_alone : (rows : List Row) (asked : Asked) → AsksAs Costs rows asked → (c : CostsAsked) × (costs c ≡ asked) × AsksCosts rows c
 costs_alone rows (costs c) values = (c, refl, values)
+costs_alone rows _ values = absurd values
+
+check_alone : (rows : List Row) (asked : Asked) → AsksAs Check rows asked → (files : List Text) × (check files ≡ asked) × NamesFiles rows files
+check_alone rows (check files) values = (files, refl, values)
+check_alone rows _ values = absurd values
 
 same_values : (name : Name) (rows : List Row) (a b : Asked) → AsksAs name rows a → AsksAs name rows b → a ≡ b
 same_values Costs rows a b x y =
     let (c, is_a, values) = costs_alone rows a x in
     let (d, is_b, others) = costs_alone rows b y in
     sym is_a ∙ ap costs (same_costs rows c d values others) ∙ is_b
+same_values Check rows a b x y =
+    let (c, is_a, values) = check_alone rows a x in
+    let (d, is_b, others) = check_alone rows b y in
+    sym is_a ∙ ap check (same_files rows c d values others) ∙ is_b
 
 pub asks_one : (words : List Text) (a b : Asked) → Asks words a → Asks words b → a ≡ b
 asks_one words a b x y =

@@ -3,11 +3,12 @@ use Rattle.std.specs.Prelude.{Bool, true, false, Some, codes}
 use Rattle.clap.specs.Words.{App, Rule, Text, new_app, new_rule, with_rule}
 use Rattle.clap.specs.declared.builder.action.ArgAction.TheVariants.{Append, Set}
 use Rattle.command_words.specs.declared.apps.Name.{Name}
-use Rattle.command_words.specs.declared.apps.Name.TheVariants.{Costs}
+use Rattle.command_words.specs.declared.apps.Name.TheVariants.{Check, Costs}
 
 -- the word that names a command
 abbrev pub word_of : Name → Text
 word_of Costs = codes "costs"
+word_of Check = codes "check"
 
 -- an option with one value, `--name value` or `--name=value`, given at most once
 abbrev pub option_rule : Text → Bool → Rule
@@ -33,6 +34,11 @@ costs_app = with_rule (with_rule (with_rule (with_rule (bare_app (word_of Costs)
     (option_rule (codes "from") true)) (option_rule (codes "to") true))
     (option_rule (codes "budget") false)) files_rule
 
+-- `check FILES`
+abbrev pub check_app : App
+check_app = with_rule (bare_app (word_of Check)) files_rule
+
 -- the arguments of a command
 abbrev pub app_for : Name → App
 app_for Costs = costs_app
+app_for Check = check_app

@@ -10,7 +10,7 @@ use Rattle.command_words.specs.declared.Command.TheVariants as command
 use Rattle.command_words.specs.declared.CostsWords.{CostsWords}
 use Rattle.command_words.specs.declared.Query.{Query}
 use Rattle.command_words.specs.declared.apps.Name.{Name}
-use Rattle.command_words.specs.declared.apps.Name.TheVariants.{Costs}
+use Rattle.command_words.specs.declared.apps.Name.TheVariants.{Check, Costs}
 use Rattle.line_text.specs.declared.numerals.Numeral.TheVariants.{Value}
 use Rattle.command_words.specs.declared.TheConstants.{DEFAULT_BUDGET, GREATEST_BUDGET}
 use Rattle.command_words.specs.declared.TheConstants.{GREATEST_NODE, LEAST_FILES, MOST_FILES}
@@ -28,9 +28,30 @@ pub record CostsAsked : Type 0 where
   pub query : QueryAsked
   pub files : List Text
 
--- one command and its values
+-- one command and its values; `check` has the names of its files alone
 pub data Asked : Type 0 where
   costs : CostsAsked → Asked
+  check : List Text → Asked
+
+-- the names of the files that a command reads
+abbrev pub files_of : Asked → List Text
+files_of (costs asked) = asked.files
+files_of (check files) = files
+
+-- the files are from two to four
+pub record FilesInRange (asked : Asked) : Type 0 where
+  pub enough : LEAST_FILES ≤ length (files_of asked)
+  pub not_more : length (files_of asked) ≤ MOST_FILES
+
+-- a query's budget is within its range
+pub record QueryInRange (asked : QueryAsked) : Type 0 where
+  pub positive : 1 ≤ asked.budget
+  pub not_more : asked.budget ≤ GREATEST_BUDGET
+
+-- the budget of a command that has one is within its range
+abbrev pub BudgetInRange : Asked → Type 0
+BudgetInRange (costs asked) = QueryInRange asked.query
+BudgetInRange (check files) = Unit {0}
 
 -- ---- the values that the words give, by rows that name the arguments
 
@@ -70,6 +91,8 @@ pub record AsksCosts (rows : List Row) (asked : CostsAsked) : Type 0 where
 -- the values are those of the command
 abbrev pub AsksAs : Name → List Row → Asked → Type 0
 AsksAs Costs rows (costs asked) = AsksCosts rows asked
+AsksAs Check rows (check files) = NamesFiles rows files
+AsksAs _ rows _ = ⊥
 
 -- ---- the words
 
@@ -94,11 +117,15 @@ AreWords words = (asked : Asked) × Asks words asked
 
 -- ---- what the code's values say
 
+-- the query that a `Query` stands for
 abbrev pub query_asked : Query → QueryAsked
 query_asked q = record { from = q.from; to = q.to; budget = q.budget }
 
+-- the words of `costs`, as what they ask for
 abbrev pub costs_asked : CostsWords → CostsAsked
 costs_asked c = record { query = query_asked c.query; files = map (λ s. s.now) c.files.items }
 
+-- a command, as what it asks for
 abbrev pub asked_of : Command → Asked
 asked_of (command.Costs c) = costs (costs_asked c)
+asked_of (command.Check c) = check (map (λ s. s.now) c.files.items)

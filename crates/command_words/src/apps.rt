@@ -1,7 +1,7 @@
 //! The commands by name, and what `clap` is told of each.
 ghost use Rattle.std.specs.Prelude.{◌≡◌, IfOk};
 ghost use Rattle.clap.specs.Words.{app_of, with_rule};
-ghost use Rattle.command_words.specs.Apps.{bare_app, costs_app, files_rule, option_rule};
+ghost use Rattle.command_words.specs.Apps.{bare_app, check_app, costs_app, files_rule, option_rule};
 
 use clap::{Arg, ArgAction, Command};
 use std::alloc::{AllocError, Global};
@@ -10,6 +10,7 @@ use std::alloc::{AllocError, Global};
 #[derive(Clone, Copy)]
 pub(crate) enum Name {
     Costs,
+    Check,
 }
 
 impl Name {
@@ -21,6 +22,7 @@ impl Name {
     {
         match self {
             Name::Costs => costs(alloc),
+            Name::Check => check(alloc),
         }
     }
 }
@@ -33,6 +35,12 @@ fn costs<'a>(alloc: Global) -> Result<Command<'a>, AllocError>
     let command = with_option(alloc, command, "to", true)?;
     let command = with_option(alloc, command, "budget", false)?;
     with_files(alloc, command)
+}
+
+fn check<'a>(alloc: Global) -> Result<Command<'a>, AllocError>
+    ensures { IfOk result (λ c. app_of c ≡ check_app) }
+{
+    with_files(alloc, bare(alloc, "check"))
 }
 
 // A command with no flags for help and the version.

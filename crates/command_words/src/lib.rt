@@ -1,10 +1,11 @@
 //! Reads the words of a command line into a command.
 #![tactic(auto)]
 
-ghost use Rattle.std.specs.Prelude.{◌≡◌, ◌≢◌, ◌↔◌, IfOk, IfSome, IfNone, [], true};
+ghost use Rattle.std.specs.Prelude.{◌≡◌, ◌≢◌, ◌↔◌, IfOk, IfSome, IfNone, [], map, true};
 ghost use Rattle.clap.specs.Words.{app_of, fault_of, found_of, is_simple_and_free, kind_of};
 ghost use Rattle.clap.specs.Words.{matches_of, rows_of};
-ghost use Rattle.command_words.specs.Words.{AreWords, Asks, IsNamed, asked_of, texts_of};
+ghost use Rattle.command_words.specs.Words.{AreWords, Asks, BudgetInRange, FilesInRange, IsNamed};
+ghost use Rattle.command_words.specs.Words.{asked_of, files_of, texts_of};
 
 mod apps;
 mod numbers;
@@ -45,11 +46,31 @@ pub struct CostsWords<'a> {
     pub files: Vec<&'a str>,
 }
 
+/// The words of `check`.
+#[derive(Debug, Drop)]
+pub struct CheckWords<'a> {
+    pub files: Vec<&'a str>,
+}
+
 /// What the words of a command line ask for.
 #[derive(Debug, Drop)]
 pub enum Command<'a> {
     /// The costs of one query.
     Costs(CostsWords<'a>),
+    /// Whether the files make up a network.
+    Check(CheckWords<'a>),
+}
+
+impl<'a> Command<'a> {
+    /// The names of the files that the command reads, in the order of the words.
+    pub fn files(&self) -> &[&'a str]
+        ensures { map (λ s. s.now) result.now ≡ files_of (asked_of self.now) }
+    {
+        match self {
+            Command::Costs(costs) => costs.files.as_slice(),
+            Command::Check(check) => check.files.as_slice(),
+        }
+    }
 }
 
 /// Why no command was read.
@@ -97,6 +118,8 @@ pub fn read_words<'a>(alloc: Global, words: &'a [String]) -> Result<Command<'a>,
     ensures only { IfOk result (λ c. (other : _) → Asks (texts_of words.entry.now) other
         → other ≡ asked_of c) }
     ensures refused { result ≡ Err WordsFault.Refused → ¬ AreWords (texts_of words.entry.now) }
+    ensures files { IfOk result (λ c. FilesInRange (asked_of c)) }
+    ensures budget { IfOk result (λ c. BudgetInRange (asked_of c)) }
 {
     let name = name_of(words).ok_or(WordsFault::Refused)?;
     let matches = matches_of(name.app(alloc)?, words)?;
@@ -109,6 +132,7 @@ fn name_of(words: &[String]) -> Option<Name>
 {
     match words.first()?.as_str() {
         "costs" => Some(Name::Costs),
+        "check" => Some(Name::Check),
         _ => None,
     }
 }

@@ -24,6 +24,7 @@ fn shown(alloc: Global, words: &[String]) -> Result<String, Fail> {
                 query.from, query.to, query.budget, costs.files
             )?)
         }
+        Ok(Command::Check(check)) => Ok(format!(in alloc; "check {:?}", check.files)?),
         Err(fault) => Ok(format!(in alloc; "{fault}")?),
     }
 }
@@ -59,6 +60,19 @@ fn reads_the_words_of_costs(rt: HostRuntime) -> Result<(), Fail> {
 }
 
 #[test]
+fn reads_the_words_of_check(rt: HostRuntime) -> Result<(), Fail> {
+    for (line, asked) in [
+        ("check A.gr B.gr", r#"check ["A.gr", "B.gr"]"#),
+        ("check A B C", r#"check ["A", "B", "C"]"#),
+        ("check A B C D", r#"check ["A", "B", "C", "D"]"#),
+        ("check -- -x.gr y.gr", r#"check ["-x.gr", "y.gr"]"#),
+    ] {
+        assert_eq!(rt; read(rt.alloc(), line)?.as_str(), asked, "{line}");
+    }
+    Ok(())
+}
+
+#[test]
 fn refuses_other_words(rt: HostRuntime) -> Result<(), Fail> {
     let alloc = rt.alloc();
     for line in [
@@ -82,7 +96,17 @@ fn refuses_other_words(rt: HostRuntime) -> Result<(), Fail> {
             "{line}"
         );
     }
-    for line in ["path A.gr B.gr", "Costs --from 1 --to 4 A B", ""] {
+    for line in [
+        "check",
+        "check A.gr",
+        "check A B C D E",
+        "check --from 1 A B",
+        "check --help A B",
+        "Check A B",
+        "path A.gr B.gr",
+        "Costs --from 1 --to 4 A B",
+        "",
+    ] {
         assert_eq!(rt;
             read(alloc, line)?.as_str(),
             "the words are those of no command",

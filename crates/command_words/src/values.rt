@@ -7,8 +7,8 @@ ghost use Rattle.command_words.specs.Words.{asked_of, costs_asked, query_asked};
 use crate::apps::Name;
 use crate::numbers::{number_or, required_number};
 use crate::{
-    Command, CostsWords, DEFAULT_BUDGET, GREATEST_BUDGET, GREATEST_NODE, LEAST_FILES, MOST_FILES,
-    Query, WordsFault,
+    CheckWords, Command, CostsWords, DEFAULT_BUDGET, GREATEST_BUDGET, GREATEST_NODE, LEAST_FILES,
+    MOST_FILES, Query, WordsFault,
 };
 use clap::ArgMatches;
 use std::alloc::Global;
@@ -25,6 +25,9 @@ pub(crate) fn read<'a>(
 {
     match name {
         Name::Costs => Ok(Command::Costs(read_costs(alloc, matches)?)),
+        Name::Check => Ok(Command::Check(CheckWords {
+            files: read_files(alloc, matches)?,
+        })),
     }
 }
 

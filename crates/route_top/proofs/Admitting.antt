@@ -1,5 +1,5 @@
 -- The names that a folder admits, as the code has them.
-use Rattle.std.proofs.Common.{◌≡◌, ◌<◌, ℕ, List, length, map, get_or, subst, sym, ap, rules, arith}
+use Rattle.std.proofs.Common.{◌≡◌, ℕ, List, map, subst, sym, arith}
 use Rattle.std.specs.List.{All}
 use Rattle.std.specs.Borrow.{Bor}
 use Rattle.std.proofs.lemmas.List.{get_or-map, length-map}

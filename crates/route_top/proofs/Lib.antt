@@ -1,3 +1,7 @@
 pub mod Sending
-pub mod Admitting
+pub mod AddingArcs
+mod Admitting
 pub mod SendLemmas
+pub mod Running
+pub mod Noting
+mod ReadingFiles

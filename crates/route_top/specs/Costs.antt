@@ -1,60 +1,13 @@
--- What the command `costs` does with a query and the named files, in the order of its work: each file in order, the joining,
--- the query.
-use Rattle.std.specs.Prelude.{◌≡◌, ℕ, List, [], ◌∷◌, ◌++◌, Some, ◌⊎◌, length}
-use Rattle.std.specs.List.{AllZip}
+-- What the command `costs` replies to a query over a network, and how it ends.
+use Rattle.std.specs.Prelude.{◌≡◌, ℕ, Bool, true, false, List, ◌⊎◌}
 use Rattle.cost_vector.specs.Costs.{no_limit}
 use Rattle.route_io.specs.Files.{FileMap}
-use Rattle.arc_graph.specs.declared.join.JoinFault.{JoinFault}
 use Rattle.arc_graph.specs.Network.{Network, IsNode}
-use Rattle.arc_graph.specs.Files.{Contents}
-use Rattle.arc_graph.specs.Agreement.{Agree, HasFault, joined}
 use Rattle.arc_graph.specs.Answers.{AreBestCosts, Passes}
-use Rattle.gr_reader.specs.Grammar.{IsGr, GrFault}
 use Rattle.command_words.specs.Words.{CostsAsked, QueryAsked}
-use Rattle.gr_reader.specs.declared.fault.LineKind.{LineKind}
-use Rattle.line_text.specs.declared.lines.TheConstants.{LONGEST_LINE}
-use Rattle.gr_reader.specs.declared.fault.FileLimits.{FileLimits}
-use Rattle.route_top.specs.declared.TheConstants.{GREATEST_FILE}
+use Rattle.route_top.specs.FilesRead.{FilesEnd}
 use Rattle.route_top.specs.Texts.{costs_reply, node_refusal, budget_refusal}
-use Rattle.route_top.specs.Outcome.{Outcome, done, bad_words, folder_failed, out_failed, bad_file, bad_files, refused, no_memory}
-
--- the limits of a weight file
-abbrev pub file_limits : FileLimits
-file_limits = record { line = LONGEST_LINE; file = GREATEST_FILE }
-
--- there is a file of this name, and it says this
-pub record Says (file_of : FileMap) (name : List ℕ) (contents : Contents) : Type 0 where
-  pub bytes : List ℕ
-  pub found : file_of name ≡ Some bytes
-  pub read : IsGr file_limits bytes contents.nodes contents.arcs
-
--- A file comes after others that were all read.
-pub record ComesAfterRead (file_of : FileMap) (names : List (List ℕ)) (name : List ℕ) : Type 0 where
-  pub before : List (List ℕ)
-  pub after : List (List ℕ)
-  pub place : names ≡ before ++ name ∷ after
-  pub contents : List Contents
-  pub read : AllZip (Says file_of) before contents
-
--- The first file that isn't as its format says, and its first fault.
-pub record FirstFaulty (file_of : FileMap) (names : List (List ℕ)) (name : List ℕ) (line : ℕ) (kind : LineKind) : Type 0 where
-  pub place : ComesAfterRead file_of names name
-  pub bytes : List ℕ
-  pub found : file_of name ≡ Some bytes
-  pub faulty : GrFault file_limits bytes kind line
-
--- All files were read, and they say this network together.
-pub record ReadAs (file_of : FileMap) (names : List (List ℕ)) (net : Network) : Type 0 where
-  pub contents : List Contents
-  pub read : AllZip (Says file_of) names contents
-  pub agree : Agree contents
-  pub network : net ≡ joined contents
-
--- All files were read, but they don't agree.
-pub record Disagree (file_of : FileMap) (names : List (List ℕ)) (fault : JoinFault) : Type 0 where
-  pub contents : List Contents
-  pub read : AllZip (Says file_of) names contents
-  pub fault_is : HasFault contents fault
+use Rattle.route_top.specs.Outcome.{Outcome}
 
 -- both ends of the query are nodes
 abbrev pub HaveNodes : Network → QueryAsked → Type 0
@@ -79,14 +32,11 @@ pub record PassesBudget (net : Network) (query : QueryAsked) (text : List ℕ) :
   pub passes : Passes net query.from query.to (no_limit net.criteria) query.budget
   pub reply : text ≡ budget_refusal 0 query.from query.to
 
+-- The reply is an answer, or else a refusal.
+abbrev pub Replies : QueryAsked → Bool → Network → List ℕ → Type 0
+Replies query true net text = Answers net query text
+Replies query false net text = LacksNode net query text ⊎ PassesBudget net query text
+
 -- how a run ends and what it sends to `out`
 abbrev pub CostsEnd : FileMap → CostsAsked → Outcome → List ℕ → Type 0
-CostsEnd file_of asked (folder_failed name) text = ComesAfterRead file_of asked.files name × (text ≡ [])
-CostsEnd file_of asked (bad_file name line kind) text = FirstFaulty file_of asked.files name line kind × (text ≡ [])
-CostsEnd file_of asked (bad_files fault) text = Disagree file_of asked.files fault × (text ≡ [])
-CostsEnd file_of asked done text = (net : Network) × ReadAs file_of asked.files net × Answers net asked.query text
-CostsEnd file_of asked refused text =
-    (net : Network) × ReadAs file_of asked.files net × (LacksNode net asked.query text ⊎ PassesBudget net asked.query text)
-CostsEnd file_of asked bad_words text = ⊥
-CostsEnd file_of asked out_failed text = ⊥
-CostsEnd file_of asked no_memory text = ⊥
+CostsEnd file_of asked = FilesEnd (Replies asked.query) file_of asked.files

@@ -1,7 +1,9 @@
 pub mod Texts
 pub mod Pieces
 pub mod Outcome
+pub mod FilesRead
 pub mod Costs
+pub mod Check
 pub mod Output
 pub mod Stops
 pub mod Reading

@@ -1,5 +1,5 @@
 -- How a run ends, with its status and its note.
-use Rattle.std.specs.Prelude.{ℕ, List, [], ◌∷◌, ◌++◌, codes, decimal}
+use Rattle.std.specs.Prelude.{ℕ, List, [], ◌++◌, codes}
 use Rattle.arc_graph.specs.declared.join.JoinFault.{JoinFault}
 use Rattle.arc_graph.specs.declared.join.JoinFault.TheVariants.{Sizes, Ends, ZeroArc, OutOfMemory}
 use Rattle.gr_reader.specs.declared.fault.LineKind.{LineKind}

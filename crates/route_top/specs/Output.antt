@@ -1,13 +1,10 @@
 -- What the program does with its words and the folder's files.
 use Rattle.std.specs.Prelude.{◌≡◌, ℕ, ◌<◌, ◌⊎◌, List, [], length, take, Contains}
 use Rattle.route_io.specs.Files.{FileMap}
-use Rattle.command_words.specs.Words.{Asked, Asks, AreWords, costs}
+use Rattle.command_words.specs.Words.{Asked, Asks, AreWords, check, costs, files_of}
+use Rattle.route_top.specs.Check.{CheckEnd}
 use Rattle.route_top.specs.Costs.{CostsEnd}
 use Rattle.route_top.specs.Outcome.{Outcome, bad_words, out_failed, no_memory, status_of, note_of}
-
--- the names of the files that a command asks for, in the order of the work
-abbrev pub files_asked : Asked → List (List ℕ)
-files_asked (costs asked) = asked.files
 
 -- some words ask for this
 abbrev pub IsAsked : Asked → Type 0
@@ -15,11 +12,34 @@ IsAsked asked = (words : List (List ℕ)) × Asks words asked
 
 -- a name is one of those that the words ask for
 abbrev pub IsAskedName : List (List ℕ) → List ℕ → Type 0
-IsAskedName words name = (asked : Asked) × Asks words asked × Contains (files_asked asked) name
+IsAskedName words name = (asked : Asked) × Asks words asked × Contains (files_of asked) name
 
 -- how a run of a command ends that nothing cuts short, and what it sends to `out`
 abbrev pub Ends : FileMap → Asked → Outcome → List ℕ → Type 0
 Ends file_of (costs asked) outcome text = CostsEnd file_of asked outcome text
+Ends file_of (check names) outcome text = CheckEnd file_of names outcome text
+
+-- A part from the front, short of the whole, of what a run sends that nothing cuts short.
+pub record IsCut (Whole : Outcome → List ℕ → Type 0) (text : List ℕ) : Type 0 where
+  pub uncut : Outcome
+  pub whole : List ℕ
+  pub ends : Whole uncut whole
+  pub size : ℕ
+  pub short : size < length whole
+  pub part : text ≡ take size whole
+
+-- how a run ends that may be cut short, and what it sends. The sink of replies failed and cut it, or memory ran out: before
+-- anything was sent, or while the sink took the reply, where the sink itself wanted memory.
+abbrev pub EndsOrCut : (Outcome → List ℕ → Type 0) → Type 0 → Outcome → List ℕ → Type 0
+EndsOrCut Whole SinkWanted out_failed text = IsCut Whole text
+EndsOrCut Whole SinkWanted no_memory text = (text ≡ []) ⊎ (SinkWanted × IsCut Whole text)
+EndsOrCut Whole SinkWanted outcome text = Whole outcome text
+
+-- What a run sent: the sink took a text with which it ends so.
+pub record RunSends (Whole : Outcome → List ℕ → Type 0) (Took : List ℕ → Type 0) (SinkWanted : Type 0) (outcome : Outcome) : Type 0 where
+  pub text : List ℕ
+  pub took : Took text
+  pub ends : EndsOrCut Whole SinkWanted outcome text
 
 -- The words are no command's words.
 pub record BadWords (words : List (List ℕ)) (outcome : Outcome) (text : List ℕ) : Type 0 where
@@ -33,24 +53,24 @@ pub record Done (words : List (List ℕ)) (file_of : FileMap) (outcome : Outcome
   pub words_ask : Asks words asked
   pub ends : Ends file_of asked outcome text
 
--- The sink of replies failed: what was sent is a part from the front, short of the whole, of what a command sends.
-pub record CutShort (words : List (List ℕ)) (file_of : FileMap) (outcome : Outcome) (text : List ℕ) : Type 0 where
-  pub outcome_is : outcome ≡ out_failed
-  pub uncut : Outcome
-  pub whole : List ℕ
-  pub done : Done words file_of uncut whole
-  pub size : ℕ
-  pub short : size < length whole
-  pub part : text ≡ take size whole
+-- how the program ends that nothing cuts short, and what it sends to `out`
+abbrev pub Whole : List (List ℕ) → FileMap → Outcome → List ℕ → Type 0
+Whole words file_of outcome text = BadWords words outcome text ⊎ Done words file_of outcome text
 
--- Memory ran out: before anything was sent, or while the sink took the reply.
-pub record WantsMemory (words : List (List ℕ)) (file_of : FileMap) (outcome : Outcome) (text : List ℕ) : Type 0 where
-  pub outcome_is : outcome ≡ no_memory
-  pub sent : (text ≡ []) ⊎ ((uncut : Outcome) × (whole : List ℕ) × Done words file_of uncut whole × ((size : ℕ) × (text ≡ take size whole)))
+-- The sink took the note, or a part of it from the front, short of the whole, and failed or wanted memory.
+abbrev pub TookNote : (List ℕ → Type 0) → Type 0 → List ℕ → Type 0
+TookNote Took SinkFailed note = Took note ⊎ (SinkFailed × ((size : ℕ) × (size < length note) × Took (take size note)))
 
--- What a run sends to `out` and how it ends, by its words and the folder's files. The outcome gives the status and the note.
-pub record Output (words : List (List ℕ)) (file_of : FileMap) (text note : List ℕ) (status : ℕ) : Type 0 where
+-- The status is that of an end, and the note is that of the same one.
+pub record StatusAndNote (ErrTook : List ℕ → Type 0) (ErrFailed : Type 0) (status : ℕ) : Type 0 where
   pub outcome : Outcome
-  pub run : BadWords words outcome text ⊎ (Done words file_of outcome text ⊎ (CutShort words file_of outcome text ⊎ WantsMemory words file_of outcome text))
-  pub note_is : note ≡ note_of outcome
+  pub note : TookNote ErrTook ErrFailed (note_of outcome)
+  pub status_is : status ≡ status_of outcome
+
+-- What the program sends to `out` and to `err`, and its status, by its words and the folder's files. The outcome gives all.
+pub record Output (words : List (List ℕ)) (file_of : FileMap) (OutTook : List ℕ → Type 0) (OutWanted : Type 0)
+    (ErrTook : List ℕ → Type 0) (ErrFailed : Type 0) (status : ℕ) : Type 0 where
+  pub outcome : Outcome
+  pub sends : RunSends (Whole words file_of) OutTook OutWanted outcome
+  pub note : TookNote ErrTook ErrFailed (note_of outcome)
   pub status_is : status ≡ status_of outcome

@@ -3,7 +3,7 @@ use Rattle.std.specs.Prelude.{◌≡◌, ℕ, ◌≤◌, Result, Ok, Err}
 use Rattle.route_io.specs.Causes.{Rose}
 use Rattle.route_top.specs.declared.stop.Stop.{Stop}
 use Rattle.route_top.specs.declared.stop.Stop.TheVariants as stop
-use Rattle.route_top.specs.Outcome.{Outcome, bad_words, folder_failed, out_failed, bad_file, bad_files, refused, no_memory}
+use Rattle.route_top.specs.Outcome.{Outcome, done, bad_words, folder_failed, out_failed, bad_file, bad_files, refused, no_memory}
 
 -- the outcome that a reason is
 abbrev pub outcome_of : Stop → Outcome
@@ -14,6 +14,11 @@ outcome_of (stop.File name line kind) = bad_file name.now line kind
 outcome_of (stop.Files fault) = bad_files fault
 outcome_of stop.Refused = refused
 outcome_of stop.OutOfMemory = no_memory
+
+-- how a run ended
+abbrev pub run_outcome : {T : Type 0} → Result T Stop → Outcome
+run_outcome (Ok value) = done
+run_outcome (Err stop) = outcome_of stop
 
 -- The folder's failures alone end a run as its failure. Nothing else changes their count.
 abbrev pub FolderHasCause : {T : Type 0} → ℕ → ℕ → Result T Stop → Type 0

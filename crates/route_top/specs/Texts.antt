@@ -19,6 +19,10 @@ abbrev pub costs_reply : ℕ → ℕ → ℕ → List (List ℕ) → List ℕ
 costs_reply epoch s t costs =
     codes "r" ++ and_number epoch ++ and_number s ++ and_number t ++ and_number (length costs) ++ end_line ++ flat_map cost_line costs
 
+-- `ok N M D`: the files say a network of N nodes, M arcs and D criteria
+abbrev pub check_reply : ℕ → ℕ → ℕ → List ℕ
+check_reply nodes arcs criteria = codes "ok" ++ and_number nodes ++ and_number arcs ++ and_number criteria ++ end_line
+
 -- `x K S T` and why a query is refused
 abbrev pub refusal : ℕ → ℕ → ℕ → List ℕ → List ℕ
 refusal epoch s t why = codes "x" ++ and_number epoch ++ and_number s ++ and_number t ++ why ++ end_line

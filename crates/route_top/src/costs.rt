@@ -1,10 +1,15 @@
 //! The command `costs`.
-ghost use Rattle.std.specs.Prelude.{◌≡◌, ◌≤◌, length, IfErr, All, vec_len};
+ghost use Rattle.std.specs.Prelude.{◌≡◌, ◌≤◌, [], false, length, Ok, IfOk, OnOk, IfErr, IfSome, IsOk, All, vec_len};
+ghost use Rattle.std.specs.Io.KnownBytes.{Appends};
 ghost use Rattle.cost_vector.specs.Costs.{no_limit};
-ghost use Rattle.arc_graph.specs.Graph.{Match};
+ghost use Rattle.arc_graph.specs.Graph.{Match, network};
 ghost use Rattle.plain_search.specs.declared.query.TheConstants.{MAX_BUDGET};
-ghost use Rattle.command_words.specs.Words.{costs_asked};
-ghost use Rattle.route_top.specs.Stops.{FolderHasCause, OutHasCause, IsWordless};
+ghost use Rattle.command_words.specs.Words.{costs_asked, query_asked};
+ghost use Rattle.route_io.specs.Causes.{Rose};
+ghost use Rattle.route_top.specs.Costs.{CostsEnd, Replies};
+ghost use Rattle.route_top.specs.Output.{RunSends};
+ghost use Rattle.route_top.specs.Texts.{refusal};
+ghost use Rattle.route_top.specs.Stops.{FolderHasCause, IsWordless, OutHasCause, run_outcome};
 
 use crate::network::read_network;
 use crate::reply::{put_costs, put_refusal};
@@ -29,6 +34,9 @@ pub(crate) fn run<'a, F: Folder, K: Sink>(
     requires four { vec_len asked.now.files ≤ 4 }
     requires budget { asked.now.query.budget ≤ MAX_BUDGET }
     ensures stops { IfErr result IsWordless }
+    ensures output { IfSome (F.files folder.old) (λ file_of.
+        RunSends (CostsEnd file_of (costs_asked asked.now)) (Appends (K.sent out.old) (K.sent out.new))
+        (Rose (K.wants out.old) (K.wants out.new)) (run_outcome result)) }
     ensures folder { FolderHasCause (F.faults folder.old) (F.faults folder.new) result }
     ensures out { OutHasCause (K.faults out.old) (K.faults out.new) result }
     ensures files { F.files folder.new ≡ F.files folder.old }
@@ -54,6 +62,9 @@ fn put_reply(
 ) -> Result<bool, OutOfMemory>
     requires matched { Match graph.now weights.now }
     requires budget { query.now.budget ≤ MAX_BUDGET }
+    requires empty { reply.old.sent ≡ [] }
+    ensures { IfOk result (λ is_answer.
+        Replies (query_asked query.now) is_answer (network graph.now weights.now) reply.new.sent) }
 {
     let (from, to) = (query.from, query.to);
     if !graph.has_node(from) || !graph.has_node(to) {
@@ -70,13 +81,19 @@ fn put_reply(
 }
 
 /// Writes a refusal, which is no answer.
-fn refuse(reply: &mut SureSink, query: &Query, why: &str) -> Result<bool, OutOfMemory> {
+fn refuse(reply: &mut SureSink, query: &Query, why: &str) -> Result<bool, OutOfMemory>
+    requires empty { reply.old.sent ≡ [] }
+    ensures refuses { IfOk result (λ is_answer. is_answer ≡ false) }
+    ensures sent { OnOk result (reply.new.sent ≡ refusal 0 query.now.from query.now.to why.now) }
+{
     kept(put_refusal(reply, query.from, query.to, why))?;
     Ok(false)
 }
 
 /// A write to memory fails only for want of it.
-fn kept(written: Result<(), WriteFault>) -> Result<(), OutOfMemory> {
+fn kept(written: Result<(), WriteFault>) -> Result<(), OutOfMemory>
+    ensures { IsOk result → written ≡ Ok tt }
+{
     match written {
         Ok(()) => Ok(()),
         Err(_) => Err(OutOfMemory),

@@ -1,12 +1,14 @@
 //! The top call: it does all that the program does, from the words of the command line to the exit status.
 #![tactic(auto)]
 
-ghost use Rattle.std.specs.Prelude.{◌≡◌, ◌<◌, ◌⊎◌, ℕ, List, Err, All, IfErr};
+ghost use Rattle.std.specs.Prelude.{◌≡◌, ◌<◌, ◌⊎◌, ℕ, List, Err, All, IfErr, IfSome};
+ghost use Rattle.std.specs.Io.KnownBytes.{Appends};
 ghost use Rattle.route_io.specs.Causes.{Rose};
-ghost use Rattle.command_words.specs.Words.{AreWords, asked_of, texts_of};
-ghost use Rattle.route_top.specs.Output.{IsAsked, IsAskedName, files_asked};
-ghost use Rattle.route_top.specs.Stops.{FolderHasCause, IsWordless, OutHasCause};
+ghost use Rattle.command_words.specs.Words.{AreWords, asked_of, files_of, texts_of};
+ghost use Rattle.route_top.specs.Output.{Ends, IsAsked, IsAskedName, Output, RunSends, StatusAndNote, Whole};
+ghost use Rattle.route_top.specs.Stops.{FolderHasCause, IsWordless, OutHasCause, run_outcome};
 
+mod check;
 mod costs;
 mod network;
 mod reply;
@@ -45,6 +47,15 @@ pub fn route<F: Folder, K: Sink, E: Sink>(
 ) -> u8
     requires { (name : List ℕ) → IsAskedName (texts_of words.now) name → F.admits name }
 
+    // The words and the files that the folder tells say what is sent, and how the run ends. The status and the note are
+    // those of one end, also over a folder that tells nothing.
+    ensures output { IfSome (F.files folder.old) (λ file_of. Output (texts_of words.now) file_of
+        (Appends (K.sent out.old) (K.sent out.new)) (Rose (K.wants out.old) (K.wants out.new))
+        (Appends (E.sent err.old) (E.sent err.new))
+        (Rose (E.faults err.old) (E.faults err.new) ⊎ Rose (E.wants err.old) (E.wants err.new)) result) }
+    ensures status_and_note { StatusAndNote (Appends (E.sent err.old) (E.sent err.new))
+        (Rose (E.faults err.old) (E.faults err.new) ⊎ Rose (E.wants err.old) (E.wants err.new)) result }
+
     // The words alone make status 2, unless memory runs out.
     ensures bad_words { result ≡ 2 → ¬ AreWords (texts_of words.now) }
     ensures only_bad_words { ¬ AreWords (texts_of words.now) → (result ≡ 2) ⊎ (result ≡ 9) }
@@ -75,6 +86,9 @@ fn run<'a, F: Folder, K: Sink>(
     requires { (name : List ℕ) → IsAskedName (texts_of words.now) name → F.admits name }
     ensures words { result ≡ Err Stop.Words → ¬ AreWords (texts_of words.entry.now) }
     ensures asked { ¬ AreWords (texts_of words.entry.now) → (result ≡ Err Stop.Words) ⊎ (result ≡ Err Stop.OutOfMemory) }
+    ensures output { IfSome (F.files folder.old) (λ file_of.
+        RunSends (Whole (texts_of words.entry.now) file_of) (Appends (K.sent out.old) (K.sent out.new))
+        (Rose (K.wants out.old) (K.wants out.new)) (run_outcome result)) }
     ensures folder { FolderHasCause (F.faults folder.old) (F.faults folder.new) result }
     ensures out { OutHasCause (K.faults out.old) (K.faults out.new) result }
     ensures files { F.files folder.new ≡ F.files folder.old }
@@ -94,13 +108,17 @@ fn carry_out<'a, F: Folder, K: Sink>(
     out: &mut K,
 ) -> Result<(), Stop<'a>>
     requires asked { IsAsked (asked_of command.now) }
-    requires admitted { All F.admits (files_asked (asked_of command.now)) }
+    requires admitted { All F.admits (files_of (asked_of command.now)) }
     ensures stops { IfErr result IsWordless }
+    ensures output { IfSome (F.files folder.old) (λ file_of.
+        RunSends (Ends file_of (asked_of command.now)) (Appends (K.sent out.old) (K.sent out.new))
+        (Rose (K.wants out.old) (K.wants out.new)) (run_outcome result)) }
     ensures folder { FolderHasCause (F.faults folder.old) (F.faults folder.new) result }
     ensures out { OutHasCause (K.faults out.old) (K.faults out.new) result }
     ensures files { F.files folder.new ≡ F.files folder.old }
 {
     match command {
         Command::Costs(asked) => costs::run(alloc, asked, folder, out),
+        Command::Check(asked) => check::run(alloc, asked, folder, out),
     }
 }

@@ -1,8 +1,11 @@
 //! Reads the named files and joins them.
-ghost use Rattle.std.specs.Prelude.{◌≡◌, ◌≤◌, ◌<◌, ◌+◌, length, IfOk, IfErr, OnOk, All, Err};
+ghost use Rattle.std.specs.Prelude.{◌≡◌, ◌≤◌, ◌<◌, ◌+◌, List, length, IfOk, IfErr, IfSome, OnOk, All, Err, map};
 ghost use Rattle.route_io.specs.Causes.{HasCause};
+ghost use Rattle.arc_graph.specs.Files.{Contents};
 ghost use Rattle.arc_graph.specs.Graph.{Match};
+ghost use Rattle.arc_graph.specs.StandsFor.{StandsFor};
 ghost use Rattle.gr_reader.specs.Reader.{ReadHasCause};
+ghost use Rattle.route_top.specs.Reading.{FileAdded, FileRead, NetworkRead};
 ghost use Rattle.route_top.specs.Stops.{FolderHasCause, IsFileStop};
 
 use crate::GREATEST_FILE;
@@ -30,6 +33,8 @@ pub(crate) fn read_network<'a, F: Folder>(
     requires four { length names.now ≤ 4 }
     ensures criteria { IfOk result (λ r. r.0.criteria ≡ length names.now) }
     ensures matched { IfOk result (λ r. Match r.0 r.1) }
+    ensures read { IfSome (F.files folder.old)
+        (λ file_of. NetworkRead file_of (map (λ name. name.now) names.now) result) }
     ensures stops { IfErr result IsFileStop }
     ensures cause { FolderHasCause (F.faults folder.old) (F.faults folder.new) result }
     ensures files { F.files folder.new ≡ F.files folder.old }
@@ -57,6 +62,8 @@ fn read_file<'a, F: Folder>(
     requires whole { joiner.old.come ≡ joiner.old.due_arcs }
     ensures begun { OnOk result (joiner.new.begun ≡ joiner.old.begun + 1) }
     ensures whole { OnOk result (joiner.new.come ≡ joiner.new.due_arcs) }
+    ensures read { (files : List Contents) → StandsFor joiner.old files → IfSome (F.files folder.old)
+        (λ file_of. FileRead file_of name.now files joiner.new result) }
     ensures stops { IfErr result IsFileStop }
     ensures cause { FolderHasCause (F.faults folder.old) (F.faults folder.new) result }
     ensures files { F.files folder.new ≡ F.files folder.old }
@@ -78,6 +85,8 @@ fn add_file<F: Folder>(alloc: Global, folder: &mut F, joiner: &mut Joiner) -> Re
     requires whole { joiner.old.come ≡ joiner.old.due_arcs }
     ensures begun { OnOk result (joiner.new.begun ≡ joiner.old.begun + 1) }
     ensures whole { OnOk result (joiner.new.come ≡ joiner.new.due_arcs) }
+    ensures added { (files : List Contents) → StandsFor joiner.old files → IfSome (F.left folder.old)
+        (λ bytes. FileAdded bytes files joiner.new result) }
     ensures cause { ReadHasCause (F.faults folder.old) (F.faults folder.new) result }
     ensures never_falls { F.faults folder.old ≤ F.faults folder.new }
     ensures files { F.files folder.new ≡ F.files folder.old }

@@ -4,11 +4,15 @@ ghost use Rattle.std.specs.List.{flat_map};
 ghost use Rattle.route_io.specs.Causes.{WriteHasCause};
 ghost use Rattle.route_io.specs.Sent.{SendsOrPrefix};
 ghost use Rattle.route_top.specs.Pieces.{text_of, texts_of};
-ghost use Rattle.route_top.specs.Texts.{and_number, cost_line, costs_reply, end_line, refusal};
+ghost use Rattle.route_top.specs.Texts.{and_number, check_reply, cost_line, costs_reply, end_line, refusal};
 
+use arc_graph::Graph;
 use cost_vector::Cost;
 use line_text::put_decimal;
 use route_io::{Sink, WriteFault, put_all};
+
+/// The epoch of each reply, since nothing is published.
+const EPOCH: u64 = 0;
 
 /// A part of a line: a text, or a space and a number in decimal.
 #[derive(Clone, Copy, Debug)]
@@ -67,7 +71,7 @@ fn put_head<K: Sink>(sink: &mut K, from: u32, to: u32, count: u64) -> Result<(),
         sink,
         &[
             Text("r"),
-            Number(0),
+            Number(EPOCH),
             Number(u64::from(from)),
             Number(u64::from(to)),
             Number(count),
@@ -101,7 +105,7 @@ pub(crate) fn put_refusal<K: Sink>(
         sink,
         &[
             Text("x"),
-            Number(0),
+            Number(EPOCH),
             Number(u64::from(from)),
             Number(u64::from(to)),
             Text(why),
@@ -130,4 +134,23 @@ fn put_lines<K: Sink>(sink: &mut K, costs: &[Cost]) -> Result<(), WriteFault>
         put_cost(sink, cost)?;
     }
     Ok(())
+}
+
+/// Sends the sizes of a network.
+pub(crate) fn put_sizes<K: Sink>(sink: &mut K, graph: &Graph) -> Result<(), WriteFault>
+    ensures bytes { SendsOrPrefix (K.sent sink.old) (K.sent sink.new)
+        (check_reply graph.now.nodes (length graph.now.ends) graph.now.criteria) result }
+    ensures cause { WriteHasCause (K.faults sink.old) (K.faults sink.new) (K.wants sink.old) (K.wants sink.new) result }
+{
+    use Piece::{Number, Text};
+    put_pieces(
+        sink,
+        &[
+            Text("ok"),
+            Number(u64::from(graph.nodes())),
+            Number(u64::from(graph.arcs())),
+            Number(graph.criteria() as u64),
+            Text("\n"),
+        ],
+    )
 }

@@ -2,7 +2,7 @@
 ghost use Rattle.std.specs.Prelude.{◌≡◌};
 ghost use Rattle.route_io.specs.Causes.{WriteHasCause};
 ghost use Rattle.route_io.specs.Sent.{SendsOrPrefix};
-ghost use Rattle.route_top.specs.Outcome.{noted, note_of, status_of, disagreement};
+ghost use Rattle.route_top.specs.Outcome.{bad_files, note_of, status_of};
 
 use crate::reply::{Piece, put_pieces};
 use arc_graph::JoinFault;
@@ -55,7 +55,10 @@ impl Stop<'_> {
     }
 
     /// Sends the note, one line, or nothing where `out` has the reason.
-    pub(crate) fn note<E: Sink>(&self, err: &mut E) -> Result<(), WriteFault> {
+    pub(crate) fn note<E: Sink>(&self, err: &mut E) -> Result<(), WriteFault>
+        ensures bytes { SendsOrPrefix (E.sent err.old) (E.sent err.new) (note_of (outcome_of self.now)) result }
+        ensures cause { WriteHasCause (E.faults err.old) (E.faults err.new) (E.wants err.old) (E.wants err.new) result }
+    {
         use Piece::{Number, Text};
         match self {
             Stop::Words => put_pieces(err, &[Text("route: words\n")]),
@@ -83,7 +86,10 @@ impl Stop<'_> {
 }
 
 /// Sends the note on files that don't agree.
-fn note_disagreement<E: Sink>(err: &mut E, fault: JoinFault) -> Result<(), WriteFault> {
+fn note_disagreement<E: Sink>(err: &mut E, fault: JoinFault) -> Result<(), WriteFault>
+    ensures bytes { SendsOrPrefix (E.sent err.old) (E.sent err.new) (note_of (bad_files fault)) result }
+    ensures cause { WriteHasCause (E.faults err.old) (E.faults err.new) (E.wants err.old) (E.wants err.new) result }
+{
     use Piece::{Number, Text};
     match fault {
         JoinFault::Sizes { file } => put_pieces(

@@ -1,7 +1,38 @@
-use Rattle.std.proofs.Common.{◌≡◌, ◌<◌, List, length, map, sym, ap, subst}
-use Rattle.std.proofs.lemmas.List.{get_or-map, length-map}
+use Rattle.std.proofs.Common.{map, ap}
+use Rattle.std.proofs.lemmas.Option.{IfSome_then}
+use Rattle.std.proofs.lemmas.Result.{err_from_is_err_and}
 use Rattle.route_top.proofs.Admitting.{each_admitted}
+use Rattle.route_top.proofs.Running.{answered, at_some, cut_by_want, cut_short, sends_nothing, stopped}
+use Rattle.command_words.specs.Words.{query_asked}
+use Rattle.route_top.specs.Costs.{Replies}
 use Rattle.route_top.proofs.costs.run.Goals as goal
 
 pub read_network-requires-clause-admitted : goal.read_network-requires-clause-admitted
 read_network-requires-clause-admitted g c = each_admitted g.F.Folder.admits _ _ c.deref.ensures.value c.requires.admitted
+
+pub returns-in_err-graph-clause-output : goal.returns-in_err-graph-clause-output
+returns-in_err-graph-clause-output g c =
+    let p = err_from_is_err_and c.from_residual.result c.from_residual.ensures.1 in
+    rw (p.1, p.2) (IfSome_then _ c.in_err-graph.ensures.read (λ file_of read. stopped (Replies (query_asked c.args.asked.now.query)) file_of _ _ _
+    (ap (map (λ s. s.now)) c.deref.ensures.value) _ c.in_err-graph.field-0.0 c.in_err-graph.ensures.stops read))
+
+pub returns-in_err-answered-clause-output : goal.returns-in_err-answered-clause-output
+returns-in_err-answered-clause-output g c =
+    let p = err_from_is_err_and c.from_residual-in_err-answered.result c.from_residual-in_err-answered.ensures.1 in
+    rw (p.1, p.2) (at_some _ _ (λ file_of. sends_nothing _ _ _))
+
+pub returns-in-Ok-clause-output : goal.returns-in-Ok-clause-output
+returns-in-Ok-clause-output g c =
+    IfSome_then _ c.in_ok-graph.ensures.read (λ file_of read. answered (Replies (query_asked c.args.asked.now.query)) file_of _ _ _ (ap (map (λ s. s.now)) c.deref.ensures.value)
+    _ read c.in_ok-answered.answered _ _ c.sent.ensures c.in_ok-answered.ensures _ _ c.if-answered.true c.in-Ok.ensures.bytes)
+
+pub returns-in-Err-Failed-clause-output : goal.returns-in-Err-Failed-clause-output
+returns-in-Err-Failed-clause-output g c =
+    IfSome_then _ c.in_ok-graph.ensures.read (λ file_of read. cut_short (Replies (query_asked c.args.asked.now.query)) file_of _ _ _ (ap (map (λ s. s.now)) c.deref.ensures.value)
+    _ read c.in_ok-answered.answered _ _ c.sent.ensures c.in_ok-answered.ensures _ _ c.in-Err-Failed.ensures.bytes)
+
+pub returns-clause-output : goal.returns-clause-output
+returns-clause-output g c =
+    let cause = rw c.in-Err-OutOfMemory.field-0-is at c.in-Err-OutOfMemory.ensures.cause in
+    IfSome_then _ c.in_ok-graph.ensures.read (λ file_of read. cut_by_want (Replies (query_asked c.args.asked.now.query)) file_of _ _ _ (ap (map (λ s. s.now)) c.deref.ensures.value)
+    _ read c.in_ok-answered.answered _ _ c.sent.ensures c.in_ok-answered.ensures _ _ cause.2 c.in-Err-OutOfMemory.ensures.bytes)

@@ -1,4 +1,8 @@
-use Rattle.std.proofs.Common.{◌≡◌, ◌+◌, ◌-◌, Bool, true, false, None}
+use Rattle.std.proofs.Common.{◌≡◌, ◌+◌, ◌-◌, List, true, false, None, IfSome}
+use Rattle.arc_graph.specs.Files.{Contents}
+use Rattle.arc_graph.specs.StandsFor.{StandsFor}
+use Rattle.line_text.specs.Reading.{rest_of}
+use Rattle.route_top.proofs.AddingArcs.{Adding}
 use Rattle.route_top.proofs.network.add_file.Given as goal
 
 -- the arcs so far have come to the joiner, and nothing has failed
@@ -10,8 +14,11 @@ invariant-arcs g l = record {
   come : l.joiner.come ≡ l.lines.come;
   reads : l.lines.begun ≡ true;
   goes_on : l.lines.fault ≡ None;
+  no_end : l.lines.whole ≡ false;
   stands : g.F.Source.faults l.folder ≡ g.F.Source.faults l.fn.folder;
   files : g.F.Source.files l.folder ≡ g.F.Source.files l.fn.folder;
+  adding : (files : List Contents) → StandsFor l.fn.joiner files
+      → IfSome (g.F.Source.left l.fn.folder) (λ bytes. Adding bytes files l.joiner l.lines (rest_of l.lines.lines (g.F.Source.left l.folder)));
 }
 
 abbrev pub decreases-arcs : goal.decreases-arcs

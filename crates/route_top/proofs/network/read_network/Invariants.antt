@@ -1,4 +1,5 @@
-use Rattle.std.proofs.Common.{◌≡◌}
+use Rattle.std.proofs.Common.{◌≡◌, IfSome, map, take}
+use Rattle.route_top.proofs.ReadingFiles.{HasRead}
 use Rattle.route_top.proofs.network.read_network.Given as goal
 
 -- the files so far have come whole to the joiner, and nothing has failed
@@ -8,4 +9,5 @@ invariant-loop-name g l = record {
   whole : l.joiner.come ≡ l.joiner.due_arcs;
   stands : g.F.Source.faults l.folder ≡ g.F.Source.faults l.fn.folder;
   files : g.F.Source.files l.folder ≡ g.F.Source.files l.fn.folder;
+  read : IfSome (g.F.Source.files l.fn.folder) (λ file_of. HasRead file_of (take l.name-index (map (λ name. name.now) l.names)) l.joiner);
 }

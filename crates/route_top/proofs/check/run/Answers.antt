@@ -1,0 +1,32 @@
+use Rattle.std.proofs.Common.{map, ap, refl, true}
+use Rattle.std.proofs.lemmas.Option.{IfSome_then}
+use Rattle.std.proofs.lemmas.Result.{err_from_is_err_and}
+use Rattle.route_top.proofs.Admitting.{each_admitted}
+use Rattle.route_top.proofs.Running.{answered, cut_by_want, cut_short, stopped}
+use Rattle.route_top.specs.Check.{TellsSizes}
+use Rattle.route_top.proofs.check.run.Goals as goal
+
+pub read_network-requires-clause-admitted : goal.read_network-requires-clause-admitted
+read_network-requires-clause-admitted g c = each_admitted g.F.Folder.admits _ _ c.deref.ensures.value c.requires.admitted
+
+pub returns-in_err-graph-clause-output : goal.returns-in_err-graph-clause-output
+returns-in_err-graph-clause-output g c =
+    let p = err_from_is_err_and c.from_residual.result c.from_residual.ensures.1 in
+    rw (p.1, p.2) (IfSome_then _ c.in_err-graph.ensures.read (λ file_of read. stopped TellsSizes file_of _ _ _
+    (ap (map (λ s. s.now)) c.deref.ensures.value) _ c.in_err-graph.field-0.0 c.in_err-graph.ensures.stops read))
+
+pub returns-in-Ok-clause-output : goal.returns-in-Ok-clause-output
+returns-in-Ok-clause-output g c =
+    IfSome_then _ c.in_ok-graph.ensures.read (λ file_of read. answered TellsSizes file_of _ _ _ (ap (map (λ s. s.now)) c.deref.ensures.value)
+    _ read true _ _ refl refl _ _ refl c.in-Ok.ensures.bytes)
+
+pub returns-in-Err-Failed-clause-output : goal.returns-in-Err-Failed-clause-output
+returns-in-Err-Failed-clause-output g c =
+    IfSome_then _ c.in_ok-graph.ensures.read (λ file_of read. cut_short TellsSizes file_of _ _ _ (ap (map (λ s. s.now)) c.deref.ensures.value)
+    _ read true _ _ refl refl _ _ c.in-Err-Failed.ensures.bytes)
+
+pub returns-clause-output : goal.returns-clause-output
+returns-clause-output g c =
+    let cause = rw c.in-Err-OutOfMemory.field-0-is at c.in-Err-OutOfMemory.ensures.cause in
+    IfSome_then _ c.in_ok-graph.ensures.read (λ file_of read. cut_by_want TellsSizes file_of _ _ _ (ap (map (λ s. s.now)) c.deref.ensures.value)
+    _ read true _ _ refl refl _ _ cause.2 c.in-Err-OutOfMemory.ensures.bytes)

@@ -1,6 +1,10 @@
+ghost use Rattle.std.specs.Prelude.{None};
+
 use route_io::memory::{MemoryFolder, MemorySink, NamedFile};
+use route_io::{Failed, Folder, Source};
 use route_top::route;
 use std::alloc::{AllocError, Global};
+use std::process::Abort;
 use std::test::Fail;
 
 mod rows;
@@ -30,26 +34,62 @@ fn words_of(alloc: Global, words: &str) -> Result<Vec<String>, AllocError> {
     Ok(list)
 }
 
-fn folder_of(
-    alloc: Global,
-    files: &[(&str, &str)],
-    fails: Vec<u64>,
-) -> Result<MemoryFolder, AllocError> {
+/// A folder whose reads give so many bytes at most.
+#[derive(Drop)]
+struct Pieces {
+    folder: MemoryFolder,
+    size: usize,
+}
+
+impl Source for Pieces {
+    ghost left = { λ _. None };
+
+    ghost faults = { λ pieces. pieces.folder.calls.faults };
+
+    ghost files = { λ _. None };
+
+    fn read(&mut self, buf: &mut [u8]) -> Result<usize, Failed> {
+        let size = self.size.max(1).min(buf.len());
+        self.folder.read(&mut buf[..size])
+    }
+}
+
+impl Folder for Pieces {
+    ghost admits = { λ _. Unit {0} };
+
+    fn select(&mut self, name: &str) -> Result<(), Failed> {
+        self.folder.select(name)
+    }
+}
+
+fn file_of(alloc: Global, name: &str, bytes: &[u8]) -> Result<NamedFile, AllocError> {
+    Ok(NamedFile {
+        name: String::from_str(alloc, name)?,
+        bytes: Vec::from_slice(alloc, bytes)?,
+    })
+}
+
+fn folder_of(alloc: Global, files: &[(&str, &str)], fails: Vec<u64>) -> Result<Pieces, AllocError> {
     let mut list = Vec::new(alloc);
     for (name, text) in files {
-        list.push(NamedFile {
-            name: String::from_str(alloc, name)?,
-            bytes: Vec::from_slice(alloc, text.as_bytes())?,
-        })?;
+        list.push(file_of(alloc, name, text.as_bytes())?)?;
     }
-    Ok(MemoryFolder::new(list, fails))
+    Ok(whole(list, fails))
+}
+
+/// A folder that gives as much as is asked for.
+fn whole(files: Vec<NamedFile>, fails: Vec<u64>) -> Pieces {
+    Pieces {
+        folder: MemoryFolder::new(files, fails),
+        size: usize::MAX,
+    }
 }
 
 /// Runs the words over a folder, with `out` failing at these calls.
 fn run(
     alloc: Global,
     words: &str,
-    folder: &mut MemoryFolder,
+    folder: &mut Pieces,
     out_fails: Vec<u64>,
 ) -> Result<Finished, AllocError> {
     let words = words_of(alloc, words)?;
@@ -59,16 +99,67 @@ fn run(
     Ok(Finished { status, out, err })
 }
 
+fn assert_row(rt: &impl Abort, row: &Row, done: &Finished) {
+    let words = row.words;
+    assert_eq!(rt; done.out.sent(), row.out.as_bytes(), "out of {words:?}");
+    assert_eq!(rt; done.err.sent(), row.err.as_bytes(), "err of {words:?}");
+    assert_eq!(rt; done.status, row.status, "status of {words:?}");
+}
+
 #[test]
 fn rows_have_their_output(rt: HostRuntime) -> Result<(), Fail> {
     let alloc = rt.alloc();
     for row in rows::ROWS {
         let mut folder = folder_of(alloc, row.files, Vec::new(alloc))?;
         let done = run(alloc, row.words, &mut folder, Vec::new(alloc))?;
-        let words = row.words;
-        assert_eq!(rt; done.out.sent(), row.out.as_bytes(), "out of {words:?}");
-        assert_eq!(rt; done.err.sent(), row.err.as_bytes(), "err of {words:?}");
-        assert_eq!(rt; done.status, row.status, "status of {words:?}");
+        assert_row(&rt, row, &done);
+        let mut folder = folder_of(alloc, row.files, Vec::new(alloc))?;
+        folder.size = 1;
+        let done = run(alloc, row.words, &mut folder, Vec::new(alloc))?;
+        assert_row(&rt, row, &done);
+    }
+    Ok(())
+}
+
+/// The line and the kind of the fault of the first file where it is cut to a length below 56.
+fn cut_fault(length: usize) -> (usize, u8) {
+    match length {
+        0 => (1, 2),
+        1..=7 => (1, 1),
+        8 => (2, 7),
+        _ => {
+            let arc = (length - 1) / 8;
+            match (length - 1) % 8 {
+                0 => (arc + 1, 7),
+                7 => (arc + 2, 7),
+                _ => (arc + 1, 1),
+            }
+        }
+    }
+}
+
+#[test]
+fn cut_files_are_told(rt: HostRuntime) -> Result<(), Fail> {
+    let alloc = rt.alloc();
+    let text = rows::A.as_bytes();
+    for length in 0..=text.len() {
+        let mut files = Vec::new(alloc);
+        files.push(file_of(alloc, "CUT", &text[..length])?)?;
+        files.push(file_of(alloc, "B.gr", rows::B.as_bytes())?)?;
+        let mut folder = whole(files, Vec::new(alloc));
+        let done = run(alloc, "check CUT B.gr", &mut folder, Vec::new(alloc))?;
+        if length >= 56 {
+            assert_eq!(rt;
+                done.out.sent(),
+                b"ok 4 6 2\n".as_slice(),
+                "length {length}"
+            );
+            continue;
+        }
+        let (line, kind) = cut_fault(length);
+        let want = format!(in alloc; "route: file CUT line {line} kind {kind}\n")?;
+        assert_eq!(rt; done.err.sent(), want.as_bytes(), "length {length}");
+        assert_eq!(rt; done.status, 5, "length {length}");
     }
     Ok(())
 }

@@ -2,9 +2,9 @@
 use super::Row;
 
 /// The first and the second weights of the six arcs.
-const A: &str = "p sp 4 6\na 1 2 1\na 1 3 2\na 2 4 1\na 3 4 2\na 2 3 1\na 1 4 9\n";
+pub(super) const A: &str = "p sp 4 6\na 1 2 1\na 1 3 2\na 2 4 1\na 3 4 2\na 2 3 1\na 1 4 9\n";
 
-const B: &str = "p sp 4 6\na 1 2 4\na 1 3 1\na 2 4 4\na 3 4 1\na 2 3 1\na 1 4 9\n";
+pub(super) const B: &str = "p sp 4 6\na 1 2 4\na 1 3 1\na 2 4 4\na 3 4 1\na 2 3 1\na 1 4 9\n";
 
 /// The same arcs, each of weight 1.
 const ONES: &str = "p sp 4 6\na 1 2 1\na 1 3 1\na 2 4 1\na 3 4 1\na 2 3 1\na 1 4 1\n";
@@ -320,6 +320,91 @@ pub(super) const ROWS: &[Row] = &[
         status: 5,
         out: "",
         err: "route: file CUT line 7 kind 1\n",
+    },
+    // Whether files make up a network: its nodes, arcs and criteria, or the first thing that is wrong.
+    Row {
+        words: "check A.gr B.gr",
+        files: SIX_ARCS,
+        status: 0,
+        out: "ok 4 6 2\n",
+        err: "",
+    },
+    Row {
+        words: "check A.gr B.gr C.gr A.gr",
+        files: &[("A.gr", A), ("B.gr", B), ("C.gr", ONES)],
+        status: 0,
+        out: "ok 4 6 4\n",
+        err: "",
+    },
+    Row {
+        words: "check N.gr N.gr",
+        files: &[("N.gr", "p sp 8388608 0\n")],
+        status: 0,
+        out: "ok 8388608 0 2\n",
+        err: "",
+    },
+    Row {
+        words: "check A.gr N.gr",
+        files: SIX_ARCS,
+        status: 3,
+        out: "",
+        err: "route: folder N.gr\n",
+    },
+    Row {
+        words: "check A.gr C.gr",
+        files: &[("A.gr", A), ("C.gr", EXCHANGED)],
+        status: 6,
+        out: "",
+        err: "route: files ends arc 2 file 2\n",
+    },
+    Row {
+        words: "check X.gr Y.gr",
+        files: &[
+            ("X.gr", "p sp 2 2\na 1 2 0\na 2 1 0\n"),
+            ("Y.gr", "p sp 2 2\na 1 2 0\na 2 1 0\n"),
+        ],
+        status: 6,
+        out: "",
+        err: "route: files zero arc 1\n",
+    },
+    Row {
+        words: "check X.gr Y.gr Z.gr",
+        files: &[
+            ("X.gr", "p sp 2 2\na 1 2 0\na 2 1 0\n"),
+            ("Y.gr", "p sp 2 2\na 1 2 0\na 2 1 0\n"),
+            ("Z.gr", "p sp 2 2\na 1 2 5\na 2 1 0\n"),
+        ],
+        status: 6,
+        out: "",
+        err: "route: files zero arc 2\n",
+    },
+    Row {
+        words: "check A.gr C.gr CUT",
+        files: &[
+            ("A.gr", A),
+            ("C.gr", EXCHANGED),
+            (
+                "CUT",
+                "p sp 4 6\na 1 2 1\na 1 3 2\na 2 4 1\na 3 4 2\na 2 3 1\na 1 4",
+            ),
+        ],
+        status: 5,
+        out: "",
+        err: "route: file CUT line 7 kind 1\n",
+    },
+    Row {
+        words: "check A.gr",
+        files: SIX_ARCS,
+        status: 2,
+        out: "",
+        err: "route: words\n",
+    },
+    Row {
+        words: "check --from 1 A.gr B.gr",
+        files: SIX_ARCS,
+        status: 2,
+        out: "",
+        err: "route: words\n",
     },
     // Words of no command.
     Row {

@@ -7,6 +7,7 @@ use std::alloc::{AllocError, Global};
 use std::process::Abort;
 use std::test::Fail;
 
+mod readers;
 mod rows;
 
 /// A run: its words, separated by spaces, its files, and what is expected of it.
@@ -143,24 +144,37 @@ fn cut_files_are_told(rt: HostRuntime) -> Result<(), Fail> {
     let alloc = rt.alloc();
     let text = rows::A.as_bytes();
     for length in 0..=text.len() {
-        let mut files = Vec::new(alloc);
-        files.push(file_of(alloc, "CUT", &text[..length])?)?;
-        files.push(file_of(alloc, "B.gr", rows::B.as_bytes())?)?;
-        let mut folder = whole(files, Vec::new(alloc));
-        let done = run(alloc, "check CUT B.gr", &mut folder, Vec::new(alloc))?;
-        if length >= 56 {
-            assert_eq!(rt;
-                done.out.sent(),
-                b"ok 4 6 2\n".as_slice(),
-                "length {length}"
-            );
-            continue;
+        for size in [1, usize::MAX] {
+            let mut files = Vec::new(alloc);
+            files.push(file_of(alloc, "CUT", &text[..length])?)?;
+            files.push(file_of(alloc, "B.gr", rows::B.as_bytes())?)?;
+            let mut folder = whole(files, Vec::new(alloc));
+            folder.size = size;
+            let done = run(alloc, "check CUT B.gr", &mut folder, Vec::new(alloc))?;
+            assert_cut(&rt, alloc, length, &done)?;
         }
-        let (line, kind) = cut_fault(length);
-        let want = format!(in alloc; "route: file CUT line {line} kind {kind}\n")?;
-        assert_eq!(rt; done.err.sent(), want.as_bytes(), "length {length}");
-        assert_eq!(rt; done.status, 5, "length {length}");
     }
+    Ok(())
+}
+
+fn assert_cut(
+    rt: &impl Abort,
+    alloc: Global,
+    length: usize,
+    done: &Finished,
+) -> Result<(), AllocError> {
+    if length >= 56 {
+        assert_eq!(rt;
+            done.out.sent(),
+            b"ok 4 6 2\n".as_slice(),
+            "length {length}"
+        );
+        return Ok(());
+    }
+    let (line, kind) = cut_fault(length);
+    let want = format!(in alloc; "route: file CUT line {line} kind {kind}\n")?;
+    assert_eq!(rt; done.err.sent(), want.as_bytes(), "length {length}");
+    assert_eq!(rt; done.status, 5, "length {length}");
     Ok(())
 }
 

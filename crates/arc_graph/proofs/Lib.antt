@@ -15,3 +15,8 @@ pub mod GraphLemmas
 pub mod ListLaws
 pub mod WalkLaws
 pub mod RelaxLaws
+pub mod SumLaws
+mod Reached
+pub mod BestLaws
+pub mod BackwardLaws
+pub mod AnswerLaws

@@ -98,3 +98,54 @@ module _ (net : Network) (is : IsNetwork net) where
     arrives_by_walk p s v c,
     λ walk. subst (λ q. IsWalk net s q v c) (reverse-reverse p) (walk_by_arrival (reverse p) s v c walk),
   )
+
+  pub length_of_walk : (p : List ℕ) (s v : ℕ) (c : List ℕ) → IsWalk net s p v c → length c ≡ net.criteria
+  length_of_walk p s v c walk = length_of_arrival (reverse p) s v c (arrives_by_walk p s v c walk)
+
+  -- ---- two walks are one, and one is two
+
+  pub start_of_walk : (p : List ℕ) (s v : ℕ) (c : List ℕ) → IsWalk net s p v c → IsNode net.nodes s
+  start_of_walk [] s v c walk = walk.0
+  start_of_walk (k ∷ rest) s v c walk = leads_from_node k s walk.at walk.by walk.leads
+
+  pub walk_after : (p q : List ℕ) (s u v : ℕ) (b d : List ℕ) → IsWalk net s p u b → IsWalk net u q v d → IsWalk net s (p ++ q) v (plus b d)
+  walk_after [] q s u v b d first second =
+      let long = length_of_walk q u v d second in
+      subst (λ x. IsWalk net x q v (plus b d)) (sym first.1)
+      (subst (IsWalk net u q v) (sym (ap (λ z. plus z d) first.2 ∙ zeros-plus net.criteria d long)) second)
+  walk_after (k ∷ rest) q s u v b d first second = record {
+    by = first.by;
+    at = first.at;
+    onward = plus first.onward d;
+    leads = first.leads;
+    walk = walk_after rest q first.at u v first.onward d first.walk second;
+    cost = ap (λ z. plus z d) first.cost ∙ plus_assoc first.by first.onward d;
+  }
+
+  -- a walk along the arcs of p, and then of q
+  pub record Parts (s : ℕ) (p q : List ℕ) (v : ℕ) (c : List ℕ) : Type 0 where
+    pub at : ℕ
+    pub so_far : List ℕ
+    pub onward : List ℕ
+    pub first : IsWalk net s p at so_far
+    pub second : IsWalk net at q v onward
+    pub cost : c ≡ plus so_far onward
+
+  pub parts_of_walk : (p q : List ℕ) (s v : ℕ) (c : List ℕ) → IsWalk net s (p ++ q) v c → Parts s p q v c
+  parts_of_walk [] q s v c walk = record {
+    at = s;
+    so_far = zeros;
+    onward = c;
+    first = (start_of_walk q s v c walk, refl, refl);
+    second = walk;
+    cost = sym (zeros-plus net.criteria c (length_of_walk q s v c walk));
+  }
+  parts_of_walk (k ∷ rest) q s v c walk =
+      let parts = parts_of_walk rest q walk.at v walk.onward walk.walk in record {
+        at = parts.at;
+        so_far = plus walk.by parts.so_far;
+        onward = parts.onward;
+        first = record { by = walk.by; at = walk.at; onward = parts.so_far; leads = walk.leads; walk = parts.first; cost = refl };
+        second = parts.second;
+        cost = walk.cost ∙ ap (plus walk.by) parts.cost ∙ sym (plus_assoc walk.by parts.so_far parts.onward);
+      }

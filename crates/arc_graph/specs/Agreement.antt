@@ -51,7 +51,7 @@ IsFaultyArc files a = ((f : ℕ) × DiffersInEnds files a f) ⊎ IsZeroArc files
 abbrev pub AgreeInSize : List Contents → Type 0
 AgreeInSize files = (f : ℕ) → ¬ DiffersInSize files f
 
--- The files list the same arcs, none of which has only zero weights.
+-- The files have as many nodes and list the same arcs, none of which has only zero weights. Callers ask for two to four.
 pub record Agree (files : List Contents) : Type 0 where
   pub sizes : AgreeInSize files
   pub arcs : (a : ℕ) → ¬ IsFaultyArc files a

@@ -1,6 +1,6 @@
 -- Which costs and which walks a query asks for (Martins 1984).
 use Rattle.std.specs.Prelude.{◌≢◌, ℕ, List, reverse}
-use Rattle.cost_vector.specs.Costs.{Dominates}
+use Rattle.cost_vector.specs.Costs.{AtMost, Dominates}
 use Rattle.arc_graph.specs.Network.{Network}
 use Rattle.arc_graph.specs.Walks.{IsWalk}
 use Rattle.arc_graph.specs.Lists.{IsLessAtFirst}
@@ -15,3 +15,16 @@ pub record IsBest (net : Network) (s v : ℕ) (c : List ℕ) : Type 0 where
 pub record IsBackwardLeast (net : Network) (s v : ℕ) (c p : List ℕ) : Type 0 where
   pub walk : IsWalk net s p v c
   pub least : (q : List ℕ) → IsWalk net s q v c → q ≢ p → IsLessAtFirst (reverse p) (reverse q)
+
+-- some best cost of v is at most c
+pub record HasBestBelow (net : Network) (s v : ℕ) (c : List ℕ) : Type 0 where
+  pub cost : List ℕ
+  pub best : IsBest net s v cost
+  pub at_most : AtMost cost c
+
+-- the arcs are a walk from s to a node, and its cost is best there
+pub record EndsAtBest (net : Network) (s : ℕ) (p : List ℕ) : Type 0 where
+  pub at : ℕ
+  pub cost : List ℕ
+  pub walk : IsWalk net s p at cost
+  pub best : IsBest net s at cost

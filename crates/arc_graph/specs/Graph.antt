@@ -6,7 +6,7 @@ use Rattle.std.specs.Option.{option_map, option_map_or, option_and_then}
 use Rattle.cost_vector.specs.declared.label.ArcNo.{ArcNo}
 use Rattle.cost_vector.specs.declared.label.Label.{Label}
 use Rattle.cost_vector.specs.Costs.{plus}
-use Rattle.arc_graph.specs.Network.{Network, IsNode, IsVector}
+use Rattle.arc_graph.specs.Network.{Network, AreSmall, IsNode, IsVector}
 
 -- the nodes, the tail and the head of each arc, and the number of criteria
 pub record Arcs : Type 0 where
@@ -32,7 +32,7 @@ pub record IsGraph (g : Arcs) : Type 0 where
 -- each vector has a weight for each criterion, of 32 bits, and isn't all zero
 pub record AreStates (w : States) : Type 0 where
   pub vectors : AllByRecursion (λ s. IfSome s (IsVector w.criteria)) w.states
-  pub small : AllByRecursion (λ s. IfSome s (AllByRecursion (λ x. x < 2 ^ 32))) w.states
+  pub small : AreSmall w.states
 
 -- the states are those of the graph's arcs
 pub record Match (g : Arcs) (w : States) : Type 0 where

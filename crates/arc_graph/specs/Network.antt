@@ -1,6 +1,6 @@
 -- Road networks whose arcs have several weights each: the problem of Martins, "On a multicriteria shortest path
 -- problem", European Journal of Operational Research 16, 1984.
-use Rattle.std.specs.Prelude.{◌≡◌, ℕ, ◌-◌, ◌<◌, ◌≤◌, List, Option, Some, IfSome, length, sum, slice_get}
+use Rattle.std.specs.Prelude.{◌≡◌, ℕ, ◌-◌, ◌^◌, ◌<◌, ◌≤◌, List, Option, Some, IfSome, length, sum, slice_get}
 use Rattle.std.specs.List.{AllByRecursion}
 
 -- A network: the nodes are numbered from 1 to `nodes`, the arcs from 1 in the order of `ends`, which has the tail and
@@ -20,6 +20,10 @@ IsNode nodes v = (1 ≤ v) × (v ≤ nodes)
 pub record IsVector (criteria : ℕ) (w : List ℕ) : Type 0 where
   pub whole : length w ≡ criteria
   pub nonzero : 0 < sum w
+
+-- each weight has 32 bits at most
+abbrev pub AreSmall : List (Option (List ℕ)) → Type 0
+AreSmall states = AllByRecursion (λ s. IfSome s (AllByRecursion (λ x. x < 2 ^ 32))) states
 
 -- the network is one: two to four criteria, ends that are nodes, and a state for each arc
 pub record IsNetwork (net : Network) : Type 0 where

@@ -1,5 +1,6 @@
 -- Walks and their costs (Martins 1984).
-use Rattle.std.specs.Prelude.{◌≡◌, ℕ, List, [], ◌∷◌, replicate}
+use Rattle.std.specs.Prelude.{◌≡◌, ℕ, ◌*◌, ◌-◌, ◌^◌, ◌≤◌, List, [], ◌∷◌, replicate}
+use Rattle.std.specs.List.{AllByRecursion}
 use Rattle.cost_vector.specs.Costs.{plus}
 use Rattle.arc_graph.specs.Network.{Network, IsNode, Leads}
 
@@ -31,3 +32,7 @@ pub record EndsBy (net : Network) (k v : ℕ) (IsBefore : ℕ → List ℕ → T
 abbrev pub Arrives : Network → ℕ → List ℕ → ℕ → List ℕ → Type 0
 Arrives net s [] v c = IsNode net.nodes s × (s ≡ v) × (c ≡ replicate net.criteria 0)
 Arrives net s (k ∷ before) v c = EndsBy net k v (λ u b. Arrives net s before u b) c
+
+-- no component is greater than so many weights of 32 bits can make it
+abbrev pub IsSumOf : ℕ → List ℕ → Type 0
+IsSumOf count cost = AllByRecursion (λ x. x ≤ count * (2 ^ 32 - 1)) cost

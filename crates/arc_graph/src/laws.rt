@@ -1,7 +1,13 @@
-ghost use Rattle.std.specs.Prelude.{◌≡◌, List};
+ghost use Rattle.std.specs.Prelude.{◌≡◌, ℕ, ◌^◌, ◌<◌, ◌≤◌, List, [], ◌++◌, Option, length};
+ghost use Rattle.std.specs.List.{AllByRecursion};
+ghost use Rattle.cost_vector.specs.Costs.{Dominates, no_limit, plus};
 ghost use Rattle.arc_graph.specs.declared.join.JoinFault.{JoinFault as Fault};
 ghost use Rattle.arc_graph.specs.Files.{Contents};
 ghost use Rattle.arc_graph.specs.Agreement.{Agree, HasFault};
+ghost use Rattle.arc_graph.specs.Network.{Network, IsNetwork, AreSmall, Leads};
+ghost use Rattle.arc_graph.specs.Walks.{IsWalk};
+ghost use Rattle.arc_graph.specs.Best.{IsBest, IsBackwardLeast, HasBestBelow, EndsAtBest};
+ghost use Rattle.arc_graph.specs.Answers.{AreBestCosts, IsAnswer, Route};
 
 /// Files have one fault at most, and none where they agree: so what `join_files` answers is the one answer there is.
 pub fn files_have_one_fault_at_most()
@@ -9,4 +15,44 @@ pub fn files_have_one_fault_at_most()
         → Agree files → ¬ HasFault files e }
     ensures one { (files : List Contents) (e d : Fault)
         → HasFault files e → HasFault files d → e ≡ d }
+{}
+
+/// Each cost of a walk is at least some best cost, and a walk of a best cost has best costs all the way: so a search that
+/// drops what is dominated loses nothing (Martins 1984).
+pub fn best_costs_lie_below_all()
+    ensures below { (net : Network) (p : List ℕ) (s v : ℕ) (c : List ℕ) → IsNetwork net
+        → IsWalk net s p v c → HasBestBelow net s v c }
+    ensures on_the_way { (net : Network) (p q : List ℕ) (s t : ℕ) (c : List ℕ) → IsNetwork net
+        → IsWalk net s (p ++ q) t c → IsBest net s t c → EndsAtBest net s p }
+{}
+
+/// What an arc adds makes each cost greater, keeps which costs dominate which, and adds up to less than 2^58 along 2^26
+/// arcs, which is more than any budget or graph has.
+pub fn arcs_add_to_costs()
+    ensures grows { (net : Network) (k u v : ℕ) (w c : List ℕ) → IsNetwork net
+        → Leads net k u w v → length c ≡ net.criteria → Dominates c (plus c w) }
+    ensures monotone { (net : Network) (k u v : ℕ) (w a b : List ℕ) → IsNetwork net
+        → Leads net k u w v → length a ≡ net.criteria → Dominates a b → Dominates (plus a w) (plus b w) }
+    ensures bounded { (net : Network) (p : List ℕ) (s v : ℕ) (c : List ℕ) → IsNetwork net → AreSmall net.states
+        → length p ≤ 2 ^ 26 → IsWalk net s p v c → AllByRecursion (λ x. x < 2 ^ 58) c }
+{}
+
+/// A query has one list of best costs at most, which is empty only where no walk leads to the target.
+pub fn best_costs_are_one_list()
+    ensures one { (net : Network) (s t : ℕ) (limit : List (Option ℕ)) (costs others : List (List ℕ))
+        → AreBestCosts net s t limit costs → AreBestCosts net s t limit others → costs ≡ others }
+    ensures none_only_where_no_walk { (net : Network) (s t : ℕ) (p c : List ℕ) → IsNetwork net
+        → AreBestCosts net s t (no_limit net.criteria) [] → ¬ IsWalk net s p t c }
+{}
+
+/// Each cost of a walk has exactly one backward-least walk, so best costs have exactly one answer with walks.
+pub fn walks_of_costs_are_one_list()
+    ensures some_walk { (net : Network) (p : List ℕ) (s v : ℕ) (c : List ℕ) → IsNetwork net
+        → IsWalk net s p v c → (q : List ℕ) × IsBackwardLeast net s v c q }
+    ensures one_walk { (net : Network) (s v : ℕ) (c p q : List ℕ)
+        → IsBackwardLeast net s v c p → IsBackwardLeast net s v c q → p ≡ q }
+    ensures some_answer { (net : Network) (s t : ℕ) (limit : List (Option ℕ)) (costs : List (List ℕ)) → IsNetwork net
+        → AreBestCosts net s t limit costs → (routes : List Route) × IsAnswer net s t limit routes }
+    ensures one_answer { (net : Network) (s t : ℕ) (limit : List (Option ℕ)) (routes others : List Route)
+        → IsAnswer net s t limit routes → IsAnswer net s t limit others → routes ≡ others }
 {}

@@ -10,9 +10,12 @@ mod relaxing;
 mod tests;
 mod weights;
 
-pub use file::{ArcFile, ArcLine};
+pub use file::{ArcFile, ArcLine, MAX_ARCS, MAX_NODES};
 pub use graph::Graph;
 pub use join::{JoinFault, Joiner, join_files};
-pub use laws::files_have_one_fault_at_most;
+pub use laws::{
+    arcs_add_to_costs, best_costs_are_one_list, best_costs_lie_below_all,
+    files_have_one_fault_at_most, walks_of_costs_are_one_list,
+};
 pub use relaxing::relax;
 pub use weights::Weights;

@@ -28,7 +28,7 @@ module _ (op : ℕ → ℕ → ℕ) where
   each-four : (xs ys : List ℕ) → length xs ≡ 4 → length ys ≡ 4 → each_of_four xs ys ≡ each xs ys
   each-four xs ys e f = let p = four xs e in let q = four ys f in cc
 
-  length-each : (xs ys : List ℕ) → length xs ≡ length ys → length (each xs ys) ≡ length xs
+  pub length-each : (xs ys : List ℕ) → length xs ≡ length ys → length (each xs ys) ≡ length xs
   length-each [] ys e = refl
   length-each (x ∷ xs) [] e = absurd (omega arith)
   length-each (x ∷ xs) (y ∷ ys) e = ap suc (length-each xs ys (omega arith))

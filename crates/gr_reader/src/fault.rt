@@ -31,7 +31,7 @@ pub enum LineKind {
     CountWrong = 7,
     /// The line has more bytes than its limit.
     LineTooLong = 8,
-    /// The file's limit ends within the line.
+    /// The byte behind the file's limit stands in the line, its LF counted.
     FileTooLong = 9,
 }
 

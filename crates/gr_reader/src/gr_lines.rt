@@ -3,23 +3,17 @@ ghost use Rattle.std.specs.Result.{result_err};
 ghost use Rattle.line_text.specs.Reading.{InLimits, rest_of};
 ghost use Rattle.gr_reader.specs.Grammar.{IsArc, form_of_arc};
 ghost use Rattle.gr_reader.specs.Steps.{FormTells, IsAccepted, range_kind};
-ghost use Rattle.gr_reader.specs.Table.{form_kind, said};
+ghost use Rattle.gr_reader.specs.Table.{form_kind, in_range, said};
 ghost use Rattle.gr_reader.specs.Reader.{ArcTells, AreSizes, BeginTells, CountsArc, GoesOn, IsEnded, ReadHasCause, told_by, told_of, unread};
 
 use crate::fault::{FileFault, FileLimits, LineKind};
 use crate::form::{Form, form_of};
-use arc_graph::ArcLine;
+use arc_graph::{ArcLine, MAX_ARCS, MAX_NODES};
 use cost_vector::OutOfMemory;
 use line_text::{LONGEST_LINE, LineLimits, Lines};
 use route_io::Source;
 use std::alloc::Global;
 use std::marker::Model;
-
-/// The greatest number of nodes of a graph.
-const MAX_NODES: u64 = 1 << 23;
-
-/// The greatest number of arcs of a graph.
-const MAX_ARCS: u64 = 1 << 24;
 
 /// Reads a weight file arc by arc.
 #[derive(Drop)]
@@ -287,13 +281,20 @@ fn sizes_of(form: Form) -> Result<(u32, u32), LineKind>
         Form::Malformed => Err(LineKind::BadLine),
         Form::Arc { .. } => Err(LineKind::NoProblem),
         Form::Problem { nodes, arcs } => {
-            if 1 <= nodes && nodes <= MAX_NODES && arcs <= MAX_ARCS {
+            if is_size(nodes, arcs) {
                 Ok((nodes as u32, arcs as u32))
             } else {
                 Err(LineKind::SizeRange)
             }
         }
     }
+}
+
+/// Whether a graph may have so many nodes and arcs.
+fn is_size(nodes: u64, arcs: u64) -> bool
+    ensures { result ≡ in_range nodes arcs }
+{
+    1 <= nodes && nodes <= u64::from(MAX_NODES) && arcs <= u64::from(MAX_ARCS)
 }
 
 /// The arc in a line behind the problem line's numbers and `come` arc lines.

@@ -1,22 +1,23 @@
 -- The spots one arc further are added one by one: what is kept on the way, and that the search stands in the end.
-use Rattle.std.proofs.Common.{◌≡◌, ℕ, ◌+◌, ◌-◌, ◌^◌, ◌<◌, List, [], ◌∷◌, ◌++◌, length, replicate, take, get_or, ◌≤◌, zero, suc, inl, inr, refl, sym, ap, subst, ◌∙◌, arith, length-append}
+use Rattle.std.proofs.Common.{◌≡◌, ℕ, ◌+◌, ◌^◌, ◌<◌, List, [], ◌∷◌, ◌++◌, length, replicate, take, get_or, ◌≤◌, inl, inr, refl, sym, ap, subst, ◌∙◌, length-append}
 use Rattle.std.proofs.lemmas.List.{take_more, take_all}
 use Rattle.std.specs.List.{AllByRecursion}
-use Rattle.std.specs.Prelude.{IfSome, Some}
 use Rattle.cost_vector.specs.declared.label.Spot.{Spot}
 use Rattle.cost_vector.specs.declared.label.Label.{Label}
 use Rattle.cost_vector.specs.Costs.{plus, AtMost}
 use Rattle.cost_vector.proofs.Vectors.{AtMost-plus_self, length-plus}
 use Rattle.arc_graph.specs.Lists.{IsIn}
 use Rattle.arc_graph.specs.Network.{IsNetwork, IsNode, Leads}
+use Rattle.arc_graph.specs.Walks.{IsSumOf}
 use Rattle.arc_graph.specs.Graph.{Arcs, States, IsGraph, AreStates, Match, relaxed}
-use Rattle.arc_graph.proofs.ListLaws.{all_got, cases_push}
+use Rattle.arc_graph.proofs.ListLaws.{cases_push}
+use Rattle.arc_graph.proofs.SumLaws.{sum_of_none, sum_of_more, small_by}
 use Rattle.arc_graph.proofs.WalkLaws.{length_of_arrival, node_of_arrival, leads_by_vector}
 use Rattle.arc_graph.proofs.RelaxLaws.{network_of, label_in, label_of, ComesOf}
 use Rattle.plain_search.specs.declared.query.Query.{Query}
-use Rattle.plain_search.specs.Search.{Task, task_of, spot_at, IsCovered, IsExpanded, TakesOut, Adds, IsLeastOf, IsSumOf, MayWait, AreSpots, IsSearch}
+use Rattle.plain_search.specs.Search.{Task, task_of, spot_at, IsCovered, IsExpanded, TakesOut, Adds, IsLeastOf, MayWait, AreSpots, IsSearch}
 use Rattle.plain_search.proofs.Pruning.{in_by_place, not_less-trans, not_less-AtMost}
-use Rattle.plain_search.proofs.Steps.{spots_at_first, sum_of_more, spots_after_add, covered_after_add, may_wait_on, spots_after_settle, covered_after_settle}
+use Rattle.plain_search.proofs.Steps.{spots_at_first, spots_after_add, covered_after_add, may_wait_on, spots_after_settle, covered_after_settle}
 
 -- all but the arcs from spot x stands, of which those of the labels so far are covered
 pub record IsExpanding (task : Task) (permanent : List Spot) (x : Spot) (waiting : List Spot) (so_far : List Label) : Type 0 where
@@ -56,7 +57,7 @@ module _ (g : Arcs) (w : States) (query : Query) (graph : IsGraph g) (states : A
     long = length_of_arrival task.net net expanding.may_wait.walk.0 task.from x.node.0 x.cost expanding.may_wait.walk.1
 
     small : AllByRecursion (λ n. n < 2 ^ 32) comes.by
-    small = all_got (λ s. IfSome s (AllByRecursion (λ n. n < 2 ^ 32))) w.states (l.arc.0 - 1) (Some comes.by) states.small comes.leads.passable
+    small = small_by task.net states.small l.arc.0 x.node.0 l.node.0 comes.by comes.leads
 
     -- its cost has a component for each criterion
     pub length_of_label : length l.cost ≡ g.criteria
@@ -139,10 +140,6 @@ module _ (g : Arcs) (w : States) (query : Query) (graph : IsGraph g) (states : A
 
   -- ---- the first step
 
-  zeros_are_sums : (d : ℕ) → IsSumOf 0 (replicate d 0)
-  zeros_are_sums zero = tt
-  zeros_are_sums (suc d) = (omega arith, zeros_are_sums d)
-
   -- after the start was added, the search stands
   pub search_begins : (permanent permanent' before after : List Spot) (start : List ℕ) → permanent ≡ [] → permanent' ≡ permanent → before ≡ []
       → start ≡ replicate g.criteria 0 → IsNode g.nodes query.from.0
@@ -157,7 +154,7 @@ module _ (g : Arcs) (w : States) (query : Query) (graph : IsGraph g) (states : A
         spots = spots_after_add task [] [] after from begun (record {
           walk = ([], (node, refl, refl));
           later = λ e h. absurd h;
-          small = zeros_are_sums g.criteria;
+          small = sum_of_none g.criteria;
         }) (spots_at_first task);
         started = begun.added;
         expanded = λ e h. absurd h;

@@ -1,31 +1,14 @@
 -- What a step of the search keeps: spots that wait, and the least of them made permanent.
-use Rattle.std.proofs.Common.{◌≡◌, ◌≢◌, ℕ, ◌+◌, ◌^◌, ◌<◌, ◌≤◌, List, [], ◌∷◌, ◌++◌, length, inl, inr, sym, subst, arith, length-append}
-use Rattle.std.specs.List.{AllByRecursion}
+use Rattle.std.proofs.Common.{◌≡◌, ◌≢◌, ◌+◌, List, [], ◌∷◌, ◌++◌, length, inl, inr, sym, subst, arith, length-append}
 use Rattle.cost_vector.specs.declared.label.Spot.{Spot}
-use Rattle.cost_vector.specs.Costs.{plus, LexLess, Within}
+use Rattle.cost_vector.specs.Costs.{LexLess, Within}
 use Rattle.arc_graph.specs.Lists.{IsIn}
 use Rattle.arc_graph.specs.Network.{IsNetwork}
-use Rattle.arc_graph.specs.Graph.{HasRoom}
 use Rattle.arc_graph.proofs.ListLaws.{in_append_left, in_push, cases_push, pairwise_push}
-use Rattle.plain_search.specs.Search.{Task, IsRelevantTo, Prunes, IsPruned, IsCovered, TakesOut, Adds, IsLeastOf, IsSumOf, MayWait, AreSpots, IsSearch}
-use Rattle.plain_search.specs.declared.query.TheConstants.{MAX_BUDGET}
+use Rattle.arc_graph.proofs.SumLaws.{sum_of_most}
+use Rattle.plain_search.specs.Search.{Task, IsRelevantTo, Prunes, IsPruned, IsCovered, TakesOut, Adds, IsLeastOf, MayWait, AreSpots, IsSearch}
 use Rattle.plain_search.proofs.Pruning.{Prunes-refl, Prunes-trans, pruner_of, pruned_by, pruned_on, pruned_more, cases_pruned-push}
 use Rattle.plain_search.proofs.Reaching.{least_is_relevant}
-
--- ---- sums
-
-pub sum_of_more : (n : ℕ) (c w : List ℕ) → IsSumOf n c → AllByRecursion (λ x. x < 2 ^ 32) w → IsSumOf (n + 1) (plus c w)
-sum_of_more n [] w sums small = tt
-sum_of_more n (x ∷ xs) [] sums small = tt
-sum_of_more n (x ∷ xs) (y ∷ ys) sums small = (omega (arith, sums.0, small.0), sum_of_more n xs ys sums.1 small.1)
-
-pub sum_of_most : (n m : ℕ) (c : List ℕ) → n ≤ m → IsSumOf n c → IsSumOf m c
-sum_of_most n m [] most sums = tt
-sum_of_most n m (x ∷ xs) most sums = (omega (arith, sums.0), sum_of_most n m xs most sums.1)
-
-pub room_in_sum : (n : ℕ) (c : List ℕ) → n ≤ MAX_BUDGET → IsSumOf n c → HasRoom c
-room_in_sum n [] most sums = tt
-room_in_sum n (x ∷ xs) most sums = (omega (arith, sums.0), room_in_sum n xs most sums.1)
 
 -- ---- the first step
 

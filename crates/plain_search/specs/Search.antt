@@ -1,11 +1,10 @@
 -- What a search keeps of the spots that it has come to: the permanent ones, in that order, and the waiting ones.
-use Rattle.std.specs.Prelude.{◌≡◌, ◌≢◌, ℕ, ◌*◌, ◌-◌, ◌^◌, ◌≤◌, ◌⊎◌, ◌==◌, List, Option, length, map, filter, replicate, Any}
-use Rattle.std.specs.List.{AllByRecursion}
+use Rattle.std.specs.Prelude.{◌≡◌, ◌≢◌, ℕ, ◌⊎◌, ◌==◌, List, Option, length, map, filter, replicate, Any}
 use Rattle.cost_vector.specs.declared.label.Spot.{Spot}
 use Rattle.cost_vector.specs.Costs.{AtMost, plus, Within, LexLess}
 use Rattle.arc_graph.specs.Lists.{Pairwise, IsIn, AreDistinct}
 use Rattle.arc_graph.specs.Network.{Network, Leads}
-use Rattle.arc_graph.specs.Walks.{Arrives}
+use Rattle.arc_graph.specs.Walks.{Arrives, IsSumOf}
 use Rattle.arc_graph.specs.Answers.{IsRelevant}
 use Rattle.arc_graph.specs.Graph.{Arcs, States, network}
 use Rattle.plain_search.specs.declared.query.Query.{Query}
@@ -67,10 +66,6 @@ pub record IsLeastOf (spots : List Spot) (x : Spot) : Type 0 where
 abbrev pub IsExpanded : Task → List Spot → List Spot → Spot → Type 0
 IsExpanded task permanent waiting e =
     (k v : ℕ) (by : List ℕ) → Leads task.net k e.node.0 by v → IsCovered task.to task.limit permanent waiting (spot_at v (plus e.cost by))
-
--- no component is greater than that many weights can make it
-abbrev pub IsSumOf : ℕ → List ℕ → Type 0
-IsSumOf count cost = AllByRecursion (λ n. n ≤ count * (2 ^ 32 - 1)) cost
 
 -- x may wait beside the permanent spots: a walk reaches it, and its cost isn't lexicographically less than a permanent one
 pub record MayWait (task : Task) (permanent : List Spot) (x : Spot) : Type 0 where

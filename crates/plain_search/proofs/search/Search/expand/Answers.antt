@@ -1,6 +1,6 @@
 use Rattle.std.proofs.Common.{sym, ◌∙◌, arith}
 use Rattle.plain_search.proofs.Expanding.{expanding_begins, expanding_next, expanding_done, node_of_waiting, length_of_waiting, length_of_next}
-use Rattle.plain_search.proofs.Steps.{room_in_sum}
+use Rattle.arc_graph.proofs.SumLaws.{sum_below, room_below}
 use Rattle.plain_search.proofs.search.Search.expand.Goals as goal
 
 pub relax-requires-clause-node : goal.relax-requires-clause-node
@@ -18,7 +18,8 @@ relax-requires-clause-criteria c =
 pub relax-requires-clause-room : goal.relax-requires-clause-room
 relax-requires-clause-room c =
     let r = c.requires in
-    room_in_sum _ c.args.spot.now.cost (omega arith) (r.search.spots.may_wait c.args.spot.now r.least.there).small
+    let cost = c.args.spot.now.cost in
+    room_below cost (sum_below _ cost (omega arith) (r.search.spots.may_wait c.args.spot.now r.least.there).small)
 
 pub loop-label-init : goal.loop-label-init
 loop-label-init c =

@@ -1,13 +1,23 @@
 -- What best costs are to all costs of walks: each of these is at least a best cost, and what leads to a best cost has best
 -- costs on its way.
-use Rattle.std.proofs.Common.{◌≡◌, ℕ, zero, suc, ◌<◌, List, ◌++◌, length, reverse, sum, inl, inr, sym, ap, subst, ◌∙◌, arith}
-use Rattle.cost_vector.specs.Costs.{Dominates, plus}
-use Rattle.cost_vector.proofs.Vectors.{AtMost-refl, AtMost-trans, AtMost-length, AtMost-plus_self, Dominates-plus, sum-plus, sum-Dominates}
-use Rattle.arc_graph.specs.Network.{Network, IsNetwork, Leads}
+use Rattle.std.proofs.Common.{◌≡◌, ℕ, zero, suc, ◌<◌, List, [], ◌∷◌, ◌++◌, length, replicate, reverse, sum, Option, Some, None, inl, inr, refl, sym, ap, subst, ◌∙◌, arith}
+use Rattle.std.proofs.lemmas.List.{length-replicate}
+use Rattle.cost_vector.specs.Costs.{Dominates, Within, plus}
+use Rattle.cost_vector.proofs.Vectors.{AtMost-refl, AtMost-trans, AtMost-antisymm, AtMost-zeros, AtMost-length, AtMost-plus_self, Dominates-plus, sum-plus, sum-Dominates}
+use Rattle.arc_graph.specs.Network.{Network, IsNetwork, IsNode, Leads}
 use Rattle.arc_graph.specs.Walks.{IsWalk}
 use Rattle.arc_graph.specs.Best.{IsBest, HasBestBelow, EndsAtBest}
+use Rattle.arc_graph.specs.Answers.{IsRelevant}
 use Rattle.arc_graph.proofs.WalkLaws.{leads_by_vector, length_of_walk, arrives_by_walk, walk_by_arrival, walk_after, parts_of_walk, start_of_walk}
 use Rattle.arc_graph.proofs.Reached.{dominance_shifts, cases_reached}
+
+-- zeros are within every limit
+Within-zeros : (limit : List (Option ℕ)) (d : ℕ) → length limit ≡ d → Within limit (replicate d 0)
+Within-zeros [] zero long = tt
+Within-zeros [] (suc d) long = absurd (omega arith)
+Within-zeros (place ∷ limit) zero long = absurd (omega arith)
+Within-zeros (None ∷ limit) (suc d) long = (tt, Within-zeros limit d (omega arith))
+Within-zeros (Some most ∷ limit) (suc d) long = (omega arith, Within-zeros limit d (omega arith))
 
 module _ (net : Network) (is : IsNetwork net) where
   -- what an arc adds makes each cost greater, and leaves dominance as it is
@@ -61,3 +71,16 @@ module _ (net : Network) (is : IsNetwork net) where
   -- each cost of a walk is at least some best cost
   pub each_has_best_below : (p : List ℕ) (s v : ℕ) (c : List ℕ) → IsWalk net s p v c → HasBestBelow net s v c
   each_has_best_below p s v c walk = best_below s (suc (sum c)) v p c (omega arith) walk
+
+  -- nothing is better than to stand still
+  pub start_is_relevant : (s t : ℕ) (limit : List (Option ℕ)) → IsNode net.nodes s → length limit ≡ net.criteria
+      → IsRelevant net s t limit s (replicate net.criteria 0)
+  start_is_relevant s t limit node long =
+      let zeros = replicate net.criteria 0 in
+      let none_better : (b : List ℕ) → ¬ Dominates b zeros = λ b better.
+      better.differs (AtMost-antisymm b zeros better.at_most (AtMost-zeros net.criteria b (AtMost-length b zeros better.at_most ∙ length-replicate net.criteria 0))) in
+      record {
+        best = record { reached = ([], (node, refl, refl)); nondominated = λ p b walk. none_better b };
+        within = Within-zeros limit net.criteria long;
+        undominated = λ b best. none_better b;
+      }

@@ -10,7 +10,9 @@ use Rattle.arc_graph.specs.Files.{Contents, ends_of}
 use Rattle.arc_graph.specs.Agreement.{Agree, joined, vector_at}
 use Rattle.arc_graph.specs.Joining.{Joining, IsJoining}
 use Rattle.arc_graph.specs.StandsFor.{StandsFor}
+use Rattle.arc_graph.specs.Network.{IsNetwork}
 use Rattle.arc_graph.specs.Stored.{is_zero, state_in, states_of}
+use Rattle.arc_graph.proofs.Places.{states_in}
 use Rattle.arc_graph.proofs.ZeroLemmas.{zero_at}
 
 -- the places of an arc that isn't all zero say its vector
@@ -50,3 +52,15 @@ network_joined j (first ∷ others) kept some stands agree =
     let ends = stands.ends first refl in
     let criteria = stands.begun in
     let states = states_joined j first others kept stands agree in cc
+
+-- what a joiner keeps of two files or more is a network
+pub is_network : (j : Joining) → IsJoining j → 2 ≤ j.begun
+    → IsNetwork (record { nodes = j.nodes; ends = j.ends; criteria = j.begun; states = states_of j.begun j.vectors })
+is_network j kept two = record {
+  two = two;
+  four = kept.files;
+  tails = kept.tails;
+  heads = kept.heads;
+  matched = length-map j.vectors (state_in j.begun) ∙ kept.matched;
+  vectors = (states_in j.begun j.vectors (record { two = two; four = kept.files; count = omega (arith, kept.matched, kept.arcs); each = kept.stored })).vectors;
+}

@@ -8,7 +8,7 @@ use Rattle.cost_vector.specs.declared.label.Label.{Label}
 use Rattle.cost_vector.specs.Costs.{plus}
 use Rattle.arc_graph.specs.Lists.{IsIn}
 use Rattle.arc_graph.specs.Network.{IsNetwork, IsVector, Leads}
-use Rattle.arc_graph.specs.Graph.{Arcs, States, IsGraph, AreStates, Match, network, numbers_from, label_by, relaxed}
+use Rattle.arc_graph.specs.Graph.{Arcs, States, IsGraph, AreStates, Match, network, numbers_from, label_along, label_by, relaxed, ComesOf}
 use Rattle.arc_graph.proofs.ListLaws.{in_filter_map, of_filter_map}
 
 -- a graph and states that match it are a network
@@ -70,7 +70,7 @@ of_numbers k (x ∷ es) tail a h = elim (cases_Bool (nat_eq x.0 tail)) [
 module _ (g : Arcs) (w : States) (u : ℕ) (c : List ℕ) where
   -- each arc that leads on gives a label
   pub label_in : (k v : ℕ) (y : List ℕ) → Leads (network g w) k u y v
-      → IsIn (record { node = record { 0 = v }; cost = plus c y; arc = record { 0 = k } }) (relaxed g w u c)
+      → IsIn (label_along k v c y) (relaxed g w u c)
   label_in k v y arc =
       let a : ArcNo = record { 0 = k } in
       let number : 1 + (k - 1) ≡ k = omega (arith, arc.counted) in
@@ -79,12 +79,7 @@ module _ (g : Arcs) (w : States) (u : ℕ) (c : List ℕ) where
       in_filter_map (label_by g w c) a _ (numbers_from 1 g.ends u) there (rw (arc.ends, arc.passable) refl)
 
   -- and there are no others
-  pub record ComesOf (l : Label) : Type 0 where
-    pub by : List ℕ
-    pub leads : Leads (network g w) l.arc.0 u by l.node.0
-    pub cost : l.cost ≡ plus c by
-
-  pub label_of : (l : Label) → IsIn l (relaxed g w u c) → ComesOf l
+  pub label_of : (l : Label) → IsIn l (relaxed g w u c) → ComesOf g w u c l
   label_of l h =
       let from = of_filter_map (label_by g w c) l (numbers_from 1 g.ends u) h in
       let at = of_numbers 1 g.ends u from.0 from.1 in
@@ -92,7 +87,7 @@ module _ (g : Arcs) (w : States) (u : ℕ) (c : List ℕ) where
       let ends : slice_get g.ends (from.0.0 - 1) ≡ Some (u, at.head) = subst (λ i. slice_get g.ends i ≡ Some (u, at.head)) place at.ends in
       by_state from.0 at ends (slice_get w.states (from.0.0 - 1)) refl from.2 where
         by_state : (a : ArcNo) (at : StandsAt 1 g.ends u a) → slice_get g.ends (a.0 - 1) ≡ Some (u, at.head)
-            → (o : Option (Option (List ℕ))) → slice_get w.states (a.0 - 1) ≡ o → label_by g w c a ≡ Some l → ComesOf l
+            → (o : Option (Option (List ℕ))) → slice_get w.states (a.0 - 1) ≡ o → label_by g w c a ≡ Some l → ComesOf g w u c l
         by_state a at ends None is made = let none : None ≡ Some l = rw is at made in absurd (cc)
         by_state a at ends (Some None) is made = let none : None ≡ Some l = rw is at made in absurd (cc)
         by_state a at ends (Some (Some y)) is made =

@@ -15,7 +15,7 @@ pub record AreFirstAnd {X : Type 0} (xs : List X) (n : ℕ) (first other : X) : 
   pub first_is : slice_get xs 0 ≡ Some first
   pub other_is : slice_get xs (n - 1) ≡ Some other
 
--- size f is another than the first
+-- size number f, counted from 1, isn't the first size
 pub record IsOtherSize (sizes : List (ℕ × ℕ)) (f : ℕ) : Type 0 where
   pub first : ℕ × ℕ
   pub other : ℕ × ℕ

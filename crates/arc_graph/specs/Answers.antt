@@ -28,7 +28,7 @@ pub record IsRelevant (net : Network) (s t : ℕ) (limit : List (Option ℕ)) (v
   pub within : Within limit c
   pub undominated : (b : List ℕ) → IsBest net s t b → ¬ Dominates b c
 
--- the query is refused by its budget: it has at least one relevant pair more
+-- the query is refused by its budget: it has at least one relevant pair more than the budget
 pub record Passes (net : Network) (s t : ℕ) (limit : List (Option ℕ)) (budget : ℕ) : Type 0 where
   pub pairs : List (ℕ × List ℕ)
   pub more : length pairs ≡ budget + 1

@@ -1,8 +1,9 @@
 -- What a weight file says.
-use Rattle.std.specs.Prelude.{ℕ, ◌^◌, ◌≤◌, List, [], ◌∷◌, ◌++◌, length}
+use Rattle.std.specs.Prelude.{ℕ, ◌≤◌, List, [], ◌∷◌, ◌++◌, length}
 use Rattle.std.specs.List.{AllByRecursion}
 use Rattle.arc_graph.specs.Network.{IsNode}
 use Rattle.arc_graph.specs.declared.file.ArcLine.{ArcLine}
+use Rattle.arc_graph.specs.declared.file.TheConstants.{MAX_NODES, MAX_ARCS}
 
 -- how many nodes there are, and the arcs in the order of their lines
 pub record Contents : Type 0 where
@@ -28,7 +29,7 @@ with_arc file arc = record { nodes = file.nodes; arcs = file.arcs ++ arc ∷ [] 
 -- the file is within the limits of a graph, and its arcs' ends are nodes
 pub record IsContents (file : Contents) : Type 0 where
   pub some_node : 1 ≤ file.nodes
-  pub nodes : file.nodes ≤ 2 ^ 23
-  pub arcs : length file.arcs ≤ 2 ^ 24
+  pub nodes : file.nodes ≤ MAX_NODES
+  pub arcs : length file.arcs ≤ MAX_ARCS
   pub tails : AllByRecursion (λ (a : ArcLine). IsNode file.nodes a.tail) file.arcs
   pub heads : AllByRecursion (λ (a : ArcLine). IsNode file.nodes a.head) file.arcs

@@ -6,7 +6,8 @@ use Rattle.std.specs.Option.{option_map, option_map_or, option_and_then}
 use Rattle.cost_vector.specs.declared.label.ArcNo.{ArcNo}
 use Rattle.cost_vector.specs.declared.label.Label.{Label}
 use Rattle.cost_vector.specs.Costs.{plus}
-use Rattle.arc_graph.specs.Network.{Network, AreSmall, IsNode, IsVector}
+use Rattle.arc_graph.specs.Network.{Network, AreSmall, IsNode, IsVector, Leads}
+use Rattle.arc_graph.specs.declared.file.TheConstants.{MAX_NODES, MAX_ARCS}
 
 -- the nodes, the tail and the head of each arc, and the number of criteria
 pub record Arcs : Type 0 where
@@ -22,8 +23,8 @@ pub record States : Type 0 where
 -- the graph is within the limits, and its ends are nodes
 pub record IsGraph (g : Arcs) : Type 0 where
   pub some_node : 1 ≤ g.nodes
-  pub nodes : g.nodes ≤ 2 ^ 23
-  pub arcs : length g.ends ≤ 2 ^ 24
+  pub nodes : g.nodes ≤ MAX_NODES
+  pub arcs : length g.ends ≤ MAX_ARCS
   pub two : 2 ≤ g.criteria
   pub four : g.criteria ≤ 4
   pub tails : AllByRecursion (λ e. IsNode g.nodes e.0) g.ends
@@ -72,6 +73,16 @@ label_by g w cost a = option_map (λ v. record { node = record { 0 = head_of g a
 -- the labels of all passable arcs that lead from a node, by ascending arc
 abbrev pub relaxed : Arcs → States → ℕ → List ℕ → List Label
 relaxed g w node cost = filter_map (label_by g w cost) (out_arcs_of g node)
+
+-- the label that a walk of cost c gets by going on along arc k, by this vector to v
+abbrev pub label_along : ℕ → ℕ → List ℕ → List ℕ → Label
+label_along k v c by = record { node = record { 0 = v }; cost = plus c by; arc = record { 0 = k } }
+
+-- The label is that of an arc that leads on from u, where a walk of cost c has come to u.
+pub record ComesOf (g : Arcs) (w : States) (u : ℕ) (c : List ℕ) (l : Label) : Type 0 where
+  pub by : List ℕ
+  pub leads : Leads (network g w) l.arc.0 u by l.node.0
+  pub cost : l.cost ≡ plus c by
 
 -- each component has room for one more weight
 abbrev pub HasRoom : List ℕ → Type 0

@@ -1,9 +1,10 @@
 -- What a joiner keeps of the files that came so far.
-use Rattle.std.specs.Prelude.{◌≡◌, ℕ, ◌^◌, ◌≤◌, List, Option, length}
+use Rattle.std.specs.Prelude.{◌≡◌, ℕ, ◌≤◌, List, Option, length}
 use Rattle.std.specs.List.{AllByRecursion}
 use Rattle.arc_graph.specs.declared.join.OtherEnds.{OtherEnds}
 use Rattle.arc_graph.specs.Network.{IsNode}
 use Rattle.arc_graph.specs.Stored.{IsStored}
+use Rattle.arc_graph.specs.declared.file.TheConstants.{MAX_NODES, MAX_ARCS}
 
 -- the first file's nodes and ends, each arc's weights so far, how many files were begun, what the one begun last is to
 -- have and how many of its arcs have come, and the faults that would be told
@@ -22,12 +23,12 @@ pub record Joining : Type 0 where
 pub record IsJoining (j : Joining) : Type 0 where
   pub files : j.begun ≤ 4
   pub come : j.come ≤ j.due_arcs
-  pub due : j.due_arcs ≤ 2 ^ 24
+  pub due : j.due_arcs ≤ MAX_ARCS
   pub none_begun : j.begun ≡ 0 → length j.ends ≡ 0
   pub first_begun : j.begun ≡ 1 → (length j.ends ≡ j.come) × (j.due_nodes ≡ j.nodes)
   pub some_node : 1 ≤ j.begun → 1 ≤ j.nodes
-  pub nodes : j.nodes ≤ 2 ^ 23
-  pub arcs : length j.ends ≤ 2 ^ 24
+  pub nodes : j.nodes ≤ MAX_NODES
+  pub arcs : length j.ends ≤ MAX_ARCS
   pub matched : length j.vectors ≡ length j.ends
   pub tails : AllByRecursion (λ e. IsNode j.nodes e.0) j.ends
   pub heads : AllByRecursion (λ e. IsNode j.nodes e.1) j.ends

@@ -3,6 +3,7 @@ use Rattle.std.specs.Prelude.{◌≡◌, ℕ, ◌^◌, ◌<◌, ◌≤◌, Bool,
 use Rattle.std.specs.Prelude.{nat_eq, if◌then◌else◌}
 use Rattle.std.specs.Cmp.Lexicographic.{pointwise}
 use Rattle.std.specs.List.{AllByRecursion}
+use Rattle.arc_graph.specs.declared.file.TheConstants.{MAX_ARCS}
 
 -- all four places are 0
 abbrev pub is_zero : List ℕ → Bool
@@ -26,5 +27,5 @@ pub record IsStored (criteria : ℕ) (places : List ℕ) : Type 0 where
 pub record AreStored (criteria : ℕ) (vectors : List (List ℕ)) : Type 0 where
   pub two : 2 ≤ criteria
   pub four : criteria ≤ 4
-  pub count : length vectors ≤ 2 ^ 24
+  pub count : length vectors ≤ MAX_ARCS
   pub each : AllByRecursion (IsStored criteria) vectors

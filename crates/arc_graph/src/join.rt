@@ -1,6 +1,6 @@
 ghost use Rattle.std.specs.Prelude.{◌≡◌, ◌≢◌, ◌≤◌, ◌<◌, ◌+◌, ◌↔◌, ◌++◌, List, [], ◌∷◌, length, vec_len, map, position};
 ghost use Rattle.std.specs.Prelude.{IsTrue, IfOk, IfErr, OnOk, MatchOption};
-ghost use Rattle.arc_graph.specs.Network.{IsNode};
+ghost use Rattle.arc_graph.specs.Network.{IsNetwork, IsNode};
 ghost use Rattle.arc_graph.specs.Graph.{Match, network};
 ghost use Rattle.arc_graph.specs.Files.{Contents, empty_file, size_of, with_arc};
 ghost use Rattle.arc_graph.specs.Agreement.{Agree, AgreeInSize, HasFault, joined};
@@ -12,7 +12,7 @@ ghost use Rattle.arc_graph.specs.Stored.{is_zero, states_of};
 
 use crate::file::{ArcFile, ArcLine, MAX_ARCS, MAX_NODES};
 use crate::graph::{Ends, Graph};
-use crate::weights::{Places, Weights};
+use crate::weights::{Places, Weights, is_shut};
 use cost_vector::OutOfMemory;
 use std::alloc::Global;
 use std::marker::Model;
@@ -247,6 +247,7 @@ impl Joiner {
         requires whole { self.come ≡ self.due_arcs }
         ensures criteria { IfOk result (λ r. r.0.criteria ≡ self.begun) }
         ensures matched { IfOk result (λ r. Match r.0 r.1) }
+        ensures is_network { IfOk result (λ r. IsNetwork (network r.0 r.1)) }
 
         // The files agree, and the network is theirs, or the fault is.
         ensures agree { (files : List Contents) → StandsFor self files
@@ -295,6 +296,7 @@ impl Joiner {
         requires { 2 ≤ self.begun }
         ensures criteria { IfOk result (λ r. r.0.criteria ≡ self.begun) }
         ensures matched { IfOk result (λ r. Match r.0 r.1) }
+        ensures is_network { IfOk result (λ r. IsNetwork (network r.0 r.1)) }
         ensures only_memory { IfErr result (λ e. e ≡ JoinFault.OutOfMemory) }
         ensures network { IfOk result (λ r. network r.0 r.1 ≡ record {
           nodes = self.nodes;
@@ -341,7 +343,7 @@ fn arc_fault(other: Option<OtherEnds>, zero: Option<u32>) -> Option<JoinFault>
 fn first_zero(vectors: &[Places]) -> Option<usize>
     ensures { result ≡ position is_zero vectors.now }
 {
-    vectors.iter().position(|places| *places == [0; 4])
+    vectors.iter().position(is_shut)
 }
 
 /// Joins two to four files that list the same arcs, each with its own weights.
@@ -350,6 +352,7 @@ pub fn join_files(alloc: Global, files: Vec<ArcFile>) -> Result<(Graph, Weights)
     requires four { vec_len files ≤ 4 }
     ensures criteria { IfOk result (λ r. r.0.criteria ≡ vec_len files) }
     ensures matched { IfOk result (λ r. Match r.0 r.1) }
+    ensures is_network { IfOk result (λ r. IsNetwork (network r.0 r.1)) }
 
     // The files agree, and the network is theirs, or the fault is.
     ensures agree { IfOk result (λ _. Agree files.items) }

@@ -1,13 +1,16 @@
-ghost use Rattle.std.specs.Prelude.{◌≡◌, ℕ, ◌^◌, ◌<◌, ◌≤◌, List, [], ◌++◌, Option, length};
+ghost use Rattle.std.specs.Prelude.{◌≡◌, ℕ, ◌^◌, ◌<◌, ◌≤◌, ◌↔◌, List, [], ◌++◌, Option, length, replicate, reverse};
 ghost use Rattle.std.specs.List.{AllByRecursion};
 ghost use Rattle.cost_vector.specs.Costs.{Dominates, no_limit, plus};
 ghost use Rattle.arc_graph.specs.declared.join.JoinFault.{JoinFault as Fault};
 ghost use Rattle.arc_graph.specs.Files.{Contents};
 ghost use Rattle.arc_graph.specs.Agreement.{Agree, HasFault};
-ghost use Rattle.arc_graph.specs.Network.{Network, IsNetwork, AreSmall, Leads};
-ghost use Rattle.arc_graph.specs.Walks.{IsWalk};
+ghost use Rattle.arc_graph.specs.Network.{Network, IsNetwork, AreSmall, IsNode, Leads};
+ghost use Rattle.arc_graph.specs.Walks.{Arrives, IsWalk};
 ghost use Rattle.arc_graph.specs.Best.{IsBest, IsBackwardLeast, HasBestBelow, EndsAtBest};
-ghost use Rattle.arc_graph.specs.Answers.{AreBestCosts, IsAnswer, Route};
+ghost use Rattle.arc_graph.specs.Answers.{AreBestCosts, IsAnswer, IsRelevant, Route};
+ghost use Rattle.arc_graph.specs.Graph.{Arcs, States, ComesOf, label_along, network, relaxed};
+ghost use Rattle.arc_graph.specs.Lists.{IsIn};
+ghost use Rattle.cost_vector.specs.declared.label.Label.{Label};
 
 /// Files have one fault at most, and none where they agree: so what `join_files` answers is the one answer there is.
 pub fn files_have_one_fault_at_most()
@@ -17,13 +20,29 @@ pub fn files_have_one_fault_at_most()
         → HasFault files e → HasFault files d → e ≡ d }
 {}
 
+/// What relaxing gives is exactly the labels of the arcs that lead on.
+pub fn relaxing_follows_arcs()
+    ensures each_arc { (g : Arcs) (w : States) (u k v : ℕ) (c by : List ℕ)
+        → Leads (network g w) k u by v → IsIn (label_along k v c by) (relaxed g w u c) }
+    ensures no_other { (g : Arcs) (w : States) (u : ℕ) (c : List ℕ) (l : Label)
+        → IsIn l (relaxed g w u c) → ComesOf g w u c l }
+{}
+
+/// A walk may be read from its first arc on, or from its last one back.
+pub fn walks_are_read_both_ways()
+    ensures { (net : Network) (p : List ℕ) (s v : ℕ) (c : List ℕ) → IsNetwork net
+        → IsWalk net s p v c ↔ Arrives net s (reverse p) v c }
+{}
+
 /// Each cost of a walk is at least some best cost, and a walk of a best cost has best costs all the way: so a search that
-/// drops what is dominated loses nothing (Martins 1984).
+/// drops what is dominated loses nothing (Martins 1984). The start without a walk is a relevant pair of each query.
 pub fn best_costs_lie_below_all()
     ensures below { (net : Network) (p : List ℕ) (s v : ℕ) (c : List ℕ) → IsNetwork net
         → IsWalk net s p v c → HasBestBelow net s v c }
     ensures on_the_way { (net : Network) (p q : List ℕ) (s t : ℕ) (c : List ℕ) → IsNetwork net
         → IsWalk net s (p ++ q) t c → IsBest net s t c → EndsAtBest net s p }
+    ensures at_the_start { (net : Network) (s t : ℕ) (limit : List (Option ℕ)) → IsNetwork net → IsNode net.nodes s
+        → length limit ≡ net.criteria → IsRelevant net s t limit s (replicate net.criteria 0) }
 {}
 
 /// What an arc adds makes each cost greater, keeps which costs dominate which, and adds up to less than 2^58 along 2^26

@@ -2,7 +2,7 @@ ghost use Rattle.std.specs.Prelude.{◌≡◌, ◌≤◌, ◌<◌, ◌-◌, ◌^
 ghost use Rattle.std.specs.List.{AllByRecursion};
 ghost use Rattle.arc_graph.specs.Network.{IsVector};
 ghost use Rattle.arc_graph.specs.Graph.{AreStates, state_of};
-ghost use Rattle.arc_graph.specs.Stored.{AreStored, states_of};
+ghost use Rattle.arc_graph.specs.Stored.{AreStored, is_zero, states_of};
 
 use cost_vector::{ArcNo, OutOfMemory, Weight};
 use std::alloc::Global;
@@ -21,7 +21,7 @@ pub struct Weights {
 
 impl Model for Weights {
     ghost use Rattle.arc_graph.specs.Graph.{States};
-    ghost use Rattle.arc_graph.specs.Stored.{AreStored, states_of};
+    ghost use Rattle.arc_graph.specs.Stored.{AreStored, is_zero, states_of};
 
     ghost Value = { States };
 
@@ -61,7 +61,7 @@ impl Weights {
         ensures small { IfSome result (AllByRecursion (λ x. x < 2 ^ 32)) }
     {
         let places = self.vectors[a.0 as usize - 1];
-        if places == [0; 4] {
+        if is_shut(&places) {
             return None;
         }
         Some(Weight::of_numbers(&places[..self.criteria]))
@@ -77,4 +77,11 @@ impl Weights {
             vectors: Vec::from_slice(self.alloc, &self.vectors)?,
         })
     }
+}
+
+/// Whether these weights say that the arc is shut.
+pub(crate) fn is_shut(places: &Places) -> bool
+    ensures { result ≡ is_zero places.now }
+{
+    *places == [0; 4]
 }

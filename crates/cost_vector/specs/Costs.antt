@@ -16,7 +16,7 @@ pub record Dominates (a b : List ℕ) : Type 0 where
   pub at_most : AtMost a b
   pub differs : a ≢ b
 
--- the sum, component by component
+-- the sum, component by component, of vectors of one length
 abbrev pub plus : List ℕ → List ℕ → List ℕ
 plus (x ∷ xs) (y ∷ ys) = (x + y) ∷ plus xs ys
 plus _ _ = []

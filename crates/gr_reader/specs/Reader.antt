@@ -1,6 +1,7 @@
 -- What a reader of a weight file shows, and what its answers say.
 use Rattle.std.specs.Prelude.{◌≡◌, ◌≢◌, ℕ, ◌+◌, ◌^◌, ◌≤◌, ◌⊎◌, ⊤, IsSome, Bool, true, false, List, [], length, Option, Some, None, Result, Ok, Err}
 use Rattle.route_io.specs.Causes.{Rose}
+use Rattle.arc_graph.specs.declared.file.TheConstants.{MAX_NODES, MAX_ARCS}
 use Rattle.arc_graph.specs.declared.file.ArcLine.{ArcLine}
 use Rattle.arc_graph.specs.Files.{Contents}
 use Rattle.line_text.specs.declared.limits.LineLimits.{LineLimits}
@@ -43,8 +44,8 @@ unread limits = record {
 -- what every reader keeps
 pub record IsGrReading (reading : GrReading) : Type 0 where
   pub file : reading.lines.limits.total ≤ 2 ^ 63
-  pub nodes : reading.nodes ≤ 2 ^ 23
-  pub arcs : reading.arcs ≤ 2 ^ 24
+  pub nodes : reading.nodes ≤ MAX_NODES
+  pub arcs : reading.arcs ≤ MAX_ARCS
   pub come : reading.come ≤ reading.arcs
   pub all_come : reading.whole ≡ true → reading.come ≡ reading.arcs
   pub one_end : reading.whole ≡ true → reading.fault ≡ None
@@ -120,8 +121,8 @@ ReadHasCause before now (Ok value) = now ≡ before
 -- the numbers of nodes and arcs are in range
 pub record AreSizes (nodes arcs : ℕ) : Type 0 where
   pub some_node : 1 ≤ nodes
-  pub most_nodes : nodes ≤ 2 ^ 23
-  pub most_arcs : arcs ≤ 2 ^ 24
+  pub most_nodes : nodes ≤ MAX_NODES
+  pub most_arcs : arcs ≤ MAX_ARCS
 
 -- an arc is counted, and nothing else is
 abbrev pub CountsArc : GrReading → GrReading → Result (Option ArcLine) FileFault → Type 0

@@ -207,7 +207,7 @@ fn read_arc<S: Source>(
 ) -> Result<Option<ArcLine>, FileFault>
     requires fits { lines.old.limits.total ≤ 2 ^ 63 }
     requires goes_on { lines.old.fault ≡ None }
-    requires nodes { nodes ≤ 2 ^ 23 }
+    requires nodes { nodes ≤ MAX_NODES }
 
     // Where the source tells its bytes, the answer is that of the file's text.
     ensures tells { IfSome (rest_of lines.old (S.left source.old))

@@ -1,4 +1,5 @@
 use Rattle.std.proofs.Common.{◌≡◌, ◌≤◌, ◌-◌, ◌^◌, length, true, false, None, IfSome, IsSomeAnd}
+use Rattle.arc_graph.specs.declared.file.TheConstants.{MAX_ARCS}
 use Rattle.line_text.specs.Reading.{rest_of}
 use Rattle.gr_reader.specs.Reader.{told_by}
 use Rattle.gr_reader.specs.Rest.{at_start, read_rest}
@@ -12,7 +13,7 @@ invariant-loop-file g l = record {
   no_end : l.lines.whole ≡ false;
   nodes : l.lines.nodes ≡ l.file.nodes;
   come : length l.file.arcs ≡ l.lines.come;
-  arcs : l.lines.arcs ≤ 2 ^ 24;
+  arcs : l.lines.arcs ≤ MAX_ARCS;
   count : g.S.Source.faults l.source ≡ g.S.Source.faults l.fn.source;
   files : g.S.Source.files l.source ≡ g.S.Source.files l.fn.source;
   tells : IfSome (g.S.Source.left l.fn.source)

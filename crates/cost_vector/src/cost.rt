@@ -6,12 +6,13 @@ ghost use Rattle.cost_vector.specs.Costs.{AtMost, Dominates, plus, lex_cmp};
 
 use crate::Weight;
 use std::cmp::Ordering;
+use std::fmt;
 use std::marker::Model;
 
 /// The cost of a walk in each of 2 to 4 criteria. A contract sees the list of its components.
 ///
 /// Costs are ordered lexicographically, and a proper prefix is the lesser.
-#[derive(Clone, Copy, Debug)]
+#[derive(Clone, Copy)]
 pub struct Cost {
     count: usize,
     pub(crate) places: [u64; 4],
@@ -149,6 +150,13 @@ impl Cost {
                 self.places[3] - u64::from(w.places[3]),
             ],
         })
+    }
+}
+
+/// The list of its components.
+impl fmt::Debug for Cost {
+    fn fmt<W: fmt::Write>(&self, f: &mut fmt::Formatter<W>) -> fmt::Result {
+        f.debug_list().entries(self.as_slice()).finish()
     }
 }
 

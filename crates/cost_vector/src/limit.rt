@@ -8,13 +8,14 @@ ghost use Rattle.cost_vector.specs.LimitOrder.{limits_equiv, limits_total, limit
 
 use crate::Cost;
 use std::cmp::Ordering;
+use std::fmt;
 use std::marker::Model;
 
 /// The greatest cost that is asked for, in each of 2 to 4 criteria; `None` is no bound. A contract sees the list of
 /// its places.
 ///
 /// Limits are ordered lexicographically, no bound before each bound, and a proper prefix is the lesser.
-#[derive(Clone, Copy, Debug)]
+#[derive(Clone, Copy)]
 pub struct Limit {
     count: usize,
     places: [Option<u64>; 4],
@@ -102,6 +103,13 @@ fn is_allowed(place: Option<u64>, component: u64) -> bool
     ensures { IsTrue result ↔ IsAllowed place component }
 {
     place.is_none_or(|most| component <= most)
+}
+
+/// The list of its places.
+impl fmt::Debug for Limit {
+    fn fmt<W: fmt::Write>(&self, f: &mut fmt::Formatter<W>) -> fmt::Result {
+        f.debug_list().entries(self.as_slice()).finish()
+    }
 }
 
 impl PartialEq for Limit {

@@ -73,3 +73,15 @@ fn a_proper_prefix_is_the_lesser(rt: HostRuntime) {
     assert!(rt; short < long);
     assert!(rt; short != long);
 }
+
+#[test]
+fn vectors_are_shown_as_their_lists(rt: HostRuntime) -> Result<(), Fail> {
+    let alloc = rt.alloc();
+    let (cost, weight) = (Cost::of_numbers(&[2, 8, 0]), Weight::of_numbers(&[0, 7]));
+    let limit = Limit::of_places(&[None, Some(6)]);
+    let shown = format!(in alloc; "{cost:?} {weight:?} {limit:?}")?;
+    assert_eq!(rt; shown.as_str(), "[2, 8, 0] [0, 7] [None, Some(6)]");
+    let numbers = format!(in alloc; "{} {}", NodeNo(3), ArcNo(12))?;
+    assert_eq!(rt; numbers.as_str(), "3 12");
+    Ok(())
+}

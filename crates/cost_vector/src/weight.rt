@@ -6,12 +6,13 @@ ghost use Rattle.cost_vector.specs.Costs.{AtMost};
 
 use crate::Cost;
 use std::cmp::Ordering;
+use std::fmt;
 use std::marker::Model;
 
 /// What an arc adds to the cost of a walk, in each of 2 to 4 criteria. A contract sees the list of its components.
 ///
 /// Weights are ordered lexicographically, and a proper prefix is the lesser.
-#[derive(Clone, Copy, Debug)]
+#[derive(Clone, Copy)]
 pub struct Weight {
     count: usize,
     pub(crate) places: [u32; 4],
@@ -92,6 +93,13 @@ impl Weight {
     {
         let mut pairs = self.places.iter().zip(&cost.places);
         pairs.all(|(a, b)| u64::from(*a) <= *b)
+    }
+}
+
+/// The list of its components.
+impl fmt::Debug for Weight {
+    fn fmt<W: fmt::Write>(&self, f: &mut fmt::Formatter<W>) -> fmt::Result {
+        f.debug_list().entries(self.as_slice()).finish()
     }
 }
 

@@ -3,6 +3,7 @@ ghost use Rattle.gr_reader.specs.Kinds.{kind_number, told_as};
 
 use cost_vector::OutOfMemory;
 use line_text::LineFault;
+use std::fmt;
 use thiserror::Error;
 
 /// How many bytes a line may have before its LF, and how many the whole file may have.
@@ -44,10 +45,27 @@ impl LineKind {
     }
 }
 
+/// What is wrong, in a few words.
+impl fmt::Display for LineKind {
+    fn fmt<W: fmt::Write>(&self, f: &mut fmt::Formatter<W>) -> fmt::Result {
+        f.write_str(match self {
+            LineKind::BadLine => "none of the forms",
+            LineKind::NoProblem => "no problem line before it",
+            LineKind::SecondProblem => "a second problem line",
+            LineKind::SizeRange => "size out of range",
+            LineKind::NodeRange => "node out of range",
+            LineKind::WeightRange => "weight out of range",
+            LineKind::CountWrong => "not as many arcs as the problem line says",
+            LineKind::LineTooLong => "line too long",
+            LineKind::FileTooLong => "file too long",
+        })
+    }
+}
+
 /// Why a file can't be read to its end. Lines are numbered from 1.
 #[derive(Clone, Copy, Debug, PartialEq, Eq, Error)]
 pub enum FileFault {
-    #[error("line {line} is faulty")]
+    #[error("line {line}: {kind}")]
     Line { kind: LineKind, line: u64 },
     #[error("the source failed")]
     Read,

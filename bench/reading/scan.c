@@ -20,7 +20,7 @@ static size_t field(const unsigned char **at, const unsigned char *end) {
     return (size_t)(p - *at);
 }
 
-/* The number in a field, or -1 where it is none, or UINT64_MAX - 1 where it is above 2^63. */
+/* The number in a field: UINT64_MAX where it is none, and from UINT64_MAX >> 1 on where it is beyond every range. */
 static uint64_t number(const unsigned char *p, size_t length) {
     uint64_t value = 0;
     if (length == 0) return UINT64_MAX;

@@ -1,10 +1,9 @@
 -- What a graph's ends and arcs say of each other.
-use Rattle.std.proofs.Common.{◌≡◌, ℕ, ◌+◌, ◌<◌, ◌≤◌, ◌^◌, true, false, cond, List, [], ◌∷◌, length, map, get_or, arith, sym, subst}
+use Rattle.std.proofs.Common.{◌≡◌, ℕ, ◌+◌, ◌<◌, ◌≤◌, true, false, cond, List, [], ◌∷◌, length, map, get_or, arith, sym, subst}
 use Rattle.std.specs.Prelude.{nat_eq}
 use Rattle.std.specs.List.{AllByRecursion}
-use Rattle.cost_vector.specs.Costs.{plus}
 use Rattle.cost_vector.specs.declared.label.ArcNo.{ArcNo}
-use Rattle.arc_graph.specs.Graph.{HasRoom, numbers_from}
+use Rattle.arc_graph.specs.Graph.{numbers_from}
 use Rattle.arc_graph.specs.declared.graph.Ends.{Ends}
 use Rattle.arc_graph.specs.Network.{IsNode}
 use Rattle.arc_graph.specs.Layout.{pair_of}
@@ -33,9 +32,3 @@ arc_within ends v arcs i a all inside at =
     let In : ArcNo → Type 0 = λ n. (1 ≤ n.0) × (n.0 < 1 + length ends) in
     let each : AllByRecursion In arcs = rw all (numbers_within 1 ends v) in
     let here : In a = subst In (sym at) (all_at In arcs i a each inside) in (here.0, omega (arith, here.1))
-
--- each sum has room
-pub sums_fit : (cost w : List ℕ) → HasRoom cost → AllByRecursion (λ x. x < 2 ^ 32) w → AllByRecursion (λ x. x < 2 ^ 64) (plus cost w)
-sums_fit [] w room small = tt
-sums_fit (x ∷ xs) [] room small = tt
-sums_fit (x ∷ xs) (y ∷ ys) room small = (omega (arith, room.0, small.0), sums_fit xs ys room.1 small.1)

@@ -1,5 +1,5 @@
 -- Laws of lists as the definitions of walks and answers use them: membership, distinctness, what holds of each element.
-use Rattle.std.proofs.Common.{◌≡◌, ◌≢◌, ℕ, zero, suc, ◌≤◌, List, [], ◌∷◌, ◌++◌, length, map, Option, Some, None, ◌⊎◌, inl, inr, refl, sym, ap, subst, ◌∙◌, arith}
+use Rattle.std.proofs.Common.{◌≡◌, ◌≢◌, ℕ, zero, suc, ◌<◌, ◌≤◌, List, [], ◌∷◌, ◌++◌, length, map, get_or, Option, Some, None, ◌⊎◌, inl, inr, refl, sym, ap, subst, ◌∙◌, arith}
 use Rattle.std.specs.Prelude.{slice_get}
 use Rattle.std.specs.List.{AllByRecursion, filter_map, cons_option}
 use Rattle.arc_graph.specs.Lists.{Pairwise, IsIn, AreDistinct}
@@ -29,6 +29,11 @@ module _ {X : Type 0} where
     | inl left ↦ inl left
     | inr right ↦ elim right [ inl e ↦ inr e | inr none ↦ absurd none ]
   ]
+
+  pub in_at : (xs : List X) (i : ℕ) (d : X) → i < length xs → IsIn (get_or xs i d) xs
+  in_at [] i d within = absurd (omega arith)
+  in_at (x ∷ xs) zero d within = inl refl
+  in_at (x ∷ xs) (suc i) d within = inr (in_at xs i d (omega arith))
 
   -- ---- what holds of each element
 

@@ -1,15 +1,16 @@
 -- What relaxing gives: exactly the labels of the arcs that lead on.
-use Rattle.std.proofs.Common.{◌≡◌, ℕ, zero, suc, ◌+◌, ◌-◌, true, false, cond, List, [], ◌∷◌, Option, Some, None, IfSome, refl, sym, ap, subst, ◌∙◌, inl, inr, eq-eqb, arith}
+use Rattle.std.proofs.Common.{◌≡◌, ℕ, zero, suc, ◌+◌, ◌-◌, ◌<◌, length, get_or, true, false, cond, List, [], ◌∷◌, Option, Some, None, IfSome, refl, sym, ap, subst, ◌∙◌, inl, inr, eq-eqb, arith}
 use Rattle.std.specs.Prelude.{nat_eq, slice_get}
 use Rattle.std.specs.List.{AllByRecursion}
+use Rattle.std.specs.Option.{option_and_then}
 use Rattle.std.proofs.lemmas.Bool.{cases_Bool, eqb-true}
 use Rattle.cost_vector.specs.declared.label.ArcNo.{ArcNo}
 use Rattle.cost_vector.specs.declared.label.Label.{Label}
 use Rattle.cost_vector.specs.Costs.{plus}
 use Rattle.arc_graph.specs.Lists.{IsIn}
 use Rattle.arc_graph.specs.Network.{IsNetwork, IsVector, Leads}
-use Rattle.arc_graph.specs.Graph.{Arcs, States, IsGraph, AreStates, Match, network, numbers_from, label_along, label_by, relaxed, ComesOf}
-use Rattle.arc_graph.proofs.ListLaws.{in_filter_map, of_filter_map}
+use Rattle.arc_graph.specs.Graph.{Arcs, States, IsGraph, AreStates, Match, network, numbers_from, Fits, SumsFit, label_along, label_by, relaxed, state_of, ComesOf}
+use Rattle.arc_graph.proofs.ListLaws.{in_at, in_filter_map, of_filter_map}
 
 -- a graph and states that match it are a network
 pub network_of : (g : Arcs) (w : States) → IsGraph g → AreStates w → Match g w → IsNetwork (network g w)
@@ -64,6 +65,24 @@ of_numbers k (x ∷ es) tail a h = elim (cases_Bool (nat_eq x.0 tail)) [
         | inr more ↦ later k x es tail a (of_numbers (k + 1) es tail a more)
       ]
 ]
+
+-- the sum along each of these arcs fits, unless it is shut
+pub fits_along : (g : Arcs) (w : States) (u : ℕ) (c : List ℕ) (arcs : List ArcNo) (i : ℕ) (d : ArcNo) → SumsFit g w u c → arcs ≡ numbers_from 1 g.ends u
+    → i < length arcs → IfSome (state_of w (get_or arcs i d)) (λ y. Fits (plus c y))
+fits_along g w u c arcs i d fits all within = by_state (slice_get w.states (a.0 - 1)) refl where
+  a : ArcNo
+  a = get_or arcs i d
+
+  at : StandsAt 1 g.ends u a
+  at = of_numbers 1 g.ends u a (subst (IsIn a) all (in_at arcs i d within))
+
+  ends : slice_get g.ends (a.0 - 1) ≡ Some (u, at.head)
+  ends = let place : at.place ≡ a.0 - 1 = omega (arith, at.number) in subst (λ n. slice_get g.ends n ≡ Some (u, at.head)) place at.ends
+
+  by_state : (o : Option (Option (List ℕ))) → slice_get w.states (a.0 - 1) ≡ o → IfSome (option_and_then (λ s. s) o) (λ y. Fits (plus c y))
+  by_state None is = tt
+  by_state (Some None) is = tt
+  by_state (Some (Some y)) is = fits a.0 at.head y (record { counted = omega (arith, at.number); ends = ends; passable = is })
 
 -- ---- the labels
 

@@ -5,7 +5,7 @@ use Rattle.std.proofs.lemmas.List.{length-reverse}
 use Rattle.cost_vector.specs.Costs.{plus}
 use Rattle.arc_graph.specs.Network.{Network, IsNetwork, AreSmall, Leads}
 use Rattle.arc_graph.specs.Walks.{Arrives, IsWalk, IsSumOf}
-use Rattle.arc_graph.specs.Graph.{HasRoom}
+use Rattle.arc_graph.specs.Graph.{Arcs, States, AreStates, Fits, SumsFit, network}
 use Rattle.arc_graph.proofs.ListLaws.{all_got}
 use Rattle.arc_graph.proofs.WalkLaws.{arrives_by_walk}
 
@@ -27,9 +27,11 @@ pub sum_below : (n : ℕ) (c : List ℕ) → n ≤ 2 ^ 26 → IsSumOf n c → Al
 sum_below n [] most sums = tt
 sum_below n (x ∷ xs) most sums = (omega (arith, sums.0), sum_below n xs most sums.1)
 
-pub room_below : (c : List ℕ) → AllByRecursion (λ x. x < 2 ^ 58) c → HasRoom c
-room_below [] below = tt
-room_below (x ∷ xs) below = (omega (arith, below.0), room_below xs below.1)
+-- and leave room for one more vector
+sum_fits : (c w : List ℕ) → AllByRecursion (λ x. x < 2 ^ 58) c → AllByRecursion (λ x. x < 2 ^ 32) w → Fits (plus c w)
+sum_fits [] w below small = tt
+sum_fits (x ∷ xs) [] below small = tt
+sum_fits (x ∷ xs) (y ∷ ys) below small = (omega (arith, below.0, small.0), sum_fits xs ys below.1 small.1)
 
 module _ (net : Network) (small : AreSmall net.states) where
   pub small_by : (k u v : ℕ) (w : List ℕ) → Leads net k u w v → AllByRecursion (λ x. x < 2 ^ 32) w
@@ -46,3 +48,7 @@ module _ (net : Network) (small : AreSmall net.states) where
   pub walk_below : IsNetwork net → (p : List ℕ) (s v : ℕ) (c : List ℕ) → length p ≤ 2 ^ 26 → IsWalk net s p v c → AllByRecursion (λ x. x < 2 ^ 58) c
   walk_below is p s v c most walk =
       sum_below (length (reverse p)) c (omega (arith, length-reverse p)) (sum_of_arrival (reverse p) s v c (arrives_by_walk net is p s v c walk))
+
+-- what relaxing asks of the sums
+pub sums_fit : (g : Arcs) (w : States) (u : ℕ) (c : List ℕ) → AreStates w → AllByRecursion (λ x. x < 2 ^ 58) c → SumsFit g w u c
+sums_fit g w u c states below = λ k v by arc. sum_fits c by below (small_by (network g w) states.small k u v by arc)

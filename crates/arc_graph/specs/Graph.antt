@@ -84,6 +84,10 @@ pub record ComesOf (g : Arcs) (w : States) (u : ℕ) (c : List ℕ) (l : Label) 
   pub leads : Leads (network g w) l.arc.0 u by l.node.0
   pub cost : l.cost ≡ plus c by
 
--- each component has room for one more weight
-abbrev pub HasRoom : List ℕ → Type 0
-HasRoom cost = AllByRecursion (λ x. x + (2 ^ 32 - 1) < 2 ^ 64) cost
+-- each number fits 64 bits
+abbrev pub Fits : List ℕ → Type 0
+Fits cost = AllByRecursion (λ x. x < 2 ^ 64) cost
+
+-- each sum of the cost and the vector of an arc that leads on from the node fits
+abbrev pub SumsFit : Arcs → States → ℕ → List ℕ → Type 0
+SumsFit g w node cost = (k v : ℕ) (by : List ℕ) → Leads (network g w) k node by v → Fits (plus cost by)

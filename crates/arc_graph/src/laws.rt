@@ -8,7 +8,7 @@ ghost use Rattle.arc_graph.specs.Network.{Network, IsNetwork, AreSmall, IsNode, 
 ghost use Rattle.arc_graph.specs.Walks.{Arrives, IsWalk};
 ghost use Rattle.arc_graph.specs.Best.{IsBest, IsBackwardLeast, HasBestBelow, EndsAtBest};
 ghost use Rattle.arc_graph.specs.Answers.{AreBestCosts, IsAnswer, IsRelevant, Route};
-ghost use Rattle.arc_graph.specs.Graph.{Arcs, States, ComesOf, label_along, network, relaxed};
+ghost use Rattle.arc_graph.specs.Graph.{Arcs, States, AreStates, ComesOf, SumsFit, label_along, network, relaxed};
 ghost use Rattle.arc_graph.specs.Lists.{IsIn};
 ghost use Rattle.cost_vector.specs.declared.label.Label.{Label};
 
@@ -46,7 +46,7 @@ pub fn best_costs_lie_below_all()
 {}
 
 /// What an arc adds makes each cost greater, keeps which costs dominate which, and adds up to less than 2^58 along 2^26
-/// arcs, which is more than any budget or graph has.
+/// arcs, which is more than any budget or graph has. To such a cost `relax` can add what it adds.
 pub fn arcs_add_to_costs()
     ensures grows { (net : Network) (k u v : ℕ) (w c : List ℕ) → IsNetwork net
         → Leads net k u w v → length c ≡ net.criteria → Dominates c (plus c w) }
@@ -54,6 +54,8 @@ pub fn arcs_add_to_costs()
         → Leads net k u w v → length a ≡ net.criteria → Dominates a b → Dominates (plus a w) (plus b w) }
     ensures bounded { (net : Network) (p : List ℕ) (s v : ℕ) (c : List ℕ) → IsNetwork net → AreSmall net.states
         → length p ≤ 2 ^ 26 → IsWalk net s p v c → AllByRecursion (λ x. x < 2 ^ 58) c }
+    ensures fit { (g : Arcs) (w : States) (u : ℕ) (c : List ℕ) → AreStates w
+        → AllByRecursion (λ x. x < 2 ^ 58) c → SumsFit g w u c }
 {}
 
 /// A query has one list of best costs at most, which is empty only where no walk leads to the target.

@@ -1,6 +1,7 @@
-ghost use Rattle.std.specs.Prelude.{◌≡◌, ◌≤◌, length, IfOk};
+ghost use Rattle.std.specs.Prelude.{◌≡◌, ◌≤◌, length, IfOk, IfSome};
+ghost use Rattle.cost_vector.specs.Costs.{plus};
 ghost use Rattle.arc_graph.specs.Network.{IsNode};
-ghost use Rattle.arc_graph.specs.Graph.{HasRoom, Match, label_by, relaxed};
+ghost use Rattle.arc_graph.specs.Graph.{Fits, Match, SumsFit, label_by, relaxed, state_of};
 
 use crate::{Graph, Weights};
 use cost_vector::{ArcNo, Label, OutOfMemory, Spot};
@@ -17,7 +18,7 @@ pub fn relax(
     requires node { IsNode graph.now.nodes spot.now.node.0 }
     requires weights { Match graph.now weights.now }
     requires criteria { length spot.now.cost ≡ graph.now.criteria }
-    requires room { HasRoom spot.now.cost }
+    requires fits { SumsFit graph.now weights.now spot.now.node.0 spot.now.cost }
     ensures { IfOk result (λ labels. labels.items
         ≡ relaxed graph.now weights.now spot.now.node.0 spot.now.cost) }
 {
@@ -37,7 +38,7 @@ fn label_along(graph: &Graph, weights: &Weights, spot: &Spot, arc: ArcNo) -> Opt
     requires there { arc.0 ≤ length graph.now.ends }
     requires weights { Match graph.now weights.now }
     requires criteria { length spot.now.cost ≡ graph.now.criteria }
-    requires room { HasRoom spot.now.cost }
+    requires fits { IfSome (state_of weights.now arc) (λ by. Fits (plus spot.now.cost by)) }
     ensures { result ≡ label_by graph.now weights.now spot.now.cost arc }
 {
     let weight = weights.get(arc)?;

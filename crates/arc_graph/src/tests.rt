@@ -25,6 +25,7 @@ fn joins_files_that_agree(rt: HostRuntime) -> Result<(), Fail> {
     let (graph, weights) = join_files(alloc, files)?;
     let weights = weights.try_copy()?;
     assert_eq!(rt; (graph.nodes(), graph.arcs(), graph.criteria()), (3, 2, 3));
+    assert_eq!(rt; weights.arcs(), 2);
     let start = Spot {
         node: NodeNo(1),
         cost: Cost::zero(3),

@@ -1,23 +1,18 @@
 -- Laws of pruning: along chains of spots, and in lists of them.
-use Rattle.std.proofs.Common.{◌≡◌, ℕ, zero, suc, ◌<◌, List, [], ◌∷◌, ◌++◌, length, get_or, ◌⊎◌, inl, inr, refl, sym, subst, ◌∙◌, arith}
+use Rattle.std.proofs.Common.{ℕ, suc, List, [], ◌∷◌, ◌++◌, ◌⊎◌, inl, inr, refl, sym, subst, ◌∙◌, arith}
 use Rattle.std.specs.Prelude.{All, Contains}
 use Rattle.cost_vector.specs.declared.label.Spot.{Spot}
 use Rattle.cost_vector.specs.Costs.{AtMost, LexLess}
 use Rattle.cost_vector.proofs.Vectors.{AtMost-refl, AtMost-trans, AtMost-antisymm, LexLess_from_AtMost, LexLess-irrefl, LexLess-trans, cases_LexLess, cases_same}
 use Rattle.arc_graph.specs.Lists.{IsIn}
-use Rattle.arc_graph.proofs.ListLaws.{cases_push}
+use Rattle.arc_graph.proofs.ListLaws.{cases_push, in_at}
 use Rattle.plain_search.specs.Search.{Prunes, IsPruned, IsLeastOf}
 
 -- ---- membership by place
 
 module _ {X : Type 0} where
-  in_at : (x : X) (xs : List X) (k : ℕ) → k < length xs → get_or xs k x ≡ x → IsIn x xs
-  in_at x [] k within is = absurd (omega arith)
-  in_at x (y ∷ ys) zero within is = inl (sym is)
-  in_at x (y ∷ ys) (suc k) within is = inr (in_at x ys k (omega arith) is)
-
   pub in_by_place : (x : X) (xs : List X) → Contains xs x → IsIn x xs
-  in_by_place x xs h = in_at x xs h.0 h.1 h.2
+  in_by_place x xs h = subst (λ y. IsIn y xs) h.2 (in_at xs h.0 x h.1)
 
   pub place_of : (x : X) (xs : List X) → IsIn x xs → Contains xs x
   place_of x [] h = absurd h

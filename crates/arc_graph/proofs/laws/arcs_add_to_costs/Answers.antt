@@ -1,5 +1,5 @@
 use Rattle.arc_graph.proofs.BestLaws.{grows_along, dominates_along}
-use Rattle.arc_graph.proofs.SumLaws.{walk_below}
+use Rattle.arc_graph.proofs.SumLaws.{sums_fit, walk_below}
 use Rattle.arc_graph.proofs.laws.arcs_add_to_costs.Goals as goal
 
 pub returns-clause-grows : goal.returns-clause-grows
@@ -10,3 +10,6 @@ returns-clause-monotone c = λ net k u v w a b is. dominates_along net is k u v 
 
 pub returns-clause-bounded : goal.returns-clause-bounded
 returns-clause-bounded c = λ net p s v cost is small. walk_below net small is p s v cost
+
+pub returns-clause-fit : goal.returns-clause-fit
+returns-clause-fit c = sums_fit

@@ -1,5 +1,6 @@
 use Rattle.std.proofs.lemmas.List.{get_or_default}
 use Rattle.arc_graph.proofs.GraphLemmas.{arc_within}
+use Rattle.arc_graph.proofs.RelaxLaws.{fits_along}
 use Rattle.arc_graph.proofs.relaxing.relax.Goals as goal
 
 pub label_along-requires-clause-counted : goal.label_along-requires-clause-counted
@@ -11,3 +12,8 @@ pub label_along-requires-clause-there : goal.label_along-requires-clause-there
 label_along-requires-clause-there c =
     (arc_within c.args.graph.now.ends c.args.spot.now.node.0 _ c.loop-arc.arc-index _ c.out_arcs-arcs.ensures c.loop-arc-test.true
     (get_or_default _ c.loop-arc.arc-index _ _ c.loop-arc-test.true)).1
+
+pub label_along-requires-clause-fits : goal.label_along-requires-clause-fits
+label_along-requires-clause-fits c =
+    fits_along c.args.graph.now c.args.weights.now c.args.spot.now.node.0 c.args.spot.now.cost _ c.loop-arc.arc-index _ c.requires.fits c.out_arcs-arcs.ensures
+    c.loop-arc-test.true

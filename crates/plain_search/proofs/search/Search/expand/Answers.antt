@@ -1,6 +1,6 @@
 use Rattle.std.proofs.Common.{sym, ◌∙◌, arith}
 use Rattle.plain_search.proofs.Expanding.{expanding_begins, expanding_next, expanding_done, node_of_waiting, length_of_waiting, length_of_next}
-use Rattle.arc_graph.proofs.SumLaws.{sum_below, room_below}
+use Rattle.arc_graph.proofs.SumLaws.{sum_below, sums_fit}
 use Rattle.plain_search.proofs.search.Search.expand.Goals as goal
 
 pub relax-requires-clause-node : goal.relax-requires-clause-node
@@ -15,11 +15,11 @@ relax-requires-clause-criteria c =
     length_of_waiting c.args.graph.now c.args.weights.now c.args.query.now r.graph r.states r.weights c.args.self.now.permanent.items c.args.spot.now
     (r.search.spots.may_wait c.args.spot.now r.least.there)
 
-pub relax-requires-clause-room : goal.relax-requires-clause-room
-relax-requires-clause-room c =
+pub relax-requires-clause-fits : goal.relax-requires-clause-fits
+relax-requires-clause-fits c =
     let r = c.requires in
     let cost = c.args.spot.now.cost in
-    room_below cost (sum_below _ cost (omega arith) (r.search.spots.may_wait c.args.spot.now r.least.there).small)
+    sums_fit c.args.graph.now c.args.weights.now c.args.spot.now.node.0 cost r.states (sum_below _ cost (omega arith) (r.search.spots.may_wait c.args.spot.now r.least.there).small)
 
 pub loop-label-init : goal.loop-label-init
 loop-label-init c =

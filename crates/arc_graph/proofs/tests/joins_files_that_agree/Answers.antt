@@ -1,0 +1,9 @@
+use Rattle.std.proofs.Common.{◌<◌, ◌^◌, sym, subst, arith}
+use Rattle.std.specs.List.{AllByRecursion}
+use Rattle.arc_graph.proofs.SumLaws.{sums_fit}
+use Rattle.arc_graph.proofs.tests.joins_files_that_agree.Goals as goal
+
+pub relax-requires-clause-fits : goal.relax-requires-clause-fits
+relax-requires-clause-fits g c =
+    let small = subst (AllByRecursion (λ x. x < 2 ^ 58)) (sym c.zero.ensures) (omega arith, (omega arith, (omega arith, tt))) in
+    sums_fit c.in_ok-graph.graph c.in_ok-weights.weights 1 c.zero.result c.arcs-2.ensures.states small

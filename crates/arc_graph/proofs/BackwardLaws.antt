@@ -52,7 +52,14 @@ module _ (net : Network) (is : IsNetwork net) where
     with_least_last : (v : ℕ) (c : List ℕ) → length c ≡ net.criteria → 0 < sum c → (k : ℕ) → IsLeastWith (IsLast v c) k
         → (along : IsLast v c k) → (q : List ℕ) → IsLeast s along.from (less c along.by) q → IsLeast s v c (k ∷ q)
     with_least_last v c long some k least along q before = record {
-      walk = record { at = along.from; by = along.by; before = less c along.by; walk = before.walk; leads = along.leads; cost = sym (plus-minus c along.by along.fits) };
+      walk = record {
+        at = along.from;
+        by = along.by;
+        before = less c along.by;
+        walk = before.walk;
+        leads = along.leads;
+        cost = sym (plus-minus c along.by along.fits);
+      };
       least = others;
     } where
       others : (r : List ℕ) → Arrives net s r v c → r ≢ k ∷ q → IsLessAtFirst (k ∷ q) r

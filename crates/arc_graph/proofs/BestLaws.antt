@@ -78,7 +78,8 @@ module _ (net : Network) (is : IsNetwork net) where
   start_is_relevant s t limit node long =
       let zeros = replicate net.criteria 0 in
       let none_better : (b : List ℕ) → ¬ Dominates b zeros = λ b better.
-      better.differs (AtMost-antisymm b zeros better.at_most (AtMost-zeros net.criteria b (AtMost-length b zeros better.at_most ∙ length-replicate net.criteria 0))) in
+      let long = AtMost-length b zeros better.at_most ∙ length-replicate net.criteria 0 in
+      better.differs (AtMost-antisymm b zeros better.at_most (AtMost-zeros net.criteria b long)) in
       record {
         best = record { reached = ([], (node, refl, refl)); nondominated = λ p b walk. none_better b };
         within = Within-zeros limit net.criteria long;

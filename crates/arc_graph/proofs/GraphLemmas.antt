@@ -10,7 +10,8 @@ use Rattle.arc_graph.specs.Layout.{pair_of}
 use Rattle.arc_graph.proofs.Places.{all_at}
 
 -- no tail is greater than the number of nodes
-pub tails_of_map : (nodes : ℕ) (ends : List Ends) → AllByRecursion (λ e. IsNode nodes e.0) (map pair_of ends) → AllByRecursion (λ (e : Ends). e.tail.0 ≤ nodes) ends
+pub tails_of_map : (nodes : ℕ) (ends : List Ends) → AllByRecursion (λ e. IsNode nodes e.0) (map pair_of ends)
+    → AllByRecursion (λ (e : Ends). e.tail.0 ≤ nodes) ends
 tails_of_map nodes [] h = tt
 tails_of_map nodes (e ∷ es) h = (h.0.1, tails_of_map nodes es h.1)
 
@@ -21,7 +22,8 @@ numbers_within k (e ∷ es) v =
     let rest = weaker (numbers_from (k + 1) es v) (numbers_within (k + 1) es v) in
     elim (nat_eq e.0 v) as (λ t. AllByRecursion (λ a. (k ≤ a.0) × (a.0 < k + length (e ∷ es))) (cond t (record { 0 = k } ∷ numbers_from (k + 1) es v) (numbers_from (k + 1) es v)))
     [ true ↦ ((omega arith, omega arith), rest) | false ↦ rest ] where
-      weaker : (ns : List ArcNo) → AllByRecursion (λ a. (k + 1 ≤ a.0) × (a.0 < k + 1 + length es)) ns → AllByRecursion (λ a. (k ≤ a.0) × (a.0 < k + length (e ∷ es))) ns
+      weaker : (ns : List ArcNo) → AllByRecursion (λ a. (k + 1 ≤ a.0) × (a.0 < k + 1 + length es)) ns
+          → AllByRecursion (λ a. (k ≤ a.0) × (a.0 < k + length (e ∷ es))) ns
       weaker [] h = tt
       weaker (a ∷ ns) h = ((omega (arith, h.0), omega (arith, h.0)), weaker ns h.1)
 

@@ -1,7 +1,7 @@
 -- Whether some walk to a node has a cost that is so related to another can be decided, arc by arc from the last one back.
-use Rattle.std.proofs.Common.{◌≡◌, ◌≢◌, ℕ, zero, suc, ◌+◌, ◌-◌, ◌<◌, List, [], ◌∷◌, length, replicate, sum, Option, Some, None, ◌⊎◌, inl, inr, refl, sym, ap, subst, ◌∙◌, arith, eq-eqb}
-use Rattle.std.specs.Prelude.{nat_eq, slice_get}
-use Rattle.std.proofs.lemmas.Bool.{cases_Bool, cases_lt, eqb-true, false≢true}
+use Rattle.std.proofs.Common.{◌≡◌, ◌≢◌, ℕ, zero, suc, ◌+◌, ◌-◌, ◌<◌, List, [], ◌∷◌, length, replicate, sum, Option, Some, None, ◌⊎◌, inl, inr, refl, sym, ap, subst, ◌∙◌, arith}
+use Rattle.std.specs.Prelude.{slice_get}
+use Rattle.std.proofs.lemmas.Bool.{cases_eq, cases_lt}
 use Rattle.std.proofs.lemmas.Option.{get_or_from_slice_get, slice_get_cases}
 use Rattle.cost_vector.specs.Costs.{AtMost, Dominates, plus}
 use Rattle.cost_vector.proofs.Sums.{each, length-each, plus-minus}
@@ -10,13 +10,6 @@ use Rattle.arc_graph.specs.Lists.{IsLeastWith}
 use Rattle.arc_graph.specs.Network.{Network, IsNetwork, IsNode, Leads}
 use Rattle.arc_graph.specs.Walks.{Arrives, EndsBy}
 use Rattle.arc_graph.proofs.WalkLaws.{leads_by_vector, length_of_arrival}
-
--- numbers are equal or not
-cases_equal : (m n : ℕ) → (m ≡ n) ⊎ (m ≢ n)
-cases_equal m n = elim (cases_Bool (nat_eq m n)) [
-  | inl same ↦ inl (eqb-true m n same)
-  | inr other ↦ inr (λ e. false≢true (sym other ∙ eq-eqb m n e))
-]
 
 -- the least number of a kind, of those below a bound, where each can be told
 pub least_below : (P : ℕ → Type 0) → ((k : ℕ) → P k ⊎ (¬ P k)) → (bound : ℕ) → ((k : ℕ) × IsLeastWith P k) ⊎ ((k : ℕ) → k < bound → ¬ P k)
@@ -82,7 +75,7 @@ module _ (net : Network) where
     by_place (Some e) at (Some None) is = inr (λ to. let none : Some None ≡ Some (Some to.by) = sym is ∙ to.leads.passable in absurd cc)
     by_place (Some e) at (Some (Some w)) is = elim (cases_lt 0 k) [
       | inr below ↦ inr (λ to. omega (arith, to.leads.counted))
-      | inl counted ↦ elim (cases_equal e.1 v) [
+      | inl counted ↦ elim (cases_eq e.1 v) [
         | inl same ↦ inl (record { from = e.0; by = w; leads = record { counted = counted; ends = at ∙ ap (λ x. Some (e.0, x)) same; passable = is } })
         | inr other ↦ inr (λ to.
             let there : Some e ≡ Some (to.from, v) = sym at ∙ to.leads.ends in
@@ -133,12 +126,14 @@ module _ (net : Network) (is : IsNetwork net) (s : ℕ) (node : IsNode net.nodes
   reached_along : (v : ℕ) (c : List ℕ) (k : ℕ) → Along v c k → Reached v c
   reached_along v c k along =
       let before = along.before in
-      let long = length_of_arrival net is before.arcs s along.from before.cost before.walk ∙ sym (leads_by_vector net is k along.from v along.by along.leads).whole in
+      let vector = leads_by_vector net is k along.from v along.by along.leads in
+      let long = length_of_arrival net is before.arcs s along.from before.cost before.walk ∙ sym vector.whole in
+      let added = shifts.added before.cost (less c along.by) along.by long before.related in
       record {
         arcs = k ∷ before.arcs;
         cost = plus before.cost along.by;
         walk = record { at = along.from; by = along.by; before = before.cost; walk = before.walk; leads = along.leads; cost = refl };
-        related = subst (R (plus before.cost along.by)) (plus-minus c along.by along.fits) (shifts.added before.cost (less c along.by) along.by long before.related);
+        related = subst (R (plus before.cost along.by)) (plus-minus c along.by along.fits) added;
       }
 
   -- the last arc of such a walk
@@ -188,7 +183,7 @@ module _ (net : Network) (is : IsNetwork net) (s : ℕ) (node : IsNode net.nodes
   ] where
     -- the walk without arcs
     at_once : Reached v c ⊎ (¬ ((s ≡ v) × R (replicate net.criteria 0) c))
-    at_once = elim (cases_equal s v) [
+    at_once = elim (cases_eq s v) [
       | inr other ↦ inr (λ once. other once.0)
       | inl same ↦ elim (shifts.decided (replicate net.criteria 0) c) [
         | inl related ↦ inl (record { arcs = []; cost = replicate net.criteria 0; walk = (node, same, refl); related = related })

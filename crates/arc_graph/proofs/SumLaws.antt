@@ -43,7 +43,8 @@ module _ (net : Network) (small : AreSmall net.states) where
   sum_of_arrival (k ∷ before) s v c walk =
       let so_far = sum_of_arrival before s walk.at walk.before walk.walk in
       let one_more = sum_of_more (length before) walk.before walk.by so_far (small_by k walk.at v walk.by walk.leads) in
-      subst (IsSumOf (length (k ∷ before))) (sym walk.cost) (sum_of_most (length before + 1) (length (k ∷ before)) (plus walk.before walk.by) (omega arith) one_more)
+      let all = k ∷ before in
+      subst (IsSumOf (length all)) (sym walk.cost) (sum_of_most (length before + 1) (length all) (plus walk.before walk.by) (omega arith) one_more)
 
   pub walk_below : IsNetwork net → (p : List ℕ) (s v : ℕ) (c : List ℕ) → length p ≤ 2 ^ 26 → IsWalk net s p v c → AllByRecursion (λ x. x < 2 ^ 58) c
   walk_below is p s v c most walk =

@@ -1,6 +1,7 @@
 pub mod LineSteps
 pub mod Capping
 pub mod Finding
+pub mod Taking
 pub mod Telling
 pub mod Limits
 pub mod Accepting

@@ -1,11 +1,11 @@
 -- What a reader of a weight file shows, and what its answers say.
-use Rattle.std.specs.Prelude.{◌≡◌, ◌≢◌, ℕ, ◌+◌, ◌^◌, ◌≤◌, ◌⊎◌, ⊤, IsSome, Bool, true, false, List, [], length, Option, Some, None, Result, Ok, Err}
+use Rattle.std.specs.Prelude.{◌≡◌, ◌≢◌, ℕ, ◌+◌, ◌^◌, ◌≤◌, ◌⊎◌, ⊤, IfSome, IsSome, Bool, true, false, List, [], length, Option, Some, None, Result, Ok, Err}
 use Rattle.route_io.specs.Causes.{Rose}
 use Rattle.arc_graph.specs.declared.file.TheConstants.{MAX_NODES, MAX_ARCS}
 use Rattle.arc_graph.specs.declared.file.ArcLine.{ArcLine}
 use Rattle.arc_graph.specs.Files.{Contents}
 use Rattle.line_text.specs.declared.limits.LineLimits.{LineLimits}
-use Rattle.line_text.specs.Reading.{Reading, begun}
+use Rattle.line_text.specs.Reading.{Reading, InLimits, begun}
 use Rattle.gr_reader.specs.declared.fault.FileFault.{FileFault}
 use Rattle.gr_reader.specs.declared.fault.FileFault.TheVariants.{Line, Read, OutOfMemory}
 use Rattle.gr_reader.specs.declared.fault.FileLimits.{FileLimits}
@@ -44,6 +44,7 @@ unread limits = record {
 -- what every reader keeps
 pub record IsGrReading (reading : GrReading) : Type 0 where
   pub file : reading.lines.limits.total ≤ 2 ^ 63
+  pub in_limits : InLimits reading.lines
   pub nodes : reading.nodes ≤ MAX_NODES
   pub arcs : reading.arcs ≤ MAX_ARCS
   pub come : reading.come ≤ reading.arcs
@@ -129,6 +130,10 @@ abbrev pub CountsArc : GrReading → GrReading → Result (Option ArcLine) FileF
 CountsArc old new (Ok (Some arc)) = new.come ≡ old.come + 1
 CountsArc old new (Ok None) = new.come ≡ old.come
 CountsArc old new (Err fault) = new.come ≡ old.come
+
+-- at most so many bytes were taken from a source, where it tells what was left before and what is left after
+abbrev pub TakesAtMost : ℕ → Option (List ℕ) → Option (List ℕ) → Type 0
+TakesAtMost most before after = IfSome before (λ bytes. IfSome after (λ rest. length bytes ≤ length rest + most))
 
 -- what a reading of a whole text answers where this is told of it
 abbrev pub ReadTells : Told → Result Contents FileFault → Type 0

@@ -1,6 +1,6 @@
 ghost use Rattle.std.specs.Prelude.{◌≡◌, ◌≢◌, ◌≤◌, ◌<◌, ◌^◌, ◌+◌, ◌↔◌, None, Some, Ok, Err, true, false, IfOk, IfNone, IfSome, IfErr, OnOk, OnSome, MatchResult};
 ghost use Rattle.std.specs.Result.{result_err};
-ghost use Rattle.line_text.specs.Reading.{InLimits, rest_of};
+ghost use Rattle.line_text.specs.Reading.{InLimits, LosesNone, rest_of};
 ghost use Rattle.gr_reader.specs.Grammar.{IsArc, form_of_arc};
 ghost use Rattle.gr_reader.specs.Steps.{FormTells, IsAccepted, range_kind};
 ghost use Rattle.gr_reader.specs.Table.{form_kind, in_range, said};
@@ -92,11 +92,14 @@ impl GrLines {
         ensures none_come { self.new.come ≡ 0 }
         ensures goes_on { self.new.whole ≡ false }
         ensures limits { self.new.lines.limits ≡ self.old.lines.limits }
+        ensures in_limits { InLimits self.new.lines }
 
-        // Where the source tells its bytes, the answer is that of the file's text.
+        // Where the source tells its bytes, the answer is that of the file's text, and no byte is lost.
         ensures tells { IfSome (rest_of self.old.lines (S.left source.old))
             (λ rest. BeginTells self.new.lines (told_of self.old.lines None 0 rest)
             (rest_of self.new.lines (S.left source.new)) result) }
+        ensures loses_none { LosesNone
+            self.old.lines self.new.lines (S.left source.old) (S.left source.new) }
 
         // The source's failures alone make a failed read.
         ensures cause { ReadHasCause (S.faults source.old) (S.faults source.new) result }
@@ -139,11 +142,14 @@ impl GrLines {
         ensures at_most { self.new.come ≤ self.new.arcs }
         ensures all_come { result ≡ Ok None → self.new.come ≡ self.new.arcs }
         ensures limits { self.new.lines.limits ≡ self.old.lines.limits }
+        ensures in_limits { InLimits self.new.lines }
 
-        // Where the source tells its bytes, the answer is that of the file's text.
+        // Where the source tells its bytes, the answer is that of the file's text, and no byte is lost.
         ensures tells { GoesOn self.old → IfSome (rest_of self.old.lines (S.left source.old))
             (λ rest. ArcTells self.new.lines (said self.old.nodes self.old.arcs) self.old.come
             (told_by self.old rest) (rest_of self.new.lines (S.left source.new)) result) }
+        ensures loses_none { LosesNone
+            self.old.lines self.new.lines (S.left source.old) (S.left source.new) }
 
         // The source's failures alone make a failed read.
         ensures cause { IfNone self.old.fault
@@ -172,16 +178,18 @@ fn read_sizes<S: Source>(lines: &mut Lines, source: &mut S) -> Result<(u32, u32)
     requires fits { lines.old.limits.total ≤ 2 ^ 63 }
     requires goes_on { lines.old.fault ≡ None }
 
-    // Where the source tells its bytes, the answer is that of the file's text.
+    // Where the source tells its bytes, the answer is that of the file's text, and no byte is lost.
     ensures tells { IfSome (rest_of lines.old (S.left source.old))
         (λ rest. BeginTells lines.new (told_of lines.old None 0 rest)
         (rest_of lines.new (S.left source.new)) result) }
+    ensures loses_none { LosesNone lines.old lines.new (S.left source.old) (S.left source.new) }
 
     // What holds over every source.
     ensures goes_on { OnOk result (lines.new.fault ≡ None) }
     ensures range { IfOk result (λ sizes. AreSizes sizes.0 sizes.1) }
     ensures takes_no_memory { result ≢ Err FileFault.OutOfMemory }
     ensures limits { lines.new.limits ≡ lines.old.limits }
+    ensures in_limits { InLimits lines.new }
 
     // The source's failures alone make a failed read.
     ensures cause { ReadHasCause (S.faults source.old) (S.faults source.new) result }
@@ -209,11 +217,12 @@ fn read_arc<S: Source>(
     requires goes_on { lines.old.fault ≡ None }
     requires nodes { nodes ≤ MAX_NODES }
 
-    // Where the source tells its bytes, the answer is that of the file's text.
+    // Where the source tells its bytes, the answer is that of the file's text, and no byte is lost.
     ensures tells { IfSome (rest_of lines.old (S.left source.old))
         (λ rest. ArcTells lines.new (said nodes arcs) come
         (told_of lines.old (said nodes arcs) come rest)
         (rest_of lines.new (S.left source.new)) result) }
+    ensures loses_none { LosesNone lines.old lines.new (S.left source.old) (S.left source.new) }
 
     // What holds over every source.
     ensures goes_on { OnOk result (lines.new.fault ≡ None) }
@@ -222,6 +231,7 @@ fn read_arc<S: Source>(
     ensures none_due { result ≡ Ok None → arcs ≤ come }
     ensures takes_no_memory { result ≢ Err FileFault.OutOfMemory }
     ensures limits { lines.new.limits ≡ lines.old.limits }
+    ensures in_limits { InLimits lines.new }
 
     // The source's failures alone make a failed read.
     ensures cause { ReadHasCause (S.faults source.old) (S.faults source.new) result }
@@ -243,15 +253,17 @@ fn next_form<S: Source>(lines: &mut Lines, source: &mut S) -> Result<Option<Form
     requires fits { lines.old.limits.total ≤ 2 ^ 63 }
     requires goes_on { lines.old.fault ≡ None }
 
-    // Where the source tells its bytes, the answer is that of the file's text.
+    // Where the source tells its bytes, the answer is that of the file's text, and no byte is lost.
     ensures tells { IfSome (rest_of lines.old (S.left source.old))
         (λ rest. FormTells lines.old lines.new rest
         (rest_of lines.new (S.left source.new)) result) }
+    ensures loses_none { LosesNone lines.old lines.new (S.left source.old) (S.left source.new) }
 
     // What holds over every source.
     ensures goes_on { OnOk result (lines.new.fault ≡ None) }
     ensures takes_no_memory { result ≢ Err FileFault.OutOfMemory }
     ensures limits { lines.new.limits ≡ lines.old.limits }
+    ensures in_limits { InLimits lines.new }
 
     // The source's failures alone make a failed read.
     ensures cause { ReadHasCause (S.faults source.old) (S.faults source.new) result }

@@ -1,5 +1,5 @@
-ghost use Rattle.std.specs.Prelude.{◌≡◌, ◌≤◌, ◌^◌, IfSome};
-ghost use Rattle.gr_reader.specs.Reader.{AcceptsFiles, IsSound, ReadHasCause, ReadTells, RefusesFaults};
+ghost use Rattle.std.specs.Prelude.{◌≡◌, ◌+◌, ◌≤◌, ◌^◌, IfSome};
+ghost use Rattle.gr_reader.specs.Reader.{AcceptsFiles, IsSound, ReadHasCause, ReadTells, RefusesFaults, TakesAtMost};
 ghost use Rattle.gr_reader.specs.Rest.{at_start, read_rest};
 
 use crate::fault::{FileFault, FileLimits};
@@ -25,6 +25,9 @@ pub fn read_gr<S: Source>(
     ensures accepts { IfSome (S.left source.old) (λ bytes. AcceptsFiles limits bytes result) }
     ensures refuses { IfSome (S.left source.old) (λ bytes. RefusesFaults limits bytes result) }
 
+    // Where the source tells its bytes before and after, at most one byte past the limit was taken.
+    ensures takes_at_most { TakesAtMost (limits.file + 1) (S.left source.old) (S.left source.new) }
+
     // The source's failures alone make a failed read.
     ensures cause { ReadHasCause (S.faults source.old) (S.faults source.new) result }
     ensures never_falls { S.faults source.old ≤ S.faults source.new }
@@ -44,6 +47,7 @@ fn read_arcs<S: Source>(
     requires file { limits.file ≤ 2 ^ 63 }
     ensures tells { IfSome (S.left source.old)
         (λ bytes. ReadTells (read_rest limits at_start bytes) result) }
+    ensures takes_at_most { TakesAtMost (limits.file + 1) (S.left source.old) (S.left source.new) }
     ensures cause { ReadHasCause (S.faults source.old) (S.faults source.new) result }
     ensures never_falls { S.faults source.old ≤ S.faults source.new }
     ensures files { S.files source.new ≡ S.files source.old }

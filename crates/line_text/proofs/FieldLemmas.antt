@@ -1,6 +1,7 @@
 -- A text and its first field.
-use Rattle.std.proofs.Common.{◌≡◌, ℕ, ◌+◌, ◌<◌, ◌≤◌, Bool, true, false, not, cond, List, [], ◌∷◌, ◌++◌, length, take, drop, get_or, refl, sym, ap, ◌∙◌, arith, filter, ⊎_elim, one-add, add-zero}
+use Rattle.std.proofs.Common.{◌≡◌, ℕ, ◌+◌, ◌<◌, ◌≤◌, Bool, true, false, not, cond, List, [], ◌∷◌, ◌++◌, length, take, drop, get_or, refl, sym, ap, ◌∙◌, arith, filter, ⊎_elim, one-add, add-zero, ltb, Some, None}
 use Rattle.std.specs.List.{slice_split, position_or_len, All, AllPass}
+use Rattle.std.specs.Option.{unwrap_or}
 use Rattle.std.proofs.lemmas.Bool.{cases_eq, cases_lt, false≢true, not-false}
 use Rattle.std.proofs.lemmas.Bool.Decides.{nat_tests}
 use Rattle.std.proofs.lemmas.List.{drop_more, take_all, drop_all, take-append-drop, length-take, length-drop, get_or-drop, get_or-take, nil_from_length}
@@ -8,6 +9,10 @@ use Rattle.std.proofs.lemmas.List.Elements.{All-from_get_or}
 use Rattle.std.proofs.lemmas.List.Splits.{slice_split_first, slice_split_none, slice_split-cons_yes}
 use Rattle.std.proofs.lemmas.List.Sums.{fails_before_first, passes_at_first}
 use Rattle.line_text.specs.Fields.{is_blank, is_filled, has_byte, fields_of, BeginsBlank, FirstField}
+
+-- the first place, where there is one, and otherwise the length
+pub place_or_len : (n len : ℕ) → n ≤ len → unwrap_or (cond (ltb n len) (Some n) None) len ≡ n
+place_or_len n len within = grind (arith, nat_tests)
 
 -- a blank in front of a text counts for nothing
 pub fields_of-blank : (byte : ℕ) (text : List ℕ) → is_blank byte ≡ true → fields_of (byte ∷ text) ≡ fields_of text

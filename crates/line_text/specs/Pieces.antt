@@ -15,10 +15,11 @@ pub record InPlace (size text_start text_end held_start held_end : ℕ) : Type 0
   pub held : held_start ≤ held_end
   pub held_within : held_end ≤ size
 
--- The counts are within the limits, and the line's limit leaves room in the buffer.
-pub record InBounds (limits : LineLimits) (text_len number passed : ℕ) : Type 0 where
+-- The counts are within the limits, at most one byte past the total was taken, and the line's limit leaves room in the buffer.
+pub record InBounds (limits : LineLimits) (text_len held_len number passed : ℕ) : Type 0 where
   pub counted : number ≤ passed
   pub within_total : passed ≤ limits.total
+  pub one_past : passed + held_len ≤ limits.total + 1
   pub within_line : text_len ≤ limits.line
   pub leaves_room : limits.line ≤ LONGEST_LINE
 

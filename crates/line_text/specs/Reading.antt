@@ -1,5 +1,5 @@
 -- What a reader of lines shows, and what the next line does to it.
-use Rattle.std.specs.Prelude.{◌≡◌, ◌+◌, ◌<◌, ◌≤◌, ℕ, Bool, true, false, List, [], ◌∷◌, length, Option, Some, None, Result, Ok, Err}
+use Rattle.std.specs.Prelude.{◌≡◌, ◌+◌, ◌<◌, ◌≤◌, ℕ, Bool, true, false, List, [], ◌∷◌, length, Option, Some, None, IfSome, IsSomeAnd, Result, Ok, Err}
 use Rattle.std.specs.Io.KnownBytes.{prepend_known}
 use Rattle.route_io.specs.Causes.{Rose}
 use Rattle.line_text.specs.declared.limits.LineFault.{LineFault}
@@ -37,11 +37,12 @@ begun limits = record {
 abbrev pub rest_of : Reading → Option (List ℕ) → Option (List ℕ)
 rest_of reading left = prepend_known reading.held left
 
--- The counts are within the limits: each line has a byte at least.
+-- The counts are within the limits: each line has a byte at least. At most one byte past the total was taken from the source.
 pub record InLimits (reading : Reading) : Type 0 where
   pub number : reading.number ≤ reading.passed
   pub passed : reading.passed ≤ reading.limits.total
   pub text : length reading.text ≤ reading.limits.line
+  pub one_past : reading.passed + length reading.held ≤ reading.limits.total + 1
 
 -- One more line is current. It takes a byte at least, and at most its text, a CR and an LF.
 pub record CountsLine (old new : Reading) : Type 0 where
@@ -49,6 +50,11 @@ pub record CountsLine (old new : Reading) : Type 0 where
   pub more : old.passed < new.passed
   pub holds_text : old.passed + length new.text ≤ new.passed
   pub at_most : new.passed ≤ old.passed + length new.text + 2
+
+-- No byte is lost: where it is told what is left to read, as many bytes as before are passed or left.
+abbrev pub LosesNone : Reading → Reading → Option (List ℕ) → Option (List ℕ) → Type 0
+LosesNone old new left_old left_new =
+    IfSome (rest_of old left_old) (λ rest. IsSomeAnd (rest_of new left_new) (λ more. new.passed + length more ≡ old.passed + length rest))
 
 -- There is no current line, and the counts stand.
 pub record CountsNone (old new : Reading) : Type 0 where

@@ -40,12 +40,8 @@ fn blank_len(text: &[u8]) -> usize
     ensures value { result ≡ position_or_len is_filled text.now }
     ensures within { result ≤ length text.now }
 {
-    for (i, byte) in text.iter().enumerate() {
-        if !is_blank(*byte) {
-            return i;
-        }
-    }
-    text.len()
+    let filled = text.iter().position(|byte| !is_blank(*byte));
+    filled.unwrap_or(text.len())
 }
 
 /// How many bytes other than blanks a text begins with.
@@ -53,14 +49,11 @@ fn filled_len(text: &[u8]) -> usize
     ensures value { result ≡ position_or_len is_blank text.now }
     ensures within { result ≤ length text.now }
 {
-    for (i, byte) in text.iter().enumerate() {
-        if is_blank(*byte) {
-            return i;
-        }
-    }
-    text.len()
+    let blank = text.iter().position(|byte| is_blank(*byte));
+    blank.unwrap_or(text.len())
 }
 
+/// Whether a byte is a space or a tab.
 fn is_blank(byte: u8) -> bool
     ensures { result ≡ is_blank byte }
 {

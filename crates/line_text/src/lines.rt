@@ -1,11 +1,11 @@
-ghost use Rattle.std.specs.Prelude.{◌≡◌, ◌≢◌, ◌↔◌, ◌+◌, ◌-◌, ◌<◌, ◌≤◌, ◌++◌, List, [], length, take, drop, false, true, Ok, Err, Some, IfOk, OnOk, OnErr, IfSome, IfNone, IsSome, IsTrue, MatchOption, slice_range};
+ghost use Rattle.std.specs.Prelude.{◌≡◌, ◌≢◌, ◌↔◌, ◌+◌, ◌-◌, ◌<◌, ◌≤◌, ◌++◌, List, [], length, take, drop, false, true, Ok, Err, Some, IfOk, OnOk, OnErr, IfSome, IfNone, IsSome, IsTrue, MatchOption, min, slice_range};
 ghost use Rattle.std.specs.Result.{result_err};
 ghost use Rattle.std.specs.Io.KnownBytes.{Keeps, Consumes, IsAtEnd};
 ghost use Rattle.route_io.specs.Causes.{HasCause};
 ghost use Rattle.line_text.specs.Lines.{first_lf, without_cr};
 ghost use Rattle.line_text.specs.Marks.{first_fault, line_fault};
 ghost use Rattle.line_text.specs.Pieces.{Advances, Grows, TakesHeld, past_line};
-ghost use Rattle.line_text.specs.Reading.{Reading, Counts, CountsNone, InLimits, ReadHasCause, Tells, begun, rest_of};
+ghost use Rattle.line_text.specs.Reading.{Reading, Counts, CountsNone, InLimits, LosesNone, ReadHasCause, Tells, begun, rest_of};
 
 use crate::{LineFault, LineLimits};
 use cost_vector::OutOfMemory;
@@ -18,7 +18,7 @@ use std::marker::Model;
 pub const LONGEST_LINE: u32 = 65_536;
 
 /// The size of the one buffer, twice the longest line: a line that is held in part always leaves room.
-pub const BUFFER_SIZE: usize = 131_072;
+pub const BUFFER_SIZE: usize = 2 * LONGEST_LINE as usize;
 
 /// Reads the lines of a source, which may give its bytes in any pieces.
 ///
@@ -57,7 +57,8 @@ impl Model for Lines {
 
     ghost invariant = { λ lines. (vec_len lines.buffer ≡ BUFFER_SIZE)
         × InPlace BUFFER_SIZE lines.text_start lines.text_end lines.held_start lines.held_end
-        × InBounds lines.limits (lines.text_end - lines.text_start) lines.number lines.passed
+        × InBounds lines.limits (lines.text_end - lines.text_start)
+        (lines.held_end - lines.held_start) lines.number lines.passed
         × (lines.fault ≢ Some OutOfMemory) };
 }
 
@@ -95,15 +96,17 @@ impl Lines {
         ensures keeps_fault { self.new.fault ≡ result_err result }
         ensures takes_no_memory { result ≢ Err LineFault.OutOfMemory }
 
-        // What holds over every source.
+        // What holds over every source, of which one byte past the total is taken at most.
         ensures counts { IfNone self.old.fault (Counts self.old self.new result) }
         ensures limits { self.new.limits ≡ self.old.limits }
         ensures in_limits { InLimits self.new }
         ensures in_the_buffer { length self.new.held ≤ BUFFER_SIZE }
 
-        // Where the source tells its bytes, the lines are those of what is left, in whatever pieces it comes.
+        // Where the source tells its bytes, the lines are those of what is left, in whatever pieces it comes, and no
+        // byte is lost.
         ensures lines { IfNone self.old.fault (IfSome (rest_of self.old (S.left source.old))
             (λ rest. Tells self.old self.new rest (rest_of self.new (S.left source.new)) result)) }
+        ensures loses_none { LosesNone self.old self.new (S.left source.old) (S.left source.new) }
 
         // The source's failures alone make a failed read.
         ensures cause { IfNone self.old.fault
@@ -244,9 +247,10 @@ impl Lines {
         self.passed += size as u64;
     }
 
-    /// Reads once behind the bytes that are held. False is the end of input.
+    /// Reads once behind the bytes that are held, and at most one byte past the total. False is the end of input.
     fn refill<S: Source>(&mut self, source: &mut S) -> Result<bool, Failed>
         requires room { length self.old.held ≤ LONGEST_LINE }
+        requires in_total { self.old.passed + length self.old.held ≤ self.old.limits.total }
         requires no_text { self.old.text ≡ [] }
         ensures stays { self.new ≡ record self.old { held = self.new.held } }
         ensures grows { Grows self.old.held self.new.held }
@@ -260,12 +264,23 @@ impl Lines {
         ensures files { S.files source.new ≡ S.files source.old }
     {
         let held = self.held_end - self.held_start;
+        let wanted = self.wanted();
         let start = make_room(self.buffer.as_mut_slice(), self.held_start, self.held_end);
         self.held_start = start;
         self.held_end = start + held;
-        let taken = read_behind(source, self.buffer.as_mut_slice(), start + held)?;
+        let taken = read_behind(source, self.buffer.as_mut_slice(), start + held, wanted)?;
         self.held_end = start + held + taken;
         Ok(taken > 0)
+    }
+
+    /// How many more bytes are of use: those up to one past the total, and no more than the buffer has.
+    fn wanted(&self) -> usize
+        requires in_total { self.now.passed + length self.now.held ≤ self.now.limits.total }
+        ensures { result
+            ≡ min (self.now.limits.total + 1 - (self.now.passed + length self.now.held)) BUFFER_SIZE }
+    {
+        let left = self.limits.total - self.passed - self.held().len() as u64;
+        left.saturating_add(1).min(BUFFER_SIZE as u64) as usize
     }
 }
 
@@ -311,10 +326,17 @@ fn make_room(buffer: &mut [u8], start: usize, end: usize) -> usize
     0
 }
 
-/// Reads once into what is free behind the first `filled` bytes.
-fn read_behind<S: Source>(source: &mut S, buffer: &mut [u8], filled: usize) -> Result<usize, Failed>
-    requires { filled < length buffer.old }
+/// Reads once into what is free behind the first `filled` bytes, and takes at most `most` bytes.
+fn read_behind<S: Source>(
+    source: &mut S,
+    buffer: &mut [u8],
+    filled: usize,
+    most: usize,
+) -> Result<usize, Failed>
+    requires room { filled < length buffer.old }
+    requires some { 0 < most }
     ensures within { IfOk result (λ taken. filled + taken ≤ length buffer.new) }
+    ensures at_most { IfOk result (λ taken. taken ≤ most) }
     ensures front { take filled buffer.new ≡ take filled buffer.old }
     ensures bytes { IfOk result (λ taken. Consumes
         (S.left source.old) (S.left source.new) (slice_range buffer.new filled (filled + taken))) }
@@ -323,5 +345,6 @@ fn read_behind<S: Source>(source: &mut S, buffer: &mut [u8], filled: usize) -> R
     ensures cause { HasCause (S.faults source.old) (S.faults source.new) result }
     ensures files { S.files source.new ≡ S.files source.old }
 {
-    source.read(&mut buffer[filled..])
+    let free = (buffer.len() - filled).min(most);
+    source.read(&mut buffer[filled..filled + free])
 }

@@ -9,8 +9,11 @@ use route_io::{Sink, WriteFault, put_all};
 /// How a text reads as a number.
 #[derive(Clone, Copy, Debug, PartialEq, Eq)]
 pub enum Numeral {
+    /// It is empty, or not all of it is ASCII digits.
     NotDigits,
+    /// The digits write more than the greatest number that was asked for.
     Above,
+    /// The number that the digits write.
     Value(u64),
 }
 

@@ -8,21 +8,24 @@ use route_io::{Failed, Source};
 use std::alloc::{AllocError, Global};
 use std::test::Fail;
 
-/// Gives a text in pieces of one length, and fails once `fails_at` bytes are left.
+/// Gives a text in pieces of one length, counts what it gives, and fails once `fails_at` bytes are left.
 #[derive(Drop)]
 struct Pieces<'a> {
     text: &'a [u8],
     length: usize,
     fails_at: usize,
+    given: usize,
     faults: u64,
 }
 
 impl<'a> Pieces<'a> {
+    /// Gives a text in pieces of this length, and never fails.
     fn new(text: &'a [u8], length: usize) -> Pieces<'a> {
         Pieces {
             text,
             length,
             fails_at: usize::MAX,
+            given: 0,
             faults: 0,
         }
     }
@@ -44,6 +47,7 @@ impl Source for Pieces<'_> {
         let (front, rest) = self.text.split_at(count);
         buf[..count].copy_from_slice(front);
         self.text = rest;
+        self.given = self.given.saturating_add(count);
         Ok(count)
     }
 }
@@ -77,6 +81,7 @@ fn shown(alloc: Global, source: &mut Pieces, limits: LineLimits) -> Result<Vec<u
     Ok(shown)
 }
 
+/// The limits of a line and of the whole input.
 fn limits(line: u32, total: u64) -> LineLimits
     ensures { result.line ≡ line }
 {
@@ -129,6 +134,19 @@ fn lines_cross_the_buffers_end(rt: HostRuntime) -> Result<(), Fail> {
         }
         assert_eq!(rt; lines.next_line(&mut source), Ok(false));
         assert_eq!(rt; lines.number(), 5);
+    }
+    Ok(())
+}
+
+#[test]
+fn at_most_one_byte_past_the_total_is_taken(rt: HostRuntime) -> Result<(), Fail> {
+    let text = b"12345678\n12345678\n12345678\n";
+    for length in [1, 4, 100] {
+        for (total, given) in [(0, 1), (8, 9), (9, 10), (26, 27), (27, 27), (u64::MAX, 27)] {
+            let mut source = Pieces::new(text, length);
+            shown(rt.alloc(), &mut source, limits(8, total))?;
+            assert_eq!(rt; source.given, given);
+        }
     }
     Ok(())
 }

@@ -1,5 +1,5 @@
 use Rattle.std.proofs.Common.{◌≡◌, ◌-◌, None, IfSome, IsSomeAnd}
-use Rattle.line_text.specs.Reading.{rest_of}
+use Rattle.line_text.specs.Reading.{LosesNone, rest_of}
 use Rattle.gr_reader.specs.Steps.{Skips}
 use Rattle.gr_reader.proofs.gr_lines.next_form.Given as goal
 
@@ -7,6 +7,7 @@ abbrev pub invariant-lines : goal.invariant-lines
 invariant-lines g l = record {
   limits : l.lines.limits ≡ l.initial.lines.limits;
   goes_on : l.lines.fault ≡ None;
+  loses_none : LosesNone l.initial.lines l.lines (g.S.Source.left l.initial.source) (g.S.Source.left l.source);
   count : g.S.Source.faults l.source ≡ g.S.Source.faults l.initial.source;
   files : g.S.Source.files l.source ≡ g.S.Source.files l.initial.source;
   skips : IfSome (rest_of l.initial.lines (g.S.Source.left l.initial.source))

@@ -1,8 +1,10 @@
-use Rattle.std.proofs.Common.{◌≡◌, ◌++◌, ◌∷◌, [], length, rules, Ok, Err, ap, arith}
+use Rattle.std.proofs.Common.{◌≡◌, ◌++◌, ◌∷◌, [], length, rules, Ok, Err, ap, ◌∙◌, arith}
 use Rattle.std.proofs.lemmas.List.{length_push}
 use Rattle.std.proofs.lemmas.Result.{err_from_is_err_and}
 use Rattle.line_text.specs.Reading.{rest_of}
-use Rattle.gr_reader.specs.Reader.{BeginTells}
+use Rattle.gr_reader.specs.Reader.{BeginTells, unread}
+use Rattle.gr_reader.specs.Table.{line_limits}
+use Rattle.gr_reader.proofs.Taking.{loses_none-joined, takes_at_most, takes_at_most_then}
 use Rattle.gr_reader.proofs.Finding.{joined}
 use Rattle.gr_reader.proofs.Collecting.{of_start, begins_badly, collects_none, collects_more}
 use Rattle.gr_reader.proofs.read.read_arcs.Goals as goal
@@ -28,6 +30,8 @@ loop-file-init g c =
       nodes = search rules;
       come = search rules;
       arcs = search rules;
+      limits = c.in_ok-nodes.ensures.limits ∙ ap (λ gr. gr.lines.limits) c.in_ok-lines.ensures;
+      loses_none = rw c.in_ok-lines.ensures at c.in_ok-nodes.ensures.loses_none;
       count = search rules;
       files = search rules;
       tells = of_start c.args.limits c.in_ok-lines.lines (g.S.Source.left c.args.source.now)
@@ -48,9 +52,32 @@ loop-file-preserved g c =
       nodes = search rules;
       come = omega (arith, ap length pushed, length_push c.loop-file.file.arcs c.in-Some.arc, counts, c.loop-file.invariant.come);
       arcs = search rules;
+      limits = search rules;
+      loses_none = loses_none-joined (unread c.args.limits).lines c.loop-file.lines.lines c.next_arc.new.self.lines _ _ _
+          c.loop-file.invariant.loses_none c.in_ok-arc.ensures.loses_none;
       count = search rules;
       files = search rules;
       tells = joined (g.S.Source.left c.args.source.now) _ _ c.loop-file.invariant.tells tells
           (λ bytes rest collects told. collects_more _ c.loop-file.lines c.next_arc.new.self c.in-Some.arc rest _ c.loop-file.file.arcs
           c.push.new.self.arcs c.in_ok-arc.ensures.nodes c.in_ok-arc.ensures.arcs counts pushed collects told);
     }
+
+pub returns-in_err-nodes-clause-takes_at_most : goal.returns-in_err-nodes-clause-takes_at_most
+returns-in_err-nodes-clause-takes_at_most g c =
+    takes_at_most (line_limits c.args.limits) c.begin.new.self.lines _ _ (rw c.in_ok-lines.ensures at c.in_err-nodes.ensures.loses_none)
+    (c.in_err-nodes.ensures.limits ∙ ap (λ gr. gr.lines.limits) c.in_ok-lines.ensures) c.in_err-nodes.ensures.in_limits
+
+pub returns-in_err-arc-clause-takes_at_most : goal.returns-in_err-arc-clause-takes_at_most
+returns-in_err-arc-clause-takes_at_most g c =
+    takes_at_most_then (line_limits c.args.limits) c.loop-file.lines.lines c.next_arc.new.self.lines _ _ _ c.loop-file.invariant.loses_none
+    c.loop-file.invariant.limits c.in_err-arc.ensures.loses_none c.in_err-arc.ensures.limits c.in_err-arc.ensures.in_limits
+
+pub returns-in_err-push-clause-takes_at_most : goal.returns-in_err-push-clause-takes_at_most
+returns-in_err-push-clause-takes_at_most g c =
+    takes_at_most_then (line_limits c.args.limits) c.loop-file.lines.lines c.next_arc.new.self.lines _ _ _ c.loop-file.invariant.loses_none
+    c.loop-file.invariant.limits c.in_ok-arc.ensures.loses_none c.in_ok-arc.ensures.limits c.in_ok-arc.ensures.in_limits
+
+pub returns-clause-takes_at_most : goal.returns-clause-takes_at_most
+returns-clause-takes_at_most g c =
+    takes_at_most_then (line_limits c.args.limits) c.loop-file.lines.lines c.next_arc.new.self.lines _ _ _ c.loop-file.invariant.loses_none
+    c.loop-file.invariant.limits c.in_ok-arc.ensures.loses_none c.in_ok-arc.ensures.limits c.in_ok-arc.ensures.in_limits

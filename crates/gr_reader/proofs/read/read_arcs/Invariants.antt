@@ -1,7 +1,8 @@
 use Rattle.std.proofs.Common.{◌≡◌, ◌≤◌, ◌-◌, ◌^◌, length, true, false, None, IfSome, IsSomeAnd}
 use Rattle.arc_graph.specs.declared.file.TheConstants.{MAX_ARCS}
-use Rattle.line_text.specs.Reading.{rest_of}
-use Rattle.gr_reader.specs.Reader.{told_by}
+use Rattle.line_text.specs.Reading.{LosesNone, rest_of}
+use Rattle.gr_reader.specs.Reader.{told_by, unread}
+use Rattle.gr_reader.specs.Table.{line_limits}
 use Rattle.gr_reader.specs.Rest.{at_start, read_rest}
 use Rattle.gr_reader.proofs.Collecting.{Collects}
 use Rattle.gr_reader.proofs.read.read_arcs.Given as goal
@@ -14,6 +15,8 @@ invariant-loop-file g l = record {
   nodes : l.lines.nodes ≡ l.file.nodes;
   come : length l.file.arcs ≡ l.lines.come;
   arcs : l.lines.arcs ≤ MAX_ARCS;
+  limits : l.lines.lines.limits ≡ line_limits l.fn.limits;
+  loses_none : LosesNone (unread l.fn.limits).lines l.lines.lines (g.S.Source.left l.fn.source) (g.S.Source.left l.source);
   count : g.S.Source.faults l.source ≡ g.S.Source.faults l.fn.source;
   files : g.S.Source.files l.source ≡ g.S.Source.files l.fn.source;
   tells : IfSome (g.S.Source.left l.fn.source)

@@ -93,17 +93,33 @@ fn run(
     folder: &mut Pieces,
     out_fails: Vec<u64>,
 ) -> Result<Finished, AllocError> {
+    let err = MemorySink::new(alloc, u64::MAX, Vec::new(alloc));
+    run_noting(alloc, words, folder, out_fails, err)
+}
+
+/// Runs the words over a folder, with `out` failing at these calls, and with this `err`.
+fn run_noting(
+    alloc: Global,
+    words: &str,
+    folder: &mut Pieces,
+    out_fails: Vec<u64>,
+    mut err: MemorySink,
+) -> Result<Finished, AllocError> {
     let words = words_of(alloc, words)?;
     let mut out = MemorySink::new(alloc, u64::MAX, out_fails);
-    let mut err = MemorySink::new(alloc, u64::MAX, Vec::new(alloc));
     let status = route(alloc, &words, folder, &mut out, &mut err);
     Ok(Finished { status, out, err })
 }
 
 fn assert_row(rt: &impl Abort, row: &Row, done: &Finished) {
+    assert_noted(rt, row, row.err.as_bytes(), done);
+}
+
+/// The run is that of the row, but `err` took this.
+fn assert_noted(rt: &impl Abort, row: &Row, note: &[u8], done: &Finished) {
     let words = row.words;
     assert_eq!(rt; done.out.sent(), row.out.as_bytes(), "out of {words:?}");
-    assert_eq!(rt; done.err.sent(), row.err.as_bytes(), "err of {words:?}");
+    assert_eq!(rt; done.err.sent(), note, "err of {words:?}");
     assert_eq!(rt; done.status, row.status, "status of {words:?}");
 }
 
@@ -213,12 +229,11 @@ fn each_failing_call_of_the_folder_is_told(rt: HostRuntime) -> Result<(), Fail> 
             break;
         }
         failed = call + 1;
+        let name = if call < 3 { "A.gr" } else { "B.gr" };
+        let want = format!(in alloc; "route: folder {name}\n")?;
         assert_eq!(rt; done.status, 3, "call {call}");
         assert_eq!(rt; done.out.sent(), b"".as_slice(), "call {call}");
-        assert!(rt;
-            done.err.sent().starts_with(b"route: folder "),
-            "call {call}"
-        );
+        assert_eq!(rt; done.err.sent(), want.as_bytes(), "call {call}");
     }
     assert_eq!(rt;
         failed,
@@ -236,5 +251,35 @@ fn a_failing_out_is_told(rt: HostRuntime) -> Result<(), Fail> {
     assert_eq!(rt; done.status, 4);
     assert_eq!(rt; done.out.sent(), b"".as_slice());
     assert_eq!(rt; done.err.sent(), b"route: out\n".as_slice());
+    Ok(())
+}
+
+#[test]
+fn a_full_err_cuts_the_note_alone(rt: HostRuntime) -> Result<(), Fail> {
+    let alloc = rt.alloc();
+    for row in rows::ROWS {
+        for bound in [0, 9, 16] {
+            let mut folder = folder_of(alloc, row.files, Vec::new(alloc))?;
+            let err = MemorySink::new(alloc, bound as u64, Vec::new(alloc));
+            let done = run_noting(alloc, row.words, &mut folder, Vec::new(alloc), err)?;
+            let note = row.err.as_bytes();
+            assert_noted(&rt, row, &note[..bound.min(note.len())], &done);
+        }
+    }
+    Ok(())
+}
+
+#[test]
+fn a_failing_err_cuts_the_note_alone(rt: HostRuntime) -> Result<(), Fail> {
+    let alloc = rt.alloc();
+    for (call, note) in [(0u64, ""), (1, "route: folder "), (2, "route: folder N.gr")] {
+        let mut folder = folder_of(alloc, rows::SIX_ARCS, Vec::new(alloc))?;
+        let err = MemorySink::new(alloc, u64::MAX, vec![in alloc; call]?);
+        let words = "check A.gr N.gr";
+        let done = run_noting(alloc, words, &mut folder, Vec::new(alloc), err)?;
+        assert_eq!(rt; done.status, 3, "call {call}");
+        assert_eq!(rt; done.out.sent(), b"".as_slice(), "call {call}");
+        assert_eq!(rt; done.err.sent(), note.as_bytes(), "call {call}");
+    }
     Ok(())
 }

@@ -12,7 +12,7 @@ pub data Outcome : Type 0 where
   done : Outcome
   -- the words are no command's words
   bad_words : Outcome
-  -- the folder failed while this file was selected or read
+  -- the folder failed; the note names this file
   folder_failed : List ℕ → Outcome
   -- the sink of replies failed
   out_failed : Outcome

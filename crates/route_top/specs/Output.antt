@@ -4,7 +4,7 @@ use Rattle.route_io.specs.Files.{FileMap}
 use Rattle.command_words.specs.Words.{Asked, Asks, AreWords, check, costs, files_of}
 use Rattle.route_top.specs.Check.{CheckEnd}
 use Rattle.route_top.specs.Costs.{CostsEnd}
-use Rattle.route_top.specs.Outcome.{Outcome, bad_words, out_failed, no_memory, status_of, note_of}
+use Rattle.route_top.specs.Outcome.{Outcome, done, bad_words, folder_failed, out_failed, bad_file, bad_files, refused, no_memory, status_of, note_of}
 
 -- some words ask for this
 abbrev pub IsAsked : Asked → Type 0
@@ -61,9 +61,34 @@ Whole words file_of outcome text = BadWords words outcome text ⊎ Done words fi
 abbrev pub TookNote : (List ℕ → Type 0) → Type 0 → List ℕ → Type 0
 TookNote Took SinkFailed note = Took note ⊎ (SinkFailed × ((size : ℕ) × (size < length note) × Took (take size note)))
 
--- The status is that of an end, and the note is that of the same one.
-pub record StatusAndNote (ErrTook : List ℕ → Type 0) (ErrFailed : Type 0) (status : ℕ) : Type 0 where
+-- a run that its words, the folder or the files end sends nothing
+abbrev pub NothingSent : (List ℕ → Type 0) → Outcome → Type 0
+NothingSent OutTook bad_words = OutTook []
+NothingSent OutTook (folder_failed name) = OutTook []
+NothingSent OutTook (bad_file name line kind) = OutTook []
+NothingSent OutTook (bad_files fault) = OutTook []
+NothingSent OutTook done = Unit {0}
+NothingSent OutTook refused = Unit {0}
+NothingSent OutTook out_failed = Unit {0}
+NothingSent OutTook no_memory = Unit {0}
+
+-- where a run ends at a file, its name is one of these
+abbrev pub NamesOneOf : (List ℕ → Type 0) → Outcome → Type 0
+NamesOneOf IsOne (folder_failed name) = IsOne name
+NamesOneOf IsOne (bad_file name line kind) = IsOne name
+NamesOneOf IsOne bad_words = Unit {0}
+NamesOneOf IsOne (bad_files fault) = Unit {0}
+NamesOneOf IsOne done = Unit {0}
+NamesOneOf IsOne refused = Unit {0}
+NamesOneOf IsOne out_failed = Unit {0}
+NamesOneOf IsOne no_memory = Unit {0}
+
+-- The status, the note, the file that it names and what wasn't sent are those of one end.
+pub record StatusAndNote (words : List (List ℕ)) (OutTook : List ℕ → Type 0) (ErrTook : List ℕ → Type 0) (ErrFailed : Type 0)
+    (status : ℕ) : Type 0 where
   pub outcome : Outcome
+  pub nothing_sent : NothingSent OutTook outcome
+  pub named : NamesOneOf (IsAskedName words) outcome
   pub note : TookNote ErrTook ErrFailed (note_of outcome)
   pub status_is : status ≡ status_of outcome
 

@@ -1,9 +1,9 @@
 //! The command `check`.
-ghost use Rattle.std.specs.Prelude.{◌≡◌, ◌≤◌, ◌++◌, length, map, codes, IfErr, IfSome, All, vec_len};
+ghost use Rattle.std.specs.Prelude.{◌≡◌, ◌≤◌, ◌++◌, length, map, codes, IfErr, IfSome, All, Contains, vec_len};
 ghost use Rattle.std.specs.Io.KnownBytes.{Appends};
 ghost use Rattle.route_io.specs.Causes.{Rose};
 ghost use Rattle.route_top.specs.Check.{CheckEnd};
-ghost use Rattle.route_top.specs.Output.{RunSends};
+ghost use Rattle.route_top.specs.Output.{NamesOneOf, NothingSent, RunSends};
 ghost use Rattle.route_top.specs.Stops.{FolderHasCause, IsWordless, OutHasCause, run_outcome};
 
 use crate::network::read_network;
@@ -28,6 +28,8 @@ pub(crate) fn run<'a, F: Folder, K: Sink>(
         RunSends (CheckEnd file_of (map (λ s. s.now) asked.now.files.items))
         (Appends (K.sent out.old) (K.sent out.new))
         (Rose (K.wants out.old) (K.wants out.new)) (run_outcome result)) }
+    ensures nothing_sent { NothingSent (Appends (K.sent out.old) (K.sent out.new)) (run_outcome result) }
+    ensures named { NamesOneOf (Contains (map (λ s. s.now) asked.now.files.items)) (run_outcome result) }
     ensures folder { FolderHasCause (F.faults folder.old) (F.faults folder.new) result }
     ensures out { OutHasCause (K.faults out.old) (K.faults out.new) result }
     ensures files { F.files folder.new ≡ F.files folder.old }

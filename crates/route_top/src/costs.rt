@@ -1,5 +1,5 @@
 //! The command `costs`.
-ghost use Rattle.std.specs.Prelude.{◌≡◌, ◌≤◌, [], false, length, Ok, IfOk, OnOk, IfErr, IfSome, IsOk, All, vec_len};
+ghost use Rattle.std.specs.Prelude.{◌≡◌, ◌≤◌, [], false, length, Ok, IfOk, OnOk, IfErr, IfSome, IsOk, All, Contains, vec_len};
 ghost use Rattle.std.specs.Io.KnownBytes.{Appends};
 ghost use Rattle.cost_vector.specs.Costs.{no_limit};
 ghost use Rattle.arc_graph.specs.Graph.{Match, network};
@@ -7,7 +7,7 @@ ghost use Rattle.plain_search.specs.declared.query.TheConstants.{MAX_BUDGET};
 ghost use Rattle.command_words.specs.Words.{costs_asked, query_asked};
 ghost use Rattle.route_io.specs.Causes.{Rose};
 ghost use Rattle.route_top.specs.Costs.{CostsEnd, Replies};
-ghost use Rattle.route_top.specs.Output.{RunSends};
+ghost use Rattle.route_top.specs.Output.{NamesOneOf, NothingSent, RunSends};
 ghost use Rattle.route_top.specs.Texts.{refusal};
 ghost use Rattle.route_top.specs.Stops.{FolderHasCause, IsWordless, OutHasCause, run_outcome};
 
@@ -37,6 +37,8 @@ pub(crate) fn run<'a, F: Folder, K: Sink>(
     ensures output { IfSome (F.files folder.old) (λ file_of.
         RunSends (CostsEnd file_of (costs_asked asked.now)) (Appends (K.sent out.old) (K.sent out.new))
         (Rose (K.wants out.old) (K.wants out.new)) (run_outcome result)) }
+    ensures nothing_sent { NothingSent (Appends (K.sent out.old) (K.sent out.new)) (run_outcome result) }
+    ensures named { NamesOneOf (Contains (costs_asked asked.now).files) (run_outcome result) }
     ensures folder { FolderHasCause (F.faults folder.old) (F.faults folder.new) result }
     ensures out { OutHasCause (K.faults out.old) (K.faults out.new) result }
     ensures files { F.files folder.new ≡ F.files folder.old }

@@ -1,11 +1,11 @@
 //! The top call: it does all that the program does, from the words of the command line to the exit status.
 #![tactic(auto)]
 
-ghost use Rattle.std.specs.Prelude.{◌≡◌, ◌<◌, ◌⊎◌, ℕ, List, Err, All, IfErr, IfSome};
+ghost use Rattle.std.specs.Prelude.{◌≡◌, ◌<◌, ◌⊎◌, ℕ, List, Err, All, Contains, IfErr, IfSome};
 ghost use Rattle.std.specs.Io.KnownBytes.{Appends};
 ghost use Rattle.route_io.specs.Causes.{Rose};
 ghost use Rattle.command_words.specs.Words.{AreWords, asked_of, files_of, texts_of};
-ghost use Rattle.route_top.specs.Output.{Ends, IsAsked, IsAskedName, Output, RunSends, StatusAndNote, Whole};
+ghost use Rattle.route_top.specs.Output.{Ends, IsAsked, IsAskedName, NamesOneOf, NothingSent, Output, RunSends, StatusAndNote, Whole};
 ghost use Rattle.route_top.specs.Stops.{FolderHasCause, IsWordless, OutHasCause, run_outcome};
 
 mod check;
@@ -47,13 +47,15 @@ pub fn route<F: Folder, K: Sink, E: Sink>(
 ) -> u8
     requires { (name : List ℕ) → IsAskedName (texts_of words.now) name → F.admits name }
 
-    // The words and the files that the folder tells say what is sent, and how the run ends. The status and the note are
-    // those of one end, also over a folder that tells nothing.
+    // The words and the files that the folder tells say what is sent, and how the run ends. Also over a folder that tells
+    // nothing the status and the note are those of one end, which sends nothing before all files are read and agree, and
+    // the note names only a file that the words ask for.
     ensures output { IfSome (F.files folder.old) (λ file_of. Output (texts_of words.now) file_of
         (Appends (K.sent out.old) (K.sent out.new)) (Rose (K.wants out.old) (K.wants out.new))
         (Appends (E.sent err.old) (E.sent err.new))
         (Rose (E.faults err.old) (E.faults err.new) ⊎ Rose (E.wants err.old) (E.wants err.new)) result) }
-    ensures status_and_note { StatusAndNote (Appends (E.sent err.old) (E.sent err.new))
+    ensures status_and_note { StatusAndNote (texts_of words.now) (Appends (K.sent out.old) (K.sent out.new))
+        (Appends (E.sent err.old) (E.sent err.new))
         (Rose (E.faults err.old) (E.faults err.new) ⊎ Rose (E.wants err.old) (E.wants err.new)) result }
 
     // The words alone make status 2, unless memory runs out.
@@ -89,6 +91,8 @@ fn run<'a, F: Folder, K: Sink>(
     ensures output { IfSome (F.files folder.old) (λ file_of.
         RunSends (Whole (texts_of words.entry.now) file_of) (Appends (K.sent out.old) (K.sent out.new))
         (Rose (K.wants out.old) (K.wants out.new)) (run_outcome result)) }
+    ensures nothing_sent { NothingSent (Appends (K.sent out.old) (K.sent out.new)) (run_outcome result) }
+    ensures named { NamesOneOf (IsAskedName (texts_of words.entry.now)) (run_outcome result) }
     ensures folder { FolderHasCause (F.faults folder.old) (F.faults folder.new) result }
     ensures out { OutHasCause (K.faults out.old) (K.faults out.new) result }
     ensures files { F.files folder.new ≡ F.files folder.old }
@@ -113,6 +117,8 @@ fn carry_out<'a, F: Folder, K: Sink>(
     ensures output { IfSome (F.files folder.old) (λ file_of.
         RunSends (Ends file_of (asked_of command.now)) (Appends (K.sent out.old) (K.sent out.new))
         (Rose (K.wants out.old) (K.wants out.new)) (run_outcome result)) }
+    ensures nothing_sent { NothingSent (Appends (K.sent out.old) (K.sent out.new)) (run_outcome result) }
+    ensures named { NamesOneOf (Contains (files_of (asked_of command.now))) (run_outcome result) }
     ensures folder { FolderHasCause (F.faults folder.old) (F.faults folder.new) result }
     ensures out { OutHasCause (K.faults out.old) (K.faults out.new) result }
     ensures files { F.files folder.new ≡ F.files folder.old }

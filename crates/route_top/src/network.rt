@@ -1,12 +1,13 @@
 //! Reads the named files and joins them.
-ghost use Rattle.std.specs.Prelude.{◌≡◌, ◌≤◌, ◌<◌, ◌+◌, List, length, IfOk, IfErr, IfSome, OnOk, All, Err, map};
+ghost use Rattle.std.specs.Prelude.{◌≡◌, ◌≤◌, ◌<◌, ◌+◌, List, length, IfOk, IfErr, IfSome, OnOk, All, Contains, Err, map};
 ghost use Rattle.route_io.specs.Causes.{HasCause};
 ghost use Rattle.arc_graph.specs.Files.{Contents};
 ghost use Rattle.arc_graph.specs.Graph.{Match};
 ghost use Rattle.arc_graph.specs.StandsFor.{StandsFor};
 ghost use Rattle.gr_reader.specs.Reader.{ReadHasCause};
 ghost use Rattle.route_top.specs.Reading.{FileAdded, FileRead, NetworkRead};
-ghost use Rattle.route_top.specs.Stops.{FolderHasCause, IsFileStop};
+ghost use Rattle.route_top.specs.Output.{NamesOneOf};
+ghost use Rattle.route_top.specs.Stops.{FolderHasCause, IsFileStop, run_outcome};
 
 use crate::GREATEST_FILE;
 use crate::stop::Stop;
@@ -35,6 +36,7 @@ pub(crate) fn read_network<'a, F: Folder>(
     ensures matched { IfOk result (λ r. Match r.0 r.1) }
     ensures read { IfSome (F.files folder.old)
         (λ file_of. NetworkRead file_of (map (λ name. name.now) names.now) result) }
+    ensures named { NamesOneOf (Contains (map (λ name. name.now) names.now)) (run_outcome result) }
     ensures stops { IfErr result IsFileStop }
     ensures cause { FolderHasCause (F.faults folder.old) (F.faults folder.new) result }
     ensures files { F.files folder.new ≡ F.files folder.old }
@@ -64,6 +66,7 @@ fn read_file<'a, F: Folder>(
     ensures whole { OnOk result (joiner.new.come ≡ joiner.new.due_arcs) }
     ensures read { (files : List Contents) → StandsFor joiner.old files → IfSome (F.files folder.old)
         (λ file_of. FileRead file_of name.now files joiner.new result) }
+    ensures named { NamesOneOf (λ told. told ≡ name.now) (run_outcome result) }
     ensures stops { IfErr result IsFileStop }
     ensures cause { FolderHasCause (F.faults folder.old) (F.faults folder.new) result }
     ensures files { F.files folder.new ≡ F.files folder.old }

@@ -14,7 +14,7 @@ use route_io::{Sink, WriteFault};
 #[derive(Clone, Copy, Debug)]
 pub(crate) enum Stop<'a> {
     Words,
-    /// The folder failed while this file was selected or read.
+    /// The folder failed; the note names this file.
     Folder {
         name: &'a str,
     },

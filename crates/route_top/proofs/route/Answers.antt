@@ -9,7 +9,7 @@ pub returns-in-Ok-clause-output : goal.returns-in-Ok-clause-output
 returns-in-Ok-clause-output g c = output_of _ _ _ _ _ _ done _ (inl (appends_nothing _)) refl c.in-Ok.ensures.output
 
 pub returns-in-Ok-clause-status_and_note : goal.returns-in-Ok-clause-status_and_note
-returns-in-Ok-clause-status_and_note g c = record { outcome = done; note = inl (appends_nothing _); status_is = refl }
+returns-in-Ok-clause-status_and_note g c = record { outcome = done; nothing_sent = tt; named = tt; note = inl (appends_nothing _); status_is = refl }
 
 pub returns-in-Err-clause-output : goal.returns-in-Err-clause-output
 returns-in-Err-clause-output g c =
@@ -19,6 +19,8 @@ returns-in-Err-clause-output g c =
 pub returns-in-Err-clause-status_and_note : goal.returns-in-Err-clause-status_and_note
 returns-in-Err-clause-status_and_note g c = record {
   outcome = outcome_of c.in-Err.stop;
+  nothing_sent = c.in-Err.ensures.nothing_sent;
+  named = c.in-Err.ensures.named;
   note = took_note _ _ _ _ _ _ _ _ c.note.ensures.bytes c.note.ensures.cause;
   status_is = c.status.ensures;
 }

@@ -2,9 +2,11 @@ use Rattle.std.proofs.Common.{map, ap}
 use Rattle.std.proofs.lemmas.Option.{IfSome_then}
 use Rattle.std.proofs.lemmas.Result.{err_from_is_err_and}
 use Rattle.route_top.proofs.Admitting.{each_admitted}
+use Rattle.route_top.proofs.Ending.{names_same, nothing_sent}
 use Rattle.route_top.proofs.Running.{answered, at_some, cut_by_want, cut_short, sends_nothing, stopped}
 use Rattle.command_words.specs.Words.{query_asked}
 use Rattle.route_top.specs.Costs.{Replies}
+use Rattle.route_top.specs.Stops.{outcome_of}
 use Rattle.route_top.proofs.costs.run.Goals as goal
 
 pub read_network-requires-clause-admitted : goal.read_network-requires-clause-admitted
@@ -20,6 +22,14 @@ pub returns-in_err-answered-clause-output : goal.returns-in_err-answered-clause-
 returns-in_err-answered-clause-output g c =
     let p = err_from_is_err_and c.from_residual-in_err-answered.result c.from_residual-in_err-answered.ensures.1 in
     rw (p.1, p.2) (at_some _ _ (λ file_of. sends_nothing _ _ _))
+
+pub returns-in_err-graph-clause-nothing_sent : goal.returns-in_err-graph-clause-nothing_sent
+returns-in_err-graph-clause-nothing_sent g c = nothing_sent _ _
+
+pub returns-in_err-graph-clause-named : goal.returns-in_err-graph-clause-named
+returns-in_err-graph-clause-named g c =
+    let p = err_from_is_err_and c.from_residual.result c.from_residual.ensures.1 in
+    rw (p.1, p.2) (names_same _ _ (ap (map (λ s. s.now)) c.deref.ensures.value) (outcome_of c.in_err-graph.field-0.0) c.in_err-graph.ensures.named)
 
 pub returns-in-Ok-clause-output : goal.returns-in-Ok-clause-output
 returns-in-Ok-clause-output g c =

@@ -1,6 +1,8 @@
 use Rattle.std.proofs.Common.{rules}
 use Rattle.std.proofs.lemmas.Result.{err_from_is_err_and}
+use Rattle.route_top.proofs.Ending.{names_item}
 use Rattle.route_top.proofs.ReadingFiles.{reads_more, stopped, all_read}
+use Rattle.route_top.specs.Stops.{outcome_of}
 use Rattle.route_top.proofs.network.read_network.Goals as goal
 
 pub loop-name-preserved : goal.loop-name-preserved
@@ -24,6 +26,12 @@ returns-in_err-read_file-clause-read g c =
     rw (p.1, p.2)
     (stopped _ c.args.names.now c.loop-name.name-index _ c.loop-name-test.true known files c.loop-name.joiner c.in_err-read_file.field-0.0
     c.loop-name.invariant.files c.loop-name.invariant.read c.in_err-read_file.ensures.read)
+
+pub returns-in_err-read_file-clause-named : goal.returns-in_err-read_file-clause-named
+returns-in_err-read_file-clause-named g c =
+    let p = err_from_is_err_and c.from_residual.result c.from_residual.ensures.1 in
+    rw (p.1, p.2) (names_item (λ s. s.now) c.args.names.now c.loop-name.name-index _ c.loop-name-test.true
+    (outcome_of c.in_err-read_file.field-0.0) c.in_err-read_file.ensures.named)
 
 pub returns-in-Ok-clause-read : goal.returns-in-Ok-clause-read
 returns-in-Ok-clause-read g c =

@@ -1,0 +1,44 @@
+-- What holds of a run by how it ends, whatever the folder tells.
+use Rattle.std.proofs.Common.{◌≡◌, ℕ, ◌<◌, List, Option, Contains, length, map, get_or, subst, sym, ◌∙◌, arith}
+use Rattle.std.specs.Io.KnownBytes.{Appends}
+use Rattle.std.proofs.lemmas.List.{get_or-map, length-map}
+use Rattle.std.proofs.lemmas.List.Elements.{Contains-get_or}
+use Rattle.route_top.specs.Outcome.{Outcome, done, refused, out_failed, no_memory, bad_words, folder_failed, bad_file, bad_files}
+use Rattle.route_top.specs.Output.{NothingSent, NamesOneOf}
+use Rattle.route_top.proofs.Running.{appends_nothing}
+
+-- nothing was sent at all
+pub nothing_sent : (a : Option (List ℕ)) (outcome : Outcome) → NothingSent (Appends a a) outcome
+nothing_sent a bad_words = appends_nothing a
+nothing_sent a (folder_failed name) = appends_nothing a
+nothing_sent a (bad_file name line kind) = appends_nothing a
+nothing_sent a (bad_files fault) = appends_nothing a
+nothing_sent a done = tt
+nothing_sent a refused = tt
+nothing_sent a out_failed = tt
+nothing_sent a no_memory = tt
+
+-- a name of some is one of others
+pub names_as : (IsOne IsOther : List ℕ → Type 0) → ((name : List ℕ) → IsOne name → IsOther name) → (outcome : Outcome)
+    → NamesOneOf IsOne outcome → NamesOneOf IsOther outcome
+names_as IsOne IsOther each (folder_failed name) named = each name named
+names_as IsOne IsOther each (bad_file name line kind) named = each name named
+names_as IsOne IsOther each bad_words named = tt
+names_as IsOne IsOther each (bad_files fault) named = tt
+names_as IsOne IsOther each done named = tt
+names_as IsOne IsOther each refused named = tt
+names_as IsOne IsOther each out_failed named = tt
+names_as IsOne IsOther each no_memory named = tt
+
+-- the name of one of the files is one of theirs
+pub names_item : {N : Type 0} (text : N → List ℕ) (names : List N) (i : ℕ) (d : N) → i < length names → (outcome : Outcome)
+    → NamesOneOf (λ told. told ≡ text (get_or names i d)) outcome → NamesOneOf (Contains (map text names)) outcome
+names_item text names i d within outcome named =
+    let inside : i < length (map text names) = omega (arith, length-map names text) in
+    names_as _ _ (λ told is. subst (Contains (map text names)) (get_or-map text names i d (text d) within ∙ sym is)
+    (Contains-get_or (map text names) i (text d) inside)) outcome named
+
+-- a name of these files is one of the same files
+pub names_same : (names files : List (List ℕ)) → names ≡ files → (outcome : Outcome)
+    → NamesOneOf (Contains names) outcome → NamesOneOf (Contains files) outcome
+names_same names files same outcome named = subst (λ l. NamesOneOf (Contains l) outcome) same named

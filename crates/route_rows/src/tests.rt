@@ -27,9 +27,11 @@ struct Finished {
     err: MemorySink,
 }
 
+/// The words between spaces, of which `''` is the empty one.
 fn words_of(alloc: Global, words: &str) -> Result<Vec<String>, AllocError> {
     let mut list = Vec::new(alloc);
     for word in words.split_whitespace() {
+        let word = if word == "''" { "" } else { word };
         list.push(String::from_str(alloc, word)?)?;
     }
     Ok(list)
@@ -86,27 +88,20 @@ fn whole(files: Vec<NamedFile>, fails: Vec<u64>) -> Pieces {
     }
 }
 
-/// Runs the words over a folder, with `out` failing at these calls.
+/// A sink that never fails.
+fn ample(alloc: Global) -> MemorySink {
+    MemorySink::new(alloc, u64::MAX, Vec::new(alloc))
+}
+
+/// Runs the words over a folder, with these sinks.
 fn run(
     alloc: Global,
     words: &str,
     folder: &mut Pieces,
-    out_fails: Vec<u64>,
-) -> Result<Finished, AllocError> {
-    let err = MemorySink::new(alloc, u64::MAX, Vec::new(alloc));
-    run_noting(alloc, words, folder, out_fails, err)
-}
-
-/// Runs the words over a folder, with `out` failing at these calls, and with this `err`.
-fn run_noting(
-    alloc: Global,
-    words: &str,
-    folder: &mut Pieces,
-    out_fails: Vec<u64>,
+    mut out: MemorySink,
     mut err: MemorySink,
 ) -> Result<Finished, AllocError> {
     let words = words_of(alloc, words)?;
-    let mut out = MemorySink::new(alloc, u64::MAX, out_fails);
     let status = route(alloc, &words, folder, &mut out, &mut err);
     Ok(Finished { status, out, err })
 }
@@ -128,11 +123,11 @@ fn rows_have_their_output(rt: HostRuntime) -> Result<(), Fail> {
     let alloc = rt.alloc();
     for row in rows::ROWS {
         let mut folder = folder_of(alloc, row.files, Vec::new(alloc))?;
-        let done = run(alloc, row.words, &mut folder, Vec::new(alloc))?;
+        let done = run(alloc, row.words, &mut folder, ample(alloc), ample(alloc))?;
         assert_row(&rt, row, &done);
         let mut folder = folder_of(alloc, row.files, Vec::new(alloc))?;
         folder.size = 1;
-        let done = run(alloc, row.words, &mut folder, Vec::new(alloc))?;
+        let done = run(alloc, row.words, &mut folder, ample(alloc), ample(alloc))?;
         assert_row(&rt, row, &done);
     }
     Ok(())
@@ -166,7 +161,13 @@ fn cut_files_are_told(rt: HostRuntime) -> Result<(), Fail> {
             files.push(file_of(alloc, "B.gr", rows::B.as_bytes())?)?;
             let mut folder = whole(files, Vec::new(alloc));
             folder.size = size;
-            let done = run(alloc, "check CUT B.gr", &mut folder, Vec::new(alloc))?;
+            let done = run(
+                alloc,
+                "check CUT B.gr",
+                &mut folder,
+                ample(alloc),
+                ample(alloc),
+            )?;
             assert_cut(&rt, alloc, length, &done)?;
         }
     }
@@ -185,6 +186,8 @@ fn assert_cut(
             b"ok 4 6 2\n".as_slice(),
             "length {length}"
         );
+        assert_eq!(rt; done.err.sent(), b"".as_slice(), "length {length}");
+        assert_eq!(rt; done.status, 0, "length {length}");
         return Ok(());
     }
     let (line, kind) = cut_fault(length);
@@ -211,7 +214,7 @@ fn greatest_weights_add_up(rt: HostRuntime) -> Result<(), Fail> {
     let files = [("P.gr", text.as_str())];
     let mut folder = folder_of(alloc, &files, Vec::new(alloc))?;
     let words = "costs --from 1 --to 1001 P.gr P.gr";
-    let done = run(alloc, words, &mut folder, Vec::new(alloc))?;
+    let done = run(alloc, words, &mut folder, ample(alloc), ample(alloc))?;
     let want = b"r 0 1 1001 1\nv 4294967295000 4294967295000\n";
     assert_eq!(rt; done.out.sent(), want.as_slice());
     assert_eq!(rt; done.status, 0);
@@ -224,7 +227,7 @@ fn each_failing_call_of_the_folder_is_told(rt: HostRuntime) -> Result<(), Fail> 
     let mut failed = 0u64;
     for call in 0..20u64 {
         let mut folder = folder_of(alloc, rows::SIX_ARCS, vec![in alloc; call]?)?;
-        let done = run(alloc, rows::FIRST, &mut folder, Vec::new(alloc))?;
+        let done = run(alloc, rows::FIRST, &mut folder, ample(alloc), ample(alloc))?;
         if done.status == 0 {
             break;
         }
@@ -247,10 +250,53 @@ fn each_failing_call_of_the_folder_is_told(rt: HostRuntime) -> Result<(), Fail> 
 fn a_failing_out_is_told(rt: HostRuntime) -> Result<(), Fail> {
     let alloc = rt.alloc();
     let mut folder = folder_of(alloc, rows::SIX_ARCS, Vec::new(alloc))?;
-    let done = run(alloc, rows::FIRST, &mut folder, vec![in alloc; 0u64]?)?;
+    let out = MemorySink::new(alloc, u64::MAX, vec![in alloc; 0u64]?);
+    let done = run(alloc, rows::FIRST, &mut folder, out, ample(alloc))?;
     assert_eq!(rt; done.status, 4);
     assert_eq!(rt; done.out.sent(), b"".as_slice());
     assert_eq!(rt; done.err.sent(), b"route: out\n".as_slice());
+    Ok(())
+}
+
+#[test]
+fn a_full_out_has_the_front_of_the_reply(rt: HostRuntime) -> Result<(), Fail> {
+    let alloc = rt.alloc();
+    let reply = b"r 0 1 4 2\nv 2 8\nv 4 2\n";
+    for bound in 0..reply.len() {
+        let mut folder = folder_of(alloc, rows::SIX_ARCS, Vec::new(alloc))?;
+        let out = MemorySink::new(alloc, bound as u64, Vec::new(alloc));
+        let done = run(alloc, rows::FIRST, &mut folder, out, ample(alloc))?;
+        assert_eq!(rt; done.status, 4, "bound {bound}");
+        assert_eq!(rt; done.out.sent(), &reply[..bound], "bound {bound}");
+        assert_eq!(rt;
+            done.err.sent(),
+            b"route: out\n".as_slice(),
+            "bound {bound}"
+        );
+    }
+    Ok(())
+}
+
+#[test]
+fn a_line_has_65536_bytes_at_most(rt: HostRuntime) -> Result<(), Fail> {
+    let alloc = rt.alloc();
+    for (length, status) in [(65_536, 0), (65_537, 5)] {
+        let mut text = vec![in alloc; b'c'; length]?;
+        text.push(b'\n')?;
+        text.extend_from_slice(rows::A.as_bytes())?;
+        let mut files = Vec::new(alloc);
+        files.push(file_of(alloc, "LONG", &text)?)?;
+        files.push(file_of(alloc, "B.gr", rows::B.as_bytes())?)?;
+        let mut folder = whole(files, Vec::new(alloc));
+        let done = run(
+            alloc,
+            "check LONG B.gr",
+            &mut folder,
+            ample(alloc),
+            ample(alloc),
+        )?;
+        assert_eq!(rt; done.status, status, "length {length}");
+    }
     Ok(())
 }
 
@@ -261,7 +307,7 @@ fn a_full_err_cuts_the_note_alone(rt: HostRuntime) -> Result<(), Fail> {
         for bound in [0, 9, 16] {
             let mut folder = folder_of(alloc, row.files, Vec::new(alloc))?;
             let err = MemorySink::new(alloc, bound as u64, Vec::new(alloc));
-            let done = run_noting(alloc, row.words, &mut folder, Vec::new(alloc), err)?;
+            let done = run(alloc, row.words, &mut folder, ample(alloc), err)?;
             let note = row.err.as_bytes();
             assert_noted(&rt, row, &note[..bound.min(note.len())], &done);
         }
@@ -276,7 +322,7 @@ fn a_failing_err_cuts_the_note_alone(rt: HostRuntime) -> Result<(), Fail> {
         let mut folder = folder_of(alloc, rows::SIX_ARCS, Vec::new(alloc))?;
         let err = MemorySink::new(alloc, u64::MAX, vec![in alloc; call]?);
         let words = "check A.gr N.gr";
-        let done = run_noting(alloc, words, &mut folder, Vec::new(alloc), err)?;
+        let done = run(alloc, words, &mut folder, ample(alloc), err)?;
         assert_eq!(rt; done.status, 3, "call {call}");
         assert_eq!(rt; done.out.sent(), b"".as_slice(), "call {call}");
         assert_eq!(rt; done.err.sent(), note.as_bytes(), "call {call}");

@@ -1,5 +1,5 @@
 -- What a run sends, by how it ends.
-use Rattle.std.proofs.Common.{◌≡◌, ℕ, ◌<◌, List, [], length, take, Option, Some, None, IfSome, Bool, true, false, Err, refl, sym, ap, subst, append-nil, inl, inr}
+use Rattle.std.proofs.Common.{◌≡◌, ℕ, ◌<◌, List, [], length, take, Option, Some, None, IfSome, Bool, true, false, Result, Ok, Err, refl, sym, ap, subst, append-nil, inl, inr}
 use Rattle.std.specs.Io.KnownBytes.{Appends}
 use Rattle.route_io.specs.Files.{FileMap}
 use Rattle.arc_graph.specs.Network.{Network}
@@ -11,7 +11,7 @@ use Rattle.route_top.specs.FilesRead.{FilesEnd, ReadAs}
 use Rattle.route_top.specs.Outcome.{Outcome, done, refused, out_failed, no_memory, bad_words, folder_failed, bad_file, bad_files}
 use Rattle.route_top.specs.Output.{RunSends, EndsOrCut, Ends, IsCut, Whole}
 use Rattle.route_top.specs.Reading.{NetworkRead}
-use Rattle.route_top.specs.Stops.{IsFileStop, outcome_of}
+use Rattle.route_top.specs.Stops.{IsFileStop, SendsReply, outcome_of, run_outcome}
 
 -- nothing was sent
 pub appends_nothing : (a : Option (List ℕ)) → Appends a a []
@@ -57,6 +57,14 @@ module _ (Made : Bool → Network → List ℕ → Type 0) (file_of : FileMap) (
       ends = (net, subst (λ l. ReadAs file_of l net) named read, subst (λ x. Made x net reply) is_true replies);
     }
 
+    -- the refusal was sent whole
+    pub denied : is_answer ≡ false → Appends a b text → RunSends (FilesEnd Made file_of files) (Appends a b) Wanted refused
+    denied is_false took = record {
+      text = reply;
+      took = subst (Appends a b) same took;
+      ends = (net, subst (λ l. ReadAs file_of l net) named read, subst (λ x. Made x net reply) is_false replies);
+    }
+
     -- the reply is the whole text of a run
     whole_of : (x : Bool) → Made x net reply → (uncut : Outcome) × FilesEnd Made file_of files uncut reply
     whole_of true whole = (done, (net, subst (λ l. ReadAs file_of l net) named read, whole))
@@ -74,12 +82,28 @@ module _ (Made : Bool → Network → List ℕ → Type 0) (file_of : FileMap) (
     }
 
     -- the sink failed and took a part
-    pub cut_short : SentPart a b text → RunSends (FilesEnd Made file_of files) (Appends a b) Wanted out_failed
+    cut_short : SentPart a b text → RunSends (FilesEnd Made file_of files) (Appends a b) Wanted out_failed
     cut_short part = record { text = take part.0 text; took = part.2; ends = is_cut part.0 part.1 }
 
     -- the sink wanted memory and took a part
-    pub cut_by_want : Wanted → SentPart a b text → RunSends (FilesEnd Made file_of files) (Appends a b) Wanted no_memory
+    cut_by_want : Wanted → SentPart a b text → RunSends (FilesEnd Made file_of files) (Appends a b) Wanted no_memory
     cut_by_want wanted part = record { text = take part.0 text; took = part.2; ends = inr (wanted, is_cut part.0 part.1) }
+
+    -- the sink took a part of the reply
+    pub cut : (T : Type 0) (s : Stop) → SendsReply {T = T} a b Wanted text (Err s) → RunSends (FilesEnd Made file_of files) (Appends a b) Wanted (outcome_of s)
+    cut T stop.Words sends = absurd sends
+    cut T (stop.Folder name) sends = absurd sends
+    cut T stop.Out sends = cut_short sends
+    cut T (stop.File name line kind) sends = absurd sends
+    cut T (stop.Files fault) sends = absurd sends
+    cut T stop.Refused sends = absurd sends
+    cut T stop.OutOfMemory sends = cut_by_want sends.0 sends.1
+
+    -- the answer was sent, whole or in part
+    pub sent : (T : Type 0) → is_answer ≡ true → (result : Result T Stop) → SendsReply a b Wanted text result
+        → RunSends (FilesEnd Made file_of files) (Appends a b) Wanted (run_outcome result)
+    sent T is_true (Ok value) took = answered is_true took
+    sent T is_true (Err s) part = cut T s part
 
 -- what ends a run of one kind ends a run of another
 module _ (Whole Other : Outcome → List ℕ → Type 0) (each : (outcome : Outcome) (text : List ℕ) → Whole outcome text → Other outcome text) where

@@ -1,5 +1,6 @@
 -- What the reasons for which a run isn't done say of the counts of faults.
-use Rattle.std.specs.Prelude.{◌≡◌, ℕ, ◌≤◌, Result, Ok, Err}
+use Rattle.std.specs.Prelude.{◌≡◌, ℕ, ◌<◌, ◌≤◌, List, length, take, Option, Result, Ok, Err}
+use Rattle.std.specs.Io.KnownBytes.{Appends}
 use Rattle.route_io.specs.Causes.{Rose}
 use Rattle.route_top.specs.declared.stop.Stop.{Stop}
 use Rattle.route_top.specs.declared.stop.Stop.TheVariants as stop
@@ -42,3 +43,10 @@ IsFileStop other = ⊥
 abbrev pub IsWordless : Stop → Type 0
 IsWordless stop.Words = ⊥
 IsWordless other = Unit {0}
+
+-- The sink took the whole reply, or a part of it from the front, short of the whole, and failed or wanted memory.
+abbrev pub SendsReply : {T : Type 0} → Option (List ℕ) → Option (List ℕ) → Type 0 → List ℕ → Result T Stop → Type 0
+SendsReply before after Wanted reply (Ok value) = Appends before after reply
+SendsReply before after Wanted reply (Err stop.Out) = (n : ℕ) × (n < length reply) × Appends before after (take n reply)
+SendsReply before after Wanted reply (Err stop.OutOfMemory) = Wanted × ((n : ℕ) × (n < length reply) × Appends before after (take n reply))
+SendsReply before after Wanted reply (Err other) = ⊥

@@ -1,16 +1,20 @@
 //! The command `check`.
-ghost use Rattle.std.specs.Prelude.{◌≡◌, ◌≤◌, ◌++◌, length, map, codes, IfErr, IfSome, All, Contains, vec_len};
+ghost use Rattle.std.specs.Prelude.{◌≡◌, ◌≤◌, [], length, map, OnOk, IfErr, IfSome, All, Contains, vec_len};
 ghost use Rattle.std.specs.Io.KnownBytes.{Appends};
 ghost use Rattle.route_io.specs.Causes.{Rose};
 ghost use Rattle.route_top.specs.Check.{CheckEnd};
 ghost use Rattle.route_top.specs.Output.{NamesOneOf, NothingSent, RunSends};
+ghost use Rattle.route_top.specs.Texts.{check_reply};
 ghost use Rattle.route_top.specs.Stops.{FolderHasCause, IsWordless, OutHasCause, run_outcome};
 
 use crate::network::read_network;
-use crate::reply::put_sizes;
+use crate::reply::{kept, put_sizes, send};
 use crate::stop::Stop;
+use arc_graph::Graph;
 use command_words::CheckWords;
-use route_io::{Folder, Sink, WriteFault};
+use cost_vector::OutOfMemory;
+use route_io::sure::SureSink;
+use route_io::{Folder, Sink};
 use std::alloc::Global;
 
 /// Reads the named files, and tells the sizes of the network that they make up.
@@ -35,9 +39,16 @@ pub(crate) fn run<'a, F: Folder, K: Sink>(
     ensures files { F.files folder.new ≡ F.files folder.old }
 {
     let (graph, _) = read_network(alloc, folder, &asked.files)?;
-    match put_sizes(out, &graph) {
-        Ok(()) => Ok(()),
-        Err(WriteFault::Failed) => Err(Stop::Out),
-        Err(WriteFault::OutOfMemory) => Err(Stop::OutOfMemory),
-    }
+    let mut reply = SureSink::new(alloc);
+    put_reply(&graph, &mut reply)?;
+    send(out, &reply)
+}
+
+/// Writes the sizes of a network.
+fn put_reply(graph: &Graph, reply: &mut SureSink) -> Result<(), OutOfMemory>
+    requires empty { reply.old.sent ≡ [] }
+    ensures { OnOk result (reply.new.sent
+        ≡ check_reply graph.now.nodes (length graph.now.ends) graph.now.criteria) }
+{
+    kept(put_sizes(reply, graph))
 }

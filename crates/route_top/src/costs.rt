@@ -12,14 +12,14 @@ ghost use Rattle.route_top.specs.Texts.{refusal};
 ghost use Rattle.route_top.specs.Stops.{FolderHasCause, IsWordless, OutHasCause, run_outcome};
 
 use crate::network::read_network;
-use crate::reply::{put_costs, put_refusal};
+use crate::reply::{kept, put_costs, put_refusal, send};
 use crate::stop::Stop;
 use arc_graph::{Graph, Weights};
 use command_words::{CostsWords, Query};
 use cost_vector::{Limit, NodeNo, OutOfMemory};
 use plain_search::{SearchFault, plain_search};
 use route_io::sure::SureSink;
-use route_io::{Folder, Sink, WriteFault, put_all};
+use route_io::{Folder, Sink};
 use std::alloc::Global;
 
 /// Answers one query over the named files. Its reply is made in memory first, so that only a fault of `out` cuts it.
@@ -46,12 +46,8 @@ pub(crate) fn run<'a, F: Folder, K: Sink>(
     let (graph, weights) = read_network(alloc, folder, &asked.files)?;
     let mut reply = SureSink::new(alloc);
     let answered = put_reply(alloc, &graph, &weights, &asked.query, &mut reply)?;
-    match put_all(out, reply.sent()) {
-        Ok(()) if answered => Ok(()),
-        Ok(()) => Err(Stop::Refused),
-        Err(WriteFault::Failed) => Err(Stop::Out),
-        Err(WriteFault::OutOfMemory) => Err(Stop::OutOfMemory),
-    }
+    send(out, &reply)?;
+    if answered { Ok(()) } else { Err(Stop::Refused) }
 }
 
 /// Writes the reply to a query at epoch 0, and tells whether it is an answer and no refusal.
@@ -90,16 +86,6 @@ fn refuse(reply: &mut SureSink, query: &Query, why: &str) -> Result<bool, OutOfM
 {
     kept(put_refusal(reply, query.from, query.to, why))?;
     Ok(false)
-}
-
-/// A write to memory fails only for want of it.
-fn kept(written: Result<(), WriteFault>) -> Result<(), OutOfMemory>
-    ensures { IsOk result → written ≡ Ok tt }
-{
-    match written {
-        Ok(()) => Ok(()),
-        Err(_) => Err(OutOfMemory),
-    }
 }
 
 /// The query as the search takes it, without a limit.

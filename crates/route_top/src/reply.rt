@@ -1,14 +1,17 @@
 //! The lines that the program writes.
-ghost use Rattle.std.specs.Prelude.{◌≡◌, ◌++◌, ℕ, List, length, codes};
+ghost use Rattle.std.specs.Prelude.{◌≡◌, ◌++◌, ℕ, List, length, codes, IsOk, Ok};
 ghost use Rattle.std.specs.List.{flat_map};
-ghost use Rattle.route_io.specs.Causes.{WriteHasCause};
+ghost use Rattle.route_io.specs.Causes.{Rose, WriteHasCause};
 ghost use Rattle.route_io.specs.Sent.{SendsOrPrefix};
 ghost use Rattle.route_top.specs.Pieces.{text_of, texts_of};
+ghost use Rattle.route_top.specs.Stops.{OutHasCause, SendsReply};
 ghost use Rattle.route_top.specs.Texts.{and_number, check_reply, cost_line, costs_reply, end_line, refusal};
 
+use crate::stop::Stop;
 use arc_graph::Graph;
-use cost_vector::Cost;
+use cost_vector::{Cost, OutOfMemory};
 use line_text::put_decimal;
+use route_io::sure::SureSink;
 use route_io::{Sink, WriteFault, put_all};
 
 /// The epoch of each reply, since nothing is published.
@@ -19,6 +22,29 @@ const EPOCH: u64 = 0;
 pub(crate) enum Piece<'a> {
     Text(&'a str),
     Number(u64),
+}
+
+/// Sends a reply that was made in memory.
+pub(crate) fn send<'a, K: Sink>(out: &mut K, reply: &SureSink) -> Result<(), Stop<'a>>
+    ensures reply { SendsReply (K.sent out.old) (K.sent out.new) (Rose (K.wants out.old) (K.wants out.new))
+        reply.now.sent result }
+    ensures cause { OutHasCause (K.faults out.old) (K.faults out.new) result }
+{
+    match put_all(out, reply.sent()) {
+        Ok(()) => Ok(()),
+        Err(WriteFault::Failed) => Err(Stop::Out),
+        Err(WriteFault::OutOfMemory) => Err(Stop::OutOfMemory),
+    }
+}
+
+/// A write to memory fails only for want of it.
+pub(crate) fn kept(written: Result<(), WriteFault>) -> Result<(), OutOfMemory>
+    ensures { IsOk result → written ≡ Ok tt }
+{
+    match written {
+        Ok(()) => Ok(()),
+        Err(_) => Err(OutOfMemory),
+    }
 }
 
 /// Sends the pieces in order.

@@ -114,7 +114,7 @@ pub(super) const ROWS: &[Row] = &[
         out: "r 0 4 1 0\n",
         err: "",
     },
-    // A node is no better than to be told before the budget.
+    // That an end is no node is told before the budget.
     Row {
         words: "costs --from 9 --to 1 --budget 1 A.gr B.gr",
         files: SIX_ARCS,
@@ -342,6 +342,13 @@ pub(super) const ROWS: &[Row] = &[
         status: 0,
         out: "ok 8388608 0 2\n",
         err: "",
+    },
+    Row {
+        words: "check A.gr ''",
+        files: SIX_ARCS,
+        status: 3,
+        out: "",
+        err: "route: folder \n",
     },
     Row {
         words: "check A.gr N.gr",

@@ -1,9 +1,9 @@
-use Rattle.std.proofs.Common.{map, ap, refl, true}
+use Rattle.std.proofs.Common.{Contains, map, ap, refl, true}
 use Rattle.std.proofs.lemmas.Option.{IfSome_then}
 use Rattle.std.proofs.lemmas.Result.{err_from_is_err_and}
 use Rattle.route_top.proofs.Admitting.{each_admitted}
-use Rattle.route_top.proofs.Ending.{names_same, nothing_sent}
-use Rattle.route_top.proofs.Running.{answered, cut_by_want, cut_short, stopped}
+use Rattle.route_top.proofs.Ending.{names_none, names_same, nothing_but_reply, nothing_sent, wordless}
+use Rattle.route_top.proofs.Running.{at_some, sends_nothing, sent, stopped}
 use Rattle.route_top.specs.Check.{TellsSizes}
 use Rattle.route_top.specs.Stops.{outcome_of}
 use Rattle.route_top.proofs.check.run.Goals as goal
@@ -25,18 +25,21 @@ returns-in_err-graph-clause-named g c =
     let p = err_from_is_err_and c.from_residual.result c.from_residual.ensures.1 in
     rw (p.1, p.2) (names_same _ _ (ap (map (λ s. s.now)) c.deref.ensures.value) (outcome_of c.in_err-graph.field-0.0) c.in_err-graph.ensures.named)
 
-pub returns-in-Ok-clause-output : goal.returns-in-Ok-clause-output
-returns-in-Ok-clause-output g c =
-    IfSome_then _ c.in_ok-graph.ensures.read (λ file_of read. answered TellsSizes file_of _ _ _ (ap (map (λ s. s.now)) c.deref.ensures.value)
-    _ read true _ _ refl refl _ _ refl c.in-Ok.ensures.bytes)
-
-pub returns-in-Err-Failed-clause-output : goal.returns-in-Err-Failed-clause-output
-returns-in-Err-Failed-clause-output g c =
-    IfSome_then _ c.in_ok-graph.ensures.read (λ file_of read. cut_short TellsSizes file_of _ _ _ (ap (map (λ s. s.now)) c.deref.ensures.value)
-    _ read true _ _ refl refl _ _ c.in-Err-Failed.ensures.bytes)
+pub returns-in_err-put_reply-clause-output : goal.returns-in_err-put_reply-clause-output
+returns-in_err-put_reply-clause-output g c =
+    let p = err_from_is_err_and c.from_residual-in_err-put_reply.result c.from_residual-in_err-put_reply.ensures.1 in
+    rw (p.1, p.2) (at_some _ _ (λ file_of. sends_nothing _ _ _))
 
 pub returns-clause-output : goal.returns-clause-output
 returns-clause-output g c =
-    let cause = rw c.in-Err-OutOfMemory.field-0-is at c.in-Err-OutOfMemory.ensures.cause in
-    IfSome_then _ c.in_ok-graph.ensures.read (λ file_of read. cut_by_want TellsSizes file_of _ _ _ (ap (map (λ s. s.now)) c.deref.ensures.value)
-    _ read true _ _ refl refl _ _ cause.2 c.in-Err-OutOfMemory.ensures.bytes)
+    IfSome_then _ c.in_ok-graph.ensures.read (λ file_of read. sent TellsSizes file_of _ _ _ (ap (map (λ s. s.now)) c.deref.ensures.value)
+    _ read true _ _ refl c.in_ok-put_reply.ensures _ _ _ refl c.send.result c.send.ensures.reply)
+
+pub returns-clause-nothing_sent : goal.returns-clause-nothing_sent
+returns-clause-nothing_sent g c = nothing_but_reply _ _ _ _ c.send.result c.send.ensures.reply
+
+pub returns-clause-named : goal.returns-clause-named
+returns-clause-named g c = names_none _ _ _ _ (Contains (map (λ s. s.now) c.args.asked.now.files.items)) c.send.result c.send.ensures.reply
+
+pub returns-clause-stops : goal.returns-clause-stops
+returns-clause-stops g c = wordless _ _ _ _ c.send.result c.send.ensures.reply

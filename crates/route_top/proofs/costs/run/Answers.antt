@@ -1,9 +1,9 @@
-use Rattle.std.proofs.Common.{map, ap}
+use Rattle.std.proofs.Common.{map, ap, refl}
 use Rattle.std.proofs.lemmas.Option.{IfSome_then}
 use Rattle.std.proofs.lemmas.Result.{err_from_is_err_and}
 use Rattle.route_top.proofs.Admitting.{each_admitted}
 use Rattle.route_top.proofs.Ending.{names_same, nothing_sent}
-use Rattle.route_top.proofs.Running.{answered, at_some, cut_by_want, cut_short, sends_nothing, stopped}
+use Rattle.route_top.proofs.Running.{answered, at_some, cut, denied, sends_nothing, stopped}
 use Rattle.command_words.specs.Words.{query_asked}
 use Rattle.route_top.specs.Costs.{Replies}
 use Rattle.route_top.specs.Stops.{outcome_of}
@@ -31,18 +31,18 @@ returns-in_err-graph-clause-named g c =
     let p = err_from_is_err_and c.from_residual.result c.from_residual.ensures.1 in
     rw (p.1, p.2) (names_same _ _ (ap (map (λ s. s.now)) c.deref.ensures.value) (outcome_of c.in_err-graph.field-0.0) c.in_err-graph.ensures.named)
 
-pub returns-in-Ok-clause-output : goal.returns-in-Ok-clause-output
-returns-in-Ok-clause-output g c =
-    IfSome_then _ c.in_ok-graph.ensures.read (λ file_of read. answered (Replies (query_asked c.args.asked.now.query)) file_of _ _ _ (ap (map (λ s. s.now)) c.deref.ensures.value)
-    _ read c.in_ok-answered.answered _ _ c.sent.ensures c.in_ok-answered.ensures _ _ c.if-answered.true c.in-Ok.ensures.bytes)
+pub returns-in_err-send-clause-output : goal.returns-in_err-send-clause-output
+returns-in_err-send-clause-output g c =
+    let p = err_from_is_err_and c.from_residual-in_err-send.result c.from_residual-in_err-send.ensures.1 in
+    rw (p.1, p.2) (IfSome_then _ c.in_ok-graph.ensures.read (λ file_of read. cut (Replies (query_asked c.args.asked.now.query)) file_of _ _ _
+    (ap (map (λ s. s.now)) c.deref.ensures.value) _ read c.in_ok-answered.answered _ _ refl c.in_ok-answered.ensures _ _ (Unit {0}) c.in_err-send.field-0.0 c.in_err-send.ensures.reply))
 
-pub returns-in-Err-Failed-clause-output : goal.returns-in-Err-Failed-clause-output
-returns-in-Err-Failed-clause-output g c =
-    IfSome_then _ c.in_ok-graph.ensures.read (λ file_of read. cut_short (Replies (query_asked c.args.asked.now.query)) file_of _ _ _ (ap (map (λ s. s.now)) c.deref.ensures.value)
-    _ read c.in_ok-answered.answered _ _ c.sent.ensures c.in_ok-answered.ensures _ _ c.in-Err-Failed.ensures.bytes)
+pub returns-then-answered-clause-output : goal.returns-then-answered-clause-output
+returns-then-answered-clause-output g c =
+    IfSome_then _ c.in_ok-graph.ensures.read (λ file_of read. answered (Replies (query_asked c.args.asked.now.query)) file_of _ _ _
+    (ap (map (λ s. s.now)) c.deref.ensures.value) _ read c.in_ok-answered.answered _ _ refl c.in_ok-answered.ensures _ _ c.if-answered.true c.in_ok-send.ensures.reply)
 
 pub returns-clause-output : goal.returns-clause-output
 returns-clause-output g c =
-    let cause = rw c.in-Err-OutOfMemory.field-0-is at c.in-Err-OutOfMemory.ensures.cause in
-    IfSome_then _ c.in_ok-graph.ensures.read (λ file_of read. cut_by_want (Replies (query_asked c.args.asked.now.query)) file_of _ _ _ (ap (map (λ s. s.now)) c.deref.ensures.value)
-    _ read c.in_ok-answered.answered _ _ c.sent.ensures c.in_ok-answered.ensures _ _ cause.2 c.in-Err-OutOfMemory.ensures.bytes)
+    IfSome_then _ c.in_ok-graph.ensures.read (λ file_of read. denied (Replies (query_asked c.args.asked.now.query)) file_of _ _ _
+    (ap (map (λ s. s.now)) c.deref.ensures.value) _ read c.in_ok-answered.answered _ _ refl c.in_ok-answered.ensures _ _ c.if-answered.false c.in_ok-send.ensures.reply)

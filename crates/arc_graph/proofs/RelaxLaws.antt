@@ -9,7 +9,7 @@ use Rattle.cost_vector.specs.declared.label.Label.{Label}
 use Rattle.cost_vector.specs.Costs.{plus}
 use Rattle.arc_graph.specs.Lists.{IsIn}
 use Rattle.arc_graph.specs.Network.{IsNetwork, IsVector, Leads}
-use Rattle.arc_graph.specs.Graph.{Arcs, States, IsGraph, AreStates, Match, network, numbers_from, Fits, SumsFit, label_along, label_by, relaxed, state_of, ComesOf}
+use Rattle.arc_graph.specs.Graph.{Arcs, States, IsGraph, AreStates, Match, network, numbers_from, Fits, SumsFit, label_over, label_by, relaxed, state_of, ComesOf}
 use Rattle.arc_graph.proofs.ListLaws.{in_at, in_filter_map, of_filter_map}
 
 -- a graph and states that match it are a network
@@ -89,7 +89,7 @@ fits_along g w u c arcs i d fits all within = by_state (slice_get w.states (a.0 
 module _ (g : Arcs) (w : States) (u : ℕ) (c : List ℕ) where
   -- each arc that leads on gives a label
   pub label_in : (k v : ℕ) (y : List ℕ) → Leads (network g w) k u y v
-      → IsIn (label_along k v c y) (relaxed g w u c)
+      → IsIn (label_over k v c y) (relaxed g w u c)
   label_in k v y arc =
       let a : ArcNo = record { 0 = k } in
       let number : 1 + (k - 1) ≡ k = omega (arith, arc.counted) in

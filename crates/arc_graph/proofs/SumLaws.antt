@@ -46,9 +46,12 @@ module _ (net : Network) (small : AreSmall net.states) where
       let all = k ∷ before in
       subst (IsSumOf (length all)) (sym walk.cost) (sum_of_most (length before + 1) (length all) (plus walk.before walk.by) (omega arith) one_more)
 
+  pub sum_of_walk : IsNetwork net → (p : List ℕ) (s v : ℕ) (c : List ℕ) → IsWalk net s p v c → IsSumOf (length p) c
+  sum_of_walk is p s v c walk =
+      sum_of_most (length (reverse p)) (length p) c (omega (arith, length-reverse p)) (sum_of_arrival (reverse p) s v c (arrives_by_walk net is p s v c walk))
+
   pub walk_below : IsNetwork net → (p : List ℕ) (s v : ℕ) (c : List ℕ) → length p ≤ 2 ^ 26 → IsWalk net s p v c → AllByRecursion (λ x. x < 2 ^ 58) c
-  walk_below is p s v c most walk =
-      sum_below (length (reverse p)) c (omega (arith, length-reverse p)) (sum_of_arrival (reverse p) s v c (arrives_by_walk net is p s v c walk))
+  walk_below is p s v c most walk = sum_below (length p) c most (sum_of_walk is p s v c walk)
 
 -- what relaxing asks of the sums
 pub sums_fit : (g : Arcs) (w : States) (u : ℕ) (c : List ℕ) → AreStates w → AllByRecursion (λ x. x < 2 ^ 58) c → SumsFit g w u c

@@ -75,8 +75,8 @@ abbrev pub relaxed : Arcs → States → ℕ → List ℕ → List Label
 relaxed g w node cost = filter_map (label_by g w cost) (out_arcs_of g node)
 
 -- the label that a walk of cost c gets by going on along arc k, by this vector to v
-abbrev pub label_along : ℕ → ℕ → List ℕ → List ℕ → Label
-label_along k v c by = record { node = record { 0 = v }; cost = plus c by; arc = record { 0 = k } }
+abbrev pub label_over : ℕ → ℕ → List ℕ → List ℕ → Label
+label_over k v c by = record { node = record { 0 = v }; cost = plus c by; arc = record { 0 = k } }
 
 -- The label is that of an arc that leads on from u, where a walk of cost c has come to u.
 pub record ComesOf (g : Arcs) (w : States) (u : ℕ) (c : List ℕ) (l : Label) : Type 0 where

@@ -5,10 +5,10 @@ ghost use Rattle.arc_graph.specs.declared.join.JoinFault.{JoinFault as Fault};
 ghost use Rattle.arc_graph.specs.Files.{Contents};
 ghost use Rattle.arc_graph.specs.Agreement.{Agree, HasFault};
 ghost use Rattle.arc_graph.specs.Network.{Network, IsNetwork, AreSmall, IsNode, Leads};
-ghost use Rattle.arc_graph.specs.Walks.{Arrives, IsWalk};
+ghost use Rattle.arc_graph.specs.Walks.{Arrives, IsSumOf, IsWalk};
 ghost use Rattle.arc_graph.specs.Best.{IsBest, IsBackwardLeast, HasBestBelow, EndsAtBest};
 ghost use Rattle.arc_graph.specs.Answers.{AreBestCosts, IsAnswer, IsRelevant, Route};
-ghost use Rattle.arc_graph.specs.Graph.{Arcs, States, AreStates, ComesOf, SumsFit, label_along, network, relaxed};
+ghost use Rattle.arc_graph.specs.Graph.{Arcs, States, AreStates, ComesOf, IsGraph, Match, SumsFit, label_over, network, relaxed};
 ghost use Rattle.arc_graph.specs.Lists.{IsIn};
 ghost use Rattle.cost_vector.specs.declared.label.Label.{Label};
 
@@ -20,10 +20,15 @@ pub fn files_have_one_fault_at_most()
         → HasFault files e → HasFault files d → e ≡ d }
 {}
 
+/// A graph and weights that match are a network.
+pub fn matching_parts_are_a_network()
+    ensures { (g : Arcs) (w : States) → IsGraph g → AreStates w → Match g w → IsNetwork (network g w) }
+{}
+
 /// What relaxing gives is exactly the labels of the arcs that lead on.
 pub fn relaxing_follows_arcs()
     ensures each_arc { (g : Arcs) (w : States) (u k v : ℕ) (c by : List ℕ)
-        → Leads (network g w) k u by v → IsIn (label_along k v c by) (relaxed g w u c) }
+        → Leads (network g w) k u by v → IsIn (label_over k v c by) (relaxed g w u c) }
     ensures no_other { (g : Arcs) (w : States) (u : ℕ) (c : List ℕ) (l : Label)
         → IsIn l (relaxed g w u c) → ComesOf g w u c l }
 {}
@@ -31,11 +36,11 @@ pub fn relaxing_follows_arcs()
 /// A walk may be read from its first arc on, or from its last one back.
 pub fn walks_are_read_both_ways()
     ensures { (net : Network) (p : List ℕ) (s v : ℕ) (c : List ℕ) → IsNetwork net
-        → IsWalk net s p v c ↔ Arrives net s (reverse p) v c }
+        → (IsWalk net s p v c ↔ Arrives net s (reverse p) v c) }
 {}
 
 /// Each cost of a walk is at least some best cost, and a walk of a best cost has best costs all the way: so a search that
-/// drops what is dominated loses nothing (Martins 1984). The start without a walk is a relevant pair of each query.
+/// drops what is dominated loses nothing (Martins 1984). The start at cost zero is a relevant pair of each query.
 pub fn best_costs_lie_below_all()
     ensures below { (net : Network) (p : List ℕ) (s v : ℕ) (c : List ℕ) → IsNetwork net
         → IsWalk net s p v c → HasBestBelow net s v c }
@@ -45,20 +50,23 @@ pub fn best_costs_lie_below_all()
         → length limit ≡ net.criteria → IsRelevant net s t limit s (replicate net.criteria 0) }
 {}
 
-/// What an arc adds makes each cost greater, keeps which costs dominate which, and adds up to less than 2^58 along 2^26
-/// arcs, which is more than any budget or graph has. To such a cost `relax` can add what it adds.
+/// What an arc adds makes each cost greater, and a cost that dominates another still does with it added to both. A walk's
+/// cost is a sum of as many weights as it has arcs, so along at most 2^26 arcs, which is more than the labels of any budget
+/// and the arcs of any graph, it stays below 2^58. To such a cost `relax` can add what it adds.
 pub fn arcs_add_to_costs()
     ensures grows { (net : Network) (k u v : ℕ) (w c : List ℕ) → IsNetwork net
         → Leads net k u w v → length c ≡ net.criteria → Dominates c (plus c w) }
     ensures monotone { (net : Network) (k u v : ℕ) (w a b : List ℕ) → IsNetwork net
         → Leads net k u w v → length a ≡ net.criteria → Dominates a b → Dominates (plus a w) (plus b w) }
+    ensures counted { (net : Network) (p : List ℕ) (s v : ℕ) (c : List ℕ) → IsNetwork net → AreSmall net.states
+        → IsWalk net s p v c → IsSumOf (length p) c }
     ensures bounded { (net : Network) (p : List ℕ) (s v : ℕ) (c : List ℕ) → IsNetwork net → AreSmall net.states
         → length p ≤ 2 ^ 26 → IsWalk net s p v c → AllByRecursion (λ x. x < 2 ^ 58) c }
     ensures fit { (g : Arcs) (w : States) (u : ℕ) (c : List ℕ) → AreStates w
         → AllByRecursion (λ x. x < 2 ^ 58) c → SumsFit g w u c }
 {}
 
-/// A query has one list of best costs at most, which is empty only where no walk leads to the target.
+/// A query has one list of best costs at most. Without a limit it is empty only where no walk leads to the target.
 pub fn best_costs_are_one_list()
     ensures one { (net : Network) (s t : ℕ) (limit : List (Option ℕ)) (costs others : List (List ℕ))
         → AreBestCosts net s t limit costs → AreBestCosts net s t limit others → costs ≡ others }

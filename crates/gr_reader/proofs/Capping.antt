@@ -9,7 +9,7 @@ use Rattle.gr_reader.specs.declared.form.Form.{Form}
 use Rattle.gr_reader.specs.declared.form.Form.TheVariants.{Problem, Arc, Malformed}
 use Rattle.gr_reader.specs.Forms.{capped, capped_number}
 use Rattle.gr_reader.specs.Table.{Sizes, State, form_kind, in_range, is_node}
-use Rattle.gr_reader.specs.Steps.{AreSmall}
+use Rattle.gr_reader.specs.Steps.{AreNodesInRange}
 use Rattle.gr_reader.proofs.LineSteps.{given}
 
 in_range-capped : (nodes arcs : ℕ) → in_range (capped_number nodes) (capped_number arcs) ≡ in_range nodes arcs
@@ -25,7 +25,7 @@ weight-capped weight = grind (arith, nat_tests)
 arc_kind : Bool → Bool → Bool → Option LineKind
 arc_kind full ends small = cond full (Some CountWrong) (cond (not ends) (Some NodeRange) (cond small (Some WeightRange) None))
 
-pub form_kind-capped : (sizes : Option Sizes) (come : ℕ) (form : Form) → AreSmall sizes → form_kind sizes come (capped form) ≡ form_kind sizes come form
+pub form_kind-capped : (sizes : Option Sizes) (come : ℕ) (form : Form) → AreNodesInRange sizes → form_kind sizes come (capped form) ≡ form_kind sizes come form
 unfolding arc_kind
 form_kind-capped None come (Problem nodes arcs) small = ap (λ b. cond (not b) (Some SizeRange) None) (in_range-capped nodes arcs)
 form_kind-capped (Some sizes) come (Problem nodes arcs) small = refl
@@ -50,7 +50,7 @@ unfolding arc_kind
 arc-small nodes full tail head weight small e = grind (arith, nat_tests)
 
 -- an accepted line has no such number
-pub capped-accepted : (sizes : Option Sizes) (come : ℕ) (form : Form) → AreSmall sizes → form_kind sizes come form ≡ None → capped form ≡ form
+pub capped-accepted : (sizes : Option Sizes) (come : ℕ) (form : Form) → AreNodesInRange sizes → form_kind sizes come form ≡ None → capped form ≡ form
 unfolding arc_kind
 capped-accepted None come (Problem nodes arcs) small e =
     let in_size = in_range-small nodes arcs e in
@@ -65,7 +65,7 @@ capped-accepted None come Malformed small e = absurd cc
 capped-accepted (Some sizes) come Malformed small e = absurd cc
 
 -- a line gives the same with its numbers capped
-module _ (limits : FileLimits) (total : ℕ) (sizes : Option Sizes) (come : ℕ) (small : AreSmall sizes) (here : State) (lines : List (List ℕ)) where
+module _ (limits : FileLimits) (total : ℕ) (sizes : Option Sizes) (come : ℕ) (small : AreNodesInRange sizes) (here : State) (lines : List (List ℕ)) where
   by_kind : (form : Form) (kind : Option LineKind) → form_kind sizes come form ≡ kind → form_kind sizes come (capped form) ≡ form_kind sizes come form
       → given limits total (form_kind sizes come form) here (Some form) lines ≡ given limits total (form_kind sizes come (capped form)) here
       (Some (capped form)) lines

@@ -20,7 +20,7 @@ loses_none-joined old mid new left_old left_mid left_new first next =
 by_sizes : (limits : LineLimits) (new : Reading) (left_old left_new : Option (List ℕ)) → LosesNone (begun limits) new left_old left_new
     → new.passed + length new.held ≤ limits.total + 1 → TakesAtMost (limits.total + 1) left_old left_new
 by_sizes limits new None left_new loses_none within = tt
-by_sizes limits new (Some bytes) None loses_none within = tt
+by_sizes limits new (Some bytes) None loses_none within = absurd loses_none
 by_sizes limits new (Some bytes) (Some rest) loses_none within = omega (arith, loses_none, length-append new.held rest)
 
 -- from the start on at most one byte past the total is taken

@@ -1,5 +1,5 @@
 -- What a reader of a weight file shows, and what its answers say.
-use Rattle.std.specs.Prelude.{◌≡◌, ◌≢◌, ℕ, ◌+◌, ◌^◌, ◌≤◌, ◌⊎◌, ⊤, IfSome, IsSome, Bool, true, false, List, [], length, Option, Some, None, Result, Ok, Err}
+use Rattle.std.specs.Prelude.{◌≡◌, ◌≢◌, ℕ, ◌+◌, ◌^◌, ◌≤◌, ◌⊎◌, ⊤, IfSome, IsSome, IsSomeAnd, Bool, true, false, List, [], length, Option, Some, None, Result, Ok, Err}
 use Rattle.route_io.specs.Causes.{Rose}
 use Rattle.arc_graph.specs.declared.file.TheConstants.{MAX_NODES, MAX_ARCS}
 use Rattle.arc_graph.specs.declared.file.ArcLine.{ArcLine}
@@ -131,9 +131,9 @@ CountsArc old new (Ok (Some arc)) = new.come ≡ old.come + 1
 CountsArc old new (Ok None) = new.come ≡ old.come
 CountsArc old new (Err fault) = new.come ≡ old.come
 
--- at most so many bytes were taken from a source, where it tells what was left before and what is left after
+-- at most so many bytes were taken from a source, which still tells what is left where it told it before
 abbrev pub TakesAtMost : ℕ → Option (List ℕ) → Option (List ℕ) → Type 0
-TakesAtMost most before after = IfSome before (λ bytes. IfSome after (λ rest. length bytes ≤ length rest + most))
+TakesAtMost most before after = IfSome before (λ bytes. IsSomeAnd after (λ rest. length bytes ≤ length rest + most))
 
 -- what a reading of a whole text answers where this is told of it
 abbrev pub ReadTells : Told → Result Contents FileFault → Type 0

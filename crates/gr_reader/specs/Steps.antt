@@ -13,13 +13,13 @@ use Rattle.gr_reader.specs.Rest.{Told, with_form, ends, line_told, read_lines}
 use Rattle.gr_reader.specs.Reader.{file_limits, state_of, told_of}
 
 -- the nodes are so few that a number of more than 32 bits is none
-abbrev pub AreSmall : Option Sizes → Type 0
-AreSmall sizes = IfSome sizes (λ (s : Sizes). s.nodes ≤ MAX_NODES)
+abbrev pub AreNodesInRange : Option Sizes → Type 0
+AreNodesInRange sizes = IfSome sizes (λ (s : Sizes). s.nodes ≤ MAX_NODES)
 
 -- The first lines are ignored, up to this place.
 abbrev pub Skips : Reading → Reading → List ℕ → List ℕ → Type 0
 Skips old new rest more =
-    (sizes : Option Sizes) (come : ℕ) → AreSmall sizes → told_of old sizes come rest ≡ told_of new sizes come more
+    (sizes : Option Sizes) (come : ℕ) → AreNodesInRange sizes → told_of old sizes come rest ≡ told_of new sizes come more
 
 -- what is told where the current line says this, and this is left
 abbrev pub told_here : Reading → Option Sizes → ℕ → Form → List ℕ → Told
@@ -31,17 +31,17 @@ told_here lines sizes come form rest =
 pub record FindsForm (old new : Reading) (rest : List ℕ) (after : Option (List ℕ)) (form : Form) : Type 0 where
   pub more : List ℕ
   pub left : after ≡ Some more
-  pub told : (sizes : Option Sizes) (come : ℕ) → AreSmall sizes → told_of old sizes come rest ≡ told_here new sizes come form more
+  pub told : (sizes : Option Sizes) (come : ℕ) → AreNodesInRange sizes → told_of old sizes come rest ≡ told_here new sizes come form more
 
 -- Every line of the rest is ignored.
 abbrev pub FindsNone : Reading → Reading → List ℕ → Type 0
 FindsNone old new rest =
-    (sizes : Option Sizes) (come : ℕ) → AreSmall sizes → told_of old sizes come rest ≡ ends (state_of new sizes come) (end_kind (state_of new sizes come))
+    (sizes : Option Sizes) (come : ℕ) → AreNodesInRange sizes → told_of old sizes come rest ≡ ends (state_of new sizes come) (end_kind (state_of new sizes come))
 
 -- Behind lines that are ignored this fault comes, whatever the sizes.
 abbrev pub FindsFault : Reading → List ℕ → FileFault → Type 0
 FindsFault old rest (Line kind line) =
-    (sizes : Option Sizes) (come : ℕ) → AreSmall sizes → told_of old sizes come rest ≡ record { sizes = sizes; arcs = []; end = Some (record { kind = kind; line = line }) }
+    (sizes : Option Sizes) (come : ℕ) → AreNodesInRange sizes → told_of old sizes come rest ≡ record { sizes = sizes; arcs = []; end = Some (record { kind = kind; line = line }) }
 FindsFault old rest Read = ⊤
 FindsFault old rest OutOfMemory = ⊤
 

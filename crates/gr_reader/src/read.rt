@@ -25,7 +25,7 @@ pub fn read_gr<S: Source>(
     ensures accepts { IfSome (S.left source.old) (λ bytes. AcceptsFiles limits bytes result) }
     ensures refuses { IfSome (S.left source.old) (λ bytes. RefusesFaults limits bytes result) }
 
-    // Where the source tells its bytes before and after, at most one byte past the limit was taken.
+    // Where the source tells its bytes, at most one byte past the limit is taken.
     ensures takes_at_most { TakesAtMost (limits.file + 1) (S.left source.old) (S.left source.new) }
 
     // The source's failures alone make a failed read.

@@ -96,7 +96,7 @@ impl Lines {
         ensures keeps_fault { self.new.fault ≡ result_err result }
         ensures takes_no_memory { result ≢ Err LineFault.OutOfMemory }
 
-        // What holds over every source, of which one byte past the total is taken at most.
+        // What holds over every source. At most one byte past the total is passed or held.
         ensures counts { IfNone self.old.fault (Counts self.old self.new result) }
         ensures limits { self.new.limits ≡ self.old.limits }
         ensures in_limits { InLimits self.new }

@@ -1,5 +1,5 @@
 -- What holds of a run by how it ends, whatever the folder tells.
-use Rattle.std.proofs.Common.{◌≡◌, ℕ, ◌<◌, List, Option, Contains, Result, Ok, Err, IfErr, length, map, get_or, subst, sym, ◌∙◌, arith}
+use Rattle.std.proofs.Common.{◌≡◌, ℕ, ◌<◌, List, Option, Contains, Result, Ok, Err, IfErr, inl, inr, length, map, get_or, subst, sym, ◌∙◌, arith}
 use Rattle.std.specs.Io.KnownBytes.{Appends}
 use Rattle.std.proofs.lemmas.List.{get_or-map, length-map}
 use Rattle.std.proofs.lemmas.List.Elements.{Contains-get_or}
@@ -11,15 +11,15 @@ use Rattle.route_top.specs.Stops.{IsWordless, SendsReply, run_outcome}
 use Rattle.route_top.proofs.Running.{appends_nothing}
 
 -- nothing was sent at all
-pub nothing_sent : (a : Option (List ℕ)) (outcome : Outcome) → NothingSent (Appends a a) outcome
-nothing_sent a bad_words = appends_nothing a
-nothing_sent a (folder_failed name) = appends_nothing a
-nothing_sent a (bad_file name line kind) = appends_nothing a
-nothing_sent a (bad_files fault) = appends_nothing a
-nothing_sent a done = tt
-nothing_sent a refused = tt
-nothing_sent a out_failed = tt
-nothing_sent a no_memory = tt
+pub nothing_sent : (a : Option (List ℕ)) (Wanted : Type 0) (outcome : Outcome) → NothingSent (Appends a a) Wanted outcome
+nothing_sent a Wanted bad_words = appends_nothing a
+nothing_sent a Wanted (folder_failed name) = appends_nothing a
+nothing_sent a Wanted (bad_file name line kind) = appends_nothing a
+nothing_sent a Wanted (bad_files fault) = appends_nothing a
+nothing_sent a Wanted no_memory = inl (appends_nothing a)
+nothing_sent a Wanted done = tt
+nothing_sent a Wanted refused = tt
+nothing_sent a Wanted out_failed = tt
 
 -- a name of some is one of others
 pub names_as : (IsOne IsOther : List ℕ → Type 0) → ((name : List ℕ) → IsOne name → IsOther name) → (outcome : Outcome)
@@ -49,7 +49,7 @@ names_same names files same outcome named = subst (λ l. NamesOneOf (Contains l)
 -- ---- a reply was sent, whole or in part, so all files were read
 
 module _ {T : Type 0} (a b : Option (List ℕ)) (Wanted : Type 0) (text : List ℕ) where
-  pub nothing_but_reply : (result : Result T Stop) → SendsReply a b Wanted text result → NothingSent (Appends a b) (run_outcome result)
+  pub nothing_but_reply : (result : Result T Stop) → SendsReply a b Wanted text result → NothingSent (Appends a b) Wanted (run_outcome result)
   nothing_but_reply (Ok value) sends = tt
   nothing_but_reply (Err stop.Words) sends = absurd sends
   nothing_but_reply (Err (stop.Folder name)) sends = absurd sends
@@ -57,7 +57,7 @@ module _ {T : Type 0} (a b : Option (List ℕ)) (Wanted : Type 0) (text : List �
   nothing_but_reply (Err (stop.File name line kind)) sends = absurd sends
   nothing_but_reply (Err (stop.Files fault)) sends = absurd sends
   nothing_but_reply (Err stop.Refused) sends = tt
-  nothing_but_reply (Err stop.OutOfMemory) sends = tt
+  nothing_but_reply (Err stop.OutOfMemory) sends = inr sends.0
 
   pub names_none : (IsOne : List ℕ → Type 0) (result : Result T Stop) → SendsReply a b Wanted text result → NamesOneOf IsOne (run_outcome result)
   names_none IsOne (Ok value) sends = tt

@@ -61,16 +61,16 @@ Whole words file_of outcome text = BadWords words outcome text ⊎ Done words fi
 abbrev pub TookNote : (List ℕ → Type 0) → Type 0 → List ℕ → Type 0
 TookNote Took SinkFailed note = Took note ⊎ (SinkFailed × ((size : ℕ) × (size < length note) × Took (take size note)))
 
--- a run that its words, the folder or the files end sends nothing
-abbrev pub NothingSent : (List ℕ → Type 0) → Outcome → Type 0
-NothingSent OutTook bad_words = OutTook []
-NothingSent OutTook (folder_failed name) = OutTook []
-NothingSent OutTook (bad_file name line kind) = OutTook []
-NothingSent OutTook (bad_files fault) = OutTook []
-NothingSent OutTook done = Unit {0}
-NothingSent OutTook refused = Unit {0}
-NothingSent OutTook out_failed = Unit {0}
-NothingSent OutTook no_memory = Unit {0}
+-- a run that its words, the folder or the files end sends nothing, and one without memory nothing unless the sink wanted it
+abbrev pub NothingSent : (List ℕ → Type 0) → Type 0 → Outcome → Type 0
+NothingSent OutTook OutWanted bad_words = OutTook []
+NothingSent OutTook OutWanted (folder_failed name) = OutTook []
+NothingSent OutTook OutWanted (bad_file name line kind) = OutTook []
+NothingSent OutTook OutWanted (bad_files fault) = OutTook []
+NothingSent OutTook OutWanted no_memory = OutTook [] ⊎ OutWanted
+NothingSent OutTook OutWanted done = Unit {0}
+NothingSent OutTook OutWanted refused = Unit {0}
+NothingSent OutTook OutWanted out_failed = Unit {0}
 
 -- where a run ends at a file, its name is one of these
 abbrev pub NamesOneOf : (List ℕ → Type 0) → Outcome → Type 0
@@ -84,10 +84,10 @@ NamesOneOf IsOne out_failed = Unit {0}
 NamesOneOf IsOne no_memory = Unit {0}
 
 -- The status, the note, the file that it names and what wasn't sent are those of one end.
-pub record StatusAndNote (words : List (List ℕ)) (OutTook : List ℕ → Type 0) (ErrTook : List ℕ → Type 0) (ErrFailed : Type 0)
-    (status : ℕ) : Type 0 where
+pub record StatusAndNote (words : List (List ℕ)) (OutTook : List ℕ → Type 0) (OutWanted : Type 0)
+    (ErrTook : List ℕ → Type 0) (ErrFailed : Type 0) (status : ℕ) : Type 0 where
   pub outcome : Outcome
-  pub nothing_sent : NothingSent OutTook outcome
+  pub nothing_sent : NothingSent OutTook OutWanted outcome
   pub named : NamesOneOf (IsAskedName words) outcome
   pub note : TookNote ErrTook ErrFailed (note_of outcome)
   pub status_is : status ≡ status_of outcome

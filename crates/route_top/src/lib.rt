@@ -25,8 +25,8 @@ pub const WANT_OF_MEMORY: u8 = 9;
 /// The greatest size of a file, in bytes.
 pub const GREATEST_FILE: u64 = 1 << 29;
 
-/// Runs the command that the words ask for over the folder's files, and answers the exit status. Replies go to `out`,
-/// and where the run is refused one line goes to `err`, whose faults change nothing.
+/// Runs the command that the words ask for over the folder's files, and answers the exit status. Replies go to `out`.
+/// On each status but 0 and 8 one line goes to `err`, whose faults only cut that line.
 ///
 /// | Status | Comes |
 /// |---|---|
@@ -48,13 +48,14 @@ pub fn route<F: Folder, K: Sink, E: Sink>(
     requires { (name : List ℕ) → IsAskedName (texts_of words.now) name → F.admits name }
 
     // The words and the files that the folder tells say what is sent, and how the run ends. Also over a folder that tells
-    // nothing the status and the note are those of one end, which sends nothing before all files are read and agree, and
-    // the note names only a file that the words ask for.
+    // nothing the status and the note are those of one end. Where the words, the folder or the files make that end, nothing
+    // was sent, and the note names only a file that the words ask for.
     ensures output { IfSome (F.files folder.old) (λ file_of. Output (texts_of words.now) file_of
         (Appends (K.sent out.old) (K.sent out.new)) (Rose (K.wants out.old) (K.wants out.new))
         (Appends (E.sent err.old) (E.sent err.new))
         (Rose (E.faults err.old) (E.faults err.new) ⊎ Rose (E.wants err.old) (E.wants err.new)) result) }
-    ensures status_and_note { StatusAndNote (texts_of words.now) (Appends (K.sent out.old) (K.sent out.new))
+    ensures status_and_note { StatusAndNote (texts_of words.now)
+        (Appends (K.sent out.old) (K.sent out.new)) (Rose (K.wants out.old) (K.wants out.new))
         (Appends (E.sent err.old) (E.sent err.new))
         (Rose (E.faults err.old) (E.faults err.new) ⊎ Rose (E.wants err.old) (E.wants err.new)) result }
 
@@ -91,7 +92,8 @@ fn run<'a, F: Folder, K: Sink>(
     ensures output { IfSome (F.files folder.old) (λ file_of.
         RunSends (Whole (texts_of words.entry.now) file_of) (Appends (K.sent out.old) (K.sent out.new))
         (Rose (K.wants out.old) (K.wants out.new)) (run_outcome result)) }
-    ensures nothing_sent { NothingSent (Appends (K.sent out.old) (K.sent out.new)) (run_outcome result) }
+    ensures nothing_sent { NothingSent (Appends (K.sent out.old) (K.sent out.new))
+        (Rose (K.wants out.old) (K.wants out.new)) (run_outcome result) }
     ensures named { NamesOneOf (IsAskedName (texts_of words.entry.now)) (run_outcome result) }
     ensures folder { FolderHasCause (F.faults folder.old) (F.faults folder.new) result }
     ensures out { OutHasCause (K.faults out.old) (K.faults out.new) result }
@@ -117,7 +119,8 @@ fn carry_out<'a, F: Folder, K: Sink>(
     ensures output { IfSome (F.files folder.old) (λ file_of.
         RunSends (Ends file_of (asked_of command.now)) (Appends (K.sent out.old) (K.sent out.new))
         (Rose (K.wants out.old) (K.wants out.new)) (run_outcome result)) }
-    ensures nothing_sent { NothingSent (Appends (K.sent out.old) (K.sent out.new)) (run_outcome result) }
+    ensures nothing_sent { NothingSent (Appends (K.sent out.old) (K.sent out.new))
+        (Rose (K.wants out.old) (K.wants out.new)) (run_outcome result) }
     ensures named { NamesOneOf (Contains (files_of (asked_of command.now))) (run_outcome result) }
     ensures folder { FolderHasCause (F.faults folder.old) (F.faults folder.new) result }
     ensures out { OutHasCause (K.faults out.old) (K.faults out.new) result }

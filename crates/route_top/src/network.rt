@@ -4,7 +4,7 @@ ghost use Rattle.route_io.specs.Causes.{HasCause};
 ghost use Rattle.arc_graph.specs.Files.{Contents};
 ghost use Rattle.arc_graph.specs.Graph.{Match};
 ghost use Rattle.arc_graph.specs.StandsFor.{StandsFor};
-ghost use Rattle.gr_reader.specs.Reader.{ReadHasCause};
+ghost use Rattle.gr_reader.specs.Reader.{ReadHasCause, TakesAtMost};
 ghost use Rattle.route_top.specs.Reading.{FileAdded, FileRead, NetworkRead};
 ghost use Rattle.route_top.specs.Output.{NamesOneOf};
 ghost use Rattle.route_top.specs.Stops.{FolderHasCause, IsFileStop, run_outcome};
@@ -90,6 +90,7 @@ fn add_file<F: Folder>(alloc: Global, folder: &mut F, joiner: &mut Joiner) -> Re
     ensures whole { OnOk result (joiner.new.come ≡ joiner.new.due_arcs) }
     ensures added { (files : List Contents) → StandsFor joiner.old files → IfSome (F.left folder.old)
         (λ bytes. FileAdded bytes files joiner.new result) }
+    ensures takes_at_most { TakesAtMost (GREATEST_FILE + 1) (F.left folder.old) (F.left folder.new) }
     ensures cause { ReadHasCause (F.faults folder.old) (F.faults folder.new) result }
     ensures never_falls { F.faults folder.old ≤ F.faults folder.new }
     ensures files { F.files folder.new ≡ F.files folder.old }

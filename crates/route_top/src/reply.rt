@@ -1,5 +1,5 @@
 //! The lines that the program writes.
-ghost use Rattle.std.specs.Prelude.{◌≡◌, ◌++◌, ℕ, List, length, codes, IsOk, Ok};
+ghost use Rattle.std.specs.Prelude.{◌≡◌, ◌≢◌, ◌↔◌, ◌++◌, ℕ, List, length, codes, IsOk, Ok, Err};
 ghost use Rattle.std.specs.List.{flat_map};
 ghost use Rattle.route_io.specs.Causes.{Rose, WriteHasCause};
 ghost use Rattle.route_io.specs.Sent.{SendsOrPrefix};
@@ -37,9 +37,10 @@ pub(crate) fn send<'a, K: Sink>(out: &mut K, reply: &SureSink) -> Result<(), Sto
     }
 }
 
-/// A write to memory fails only for want of it.
+/// The answer of a write to memory, which fails only for want of it.
 pub(crate) fn kept(written: Result<(), WriteFault>) -> Result<(), OutOfMemory>
-    ensures { IsOk result → written ≡ Ok tt }
+    requires { written ≢ Err WriteFault.Failed }
+    ensures { IsOk result ↔ (written ≡ Ok tt) }
 {
     match written {
         Ok(()) => Ok(()),

@@ -1,5 +1,5 @@
 use Rattle.arc_graph.proofs.BestLaws.{grows_along, dominates_along}
-use Rattle.arc_graph.proofs.SumLaws.{sums_fit, walk_below}
+use Rattle.arc_graph.proofs.SumLaws.{sum_of_walk, sums_fit, walk_below}
 use Rattle.arc_graph.proofs.laws.arcs_add_to_costs.Goals as goal
 
 pub returns-clause-grows : goal.returns-clause-grows
@@ -13,3 +13,6 @@ returns-clause-bounded c = λ net p s v cost is small. walk_below net small is p
 
 pub returns-clause-fit : goal.returns-clause-fit
 returns-clause-fit c = sums_fit
+
+pub returns-clause-counted : goal.returns-clause-counted
+returns-clause-counted c = λ net p s v cost is small. sum_of_walk net small is p s v cost

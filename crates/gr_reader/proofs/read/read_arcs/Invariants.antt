@@ -1,4 +1,4 @@
-use Rattle.std.proofs.Common.{◌≡◌, ◌≤◌, ◌-◌, ◌^◌, length, true, false, None, IfSome, IsSomeAnd}
+use Rattle.std.proofs.Common.{◌≡◌, ◌≤◌, ◌-◌, length, true, false, None, IfSome, IsSomeAnd}
 use Rattle.arc_graph.specs.declared.file.TheConstants.{MAX_ARCS}
 use Rattle.line_text.specs.Reading.{LosesNone, rest_of}
 use Rattle.gr_reader.specs.Reader.{told_by, unread}

@@ -18,7 +18,7 @@ returns-in_err-graph-clause-output g c =
     (ap (map (λ s. s.now)) c.deref.ensures.value) _ c.in_err-graph.field-0.0 c.in_err-graph.ensures.stops read))
 
 pub returns-in_err-graph-clause-nothing_sent : goal.returns-in_err-graph-clause-nothing_sent
-returns-in_err-graph-clause-nothing_sent g c = nothing_sent _ _
+returns-in_err-graph-clause-nothing_sent g c = nothing_sent _ _ _
 
 pub returns-in_err-graph-clause-named : goal.returns-in_err-graph-clause-named
 returns-in_err-graph-clause-named g c =

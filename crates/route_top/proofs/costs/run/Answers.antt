@@ -24,7 +24,7 @@ returns-in_err-answered-clause-output g c =
     rw (p.1, p.2) (at_some _ _ (λ file_of. sends_nothing _ _ _))
 
 pub returns-in_err-graph-clause-nothing_sent : goal.returns-in_err-graph-clause-nothing_sent
-returns-in_err-graph-clause-nothing_sent g c = nothing_sent _ _
+returns-in_err-graph-clause-nothing_sent g c = nothing_sent _ _ _
 
 pub returns-in_err-graph-clause-named : goal.returns-in_err-graph-clause-named
 returns-in_err-graph-clause-named g c =

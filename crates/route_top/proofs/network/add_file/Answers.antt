@@ -1,6 +1,10 @@
-use Rattle.std.proofs.Common.{◌≡◌, None, refl, rules, arith}
+use Rattle.std.proofs.Common.{◌≡◌, None, refl, rules, ap, ◌∙◌, arith}
 use Rattle.std.proofs.lemmas.Result.{err_from_is_err_and}
 use Rattle.line_text.specs.Reading.{rest_of}
+use Rattle.gr_reader.specs.Reader.{unread}
+use Rattle.gr_reader.specs.Table.{line_limits}
+use Rattle.gr_reader.proofs.Taking.{loses_none-joined, takes_at_most, takes_at_most_then}
+use Rattle.route_top.specs.FilesRead.{file_limits}
 use Rattle.route_top.proofs.AddingArcs.{adding_more, added, begun_badly, added_badly}
 use Rattle.route_top.proofs.network.add_file.Goals as goal
 
@@ -27,6 +31,9 @@ arcs-preserved g c =
       reads = search rules;
       goes_on = search rules;
       no_end = search rules;
+      limits = search rules;
+      loses_none = loses_none-joined (unread file_limits).lines c.arcs.lines.lines c.next_arc.new.self.lines _ _ _
+          c.arcs.invariant.loses_none c.in_ok-arc.ensures.loses_none;
       stands = search rules;
       files = search rules;
       adding = λ files stands.
@@ -54,3 +61,28 @@ returns-clause-added g c = λ files stands.
     let all = rw none at c.in_ok-arc.ensures.all_come in
     let whole : c.arcs.lines.come ≡ c.arcs.lines.arcs = omega (arith, counts, all refl, c.in_ok-arc.ensures.arcs) in
     added files c.arcs.joiner c.arcs.lines known left whole (c.arcs.invariant.adding files stands) tells
+
+pub returns-in_err-nodes-clause-takes_at_most : goal.returns-in_err-nodes-clause-takes_at_most
+returns-in_err-nodes-clause-takes_at_most g c =
+    takes_at_most (line_limits file_limits) c.begin.new.self.lines _ _ (rw c.in_ok-lines.ensures at c.in_err-nodes.ensures.loses_none)
+    (c.in_err-nodes.ensures.limits ∙ ap (λ gr. gr.lines.limits) c.in_ok-lines.ensures) c.in_err-nodes.ensures.in_limits
+
+pub returns-in_err-begin_file-clause-takes_at_most : goal.returns-in_err-begin_file-clause-takes_at_most
+returns-in_err-begin_file-clause-takes_at_most g c =
+    takes_at_most (line_limits file_limits) c.begin.new.self.lines _ _ (rw c.in_ok-lines.ensures at c.in_ok-nodes.ensures.loses_none)
+    (c.in_ok-nodes.ensures.limits ∙ ap (λ gr. gr.lines.limits) c.in_ok-lines.ensures) c.in_ok-nodes.ensures.in_limits
+
+pub returns-in_err-arc-clause-takes_at_most : goal.returns-in_err-arc-clause-takes_at_most
+returns-in_err-arc-clause-takes_at_most g c =
+    takes_at_most_then (line_limits file_limits) c.arcs.lines.lines c.next_arc.new.self.lines _ _ _ c.arcs.invariant.loses_none
+    c.arcs.invariant.limits c.in_err-arc.ensures.loses_none c.in_err-arc.ensures.limits c.in_err-arc.ensures.in_limits
+
+pub returns-in_err-push-clause-takes_at_most : goal.returns-in_err-push-clause-takes_at_most
+returns-in_err-push-clause-takes_at_most g c =
+    takes_at_most_then (line_limits file_limits) c.arcs.lines.lines c.next_arc.new.self.lines _ _ _ c.arcs.invariant.loses_none
+    c.arcs.invariant.limits c.in_ok-arc.ensures.loses_none c.in_ok-arc.ensures.limits c.in_ok-arc.ensures.in_limits
+
+pub returns-clause-takes_at_most : goal.returns-clause-takes_at_most
+returns-clause-takes_at_most g c =
+    takes_at_most_then (line_limits file_limits) c.arcs.lines.lines c.next_arc.new.self.lines _ _ _ c.arcs.invariant.loses_none
+    c.arcs.invariant.limits c.in_ok-arc.ensures.loses_none c.in_ok-arc.ensures.limits c.in_ok-arc.ensures.in_limits

@@ -1,7 +1,10 @@
 use Rattle.std.proofs.Common.{◌≡◌, ◌+◌, ◌-◌, List, true, false, None, IfSome}
 use Rattle.arc_graph.specs.Files.{Contents}
 use Rattle.arc_graph.specs.StandsFor.{StandsFor}
-use Rattle.line_text.specs.Reading.{rest_of}
+use Rattle.line_text.specs.Reading.{LosesNone, rest_of}
+use Rattle.gr_reader.specs.Reader.{unread}
+use Rattle.gr_reader.specs.Table.{line_limits}
+use Rattle.route_top.specs.FilesRead.{file_limits}
 use Rattle.route_top.proofs.AddingArcs.{Adding}
 use Rattle.route_top.proofs.network.add_file.Given as goal
 
@@ -15,6 +18,8 @@ invariant-arcs g l = record {
   reads : l.lines.begun ≡ true;
   goes_on : l.lines.fault ≡ None;
   no_end : l.lines.whole ≡ false;
+  limits : l.lines.lines.limits ≡ line_limits file_limits;
+  loses_none : LosesNone (unread file_limits).lines l.lines.lines (g.F.Source.left l.fn.folder) (g.F.Source.left l.folder);
   stands : g.F.Source.faults l.folder ≡ g.F.Source.faults l.fn.folder;
   files : g.F.Source.files l.folder ≡ g.F.Source.files l.fn.folder;
   adding : (files : List Contents) → StandsFor l.fn.joiner files

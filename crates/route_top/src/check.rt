@@ -34,7 +34,8 @@ pub(crate) fn run<'a, F: Folder, K: Sink>(
         (Rose (K.wants out.old) (K.wants out.new)) (run_outcome result)) }
     ensures nothing_sent { NothingSent (Appends (K.sent out.old) (K.sent out.new))
         (Rose (K.wants out.old) (K.wants out.new)) (run_outcome result) }
-    ensures named { NamesOneOf (Contains (map (λ s. s.now) asked.now.files.items)) (run_outcome result) }
+    ensures named { NamesOneOf (Contains (map (λ s. s.now) asked.now.files.items))
+        (run_outcome result) }
     ensures folder { FolderHasCause (F.faults folder.old) (F.faults folder.new) result }
     ensures out { OutHasCause (K.faults out.old) (K.faults out.new) result }
     ensures files { F.files folder.new ≡ F.files folder.old }

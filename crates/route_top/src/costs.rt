@@ -22,8 +22,8 @@ use route_io::sure::SureSink;
 use route_io::{Folder, Sink};
 use std::alloc::Global;
 
-/// Answers one query over the named files. Its reply is made in memory first, so that only a fault or a want of memory of `out` cuts
-/// it.
+/// Answers one query over the named files. Its reply is made in memory first, so that only a fault or a want of memory of
+/// `out` cuts it.
 pub(crate) fn run<'a, F: Folder, K: Sink>(
     alloc: Global,
     asked: &CostsWords<'a>,
@@ -36,7 +36,8 @@ pub(crate) fn run<'a, F: Folder, K: Sink>(
     requires budget { asked.now.query.budget ≤ MAX_BUDGET }
     ensures stops { IfErr result IsWordless }
     ensures output { IfSome (F.files folder.old) (λ file_of.
-        RunSends (CostsEnd file_of (costs_asked asked.now)) (Appends (K.sent out.old) (K.sent out.new))
+        RunSends (CostsEnd file_of (costs_asked asked.now))
+        (Appends (K.sent out.old) (K.sent out.new))
         (Rose (K.wants out.old) (K.wants out.new)) (run_outcome result)) }
     ensures nothing_sent { NothingSent (Appends (K.sent out.old) (K.sent out.new))
         (Rose (K.wants out.old) (K.wants out.new)) (run_outcome result) }

@@ -5,7 +5,8 @@ ghost use Rattle.std.specs.Prelude.{◌≡◌, ◌<◌, ◌⊎◌, ℕ, List, Er
 ghost use Rattle.std.specs.Io.KnownBytes.{Appends};
 ghost use Rattle.route_io.specs.Causes.{Rose};
 ghost use Rattle.command_words.specs.Words.{AreWords, asked_of, files_of, texts_of};
-ghost use Rattle.route_top.specs.Output.{Ends, IsAsked, IsAskedName, NamesOneOf, NothingSent, Output, RunSends, StatusAndNote, Whole};
+ghost use Rattle.route_top.specs.Output.{Ends, IsAsked, IsAskedName, NamesOneOf, NothingSent, Output};
+ghost use Rattle.route_top.specs.Output.{RunSends, StatusAndNote, Whole};
 ghost use Rattle.route_top.specs.Stops.{FolderHasCause, IsWordless, OutHasCause, run_outcome};
 
 mod check;
@@ -53,11 +54,13 @@ pub fn route<F: Folder, K: Sink, E: Sink>(
     ensures output { IfSome (F.files folder.old) (λ file_of. Output (texts_of words.now) file_of
         (Appends (K.sent out.old) (K.sent out.new)) (Rose (K.wants out.old) (K.wants out.new))
         (Appends (E.sent err.old) (E.sent err.new))
-        (Rose (E.faults err.old) (E.faults err.new) ⊎ Rose (E.wants err.old) (E.wants err.new)) result) }
+        (Rose (E.faults err.old) (E.faults err.new) ⊎ Rose (E.wants err.old) (E.wants err.new))
+        result) }
     ensures status_and_note { StatusAndNote (texts_of words.now)
         (Appends (K.sent out.old) (K.sent out.new)) (Rose (K.wants out.old) (K.wants out.new))
         (Appends (E.sent err.old) (E.sent err.new))
-        (Rose (E.faults err.old) (E.faults err.new) ⊎ Rose (E.wants err.old) (E.wants err.new)) result }
+        (Rose (E.faults err.old) (E.faults err.new) ⊎ Rose (E.wants err.old) (E.wants err.new))
+        result }
 
     // The words alone make status 2, unless memory runs out.
     ensures bad_words { result ≡ 2 → ¬ AreWords (texts_of words.now) }
@@ -88,9 +91,11 @@ fn run<'a, F: Folder, K: Sink>(
 ) -> Result<(), Stop<'a>>
     requires { (name : List ℕ) → IsAskedName (texts_of words.now) name → F.admits name }
     ensures words { result ≡ Err Stop.Words → ¬ AreWords (texts_of words.entry.now) }
-    ensures asked { ¬ AreWords (texts_of words.entry.now) → (result ≡ Err Stop.Words) ⊎ (result ≡ Err Stop.OutOfMemory) }
+    ensures asked { ¬ AreWords (texts_of words.entry.now)
+        → (result ≡ Err Stop.Words) ⊎ (result ≡ Err Stop.OutOfMemory) }
     ensures output { IfSome (F.files folder.old) (λ file_of.
-        RunSends (Whole (texts_of words.entry.now) file_of) (Appends (K.sent out.old) (K.sent out.new))
+        RunSends (Whole (texts_of words.entry.now) file_of)
+        (Appends (K.sent out.old) (K.sent out.new))
         (Rose (K.wants out.old) (K.wants out.new)) (run_outcome result)) }
     ensures nothing_sent { NothingSent (Appends (K.sent out.old) (K.sent out.new))
         (Rose (K.wants out.old) (K.wants out.new)) (run_outcome result) }

@@ -64,8 +64,8 @@ fn read_file<'a, F: Folder>(
     requires whole { joiner.old.come ≡ joiner.old.due_arcs }
     ensures begun { OnOk result (joiner.new.begun ≡ joiner.old.begun + 1) }
     ensures whole { OnOk result (joiner.new.come ≡ joiner.new.due_arcs) }
-    ensures read { (files : List Contents) → StandsFor joiner.old files → IfSome (F.files folder.old)
-        (λ file_of. FileRead file_of name.now files joiner.new result) }
+    ensures read { (files : List Contents) → StandsFor joiner.old files
+        → IfSome (F.files folder.old) (λ file_of. FileRead file_of name.now files joiner.new result) }
     ensures named { NamesOneOf (λ told. told ≡ name.now) (run_outcome result) }
     ensures stops { IfErr result IsFileStop }
     ensures cause { FolderHasCause (F.faults folder.old) (F.faults folder.new) result }
@@ -88,9 +88,10 @@ fn add_file<F: Folder>(alloc: Global, folder: &mut F, joiner: &mut Joiner) -> Re
     requires whole { joiner.old.come ≡ joiner.old.due_arcs }
     ensures begun { OnOk result (joiner.new.begun ≡ joiner.old.begun + 1) }
     ensures whole { OnOk result (joiner.new.come ≡ joiner.new.due_arcs) }
-    ensures added { (files : List Contents) → StandsFor joiner.old files → IfSome (F.left folder.old)
-        (λ bytes. FileAdded bytes files joiner.new result) }
-    ensures takes_at_most { TakesAtMost (GREATEST_FILE + 1) (F.left folder.old) (F.left folder.new) }
+    ensures added { (files : List Contents) → StandsFor joiner.old files
+        → IfSome (F.left folder.old) (λ bytes. FileAdded bytes files joiner.new result) }
+    ensures takes_at_most { TakesAtMost (GREATEST_FILE + 1)
+        (F.left folder.old) (F.left folder.new) }
     ensures cause { ReadHasCause (F.faults folder.old) (F.faults folder.new) result }
     ensures never_falls { F.faults folder.old ≤ F.faults folder.new }
     ensures files { F.files folder.new ≡ F.files folder.old }

@@ -26,8 +26,8 @@ pub(crate) enum Piece<'a> {
 
 /// Sends a reply that was made in memory.
 pub(crate) fn send<'a, K: Sink>(out: &mut K, reply: &SureSink) -> Result<(), Stop<'a>>
-    ensures reply { SendsReply (K.sent out.old) (K.sent out.new) (Rose (K.wants out.old) (K.wants out.new))
-        reply.now.sent result }
+    ensures reply { SendsReply (K.sent out.old) (K.sent out.new)
+        (Rose (K.wants out.old) (K.wants out.new)) reply.now.sent result }
     ensures cause { OutHasCause (K.faults out.old) (K.faults out.new) result }
 {
     match put_all(out, reply.sent()) {
@@ -51,7 +51,8 @@ pub(crate) fn kept(written: Result<(), WriteFault>) -> Result<(), OutOfMemory>
 /// Sends the pieces in order.
 pub(crate) fn put_pieces<K: Sink>(sink: &mut K, pieces: &[Piece<'_>]) -> Result<(), WriteFault>
     ensures bytes { SendsOrPrefix (K.sent sink.old) (K.sent sink.new) (texts_of pieces.now) result }
-    ensures cause { WriteHasCause (K.faults sink.old) (K.faults sink.new) (K.wants sink.old) (K.wants sink.new) result }
+    ensures cause { WriteHasCause (K.faults sink.old) (K.faults sink.new)
+        (K.wants sink.old) (K.wants sink.new) result }
 {
     for piece in pieces {
         put_piece(sink, piece)?;
@@ -62,7 +63,8 @@ pub(crate) fn put_pieces<K: Sink>(sink: &mut K, pieces: &[Piece<'_>]) -> Result<
 /// Sends one piece.
 fn put_piece<K: Sink>(sink: &mut K, piece: &Piece<'_>) -> Result<(), WriteFault>
     ensures bytes { SendsOrPrefix (K.sent sink.old) (K.sent sink.new) (text_of piece.now) result }
-    ensures cause { WriteHasCause (K.faults sink.old) (K.faults sink.new) (K.wants sink.old) (K.wants sink.new) result }
+    ensures cause { WriteHasCause (K.faults sink.old) (K.faults sink.new)
+        (K.wants sink.old) (K.wants sink.new) result }
 {
     match piece {
         Piece::Text(text) => put_all(sink, text.as_bytes()),
@@ -80,8 +82,10 @@ pub(crate) fn put_costs<K: Sink>(
     to: u32,
     costs: &[Cost],
 ) -> Result<(), WriteFault>
-    ensures bytes { SendsOrPrefix (K.sent sink.old) (K.sent sink.new) (costs_reply 0 from to costs.now) result }
-    ensures cause { WriteHasCause (K.faults sink.old) (K.faults sink.new) (K.wants sink.old) (K.wants sink.new) result }
+    ensures bytes { SendsOrPrefix (K.sent sink.old) (K.sent sink.new)
+        (costs_reply 0 from to costs.now) result }
+    ensures cause { WriteHasCause (K.faults sink.old) (K.faults sink.new)
+        (K.wants sink.old) (K.wants sink.new) result }
 {
     put_head(sink, from, to, costs.len() as u64)?;
     put_lines(sink, costs)
@@ -90,8 +94,10 @@ pub(crate) fn put_costs<K: Sink>(
 /// Sends the first line of that answer.
 fn put_head<K: Sink>(sink: &mut K, from: u32, to: u32, count: u64) -> Result<(), WriteFault>
     ensures bytes { SendsOrPrefix (K.sent sink.old) (K.sent sink.new)
-        (codes "r" ++ and_number 0 ++ and_number from ++ and_number to ++ and_number count ++ end_line) result }
-    ensures cause { WriteHasCause (K.faults sink.old) (K.faults sink.new) (K.wants sink.old) (K.wants sink.new) result }
+        (codes "r" ++ and_number 0 ++ and_number from ++ and_number to
+        ++ and_number count ++ end_line) result }
+    ensures cause { WriteHasCause (K.faults sink.old) (K.faults sink.new)
+        (K.wants sink.old) (K.wants sink.new) result }
 {
     use Piece::{Number, Text};
     put_pieces(
@@ -110,7 +116,8 @@ fn put_head<K: Sink>(sink: &mut K, from: u32, to: u32, count: u64) -> Result<(),
 /// Sends the line of one cost.
 fn put_cost<K: Sink>(sink: &mut K, cost: &Cost) -> Result<(), WriteFault>
     ensures bytes { SendsOrPrefix (K.sent sink.old) (K.sent sink.new) (cost_line cost.now) result }
-    ensures cause { WriteHasCause (K.faults sink.old) (K.faults sink.new) (K.wants sink.old) (K.wants sink.new) result }
+    ensures cause { WriteHasCause (K.faults sink.old) (K.faults sink.new)
+        (K.wants sink.old) (K.wants sink.new) result }
 {
     put_all(sink, b"v")?;
     put_components(sink, cost)?;
@@ -124,8 +131,10 @@ pub(crate) fn put_refusal<K: Sink>(
     to: u32,
     why: &str,
 ) -> Result<(), WriteFault>
-    ensures bytes { SendsOrPrefix (K.sent sink.old) (K.sent sink.new) (refusal 0 from to why.now) result }
-    ensures cause { WriteHasCause (K.faults sink.old) (K.faults sink.new) (K.wants sink.old) (K.wants sink.new) result }
+    ensures bytes { SendsOrPrefix (K.sent sink.old) (K.sent sink.new)
+        (refusal 0 from to why.now) result }
+    ensures cause { WriteHasCause (K.faults sink.old) (K.faults sink.new)
+        (K.wants sink.old) (K.wants sink.new) result }
 {
     use Piece::{Number, Text};
     put_pieces(
@@ -143,8 +152,10 @@ pub(crate) fn put_refusal<K: Sink>(
 
 /// Sends each component of a cost behind a space.
 fn put_components<K: Sink>(sink: &mut K, cost: &Cost) -> Result<(), WriteFault>
-    ensures bytes { SendsOrPrefix (K.sent sink.old) (K.sent sink.new) (flat_map and_number cost.now) result }
-    ensures cause { WriteHasCause (K.faults sink.old) (K.faults sink.new) (K.wants sink.old) (K.wants sink.new) result }
+    ensures bytes { SendsOrPrefix (K.sent sink.old) (K.sent sink.new)
+        (flat_map and_number cost.now) result }
+    ensures cause { WriteHasCause (K.faults sink.old) (K.faults sink.new)
+        (K.wants sink.old) (K.wants sink.new) result }
 {
     for place in 0..cost.count() {
         put_piece(sink, &Piece::Number(cost.component(place)))?;
@@ -154,8 +165,10 @@ fn put_components<K: Sink>(sink: &mut K, cost: &Cost) -> Result<(), WriteFault>
 
 /// Sends a line for each cost.
 fn put_lines<K: Sink>(sink: &mut K, costs: &[Cost]) -> Result<(), WriteFault>
-    ensures bytes { SendsOrPrefix (K.sent sink.old) (K.sent sink.new) (flat_map cost_line costs.now) result }
-    ensures cause { WriteHasCause (K.faults sink.old) (K.faults sink.new) (K.wants sink.old) (K.wants sink.new) result }
+    ensures bytes { SendsOrPrefix (K.sent sink.old) (K.sent sink.new)
+        (flat_map cost_line costs.now) result }
+    ensures cause { WriteHasCause (K.faults sink.old) (K.faults sink.new)
+        (K.wants sink.old) (K.wants sink.new) result }
 {
     for cost in costs {
         put_cost(sink, cost)?;
@@ -167,7 +180,8 @@ fn put_lines<K: Sink>(sink: &mut K, costs: &[Cost]) -> Result<(), WriteFault>
 pub(crate) fn put_sizes<K: Sink>(sink: &mut K, graph: &Graph) -> Result<(), WriteFault>
     ensures bytes { SendsOrPrefix (K.sent sink.old) (K.sent sink.new)
         (check_reply graph.now.nodes (length graph.now.ends) graph.now.criteria) result }
-    ensures cause { WriteHasCause (K.faults sink.old) (K.faults sink.new) (K.wants sink.old) (K.wants sink.new) result }
+    ensures cause { WriteHasCause (K.faults sink.old) (K.faults sink.new)
+        (K.wants sink.old) (K.wants sink.new) result }
 {
     use Piece::{Number, Text};
     put_pieces(

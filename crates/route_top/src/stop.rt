@@ -40,13 +40,9 @@ impl Stop<'_> {
     {
         match self {
             Stop::Words => 2,
-            Stop::Folder { name: _ } => 3,
+            Stop::Folder { .. } => 3,
             Stop::Out => 4,
-            Stop::File {
-                name: _,
-                line: _,
-                kind: _,
-            } => 5,
+            Stop::File { .. } => 5,
             Stop::Files(JoinFault::OutOfMemory) => 9,
             Stop::Files(_) => 6,
             Stop::Refused => 8,
@@ -56,8 +52,10 @@ impl Stop<'_> {
 
     /// Sends the note, one line, or nothing where `out` has the reason.
     pub(crate) fn note<E: Sink>(&self, err: &mut E) -> Result<(), WriteFault>
-        ensures bytes { SendsOrPrefix (E.sent err.old) (E.sent err.new) (note_of (outcome_of self.now)) result }
-        ensures cause { WriteHasCause (E.faults err.old) (E.faults err.new) (E.wants err.old) (E.wants err.new) result }
+        ensures bytes { SendsOrPrefix (E.sent err.old) (E.sent err.new)
+            (note_of (outcome_of self.now)) result }
+        ensures cause { WriteHasCause (E.faults err.old) (E.faults err.new)
+            (E.wants err.old) (E.wants err.new) result }
     {
         use Piece::{Number, Text};
         match self {
@@ -87,8 +85,10 @@ impl Stop<'_> {
 
 /// Sends the note on files that don't agree.
 fn note_disagreement<E: Sink>(err: &mut E, fault: JoinFault) -> Result<(), WriteFault>
-    ensures bytes { SendsOrPrefix (E.sent err.old) (E.sent err.new) (note_of (bad_files fault)) result }
-    ensures cause { WriteHasCause (E.faults err.old) (E.faults err.new) (E.wants err.old) (E.wants err.new) result }
+    ensures bytes { SendsOrPrefix (E.sent err.old) (E.sent err.new)
+        (note_of (bad_files fault)) result }
+    ensures cause { WriteHasCause (E.faults err.old) (E.faults err.new)
+        (E.wants err.old) (E.wants err.new) result }
 {
     use Piece::{Number, Text};
     match fault {

@@ -65,7 +65,8 @@ fn read_file<'a, F: Folder>(
     ensures begun { OnOk result (joiner.new.begun ≡ joiner.old.begun + 1) }
     ensures whole { OnOk result (joiner.new.come ≡ joiner.new.due_arcs) }
     ensures read { (files : List Contents) → StandsFor joiner.old files
-        → IfSome (F.files folder.old) (λ file_of. FileRead file_of name.now files joiner.new result) }
+        → IfSome (F.files folder.old)
+        (λ file_of. FileRead file_of name.now files joiner.new result) }
     ensures named { NamesOneOf (λ told. told ≡ name.now) (run_outcome result) }
     ensures stops { IfErr result IsFileStop }
     ensures cause { FolderHasCause (F.faults folder.old) (F.faults folder.new) result }

@@ -9,8 +9,8 @@ use Rattle.std.proofs.lemmas.Option.{slice_get_within, same_Some}
 use Rattle.arc_graph.specs.declared.file.ArcLine.{ArcLine}
 use Rattle.arc_graph.specs.Files.{Contents, ends_of, with_arc}
 use Rattle.arc_graph.specs.Agreement.{DiffersInEnds}
-use Rattle.arc_graph.proofs.Gets.{get_in_push, get_before, get_added}
-use Rattle.arc_graph.proofs.Least.{AddsPair}
+use Rattle.list_laws.proofs.Gets.{get_in_push, get_before, get_added}
+use Rattle.arc_graph.proofs.OtherEndsLemmas.{AddsPair}
 
 -- the same arcs differ where the file with the other one stands in a list of the same first file
 moved : (first : Contents) (fs gs : List Contents) (a f : ℕ) (d : DiffersInEnds (first ∷ fs) a f) (other : Contents)

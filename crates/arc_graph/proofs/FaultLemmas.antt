@@ -6,7 +6,7 @@ use Rattle.arc_graph.specs.declared.join.JoinFault.TheVariants.{Sizes, Ends, Zer
 use Rattle.arc_graph.specs.declared.join.OtherEnds.{OtherEnds}
 use Rattle.arc_graph.specs.Files.{Contents}
 use Rattle.arc_graph.specs.Agreement.{Agree, AgreeInSize, HasFault, DiffersInEnds, IsZeroArc}
-use Rattle.arc_graph.specs.Lists.{IsLeastWith, IsLeastIfAny}
+use Rattle.list_laws.specs.Least.{IsLeastWith, IsLeastIfAny}
 use Rattle.arc_graph.specs.Faults.{AreLeastIfAny, arc_fault_of}
 
 -- the lesser of two least arcs is the least faulty one

@@ -5,7 +5,7 @@ use Rattle.std.specs.List.{AllByRecursion}
 use Rattle.cost_vector.specs.declared.label.ArcNo.{ArcNo}
 use Rattle.arc_graph.specs.Graph.{numbers_from}
 use Rattle.arc_graph.specs.declared.graph.Ends.{Ends}
-use Rattle.arc_graph.specs.Network.{IsNode}
+use Rattle.road_network.specs.Network.{IsNode}
 use Rattle.arc_graph.specs.Layout.{pair_of}
 use Rattle.arc_graph.proofs.Places.{all_at}
 

@@ -10,7 +10,7 @@ use Rattle.arc_graph.specs.Files.{Contents, ends_of}
 use Rattle.arc_graph.specs.Agreement.{Agree, joined, vector_at}
 use Rattle.arc_graph.specs.Joining.{Joining, IsJoining}
 use Rattle.arc_graph.specs.StandsFor.{StandsFor}
-use Rattle.arc_graph.specs.Network.{IsNetwork}
+use Rattle.road_network.specs.Network.{IsNetwork}
 use Rattle.arc_graph.specs.Stored.{is_zero, state_in, states_of}
 use Rattle.arc_graph.proofs.Places.{states_in}
 use Rattle.arc_graph.proofs.ZeroLemmas.{zero_at}

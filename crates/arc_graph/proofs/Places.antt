@@ -5,7 +5,7 @@ use Rattle.std.specs.List.{AllByRecursion}
 use Rattle.std.specs.Cmp.Lexicographic.{pointwise}
 use Rattle.std.proofs.lemmas.List.{length-take}
 use Rattle.std.proofs.lemmas.List.Sums.{sum_by-cons}
-use Rattle.arc_graph.specs.Network.{IsVector}
+use Rattle.road_network.specs.Network.{IsVector}
 use Rattle.std.specs.Option.{option_and_then}
 use Rattle.cost_vector.specs.declared.label.ArcNo.{ArcNo}
 use Rattle.arc_graph.specs.Graph.{States, AreStates, state_of}

@@ -8,7 +8,7 @@ use Rattle.cost_vector.specs.declared.label.ArcNo.{ArcNo}
 use Rattle.cost_vector.specs.declared.label.Label.{Label}
 use Rattle.cost_vector.specs.Costs.{plus}
 use Rattle.arc_graph.specs.Lists.{IsIn}
-use Rattle.arc_graph.specs.Network.{IsNetwork, IsVector, Leads}
+use Rattle.road_network.specs.Network.{IsNetwork, IsVector, Leads}
 use Rattle.arc_graph.specs.Graph.{Arcs, States, IsGraph, AreStates, Match, network, numbers_from, Fits, SumsFit, label_over, label_by, relaxed, state_of, ComesOf}
 use Rattle.arc_graph.proofs.ListLaws.{in_at, in_filter_map, of_filter_map}
 

@@ -3,8 +3,8 @@ use Rattle.std.proofs.Common.{◌≡◌, ◌≢◌, ℕ, ◌+◌, ◌-◌, List,
 use Rattle.std.specs.Prelude.{slice_get}
 use Rattle.std.proofs.lemmas.Option.{slice_get_within, same_Some}
 use Rattle.arc_graph.specs.Agreement.{IsOtherSize}
-use Rattle.arc_graph.proofs.Gets.{get_in_push, get_before, get_added}
-use Rattle.arc_graph.proofs.Least.{Adds}
+use Rattle.list_laws.proofs.Gets.{get_in_push, get_before, get_added}
+use Rattle.list_laws.proofs.Least.{Adds}
 
 -- one size more is another than the first, where N says so, and no other size comes to be another
 pub adds_size : (first size : ℕ × ℕ) (sizes : List (ℕ × ℕ)) (N : Type 0) → (N → size ≢ first) → (size ≢ first → N)

@@ -8,11 +8,12 @@ use Rattle.arc_graph.specs.declared.file.ArcLine.{ArcLine}
 use Rattle.arc_graph.specs.Files.{Contents, size_of, ends_of, empty_file, with_arc}
 use Rattle.arc_graph.specs.Agreement.{IsOtherSize, DiffersInSize, DiffersInEnds, vector_at}
 use Rattle.arc_graph.specs.Joining.{Joining, IsJoining}
-use Rattle.arc_graph.specs.Lists.{IsLeastIfAny}
+use Rattle.list_laws.specs.Least.{IsLeastIfAny}
 use Rattle.arc_graph.specs.StandsFor.{StandsFor, sizes_said}
 use Rattle.arc_graph.specs.Faults.{AreLeastIfAny, IsEarlier}
-use Rattle.arc_graph.proofs.Gets.{get_in_push, get_added}
-use Rattle.arc_graph.proofs.Least.{Adds, AddsPair, least_same, least_without, least_or, pair_same, pair_if, pair_without, pair_earlier}
+use Rattle.list_laws.proofs.Gets.{get_in_push, get_added}
+use Rattle.list_laws.proofs.Least.{Adds, least_same, least_without, least_or}
+use Rattle.arc_graph.proofs.OtherEndsLemmas.{AddsPair, pair_same, pair_if, pair_without, pair_earlier}
 use Rattle.std.specs.Option.{option_or}
 use Rattle.arc_graph.specs.declared.join.OtherEnds.{OtherEnds}
 use Rattle.arc_graph.proofs.EndsLemmas.{HasOther, adds_arc, arc_at, ends_read, no_other_ends, ends_with_new, ends_before_new}

@@ -8,7 +8,7 @@ use Rattle.arc_graph.specs.declared.file.ArcLine.{ArcLine}
 use Rattle.arc_graph.specs.Files.{Contents, empty_file, with_arc}
 use Rattle.arc_graph.specs.Agreement.{vector_at, weight_at}
 use Rattle.arc_graph.specs.Stored.{IsStored}
-use Rattle.arc_graph.proofs.Gets.{get_added, get_elsewhere}
+use Rattle.list_laws.proofs.Gets.{get_added, get_elsewhere}
 
 weight_added : (last : Contents) (a : ArcLine) (place : ℕ) → place ≡ length last.arcs → weight_at place (with_arc last a) ≡ a.weight
 weight_added last a place at = ap (λ o. option_map_or (λ (arc : ArcLine). arc.weight) o 0) (get_added last.arcs a place at)

@@ -15,7 +15,7 @@ use Rattle.arc_graph.specs.declared.file.ArcLine.{ArcLine}
 use Rattle.arc_graph.specs.Files.{Contents, size_of, ends_of}
 use Rattle.arc_graph.specs.Agreement.{AgreeInSize, IsZeroArc, vector_at, weight_at}
 use Rattle.arc_graph.specs.Joining.{Joining, IsJoining}
-use Rattle.arc_graph.specs.Lists.{IsLeastWith}
+use Rattle.list_laws.specs.Least.{IsLeastWith}
 use Rattle.arc_graph.specs.StandsFor.{StandsFor}
 use Rattle.arc_graph.specs.Stored.{IsStored, is_zero}
 use Rattle.arc_graph.proofs.Places.{all_at, nonzero_four, sum_front}

@@ -6,8 +6,8 @@ use Rattle.arc_graph.specs.declared.file.ArcLine.{ArcLine}
 use Rattle.arc_graph.specs.declared.join.JoinFault.{JoinFault}
 use Rattle.arc_graph.specs.declared.join.JoinFault.TheVariants.{Sizes, Ends, ZeroArc, OutOfMemory}
 use Rattle.arc_graph.specs.Files.{Contents, size_of, ends_of}
-use Rattle.arc_graph.specs.Lists.{IsLeastWith}
-use Rattle.arc_graph.specs.Network.{Network}
+use Rattle.list_laws.specs.Least.{IsLeastWith}
+use Rattle.road_network.specs.Network.{Network}
 
 -- the first of a list, and number n, counted from 1
 pub record AreFirstAnd {X : Type 0} (xs : List X) (n : ℕ) (first other : X) : Type 0 where

@@ -3,7 +3,7 @@ use Rattle.std.specs.Prelude.{◌≡◌, ℕ, ◌<◌, ◌≤◌, Option, Some, 
 use Rattle.arc_graph.specs.declared.join.JoinFault.{JoinFault}
 use Rattle.arc_graph.specs.declared.join.JoinFault.TheVariants.{Ends, ZeroArc}
 use Rattle.arc_graph.specs.declared.join.OtherEnds.{OtherEnds}
-use Rattle.arc_graph.specs.Lists.{IsLeastWith}
+use Rattle.list_laws.specs.Least.{IsLeastWith}
 
 -- the least arc that differs in some file, and there the least such file, if there is one
 abbrev pub AreLeastIfAny : (ℕ → ℕ → Type 0) → Option OtherEnds → Type 0

@@ -1,7 +1,7 @@
 -- What a weight file says.
 use Rattle.std.specs.Prelude.{ℕ, ◌≤◌, List, [], ◌∷◌, ◌++◌, length}
 use Rattle.std.specs.List.{AllByRecursion}
-use Rattle.arc_graph.specs.Network.{IsNode}
+use Rattle.road_network.specs.Network.{IsNode}
 use Rattle.arc_graph.specs.declared.file.ArcLine.{ArcLine}
 use Rattle.arc_graph.specs.declared.file.TheConstants.{MAX_NODES, MAX_ARCS}
 

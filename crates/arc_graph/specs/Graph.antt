@@ -6,7 +6,7 @@ use Rattle.std.specs.Option.{option_map, option_map_or, option_and_then}
 use Rattle.cost_vector.specs.declared.label.ArcNo.{ArcNo}
 use Rattle.cost_vector.specs.declared.label.Label.{Label}
 use Rattle.cost_vector.specs.Costs.{plus}
-use Rattle.arc_graph.specs.Network.{Network, AreSmall, IsNode, IsVector, Leads}
+use Rattle.road_network.specs.Network.{Network, AreSmall, IsNode, IsVector, Leads}
 use Rattle.arc_graph.specs.declared.file.TheConstants.{MAX_NODES, MAX_ARCS}
 
 -- the nodes, the tail and the head of each arc, and the number of criteria

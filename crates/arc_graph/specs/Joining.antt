@@ -2,7 +2,7 @@
 use Rattle.std.specs.Prelude.{◌≡◌, ℕ, ◌≤◌, List, Option, length}
 use Rattle.std.specs.List.{AllByRecursion}
 use Rattle.arc_graph.specs.declared.join.OtherEnds.{OtherEnds}
-use Rattle.arc_graph.specs.Network.{IsNode}
+use Rattle.road_network.specs.Network.{IsNode}
 use Rattle.arc_graph.specs.Stored.{IsStored}
 use Rattle.arc_graph.specs.declared.file.TheConstants.{MAX_NODES, MAX_ARCS}
 

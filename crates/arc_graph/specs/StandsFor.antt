@@ -1,7 +1,7 @@
 -- Which files a joiner stands for.
 use Rattle.std.specs.Prelude.{◌≡◌, ℕ, ◌-◌, ◌<◌, List, [], Some, length, map, take, slice_get, slice_set, slice_index_or}
 use Rattle.arc_graph.specs.Files.{Contents, size_of, ends_of}
-use Rattle.arc_graph.specs.Lists.{IsLeastIfAny}
+use Rattle.list_laws.specs.Least.{IsLeastIfAny}
 use Rattle.arc_graph.specs.Faults.{AreLeastIfAny}
 use Rattle.arc_graph.specs.Agreement.{IsOtherSize, DiffersInEnds, vector_at}
 use Rattle.arc_graph.specs.Joining.{Joining}

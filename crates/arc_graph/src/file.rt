@@ -1,5 +1,5 @@
 ghost use Rattle.std.specs.Prelude.{◌≡◌, ◌<◌, ◌≤◌, ◌^◌, [], ◌∷◌, ◌++◌, length, OnOk, OnErr};
-ghost use Rattle.arc_graph.specs.Network.{IsNode};
+ghost use Rattle.road_network.specs.Network.{IsNode};
 
 use crate::graph::Ends;
 use cost_vector::{NodeNo, OutOfMemory};

@@ -1,13 +1,13 @@
 ghost use Rattle.std.specs.Prelude.{◌≡◌, ◌≢◌, ◌≤◌, ◌<◌, ◌+◌, ◌↔◌, ◌++◌, List, [], ◌∷◌, length, vec_len, map, position};
 ghost use Rattle.std.specs.Prelude.{IsTrue, IfOk, IfErr, OnOk, MatchOption};
-ghost use Rattle.arc_graph.specs.Network.{IsNetwork, IsNode};
+ghost use Rattle.road_network.specs.Network.{IsNetwork, IsNode};
 ghost use Rattle.arc_graph.specs.Graph.{Match, network};
 ghost use Rattle.arc_graph.specs.Files.{Contents, empty_file, size_of, with_arc};
 ghost use Rattle.arc_graph.specs.Agreement.{Agree, AgreeInSize, HasFault, joined};
 ghost use Rattle.arc_graph.specs.Agreement.{IsOtherSize, IsZeroArc, DiffersInEnds};
 ghost use Rattle.arc_graph.specs.StandsFor.{StandsFor};
 ghost use Rattle.arc_graph.specs.Faults.{AreLeastIfAny, IsEarlier, arc_fault_of};
-ghost use Rattle.arc_graph.specs.Lists.{IsLeastIfAny};
+ghost use Rattle.list_laws.specs.Least.{IsLeastIfAny};
 ghost use Rattle.arc_graph.specs.Stored.{is_zero, states_of};
 
 use crate::file::{ArcFile, ArcLine, MAX_ARCS, MAX_NODES};

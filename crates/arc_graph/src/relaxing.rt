@@ -1,6 +1,6 @@
 ghost use Rattle.std.specs.Prelude.{◌≡◌, ◌≤◌, length, IfOk, IfSome};
 ghost use Rattle.cost_vector.specs.Costs.{plus};
-ghost use Rattle.arc_graph.specs.Network.{IsNode};
+ghost use Rattle.road_network.specs.Network.{IsNode};
 ghost use Rattle.arc_graph.specs.Graph.{Fits, Match, SumsFit, label_by, relaxed, state_of};
 
 use crate::{Graph, Weights};

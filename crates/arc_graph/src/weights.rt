@@ -1,6 +1,6 @@
 ghost use Rattle.std.specs.Prelude.{◌≡◌, ◌≤◌, ◌<◌, ◌-◌, ◌^◌, length, IfOk, IfSome};
 ghost use Rattle.std.specs.List.{AllByRecursion};
-ghost use Rattle.arc_graph.specs.Network.{IsVector};
+ghost use Rattle.road_network.specs.Network.{IsVector};
 ghost use Rattle.arc_graph.specs.Graph.{AreStates, state_of};
 ghost use Rattle.arc_graph.specs.Stored.{AreStored, is_zero, states_of};
 

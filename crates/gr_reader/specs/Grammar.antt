@@ -3,7 +3,7 @@ use Rattle.std.specs.Prelude.{◌≡◌, ℕ, ◌+◌, ◌-◌, ◌^◌, ◌<◌
 use Rattle.std.specs.List.{AllByRecursion, filter_map}
 use Rattle.arc_graph.specs.declared.file.TheConstants.{MAX_NODES, MAX_ARCS}
 use Rattle.arc_graph.specs.declared.file.ArcLine.{ArcLine}
-use Rattle.arc_graph.specs.Network.{IsNode}
+use Rattle.road_network.specs.Network.{IsNode}
 use Rattle.line_text.specs.Lines.{lines_of, without_cr}
 use Rattle.gr_reader.specs.declared.fault.FileLimits.{FileLimits}
 use Rattle.gr_reader.specs.declared.fault.LineKind.{LineKind}

@@ -7,12 +7,12 @@ use Rattle.cost_vector.specs.declared.label.Label.{Label}
 use Rattle.cost_vector.specs.Costs.{plus, AtMost}
 use Rattle.cost_vector.proofs.Vectors.{AtMost-plus_self, length-plus}
 use Rattle.arc_graph.specs.Lists.{IsIn}
-use Rattle.arc_graph.specs.Network.{IsNetwork, IsNode, Leads}
-use Rattle.arc_graph.specs.Walks.{IsSumOf}
+use Rattle.road_network.specs.Network.{IsNetwork, IsNode, Leads}
+use Rattle.road_network.specs.Walks.{IsSumOf}
 use Rattle.arc_graph.specs.Graph.{Arcs, States, IsGraph, AreStates, Match, relaxed, ComesOf}
 use Rattle.arc_graph.proofs.ListLaws.{cases_push}
-use Rattle.arc_graph.proofs.SumLaws.{sum_of_none, sum_of_more, small_by}
-use Rattle.arc_graph.proofs.WalkLaws.{length_of_arrival, node_of_arrival, leads_by_vector}
+use Rattle.road_network.proofs.SumLaws.{sum_of_none, sum_of_more, small_by}
+use Rattle.road_network.proofs.WalkLaws.{length_of_arrival, node_of_arrival, leads_by_vector}
 use Rattle.arc_graph.proofs.RelaxLaws.{network_of, label_in, label_of}
 use Rattle.plain_search.specs.declared.query.Query.{Query}
 use Rattle.plain_search.specs.Search.{Task, task_of, spot_at, IsCovered, IsExpanded, TakesOut, Adds, IsLeastOf, MayWait, AreSpots, IsSearch}

@@ -7,8 +7,8 @@ use Rattle.cost_vector.specs.declared.label.Spot.{Spot}
 use Rattle.cost_vector.specs.Costs.{LexLess}
 use Rattle.cost_vector.proofs.Vectors.{cases_LexLess}
 use Rattle.arc_graph.specs.Lists.{Pairwise, IsIn, AreDistinct}
-use Rattle.arc_graph.specs.Network.{IsNetwork}
-use Rattle.arc_graph.specs.Answers.{AreBestCosts, Passes}
+use Rattle.road_network.specs.Network.{IsNetwork}
+use Rattle.road_network.specs.Answers.{AreBestCosts, Passes}
 use Rattle.arc_graph.proofs.ListLaws.{all_in, all_from_in, in_map, of_map, pairwise_map, pairwise_push, cases_push, pigeonhole}
 use Rattle.plain_search.specs.Search.{Task, IsRelevantTo, spot_at, costs_at, Prunes, IsLeastOf, IsSearch}
 use Rattle.plain_search.proofs.Pruning.{pruned_by, Prunes-refl, least_of}

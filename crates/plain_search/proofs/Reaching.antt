@@ -5,10 +5,10 @@ use Rattle.cost_vector.specs.declared.label.Spot.{Spot}
 use Rattle.cost_vector.specs.Costs.{AtMost, Dominates, plus, Within}
 use Rattle.cost_vector.proofs.Vectors.{AtMost-refl, AtMost-trans, AtMost-antisymm, AtMost-plus, AtMost-plus_self, AtMost-Dominates, LexLess_from_Dominates, Within-AtMost, cases_same}
 use Rattle.arc_graph.specs.Lists.{IsIn}
-use Rattle.arc_graph.specs.Network.{IsNetwork, Leads}
-use Rattle.arc_graph.specs.Walks.{Arrives, IsWalk}
-use Rattle.arc_graph.specs.Best.{IsBest}
-use Rattle.arc_graph.proofs.WalkLaws.{arrives_by_walk, walk_by_arrival, length_of_arrival, leads_by_vector}
+use Rattle.road_network.specs.Network.{IsNetwork, Leads}
+use Rattle.road_network.specs.Walks.{Arrives, IsWalk}
+use Rattle.road_network.specs.Best.{IsBest}
+use Rattle.road_network.proofs.WalkLaws.{arrives_by_walk, walk_by_arrival, length_of_arrival, leads_by_vector}
 use Rattle.plain_search.specs.Search.{Task, IsRelevantTo, spot_at, Prunes, IsPruned, IsCovered, IsLeastOf, IsSearch}
 use Rattle.plain_search.proofs.Pruning.{pruner_of, pruned_by, pruned_on}
 

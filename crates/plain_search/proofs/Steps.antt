@@ -3,9 +3,9 @@ use Rattle.std.proofs.Common.{◌≡◌, ◌≢◌, ◌+◌, List, [], ◌∷◌
 use Rattle.cost_vector.specs.declared.label.Spot.{Spot}
 use Rattle.cost_vector.specs.Costs.{LexLess, Within}
 use Rattle.arc_graph.specs.Lists.{IsIn}
-use Rattle.arc_graph.specs.Network.{IsNetwork}
+use Rattle.road_network.specs.Network.{IsNetwork}
 use Rattle.arc_graph.proofs.ListLaws.{in_append_left, in_push, cases_push, pairwise_push}
-use Rattle.arc_graph.proofs.SumLaws.{sum_of_most}
+use Rattle.road_network.proofs.SumLaws.{sum_of_most}
 use Rattle.plain_search.specs.Search.{Task, IsRelevantTo, Prunes, IsPruned, IsCovered, TakesOut, Adds, IsLeastOf, MayWait, AreSpots, IsSearch}
 use Rattle.plain_search.proofs.Pruning.{Prunes-refl, Prunes-trans, pruner_of, pruned_by, pruned_on, pruned_more, cases_pruned-push}
 use Rattle.plain_search.proofs.Reaching.{least_is_relevant}

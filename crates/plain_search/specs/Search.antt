@@ -3,9 +3,9 @@ use Rattle.std.specs.Prelude.{◌≡◌, ◌≢◌, ℕ, ◌⊎◌, ◌==◌, Li
 use Rattle.cost_vector.specs.declared.label.Spot.{Spot}
 use Rattle.cost_vector.specs.Costs.{AtMost, plus, Within, LexLess}
 use Rattle.arc_graph.specs.Lists.{Pairwise, IsIn, AreDistinct}
-use Rattle.arc_graph.specs.Network.{Network, Leads}
-use Rattle.arc_graph.specs.Walks.{Arrives, IsSumOf}
-use Rattle.arc_graph.specs.Answers.{IsRelevant}
+use Rattle.road_network.specs.Network.{Network, Leads}
+use Rattle.road_network.specs.Walks.{Arrives, IsSumOf}
+use Rattle.road_network.specs.Answers.{IsRelevant}
 use Rattle.arc_graph.specs.Graph.{Arcs, States, network}
 use Rattle.plain_search.specs.declared.query.Query.{Query}
 

@@ -1,7 +1,7 @@
 ghost use Rattle.std.specs.Prelude.{◌≡◌, ◌≤◌, length, IfOk, OnOk, IsErrOf};
-ghost use Rattle.arc_graph.specs.Network.{IsNode};
+ghost use Rattle.road_network.specs.Network.{IsNode};
 ghost use Rattle.arc_graph.specs.Graph.{Match, network};
-ghost use Rattle.arc_graph.specs.Answers.{AreBestCosts, Passes};
+ghost use Rattle.road_network.specs.Answers.{AreBestCosts, Passes};
 
 use crate::query::{MAX_BUDGET, Query, SearchFault};
 use crate::search::Search;

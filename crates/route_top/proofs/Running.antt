@@ -2,7 +2,7 @@
 use Rattle.std.proofs.Common.{◌≡◌, ℕ, ◌<◌, List, [], length, take, Option, Some, None, IfSome, Bool, true, false, Result, Ok, Err, refl, sym, ap, subst, append-nil, inl, inr}
 use Rattle.std.specs.Io.KnownBytes.{Appends}
 use Rattle.route_io.specs.Files.{FileMap}
-use Rattle.arc_graph.specs.Network.{Network}
+use Rattle.road_network.specs.Network.{Network}
 use Rattle.command_words.specs.Words.{AreWords, Asked, Asks}
 use Rattle.route_top.proofs.Sending.{SentPart}
 use Rattle.route_top.specs.declared.stop.Stop.{Stop}

@@ -1,7 +1,7 @@
 -- What the command `check` replies of a network, and how it ends.
 use Rattle.std.specs.Prelude.{◌≡◌, ℕ, Bool, true, false, List, length}
 use Rattle.route_io.specs.Files.{FileMap}
-use Rattle.arc_graph.specs.Network.{Network}
+use Rattle.road_network.specs.Network.{Network}
 use Rattle.route_top.specs.FilesRead.{FilesEnd}
 use Rattle.route_top.specs.Texts.{check_reply}
 use Rattle.route_top.specs.Outcome.{Outcome}

@@ -2,8 +2,8 @@
 use Rattle.std.specs.Prelude.{◌≡◌, ℕ, Bool, true, false, List, ◌⊎◌}
 use Rattle.cost_vector.specs.Costs.{no_limit}
 use Rattle.route_io.specs.Files.{FileMap}
-use Rattle.arc_graph.specs.Network.{Network, IsNode}
-use Rattle.arc_graph.specs.Answers.{AreBestCosts, Passes}
+use Rattle.road_network.specs.Network.{Network, IsNode}
+use Rattle.road_network.specs.Answers.{AreBestCosts, Passes}
 use Rattle.command_words.specs.Words.{CostsAsked, QueryAsked}
 use Rattle.route_top.specs.FilesRead.{FilesEnd}
 use Rattle.route_top.specs.Texts.{costs_reply, node_refusal, budget_refusal}

@@ -3,7 +3,7 @@ use Rattle.std.specs.Prelude.{◌≡◌, ℕ, Bool, true, false, List, [], ◌�
 use Rattle.std.specs.List.{AllZip}
 use Rattle.route_io.specs.Files.{FileMap}
 use Rattle.arc_graph.specs.declared.join.JoinFault.{JoinFault}
-use Rattle.arc_graph.specs.Network.{Network}
+use Rattle.road_network.specs.Network.{Network}
 use Rattle.arc_graph.specs.Files.{Contents}
 use Rattle.arc_graph.specs.Agreement.{Agree, HasFault, joined}
 use Rattle.gr_reader.specs.Grammar.{IsGr, GrFault}

@@ -3,7 +3,7 @@ use Rattle.std.proofs.lemmas.List.{take_all}
 use Rattle.arc_graph.proofs.StandingLemmas.{stands_more}
 use Rattle.std.specs.List.{AllByRecursion}
 use Rattle.arc_graph.specs.declared.file.ArcLine.{ArcLine}
-use Rattle.arc_graph.specs.Network.{IsNode}
+use Rattle.road_network.specs.Network.{IsNode}
 use Rattle.arc_graph.proofs.Places.{all_at}
 use Rattle.arc_graph.proofs.join.add_file.Goals as goal
 

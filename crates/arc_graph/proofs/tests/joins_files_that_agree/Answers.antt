@@ -1,6 +1,6 @@
 use Rattle.std.proofs.Common.{◌<◌, ◌^◌, sym, subst, arith}
 use Rattle.std.specs.List.{AllByRecursion}
-use Rattle.arc_graph.proofs.SumLaws.{sums_fit}
+use Rattle.road_network.proofs.SumLaws.{sums_fit}
 use Rattle.arc_graph.proofs.tests.joins_files_that_agree.Goals as goal
 
 pub relax-requires-clause-fits : goal.relax-requires-clause-fits

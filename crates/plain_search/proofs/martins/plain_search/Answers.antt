@@ -1,6 +1,6 @@
 use Rattle.std.proofs.Common.{◌≢◌, [], replicate, refl, sym, ap, subst, ◌∙◌, inl, inr}
 use Rattle.std.proofs.lemmas.Bool.{false≢true}
-use Rattle.arc_graph.specs.Answers.{AreBestCosts}
+use Rattle.road_network.specs.Answers.{AreBestCosts}
 use Rattle.arc_graph.proofs.RelaxLaws.{network_of}
 use Rattle.plain_search.specs.Search.{task_of}
 use Rattle.plain_search.proofs.Expanding.{search_begins}

@@ -1,6 +1,6 @@
 use Rattle.std.proofs.Common.{sym, ◌∙◌, arith}
 use Rattle.plain_search.proofs.Expanding.{expanding_begins, expanding_next, expanding_done, node_of_waiting, length_of_waiting, length_of_next}
-use Rattle.arc_graph.proofs.SumLaws.{sum_below, sums_fit}
+use Rattle.road_network.proofs.SumLaws.{sum_below, sums_fit}
 use Rattle.plain_search.proofs.search.Search.expand.Goals as goal
 
 pub relax-requires-clause-node : goal.relax-requires-clause-node

@@ -1,5 +1,5 @@
-use Rattle.arc_graph.proofs.BestLaws.{each_has_best_below, first_part_is_best, start_is_relevant}
-use Rattle.arc_graph.proofs.laws.best_costs_lie_below_all.Goals as goal
+use Rattle.road_network.proofs.BestLaws.{each_has_best_below, first_part_is_best, start_is_relevant}
+use Rattle.road_network.proofs.laws.best_costs_lie_below_all.Goals as goal
 
 pub returns-clause-below : goal.returns-clause-below
 returns-clause-below c = λ net p s v cost is. each_has_best_below net is p s v cost

@@ -1,9 +1,9 @@
 -- Which costs and which walks a query asks for (Martins 1984).
 use Rattle.std.specs.Prelude.{◌≢◌, ℕ, List, reverse}
 use Rattle.cost_vector.specs.Costs.{AtMost, Dominates}
-use Rattle.arc_graph.specs.Network.{Network}
-use Rattle.arc_graph.specs.Walks.{IsWalk}
-use Rattle.arc_graph.specs.Lists.{IsLessAtFirst}
+use Rattle.road_network.specs.Network.{Network}
+use Rattle.road_network.specs.Walks.{IsWalk}
+use Rattle.list_laws.specs.FirstDifference.{IsLessAtFirst}
 
 -- c is best at v, from s: some walk has that cost, and none has a cost that dominates it
 pub record IsBest (net : Network) (s v : ℕ) (c : List ℕ) : Type 0 where

@@ -1,7 +1,6 @@
 -- Road networks whose arcs have several weights each: the problem of Martins, "On a multicriteria shortest path
 -- problem", European Journal of Operational Research 16, 1984.
-use Rattle.std.specs.Prelude.{◌≡◌, ℕ, ◌-◌, ◌^◌, ◌<◌, ◌≤◌, List, Option, Some, IfSome, length, sum, slice_get}
-use Rattle.std.specs.List.{AllByRecursion}
+use Rattle.std.specs.Prelude.{◌≡◌, ℕ, ◌-◌, ◌^◌, ◌<◌, ◌≤◌, List, Option, Some, IfSome, length, sum, slice_get, All}
 
 -- A network: the nodes are numbered from 1 to `nodes`, the arcs from 1 in the order of `ends`, which has the tail and
 -- the head of each. `states` has for each arc its vector, which lists its weights, or None where the arc is shut.
@@ -23,16 +22,16 @@ pub record IsVector (criteria : ℕ) (w : List ℕ) : Type 0 where
 
 -- each weight has 32 bits at most
 abbrev pub AreSmall : List (Option (List ℕ)) → Type 0
-AreSmall states = AllByRecursion (λ s. IfSome s (AllByRecursion (λ x. x < 2 ^ 32))) states
+AreSmall states = All (λ s. IfSome s (All (λ x. x < 2 ^ 32))) states
 
 -- the network is one: two to four criteria, ends that are nodes, and a state for each arc
 pub record IsNetwork (net : Network) : Type 0 where
   pub two : 2 ≤ net.criteria
   pub four : net.criteria ≤ 4
-  pub tails : AllByRecursion (λ e. IsNode net.nodes e.0) net.ends
-  pub heads : AllByRecursion (λ e. IsNode net.nodes e.1) net.ends
+  pub tails : All (λ e. IsNode net.nodes e.0) net.ends
+  pub heads : All (λ e. IsNode net.nodes e.1) net.ends
   pub matched : length net.states ≡ length net.ends
-  pub vectors : AllByRecursion (λ s. IfSome s (IsVector net.criteria)) net.states
+  pub vectors : All (λ s. IfSome s (IsVector net.criteria)) net.states
 
 -- Arc k leads from u to v, and is passable with the vector w. No shut arc leads anywhere.
 pub record Leads (net : Network) (k u : ℕ) (w : List ℕ) (v : ℕ) : Type 0 where

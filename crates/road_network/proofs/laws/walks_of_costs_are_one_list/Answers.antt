@@ -1,6 +1,6 @@
-use Rattle.arc_graph.proofs.BackwardLaws.{has_backward_least, one_backward_least}
-use Rattle.arc_graph.proofs.AnswerLaws.{has_answer, one_answer}
-use Rattle.arc_graph.proofs.laws.walks_of_costs_are_one_list.Goals as goal
+use Rattle.road_network.proofs.BackwardLaws.{has_backward_least, one_backward_least}
+use Rattle.road_network.proofs.AnswerLaws.{has_answer, one_answer}
+use Rattle.road_network.proofs.laws.walks_of_costs_are_one_list.Goals as goal
 
 pub returns-clause-some_walk : goal.returns-clause-some_walk
 returns-clause-some_walk c = λ net p s v cost is. has_backward_least net is p s v cost

@@ -1,8 +1,7 @@
 -- Walks and their costs (Martins 1984).
-use Rattle.std.specs.Prelude.{◌≡◌, ℕ, ◌*◌, ◌-◌, ◌^◌, ◌≤◌, List, [], ◌∷◌, replicate}
-use Rattle.std.specs.List.{AllByRecursion}
+use Rattle.std.specs.Prelude.{◌≡◌, ℕ, ◌*◌, ◌-◌, ◌^◌, ◌≤◌, List, [], ◌∷◌, replicate, All}
 use Rattle.cost_vector.specs.Costs.{plus}
-use Rattle.arc_graph.specs.Network.{Network, IsNode, Leads}
+use Rattle.road_network.specs.Network.{Network, IsNode, Leads}
 
 -- Arc k leads from u by the vector `by` to the node `at`, from which there is a walk of cost `onward`. Both add up to c.
 pub record GoesOn (net : Network) (k u : ℕ) (IsOnward : ℕ → List ℕ → Type 0) (c : List ℕ) : Type 0 where
@@ -35,4 +34,4 @@ Arrives net s (k ∷ before) v c = EndsBy net k v (λ u b. Arrives net s before 
 
 -- no component is greater than so many weights of 32 bits can make it
 abbrev pub IsSumOf : ℕ → List ℕ → Type 0
-IsSumOf count cost = AllByRecursion (λ x. x ≤ count * (2 ^ 32 - 1)) cost
+IsSumOf count cost = All (λ x. x ≤ count * (2 ^ 32 - 1)) cost

@@ -1,15 +1,13 @@
 -- The answer to a query from s to t within a limit, and when a query passes its budget.
-use Rattle.std.specs.Prelude.{◌≡◌, ℕ, ◌+◌, ◌↔◌, List, Option, length, map}
-use Rattle.std.specs.List.{AllByRecursion}
+use Rattle.std.specs.Prelude.{◌≡◌, ◌≢◌, ℕ, ◌+◌, ◌↔◌, List, Option, length, map, All, AllPairs, Contains}
 use Rattle.cost_vector.specs.Costs.{Dominates, LexLess, Within}
-use Rattle.arc_graph.specs.Network.{Network}
-use Rattle.arc_graph.specs.Best.{IsBest, IsBackwardLeast}
-use Rattle.arc_graph.specs.Lists.{Pairwise, IsIn, AreDistinct}
+use Rattle.road_network.specs.Network.{Network}
+use Rattle.road_network.specs.Best.{IsBest, IsBackwardLeast}
 
 -- the best costs of t within the limit, each once, in strictly ascending lexicographic order
 pub record AreBestCosts (net : Network) (s t : ℕ) (limit : List (Option ℕ)) (costs : List (List ℕ)) : Type 0 where
-  pub ascending : Pairwise LexLess costs
-  pub exact : (c : List ℕ) → IsIn c costs ↔ (IsBest net s t c × Within limit c)
+  pub ascending : AllPairs LexLess costs
+  pub exact : (c : List ℕ) → Contains costs c ↔ (IsBest net s t c × Within limit c)
 
 -- a cost with a walk that has it
 pub record Route : Type 0 where
@@ -19,7 +17,7 @@ pub record Route : Type 0 where
 -- those costs, each with its backward-least walk
 pub record IsAnswer (net : Network) (s t : ℕ) (limit : List (Option ℕ)) (routes : List Route) : Type 0 where
   pub costs : AreBestCosts net s t limit (map (λ r. r.cost) routes)
-  pub walks : AllByRecursion (λ r. IsBackwardLeast net s t r.cost r.arcs) routes
+  pub walks : All (λ r. IsBackwardLeast net s t r.cost r.arcs) routes
 
 -- The pair of a node and a cost is relevant: the cost is best at the node and within the limit, and no best cost of t
 -- dominates it.
@@ -32,5 +30,5 @@ pub record IsRelevant (net : Network) (s t : ℕ) (limit : List (Option ℕ)) (v
 pub record Passes (net : Network) (s t : ℕ) (limit : List (Option ℕ)) (budget : ℕ) : Type 0 where
   pub pairs : List (ℕ × List ℕ)
   pub more : length pairs ≡ budget + 1
-  pub distinct : AreDistinct pairs
-  pub relevant : AllByRecursion (λ p. IsRelevant net s t limit p.0 p.1) pairs
+  pub distinct : AllPairs ◌≢◌ pairs
+  pub relevant : All (λ p. IsRelevant net s t limit p.0 p.1) pairs

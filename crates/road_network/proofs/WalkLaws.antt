@@ -3,9 +3,9 @@ use Rattle.std.proofs.Common.{◌≡◌, ℕ, ◌-◌, List, [], ◌∷◌, ◌+
 use Rattle.std.proofs.lemmas.List.{length-replicate, reverse-append, reverse-reverse}
 use Rattle.cost_vector.specs.Costs.{plus}
 use Rattle.cost_vector.proofs.Vectors.{length-plus, plus_assoc, plus-zeros, zeros-plus}
-use Rattle.arc_graph.specs.Network.{Network, IsNetwork, IsNode, IsVector, Leads}
-use Rattle.arc_graph.specs.Walks.{IsWalk, Arrives}
-use Rattle.arc_graph.proofs.ListLaws.{all_got}
+use Rattle.road_network.specs.Network.{Network, IsNetwork, IsNode, IsVector, Leads}
+use Rattle.road_network.specs.Walks.{IsWalk, Arrives}
+use Rattle.list_laws.proofs.Members.{all_got}
 
 module _ (net : Network) (is : IsNetwork net) where
   abbrev zeros : List ℕ

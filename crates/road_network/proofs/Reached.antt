@@ -6,24 +6,10 @@ use Rattle.std.proofs.lemmas.Option.{get_or_from_slice_get, slice_get_cases}
 use Rattle.cost_vector.specs.Costs.{AtMost, Dominates, plus}
 use Rattle.cost_vector.proofs.Sums.{each, length-each, plus-minus}
 use Rattle.cost_vector.proofs.Vectors.{AtMost-refl, AtMost-trans, AtMost-plus_other, cases_AtMost, cases_Dominates, cases_same, Dominates-plus, Dominates-cancel, plus_cancel, sum-plus}
-use Rattle.arc_graph.specs.Lists.{IsLeastWith}
-use Rattle.arc_graph.specs.Network.{Network, IsNetwork, IsNode, Leads}
-use Rattle.arc_graph.specs.Walks.{Arrives, EndsBy}
-use Rattle.arc_graph.proofs.WalkLaws.{leads_by_vector, length_of_arrival}
-
--- the least number of a kind, of those below a bound, where each can be told
-pub least_below : (P : ℕ → Type 0) → ((k : ℕ) → P k ⊎ (¬ P k)) → (bound : ℕ) → ((k : ℕ) × IsLeastWith P k) ⊎ ((k : ℕ) → k < bound → ¬ P k)
-least_below P decided zero = inr (λ k below. omega arith)
-least_below P decided (suc n) = elim (least_below P decided n) [
-  | inl found ↦ inl found
-  | inr none ↦ elim (decided n) [
-    | inl here ↦ inl (n, record { holds = here; none_below = none })
-    | inr elsewhere ↦ inr (λ k below p. elim (cases_lt k n) [
-      | inl before ↦ none k before p
-      | inr above ↦ let same : k ≡ n = omega arith in elsewhere (subst P same p)
-    ])
-  ]
-]
+use Rattle.road_network.specs.Network.{Network, IsNetwork, IsNode, Leads}
+use Rattle.road_network.specs.Walks.{Arrives, EndsBy}
+use Rattle.list_laws.proofs.Least.{least_below}
+use Rattle.road_network.proofs.WalkLaws.{leads_by_vector, length_of_arrival}
 
 -- a relation of costs that stands where the same is added to both, or taken from both
 pub record IsShiftable (R : List ℕ → List ℕ → Type 0) : Type 0 where

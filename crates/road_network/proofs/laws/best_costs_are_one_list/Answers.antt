@@ -1,5 +1,5 @@
-use Rattle.arc_graph.proofs.AnswerLaws.{one_list, none_only_where_no_walk}
-use Rattle.arc_graph.proofs.laws.best_costs_are_one_list.Goals as goal
+use Rattle.road_network.proofs.AnswerLaws.{one_list, none_only_where_no_walk}
+use Rattle.road_network.proofs.laws.best_costs_are_one_list.Goals as goal
 
 pub returns-clause-one : goal.returns-clause-one
 returns-clause-one c = one_list

@@ -4,12 +4,12 @@ use Rattle.std.proofs.Common.{◌≡◌, ℕ, zero, suc, ◌<◌, List, [], ◌�
 use Rattle.std.proofs.lemmas.List.{length-replicate}
 use Rattle.cost_vector.specs.Costs.{Dominates, Within, plus}
 use Rattle.cost_vector.proofs.Vectors.{AtMost-refl, AtMost-trans, AtMost-antisymm, AtMost-zeros, AtMost-length, AtMost-plus_self, Dominates-plus, sum-plus, sum-Dominates}
-use Rattle.arc_graph.specs.Network.{Network, IsNetwork, IsNode, Leads}
-use Rattle.arc_graph.specs.Walks.{IsWalk}
-use Rattle.arc_graph.specs.Best.{IsBest, HasBestBelow, EndsAtBest}
-use Rattle.arc_graph.specs.Answers.{IsRelevant}
-use Rattle.arc_graph.proofs.WalkLaws.{leads_by_vector, length_of_walk, arrives_by_walk, walk_by_arrival, walk_after, parts_of_walk, start_of_walk}
-use Rattle.arc_graph.proofs.Reached.{dominance_shifts, cases_reached}
+use Rattle.road_network.specs.Network.{Network, IsNetwork, IsNode, Leads}
+use Rattle.road_network.specs.Walks.{IsWalk}
+use Rattle.road_network.specs.Best.{IsBest, HasBestBelow, EndsAtBest}
+use Rattle.road_network.specs.Answers.{IsRelevant}
+use Rattle.road_network.proofs.WalkLaws.{leads_by_vector, length_of_walk, arrives_by_walk, walk_by_arrival, walk_after, parts_of_walk, start_of_walk}
+use Rattle.road_network.proofs.Reached.{dominance_shifts, cases_reached}
 
 -- zeros are within every limit
 Within-zeros : (limit : List (Option ℕ)) (d : ℕ) → length limit ≡ d → Within limit (replicate d 0)

@@ -6,12 +6,14 @@ use Rattle.std.proofs.lemmas.List.Folds.{sum_by-replicate}
 use Rattle.cost_vector.specs.Costs.{plus}
 use Rattle.cost_vector.proofs.Sums.{plus-minus}
 use Rattle.cost_vector.proofs.Vectors.{cases_same, plus_cancel, sum-plus}
-use Rattle.arc_graph.specs.Lists.{IsLessAtFirst, IsLeastWith}
-use Rattle.arc_graph.specs.Network.{Network, IsNetwork, IsNode, Leads}
-use Rattle.arc_graph.specs.Walks.{IsWalk, Arrives}
-use Rattle.arc_graph.specs.Best.{IsBackwardLeast}
-use Rattle.arc_graph.proofs.WalkLaws.{leads_by_vector, length_of_arrival, arrives_by_walk, walk_by_arrival, start_of_walk}
-use Rattle.arc_graph.proofs.Reached.{equality_shifts, least_below, leads_alike, less, left, IsReachedAlong, along_last, cases_along}
+use Rattle.list_laws.specs.Least.{IsLeastWith}
+use Rattle.list_laws.specs.FirstDifference.{IsLessAtFirst}
+use Rattle.road_network.specs.Network.{Network, IsNetwork, IsNode, Leads}
+use Rattle.road_network.specs.Walks.{IsWalk, Arrives}
+use Rattle.road_network.specs.Best.{IsBackwardLeast}
+use Rattle.list_laws.proofs.Least.{least_below}
+use Rattle.road_network.proofs.WalkLaws.{leads_by_vector, length_of_arrival, arrives_by_walk, walk_by_arrival, start_of_walk}
+use Rattle.road_network.proofs.Reached.{equality_shifts, leads_alike, less, left, IsReachedAlong, along_last, cases_along}
 
 less_not_both : (xs ys : List ℕ) → IsLessAtFirst xs ys → ¬ IsLessAtFirst ys xs
 less_not_both [] ys h k = absurd h

@@ -1,0 +1,5 @@
+pub mod Members
+pub mod Pairs
+pub mod Gets
+pub mod Least
+pub mod Ascending

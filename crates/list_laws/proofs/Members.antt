@@ -1,0 +1,86 @@
+-- Members of lists: the steps of an induction, and the members of lists that are made from lists.
+use Rattle.std.proofs.Common.{◌≡◌, ℕ, zero, suc, List, [], ◌∷◌, ◌++◌, map, get_or, Option, Some, None, ◌⊎◌, inl, inr, refl, sym, ap, subst, ◌∙◌, arith}
+use Rattle.std.specs.Prelude.{slice_get, All, Contains}
+use Rattle.std.specs.List.{AllByRecursion, filter_map, cons_option}
+use Rattle.std.proofs.lemmas.List.Elements.{recursion_from_All, All-contains, Contains-push_cases, Contains-get_or}
+
+got : {X : Type 0} (P : X → Type 0) (xs : List X) (i : ℕ) (x : X) → AllByRecursion P xs → slice_get xs i ≡ Some x → P x
+got P [] i x all e = cc
+got P (y ∷ ys) zero x all e = let same : y ≡ x = cc in subst P same all.0
+got P (y ∷ ys) (suc i) x all e = got P ys i x all.1 e
+
+-- ---- the steps of an induction: these alone know how std says that a list contains something
+
+module _ {X : Type 0} where
+  pub in_none : (x : X) → ¬ Contains [] x
+  in_none x h = omega (arith, h.1)
+
+  pub in_first : (x : X) (xs : List X) → Contains (x ∷ xs) x
+  in_first x xs = (0, omega arith, refl)
+
+  pub in_rest : (y : X) (xs : List X) (x : X) → Contains xs x → Contains (y ∷ xs) x
+  in_rest y xs x h = (suc h.0, omega (arith, h.1), h.2)
+
+  pub in_front : (y : X) (xs : List X) (x : X) → x ≡ y → Contains (y ∷ xs) x
+  in_front y xs x same = (0, omega arith, sym same)
+
+  pub cases_in : (y : X) (xs : List X) (x : X) → Contains (y ∷ xs) x → (x ≡ y) ⊎ Contains xs x
+  cases_in y xs x (zero, within, is) = inl (sym is)
+  cases_in y xs x (suc i, within, is) = inr (i, omega (arith, within), is)
+
+  pub in_one : (y x : X) → Contains (y ∷ []) x → x ≡ y
+  in_one y x h = elim (cases_in y [] x h) [ inl same ↦ same | inr none ↦ absurd (in_none x none) ]
+
+  -- ---- what holds of each element
+
+  pub each_in : (P : X → Type 0) (xs : List X) → All P xs → (x : X) → Contains xs x → P x
+  each_in P xs all x h = All-contains P xs x all h
+
+  pub all_from_in : (P : X → Type 0) (xs : List X) → ((x : X) → Contains xs x → P x) → All P xs
+  all_from_in P xs each = λ k d within. each (get_or xs k d) (Contains-get_or xs k d within)
+
+  pub all_got : (P : X → Type 0) (xs : List X) (i : ℕ) (x : X) → All P xs → slice_get xs i ≡ Some x → P x
+  all_got P xs i x all e = got P xs i x (recursion_from_All P xs all) e
+
+  -- the last one that was added, or one of before
+  pub cases_push : (xs : List X) (y x : X) → Contains (xs ++ y ∷ []) x → Contains xs x ⊎ (x ≡ y)
+  cases_push xs y x h = elim (Contains-push_cases xs y x h) [ inl old ↦ inl old | inr last ↦ inr (sym last) ]
+
+-- ---- lists made from lists
+
+in_cons_option : {Y : Type 0} (o : Option Y) (ys : List Y) (y : Y) → Contains ys y → Contains (cons_option o ys) y
+in_cons_option None ys y h = h
+in_cons_option (Some v) ys y h = in_rest v ys y h
+
+of_cons_option : {Y : Type 0} (o : Option Y) (ys : List Y) (y : Y) → Contains (cons_option o ys) y → (o ≡ Some y) ⊎ Contains ys y
+of_cons_option None ys y h = inr h
+of_cons_option {Y} (Some v) ys y h = elim (cases_in v ys y h) [ inl e ↦ inl (ap (λ (w : Y). Some w) (sym e)) | inr more ↦ inr more ]
+
+module _ {X Y : Type 0} where
+  pub in_map : (f : X → Y) (xs : List X) (x : X) → Contains xs x → Contains (map f xs) (f x)
+  in_map f [] x h = absurd (in_none x h)
+  in_map f (z ∷ zs) x h = elim (cases_in z zs x h) [
+    | inl e ↦ in_front (f z) (map f zs) (f x) (ap f e)
+    | inr more ↦ in_rest (f z) (map f zs) (f x) (in_map f zs x more)
+  ]
+
+  pub of_map : (f : X → Y) (xs : List X) (y : Y) → Contains (map f xs) y → (x : X) × Contains xs x × (y ≡ f x)
+  of_map f [] y h = absurd (in_none y h)
+  of_map f (z ∷ zs) y h = elim (cases_in (f z) (map f zs) y h) [
+    | inl e ↦ (z, in_first z zs, e)
+    | inr more ↦ let rest = of_map f zs y more in (rest.0, in_rest z zs rest.0 rest.1, rest.2)
+  ]
+
+  pub in_filter_map : (f : X → Option Y) (xs : List X) (x : X) (y : Y) → Contains xs x → f x ≡ Some y → Contains (filter_map f xs) y
+  in_filter_map f [] x y h gives = absurd (in_none x h)
+  in_filter_map f (z ∷ zs) x y h gives = elim (cases_in z zs x h) [
+    | inl e ↦ subst (λ o. Contains (cons_option o (filter_map f zs)) y) (sym (ap f (sym e) ∙ gives)) (in_first y (filter_map f zs))
+    | inr more ↦ in_cons_option (f z) (filter_map f zs) y (in_filter_map f zs x y more gives)
+  ]
+
+  pub of_filter_map : (f : X → Option Y) (xs : List X) (y : Y) → Contains (filter_map f xs) y → (x : X) × Contains xs x × (f x ≡ Some y)
+  of_filter_map f [] y h = absurd (in_none y h)
+  of_filter_map f (z ∷ zs) y h = elim (of_cons_option (f z) (filter_map f zs) y h) [
+    | inl first ↦ (z, in_first z zs, first)
+    | inr more ↦ let rest = of_filter_map f zs y more in (rest.0, in_rest z zs rest.0 rest.1, rest.2)
+  ]

@@ -1,0 +1,2 @@
+pub mod FirstDifference
+pub mod Least

@@ -1,0 +1,6 @@
+pub mod WalkLaws
+pub mod SumLaws
+pub mod Reached
+pub mod BestLaws
+pub mod BackwardLaws
+pub mod AnswerLaws

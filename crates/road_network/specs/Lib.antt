@@ -1,0 +1,5 @@
+pub mod Limits
+pub mod Network
+pub mod Walks
+pub mod Best
+pub mod Answers

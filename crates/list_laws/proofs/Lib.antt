@@ -3,3 +3,4 @@ pub mod Pairs
 pub mod Gets
 pub mod Least
 pub mod Ascending
+pub mod FirstDifference

@@ -1,8 +1,8 @@
 -- Members of lists: the steps of an induction, and the members of lists that are made from lists.
-use Rattle.std.proofs.Common.{◌≡◌, ℕ, zero, suc, List, [], ◌∷◌, ◌++◌, map, get_or, Option, Some, None, ◌⊎◌, inl, inr, refl, sym, ap, subst, ◌∙◌, arith}
+use Rattle.std.proofs.Common.{◌≡◌, ℕ, zero, suc, List, [], ◌∷◌, ◌++◌, map, get_or, Option, Some, None, ◌⊎◌, ◌↔◌, inl, inr, refl, sym, ap, subst, ◌∙◌, arith}
 use Rattle.std.specs.Prelude.{slice_get, All, Contains}
-use Rattle.std.specs.List.{AllByRecursion, filter_map, cons_option}
-use Rattle.std.proofs.lemmas.List.Elements.{recursion_from_All, All-contains, Contains-push_cases, Contains-get_or}
+use Rattle.std.specs.List.{AllByRecursion, filter_map, cons_option, flat_map}
+use Rattle.std.proofs.lemmas.List.Elements.{recursion_from_All, All-contains, Contains-push_cases, Contains-get_or, Contains-append_left, Contains-append_right}
 
 got : {X : Type 0} (P : X → Type 0) (xs : List X) (i : ℕ) (x : X) → AllByRecursion P xs → slice_get xs i ≡ Some x → P x
 got P [] i x all e = cc
@@ -27,6 +27,10 @@ module _ {X : Type 0} where
   pub cases_in : (y : X) (xs : List X) (x : X) → Contains (y ∷ xs) x → (x ≡ y) ⊎ Contains xs x
   cases_in y xs x (zero, within, is) = inl (sym is)
   cases_in y xs x (suc i, within, is) = inr (i, omega (arith, within), is)
+
+  -- both directions at once
+  pub in_either : (y : X) (xs : List X) (x : X) → Contains (y ∷ xs) x ↔ ((x ≡ y) ⊎ Contains xs x)
+  in_either y xs x = (cases_in y xs x, λ either. elim either [ inl same ↦ in_front y xs x same | inr there ↦ in_rest y xs x there ])
 
   pub in_one : (y x : X) → Contains (y ∷ []) x → x ≡ y
   in_one y x h = elim (cases_in y [] x h) [ inl same ↦ same | inr none ↦ absurd (in_none x none) ]
@@ -84,3 +88,15 @@ module _ {X Y : Type 0} where
     | inl first ↦ (z, in_first z zs, first)
     | inr more ↦ let rest = of_filter_map f zs y more in (rest.0, in_rest z zs rest.0 rest.1, rest.2)
   ]
+
+-- what f makes of an element of each of two lists
+abbrev pub products : {X Y Z : Type 0} → (X → Y → Z) → List X → List Y → List Z
+products f xs ys = flat_map (λ x. map (f x) ys) xs
+
+pub in_products : {X Y Z : Type 0} (f : X → Y → Z) (xs : List X) (ys : List Y) (x : X) (y : Y) → Contains xs x → Contains ys y
+    → Contains (products f xs ys) (f x y)
+in_products f [] ys x y there too = absurd (in_none x there)
+in_products f (z ∷ zs) ys x y there too = elim (cases_in z zs x there) [
+  | inl same ↦ Contains-append_left (map (f z) ys) (products f zs ys) (f x y) (subst (λ u. Contains (map (f u) ys) (f x y)) same (in_map (f x) ys y too))
+  | inr later ↦ Contains-append_right (map (f z) ys) (products f zs ys) (f x y) (in_products f zs ys x y later too)
+]

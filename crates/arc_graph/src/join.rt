@@ -1,5 +1,6 @@
 ghost use Rattle.std.specs.Prelude.{◌≡◌, ◌≢◌, ◌≤◌, ◌<◌, ◌+◌, ◌↔◌, ◌++◌, List, [], ◌∷◌, length, vec_len, map, position};
 ghost use Rattle.std.specs.Prelude.{IsTrue, IfOk, IfErr, OnOk, MatchOption};
+ghost use Rattle.road_network.specs.Limits.{max_arcs, max_nodes};
 ghost use Rattle.road_network.specs.Network.{IsNetwork, IsNode};
 ghost use Rattle.arc_graph.specs.Graph.{Match, network};
 ghost use Rattle.arc_graph.specs.Files.{Contents, empty_file, size_of, with_arc};
@@ -10,7 +11,7 @@ ghost use Rattle.arc_graph.specs.Faults.{AreLeastIfAny, IsEarlier, arc_fault_of}
 ghost use Rattle.list_laws.specs.Least.{IsLeastIfAny};
 ghost use Rattle.arc_graph.specs.Stored.{is_zero, states_of};
 
-use crate::file::{ArcFile, ArcLine, MAX_ARCS, MAX_NODES};
+use crate::file::{ArcFile, ArcLine};
 use crate::graph::{Ends, Graph};
 use crate::weights::{Places, Weights, is_shut};
 use cost_vector::OutOfMemory;
@@ -107,8 +108,8 @@ impl Joiner {
     /// Begins the next file, which is to have this many nodes and arcs. After an error the joiner is only dropped.
     pub fn begin_file(&mut self, nodes: u32, arcs: u32) -> Result<(), OutOfMemory>
         requires some_node { 1 ≤ nodes }
-        requires most_nodes { nodes ≤ MAX_NODES }
-        requires most_arcs { arcs ≤ MAX_ARCS }
+        requires most_nodes { nodes ≤ max_nodes }
+        requires most_arcs { arcs ≤ max_arcs }
         requires fewer_than_four { self.old.begun < 4 }
         requires whole { self.old.come ≡ self.old.due_arcs }
 

@@ -5,7 +5,7 @@ use Rattle.std.specs.List.{filter_map}
 use Rattle.std.specs.Option.{option_map, option_map_or, option_and_then}
 use Rattle.cost_vector.specs.declared.label.ArcNo.{ArcNo}
 use Rattle.cost_vector.specs.declared.label.Label.{Label}
-use Rattle.cost_vector.specs.Costs.{plus}
+use Rattle.cost_vector.specs.Costs.{plus, max_criteria, min_criteria}
 use Rattle.road_network.specs.Network.{Network, AreSmall, IsNode, IsVector, Leads}
 use Rattle.road_network.specs.Limits.{max_nodes, max_arcs}
 
@@ -25,8 +25,8 @@ pub record IsGraph (g : Arcs) : Type 0 where
   pub some_node : 1 ≤ g.nodes
   pub nodes : g.nodes ≤ max_nodes
   pub arcs : length g.ends ≤ max_arcs
-  pub two : 2 ≤ g.criteria
-  pub four : g.criteria ≤ 4
+  pub two : min_criteria ≤ g.criteria
+  pub four : g.criteria ≤ max_criteria
   pub tails : All (λ e. IsNode g.nodes e.0) g.ends
   pub heads : All (λ e. IsNode g.nodes e.1) g.ends
 

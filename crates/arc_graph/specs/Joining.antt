@@ -1,5 +1,6 @@
 -- What a joiner keeps of the files that came so far.
 use Rattle.std.specs.Prelude.{◌≡◌, ℕ, ◌≤◌, List, Option, length, All}
+use Rattle.cost_vector.specs.Costs.{max_criteria}
 use Rattle.arc_graph.specs.declared.join.OtherEnds.{OtherEnds}
 use Rattle.road_network.specs.Network.{IsNode}
 use Rattle.arc_graph.specs.Stored.{IsStored}
@@ -20,7 +21,7 @@ pub record Joining : Type 0 where
 
 -- what every joiner keeps
 pub record IsJoining (j : Joining) : Type 0 where
-  pub files : j.begun ≤ 4
+  pub files : j.begun ≤ max_criteria
   pub come : j.come ≤ j.due_arcs
   pub due : j.due_arcs ≤ max_arcs
   pub none_begun : j.begun ≡ 0 → length j.ends ≡ 0

@@ -2,6 +2,7 @@
 use Rattle.std.specs.Prelude.{◌≡◌, ℕ, ◌^◌, ◌<◌, ◌≤◌, Bool, List, Option, Some, None, length, map, take, replicate, slice_index, All}
 use Rattle.std.specs.Prelude.{nat_eq, if◌then◌else◌}
 use Rattle.std.specs.Cmp.Lexicographic.{pointwise}
+use Rattle.cost_vector.specs.Costs.{max_criteria, min_criteria}
 use Rattle.road_network.specs.Limits.{max_arcs}
 
 -- all four places are 0
@@ -24,7 +25,7 @@ pub record IsStored (criteria : ℕ) (places : List ℕ) : Type 0 where
 
 -- the same for each arc
 pub record AreStored (criteria : ℕ) (vectors : List (List ℕ)) : Type 0 where
-  pub two : 2 ≤ criteria
-  pub four : criteria ≤ 4
+  pub two : min_criteria ≤ criteria
+  pub four : criteria ≤ max_criteria
   pub count : length vectors ≤ max_arcs
   pub each : All (IsStored criteria) vectors

@@ -21,8 +21,9 @@ pub fn best_costs_lie_below_all()
         → IsWalk net s (p ++ q) t c → IsBest net s t c → EndsAtBest net s p }
     ensures before_arc { (net : Network) (p : List ℕ) (s u v k : ℕ) (b w : List ℕ) → IsNetwork net
         → IsWalk net s p u b → Leads net k u w v → IsBest net s v (plus b w) → IsBest net s u b }
-    ensures at_the_start { (net : Network) (s t : ℕ) (limit : List (Option ℕ)) → IsNetwork net → IsNode net.nodes s
-        → length limit ≡ net.criteria → IsRelevant net s t limit s (replicate net.criteria 0) }
+    ensures at_the_start { (net : Network) (s t : ℕ) (limit : List (Option ℕ)) → IsNetwork net
+        → IsNode net.nodes s → length limit ≡ net.criteria
+        → IsRelevant net s t limit s (replicate net.criteria 0) }
 {}
 
 /// What an arc adds makes each cost greater, and a cost that dominates another still does with it added to both. A walk's
@@ -32,11 +33,12 @@ pub fn arcs_add_to_costs()
     ensures grows { (net : Network) (k u v : ℕ) (w c : List ℕ) → IsNetwork net
         → Leads net k u w v → length c ≡ net.criteria → Dominates c (plus c w) }
     ensures monotone { (net : Network) (k u v : ℕ) (w a b : List ℕ) → IsNetwork net
-        → Leads net k u w v → length a ≡ net.criteria → Dominates a b → Dominates (plus a w) (plus b w) }
-    ensures counted { (net : Network) (p : List ℕ) (s v : ℕ) (c : List ℕ) → IsNetwork net → AreSmall net.states
-        → IsWalk net s p v c → IsSumOf (length p) c }
-    ensures bounded { (net : Network) (p : List ℕ) (s v : ℕ) (c : List ℕ) → IsNetwork net → AreSmall net.states
-        → length p ≤ 2 ^ 26 → IsWalk net s p v c → All (λ x. x < 2 ^ 58) c }
+        → Leads net k u w v → length a ≡ net.criteria → Dominates a b
+        → Dominates (plus a w) (plus b w) }
+    ensures counted { (net : Network) (p : List ℕ) (s v : ℕ) (c : List ℕ) → IsNetwork net
+        → AreSmall net.states → IsWalk net s p v c → IsSumOf (length p) c }
+    ensures bounded { (net : Network) (p : List ℕ) (s v : ℕ) (c : List ℕ) → IsNetwork net
+        → AreSmall net.states → length p ≤ 2 ^ 26 → IsWalk net s p v c → All (λ x. x < 2 ^ 58) c }
 {}
 
 /// Best costs are finitely many, since a walk of a best cost goes through no node twice, and so has fewer arcs than
@@ -56,8 +58,8 @@ pub fn best_costs_exist()
 pub fn relevant_pairs_are_counted()
     ensures some_pairs { (net : Network) (s t : ℕ) (limit : List (Option ℕ)) → IsNetwork net
         → (pairs : List (ℕ × List ℕ)) × AreRelevantPairs net s t limit pairs }
-    ensures counted { (net : Network) (s t : ℕ) (limit : List (Option ℕ)) (pairs : List (ℕ × List ℕ))
-        → AreRelevantPairs net s t limit pairs
+    ensures counted { (net : Network) (s t : ℕ) (limit : List (Option ℕ))
+        (pairs : List (ℕ × List ℕ)) → AreRelevantPairs net s t limit pairs
         → (budget : ℕ) → Passes net s t limit budget ↔ (budget < length pairs) }
     ensures decided { (net : Network) (s t : ℕ) (limit : List (Option ℕ)) (budget : ℕ)
         → IsNetwork net → Passes net s t limit budget ⊎ (¬ Passes net s t limit budget) }
@@ -77,10 +79,11 @@ pub fn walks_of_costs_are_one_list()
         → IsWalk net s p v c → (q : List ℕ) × IsBackwardLeast net s v c q }
     ensures one_walk { (net : Network) (s v : ℕ) (c p q : List ℕ)
         → IsBackwardLeast net s v c p → IsBackwardLeast net s v c q → p ≡ q }
-    ensures some_answer { (net : Network) (s t : ℕ) (limit : List (Option ℕ)) (costs : List (List ℕ)) → IsNetwork net
-        → AreBestCosts net s t limit costs → (routes : List Route) × IsAnswer net s t limit routes }
-    ensures one_answer { (net : Network) (s t : ℕ) (limit : List (Option ℕ)) (routes others : List Route)
-        → IsAnswer net s t limit routes → IsAnswer net s t limit others → routes ≡ others }
+    ensures some_answer { (net : Network) (s t : ℕ) (limit : List (Option ℕ))
+        (costs : List (List ℕ)) → IsNetwork net → AreBestCosts net s t limit costs
+        → (routes : List Route) × IsAnswer net s t limit routes }
+    ensures one_answer { (net : Network) (s t : ℕ) (limit : List (Option ℕ))
+        (routes others : List Route) → IsAnswer net s t limit routes → IsAnswer net s t limit others → routes ≡ others }
 {}
 
 /// A backward-least walk is made arc by arc of such walks, whether its cost is best or not. Its first part is the

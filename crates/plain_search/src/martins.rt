@@ -1,9 +1,10 @@
 ghost use Rattle.std.specs.Prelude.{◌≡◌, ◌≤◌, length, IfOk, OnOk, IsErrOf};
+ghost use Rattle.road_network.specs.Limits.{max_budget};
 ghost use Rattle.road_network.specs.Network.{IsNode};
 ghost use Rattle.arc_graph.specs.Graph.{Match, network};
 ghost use Rattle.road_network.specs.Answers.{AreBestCosts, Passes};
 
-use crate::query::{MAX_BUDGET, Query, SearchFault};
+use crate::query::{Query, SearchFault};
 use crate::search::Search;
 use arc_graph::{Graph, Weights};
 use cost_vector::{Cost, Spot};
@@ -20,7 +21,7 @@ pub fn plain_search(
     requires from { IsNode graph.now.nodes query.now.from.0 }
     requires to { IsNode graph.now.nodes query.now.to.0 }
     requires limit { length query.now.limit ≡ graph.now.criteria }
-    requires budget { query.now.budget ≤ MAX_BUDGET }
+    requires budget { query.now.budget ≤ max_budget }
 
     // An answer comes exactly where the budget isn't passed, but for want of memory.
     ensures answer { IfOk result (λ costs. AreBestCosts (network graph.now weights.now)

@@ -1,9 +1,10 @@
 ghost use Rattle.std.specs.Prelude.{◌≡◌, ◌≤◌, ◌<◌, ◌⊎◌, ◌↔◌, [], ◌∷◌, ◌++◌, length, IsTrue, IfOk, OnOk, IfSome, IfNone, Contains, All};
 ghost use Rattle.cost_vector.specs.Costs.{LexLess};
+ghost use Rattle.road_network.specs.Limits.{max_budget};
 ghost use Rattle.arc_graph.specs.Graph.{IsGraph, AreStates, Match};
 ghost use Rattle.plain_search.specs.Search.{Prunes, IsPruned, IsLeastOf, TakesOut};
 
-use crate::query::{MAX_BUDGET, Query};
+use crate::query::Query;
 use arc_graph::{Graph, Weights, relax};
 use cost_vector::{Cost, NodeNo, OutOfMemory, Spot};
 use std::alloc::Global;
@@ -58,7 +59,7 @@ impl Search {
         requires states { AreStates weights.now }
         requires weights { Match graph.now weights.now }
         requires limit { length query.now.limit ≡ graph.now.criteria }
-        requires budget { query.now.budget ≤ MAX_BUDGET }
+        requires budget { query.now.budget ≤ max_budget }
         requires begun { self.old.permanent.items ≡ [] }
         requires search { IsSearch (task_of graph.now weights.now query.now)
             self.old.permanent.items self.old.waiting.items }
@@ -90,7 +91,7 @@ impl Search {
         requires states { AreStates weights.now }
         requires weights { Match graph.now weights.now }
         requires limit { length query.now.limit ≡ graph.now.criteria }
-        requires room { length self.old.permanent.items < MAX_BUDGET }
+        requires room { length self.old.permanent.items < max_budget }
         requires least { IsLeastOf self.old.waiting.items spot.now }
         requires search { IsSearch (task_of graph.now weights.now query.now)
             self.old.permanent.items self.old.waiting.items }

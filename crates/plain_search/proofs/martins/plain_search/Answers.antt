@@ -3,8 +3,8 @@ use Rattle.std.proofs.lemmas.Bool.{false≢true}
 use Rattle.road_network.specs.Answers.{AreBestCosts}
 use Rattle.arc_graph.proofs.RelaxLaws.{network_of}
 use Rattle.plain_search.specs.Search.{task_of}
-use Rattle.plain_search.proofs.Expanding.{search_begins}
-use Rattle.plain_search.proofs.Finding.{answer, not_passed, passed}
+use Rattle.plain_search.proofs.ExpandingLemmas.{search_begins}
+use Rattle.plain_search.proofs.AnswerLemmas.{answer, not_passed, passed}
 use Rattle.plain_search.proofs.martins.plain_search.Goals as goal
 
 pub run-requires-clause-search : goal.run-requires-clause-search

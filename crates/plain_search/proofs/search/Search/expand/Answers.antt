@@ -1,25 +1,28 @@
 use Rattle.std.proofs.Common.{sym, ◌∙◌, arith}
-use Rattle.plain_search.proofs.Expanding.{expanding_begins, expanding_next, expanding_done, node_of_waiting, length_of_waiting, length_of_next}
-use Rattle.road_network.proofs.SumLaws.{sum_below, sums_fit}
+use Rattle.plain_search.proofs.ExpandingLemmas.{expanding_begins, expanding_next, expanding_done, node_of_waiting, length_of_waiting, length_of_next}
+use Rattle.road_network.proofs.SumLaws.{sum_below}
+use Rattle.arc_graph.proofs.RelaxLaws.{sums_fit}
+use Rattle.plain_search.proofs.RelevantLemmas.{least_may_wait}
 use Rattle.plain_search.proofs.search.Search.expand.Goals as goal
 
 pub relax-requires-clause-node : goal.relax-requires-clause-node
 relax-requires-clause-node c =
     let r = c.requires in
-    node_of_waiting c.args.graph.now c.args.weights.now c.args.query.now r.graph r.states r.weights c.args.self.now.permanent.items c.args.spot.now
-    (r.search.spots.may_wait c.args.spot.now r.least.there)
+    node_of_waiting c.args.graph.now c.args.weights.now c.args.query.now r.graph r.states r.weights _ c.args.spot.now
+    (least_may_wait _ _ _ _ r.search r.least)
 
 pub relax-requires-clause-criteria : goal.relax-requires-clause-criteria
 relax-requires-clause-criteria c =
     let r = c.requires in
-    length_of_waiting c.args.graph.now c.args.weights.now c.args.query.now r.graph r.states r.weights c.args.self.now.permanent.items c.args.spot.now
-    (r.search.spots.may_wait c.args.spot.now r.least.there)
+    length_of_waiting c.args.graph.now c.args.weights.now c.args.query.now r.graph r.states r.weights _ c.args.spot.now
+    (least_may_wait _ _ _ _ r.search r.least)
 
 pub relax-requires-clause-fits : goal.relax-requires-clause-fits
 relax-requires-clause-fits c =
     let r = c.requires in
     let cost = c.args.spot.now.cost in
-    sums_fit c.args.graph.now c.args.weights.now c.args.spot.now.node.0 cost r.states (sum_below _ cost (omega arith) (r.search.spots.may_wait c.args.spot.now r.least.there).small)
+    sums_fit c.args.graph.now c.args.weights.now c.args.spot.now.node.0 cost r.states
+    (sum_below _ cost (omega arith) (least_may_wait _ _ _ c.args.spot.now r.search r.least).small)
 
 pub loop-label-init : goal.loop-label-init
 loop-label-init c =

@@ -1,16 +1,19 @@
 -- The answer in the permanent spots, and when the budget is passed.
 use Rattle.std.proofs.Common.{◌≡◌, ◌≢◌, ℕ, ◌+◌, ◌≤◌, List, [], ◌∷◌, ◌++◌, length, map, subst, ap, ◌∙◌, arith, length-append}
 use Rattle.std.proofs.lemmas.List.{length-map}
-use Rattle.std.proofs.lemmas.List.Elements.{All-map, All-push}
+use Rattle.std.proofs.lemmas.List.Elements.{All-map, All-push, All-filter, All-weaker}
+use Rattle.std.specs.Prelude.{All, filter}
 use Rattle.cost_vector.specs.declared.label.Spot.{Spot}
 use Rattle.list_laws.proofs.Members.{each_in, in_map}
 use Rattle.list_laws.proofs.Pairs.{pairs_map, pairs_push, pigeonhole}
 use Rattle.road_network.specs.Network.{IsNetwork}
+use Rattle.road_network.specs.Walks.{IsSumOf}
 use Rattle.road_network.specs.Answers.{AreBestCosts, Passes}
+use Rattle.road_network.proofs.SumLaws.{sum_of_most}
 use Rattle.plain_search.specs.Search.{Task, IsRelevantTo, IsPruned, spot_at, costs_at, Prunes, IsSearch}
 use Rattle.plain_search.proofs.PrunesLemmas.{pruned_by, Prunes-refl}
 use Rattle.plain_search.proofs.RelevantLemmas.{least_spot, least_is_relevant, all_found}
-use Rattle.plain_search.proofs.CostsAtLemmas.{in_costs, of_costs, costs_ascend}
+use Rattle.plain_search.proofs.CostsAtLemmas.{is_at, cost_of, in_costs, of_costs, costs_ascend}
 
 abbrev pair_of : Spot → ℕ × List ℕ
 pair_of x = (x.node.0, x.cost)
@@ -29,6 +32,13 @@ module _ (task : Task) (net : IsNetwork task.net) (permanent waiting : List Spot
       })),
     );
   }
+
+  -- no cost of it is greater than so many weights can make it
+  pub answer_is_small : (budget : ℕ) → length permanent ≤ budget → All (IsSumOf budget) (costs_at task.to permanent)
+  answer_is_small budget few =
+      All-map (IsSumOf budget) cost_of (filter (is_at task.to) permanent) (All-filter (is_at task.to) (λ e. IsSumOf budget e.cost) permanent
+      (All-weaker (λ e. IsSumOf (length permanent) e.cost) (λ e. IsSumOf budget e.cost)
+      (λ e. sum_of_most (length permanent) budget e.cost few) permanent search.spots.small))
 
   -- and the relevant pairs are no more than the permanent spots
   pub not_passed : (budget : ℕ) → waiting ≡ [] → length permanent ≤ budget → ¬ Passes task.net task.from task.to task.limit budget

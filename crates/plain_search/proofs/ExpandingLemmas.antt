@@ -12,9 +12,10 @@ use Rattle.road_network.specs.Network.{IsNetwork, IsNode}
 use Rattle.road_network.specs.Walks.{IsSumOf}
 use Rattle.road_network.proofs.SumLaws.{sum_of_none, sum_of_more, small_by}
 use Rattle.road_network.proofs.WalkLaws.{length_of_arrival, node_of_arrival, leads_by_vector}
-use Rattle.arc_graph.specs.Graph.{Arcs, States, IsGraph, AreStates, Match, relaxed, ComesOf}
+use Rattle.arc_graph.specs.Graph.{Arcs, States, relaxed, ComesOf}
 use Rattle.arc_graph.proofs.RelaxLaws.{network_of, label_in, label_of}
 use Rattle.plain_search.specs.declared.query.Query.{Query}
+use Rattle.plain_search.specs.Query.{IsPosed}
 use Rattle.plain_search.specs.Search.{Task, task_of, spot_at, IsCovered, IsExpanded, TakesOut, Adds, IsLeastOf, MayWait, AreSpots, IsSearch}
 use Rattle.plain_search.proofs.RelevantLemmas.{least_may_wait}
 use Rattle.plain_search.proofs.WaitingLemmas.{covered_after_add}
@@ -40,12 +41,12 @@ pub record IsExpanding (task : Task) (permanent : List Spot) (x : Spot) (waiting
   pub may_wait : MayWait task (permanent ++ x ∷ []) x
   pub longer : IsSumOf (length permanent) x.cost
 
-module _ (g : Arcs) (w : States) (query : Query) (graph : IsGraph g) (states : AreStates w) (matched : Match g w) where
+module _ (g : Arcs) (w : States) (query : Query) (posed : IsPosed g w query) where
   abbrev task : Task
   task = task_of g w query
 
   net : IsNetwork task.net
-  net = network_of g w graph states matched
+  net = network_of g w posed.graph posed.states posed.matched
 
   -- the least spot is made permanent
   pub expanding_begins : (permanent before after : List Spot) (x : Spot) → IsSearch task permanent before → IsLeastOf before x
@@ -72,7 +73,7 @@ module _ (g : Arcs) (w : States) (query : Query) (graph : IsGraph g) (states : A
     long = length_of_arrival task.net net expanding.may_wait.walk.0 task.from x.node.0 x.cost expanding.may_wait.walk.1
 
     small : All (λ n. n < 2 ^ 32) comes.by
-    small = small_by task.net states.small l.arc.0 x.node.0 l.node.0 comes.by comes.leads
+    small = small_by task.net posed.states.small l.arc.0 x.node.0 l.node.0 comes.by comes.leads
 
     -- its cost has a component for each criterion
     pub length_of_label : length l.cost ≡ g.criteria
@@ -158,9 +159,9 @@ module _ (g : Arcs) (w : States) (query : Query) (graph : IsGraph g) (states : A
 
   -- after the start was added, the search stands
   pub search_begins : (permanent permanent' before after : List Spot) (start : List ℕ) → permanent ≡ [] → permanent' ≡ permanent → before ≡ []
-      → start ≡ replicate g.criteria 0 → IsNode g.nodes query.from.0
+      → start ≡ replicate g.criteria 0
       → Adds task.to task.limit permanent before (spot_at query.from.0 start) after → IsSearch task permanent' after
-  search_begins permanent permanent' before after start none_permanent same none_waiting zeros node adds =
+  search_begins permanent permanent' before after start none_permanent same none_waiting zeros adds =
       let from : Spot = spot_at query.from.0 (replicate g.criteria 0) in
       let at_start = subst (λ c. Adds task.to task.limit permanent before (spot_at query.from.0 c) after) zeros adds in
       let begun : Adds task.to task.limit [] [] from after =
@@ -168,7 +169,7 @@ module _ (g : Arcs) (w : States) (query : Query) (graph : IsGraph g) (states : A
       (subst (λ spots. Adds task.to task.limit spots before from after) none_permanent at_start) in
       rw (same ∙ none_permanent) (record {
         spots = spots_after_add task [] [] after from begun (record {
-          walk = ([], (node, refl, refl));
+          walk = ([], (posed.is_query.from, refl, refl));
           later = All-nil (λ e. ¬ LexLess (replicate g.criteria 0) e.cost);
           small = sum_of_none g.criteria;
         }) (spots_at_first task);

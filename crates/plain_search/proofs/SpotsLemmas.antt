@@ -7,6 +7,7 @@ use Rattle.cost_vector.specs.Costs.{LexLess, Within}
 use Rattle.list_laws.proofs.Members.{each_in, all_from_in, any_from, found_in, cases_any_push}
 use Rattle.list_laws.proofs.Pairs.{pairs_none, pairs_push}
 use Rattle.road_network.specs.Network.{IsNetwork}
+use Rattle.road_network.specs.Walks.{IsSumOf}
 use Rattle.road_network.proofs.SumLaws.{sum_of_most}
 use Rattle.plain_search.specs.Search.{Task, IsRelevantTo, Prunes, IsPruned, IsCovered, TakesOut, Adds, IsLeastOf, MayWait, AreSpots, IsSearch}
 use Rattle.plain_search.proofs.PrunesLemmas.{Prunes-refl, Prunes-trans, pruned_by}
@@ -19,6 +20,7 @@ spots_at_first task = record {
   relevant = All-nil (λ e. IsRelevantTo task e.node.0 e.cost);
   distinct = pairs_none ◌≢◌;
   ascending = pairs_none (λ a b. ¬ LexLess b.cost a.cost);
+  small = All-nil (λ e. IsSumOf 0 e.cost);
   may_wait = All-nil (MayWait task []);
   within = All-nil (λ x. Within task.limit x.cost);
   fresh = All-nil (λ x. ¬ IsPruned task.to [] x);
@@ -32,6 +34,7 @@ spots_after_add task permanent before after x adds may spots =
       relevant = spots.relevant;
       distinct = spots.distinct;
       ascending = spots.ascending;
+      small = spots.small;
       may_wait = each (MayWait task permanent) spots.may_wait (λ within fresh. may);
       within = each (λ y. Within task.limit y.cost) spots.within (λ within fresh. within);
       fresh = each (λ y. ¬ IsPruned task.to permanent y) spots.fresh (λ within fresh. fresh);
@@ -60,12 +63,16 @@ module _ (task : Task) (net : IsNetwork task.net) (permanent before after : List
   spots_after_settle =
       let Fresh : Spot → Type 0 = λ y. ¬ IsPruned task.to permanent y in
       let fresh = each_in Fresh before search.spots.fresh in
+      let Small : Spot → Type 0 = λ e. IsSumOf (length permanent') e.cost in
+      let more = λ (e : Spot). sum_of_most (length permanent) (length permanent') e.cost (omega (arith, longer)) in
       record {
         relevant = All-push (λ e. IsRelevantTo task e.node.0 e.cost) permanent x search.spots.relevant (least_is_relevant task net permanent before search x least);
         distinct = pairs_push ◌≢◌ permanent x search.spots.distinct
             (λ e there same. fresh x least.there (pruned_by task.to permanent x e there (subst (Prunes task.to e) same (Prunes-refl task.to e))));
         ascending = pairs_push (λ a b. ¬ LexLess b.cost a.cost) permanent x search.spots.ascending
             (each_in (λ e. ¬ LexLess x.cost e.cost) permanent (least_may_wait task permanent before x search least).later);
+        small = All-push Small permanent x (All-weaker (λ e. IsSumOf (length permanent) e.cost) Small more permanent search.spots.small)
+            (more x (least_may_wait task permanent before x search least).small);
         may_wait = All-weaker (Contains before) (MayWait task permanent') may_wait_on after out.old;
         within = All-weaker (Contains before) (λ y. Within task.limit y.cost) (each_in (λ y. Within task.limit y.cost) before search.spots.within) after out.old;
         fresh = all_from_in (λ y. ¬ IsPruned task.to permanent' y) after (λ y there pruned. elim (cases_any_push (λ e. Prunes task.to e y) permanent x pruned) [

@@ -71,11 +71,13 @@ pub record MayWait (task : Task) (permanent : List Spot) (x : Spot) : Type 0 whe
   pub later : All (λ e. ¬ LexLess x.cost e.cost) permanent
   pub small : IsSumOf (length permanent) x.cost
 
--- the permanent spots are relevant pairs, each once, in ascending lexicographic order; what waits isn't needless
+-- The permanent spots are relevant pairs, each once, in ascending lexicographic order, and no cost is greater than as
+-- many weights as there are permanent spots can make it. What waits isn't needless.
 pub record AreSpots (task : Task) (permanent waiting : List Spot) : Type 0 where
   pub relevant : All (λ e. IsRelevantTo task e.node.0 e.cost) permanent
   pub distinct : AllPairs ◌≢◌ permanent
   pub ascending : AllPairs (λ a b. ¬ LexLess b.cost a.cost) permanent
+  pub small : All (λ e. IsSumOf (length permanent) e.cost) permanent
   pub may_wait : All (MayWait task permanent) waiting
   pub within : All (λ x. Within task.limit x.cost) waiting
   pub fresh : All (λ x. ¬ IsPruned task.to permanent x) waiting

@@ -31,20 +31,20 @@ same_through a b c first second = record {
 -- ---- what may happen in one of two same states may happen in the other
 
 module _ (a b : SearchState) (same : IsSame a b) where
-  entry_alike : (y : Label) → IsEntry a y → IsEntry b y
+  pub entry_alike : (y : Label) → IsEntry a y → IsEntry b y
   entry_alike y h = (h.0, (same.entries h.0 y).0 h.1)
 
-  active_alike : (y : Label) → IsActive a y → IsActive b y
+  pub active_alike : (y : Label) → IsActive a y → IsActive b y
   active_alike y = elim [
     | waits h ↦ waits ((same.entries waiting y).0 h)
     | is_candidate h ↦ is_candidate (Contains-permutation a.candidates b.candidates y same.candidates h)
     | has_arc k h ↦ has_arc k ((same.unrelaxed (y, k)).0 h)
   ]
 
-  beaten_alike : (task : Task) (c : List ℕ) → IsBeatenAtTarget task a c → IsBeatenAtTarget task b c
+  pub beaten_alike : (task : Task) (c : List ℕ) → IsBeatenAtTarget task a c → IsBeatenAtTarget task b c
   beaten_alike task c h = record { by = h.by; settled = (same.entries settled h.by).0 h.settled; node = h.node; dominates = h.dominates }
 
-  drop_alike : (task : Task) (l : Label) → MayDrop task a l → MayDrop task b l
+  pub drop_alike : (task : Task) (l : Label) → MayDrop task a l → MayDrop task b l
   drop_alike task l h = record {
     waits = (same.entries waiting l).0 h.waits;
     useless = elim h.useless [ inl beyond ↦ inl beyond | inr beaten ↦ inr (beaten_alike task l.cost beaten) ];

@@ -1,6 +1,6 @@
 -- What each state keeps to which events lead.
 use Rattle.std.proofs.Common.{◌≡◌, ℕ, ◌≤◌, ◌⊎◌, List, ◌∷◌}
-use Rattle.std.specs.Prelude.{Contains}
+use Rattle.std.specs.Prelude.{slice_index, Contains}
 use Rattle.cost_vector.specs.Costs.{AtMost, Dominates, Within}
 use Rattle.road_network.specs.Walks.{Arrives}
 use Rattle.road_network.specs.Answers.{IsRelevant}
@@ -24,6 +24,12 @@ pub data IsFounded (task : Task) (s : SearchState) (y : Label) : Type 0 where
   at_start : y ≡ start_label task → IsFounded task s y
   follows : (e : Label) → Contains s.settled e → Follows task.network e y → IsFounded task s y
 
+-- a walk from the start has the label's cost, and ends by its arc
+pub record HasWalk (task : Task) (y : Label) : Type 0 where
+  pub arcs : List ℕ
+  pub walk : Arrives task.network task.start arcs y.node y.cost
+  pub last : y.arc ≡ slice_index arcs 0
+
 -- of two entries of one node neither cost is at most the other, and each entry stands in one place
 pub record AreApart (s : SearchState) : Type 0 where
   pub alone : (y z : Label) → IsEntry s y → IsEntry s z → y.node ≡ z.node → AtMost y.cost z.cost → y ≡ z
@@ -35,6 +41,7 @@ IsLeastArc task l = (k : ℕ) (before : List ℕ) → Arrives task.network task.
 
 -- all that each state keeps to which events lead
 pub record IsSound (task : Task) (s : SearchState) : Type 0 where
+  pub walked : (y : Label) → IsKnown s y → HasWalk task y
   pub founded : (y : Label) → IsKnown s y → IsFounded task s y
   pub paired : (e : Label) (k : ℕ) → Contains s.unrelaxed (e, k) → Contains s.settled e × LeadsOn task.network e.node k
   pub apart : AreApart s

@@ -8,3 +8,5 @@ pub mod Stepping
 pub mod Frontier
 pub mod Taking
 pub mod Keeping
+pub mod SettledLabels
+pub mod Bounding

@@ -1,8 +1,10 @@
 -- Sets as lists: permutations, changes by one member, and how many members there are.
-use Rattle.std.proofs.Common.{◌≡◌, ℕ, ◌<◌, List, [], ◌∷◌, length, inl, inr, sym, subst, arith}
-use Rattle.std.specs.Prelude.{Contains, IsPermutation}
+use Rattle.std.proofs.Common.{◌≡◌, ◌≢◌, ℕ, ◌+◌, ◌<◌, List, [], ◌∷◌, length, take, inl, inr, sym, subst, arith, length-take}
+use Rattle.std.specs.Prelude.{AllPairs, Contains, IsPermutation}
+use Rattle.std.proofs.lemmas.List.{get_or-take}
+use Rattle.std.proofs.lemmas.List.Elements.{All-take}
 use Rattle.std.proofs.lemmas.List.Sorted.{Contains-permutation, IsPermutation-sym}
-use Rattle.list_laws.proofs.Members.{in_none, in_first, in_rest, cases_in, each_in}
+use Rattle.list_laws.proofs.Members.{in_none, in_first, in_rest, cases_in, each_in, all_from_in}
 use Rattle.list_laws.proofs.Pairs.{pigeonhole}
 use Rattle.event_machine.specs.Sets.{SameMembers, Gains, Loses, Replaces, HasMoreThan}
 
@@ -28,6 +30,18 @@ module _ {X : Type 0} where
   -- a list with more members than n is longer than n
   pub longer : (n : ℕ) (xs : List X) → HasMoreThan n xs → n < length xs
   longer n xs more = omega (arith, more.more, pigeonhole more.members xs more.distinct (λ x h. each_in (Contains xs) more.members more.each x h))
+
+  -- a list without repeats gives as many members as it is long
+  pub more_by_list : (n : ℕ) (xs ys : List X) → AllPairs ◌≢◌ ys → ((y : X) → Contains ys y → Contains xs y) → n < length ys → HasMoreThan n xs
+  more_by_list n xs ys distinct each long = record {
+    members = take (n + 1) ys;
+    more = omega (arith, length-take (n + 1) ys);
+    distinct = λ i j d before within.
+        let below : j < n + 1 = omega (arith, length-take (n + 1) ys, within) in
+        let before_too : i < n + 1 = omega (arith, below, before) in
+        rw (get_or-take (n + 1) ys i d before_too, get_or-take (n + 1) ys j d below) (distinct i j d before (omega (arith, long, below)));
+    each = All-take (Contains xs) (n + 1) ys (all_from_in (Contains xs) ys each);
+  }
 
   -- ---- changes, from a list with the same members
 

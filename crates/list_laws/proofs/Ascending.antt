@@ -26,6 +26,7 @@ module _ {X : Type 0} (Less : X → X → Type 0) (irrefl : (x : X) → ¬ Less 
   pub ascending_distinct : (xs : List X) → AllPairs Less xs → AllPairs ◌≢◌ xs
   ascending_distinct xs ascends = λ i j d before within same. irrefl (get_or xs i d) (subst (Less (get_or xs i d)) (sym same) (ascends i j d before within))
 
+  -- lists that ascend strictly and have the same members are one
   pub ascending_same : (xs ys : List X) → AllPairs Less xs → AllPairs Less ys → ((c : X) → Contains xs c ↔ Contains ys c) → xs ≡ ys
   ascending_same [] [] ascends ascends_too same = refl
   ascending_same [] (y ∷ ys) ascends ascends_too same = absurd (in_none y ((same y).1 (in_first y ys)))

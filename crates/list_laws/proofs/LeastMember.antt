@@ -25,6 +25,7 @@ module _ {X : Type 0} (Less : X → X → Type 0) (irrefl : (x : X) → ¬ Less 
     | inr not_less ↦ (y, record { there = in_rest x xs y least.there; none_below = All-cons (NoneBelow y) x xs not_less least.none_below })
   ]
 
+  -- a list that has a member has a least one
   pub has_least : (xs : List X) → xs ≢ [] → (x : X) × IsLeastMember Less xs x
   has_least [] some = absurd (some refl)
   has_least (x ∷ []) some = (x, record { there = in_first x []; none_below = All-cons (NoneBelow x) x [] (irrefl x) (All-nil (NoneBelow x)) })

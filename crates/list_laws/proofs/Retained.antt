@@ -24,10 +24,11 @@ module _ {F X : Type 0} (R : F → X → Bool → F → Type 0) (P : X → Type 
   without_more true x xs bs fails out =
       let ys = items_where_true bs xs in
       let Stays : X → Type 0 = λ y. P y ⊎ Contains ys y in
-      let more = λ (y : X) (known : Stays y). elim known as (λ _. P y ⊎ Contains (x ∷ ys) y) [ inl holds ↦ inl holds | inr there ↦ inr (in_rest x ys y there) ] in
+      let StaysToo : X → Type 0 = λ y. P y ⊎ Contains (x ∷ ys) y in
+      let more = λ (y : X) (known : Stays y). elim known as (λ _. StaysToo y) [ inl holds ↦ inl holds | inr there ↦ inr (in_rest x ys y there) ] in
       record {
         old = All-cons (Contains (x ∷ xs)) x ys (in_first x xs) (All-weaker (Contains xs) (Contains (x ∷ xs)) (in_rest x xs) ys out.old);
-        kept = All-cons (λ y. P y ⊎ Contains (x ∷ ys) y) x xs (inr (in_first x ys)) (All-weaker Stays (λ y. P y ⊎ Contains (x ∷ ys) y) more xs out.kept);
+        kept = All-cons StaysToo x xs (inr (in_first x ys)) (All-weaker Stays StaysToo more xs out.kept);
         gone = All-cons (λ y. ¬ P y) x ys fails out.gone;
       }
   without_more false x xs bs holds out =

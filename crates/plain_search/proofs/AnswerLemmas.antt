@@ -1,5 +1,5 @@
 -- The answer in the permanent spots, and when the budget is passed.
-use Rattle.std.proofs.Common.{◌≡◌, ◌≢◌, ℕ, ◌+◌, ◌≤◌, List, [], ◌∷◌, ◌++◌, length, map, subst, ap, ◌∙◌, arith, length-append}
+use Rattle.std.proofs.Common.{◌≡◌, ◌≢◌, ℕ, ◌+◌, ◌≤◌, List, [], ◌∷◌, ◌++◌, length, map, ap, ◌∙◌, arith, length-append}
 use Rattle.std.proofs.lemmas.List.{length-map}
 use Rattle.std.proofs.lemmas.List.Elements.{All-map, All-push, All-filter, All-weaker}
 use Rattle.std.specs.Prelude.{All, filter}
@@ -10,9 +10,9 @@ use Rattle.road_network.specs.Network.{IsNetwork}
 use Rattle.road_network.specs.Walks.{IsSumOf}
 use Rattle.road_network.specs.Answers.{AreBestCosts, Passes}
 use Rattle.road_network.proofs.SumLaws.{sum_of_most}
-use Rattle.plain_search.specs.Search.{Task, IsRelevantTo, IsPruned, spot_at, costs_at, Prunes, IsSearch}
-use Rattle.plain_search.proofs.PrunesLemmas.{pruned_by, Prunes-refl}
-use Rattle.plain_search.proofs.RelevantLemmas.{least_spot, least_is_relevant, all_found}
+use Rattle.plain_search.specs.Search.{Task, IsRelevantTo, spot_at, costs_at, IsSearch}
+use Rattle.plain_search.proofs.PrunesLemmas.{differs_where_fresh}
+use Rattle.plain_search.proofs.RelevantLemmas.{least_spot, least_may_wait, least_is_relevant, all_found}
 use Rattle.plain_search.proofs.CostsAtLemmas.{is_at, cost_of, in_costs, of_costs, costs_ascend}
 
 abbrev pair_of : Spot → ℕ × List ℕ
@@ -24,7 +24,10 @@ module _ (task : Task) (net : IsNetwork task.net) (permanent waiting : List Spot
   answer done = record {
     ascending = costs_ascend task.to permanent search.spots.distinct search.spots.ascending;
     exact = λ c. (
-      λ h. let found = each_in (λ y. IsRelevantTo task y.node.0 y.cost) permanent search.spots.relevant (spot_at task.to c) (of_costs task.to permanent c h) in (found.best, found.within),
+      λ h.
+          let there = of_costs task.to permanent c h in
+          let pair = each_in (λ y. IsRelevantTo task y.node.0 y.cost) permanent search.spots.relevant (spot_at task.to c) there in
+          (pair.best, pair.within),
       λ h. in_costs task.to permanent c (all_found task net permanent waiting search done task.to c (record {
         best = h.0;
         within = h.1;
@@ -54,13 +57,12 @@ module _ (task : Task) (net : IsNetwork task.net) (permanent waiting : List Spot
       let x = found.0 in
       let all = permanent ++ x ∷ [] in
       let Relevant : Spot → Type 0 = λ y. IsRelevantTo task y.node.0 y.cost in
-      let fresh = each_in (λ y. ¬ IsPruned task.to permanent y) waiting search.spots.fresh x found.1.there in
+      let fresh = (least_may_wait task permanent waiting x search found.1).fresh in
       record {
         pairs = map pair_of all;
         more = length-map all pair_of ∙ length-append permanent (x ∷ []) ∙ ap (λ n. n + 1) full;
         distinct = pairs_map ◌≢◌ ◌≢◌ pair_of (λ a b other same. other (ap (λ (p : ℕ × List ℕ). spot_at p.0 p.1) same)) all
-            (pairs_push ◌≢◌ permanent x search.spots.distinct
-            (λ y there same. fresh (pruned_by task.to permanent x y there (subst (Prunes task.to y) same (Prunes-refl task.to y)))));
+            (pairs_push ◌≢◌ permanent x search.spots.distinct (differs_where_fresh task.to permanent x fresh));
         relevant = All-map (λ q. IsRelevantTo task q.0 q.1) pair_of all (All-push Relevant permanent x search.spots.relevant
             (least_is_relevant task net permanent waiting search x found.1));
       }

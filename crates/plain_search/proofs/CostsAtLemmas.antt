@@ -15,6 +15,7 @@ use Rattle.plain_search.specs.Search.{spot_at, costs_at}
 abbrev pub is_at : ℕ → Spot → Bool
 is_at node x = nat_eq x.node.0 node
 
+-- the cost of a spot, without its node
 abbrev pub cost_of : Spot → List ℕ
 cost_of x = x.cost
 
@@ -46,6 +47,7 @@ module _ (node : ℕ) (spots : List Spot) where
     | inr (inr greater) ↦ absurd (follow.not_less greater)
   ]
 
+  -- where spots without repeats ascend by their costs, those of a node ascend strictly
   pub costs_ascend : AllPairs ◌≢◌ spots → AllPairs (λ a b. ¬ LexLess b.cost a.cost) spots → AllPairs LexLess (costs_at node spots)
   costs_ascend distinct ascending =
       let passes = filter_passes (is_at node) spots in

@@ -1,5 +1,5 @@
 pub mod PrunesLemmas
-pub mod WaitingLemmas
+pub mod AddsLemmas
 pub mod RelevantLemmas
 pub mod SpotsLemmas
 pub mod ExpandingLemmas

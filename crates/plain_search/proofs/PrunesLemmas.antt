@@ -1,5 +1,5 @@
 -- Laws of pruning: along chains of spots, and in lists of them.
-use Rattle.std.proofs.Common.{ℕ, List, inl, inr, sym, subst, ◌∙◌, refl}
+use Rattle.std.proofs.Common.{◌≢◌, ℕ, List, inl, inr, sym, subst, ◌∙◌, refl}
 use Rattle.std.specs.Prelude.{Contains}
 use Rattle.cost_vector.specs.declared.label.Spot.{Spot}
 use Rattle.cost_vector.proofs.Vectors.{AtMost-refl, AtMost-trans, AtMost-antisymm}
@@ -31,4 +31,9 @@ pruned_by to spots x e there prunes = any_in (λ y. Prunes to y x) spots e there
 -- what a pruned spot prunes is pruned
 pub pruned_on : (to : ℕ) (spots : List Spot) (x y : Spot) → IsPruned to spots x → Prunes to x y → IsPruned to spots y
 pruned_on to spots x y pruned next =
-    any_from (λ e. Prunes to e x) (λ e. Prunes to e y) spots spots (λ e there prunes. pruned_by to spots y e there (Prunes-trans to e x y prunes next)) pruned
+    any_from (λ e. Prunes to e x) (λ e. Prunes to e y) spots spots
+    (λ e there prunes. pruned_by to spots y e there (Prunes-trans to e x y prunes next)) pruned
+
+-- a spot that none of the list prunes isn't one of the list
+pub differs_where_fresh : (to : ℕ) (spots : List Spot) (x : Spot) → (¬ IsPruned to spots x) → (e : Spot) → Contains spots e → e ≢ x
+differs_where_fresh to spots x fresh e there same = fresh (pruned_by to spots x e there (subst (Prunes to e) same (Prunes-refl to e)))

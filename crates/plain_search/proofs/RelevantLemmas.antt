@@ -20,7 +20,8 @@ least_spot = has_least (λ y z. LexLess y.cost z.cost) (λ y. LexLess-irrefl y.c
     (λ y z. decided_by_cases LexLess LexLess-irrefl LexLess-trans y.cost z.cost (cases_LexLess y.cost z.cost))
 
 -- and it may wait
-pub least_may_wait : (task : Task) (permanent waiting : List Spot) (x : Spot) → IsSearch task permanent waiting → IsLeastOf waiting x → MayWait task permanent x
+pub least_may_wait : (task : Task) (permanent waiting : List Spot) (x : Spot) → IsSearch task permanent waiting → IsLeastOf waiting x
+    → MayWait task permanent x
 least_may_wait task permanent waiting x search least = each_in (MayWait task permanent) waiting search.spots.may_wait x least.there
 
 module _ (task : Task) (net : IsNetwork task.net) (permanent waiting : List Spot) (search : IsSearch task permanent waiting) where
@@ -85,22 +86,22 @@ module _ (task : Task) (net : IsNetwork task.net) (permanent waiting : List Spot
   none_better : (x : Spot) → IsLeastOf waiting x → (q : List ℕ) (v : ℕ) (b : List ℕ) → Arrives task.net task.from q v b
       → Dominates b x.cost → Prunes task.to (spot_at v b) x → ⊥
   none_better x least q v b walk better prunes = elim (foreseen q v b walk) [
-    | inl pruned ↦ each_in (λ y. ¬ IsPruned task.to permanent y) waiting search.spots.fresh x least.there (pruned_on task.to permanent (spot_at v b) x pruned prunes)
+    | inl pruned ↦ (least_may_wait task permanent waiting x search least).fresh (pruned_on task.to permanent (spot_at v b) x pruned prunes)
     | inr (inl waits) ↦ each_in (λ y. ¬ LexLess y.cost x.cost) waiting least.none_below waits.spot waits.there
         (LexLess_from_Dominates waits.spot.cost x.cost (AtMost-Dominates waits.spot.cost b x.cost waits.at_most better))
-    | inr (inr beyond) ↦ beyond (Within-AtMost task.limit b x.cost better.at_most (each_in (λ y. Within task.limit y.cost) waiting search.spots.within x least.there))
+    | inr (inr beyond) ↦ beyond (Within-AtMost task.limit b x.cost better.at_most (least_may_wait task permanent waiting x search least).within)
   ]
 
   -- the least waiting spot is a relevant pair
   pub least_is_relevant : (x : Spot) → IsLeastOf waiting x → IsRelevantTo task x.node.0 x.cost
   least_is_relevant x least =
-      let walk = (least_may_wait task permanent waiting x search least).walk in record {
+      let may = least_may_wait task permanent waiting x search least in record {
         best = record {
-          reached = (_, walk_by_arrival task.net net walk.0 task.from x.node.0 x.cost walk.1);
+          reached = (_, walk_by_arrival task.net net may.walk.0 task.from x.node.0 x.cost may.walk.1);
           nondominated = λ p b other better. none_better x least _ x.node.0 b (arrives_by_walk task.net net p task.from x.node.0 b other) better
               (record { at_most = better.at_most; place = inl refl });
         };
-        within = each_in (λ y. Within task.limit y.cost) waiting search.spots.within x least.there;
+        within = may.within;
         undominated = λ b best better. none_better x least _ task.to b (arrives_by_walk task.net net best.reached.0 task.from task.to b best.reached.1) better
             (record { at_most = better.at_most; place = inr (refl, better.differs) });
       }

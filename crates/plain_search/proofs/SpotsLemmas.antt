@@ -1,5 +1,5 @@
 -- What a step of the search keeps: spots that wait, and the least of them made permanent.
-use Rattle.std.proofs.Common.{◌≡◌, ◌≢◌, ◌+◌, ◌⊎◌, List, [], ◌∷◌, ◌++◌, length, inl, inr, subst, arith, length-append}
+use Rattle.std.proofs.Common.{◌≡◌, ◌≢◌, ◌+◌, ◌⊎◌, List, [], ◌∷◌, ◌++◌, length, inl, inr, arith, length-append}
 use Rattle.std.specs.Prelude.{Contains}
 use Rattle.std.proofs.lemmas.List.Elements.{All-nil, All-push, All-weaker, Contains-push, Contains-append_left}
 use Rattle.cost_vector.specs.declared.label.Spot.{Spot}
@@ -10,8 +10,8 @@ use Rattle.road_network.specs.Network.{IsNetwork}
 use Rattle.road_network.specs.Walks.{IsSumOf}
 use Rattle.road_network.proofs.SumLaws.{sum_of_most}
 use Rattle.plain_search.specs.Search.{Task, IsRelevantTo, Prunes, IsPruned, IsCovered, TakesOut, Adds, IsLeastOf, MayWait, AreSpots, IsSearch}
-use Rattle.plain_search.proofs.PrunesLemmas.{Prunes-refl, Prunes-trans, pruned_by}
-use Rattle.plain_search.proofs.WaitingLemmas.{all_after_add}
+use Rattle.plain_search.proofs.PrunesLemmas.{Prunes-trans, pruned_by, differs_where_fresh}
+use Rattle.plain_search.proofs.AddsLemmas.{all_after_add}
 use Rattle.plain_search.proofs.RelevantLemmas.{least_may_wait, least_is_relevant}
 
 -- no spot yet
@@ -22,23 +22,18 @@ spots_at_first task = record {
   ascending = pairs_none (λ a b. ¬ LexLess b.cost a.cost);
   small = All-nil (λ e. IsSumOf 0 e.cost);
   may_wait = All-nil (MayWait task []);
-  within = All-nil (λ x. Within task.limit x.cost);
-  fresh = All-nil (λ x. ¬ IsPruned task.to [] x);
 }
 
--- a spot is added
+-- a spot is added, which may wait if it is within the limit and not needless
 pub spots_after_add : (task : Task) (permanent before after : List Spot) (x : Spot) → Adds task.to task.limit permanent before x after
-    → MayWait task permanent x → AreSpots task permanent before → AreSpots task permanent after
-spots_after_add task permanent before after x adds may spots =
-    let each = all_after_add task.to task.limit permanent before after x adds in record {
-      relevant = spots.relevant;
-      distinct = spots.distinct;
-      ascending = spots.ascending;
-      small = spots.small;
-      may_wait = each (MayWait task permanent) spots.may_wait (λ within fresh. may);
-      within = each (λ y. Within task.limit y.cost) spots.within (λ within fresh. within);
-      fresh = each (λ y. ¬ IsPruned task.to permanent y) spots.fresh (λ within fresh. fresh);
-    }
+    → (Within task.limit x.cost → (¬ IsPruned task.to permanent x) → MayWait task permanent x) → AreSpots task permanent before → AreSpots task permanent after
+spots_after_add task permanent before after x adds may spots = record {
+  relevant = spots.relevant;
+  distinct = spots.distinct;
+  ascending = spots.ascending;
+  small = spots.small;
+  may_wait = all_after_add task.to task.limit permanent before after x adds (MayWait task permanent) spots.may_wait may;
+}
 
 -- ---- the least is made permanent
 
@@ -50,35 +45,35 @@ module _ (task : Task) (net : IsNetwork task.net) (permanent before after : List
   longer : length permanent' ≡ length permanent + 1
   longer = length-append permanent (x ∷ [])
 
-  -- a spot may still wait
-  pub may_wait_on : (y : Spot) → Contains before y → MayWait task permanent' y
+  -- the spots that are left may still wait
+  may_wait_on : (y : Spot) → Contains after y → MayWait task permanent' y
   may_wait_on y there =
-      let may = each_in (MayWait task permanent) before search.spots.may_wait y there in record {
+      let old = each_in (Contains before) after out.old y there in
+      let may = each_in (MayWait task permanent) before search.spots.may_wait y old in
+      record {
         walk = may.walk;
-        later = All-push (λ e. ¬ LexLess y.cost e.cost) permanent x may.later (each_in (λ z. ¬ LexLess z.cost x.cost) before least.none_below y there);
+        within = may.within;
+        fresh = λ pruned. elim (cases_any_push (λ e. Prunes task.to e y) permanent x pruned) [
+          | inl before ↦ may.fresh before
+          | inr now ↦ each_in (λ z. ¬ Prunes task.to x z) after out.gone y there now
+        ];
+        later = All-push (λ e. ¬ LexLess y.cost e.cost) permanent x may.later (each_in (λ z. ¬ LexLess z.cost x.cost) before least.none_below y old);
         small = sum_of_most (length permanent) (length permanent') y.cost (omega (arith, longer)) may.small;
       }
 
+  -- the least spot comes last among the permanent ones
   pub spots_after_settle : AreSpots task permanent' after
   spots_after_settle =
-      let Fresh : Spot → Type 0 = λ y. ¬ IsPruned task.to permanent y in
-      let fresh = each_in Fresh before search.spots.fresh in
+      let may = least_may_wait task permanent before x search least in
+      let Relevant : Spot → Type 0 = λ e. IsRelevantTo task e.node.0 e.cost in
       let Small : Spot → Type 0 = λ e. IsSumOf (length permanent') e.cost in
       let more = λ (e : Spot). sum_of_most (length permanent) (length permanent') e.cost (omega (arith, longer)) in
       record {
-        relevant = All-push (λ e. IsRelevantTo task e.node.0 e.cost) permanent x search.spots.relevant (least_is_relevant task net permanent before search x least);
-        distinct = pairs_push ◌≢◌ permanent x search.spots.distinct
-            (λ e there same. fresh x least.there (pruned_by task.to permanent x e there (subst (Prunes task.to e) same (Prunes-refl task.to e))));
-        ascending = pairs_push (λ a b. ¬ LexLess b.cost a.cost) permanent x search.spots.ascending
-            (each_in (λ e. ¬ LexLess x.cost e.cost) permanent (least_may_wait task permanent before x search least).later);
-        small = All-push Small permanent x (All-weaker (λ e. IsSumOf (length permanent) e.cost) Small more permanent search.spots.small)
-            (more x (least_may_wait task permanent before x search least).small);
-        may_wait = All-weaker (Contains before) (MayWait task permanent') may_wait_on after out.old;
-        within = All-weaker (Contains before) (λ y. Within task.limit y.cost) (each_in (λ y. Within task.limit y.cost) before search.spots.within) after out.old;
-        fresh = all_from_in (λ y. ¬ IsPruned task.to permanent' y) after (λ y there pruned. elim (cases_any_push (λ e. Prunes task.to e y) permanent x pruned) [
-          | inl old ↦ fresh y (each_in (Contains before) after out.old y there) old
-          | inr new ↦ each_in (λ z. ¬ Prunes task.to x z) after out.gone y there new
-        ]);
+        relevant = All-push Relevant permanent x search.spots.relevant (least_is_relevant task net permanent before search x least);
+        distinct = pairs_push ◌≢◌ permanent x search.spots.distinct (differs_where_fresh task.to permanent x may.fresh);
+        ascending = pairs_push (λ a b. ¬ LexLess b.cost a.cost) permanent x search.spots.ascending (each_in (λ e. ¬ LexLess x.cost e.cost) permanent may.later);
+        small = All-push Small permanent x (All-weaker (λ e. IsSumOf (length permanent) e.cost) Small more permanent search.spots.small) (more x may.small);
+        may_wait = all_from_in (MayWait task permanent') after may_wait_on;
       }
 
   -- what was covered stays so

@@ -65,22 +65,22 @@ abbrev pub IsExpanded : Task → List Spot → List Spot → Spot → Type 0
 IsExpanded task permanent waiting e =
     (k v : ℕ) (by : List ℕ) → Leads task.net k e.node.0 by v → IsCovered task.to task.limit permanent waiting (spot_at v (plus e.cost by))
 
--- x may wait beside the permanent spots: a walk reaches it, and its cost isn't lexicographically less than a permanent one
+-- x may wait beside the permanent spots: a walk reaches it, and it is within the limit and not needless; its cost isn't
+-- lexicographically less than a permanent one, nor greater than as many weights as there are permanent spots can make it
 pub record MayWait (task : Task) (permanent : List Spot) (x : Spot) : Type 0 where
   pub walk : (q : List ℕ) × Arrives task.net task.from q x.node.0 x.cost
+  pub within : Within task.limit x.cost
+  pub fresh : ¬ IsPruned task.to permanent x
   pub later : All (λ e. ¬ LexLess x.cost e.cost) permanent
   pub small : IsSumOf (length permanent) x.cost
 
--- The permanent spots are relevant pairs, each once, in ascending lexicographic order, and no cost is greater than as
--- many weights as there are permanent spots can make it. What waits isn't needless.
+-- the permanent spots are relevant pairs, each once, in ascending lexicographic order, of costs as small as those that wait
 pub record AreSpots (task : Task) (permanent waiting : List Spot) : Type 0 where
   pub relevant : All (λ e. IsRelevantTo task e.node.0 e.cost) permanent
   pub distinct : AllPairs ◌≢◌ permanent
   pub ascending : AllPairs (λ a b. ¬ LexLess b.cost a.cost) permanent
   pub small : All (λ e. IsSumOf (length permanent) e.cost) permanent
   pub may_wait : All (MayWait task permanent) waiting
-  pub within : All (λ x. Within task.limit x.cost) waiting
-  pub fresh : All (λ x. ¬ IsPruned task.to permanent x) waiting
 
 -- besides, the start is covered, and so is all that leads on from the permanent spots
 pub record IsSearch (task : Task) (permanent waiting : List Spot) : Type 0 where

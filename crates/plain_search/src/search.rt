@@ -109,7 +109,8 @@ impl Search {
     fn settle(&mut self, to: NodeNo, spot: &Spot) -> Result<(), OutOfMemory>
         ensures permanent { OnOk result
             (self.new.permanent.items ≡ self.old.permanent.items ++ spot.now ∷ []) }
-        ensures waiting { OnOk result (TakesOut to.0 spot.now self.old.waiting.items self.new.waiting.items) }
+        ensures waiting { OnOk result
+            (TakesOut to.0 spot.now self.old.waiting.items self.new.waiting.items) }
     {
         self.permanent.push(*spot)?;
         take_out(&mut self.waiting, to, spot);

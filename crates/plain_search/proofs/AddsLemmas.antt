@@ -22,7 +22,8 @@ adds_nothing to limit permanent waiting x covered = record {
 pub adds_last : (to : ℕ) (limit : List (Option ℕ)) (permanent before rest after : List Spot) (x : Spot) → (¬ IsCovered to limit permanent before x)
     → TakesOut to x before rest → after ≡ rest ++ x ∷ [] → Adds to limit permanent before x after
 adds_last to limit permanent before rest after x uncovered out grown = rw grown (record {
-  old_or_new = All-push OldOrNew rest x (All-weaker (Contains before) OldOrNew (λ y there. inl there) rest out.old) (inr (refl, within, λ pruned. uncovered (inl pruned)));
+  old_or_new = All-push OldOrNew rest x (All-weaker (Contains before) OldOrNew (λ y there. inl there) rest out.old)
+      (inr (refl, within, λ pruned. uncovered (inl pruned)));
   kept = All-weaker (λ y. Prunes to x y ⊎ Contains rest y) (IsPruned to (rest ++ x ∷ [])) (λ y known. elim known [
     | inl gone ↦ pruned_by to (rest ++ x ∷ []) y x (Contains-push rest x) gone
     | inr stays ↦ pruned_by to (rest ++ x ∷ []) y y (Contains-append_left rest (x ∷ []) y stays) (Prunes-refl to y)

@@ -1,6 +1,7 @@
-//! Forms in memory, which tell their bytes to contracts. Each fails at the calls whose numbers, from 0, it was given, and
-//! gives or takes as many bytes a call as there are, or at most as many as `with_piece` says.
-ghost use Rattle.std.specs.Prelude.{◌≡◌, ◌<◌, ◌≤◌, ◌↔◌, ◌⊎◌, [], Some, None, length, min, Err, IsErr, IfOk, OnOk, OnErr};
+//! Forms in memory, which tell their bytes to contracts. Each fails at the calls whose numbers, from 0, it was given,
+//! and a call gives or takes as many bytes as there are, or at most as many as `with_piece` says.
+ghost use Rattle.std.specs.Prelude.{◌≡◌, ◌<◌, ◌≤◌, ◌↔◌, ◌⊎◌, [], Some, None, length, min, Err, IsErr, IfOk, OnOk};
+ghost use Rattle.std.specs.Prelude.{OnErr};
 ghost use Rattle.route_io.specs.Calls.{IsToFail, after_call, after_write, none_made};
 ghost use Rattle.route_io.specs.Files.{first_of_name};
 ghost use Rattle.route_io.specs.Forms.{IsFull, memory_folder_state, memory_sink_state, memory_source_state, room};

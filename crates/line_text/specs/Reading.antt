@@ -80,9 +80,9 @@ Counts old new (Ok true) = CountsLine old new
 Counts old new other = CountsNone old new
 
 -- the test that the source failed in a call with this answer, where this fault was kept before the call
-abbrev pub read_failed : {T : Type 0} → Option LineFault → Result T LineFault → Bool
-read_failed None (Err fault.Read) = true
-read_failed kept other = false
+abbrev pub line_failed : {T : Type 0} → Option LineFault → Result T LineFault → Bool
+line_failed None (Err fault.Read) = true
+line_failed kept other = false
 
 -- The first line of the rest is current, and what stands behind it is left.
 pub record TakesLine (old new : Lines) (rest : List ℕ) (after : Option (List ℕ)) : Type 0

@@ -7,7 +7,7 @@ ghost use Rattle.route_io.specs.Sources.{Reads, ReadsFrom};
 ghost use Rattle.line_text.specs.Lines.{first_lf, without_cr};
 ghost use Rattle.line_text.specs.Marks.{first_fault, line_fault};
 ghost use Rattle.line_text.specs.Pieces.{Grows, TakesHeld, past_line};
-ghost use Rattle.line_text.specs.Reading.{Advances, InLimits, begun, max_held, max_line, read_failed, rest_of};
+ghost use Rattle.line_text.specs.Reading.{Advances, InLimits, begun, max_held, max_line, line_failed, rest_of};
 
 use crate::{LineFault, LineLimits};
 use cost_vector::OutOfMemory;
@@ -106,7 +106,7 @@ impl Lines {
 
         // The source's failures alone make a failed read.
         ensures source { ReadsFrom (S.state source.old) (S.state source.new)
-            (read_failed self.old.fault result) }
+            (line_failed self.old.fault result) }
     {
         if let Some(fault) = self.fault {
             return Err(fault);
@@ -137,7 +137,7 @@ impl Lines {
         ensures advances { Advances self.old self.new
             (S.state source.old) (S.state source.new) result }
         ensures source { ReadsFrom (S.state source.old) (S.state source.new)
-            (read_failed None result) }
+            (line_failed None result) }
     {
         self.drop_text();
         let mut searched = 0;

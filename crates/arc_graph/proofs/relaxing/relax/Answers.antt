@@ -1,5 +1,5 @@
 use Rattle.std.proofs.lemmas.List.{get_or_default}
-use Rattle.arc_graph.proofs.GraphLemmas.{arc_within}
+use Rattle.arc_graph.proofs.NumbersLemmas.{arc_within}
 use Rattle.arc_graph.proofs.RelaxLaws.{fits_along}
 use Rattle.arc_graph.proofs.relaxing.relax.Goals as goal
 

@@ -12,8 +12,8 @@ use Rattle.std.proofs.lemmas.Bool.Decides.{not_from_Decides, Decides-and, Decide
 use Rattle.std.proofs.lemmas.Option.{slice_get-map, slice_get-get_or}
 use Rattle.list_laws.proofs.Members.{all_got}
 use Rattle.cost_vector.specs.declared.label.ArcNo.{ArcNo}
-use Rattle.arc_graph.specs.Graph.{States, AreStates, state_of}
-use Rattle.arc_graph.specs.Stored.{IsStored, AreStored, is_zero, state_in, states_of}
+use Rattle.arc_graph.specs.Graph.{States, AreStates, arc_state}
+use Rattle.arc_graph.specs.Stored.{IsStoredState, AreStoredStates, is_zero, state_in, states_of}
 
 -- all numbers of a list are 0 exactly where they add up to 0
 zeros_sum : (xs : List ℕ) → Decides (pointwise nat_eq xs (replicate (length xs) 0)) (sum xs ≡ 0)
@@ -39,7 +39,7 @@ sum_front (suc n) (x ∷ xs) filler =
     omega (arith, sum_by-cons (λ n. n) x xs, sum_by-cons (λ n. n) x (take n xs))
 
 -- what four places say is shut, or a vector
-vector_in : (criteria : ℕ) (places : List ℕ) (t : Bool) → criteria ≤ 4 → IsStored criteria places → is_zero places ≡ t
+vector_in : (criteria : ℕ) (places : List ℕ) (t : Bool) → criteria ≤ 4 → IsStoredState criteria places → is_zero places ≡ t
     → IfSome (cond t None (Some (take criteria places))) (IsVector criteria)
 vector_in criteria places true most stored test = tt
 vector_in criteria places false most stored test = record {
@@ -50,22 +50,22 @@ vector_in criteria places false most stored test = record {
 }
 
 -- its weights have 32 bits
-small_in : (criteria : ℕ) (places : List ℕ) (t : Bool) → IsStored criteria places → IfSome (cond t None (Some (take criteria places))) (All (λ x. x < 2 ^ 32))
+small_in : (criteria : ℕ) (places : List ℕ) (t : Bool) → IsStoredState criteria places → IfSome (cond t None (Some (take criteria places))) (All (λ x. x < 2 ^ 32))
 small_in criteria places true stored = tt
 small_in criteria places false stored = All-take (λ x. x < 2 ^ 32) criteria places stored.small
 
 -- the same of all arcs
-pub states_in : (criteria : ℕ) (vectors : List (List ℕ)) → AreStored criteria vectors
+pub states_in : (criteria : ℕ) (vectors : List (List ℕ)) → AreStoredStates criteria vectors
     → AreStates (record { criteria = criteria; states = states_of criteria vectors })
 states_in criteria vectors stored = record {
   vectors = All-map (λ s. IfSome s (IsVector criteria)) (state_in criteria) vectors
-      (All-weaker (IsStored criteria) _ (λ v is. vector_in criteria v (is_zero v) stored.four is refl) vectors stored.each);
+      (All-weaker (IsStoredState criteria) _ (λ v is. vector_in criteria v (is_zero v) stored.four is refl) vectors stored.each);
   small = All-map (λ s. IfSome s (All (λ x. x < 2 ^ 32))) (state_in criteria) vectors
-      (All-weaker (IsStored criteria) _ (λ v. small_in criteria v (is_zero v)) vectors stored.each);
+      (All-weaker (IsStoredState criteria) _ (λ v. small_in criteria v (is_zero v)) vectors stored.each);
 }
 
 -- what holds of each vector holds of an arc's
-pub holds_of_state : (P : List ℕ → Type 0) (w : States) (a : ArcNo) → All (λ s. IfSome s P) w.states → IfSome (state_of w a) P
+pub holds_of_state : (P : List ℕ → Type 0) (w : States) (a : ArcNo) → All (λ s. IfSome s P) w.states → IfSome (arc_state w a) P
 holds_of_state P w a all = by_state (slice_get w.states (a.0 - 1)) refl where
   by_state : (o : Option (Option (List ℕ))) → slice_get w.states (a.0 - 1) ≡ o → IfSome (option_and_then (λ s. s) o) P
   by_state None is = tt
@@ -75,18 +75,18 @@ holds_of_state P w a all = by_state (slice_get w.states (a.0 - 1)) refl where
 pub state_by_places : (criteria : ℕ) (vectors : List (List ℕ)) (w : States) (a : ArcNo) (places : List ℕ) (t : Bool)
     → record { criteria = criteria; states = states_of criteria vectors } ≡ w → 1 ≤ a.0 → a.0 ≤ length w.states
     → places ≡ get_or vectors (a.0 - 1) places → pointwise nat_eq places (replicate 4 0) ≡ t
-    → state_of w a ≡ cond t None (Some (take criteria places))
+    → arc_state w a ≡ cond t None (Some (take criteria places))
 state_by_places criteria vectors w a places t view counted there at test =
     let same : length w.states ≡ length (states_of criteria vectors) = ap (λ (v : States). length v.states) (sym view) in
     let within : a.0 - 1 < length vectors = omega (arith, same, length-map vectors (state_in criteria)) in
-    ap (λ v. state_of v a) (sym view)
+    ap (λ v. arc_state v a) (sym view)
     ∙ ap (option_and_then (λ s. s)) (slice_get-map (state_in criteria) vectors (a.0 - 1))
     ∙ ap (λ o. option_and_then (λ s. s) (option_map (state_in criteria) o)) (slice_get-get_or vectors (a.0 - 1) places within)
     ∙ ap (state_in criteria) (sym at)
     ∙ ap (λ b. cond b None (Some (take criteria places))) test
 
 -- the place of a file is written
-pub stored_after_set : (files : ℕ) (places : List ℕ) (x : ℕ) → 1 ≤ files → x < 2 ^ 32 → IsStored files places → IsStored files (set places (files - 1) x)
+pub stored_after_set : (files : ℕ) (places : List ℕ) (x : ℕ) → 1 ≤ files → x < 2 ^ 32 → IsStoredState files places → IsStoredState files (set places (files - 1) x)
 stored_after_set files places x some small stored = record {
   four = length-set places (files - 1) x ∙ stored.four;
   small = All-set (λ n. n < 2 ^ 32) places (files - 1) x small stored.small;

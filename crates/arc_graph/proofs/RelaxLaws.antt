@@ -8,7 +8,7 @@ use Rattle.cost_vector.specs.declared.label.ArcNo.{ArcNo}
 use Rattle.cost_vector.specs.declared.label.Label.{Label}
 use Rattle.cost_vector.specs.Costs.{plus}
 use Rattle.road_network.specs.Network.{IsNetwork, IsVector, Leads}
-use Rattle.arc_graph.specs.Graph.{Arcs, States, IsGraph, AreStates, Match, network, numbers_from, Fits, SumsFit, label_over, label_by, relaxed, state_of, ComesOf}
+use Rattle.arc_graph.specs.Graph.{Arcs, States, IsGraph, AreStates, Match, network, numbers_from, Fits, SumsFit, label_over, label_by, relaxed, arc_state, ComesOf}
 use Rattle.road_network.proofs.SumLaws.{small_by}
 use Rattle.arc_graph.proofs.NumbersLemmas.{StandsAt, in_numbers, of_numbers}
 use Rattle.list_laws.proofs.Members.{in_filter_map, of_filter_map}
@@ -26,7 +26,7 @@ network_of g w graph states matched = record {
 
 -- the sum along each of these arcs fits, unless it is shut
 pub fits_along : (g : Arcs) (w : States) (u : ℕ) (c : List ℕ) (arcs : List ArcNo) (i : ℕ) (d : ArcNo) → SumsFit g w u c → arcs ≡ numbers_from 1 g.ends u
-    → i < length arcs → IfSome (state_of w (get_or arcs i d)) (λ y. Fits (plus c y))
+    → i < length arcs → IfSome (arc_state w (get_or arcs i d)) (λ y. Fits (plus c y))
 fits_along g w u c arcs i d fits all within = by_state (slice_get w.states (a.0 - 1)) refl where
   a : ArcNo
   a = get_or arcs i d

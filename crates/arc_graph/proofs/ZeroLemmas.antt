@@ -19,7 +19,7 @@ use Rattle.arc_graph.specs.Agreement.{AgreeInSize, IsZeroArc, vector_at, weight_
 use Rattle.arc_graph.specs.Joining.{Joining, IsJoining}
 use Rattle.list_laws.specs.Least.{IsLeastWith}
 use Rattle.arc_graph.specs.StandsFor.{StandsFor}
-use Rattle.arc_graph.specs.Stored.{IsStored, is_zero}
+use Rattle.arc_graph.specs.Stored.{IsStoredState, is_zero}
 use Rattle.arc_graph.proofs.Places.{zero_decides, sum_front}
 
 -- the weight of the arc at a place is 0 in the file
@@ -76,7 +76,7 @@ pub zero_at : (j : Joining) (first : Contents) (others : List Contents) (place :
 zero_at j first others place kept stands sizes within =
     let files = first ∷ others in
     let v = get_or j.vectors place [] in
-    let stored : IsStored j.begun v = All-get_or (IsStored j.begun) j.vectors place [] (omega (arith, kept.matched)) kept.stored in
+    let stored : IsStoredState j.begun v = All-get_or (IsStoredState j.begun) j.vectors place [] (omega (arith, kept.matched)) kept.stored in
     let total : sum v ≡ sum (vector_at files place) = sym (sum_front j.begun v stored.filler) ∙ ap sum (stands.weights place within) in
     let count : length j.ends ≡ length first.arcs = ap length (stands.ends first refl) ∙ length-map first.arcs ends_of in
     let have : All (λ f. place < length f.arcs) files =

@@ -13,7 +13,7 @@ ghost use Rattle.arc_graph.specs.Stored.{is_zero, states_of};
 
 use crate::file::{ArcFile, ArcLine};
 use crate::graph::{Ends, Graph};
-use crate::weights::{Places, Weights, is_shut};
+use crate::weights::{Places, Weights, is_zero};
 use cost_vector::OutOfMemory;
 use std::alloc::Global;
 use std::marker::Model;
@@ -344,7 +344,7 @@ fn arc_fault(other: Option<OtherEnds>, zero: Option<u32>) -> Option<JoinFault>
 fn first_zero(vectors: &[Places]) -> Option<usize>
     ensures { result ≡ position is_zero vectors.now }
 {
-    vectors.iter().position(is_shut)
+    vectors.iter().position(is_zero)
 }
 
 /// Joins two to four files that list the same arcs, each with its own weights.

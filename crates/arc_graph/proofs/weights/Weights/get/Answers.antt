@@ -5,13 +5,13 @@ use Rattle.arc_graph.specs.Graph.{AreStates}
 use Rattle.arc_graph.proofs.Places.{states_in, state_by_places, holds_of_state}
 use Rattle.arc_graph.proofs.weights.Weights.get.Goals as goal
 
-pub returns-then-is_shut-clause-state : goal.returns-then-is_shut-clause-state
-returns-then-is_shut-clause-state c =
-    sym (state_by_places _ _ _ c.args.a _ true c.self.view_is c.requires.counted c.requires.there c.index.ensures (sym c.is_shut.ensures ∙ c.if-is_shut.true))
+pub returns-then-is_zero-clause-state : goal.returns-then-is_zero-clause-state
+returns-then-is_zero-clause-state c =
+    sym (state_by_places _ _ _ c.args.a _ true c.self.view_is c.requires.counted c.requires.there c.index.ensures (sym c.is_zero.ensures ∙ c.if-is_zero.true))
 
 pub returns-clause-state : goal.returns-clause-state
 returns-clause-state c =
-    let test = sym c.is_shut.ensures ∙ c.if-is_shut.false in
+    let test = sym c.is_zero.ensures ∙ c.if-is_zero.false in
     ap Some c.of_numbers.ensures ∙ sym (state_by_places _ _ _ c.args.a _ false c.self.view_is c.requires.counted c.requires.there c.index.ensures test)
 
 pub returns-clause-vector : goal.returns-clause-vector

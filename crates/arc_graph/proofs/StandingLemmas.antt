@@ -10,12 +10,11 @@ use Rattle.arc_graph.specs.Agreement.{IsOtherSize, DiffersInSize, DiffersInEnds,
 use Rattle.arc_graph.specs.Joining.{Joining, IsJoining}
 use Rattle.list_laws.specs.Least.{IsLeastIfAny}
 use Rattle.arc_graph.specs.StandsFor.{StandsFor, sizes_said}
-use Rattle.arc_graph.specs.Faults.{AreLeastIfAny, IsEarlier}
+use Rattle.arc_graph.specs.Faults.{AreLeastIfAny}
 use Rattle.std.proofs.lemmas.List.Elements.{All-get_or}
 use Rattle.list_laws.proofs.Gets.{get_in_push, get_added}
-use Rattle.list_laws.proofs.Least.{Adds, least_same, least_without, least_or}
-use Rattle.arc_graph.proofs.OtherEndsLemmas.{AddsPair, pair_same, pair_if, pair_without, pair_earlier}
-use Rattle.std.specs.Option.{option_or}
+use Rattle.list_laws.proofs.Least.{Adds, least_same}
+use Rattle.arc_graph.proofs.OtherEndsLemmas.{AddsPair, pair_same, pair_if, pair_without}
 use Rattle.arc_graph.specs.declared.join.OtherEnds.{OtherEnds}
 use Rattle.arc_graph.proofs.EndsLemmas.{HasOther, adds_arc, arc_at, ends_read, no_other_ends, ends_with_new, ends_before_new}
 use Rattle.arc_graph.specs.declared.graph.Ends.{Ends}
@@ -86,34 +85,6 @@ adds_here j (first ∷ more) last a ends e later kept within read stands =
     pair_if _ _ _ _ _ _
     (λ other same. other.differs (same ∙ found.2 ∙ ap ends_of (same_Some _ _ (sym found.1 ∙ other.arc_is))))
     (λ differs. record { arc = found.0; arc_is = found.1; differs = λ same. differs (same ∙ sym found.2) }) by_begun
-
--- the arc's ends are those of the first file's arc: what was told stays so
-pub told_same : (j : Joining) (front : List Contents) (last : Contents) (a : ArcLine) (ends : List Ends) (e : Ends) → 2 ≤ j.begun → j.ends ≡ map pair_of ends
-    → j.come < length j.ends → e ≡ get_or ends j.come e → StandsFor j (front ++ last ∷ []) → ends_of a ≡ pair_of e
-    → AreLeastIfAny (DiffersInEnds (front ++ with_arc last a ∷ [])) j.other_ends
-told_same j front last a ends e later kept within read stands same =
-    pair_without _ _ _ _ _ _ (adds_here j front last a ends e later kept within read stands) (λ other. other same) stands.other_ends
-
--- they are other ones: the earlier is told
-pub told_other : (j : Joining) (front : List Contents) (last : Contents) (a : ArcLine) (ends : List Ends) (e : Ends) (told : OtherEnds) → 2 ≤ j.begun
-    → j.ends ≡ map pair_of ends → j.come < length j.ends → e ≡ get_or ends j.come e → StandsFor j (front ++ last ∷ []) → ends_of a ≢ pair_of e
-    → IsEarlier j.other_ends (record { arc = j.come + 1; file = j.begun }) told → AreLeastIfAny (DiffersInEnds (front ++ with_arc last a ∷ [])) (Some told)
-told_other j front last a ends e told later kept within read stands other is =
-    let here : OtherEnds = record { arc = j.come + 1; file = j.begun } in
-    let adds = adds_here j front last a ends e later kept within read stands in
-    pair_earlier _ _ _ j.other_ends here told adds other is stands.other_ends
-
--- the sizes are those of the first file: what was told stays so
-pub size_same : (j : Joining) (files : List Contents) (nodes arcs : ℕ) → 1 ≤ j.begun → j.come ≡ j.due_arcs → StandsFor j files
-    → (nodes ≡ j.nodes) × (arcs ≡ length j.ends) → IsLeastIfAny (IsOtherSize (map size_of files ++ (nodes, arcs) ∷ [])) j.other_size
-size_same j files nodes arcs some whole stands same =
-    least_without _ _ _ _ _ (adds_file j files nodes arcs some whole stands) (λ other. other same) stands.other_size
-
--- they are other ones: what was told stays so, or else this file is told
-pub size_other : (j : Joining) (files : List Contents) (nodes arcs : ℕ) → 1 ≤ j.begun → j.come ≡ j.due_arcs → StandsFor j files
-    → ¬ ((nodes ≡ j.nodes) × (arcs ≡ length j.ends))
-    → IsLeastIfAny (IsOtherSize (map size_of files ++ (nodes, arcs) ∷ [])) (option_or j.other_size (Some (j.begun + 1)))
-size_other j files nodes arcs some whole stands other = least_or _ _ _ _ _ (adds_file j files nodes arcs some whole stands) other stands.other_size
 
 -- The first file begins.
 pub begin_first : (j : Joining) (files : List Contents) (nodes arcs : ℕ) → IsJoining j → j.begun ≡ 0 → StandsFor j files

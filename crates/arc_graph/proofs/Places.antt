@@ -50,7 +50,8 @@ vector_in criteria places false most stored test = record {
 }
 
 -- its weights have 32 bits
-small_in : (criteria : ℕ) (places : List ℕ) (t : Bool) → IsStoredState criteria places → IfSome (cond t None (Some (take criteria places))) (All (λ x. x < 2 ^ 32))
+small_in : (criteria : ℕ) (places : List ℕ) (t : Bool) → IsStoredState criteria places
+    → IfSome (cond t None (Some (take criteria places))) (All (λ x. x < 2 ^ 32))
 small_in criteria places true stored = tt
 small_in criteria places false stored = All-take (λ x. x < 2 ^ 32) criteria places stored.small
 
@@ -86,7 +87,8 @@ state_by_places criteria vectors w a places t view counted there at test =
     ∙ ap (λ b. cond b None (Some (take criteria places))) test
 
 -- the place of a file is written
-pub stored_after_set : (files : ℕ) (places : List ℕ) (x : ℕ) → 1 ≤ files → x < 2 ^ 32 → IsStoredState files places → IsStoredState files (set places (files - 1) x)
+pub stored_after_set : (files : ℕ) (places : List ℕ) (x : ℕ) → 1 ≤ files → x < 2 ^ 32 → IsStoredState files places
+    → IsStoredState files (set places (files - 1) x)
 stored_after_set files places x some small stored = record {
   four = length-set places (files - 1) x ∙ stored.four;
   small = All-set (λ n. n < 2 ^ 32) places (files - 1) x small stored.small;

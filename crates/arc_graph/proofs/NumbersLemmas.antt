@@ -56,9 +56,9 @@ pub numbers_above : (k : ℕ) (es : List (ℕ × ℕ)) (tail : ℕ) → All (λ 
 numbers_above k es tail = all_from_in (λ a. k ≤ a.0) (numbers_from k es tail) (λ a there. omega (arith, (of_numbers k es tail a there).number))
 
 -- each is that of one of the graph's arcs
-pub arc_within : (ends : List (ℕ × ℕ)) (tail : ℕ) (arcs : List ArcNo) (i : ℕ) (a : ArcNo) → arcs ≡ numbers_from 1 ends tail → i < length arcs
+pub number_within : (ends : List (ℕ × ℕ)) (tail : ℕ) (arcs : List ArcNo) (i : ℕ) (a : ArcNo) → arcs ≡ numbers_from 1 ends tail → i < length arcs
     → a ≡ get_or arcs i a → (1 ≤ a.0) × (a.0 ≤ length ends)
-arc_within ends tail arcs i a all within is =
+number_within ends tail arcs i a all within is =
     let at = of_numbers 1 ends tail a (subst (λ ns. Contains ns a) all (i, within, sym is)) in
     let inside = slice_get_within ends at.place (tail, at.head) at.ends in
     (omega (arith, at.number), omega (arith, at.number, inside))

@@ -13,7 +13,7 @@ use Rattle.arc_graph.specs.StandsFor.{StandsFor, sizes_said}
 use Rattle.arc_graph.specs.Faults.{AreLeastIfAny}
 use Rattle.std.proofs.lemmas.List.Elements.{All-get_or}
 use Rattle.list_laws.proofs.Gets.{get_in_push, get_added}
-use Rattle.list_laws.proofs.Least.{Adds, least_same}
+use Rattle.list_laws.proofs.Least.{AddsNumber, least_same}
 use Rattle.arc_graph.proofs.OtherEndsLemmas.{AddsPair, pair_same, pair_if, pair_without}
 use Rattle.arc_graph.specs.declared.join.OtherEnds.{OtherEnds}
 use Rattle.arc_graph.proofs.EndsLemmas.{HasOther, adds_arc, arc_at, ends_read, no_other_ends, ends_with_new, ends_before_new}
@@ -44,7 +44,7 @@ said_last j front last begun =
 
 -- what the beginning of one file more adds
 pub adds_file : (j : Joining) (files : List Contents) (nodes arcs : ℕ) → 1 ≤ j.begun → j.come ≡ j.due_arcs → StandsFor j files
-    → Adds (IsOtherSize (sizes_said j files)) (IsOtherSize (map size_of files ++ (nodes, arcs) ∷ [])) (j.begun + 1)
+    → AddsNumber (IsOtherSize (sizes_said j files)) (IsOtherSize (map size_of files ++ (nodes, arcs) ∷ [])) (j.begun + 1)
     (¬ ((nodes ≡ j.nodes) × (arcs ≡ length j.ends)))
 adds_file j [] nodes arcs some whole stands = absurd (omega (arith, stands.begun))
 adds_file j (first ∷ others) nodes arcs some whole stands =
@@ -53,7 +53,7 @@ adds_file j (first ∷ others) nodes arcs some whole stands =
     let first_arcs : length j.ends ≡ length first.arcs = ap length (stands.ends first refl) ∙ length-map first.arcs ends_of in
     let count : length sizes + 2 ≡ j.begun + 1 = omega (arith, length-map others size_of, stands.begun) in
     let N : Type 0 = ¬ ((nodes ≡ j.nodes) × (arcs ≡ length j.ends)) in
-    let P : List (ℕ × ℕ) → ℕ → Type 0 = λ said n. Adds (IsOtherSize said) (IsOtherSize (size_of first ∷ sizes ++ (nodes, arcs) ∷ [])) n N in
+    let P : List (ℕ × ℕ) → ℕ → Type 0 = λ said n. AddsNumber (IsOtherSize said) (IsOtherSize (size_of first ∷ sizes ++ (nodes, arcs) ∷ [])) n N in
     let adds = adds_size (size_of first) (nodes, arcs) sizes N
     (λ other e. other (ap (λ (s : ℕ × ℕ). s.0) e ∙ sym first_nodes, ap (λ (s : ℕ × ℕ). s.1) e ∙ sym first_arcs))
     (λ other same. let e = same.0 ∙ first_nodes in let f = same.1 ∙ first_arcs in other cc) in

@@ -5,7 +5,8 @@ use Rattle.std.specs.Prelude.{slice_get, nat_eq}
 use Rattle.std.proofs.lemmas.Bool.{and_parts, and_from, eqb-true}
 use Rattle.arc_graph.specs.declared.graph.Ends.{Ends}
 use Rattle.arc_graph.specs.Layout.{pair_of}
-use Rattle.std.proofs.lemmas.Option.{slice_get_within, same_Some}
+use Rattle.std.specs.Option.{option_map}
+use Rattle.std.proofs.lemmas.Option.{slice_get_within, slice_get-map, slice_get_read, same_Some}
 use Rattle.arc_graph.specs.declared.file.ArcLine.{ArcLine}
 use Rattle.arc_graph.specs.Files.{Contents, ends_of, with_arc}
 use Rattle.arc_graph.specs.Agreement.{DiffersInEnds}
@@ -151,9 +152,7 @@ arc_at (x ∷ xs) (suc place) here at = arc_at xs place here at
 -- ends that were read from memory
 pub ends_read : (ends : List Ends) (place : ℕ) (e : Ends) → place < length ends → e ≡ get_or ends place e
     → slice_get (map pair_of ends) place ≡ Some (pair_of e)
-ends_read [] place e within read = absurd (omega arith)
-ends_read (x ∷ xs) zero e within read = ap (λ (y : Ends). Some (pair_of y)) (sym read)
-ends_read (x ∷ xs) (suc place) e within read = ends_read xs place e (omega arith) read
+ends_read ends place e within read = slice_get-map pair_of ends place ∙ ap (option_map pair_of) (slice_get_read ends (length ends) place e refl within read)
 
 -- the test on ends tells whether their pairs are the same
 pub ends_decide : (x y : Ends) → Decides (nat_eq x.tail.0 y.tail.0 && nat_eq x.head.0 y.head.0) (pair_of x ≡ pair_of y)

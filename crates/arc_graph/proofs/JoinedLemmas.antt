@@ -1,7 +1,7 @@
 -- What network a joiner makes of files that agree.
-use Rattle.std.proofs.Common.{◌≡◌, ℕ, ◌+◌, ◌<◌, ◌≤◌, true, false, List, [], ◌∷◌, ◌∙◌}
-use Rattle.std.proofs.Common.{Option, Some, None, Bool, cond, length, map, take, get_or, inr, arith, sym, zero-add, ap, refl}
-use Rattle.std.specs.Bool.{MatchBool}
+use Rattle.std.proofs.Common.{◌≡◌, ℕ, ◌+◌, ◌<◌, ◌≤◌, false, List, [], ◌∷◌, ◌∙◌}
+use Rattle.std.proofs.Common.{Option, Some, None, cond, length, map, take, get_or, inl, inr, arith, sym, zero-add, ap, refl}
+use Rattle.std.proofs.lemmas.Bool.{cases_Bool}
 use Rattle.std.specs.List.{enumerate_from}
 use Rattle.std.proofs.lemmas.List.{length-map, get_or-map, same_lists}
 use Rattle.std.proofs.lemmas.List.FromFn.{length-enumerate_from, get_or-enumerate_from}
@@ -20,12 +20,11 @@ state_joined : (j : Joining) (first : Contents) (others : List Contents) (place 
     → place < length j.ends → state_in j.begun (get_or j.vectors place []) ≡ Some (vector_at (first ∷ others) place)
 state_joined j first others place kept stands agree within =
     let v = get_or j.vectors place [] in
-    let test : is_zero v ≡ false =
-    by_test (is_zero v) (zero_at j first others place kept stands agree.sizes within) (λ only. agree.arcs (place + 1) (inr only)) in
-    ap (λ t. cond t None (Some (take j.begun v))) test ∙ ap Some (stands.weights place within) where
-      by_test : (t : Bool) {Z : Type 0} → MatchBool t Z (¬ Z) → ¬ Z → t ≡ false
-      by_test true is none = absurd (none is)
-      by_test false is none = refl
+    let test : is_zero v ≡ false = elim (cases_Bool (is_zero v)) [
+      | inl zero ↦ absurd (agree.arcs (place + 1) (inr ((zero_at j first others place kept stands agree.sizes within).0 zero)))
+      | inr other ↦ other
+    ] in
+    ap (λ t. cond t None (Some (take j.begun v))) test ∙ ap Some (stands.weights place within)
 
 states_joined : (j : Joining) (first : Contents) (others : List Contents) → IsJoining j → StandsFor j (first ∷ others) → Agree (first ∷ others)
     → states_of j.begun j.vectors ≡ map (λ (p : ℕ × ArcLine). Some (vector_at (first ∷ others) p.0)) (enumerate_from 0 first.arcs)

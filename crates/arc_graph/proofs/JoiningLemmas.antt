@@ -5,12 +5,12 @@ use Rattle.std.proofs.lemmas.List.Elements.{All-get_or, All-set}
 use Rattle.std.proofs.lemmas.List.{length-set}
 use Rattle.arc_graph.specs.declared.join.OtherEnds.{OtherEnds}
 use Rattle.arc_graph.specs.Joining.{Joining, IsJoining}
-use Rattle.arc_graph.specs.Stored.{IsStored}
+use Rattle.arc_graph.specs.Stored.{IsStoredState}
 use Rattle.arc_graph.proofs.Places.{stored_after_set}
 
 -- one arc more has come, whose weight is stored
 pub joining_after_arc : (j : Joining) (vectors : List (List ℕ)) (told : Option OtherEnds) → 2 ≤ j.begun → j.come < j.due_arcs → length vectors ≡ length j.ends
-    → All (IsStored j.begun) vectors → IsJoining j → IsJoining (record j { vectors = vectors; come = j.come + 1; other_ends = told })
+    → All (IsStoredState j.begun) vectors → IsJoining j → IsJoining (record j { vectors = vectors; come = j.come + 1; other_ends = told })
 joining_after_arc j vectors told later due matched stored kept = record {
   files = kept.files;
   come = omega arith;
@@ -31,7 +31,7 @@ pub joining_after_weight : (j : Joining) (places : List ℕ) (x : ℕ) (told : O
     → x < 2 ^ 32 → places ≡ get_or j.vectors j.come places → IsJoining j
     → IsJoining (record j { vectors = set j.vectors j.come (set places (j.begun - 1) x); come = j.come + 1; other_ends = told })
 joining_after_weight j places x told later due there small at kept =
-    let Stored : List ℕ → Type 0 = IsStored j.begun in
+    let Stored : List ℕ → Type 0 = IsStoredState j.begun in
     let stored : Stored places = subst Stored (sym at) (All-get_or Stored j.vectors j.come places (omega (arith, kept.matched)) kept.stored) in
     let written = set places (j.begun - 1) x in
     joining_after_arc j (set j.vectors j.come written) told later due (length-set j.vectors j.come written ∙ kept.matched)

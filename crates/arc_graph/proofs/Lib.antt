@@ -10,5 +10,5 @@ pub mod ZeroLemmas
 pub mod JoinedLemmas
 pub mod ChainLemmas
 pub mod LayoutLemmas
-pub mod GraphLemmas
+pub mod NumbersLemmas
 pub mod RelaxLaws

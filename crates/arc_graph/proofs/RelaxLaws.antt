@@ -1,17 +1,17 @@
 -- What relaxing gives: exactly the labels of the arcs that lead on.
-use Rattle.std.proofs.Common.{◌≡◌, ℕ, zero, suc, ◌+◌, ◌-◌, ◌^◌, ◌<◌, length, get_or, true, false, cond, List, [], ◌∷◌, Option, Some, None, IfSome, refl, sym, ap, subst, ◌∙◌, inl, inr, eq-eqb, arith}
-use Rattle.std.specs.Prelude.{nat_eq, slice_get}
+use Rattle.std.proofs.Common.{◌≡◌, ℕ, ◌+◌, ◌-◌, ◌^◌, ◌<◌, length, get_or, List, [], ◌∷◌, Option, Some, None, IfSome, refl, sym, ap, subst, arith}
+use Rattle.std.specs.Prelude.{slice_get}
 use Rattle.std.specs.Prelude.{All, Contains}
 use Rattle.std.proofs.lemmas.List.Elements.{All-nil, All-cons, All-head, All-tail, Contains-get_or}
 use Rattle.std.specs.Option.{option_and_then}
-use Rattle.std.proofs.lemmas.Bool.{cases_Bool, eqb-true}
 use Rattle.cost_vector.specs.declared.label.ArcNo.{ArcNo}
 use Rattle.cost_vector.specs.declared.label.Label.{Label}
 use Rattle.cost_vector.specs.Costs.{plus}
 use Rattle.road_network.specs.Network.{IsNetwork, IsVector, Leads}
-use Rattle.arc_graph.specs.Graph.{Arcs, States, IsGraph, AreStates, Match, network, numbers_from, Fits, SumsFit, label_over, label_by, relaxed, state_of, ComesOf}
+use Rattle.arc_graph.specs.Graph.{Arcs, States, IsGraph, AreStates, Match, network, numbers_from, Fits, SumsFit, label_over, label_by, relaxed, arc_state, ComesOf}
 use Rattle.road_network.proofs.SumLaws.{small_by}
-use Rattle.list_laws.proofs.Members.{in_none, in_front, in_rest, cases_in, in_filter_map, of_filter_map}
+use Rattle.arc_graph.proofs.NumbersLemmas.{StandsAt, in_numbers, of_numbers}
+use Rattle.list_laws.proofs.Members.{in_filter_map, of_filter_map}
 
 -- a graph and states that match it are a network
 pub network_of : (g : Arcs) (w : States) → IsGraph g → AreStates w → Match g w → IsNetwork (network g w)
@@ -24,52 +24,9 @@ network_of g w graph states matched = record {
   vectors = subst (λ d. All (λ s. IfSome s (IsVector d)) w.states) matched.criteria states.vectors;
 }
 
--- ---- the numbers of the arcs with a tail
-
-in_numbers : (k : ℕ) (es : List (ℕ × ℕ)) (tail i head : ℕ) → slice_get es i ≡ Some (tail, head) → Contains (numbers_from k es tail) (record { 0 = k + i })
-in_numbers k [] tail i head e = cc
-in_numbers k (x ∷ es) tail zero head e =
-    let same : x.0 ≡ tail = ap (λ (o : Option (ℕ × ℕ)). first o) e in
-    rw (eq-eqb x.0 tail same) (in_front _ _ _ (ap (λ (n : ℕ). record { 0 = n }) (omega arith))) where
-      first : Option (ℕ × ℕ) → ℕ
-      first None = tail
-      first (Some p) = p.0
-in_numbers k (x ∷ es) tail (suc i) head e =
-    let place : k + 1 + i ≡ k + suc i = omega arith in
-    let more = numbers_from (k + 1) es tail in
-    let rest : Contains more (record { 0 = k + suc i }) = subst (λ n. Contains more (record { 0 = n })) place (in_numbers (k + 1) es tail i head e) in
-    elim (nat_eq x.0 tail) as (λ t. Contains (cond t (record { 0 = k } ∷ more) more) (record { 0 = k + suc i }))
-    [ true ↦ in_rest (record { 0 = k }) more (record { 0 = k + suc i }) rest | false ↦ rest ]
-
--- the place of an arc in the list, and the arc there
-record StandsAt (k : ℕ) (es : List (ℕ × ℕ)) (tail : ℕ) (a : ArcNo) : Type 0 where
-  pub place : ℕ
-  pub head : ℕ
-  pub number : a.0 ≡ k + place
-  pub ends : slice_get es place ≡ Some (tail, head)
-
-later : (k : ℕ) (x : ℕ × ℕ) (es : List (ℕ × ℕ)) (tail : ℕ) (a : ArcNo) → StandsAt (k + 1) es tail a → StandsAt k (x ∷ es) tail a
-later k x es tail a rest = record { place = suc rest.place; head = rest.head; number = rest.number ∙ (omega arith); ends = rest.ends }
-
-of_numbers : (k : ℕ) (es : List (ℕ × ℕ)) (tail : ℕ) (a : ArcNo) → Contains (numbers_from k es tail) a → StandsAt k es tail a
-of_numbers k [] tail a h = absurd (in_none a h)
-of_numbers k (x ∷ es) tail a h = elim (cases_Bool (nat_eq x.0 tail)) [
-  | inr other ↦ later k x es tail a (of_numbers (k + 1) es tail a (rw other at h))
-  | inl same ↦ let first_or_more : Contains (record { 0 = k } ∷ numbers_from (k + 1) es tail) a = rw same at h in
-      elim (cases_in (record { 0 = k }) (numbers_from (k + 1) es tail) a first_or_more) [
-        | inl first ↦ record {
-          place = 0;
-          head = x.1;
-          number = ap (λ (n : ArcNo). n.0) first ∙ (omega arith);
-          ends = ap (λ t. Some (t, x.1)) (eqb-true x.0 tail same);
-        }
-        | inr more ↦ later k x es tail a (of_numbers (k + 1) es tail a more)
-      ]
-]
-
 -- the sum along each of these arcs fits, unless it is shut
 pub fits_along : (g : Arcs) (w : States) (u : ℕ) (c : List ℕ) (arcs : List ArcNo) (i : ℕ) (d : ArcNo) → SumsFit g w u c → arcs ≡ numbers_from 1 g.ends u
-    → i < length arcs → IfSome (state_of w (get_or arcs i d)) (λ y. Fits (plus c y))
+    → i < length arcs → IfSome (arc_state w (get_or arcs i d)) (λ y. Fits (plus c y))
 fits_along g w u c arcs i d fits all within = by_state (slice_get w.states (a.0 - 1)) refl where
   a : ArcNo
   a = get_or arcs i d

@@ -4,11 +4,11 @@ use Rattle.std.specs.Prelude.{slice_get}
 use Rattle.std.proofs.lemmas.Option.{slice_get_within, same_Some}
 use Rattle.arc_graph.specs.Agreement.{IsOtherSize}
 use Rattle.list_laws.proofs.Gets.{get_in_push, get_before, get_added}
-use Rattle.list_laws.proofs.Least.{Adds}
+use Rattle.list_laws.proofs.Least.{AddsNumber}
 
 -- one size more is another than the first, where N says so, and no other size comes to be another
 pub adds_size : (first size : ℕ × ℕ) (sizes : List (ℕ × ℕ)) (N : Type 0) → (N → size ≢ first) → (size ≢ first → N)
-    → Adds (IsOtherSize (first ∷ sizes)) (IsOtherSize (first ∷ sizes ++ size ∷ [])) (length sizes + 2) N
+    → AddsNumber (IsOtherSize (first ∷ sizes)) (IsOtherSize (first ∷ sizes ++ size ∷ [])) (length sizes + 2) N
 adds_size first size sizes N differs same = record {
   kept = λ f is. record {
     first = is.first;

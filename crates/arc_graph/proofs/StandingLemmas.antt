@@ -10,17 +10,16 @@ use Rattle.arc_graph.specs.Agreement.{IsOtherSize, DiffersInSize, DiffersInEnds,
 use Rattle.arc_graph.specs.Joining.{Joining, IsJoining}
 use Rattle.list_laws.specs.Least.{IsLeastIfAny}
 use Rattle.arc_graph.specs.StandsFor.{StandsFor, sizes_said}
-use Rattle.arc_graph.specs.Faults.{AreLeastIfAny, IsEarlier}
+use Rattle.arc_graph.specs.Faults.{AreLeastIfAny}
 use Rattle.std.proofs.lemmas.List.Elements.{All-get_or}
 use Rattle.list_laws.proofs.Gets.{get_in_push, get_added}
-use Rattle.list_laws.proofs.Least.{Adds, least_same, least_without, least_or}
-use Rattle.arc_graph.proofs.OtherEndsLemmas.{AddsPair, pair_same, pair_if, pair_without, pair_earlier}
-use Rattle.std.specs.Option.{option_or}
+use Rattle.list_laws.proofs.Least.{AddsNumber, least_same}
+use Rattle.arc_graph.proofs.OtherEndsLemmas.{AddsPair, pair_same, pair_if, pair_without}
 use Rattle.arc_graph.specs.declared.join.OtherEnds.{OtherEnds}
 use Rattle.arc_graph.proofs.EndsLemmas.{HasOther, adds_arc, arc_at, ends_read, no_other_ends, ends_with_new, ends_before_new}
 use Rattle.arc_graph.specs.declared.graph.Ends.{Ends}
 use Rattle.arc_graph.specs.Layout.{pair_of}
-use Rattle.arc_graph.specs.Stored.{IsStored}
+use Rattle.arc_graph.specs.Stored.{IsStoredState}
 use Rattle.arc_graph.proofs.Places.{}
 use Rattle.arc_graph.proofs.WeightLemmas.{vector_with_new, vectors_with_first, vector_elsewhere, vectors_with_weight}
 use Rattle.arc_graph.proofs.SizeLemmas.{adds_size, no_other_size}
@@ -45,7 +44,7 @@ said_last j front last begun =
 
 -- what the beginning of one file more adds
 pub adds_file : (j : Joining) (files : List Contents) (nodes arcs : ℕ) → 1 ≤ j.begun → j.come ≡ j.due_arcs → StandsFor j files
-    → Adds (IsOtherSize (sizes_said j files)) (IsOtherSize (map size_of files ++ (nodes, arcs) ∷ [])) (j.begun + 1)
+    → AddsNumber (IsOtherSize (sizes_said j files)) (IsOtherSize (map size_of files ++ (nodes, arcs) ∷ [])) (j.begun + 1)
     (¬ ((nodes ≡ j.nodes) × (arcs ≡ length j.ends)))
 adds_file j [] nodes arcs some whole stands = absurd (omega (arith, stands.begun))
 adds_file j (first ∷ others) nodes arcs some whole stands =
@@ -54,7 +53,7 @@ adds_file j (first ∷ others) nodes arcs some whole stands =
     let first_arcs : length j.ends ≡ length first.arcs = ap length (stands.ends first refl) ∙ length-map first.arcs ends_of in
     let count : length sizes + 2 ≡ j.begun + 1 = omega (arith, length-map others size_of, stands.begun) in
     let N : Type 0 = ¬ ((nodes ≡ j.nodes) × (arcs ≡ length j.ends)) in
-    let P : List (ℕ × ℕ) → ℕ → Type 0 = λ said n. Adds (IsOtherSize said) (IsOtherSize (size_of first ∷ sizes ++ (nodes, arcs) ∷ [])) n N in
+    let P : List (ℕ × ℕ) → ℕ → Type 0 = λ said n. AddsNumber (IsOtherSize said) (IsOtherSize (size_of first ∷ sizes ++ (nodes, arcs) ∷ [])) n N in
     let adds = adds_size (size_of first) (nodes, arcs) sizes N
     (λ other e. other (ap (λ (s : ℕ × ℕ). s.0) e ∙ sym first_nodes, ap (λ (s : ℕ × ℕ). s.1) e ∙ sym first_arcs))
     (λ other same. let e = same.0 ∙ first_nodes in let f = same.1 ∙ first_arcs in other cc) in
@@ -86,34 +85,6 @@ adds_here j (first ∷ more) last a ends e later kept within read stands =
     pair_if _ _ _ _ _ _
     (λ other same. other.differs (same ∙ found.2 ∙ ap ends_of (same_Some _ _ (sym found.1 ∙ other.arc_is))))
     (λ differs. record { arc = found.0; arc_is = found.1; differs = λ same. differs (same ∙ sym found.2) }) by_begun
-
--- the arc's ends are those of the first file's arc: what was told stays so
-pub told_same : (j : Joining) (front : List Contents) (last : Contents) (a : ArcLine) (ends : List Ends) (e : Ends) → 2 ≤ j.begun → j.ends ≡ map pair_of ends
-    → j.come < length j.ends → e ≡ get_or ends j.come e → StandsFor j (front ++ last ∷ []) → ends_of a ≡ pair_of e
-    → AreLeastIfAny (DiffersInEnds (front ++ with_arc last a ∷ [])) j.other_ends
-told_same j front last a ends e later kept within read stands same =
-    pair_without _ _ _ _ _ _ (adds_here j front last a ends e later kept within read stands) (λ other. other same) stands.other_ends
-
--- they are other ones: the earlier is told
-pub told_other : (j : Joining) (front : List Contents) (last : Contents) (a : ArcLine) (ends : List Ends) (e : Ends) (told : OtherEnds) → 2 ≤ j.begun
-    → j.ends ≡ map pair_of ends → j.come < length j.ends → e ≡ get_or ends j.come e → StandsFor j (front ++ last ∷ []) → ends_of a ≢ pair_of e
-    → IsEarlier j.other_ends (record { arc = j.come + 1; file = j.begun }) told → AreLeastIfAny (DiffersInEnds (front ++ with_arc last a ∷ [])) (Some told)
-told_other j front last a ends e told later kept within read stands other is =
-    let here : OtherEnds = record { arc = j.come + 1; file = j.begun } in
-    let adds = adds_here j front last a ends e later kept within read stands in
-    pair_earlier _ _ _ j.other_ends here told adds other is stands.other_ends
-
--- the sizes are those of the first file: what was told stays so
-pub size_same : (j : Joining) (files : List Contents) (nodes arcs : ℕ) → 1 ≤ j.begun → j.come ≡ j.due_arcs → StandsFor j files
-    → (nodes ≡ j.nodes) × (arcs ≡ length j.ends) → IsLeastIfAny (IsOtherSize (map size_of files ++ (nodes, arcs) ∷ [])) j.other_size
-size_same j files nodes arcs some whole stands same =
-    least_without _ _ _ _ _ (adds_file j files nodes arcs some whole stands) (λ other. other same) stands.other_size
-
--- they are other ones: what was told stays so, or else this file is told
-pub size_other : (j : Joining) (files : List Contents) (nodes arcs : ℕ) → 1 ≤ j.begun → j.come ≡ j.due_arcs → StandsFor j files
-    → ¬ ((nodes ≡ j.nodes) × (arcs ≡ length j.ends))
-    → IsLeastIfAny (IsOtherSize (map size_of files ++ (nodes, arcs) ∷ [])) (option_or j.other_size (Some (j.begun + 1)))
-size_other j files nodes arcs some whole stands other = least_or _ _ _ _ _ (adds_file j files nodes arcs some whole stands) other stands.other_size
 
 -- The first file begins.
 pub begin_first : (j : Joining) (files : List Contents) (nodes arcs : ℕ) → IsJoining j → j.begun ≡ 0 → StandsFor j files
@@ -155,7 +126,7 @@ begin_later j (first ∷ others) nodes arcs told kept some room stands least =
       ends = stands.ends;
       weights = λ place within.
           vector_with_new files nodes j.begun place (get_or j.vectors place []) room
-          (All-get_or (IsStored j.begun) j.vectors place [] (omega (arith, kept.matched)) kept.stored) (stands.weights place within);
+          (All-get_or (IsStoredState j.begun) j.vectors place [] (omega (arith, kept.matched)) kept.stored) (stands.weights place within);
       other_size = subst (λ said. IsLeastIfAny (IsOtherSize said) told) (sym (said_last begun files new (omega (arith, stands.begun)))) least;
       other_ends = pair_same (DiffersInEnds files) (DiffersInEnds (files ++ new ∷ [])) j.other_ends (ends_with_new first new others)
           (λ a f d. ends_before_new first new others a f refl d) stands.other_ends;
@@ -234,7 +205,7 @@ pub arc_within : (j : Joining) (front : List Contents) (last : Contents) (a : Ar
 arc_within j front last a v told kept later within read stands least =
     let has = last_has j front last stands in
     let there : j.come < length j.vectors = omega (arith, kept.matched) in
-    let stored : IsStored j.begun v = subst (IsStored j.begun) (sym read) (All-get_or (IsStored j.begun) j.vectors j.come v there kept.stored) in
+    let stored : IsStoredState j.begun v = subst (IsStoredState j.begun) (sym read) (All-get_or (IsStoredState j.begun) j.vectors j.come v there kept.stored) in
     let next : j.begun - 1 + 1 ≡ j.begun = omega arith in
     let old = λ (p : ℕ) (w : p < length j.vectors).
     subst (λ n. take n (get_or j.vectors p []) ≡ vector_at (front ++ last ∷ []) p) (sym next) (stands.weights p (omega (arith, kept.matched))) in

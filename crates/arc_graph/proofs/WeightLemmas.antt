@@ -7,7 +7,7 @@ use Rattle.std.proofs.lemmas.List.{get_or-set_same, get_or-set_other, get_or_pus
 use Rattle.arc_graph.specs.declared.file.ArcLine.{ArcLine}
 use Rattle.arc_graph.specs.Files.{Contents, empty_file, with_arc}
 use Rattle.arc_graph.specs.Agreement.{vector_at, weight_at}
-use Rattle.arc_graph.specs.Stored.{IsStored}
+use Rattle.arc_graph.specs.Stored.{IsStoredState}
 use Rattle.list_laws.proofs.Gets.{get_added, get_elsewhere}
 
 weight_added : (last : Contents) (a : ArcLine) (place : ℕ) → place ≡ length last.arcs → weight_at place (with_arc last a) ≡ a.weight
@@ -21,7 +21,7 @@ vector_push : (front : List Contents) (last : Contents) (place : ℕ) → vector
 vector_push front last place = map_push (weight_at place) front last
 
 -- a file that begins has the weight 0 at each place
-pub vector_with_new : (files : List Contents) (nodes begun place : ℕ) (v : List ℕ) → begun < 4 → IsStored begun v → take begun v ≡ vector_at files place
+pub vector_with_new : (files : List Contents) (nodes begun place : ℕ) (v : List ℕ) → begun < 4 → IsStoredState begun v → take begun v ≡ vector_at files place
     → take (begun + 1) v ≡ vector_at (files ++ empty_file nodes ∷ []) place
 vector_with_new files nodes begun place v room stored kept =
     take_more v begun 0 (omega (arith, stored.four))

@@ -1,14 +1,14 @@
 -- Which arcs have only zero weights, and what network the others make.
-use Rattle.std.proofs.Common.{◌≡◌, ℕ, ◌+◌, ◌-◌, ◌<◌, ◌≤◌, zero, suc, true, false, List, [], ◌∷◌, ◌∙◌}
-use Rattle.std.proofs.Common.{Option, Some, None, Bool, length, sum, get_or, inl, inr, arith, sym, subst, ap, refl}
-use Rattle.std.specs.Prelude.{slice_get, position, nat_eq, replicate, IsSomeAnd}
-use Rattle.std.specs.Bool.{MatchBool}
-use Rattle.std.specs.Cmp.Lexicographic.{pointwise}
+use Rattle.std.proofs.Common.{◌≡◌, ℕ, ◌+◌, ◌-◌, ◌<◌, ◌≤◌, zero, suc, true, List, [], ◌∷◌, ◌∙◌}
+use Rattle.std.proofs.Common.{Option, Some, None, length, sum, get_or, inl, inr, arith, sym, subst, ap, refl}
+use Rattle.std.specs.Prelude.{slice_get, position, IsSomeAnd}
+use Rattle.std.specs.Bool.{Decides}
+use Rattle.std.proofs.lemmas.Bool.Decides.{Decides-like}
 use Rattle.std.specs.Prelude.{All}
 use Rattle.std.proofs.lemmas.List.Elements.{All-nil, All-cons, All-head, All-tail, All-get_or}
 use Rattle.list_laws.proofs.Gets.{all_from_get, is_some_within, position_none}
 use Rattle.std.specs.Option.{option_map, option_map_or}
-use Rattle.std.proofs.lemmas.Bool.{eqb-true, and_parts, cases_eq, true≢false, MatchBool-at_true}
+use Rattle.std.proofs.lemmas.Bool.{cases_eq, true≢false}
 use Rattle.std.proofs.lemmas.List.{length-map}
 use Rattle.std.proofs.lemmas.List.Quantifiers.{position-Some}
 use Rattle.std.proofs.lemmas.List.Sums.{sum_by-cons}
@@ -19,22 +19,10 @@ use Rattle.arc_graph.specs.Agreement.{AgreeInSize, IsZeroArc, vector_at, weight_
 use Rattle.arc_graph.specs.Joining.{Joining, IsJoining}
 use Rattle.list_laws.specs.Least.{IsLeastWith}
 use Rattle.arc_graph.specs.StandsFor.{StandsFor}
-use Rattle.arc_graph.specs.Stored.{IsStored, is_zero}
-use Rattle.arc_graph.proofs.Places.{nonzero_four, sum_front}
+use Rattle.arc_graph.specs.Stored.{IsStoredState, is_zero}
+use Rattle.arc_graph.proofs.Places.{zero_decides, sum_front}
 
-abbrev is_zeros : List ℕ → Bool
-is_zeros xs = pointwise nat_eq xs (replicate (length xs) 0)
-
--- four places are zero exactly where they add up to 0
-four_sum : (v : List ℕ) (t : Bool) → length v ≡ 4 → is_zero v ≡ t → MatchBool t (sum v ≡ 0) (0 < sum v)
-four_sum (a ∷ b ∷ x ∷ y ∷ []) true four test =
-    let one = and_parts (nat_eq a 0) (is_zeros (b ∷ x ∷ y ∷ [])) test in
-    let two = and_parts (nat_eq b 0) (is_zeros (x ∷ y ∷ [])) one.1 in
-    let three = and_parts (nat_eq x 0) (is_zeros (y ∷ [])) two.1 in
-    let four = and_parts (nat_eq y 0) true three.1 in omega (arith, eqb-true a 0 one.0, eqb-true b 0 two.0, eqb-true x 0 three.0, eqb-true y 0 four.0)
-four_sum (a ∷ b ∷ x ∷ y ∷ []) false four test = let some = nonzero_four a b x y test in omega arith
-four_sum _ _ four test = absurd (omega arith)
-
+-- the weight of the arc at a place is 0 in the file
 abbrev HasZero : ℕ → Contents → Type 0
 HasZero place f = IsSomeAnd (slice_get f.arcs place) (λ (arc : ArcLine). arc.weight ≡ 0)
 
@@ -84,24 +72,20 @@ same_arcs first others sizes i f at =
 
 -- at each place of the first file the test tells whether the arc has only zero weights
 pub zero_at : (j : Joining) (first : Contents) (others : List Contents) (place : ℕ) → IsJoining j → StandsFor j (first ∷ others) → AgreeInSize (first ∷ others)
-    → place < length j.ends
-    → MatchBool (is_zero (get_or j.vectors place [])) (IsZeroArc (first ∷ others) (place + 1)) (¬ IsZeroArc (first ∷ others) (place + 1))
+    → place < length j.ends → Decides (is_zero (get_or j.vectors place [])) (IsZeroArc (first ∷ others) (place + 1))
 zero_at j first others place kept stands sizes within =
     let files = first ∷ others in
     let v = get_or j.vectors place [] in
-    let stored : IsStored j.begun v = All-get_or (IsStored j.begun) j.vectors place [] (omega (arith, kept.matched)) kept.stored in
+    let stored : IsStoredState j.begun v = All-get_or (IsStoredState j.begun) j.vectors place [] (omega (arith, kept.matched)) kept.stored in
     let total : sum v ≡ sum (vector_at files place) = sym (sum_front j.begun v stored.filler) ∙ ap sum (stands.weights place within) in
     let count : length j.ends ≡ length first.arcs = ap length (stands.ends first refl) ∙ length-map first.arcs ends_of in
     let have : All (λ f. place < length f.arcs) files =
     all_from_get (λ f. place < length f.arcs) files (λ i f at. let same = same_arcs first others sizes i f at in omega arith) in
     let here : place ≡ place + 1 - 1 = omega arith in
-    by_test (is_zero v)
+    Decides-like (is_zero v)
     (λ none. record { counted = omega arith; zero = subst (λ p. All (HasZero p) files) here (all_zero files place have (sym total ∙ none)) })
-    (λ some only. let none = none_left files place (subst (λ p. All (HasZero p) files) (sym here) only.zero) in omega (arith, some, total, none))
-    (four_sum v (is_zero v) stored.four refl) where
-      by_test : (t : Bool) {P Q Z : Type 0} → (P → Z) → (Q → ¬ Z) → MatchBool t P Q → MatchBool t Z (¬ Z)
-      by_test true to out is = to is
-      by_test false to out is = out is
+    (λ only. total ∙ none_left files place (subst (λ p. All (HasZero p) files) (sym here) only.zero))
+    (zero_decides v stored.four)
 
 -- an arc with only zero weights is one of the first file's, and the test tells of it
 told_zero : (j : Joining) (first : Contents) (others : List Contents) (a : ℕ) → IsJoining j → StandsFor j (first ∷ others) → AgreeInSize (first ∷ others)
@@ -111,11 +95,7 @@ told_zero j first others a kept stands sizes only =
     let count : length j.ends ≡ length first.arcs = ap length (stands.ends first refl) ∙ length-map first.arcs ends_of in
     let there : a - 1 < length j.ends = omega arith in
     let here : a ≡ a - 1 + 1 = omega (arith, only.counted) in
-    let test = zero_at j first others (a - 1) kept stands sizes there in
-    (omega (arith, kept.matched), by_test (is_zero (get_or j.vectors (a - 1) [])) test (subst (IsZeroArc (first ∷ others)) here only)) where
-      by_test : (t : Bool) {Z : Type 0} → MatchBool t Z (¬ Z) → Z → t ≡ true
-      by_test true is holds = refl
-      by_test false is holds = absurd (is holds)
+    (omega (arith, kept.matched), (zero_at j first others (a - 1) kept stands sizes there).1 (subst (IsZeroArc (first ∷ others)) here only))
 
 -- the first place that tests as zero is that of the least such arc
 pub zero_told : (j : Joining) (files : List Contents) (place : ℕ) → IsJoining j → 1 ≤ j.begun → StandsFor j files → AgreeInSize files
@@ -125,7 +105,7 @@ zero_told j (first ∷ others) place kept some stands sizes told =
     let first_at = position-Some is_zero j.vectors place [] told in
     let there : place < length j.ends = omega (arith, first_at.0, kept.matched) in
     record {
-      holds = MatchBool-at_true _ _ first_at.1 (zero_at j first others place kept stands sizes there);
+      holds = (zero_at j first others place kept stands sizes there).0 first_at.1;
       none_below = λ a below only.
           let tested = (told_zero j first others a kept stands sizes only).1 in
           let before = first_at.2 (a - 1) (omega (arith, only.counted)) in absurd cc;

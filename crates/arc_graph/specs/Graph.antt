@@ -63,12 +63,12 @@ abbrev pub head_of : Arcs → ArcNo → ℕ
 head_of g a = option_map_or (λ (e : ℕ × ℕ). e.1) (slice_get g.ends (a.0 - 1)) 0
 
 -- the state of an arc, counted from 1
-abbrev pub state_of : States → ArcNo → Option (List ℕ)
-state_of w a = option_and_then (λ s. s) (slice_get w.states (a.0 - 1))
+abbrev pub arc_state : States → ArcNo → Option (List ℕ)
+arc_state w a = option_and_then (λ s. s) (slice_get w.states (a.0 - 1))
 
 -- the label that a walk of this cost gets by going on along an arc, unless it is shut
 abbrev pub label_by : Arcs → States → List ℕ → ArcNo → Option Label
-label_by g w cost a = option_map (λ v. record { node = record { 0 = head_of g a }; cost = plus cost v; arc = a }) (state_of w a)
+label_by g w cost a = option_map (λ v. record { node = record { 0 = head_of g a }; cost = plus cost v; arc = a }) (arc_state w a)
 
 -- the labels of all passable arcs that lead from a node, by ascending arc
 abbrev pub relaxed : Arcs → States → ℕ → List ℕ → List Label

@@ -3,7 +3,7 @@ use Rattle.std.specs.Prelude.{◌≡◌, ℕ, ◌≤◌, List, Option, length, A
 use Rattle.cost_vector.specs.Costs.{max_criteria}
 use Rattle.arc_graph.specs.declared.join.OtherEnds.{OtherEnds}
 use Rattle.road_network.specs.Network.{IsNode}
-use Rattle.arc_graph.specs.Stored.{IsStored}
+use Rattle.arc_graph.specs.Stored.{IsStoredState}
 use Rattle.road_network.specs.Limits.{max_nodes, max_arcs}
 
 -- the first file's nodes and ends, each arc's weights so far, how many files were begun, what the one begun last is to
@@ -32,4 +32,4 @@ pub record IsJoining (j : Joining) : Type 0 where
   pub matched : length j.vectors ≡ length j.ends
   pub tails : All (λ e. IsNode j.nodes e.0) j.ends
   pub heads : All (λ e. IsNode j.nodes e.1) j.ends
-  pub stored : All (IsStored j.begun) j.vectors
+  pub stored : All (IsStoredState j.begun) j.vectors

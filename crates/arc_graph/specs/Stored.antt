@@ -18,14 +18,14 @@ abbrev pub states_of : ℕ → List (List ℕ) → List (Option (List ℕ))
 states_of criteria vectors = map (state_in criteria) vectors
 
 -- four places of 32 bits, of which those past the criteria are 0
-pub record IsStored (criteria : ℕ) (places : List ℕ) : Type 0 where
+pub record IsStoredState (criteria : ℕ) (places : List ℕ) : Type 0 where
   pub four : length places ≡ 4
   pub small : All (λ x. x < 2 ^ 32) places
   pub filler : (i : ℕ) → criteria ≤ i → slice_index places i ≡ 0
 
 -- the same for each arc
-pub record AreStored (criteria : ℕ) (vectors : List (List ℕ)) : Type 0 where
+pub record AreStoredStates (criteria : ℕ) (vectors : List (List ℕ)) : Type 0 where
   pub two : min_criteria ≤ criteria
   pub four : criteria ≤ max_criteria
   pub count : length vectors ≤ max_arcs
-  pub each : All (IsStored criteria) vectors
+  pub each : All (IsStoredState criteria) vectors

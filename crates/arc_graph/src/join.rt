@@ -14,7 +14,7 @@ ghost use Rattle.cost_vector.specs.Costs.{max_criteria, min_criteria};
 
 use crate::file::{ArcFile, ArcLine};
 use crate::graph::{Ends, Graph};
-use crate::weights::{Places, Weights, is_shut};
+use crate::weights::{Places, Weights, is_zero};
 use cost_vector::OutOfMemory;
 use std::alloc::Global;
 use std::marker::Model;
@@ -345,7 +345,7 @@ fn arc_fault(other: Option<OtherEnds>, zero: Option<u32>) -> Option<JoinFault>
 fn first_zero(vectors: &[Places]) -> Option<usize>
     ensures { result ≡ position is_zero vectors.now }
 {
-    vectors.iter().position(is_shut)
+    vectors.iter().position(is_zero)
 }
 
 /// Joins two to four files that list the same arcs, each with its own weights.

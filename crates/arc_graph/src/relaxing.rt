@@ -1,7 +1,7 @@
 ghost use Rattle.std.specs.Prelude.{◌≡◌, ◌≤◌, length, IfOk, IfSome};
 ghost use Rattle.cost_vector.specs.Costs.{plus};
 ghost use Rattle.road_network.specs.Network.{IsNode};
-ghost use Rattle.arc_graph.specs.Graph.{Fits, Match, SumsFit, label_by, relaxed, state_of};
+ghost use Rattle.arc_graph.specs.Graph.{Fits, Match, SumsFit, label_by, relaxed, arc_state};
 
 use crate::{Graph, Weights};
 use cost_vector::{ArcNo, Label, OutOfMemory, Spot};
@@ -38,7 +38,7 @@ fn label_along(graph: &Graph, weights: &Weights, spot: &Spot, arc: ArcNo) -> Opt
     requires there { arc.0 ≤ length graph.now.ends }
     requires weights { Match graph.now weights.now }
     requires criteria { length spot.now.cost ≡ graph.now.criteria }
-    requires fits { IfSome (state_of weights.now arc) (λ by. Fits (plus spot.now.cost by)) }
+    requires fits { IfSome (arc_state weights.now arc) (λ by. Fits (plus spot.now.cost by)) }
     ensures { result ≡ label_by graph.now weights.now spot.now.cost arc }
 {
     let weight = weights.get(arc)?;

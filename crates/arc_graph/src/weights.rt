@@ -1,7 +1,7 @@
 ghost use Rattle.std.specs.Prelude.{◌≡◌, ◌≤◌, ◌<◌, ◌-◌, ◌^◌, length, IfOk, IfSome, All};
 ghost use Rattle.road_network.specs.Network.{IsVector};
-ghost use Rattle.arc_graph.specs.Graph.{AreStates, state_of};
-ghost use Rattle.arc_graph.specs.Stored.{AreStored, is_zero, states_of};
+ghost use Rattle.arc_graph.specs.Graph.{AreStates, arc_state};
+ghost use Rattle.arc_graph.specs.Stored.{AreStoredStates, is_zero, states_of};
 
 use cost_vector::{ArcNo, OutOfMemory, Weight};
 use std::alloc::Global;
@@ -20,19 +20,19 @@ pub struct Weights {
 
 impl Model for Weights {
     ghost use Rattle.arc_graph.specs.Graph.{States};
-    ghost use Rattle.arc_graph.specs.Stored.{AreStored, is_zero, states_of};
+    ghost use Rattle.arc_graph.specs.Stored.{AreStoredStates, is_zero, states_of};
 
     ghost Value = { States };
 
     ghost view = { λ w. record { criteria = w.criteria; states = states_of w.criteria w.vectors.items } };
 
-    ghost invariant = { λ w. AreStored w.criteria w.vectors.items };
+    ghost invariant = { λ w. AreStoredStates w.criteria w.vectors.items };
 }
 
 impl Weights {
     /// Weights that lie in memory as these places.
     pub(crate) fn of_places(alloc: Global, criteria: usize, vectors: Vec<Places>) -> Weights
-        requires { AreStored criteria vectors.items }
+        requires { AreStoredStates criteria vectors.items }
         ensures { result
             ≡ record { criteria = criteria; states = states_of criteria vectors.items } }
     {
@@ -55,12 +55,12 @@ impl Weights {
     pub fn get(&self, a: ArcNo) -> Option<Weight>
         requires counted { 1 ≤ a.0 }
         requires there { a.0 ≤ length self.now.states }
-        ensures state { result ≡ state_of self.now a }
+        ensures state { result ≡ arc_state self.now a }
         ensures vector { IfSome result (IsVector self.now.criteria) }
         ensures small { IfSome result (All (λ x. x < 2 ^ 32)) }
     {
         let places = self.vectors[a.0 as usize - 1];
-        if is_shut(&places) {
+        if is_zero(&places) {
             return None;
         }
         Some(Weight::of_numbers(&places[..self.criteria]))
@@ -78,8 +78,8 @@ impl Weights {
     }
 }
 
-/// Whether these weights say that the arc is shut.
-pub(crate) fn is_shut(places: &Places) -> bool
+/// Whether all four weights are 0, as those of a shut arc are.
+pub(crate) fn is_zero(places: &Places) -> bool
     ensures { result ≡ is_zero places.now }
 {
     *places == [0; 4]

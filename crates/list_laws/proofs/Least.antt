@@ -10,19 +10,19 @@ least_same P Q None to back least = λ n q. least n (back n q)
 least_same P Q (Some m) to back least = record { holds = to m least.holds; none_below = λ n below q. least.none_below n below (back n q) }
 
 -- Q holds of the numbers that P holds of, and of n, above them all, where N holds
-pub record Adds (P Q : ℕ → Type 0) (n : ℕ) (N : Type 0) : Type 0 where
+pub record AddsNumber (P Q : ℕ → Type 0) (n : ℕ) (N : Type 0) : Type 0 where
   pub kept : (m : ℕ) → P m → Q m
   pub added : N → Q n
   pub only : (m : ℕ) → Q m → P m ⊎ ((m ≡ n) × N)
   pub above : (m : ℕ) → P m → m < n
 
 -- where nothing is added, the least stays
-pub least_without : (P Q : ℕ → Type 0) (n : ℕ) (N : Type 0) (o : Option ℕ) → Adds P Q n N → ¬ N → IsLeastIfAny P o → IsLeastIfAny Q o
+pub least_without : (P Q : ℕ → Type 0) (n : ℕ) (N : Type 0) (o : Option ℕ) → AddsNumber P Q n N → ¬ N → IsLeastIfAny P o → IsLeastIfAny Q o
 least_without P Q n N o adds not_here least =
     least_same P Q o adds.kept (λ k q. elim (adds.only k q) [ inl p ↦ p | inr new ↦ absurd (not_here new.1) ]) least
 
 -- the least of before, or else the number that is added
-pub least_or : (P Q : ℕ → Type 0) (n : ℕ) (N : Type 0) (o : Option ℕ) → Adds P Q n N → N → IsLeastIfAny P o → IsLeastIfAny Q (option_or o (Some n))
+pub least_or : (P Q : ℕ → Type 0) (n : ℕ) (N : Type 0) (o : Option ℕ) → AddsNumber P Q n N → N → IsLeastIfAny P o → IsLeastIfAny Q (option_or o (Some n))
 least_or P Q n N None adds here none = record {
   holds = adds.added here;
   none_below = λ k below q. elim (adds.only k q) [ inl p ↦ none k p | inr new ↦ omega (arith, new.0) ];

@@ -15,8 +15,8 @@ use Rattle.plain_search.proofs.PrunesLemmas.{differs_where_fresh}
 use Rattle.plain_search.proofs.RelevantLemmas.{least_spot, least_may_wait, least_is_relevant, all_found}
 use Rattle.plain_search.proofs.CostsAtLemmas.{is_at, cost_of, in_costs, of_costs, costs_ascend}
 
-abbrev pair_of : Spot → ℕ × List ℕ
-pair_of x = (x.node.0, x.cost)
+abbrev relevant_pair : Spot → ℕ × List ℕ
+relevant_pair x = (x.node.0, x.cost)
 
 module _ (task : Task) (net : IsNetwork task.net) (permanent waiting : List Spot) (search : IsSearch task permanent waiting) where
   -- where none waits, the permanent costs of the target are the answer
@@ -46,9 +46,9 @@ module _ (task : Task) (net : IsNetwork task.net) (permanent waiting : List Spot
   -- and the relevant pairs are no more than the permanent spots
   pub not_passed : (budget : ℕ) → waiting ≡ [] → length permanent ≤ budget → ¬ Passes task.net task.from task.to task.limit budget
   not_passed budget done few passes =
-      let most = pigeonhole passes.pairs (map pair_of permanent) passes.distinct (λ p there. in_map pair_of permanent (spot_at p.0 p.1)
+      let most = pigeonhole passes.pairs (map relevant_pair permanent) passes.distinct (λ p there. in_map relevant_pair permanent (spot_at p.0 p.1)
       (all_found task net permanent waiting search done p.0 p.1 (each_in (λ q. IsRelevantTo task q.0 q.1) passes.pairs passes.relevant p there))) in
-      omega (arith, most, length-map permanent pair_of, passes.more)
+      omega (arith, most, length-map permanent relevant_pair, passes.more)
 
   -- where one waits, the least that waits is a relevant pair more
   pub passed : (budget : ℕ) → waiting ≢ [] → length permanent ≡ budget → Passes task.net task.from task.to task.limit budget
@@ -59,10 +59,10 @@ module _ (task : Task) (net : IsNetwork task.net) (permanent waiting : List Spot
       let Relevant : Spot → Type 0 = λ y. IsRelevantTo task y.node.0 y.cost in
       let fresh = (least_may_wait task permanent waiting x search found.1).fresh in
       record {
-        pairs = map pair_of all;
-        more = length-map all pair_of ∙ length-append permanent (x ∷ []) ∙ ap (λ n. n + 1) full;
-        distinct = pairs_map ◌≢◌ ◌≢◌ pair_of (λ a b other same. other (ap (λ (p : ℕ × List ℕ). spot_at p.0 p.1) same)) all
+        pairs = map relevant_pair all;
+        more = length-map all relevant_pair ∙ length-append permanent (x ∷ []) ∙ ap (λ n. n + 1) full;
+        distinct = pairs_map ◌≢◌ ◌≢◌ relevant_pair (λ a b other same. other (ap (λ (p : ℕ × List ℕ). spot_at p.0 p.1) same)) all
             (pairs_push ◌≢◌ permanent x search.spots.distinct (differs_where_fresh task.to permanent x fresh));
-        relevant = All-map (λ q. IsRelevantTo task q.0 q.1) pair_of all (All-push Relevant permanent x search.spots.relevant
+        relevant = All-map (λ q. IsRelevantTo task q.0 q.1) relevant_pair all (All-push Relevant permanent x search.spots.relevant
             (least_is_relevant task net permanent waiting search x found.1));
       }

@@ -171,8 +171,7 @@ fn take_out(spots: &mut Vec<Spot>, to: NodeNo, spot: &Spot)
 /// A spot of the lexicographically least cost.
 fn least(spots: &[Spot]) -> Option<Spot>
     ensures none { IfNone result (spots.now ≡ []) }
-    ensures there { IfSome result (Contains spots.now) }
-    ensures least { IfSome result (λ x. All (λ y. ¬ LexLess y.cost x.cost) spots.now) }
+    ensures least { IfSome result (IsLeastOf spots.now) }
 {
     spots.iter().copied().min_by_key(|spot| spot.cost)
 }

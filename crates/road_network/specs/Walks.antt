@@ -4,7 +4,7 @@ use Rattle.cost_vector.specs.Costs.{plus}
 use Rattle.road_network.specs.Network.{Network, IsNode, Leads}
 
 -- Arc k leads from u by the vector `by` to the node `at`, from which there is a walk of cost `onward`. Both add up to c.
-pub record GoesOn (net : Network) (k u : ℕ) (IsOnward : ℕ → List ℕ → Type 0) (c : List ℕ) : Type 0 where
+pub record StartsBy (net : Network) (k u : ℕ) (IsOnward : ℕ → List ℕ → Type 0) (c : List ℕ) : Type 0 where
   pub by : List ℕ
   pub at : ℕ
   pub onward : List ℕ
@@ -16,7 +16,7 @@ pub record GoesOn (net : Network) (k u : ℕ) (IsOnward : ℕ → List ℕ → T
 -- No arc is a walk from each node to itself, of cost zero.
 abbrev pub IsWalk : Network → ℕ → List ℕ → ℕ → List ℕ → Type 0
 IsWalk net s [] t c = IsNode net.nodes s × (s ≡ t) × (c ≡ replicate net.criteria 0)
-IsWalk net s (k ∷ rest) t c = GoesOn net k s (λ v onward. IsWalk net v rest t onward) c
+IsWalk net s (k ∷ rest) t c = StartsBy net k s (λ v onward. IsWalk net v rest t onward) c
 
 -- There is a walk of cost `before` to the node `at`, from which arc k leads by the vector `by` to v. Both add up to c.
 pub record EndsBy (net : Network) (k v : ℕ) (IsBefore : ℕ → List ℕ → Type 0) (c : List ℕ) : Type 0 where

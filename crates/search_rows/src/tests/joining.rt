@@ -24,8 +24,12 @@ fn joins_files_that_agree(rt: HostRuntime) -> Result<(), Fail> {
     ]?;
     let (graph, weights) = join_files(alloc, files)?;
     let weights = weights.try_copy()?;
-    assert_eq!(rt; (graph.nodes(), graph.arcs(), graph.criteria()), (3, 2, 3));
-    assert_eq!(rt; weights.arcs(), 2);
+    assert_eq!(rt;
+        (graph.nodes(), graph.arcs(), graph.criteria()),
+        (3, 2, 3),
+        "sizes"
+    );
+    assert_eq!(rt; weights.arcs(), 2, "arcs with a state");
     let start = Spot {
         node: NodeNo(1),
         cost: Cost::zero(3),
@@ -37,7 +41,7 @@ fn joins_files_that_agree(rt: HostRuntime) -> Result<(), Fail> {
         arc: ArcNo(arc),
     };
     let wanted = [label(2, [4, 0, 5], 1), label(3, [0, 7, 0], 2)];
-    assert_eq!(rt; labels.as_slice(), wanted.as_slice());
+    assert_eq!(rt; labels.as_slice(), wanted.as_slice(), "labels from node 1");
     Ok(())
 }
 

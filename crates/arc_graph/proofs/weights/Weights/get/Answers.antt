@@ -1,20 +1,26 @@
-use Rattle.std.proofs.Common.{true, false, Some, ap, sym, ◌∙◌, ◌-◌, arith}
-use Rattle.arc_graph.proofs.Places.{state_by_places, vector_found}
+use Rattle.std.proofs.Common.{true, false, ◌^◌, ◌<◌, Some, IfSome, ap, sym, subst, ◌∙◌}
+use Rattle.std.specs.Prelude.{All}
+use Rattle.road_network.specs.Network.{IsVector}
+use Rattle.arc_graph.specs.Graph.{AreStates}
+use Rattle.arc_graph.proofs.Places.{states_in, state_by_places, holds_of_state}
 use Rattle.arc_graph.proofs.weights.Weights.get.Goals as goal
 
-pub returns-then-is_shut-clause-state : goal.returns-then-is_shut-clause-state
-returns-then-is_shut-clause-state c =
-    sym (state_by_places _ _ _ c.args.a _ true c.self.view_is c.requires.counted c.requires.there c.index.ensures (sym c.is_shut.ensures ∙ c.if-is_shut.true))
+pub returns-then-is_zero-clause-state : goal.returns-then-is_zero-clause-state
+returns-then-is_zero-clause-state c =
+    sym (state_by_places _ _ _ c.args.a _ true c.self.view_is c.requires.counted c.requires.there c.index.ensures (sym c.is_zero.ensures ∙ c.if-is_zero.true))
 
 pub returns-clause-state : goal.returns-clause-state
 returns-clause-state c =
-    ap Some c.of_numbers.ensures
-    ∙ sym (state_by_places _ _ _ c.args.a _ false c.self.view_is c.requires.counted c.requires.there c.index.ensures (sym c.is_shut.ensures ∙ c.if-is_shut.false))
+    let test = sym c.is_zero.ensures ∙ c.if-is_zero.false in
+    ap Some c.of_numbers.ensures ∙ sym (state_by_places _ _ _ c.args.a _ false c.self.view_is c.requires.counted c.requires.there c.index.ensures test)
 
 pub returns-clause-vector : goal.returns-clause-vector
 returns-clause-vector c =
-    (vector_found _ _ _ (c.args.a.0 - 1) _ _ c.self.view_is c.self.invariant (omega arith) c.index.ensures (sym c.is_shut.ensures ∙ c.if-is_shut.false) c.of_numbers.ensures).0
+    let states = subst AreStates c.self.view_is (states_in _ _ c.self.invariant) in
+    let Vector = IsVector c.args.self.now.criteria in
+    subst (λ o. IfSome o Vector) (sym (returns-clause-state c)) (holds_of_state Vector c.args.self.now c.args.a states.vectors)
 
 pub returns-clause-small : goal.returns-clause-small
 returns-clause-small c =
-    (vector_found _ _ _ (c.args.a.0 - 1) _ _ c.self.view_is c.self.invariant (omega arith) c.index.ensures (sym c.is_shut.ensures ∙ c.if-is_shut.false) c.of_numbers.ensures).1
+    let states = subst AreStates c.self.view_is (states_in _ _ c.self.invariant) in
+    subst (λ o. IfSome o (All (λ x. x < 2 ^ 32))) (sym (returns-clause-state c)) (holds_of_state (All (λ x. x < 2 ^ 32)) c.args.self.now c.args.a states.small)

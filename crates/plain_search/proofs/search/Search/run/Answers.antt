@@ -1,5 +1,4 @@
-use Rattle.std.proofs.Common.{length, ap, subst, ◌∙◌, arith, length-append, inr, [], ◌∷◌, ◌+◌}
-use Rattle.plain_search.specs.Search.{IsLeastOf}
+use Rattle.std.proofs.Common.{length, ap, ◌∙◌, arith, length-append, inr, [], ◌∷◌, ◌+◌}
 use Rattle.plain_search.proofs.search.Search.run.Goals as goal
 
 pub loop-init : goal.loop-init
@@ -13,10 +12,6 @@ returns-in_default-clause-in_budget c = omega arith
 
 pub expand-requires-clause-room : goal.expand-requires-clause-room
 expand-requires-clause-room c = omega arith
-
-pub expand-requires-clause-least : goal.expand-requires-clause-least
-expand-requires-clause-least c =
-    subst (λ spots. IsLeastOf spots c.in-Some.spot) c.deref.ensures.value (record { there = c.in-Some.ensures.there; none_below = c.in-Some.ensures.least })
 
 pub expand-requires-clause-search : goal.expand-requires-clause-search
 expand-requires-clause-search c = c.loop.invariant.search

@@ -203,7 +203,7 @@ impl Joiner {
     }
 
     fn push_later(&mut self, a: ArcLine)
-        requires begun { min_criteria ≤ self.old.begun }
+        requires later_file { 2 ≤ self.old.begun }
         requires due { self.old.come < self.old.due_arcs }
 
         // One arc more has come of the file that was begun last.
@@ -227,7 +227,7 @@ impl Joiner {
 
     /// The least arc whose ends differ, in the least such file, once the file begun last has this arc more.
     fn other_ends_with(&self, a: ArcLine) -> Option<OtherEnds>
-        requires begun { min_criteria ≤ self.now.begun }
+        requires later_file { 2 ≤ self.now.begun }
         requires there { self.now.come < length self.now.ends }
         ensures { (front : List Contents) (last : Contents)
             → StandsFor self.now (front ++ last ∷ [])

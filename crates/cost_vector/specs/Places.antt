@@ -1,11 +1,12 @@
 -- How a vector of 2 to 4 places is stored: their count, and four places, of which those past the count hold a filler.
 use Rattle.std.specs.Prelude.{◌≡◌, ℕ, ◌-◌, ◌≤◌, List, ◌++◌, length, take, drop, replicate}
+use Rattle.cost_vector.specs.Costs.{max_criteria, min_criteria}
 use Rattle.std.proofs.Common.{sym, ap, subst, ◌∙◌, take-append-drop, length-take-le}
 
 -- 2 to 4 of four places are used, and the others hold the filler
 pub record IsStored {X : Type 0} (filler : X) (count : ℕ) (places : List X) : Type 0 where
-  pub at_least_two : 2 ≤ count
-  pub at_most_four : count ≤ 4
+  pub at_least_two : min_criteria ≤ count
+  pub at_most_four : count ≤ max_criteria
   pub four_places : length places ≡ 4
   pub others_filled : drop count places ≡ replicate (4 - count) filler
 

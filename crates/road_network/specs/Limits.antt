@@ -1,4 +1,4 @@
--- The limits of a network and of a query.
+-- How large a network and a budget may be.
 use Rattle.std.specs.Prelude.{ℕ, ◌^◌}
 
 -- the most nodes of a network

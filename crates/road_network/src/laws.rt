@@ -11,9 +11,9 @@ pub fn walks_are_read_both_ways()
         → (IsWalk net s p v c ↔ Arrives net s (reverse p) v c) }
 {}
 
-/// Each cost of a walk is at least some best cost, and a walk of a best cost has best costs all the way, as has what is
-/// left without its last arc: so a search that drops what is dominated loses nothing (Martins 1984). The start at cost
-/// zero is a relevant pair of each query.
+/// Each cost of a walk is at least some best cost, and a walk of a best cost has best costs all the way; without its last
+/// arc a best cost is best where that arc leads from. So a search that drops what is dominated loses nothing (Martins
+/// 1984). The start at cost zero is a relevant pair of each query.
 pub fn best_costs_lie_below_all()
     ensures below { (net : Network) (p : List ℕ) (s v : ℕ) (c : List ℕ) → IsNetwork net
         → IsWalk net s p v c → HasBestBelow net s v c }
@@ -26,9 +26,9 @@ pub fn best_costs_lie_below_all()
         → IsRelevant net s t limit s (replicate net.criteria 0) }
 {}
 
-/// What an arc adds makes each cost greater, and a cost that dominates another still does with it added to both. A walk's
-/// cost is a sum of as many weights as it has arcs, so along at most 2^26 arcs, which is more than the labels of any budget
-/// and the arcs of any graph, it stays below 2^58.
+/// What an arc adds makes each cost greater, and a cost that dominates another still does with it added to both. No component
+/// of a walk's cost is greater than as many weights as it has arcs can make it, so along at most 2^26 arcs, which is more
+/// than the labels of any budget and the arcs of any graph, it stays below 2^58.
 pub fn arcs_add_to_costs()
     ensures grows { (net : Network) (k u v : ℕ) (w c : List ℕ) → IsNetwork net
         → Leads net k u w v → length c ≡ net.criteria → Dominates c (plus c w) }
@@ -61,8 +61,6 @@ pub fn relevant_pairs_are_counted()
     ensures counted { (net : Network) (s t : ℕ) (limit : List (Option ℕ))
         (pairs : List (ℕ × List ℕ)) → AreRelevantPairs net s t limit pairs
         → (budget : ℕ) → Passes net s t limit budget ↔ (budget < length pairs) }
-    ensures decided { (net : Network) (s t : ℕ) (limit : List (Option ℕ)) (budget : ℕ)
-        → IsNetwork net → Passes net s t limit budget ⊎ (¬ Passes net s t limit budget) }
 {}
 
 /// A query has one list of best costs at most. Without a limit it is empty only where no walk leads to the target.

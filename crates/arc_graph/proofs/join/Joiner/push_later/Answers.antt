@@ -8,7 +8,7 @@ use Rattle.arc_graph.proofs.join.Joiner.push_later.Goals.{then-place-len, else-p
 
 pub invariant_of-self : goal.invariant_of-self
 invariant_of-self c =
-    let later = rw (← c.self.view_is) at c.requires.begun in
+    let later = rw (← c.self.view_is) at c.requires.later_file in
     let due = rw (← c.self.view_is) at c.requires.due in
     elim c.if-place-len.branch [
       | then-place-len w ↦
@@ -23,7 +23,7 @@ invariant_of-self c =
 pub returns-clause-files : goal.returns-clause-files
 returns-clause-files c = λ front last stands.
     let here = rw (← c.self.view_is) at stands in
-    let later = rw (← c.self.view_is) at c.requires.begun in
+    let later = rw (← c.self.view_is) at c.requires.later_file in
     elim c.if-place-len.branch [
       | then-place-len w ↦
           let there : c.self.inside.come < length (map pair_of c.self.inside.ends.items) =

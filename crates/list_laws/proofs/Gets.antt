@@ -1,9 +1,9 @@
 -- Elements of a list by their places, and the places of a list that one more is added to.
 use Rattle.std.proofs.Common.{◌≡◌, ◌≢◌, ℕ, zero, suc, ◌<◌, ◌⊎◌, List, [], ◌∷◌, ◌++◌, Some, None, Bool, true, false, cond, length, get_or, nat_lt, ap, refl, inl, inr, arith}
 use Rattle.std.specs.Prelude.{slice_get, position, IsSomeAnd, All}
-use Rattle.std.specs.List.{AllByRecursion, position_or_len}
+use Rattle.std.specs.List.{position_or_len}
 use Rattle.std.proofs.lemmas.Bool.{ltb-false}
-use Rattle.std.proofs.lemmas.List.Elements.{All-from_recursion}
+use Rattle.std.proofs.lemmas.Option.{slice_get-get_or}
 use Rattle.std.proofs.lemmas.List.Sums.{fails_before_first}
 
 -- an element before the added one, or that
@@ -36,10 +36,7 @@ get_elsewhere (z ∷ xs) y (suc i) not_there = get_elsewhere xs y i (λ e. not_t
 
 -- what holds of the element at each place holds of all
 pub all_from_get : {X : Type 0} (P : X → Type 0) (xs : List X) → ((i : ℕ) (x : X) → slice_get xs i ≡ Some x → P x) → All P xs
-all_from_get {X} P xs each = All-from_recursion P xs (by_place xs each) where
-  by_place : (ys : List X) → ((i : ℕ) (x : X) → slice_get ys i ≡ Some x → P x) → AllByRecursion P ys
-  by_place [] each = tt
-  by_place (y ∷ ys) each = (each 0 y refl, by_place ys (λ i x at. each (suc i) x at))
+all_from_get P xs each = λ k d within. each k (get_or xs k d) (slice_get-get_or xs k d within)
 
 -- a place that has an element is within the list
 pub is_some_within : {X : Type 0} (P : X → Type 0) (xs : List X) (i : ℕ) → IsSomeAnd (slice_get xs i) P → i < length xs

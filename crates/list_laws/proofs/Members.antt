@@ -1,14 +1,10 @@
 -- Members of lists: the steps of an induction, and the members of lists that are made from lists.
 use Rattle.std.proofs.Common.{◌≡◌, ℕ, zero, suc, Bool, true, List, [], ◌∷◌, ◌++◌, map, get_or, Option, Some, None, ◌⊎◌, ◌↔◌, inl, inr, refl, sym, ap, subst, ◌∙◌, arith}
 use Rattle.std.specs.Prelude.{slice_get, filter, All, Any, Contains}
-use Rattle.std.specs.List.{AllByRecursion, filter_map, cons_option, flat_map}
+use Rattle.std.specs.List.{filter_map, cons_option, flat_map}
 use Rattle.std.proofs.lemmas.Bool.{cases_Bool, true≢false}
-use Rattle.std.proofs.lemmas.List.Elements.{recursion_from_All, All-contains, All-filter, All-contains_itself, filter_passes, Contains-push_cases, Contains-get_or, Contains-append_left, Contains-append_right}
-
-got : {X : Type 0} (P : X → Type 0) (xs : List X) (i : ℕ) (x : X) → AllByRecursion P xs → slice_get xs i ≡ Some x → P x
-got P [] i x all e = cc
-got P (y ∷ ys) zero x all e = let same : y ≡ x = cc in subst P same all.0
-got P (y ∷ ys) (suc i) x all e = got P ys i x all.1 e
+use Rattle.std.proofs.lemmas.Option.{slice_get_within, get_or_from_slice_get}
+use Rattle.std.proofs.lemmas.List.Elements.{All-contains, All-filter, All-contains_itself, filter_passes, Contains-push_cases, Contains-get_or, Contains-append_left, Contains-append_right}
 
 -- ---- the steps of an induction: these alone know how std says that a list contains something
 
@@ -54,7 +50,7 @@ module _ {X : Type 0} where
 
   -- what holds of each element holds of one that was read
   pub all_got : (P : X → Type 0) (xs : List X) (i : ℕ) (x : X) → All P xs → slice_get xs i ≡ Some x → P x
-  all_got P xs i x all e = got P xs i x (recursion_from_All P xs all) e
+  all_got P xs i x all e = each_in P xs all x (i, slice_get_within xs i x e, get_or_from_slice_get xs i x x e)
 
   -- the last one that was added, or one of before
   pub cases_push : (xs : List X) (y x : X) → Contains (xs ++ y ∷ []) x → Contains xs x ⊎ (x ≡ y)

@@ -50,15 +50,12 @@ impl MemorySource {
     }
 
     /// The same source, whose reads give at most so many bytes.
-    pub fn with_piece(self, size: usize) -> Self
+    pub fn with_piece(mut self, size: usize) -> Self
         requires { 1 ≤ size }
         ensures { result ≡ record self { piece = size } }
     {
-        MemorySource {
-            source: self.source,
-            piece: size,
-            calls: self.calls,
-        }
+        self.piece = size;
+        self
     }
 }
 
@@ -124,16 +121,12 @@ impl MemorySink {
     }
 
     /// The same sink, whose writes take at most so many bytes.
-    pub fn with_piece(self, size: usize) -> Self
+    pub fn with_piece(mut self, size: usize) -> Self
         requires { 1 ≤ size }
         ensures { result ≡ record self { piece = size } }
     {
-        MemorySink {
-            sink: self.sink,
-            bound: self.bound,
-            piece: size,
-            calls: self.calls,
-        }
+        self.piece = size;
+        self
     }
 
     /// The bytes that it took.
@@ -209,15 +202,12 @@ impl MemoryFolder {
     }
 
     /// The same folder, whose reads give at most so many bytes.
-    pub fn with_piece(self, size: usize) -> Self
+    pub fn with_piece(mut self, size: usize) -> Self
         requires { 1 ≤ size }
         ensures { result ≡ record self { piece = size } }
     {
-        MemoryFolder {
-            shelf: self.shelf,
-            piece: size,
-            calls: self.calls,
-        }
+        self.piece = size;
+        self
     }
 }
 

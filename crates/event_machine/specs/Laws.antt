@@ -1,0 +1,19 @@
+-- Words for the laws of the search.
+use Rattle.std.specs.Prelude.{◌≡◌, ℕ, ◌-◌, ◌⊎◌, List, length, slice_index, Contains}
+use Rattle.road_network.specs.Network.{Network}
+use Rattle.road_network.specs.Best.{IsBackwardLeast}
+use Rattle.event_machine.specs.Machine.{Label, SearchState, IsEntry}
+
+-- the number of the last arc of a walk, or 0 for the walk without arcs
+abbrev pub last_arc : List ℕ → ℕ
+last_arc p = slice_index p (length p - 1)
+
+-- the label's arc is the last arc of the backward-least walk of its cost
+pub record HasLeastArc (net : Network) (s : ℕ) (l : Label) : Type 0 where
+  pub walk : List ℕ
+  pub least : IsBackwardLeast net s l.node l.cost walk
+  pub arc : l.arc ≡ last_arc walk
+
+-- the label is an entry or a candidate
+abbrev pub IsKnown : SearchState → Label → Type 0
+IsKnown s y = IsEntry s y ⊎ Contains s.candidates y

@@ -1,0 +1,7 @@
+pub mod Sets
+pub mod Machine
+pub mod Events
+pub mod Rounds
+pub mod Orders
+pub mod Pieces
+pub mod Laws

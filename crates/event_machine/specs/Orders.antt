@@ -1,0 +1,69 @@
+-- In which orders the events of a round may happen, and the one state to which all of these lead.
+use Rattle.std.specs.Prelude.{◌≡◌, ◌≢◌, ℕ, ◌≤◌, ◌⊎◌, ◌↔◌, List, [], AllPairs, Contains}
+use Rattle.cost_vector.specs.Costs.{Dominates}
+use Rattle.road_network.specs.Network.{Network}
+use Rattle.event_machine.specs.Machine.{Task, Label, IsSamePair, Beats, SearchState, IsEntry, LeadsOn, Follows}
+use Rattle.event_machine.specs.Events.{Event, take, drop, relax, merge, MayDrop}
+
+-- ---- the first half of a round
+
+-- y waits, and may not be dropped
+pub record Stays (task : Task) (s : SearchState) (y : Label) : Type 0 where
+  pub waits : Contains s.waiting y
+  pub kept : ¬ MayDrop task s y
+
+-- y is taken next: it stays after the drops, and no label that stays dominates it
+pub record IsNext (task : Task) (s : SearchState) (y : Label) : Type 0 where
+  pub stays : Stays task s y
+  pub none_better : (z : Label) → Stays task s z → ¬ Dominates z.cost y.cost
+
+-- what each order of the drops, and then each order of the takes, leads to
+pub record IsBegun (task : Task) (before after : SearchState) : Type 0 where
+  pub settled : (y : Label) → Contains after.settled y ↔ (Contains before.settled y ⊎ IsNext task before y)
+  pub dropped : (y : Label) → Contains after.dropped y ↔ (Contains before.dropped y ⊎ MayDrop task before y)
+  pub waiting : (y : Label) → Contains after.waiting y ↔ (Stays task before y × (¬ IsNext task before y))
+  pub unrelaxed : (p : Label × ℕ) → Contains after.unrelaxed p ↔ (IsNext task before p.0 × LeadsOn task.network p.0.node p.1)
+  pub candidates : after.candidates ≡ []
+
+-- ---- the second half
+
+-- x arrives: it is a candidate, or an arc that is still to be relaxed gives it
+pub data IsArrival (net : Network) (s : SearchState) (x : Label) : Type 0 where
+  came : Contains s.candidates x → IsArrival net s x
+  comes : (e : Label) → Contains s.unrelaxed (e, x.arc) → Follows net e x → IsArrival net s x
+
+-- the first event merges what the second relaxes
+abbrev pub MergesResult : Network → Event → Event → Type 0
+MergesResult net (merge x) (relax e k) = (x.arc ≡ k) × Follows net e x
+MergesResult net _ _ = ⊥
+
+-- The events relax each pair once and merge each arrival once, after it was relaxed, in any order; and they do no more.
+pub record Completes (net : Network) (s : SearchState) (events : List Event) : Type 0 where
+  pub relaxes : (l : Label) (k : ℕ) → Contains events (relax l k) ↔ Contains s.unrelaxed (l, k)
+  pub merges : (x : Label) → Contains events (merge x) ↔ IsArrival net s x
+  pub takes : (l : Label) → ¬ Contains events (take l)
+  pub drops : (l : Label) → ¬ Contains events (drop l)
+  pub once : AllPairs ◌≢◌ events
+  pub in_order : AllPairs (λ a b. ¬ MergesResult net a b) events
+
+-- y survives: of the entries and arrivals of its node none dominates it, and it has the least arc of those of its cost
+pub record Survives (net : Network) (s : SearchState) (y : Label) : Type 0 where
+  pub present : IsEntry s y ⊎ IsArrival net s y
+  pub unbeaten : (z : Label) → IsEntry s z ⊎ IsArrival net s z → ¬ Beats z y
+  pub least : (z : Label) → IsEntry s z ⊎ IsArrival net s z → IsSamePair z y → y.arc ≤ z.arc
+
+-- the list has a label of y's node and cost
+pub record HasPair (labels : List Label) (y : Label) : Type 0 where
+  pub label : Label
+  pub member : Contains labels label
+  pub same : IsSamePair label y
+
+-- What each such order leads to: the labels that survive, settled or dropped exactly where an entry of the node and cost
+-- was so before, and waiting elsewhere.
+pub record IsOutcome (net : Network) (before after : SearchState) : Type 0 where
+  pub settled : (y : Label) → Contains after.settled y ↔ (Survives net before y × HasPair before.settled y)
+  pub dropped : (y : Label) → Contains after.dropped y ↔ (Survives net before y × HasPair before.dropped y)
+  pub waiting : (y : Label) → Contains after.waiting y
+      ↔ (Survives net before y × (¬ HasPair before.settled y) × (¬ HasPair before.dropped y))
+  pub unrelaxed : after.unrelaxed ≡ []
+  pub candidates : after.candidates ≡ []

@@ -1,0 +1,5 @@
+//! The search for all best costs as a machine over single events, and the laws of every order of these events.
+//!
+//! `specs/` has the states, the events and the rounds. The functions here do nothing: their contracts are laws of these
+//! definitions. No queue, no front, no thread and no vector in memory is known here.
+#![tactic(auto)]

@@ -37,7 +37,9 @@ module _ (l : Label) (P : ℕ → Type 0) (before : List (Label × ℕ)) where
     elim [
       | inl first ↦ (next p).1 (inl ((has p).1 (inl first)))
       | inr more ↦ elim (cases_lt n p.1) [
-        | inl last ↦ (let number : p.1 ≡ n + 1 = omega arith in (next p).1 (inr (ap (λ e. (e, p.1)) more.0 ∙ ap (λ k. (l, k)) number, subst P number more.1)))
+        | inl last ↦
+            let number : p.1 ≡ n + 1 = omega arith in
+            (next p).1 (inr (ap (λ e. (e, p.1)) more.0 ∙ ap (λ k. (l, k)) number, subst P number more.1))
         | inr early ↦ (next p).1 (inl ((has p).1 (inr (more.0, more.1, early))))
       ]
     ],

@@ -1,9 +1,8 @@
 -- When an event may happen, by the lists of a state.
-use Rattle.std.proofs.Common.{◌≡◌, ◌⊎◌, ◌↔◌, ℕ, List, inl, inr}
+use Rattle.std.proofs.Common.{◌⊎◌, ℕ, List, inl, inr}
 use Rattle.std.specs.Prelude.{Any, Contains}
-use Rattle.list_laws.proofs.Members.{in_none}
 use Rattle.cost_vector.specs.Costs.{Dominates, Within}
-use Rattle.event_machine.specs.Machine.{Task, Label, SearchState, Place, settled, dropped, waiting, entries_at, IsEntry, IsActive, waits, is_candidate, has_arc, IsBeatenAtTarget, IsSamePair}
+use Rattle.event_machine.specs.Machine.{Task, Label, SearchState, IsActive, waits, is_candidate, has_arc, IsBeatenAtTarget, IsSamePair}
 use Rattle.event_machine.specs.Events.{MayTake}
 
 module _ (s : SearchState) (c : List ℕ) where
@@ -39,4 +38,3 @@ module _ (task : Task) (s : SearchState) (l : Label) where
     | inl below ↦ may.undominated below.0 below.1 below.2
     | inr rest ↦ elim rest [ inl beaten ↦ may.unbeaten beaten | inr beside ↦ may.alone beside.0 beside.1 beside.2 ]
   ]
-

@@ -4,8 +4,8 @@ ghost use Rattle.event_machine.specs.Machine.{LeadsOn};
 ghost use Rattle.event_machine.specs.Sets.{Loses};
 ghost use Rattle.machine_model.specs.Views.{label_of, pair_of, task_of};
 
-use crate::labels::dominates;
 use crate::Task;
+use crate::labels::dominates;
 use cost_vector::{ArcNo, Cost, Label, OutOfMemory};
 
 /// Whether the arc is to be relaxed from the label.
@@ -40,7 +40,7 @@ fn add_arc(
 ) -> Result<(), OutOfMemory>
     ensures { OnOk result ((p : _) → Contains (map pair_of pairs.new.items) p
         ↔ (Contains (map pair_of pairs.old.items) p ⊎ ((p ≡ (label_of label.now, arc.0))
-            × LeadsOn (task_of task.now).network label.now.node.0 arc.0))) }
+        × LeadsOn (task_of task.now).network label.now.node.0 arc.0))) }
 {
     if task.leads_on(label.node, arc) {
         pairs.push((*label, arc))?;
@@ -56,7 +56,7 @@ pub(crate) fn add_arcs(
 ) -> Result<(), OutOfMemory>
     ensures { OnOk result ((p : _) → Contains (map pair_of pairs.new.items) p
         ↔ (Contains (map pair_of pairs.old.items) p ⊎ ((p.0 ≡ label_of label.now)
-            × LeadsOn (task_of task.now).network label.now.node.0 p.1))) }
+        × LeadsOn (task_of task.now).network label.now.node.0 p.1))) }
 {
     for place in 0..task.graph.arcs() {
         add_arc(pairs, task, label, ArcNo(place + 1))?;

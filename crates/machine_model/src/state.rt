@@ -59,9 +59,7 @@ impl State {
         ensures { IsTrue result
             ↔ MayTake (task_of task.now) (state_of self.now) (label_of label.now) }
     {
-        contains(&self.waiting, label)
-            && task.allows(&label.cost)
-            && !self.forbids(task, label)
+        contains(&self.waiting, label) && task.allows(&label.cost) && !self.forbids(task, label)
     }
 
     fn may_drop(&self, task: &Task, label: &Label) -> bool
@@ -86,7 +84,7 @@ impl State {
             ↔ (((y : _) × IsActive (state_of self.now) y × Dominates y.cost label.now.cost)
             ⊎ (IsBeatenAtTarget (task_of task.now) (state_of self.now) label.now.cost
             ⊎ ((x : _) × Contains (state_of self.now).candidates x
-                × IsSamePair x (label_of label.now)))) }
+            × IsSamePair x (label_of label.now)))) }
     {
         self.goes_on_below(&label.cost)
             || self.is_beaten_at_target(task, &label.cost)
@@ -108,9 +106,7 @@ impl State {
         ensures { IsTrue result
             ↔ IsBeatenAtTarget (task_of task.now) (state_of self.now) cost.now }
     {
-        self.settled
-            .iter()
-            .any(|entry| entry.node == task.target && dominates(&entry.cost, cost))
+        self.settled.iter().any(|entry| entry.node == task.target && dominates(&entry.cost, cost))
     }
 
     /// An entry of the label's node and cost.

@@ -40,7 +40,7 @@ impl State {
     fn set_aside(&mut self, label: &Label) -> Result<(), OutOfMemory>
         ensures { (task : _) → MayDrop task (state_of self.old) (label_of label.now)
             → OnOk result (Drops task
-                (state_of self.old) (label_of label.now) (state_of self.new)) }
+            (state_of self.old) (label_of label.now) (state_of self.new)) }
     {
         take_out(&mut self.waiting, label);
         add(&mut self.dropped, label)

@@ -41,7 +41,8 @@ impl Task {
     pub(crate) fn along(&self, label: &Label, arc: ArcNo) -> Label
         requires leads_on { LeadsOn (task_of self.now).network label.now.node.0 arc.0 }
         requires room { HasRoom self.now.graph.criteria (label_of label.now) }
-        ensures follows { Follows (task_of self.now).network (label_of label.now) (label_of result) }
+        ensures follows { Follows
+            (task_of self.now).network (label_of label.now) (label_of result) }
         ensures arc { result.arc ≡ arc }
     {
         let weight = self.weights.get(arc).unwrap();

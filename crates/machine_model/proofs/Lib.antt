@@ -1,6 +1,6 @@
 pub mod ViewLemmas
 pub mod RetainLemmas
 pub mod SetsLemmas
-pub mod MayLemmas
+pub mod TakingLemmas
 pub mod ArcsLemmas
 pub mod MergeLemmas

@@ -1,5 +1,5 @@
-//! The search for all best costs as a machine that does one event at a time, over plain lists: it is slow, and takes the
-//! relation of the event machine at its word.
+//! The search for all best costs as a machine that does one event at a time, over plain lists: slow, and true to the
+//! relation of the event machine.
 #![tactic(auto)]
 
 mod event;

@@ -1,6 +1,5 @@
-ghost use Rattle.std.specs.Prelude.{◌≡◌, ◌↔◌, ℕ, ◌≤◌, ◌⊎◌, IsTrue, IfOk, IfSome, IfNone, OnOk, Contains};
-ghost use Rattle.cost_vector.specs.Costs.{Dominates};
-ghost use Rattle.event_machine.specs.Machine.{start_state, IsSamePair, Beats, IsEntry, IsActive, IsBeatenAtTarget};
+ghost use Rattle.std.specs.Prelude.{◌≡◌, ◌↔◌, IsTrue, IfOk, IfSome, IfNone};
+ghost use Rattle.event_machine.specs.Machine.{start_state, IsSamePair, Beats, IsEntry, IsBeatenAtTarget};
 ghost use Rattle.event_machine.specs.Events.{May, MayTake, MayDrop};
 
 use crate::labels::{any_beats, any_dominates, contains, dominates, find_same};
@@ -23,6 +22,7 @@ pub struct State {
 
 impl State {
     ghost use Rattle.machine_model.specs.Views.{label_of, state_of, task_of, event_of};
+    ghost use Rattle.machine_model.specs.Taking.{IsActiveBelow, IsForbidden};
 
     /// Where a search begins: the label of the walk without arcs waits.
     pub fn start(alloc: Global, task: &Task) -> Result<State, OutOfMemory>
@@ -77,14 +77,10 @@ impl State {
         has_pair(&self.unrelaxed, label, arc) && task.leads_on(label.node, arc)
     }
 
-    /// Whether some label forbids to settle this one: something better may still come, or the lesser arc of its node and
-    /// cost, or a cost of the target dominates it.
+    /// Whether some label forbids to settle this one.
     fn forbids(&self, task: &Task, label: &Label) -> bool
         ensures { IsTrue result
-            ↔ (((y : _) × IsActive (state_of self.now) y × Dominates y.cost label.now.cost)
-            ⊎ (IsBeatenAtTarget (task_of task.now) (state_of self.now) label.now.cost
-            ⊎ ((x : _) × Contains (state_of self.now).candidates x
-            × IsSamePair x (label_of label.now)))) }
+            ↔ IsForbidden (task_of task.now) (state_of self.now) (label_of label.now) }
     {
         self.goes_on_below(&label.cost)
             || self.is_beaten_at_target(task, &label.cost)
@@ -93,8 +89,7 @@ impl State {
 
     /// Whether a label from which the search still goes on dominates the cost.
     fn goes_on_below(&self, cost: &Cost) -> bool
-        ensures { IsTrue result
-            ↔ ((y : _) × IsActive (state_of self.now) y × Dominates y.cost cost.now) }
+        ensures { IsTrue result ↔ IsActiveBelow (state_of self.now) cost.now }
     {
         any_dominates(&self.waiting, cost)
             || any_dominates(&self.candidates, cost)

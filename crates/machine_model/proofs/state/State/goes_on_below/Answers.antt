@@ -2,7 +2,7 @@ use Rattle.std.proofs.Common.{rules, ◌↔◌, IsTrue, inl, inr}
 use Rattle.std.specs.Prelude.{Any}
 use Rattle.cost_vector.specs.Costs.{Dominates}
 use Rattle.machine_model.specs.Views.{state_of}
-use Rattle.machine_model.proofs.MayLemmas.{below_by_pair, cases_below}
+use Rattle.machine_model.proofs.TakingLemmas.{below_by_pair, cases_below}
 use Rattle.machine_model.proofs.state.State.goes_on_below.Goals as goal
 
 pub returns-else-any_dominates-2 : goal.returns-else-any_dominates-2

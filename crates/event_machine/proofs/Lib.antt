@@ -1,3 +1,9 @@
 pub mod SetLaws
 pub mod Running
 pub mod Sound
+pub mod Changing
+pub mod Stepping
+pub mod Frontier
+pub mod Keeping
+pub mod SettledLabels
+pub mod Bounding

@@ -1,12 +1,12 @@
 -- Words for the laws of the search.
-use Rattle.std.specs.Prelude.{◌≡◌, ℕ, ◌-◌, ◌⊎◌, List, length, slice_index, Contains}
+use Rattle.std.specs.Prelude.{◌≡◌, ℕ, ◌⊎◌, List, reverse, slice_index, Contains}
 use Rattle.road_network.specs.Network.{Network}
 use Rattle.road_network.specs.Best.{IsBackwardLeast}
 use Rattle.event_machine.specs.Machine.{Label, SearchState, IsEntry}
 
--- the number of the last arc of a walk, or 0 for the walk without arcs
+-- the number of a walk's last arc, which is the first one backwards, or 0 for the walk without arcs
 abbrev pub last_arc : List ℕ → ℕ
-last_arc p = slice_index p (length p - 1)
+last_arc p = slice_index (reverse p) 0
 
 -- the label's arc is the last arc of the backward-least walk of its cost
 pub record HasLeastArc (net : Network) (s : ℕ) (l : Label) : Type 0 where

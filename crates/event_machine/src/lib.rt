@@ -3,3 +3,10 @@
 //! `specs/` has the states, the events and the rounds. The functions here do nothing: their contracts are laws of these
 //! definitions. No queue, no front, no thread and no vector in memory is known here.
 #![tactic(auto)]
+
+mod finality;
+
+pub use finality::{
+    entries_below_settled_labels_stand, settled_labels_are_final, sums_are_bounded_by_the_settled,
+    the_end_has_all_relevant_pairs,
+};

@@ -1,0 +1,154 @@
+-- What each event changes.
+use Rattle.std.proofs.Common.{◌≡◌, ◌≢◌, ℕ, ◌∷◌, ◌⊎◌, ◌↔◌, inl, inr, refl, sym, ap, subst, ◌∙◌}
+use Rattle.std.specs.Prelude.{Contains}
+use Rattle.std.proofs.lemmas.List.Sorted.{IsPermutation-sym}
+use Rattle.cost_vector.specs.Costs.{Within, plus}
+use Rattle.road_network.specs.Network.{Network, Leads}
+use Rattle.road_network.proofs.Reached.{leads_alike}
+use Rattle.event_machine.specs.Machine.{Task, Label, SearchState, settled, dropped, IsActive, waits, has_arc, IsBeatenAtTarget, LeadsOn, Follows}
+use Rattle.event_machine.specs.Events.{MayTake, Takes, Drops, Relaxes, Merges, IsSame}
+use Rattle.event_machine.specs.Orders.{IsArrival, came, comes}
+use Rattle.event_machine.proofs.SetLaws.{same_by_permutation, gains_by_permutation}
+use Rattle.event_machine.proofs.Sound.{IsSound, IsCovered, label_by_parts, cases_pair}
+use Rattle.event_machine.proofs.Changing.{EntriesChange, entries_stay, entries_become, room_to_move, entries_by_merge, covered_by_merge}
+use Rattle.event_machine.proofs.Changing.{place_before_merge, settled_before_merge}
+
+-- y is a new candidate: some settled label with an arc to be relaxed gives it
+pub record IsGiven (task : Task) (s : SearchState) (y : Label) : Type 0 where
+  pub from : Label
+  pub settled : Contains s.settled from
+  pub active : IsActive s from
+  pub follows : Follows task.network from y
+
+-- y is settled by the event, and what it gives arrives
+pub record IsTaken (task : Task) (a b : SearchState) (y : Label) : Type 0 where
+  pub may : MayTake task a y
+  pub opens : (x : Label) → Follows task.network y x → IsArrival task.network b x
+
+-- what any event changes at most
+pub record Changes (task : Task) (a b : SearchState) : Type 0 where
+  pub entries : EntriesChange a b
+  pub settled : (y : Label) → Contains b.settled y → Contains a.settled y ⊎ IsTaken task a b y
+  pub useless : (y : Label) → Contains b.dropped y → (¬ Within task.limit y.cost) ⊎ IsBeatenAtTarget task a y.cost
+  pub paired : (e : Label) (k : ℕ) → Contains b.unrelaxed (e, k) → IsActive a e × Contains b.settled e × LeadsOn task.network e.node k
+  pub candidates : (y : Label) → Contains b.candidates y → Contains a.candidates y ⊎ IsGiven task a y
+  pub arrivals : (y : Label) → IsArrival task.network a y → IsArrival task.network b y ⊎ IsCovered b y
+
+-- one label follows from another along one arc
+pub follows_alike : (net : Network) (e x y : Label) → Follows net e x → Follows net e y → x.arc ≡ y.arc → x ≡ y
+follows_alike net e x y f g arc =
+    let that = subst (λ k. Leads net k e.node g.by y.node) (sym arc) g.leads in
+    let alike = leads_alike net x.arc e.node x.node e.node y.node f.by g.by f.leads that in
+    label_by_parts x y (record { node = alike.2; cost = f.cost ∙ ap (plus e.cost) alike.1 ∙ sym g.cost }) arc
+
+-- the arc along which a label follows leads on
+pub leads_on : (net : Network) (e x : Label) → Follows net e x → LeadsOn net e.node x.arc
+leads_on net e x f = record { by = f.by; to = x.node; leads = f.leads }
+
+module _ (task : Task) (a b : SearchState) (sound : IsSound task a) where
+  -- a pair that was to be relaxed before
+  still_paired : EntriesChange a b → (e : Label) (k : ℕ) → Contains a.unrelaxed (e, k) → IsActive a e × Contains b.settled e × LeadsOn task.network e.node k
+  still_paired entries e k there = let pair = sound.paired e k there in (has_arc k there, entries.kept e pair.0, pair.1)
+
+  -- ---- event by event
+
+  pub take_changes : (l : Label) → Takes task a l b → Changes task a b
+  take_changes l h = record {
+    entries = entries;
+    settled = λ y here. elim ((h.entries settled y).0 here) [ inl old ↦ inl old.0 | inr (_, e) ↦ inr (subst (IsTaken task a b) (sym e) taken) ];
+    useless = λ y here. elim ((h.entries dropped y).0 here) [ inl old ↦ sound.useless y old.0 | inr (wrong, _) ↦ absurd cc ];
+    paired = λ e k here. elim ((h.unrelaxed (e, k)).0 here) [
+      | inl old ↦ still_paired entries e k old
+      | inr (is_l, leads) ↦ subst (λ (m : Label). IsActive a m × Contains b.settled m × LeadsOn task.network m.node k) (sym is_l)
+          (waits h.may.waits, (h.entries settled l).1 (inr (refl, refl)), leads)
+    ];
+    candidates = λ y here. inl ((same_by_permutation a.candidates b.candidates h.candidates y).0 here);
+    arrivals = λ x. elim [
+      | came here ↦ inl (came ((same_by_permutation a.candidates b.candidates h.candidates x).1 here))
+      | comes e here f ↦ inl (comes e ((h.unrelaxed (e, x.arc)).1 (inl here)) f)
+    ];
+  } where
+    entries : EntriesChange a b
+    entries = entries_become a b sound.apart (λ _ y. y ≢ l) l settled h.entries (room_to_move a b sound.apart l h.may.waits)
+
+    taken : IsTaken task a b l
+    taken = record { may = h.may; opens = λ x f. comes l ((h.unrelaxed (l, x.arc)).1 (inr (refl, leads_on task.network l x f))) f }
+
+  pub drop_changes : (l : Label) → Drops task a l b → Changes task a b
+  drop_changes l h =
+      let entries = entries_become a b sound.apart (λ _ y. y ≢ l) l dropped h.entries (room_to_move a b sound.apart l h.may.waits) in
+      let candidates = same_by_permutation a.candidates b.candidates h.candidates in record {
+        entries = entries;
+        settled = λ y here. elim ((h.entries settled y).0 here) [ inl old ↦ inl old.0 | inr (wrong, _) ↦ absurd cc ];
+        useless = λ y here. elim ((h.entries dropped y).0 here) [
+          | inl old ↦ sound.useless y old.0
+          | inr (_, e) ↦ subst (λ (m : Label). (¬ Within task.limit m.cost) ⊎ IsBeatenAtTarget task a m.cost) (sym e) h.may.useless
+        ];
+        paired = λ e k here. still_paired entries e k ((h.unrelaxed (e, k)).0 here);
+        candidates = λ y here. inl ((candidates y).0 here);
+        arrivals = λ x. elim [ came here ↦ inl (came ((candidates x).1 here)) | comes e here f ↦ inl (comes e ((h.unrelaxed (e, x.arc)).1 here) f) ];
+      }
+
+  pub relax_changes : (l : Label) (k : ℕ) → Relaxes task a l k b → Changes task a b
+  relax_changes l k h = record {
+    entries = entries_stay a b sound.apart h.entries;
+    settled = λ y here. inl ((h.entries settled y).0 here);
+    useless = λ y here. sound.useless y ((h.entries dropped y).0 here);
+    paired = λ e j here. still_paired (entries_stay a b sound.apart h.entries) e j ((h.unrelaxed (e, j)).0 here).0;
+    candidates = λ y here. elim ((gains y).0 here) [ inl old ↦ inl old | inr e ↦ inr (subst (IsGiven task a) (sym e) given) ];
+    arrivals = λ y. elim [ came here ↦ inl (came ((gains y).1 (inl here))) | comes e there f ↦ inl (still y e there f) ];
+  } where
+    gains : (y : Label) → Contains b.candidates y ↔ (Contains a.candidates y ⊎ (y ≡ h.candidate))
+    gains = gains_by_permutation h.candidate a.candidates b.candidates h.candidates
+
+    given : IsGiven task a h.candidate
+    given = record { from = l; settled = (sound.paired l k h.may).0; active = has_arc k h.may; follows = h.follows }
+
+    still : (y e : Label) → Contains a.unrelaxed (e, y.arc) → Follows task.network e y → IsArrival task.network b y
+    still y e there f = elim (cases_pair (e, y.arc) (l, k)) [
+      | inr other ↦ comes e ((h.unrelaxed (e, y.arc)).1 (there, other)) f
+      | inl same ↦
+          let from : Follows task.network l y = subst (λ (m : Label). Follows task.network m y) (ap (λ (p : Label × ℕ). p.0) same) f in
+          let arc : y.arc ≡ h.candidate.arc = ap (λ (p : Label × ℕ). p.1) same ∙ sym h.arc in
+          came ((gains y).1 (inr (follows_alike task.network l y h.candidate from h.follows arc)))
+    ]
+
+  pub merge_changes : (x : Label) → Merges a x b → Changes task a b
+  merge_changes x h = record {
+    entries = entries;
+    settled = λ y here. inl (settled_before_merge task a b sound x mine h.entries y here);
+    useless = λ y here. elim (place_before_merge task a b sound x mine h.entries dropped y here) [
+      | inl from ↦ subst (λ c. (¬ Within task.limit c) ⊎ IsBeatenAtTarget task a c) from.same.cost (sound.useless from.label from.member)
+      | inr (wrong, _) ↦ absurd cc
+    ];
+    paired = λ e k here. still_paired entries e k ((h.unrelaxed (e, k)).0 here);
+    candidates = λ y here. inl ((gains y).1 (inl here));
+    arrivals = λ y. elim [
+      | comes e there f ↦ inl (comes e ((h.unrelaxed (e, y.arc)).1 there) f)
+      | came there ↦ elim ((gains y).0 there) [ inl here ↦ inl (came here) | inr e ↦ inr (subst (IsCovered b) (sym e) covered) ]
+    ];
+  } where
+    gains : (y : Label) → Contains a.candidates y ↔ (Contains b.candidates y ⊎ (y ≡ x))
+    gains = gains_by_permutation x b.candidates a.candidates (IsPermutation-sym a.candidates (x ∷ b.candidates) h.candidates)
+
+    mine : Contains a.candidates x
+    mine = (gains x).1 (inr refl)
+
+    covered : IsCovered b x
+    covered = covered_by_merge task a b sound x mine h.entries
+
+    entries : EntriesChange a b
+    entries = entries_by_merge task a b sound x mine h.entries
+
+  -- a state that is the same
+  pub same_changes : IsSame b a → Changes task a b
+  same_changes h =
+      let entries = entries_stay a b sound.apart h.entries in
+      let candidates = same_by_permutation a.candidates b.candidates (IsPermutation-sym b.candidates a.candidates h.candidates) in record {
+        entries = entries;
+        settled = λ y here. inl ((h.entries settled y).0 here);
+        useless = λ y here. sound.useless y ((h.entries dropped y).0 here);
+        paired = λ e k here. still_paired entries e k ((h.unrelaxed (e, k)).0 here);
+        candidates = λ y here. inl ((candidates y).0 here);
+        arrivals = λ y. elim [ came here ↦ inl (came ((candidates y).1 here)) | comes e there f ↦ inl (comes e ((h.unrelaxed (e, y.arc)).1 there) f) ];
+      }

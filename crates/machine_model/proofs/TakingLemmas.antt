@@ -23,11 +23,11 @@ module _ (task : Task) (s : SearchState) (l : Label) where
     within = within;
     undominated = λ y active below. free (inl (y, active, below));
     unbeaten = λ beaten. free (inr (inl beaten));
-    alone = λ x candidate same. free (inr (inr (x, candidate, same)));
+    alone = λ x comes same. free (inr (inr (comes.0, x, comes.1, comes.2, same)));
   }
 
   pub not_forbidden : MayTake task s l → ¬ IsForbidden task s l
   not_forbidden may = elim [
     | inl below ↦ may.undominated below.0 below.1 below.2
-    | inr rest ↦ elim rest [ inl beaten ↦ may.unbeaten beaten | inr beside ↦ may.alone beside.0 beside.1 beside.2 ]
+    | inr rest ↦ elim rest [ inl beaten ↦ may.unbeaten beaten | inr any ↦ may.alone any.1 (any.0, any.2, any.3) any.4 ]
   ]

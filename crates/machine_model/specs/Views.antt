@@ -4,9 +4,11 @@ use Rattle.std.specs.Prelude.{◌≡◌, ℕ, ◌^◌, ◌<◌, List, length, ma
 use Rattle.cost_vector.specs.declared.label.ArcNo.{ArcNo}
 use Rattle.cost_vector.specs.declared.label.Label.{Label as StoredLabel}
 use Rattle.arc_graph.specs.Graph.{network}
-use Rattle.event_machine.specs.Machine.{Label, SearchState, Task}
+use Rattle.event_machine.specs.Machine.{Label, SearchState, Task, Place, settled, dropped, waiting}
 use Rattle.event_machine.specs.Events.{Event, take, drop, relax, merge}
 use Rattle.machine_model.specs.declared.task.Task.{Task as StoredTask}
+use Rattle.machine_model.specs.declared.state.Place.{Place as StoredPlace}
+use Rattle.machine_model.specs.declared.state.Place.TheVariants.{Settled, Dropped, Waiting}
 use Rattle.machine_model.specs.declared.state.State.{State}
 use Rattle.machine_model.specs.declared.event.Event.{Event as StoredEvent}
 use Rattle.machine_model.specs.declared.event.Event.TheVariants.{Take, Drop, Relax, Merge}
@@ -36,6 +38,12 @@ state_of s = record {
 -- what is searched
 abbrev pub task_of : StoredTask → Task
 task_of t = record { network = network t.graph t.weights; start = t.start.0; target = t.target.0; limit = t.limit }
+
+-- where an entry stands
+abbrev pub place_of : StoredPlace → Place
+place_of Settled = settled
+place_of Dropped = dropped
+place_of Waiting = waiting
 
 -- an event
 abbrev pub event_of : StoredEvent → Event

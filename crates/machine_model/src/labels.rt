@@ -1,7 +1,7 @@
-ghost use Rattle.std.specs.Prelude.{◌≡◌, ◌↔◌, ◌∷◌, IsTrue, IfSome, IfNone, OnOk, All, Any, Contains, IsPermutation};
+ghost use Rattle.std.specs.Prelude.{◌≡◌, ◌≢◌, ◌↔◌, ◌⊎◌, ◌∷◌, IsTrue, IfSome, IfNone, OnOk, All, Any, Contains, IsPermutation};
 ghost use Rattle.cost_vector.specs.Costs.{Dominates};
 ghost use Rattle.event_machine.specs.Machine.{IsSamePair, Beats};
-ghost use Rattle.event_machine.specs.Sets.{Gains, Loses, Replaces};
+ghost use Rattle.event_machine.specs.Sets.{Loses};
 ghost use Rattle.machine_model.specs.Views.{label_of, labels_of};
 
 use cost_vector::{Cost, Label, OutOfMemory};
@@ -48,6 +48,13 @@ pub(crate) fn any_beats(labels: &[Label], label: &Label) -> bool
     labels.iter().any(|other| beats(other, label))
 }
 
+/// Whether some label is of this label's node and cost.
+pub(crate) fn any_same(labels: &[Label], label: &Label) -> bool
+    ensures { IsTrue result ↔ Any (λ y. IsSamePair y (label_of label.now)) (labels_of labels.now) }
+{
+    labels.iter().any(|other| is_same_pair(other, label))
+}
+
 /// A label of this label's node and cost.
 pub(crate) fn find_same(labels: &[Label], label: &Label) -> Option<Label>
     ensures none { IfNone result
@@ -61,8 +68,8 @@ pub(crate) fn find_same(labels: &[Label], label: &Label) -> Option<Label>
 
 /// Adds the label.
 pub(crate) fn add(labels: &mut Vec<Label>, label: &Label) -> Result<(), OutOfMemory>
-    ensures { OnOk result (Gains
-        (labels_of labels.old.items) (label_of label.now) (labels_of labels.new.items)) }
+    ensures { OnOk result ((y : _) → Contains (labels_of labels.new.items) y
+        ↔ (Contains (labels_of labels.old.items) y ⊎ (y ≡ label_of label.now))) }
 {
     labels.push(*label)?;
     Ok(())
@@ -94,17 +101,19 @@ pub(crate) fn take_out_once(labels: &mut Vec<Label>, label: &Label)
     labels.remove(place);
 }
 
-/// Puts the label in the place of an entry, if that stands in the list.
+/// Takes an entry out, and adds the label, if that is to stand here.
 pub(crate) fn replace(
     labels: &mut Vec<Label>,
     entry: &Label,
     label: &Label,
+    is_here: bool,
 ) -> Result<(), OutOfMemory>
-    ensures { OnOk result (Replaces (labels_of labels.old.items)
-        (label_of entry.now) (label_of label.now) (labels_of labels.new.items)) }
+    ensures { OnOk result ((y : _) → Contains (labels_of labels.new.items) y
+        ↔ ((Contains (labels_of labels.old.items) y × (y ≢ label_of entry.now))
+        ⊎ (IsTrue is_here × (y ≡ label_of label.now)))) }
 {
-    if contains(labels, entry) {
-        take_out(labels, entry);
+    take_out(labels, entry);
+    if is_here {
         add(labels, label)?;
     }
     Ok(())

@@ -1,12 +1,20 @@
-ghost use Rattle.std.specs.Prelude.{◌≡◌, ◌↔◌, IsTrue, IfOk, IfSome, IfNone};
-ghost use Rattle.event_machine.specs.Machine.{start_state, IsSamePair, Beats, IsEntry, IsBeatenAtTarget};
+ghost use Rattle.std.specs.Prelude.{◌≡◌, ◌↔◌, IsTrue, IfOk, IfSome, IfNone, Contains};
+ghost use Rattle.event_machine.specs.Machine.{start_state, IsSamePair, Beats, entries_at, IsEntry, IsBeatenAtTarget};
 ghost use Rattle.event_machine.specs.Events.{May, MayTake, MayDrop};
 
-use crate::labels::{any_beats, any_dominates, contains, dominates, find_same};
+use crate::labels::{any_beats, any_dominates, any_same, contains, dominates, find_same};
 use crate::pairs::{any_pair_dominates, has_pair};
 use crate::{Event, Task};
 use cost_vector::{ArcNo, Cost, Label, OutOfMemory};
 use std::alloc::Global;
+
+/// Where an entry of a node stands.
+#[derive(Clone, Copy, Debug, PartialEq, Eq)]
+pub(crate) enum Place {
+    Settled,
+    Dropped,
+    Waiting,
+}
 
 /// Where a search stands.
 #[derive(Debug, Drop)]
@@ -21,7 +29,7 @@ pub struct State {
 }
 
 impl State {
-    ghost use Rattle.machine_model.specs.Views.{label_of, state_of, task_of, event_of};
+    ghost use Rattle.machine_model.specs.Views.{label_of, place_of, state_of, task_of, event_of};
     ghost use Rattle.machine_model.specs.Taking.{IsActiveBelow, IsForbidden};
 
     /// Where a search begins: the label of the walk without arcs waits.
@@ -84,7 +92,7 @@ impl State {
     {
         self.goes_on_below(&label.cost)
             || self.is_beaten_at_target(task, &label.cost)
-            || find_same(&self.candidates, label).is_some()
+            || any_same(&self.candidates, label)
     }
 
     /// Whether a label from which the search still goes on dominates the cost.
@@ -104,16 +112,22 @@ impl State {
         self.settled.iter().any(|entry| entry.node == task.target && dominates(&entry.cost, cost))
     }
 
-    /// An entry of the label's node and cost.
-    pub(crate) fn entry_like(&self, label: &Label) -> Option<Label>
+    /// An entry of the label's node and cost, and where it stands.
+    pub(crate) fn entry_like(&self, label: &Label) -> Option<(Place, Label)>
         ensures none { IfNone result
             ((y : _) → IsEntry (state_of self.now) y → ¬ IsSamePair y (label_of label.now)) }
-        ensures there { IfSome result (λ y. IsEntry (state_of self.now) (label_of y)) }
-        ensures same { IfSome result (λ y. IsSamePair (label_of y) (label_of label.now)) }
+        ensures there { IfSome result
+            (λ e. Contains (entries_at (state_of self.now) (place_of e.0)) (label_of e.1)) }
+        ensures same { IfSome result (λ e. IsSamePair (label_of e.1) (label_of label.now)) }
     {
-        find_same(&self.settled, label)
-            .or_else(|| find_same(&self.dropped, label))
-            .or_else(|| find_same(&self.waiting, label))
+        if let Some(entry) = find_same(&self.settled, label) {
+            return Some((Place::Settled, entry));
+        }
+        if let Some(entry) = find_same(&self.dropped, label) {
+            return Some((Place::Dropped, entry));
+        }
+        let entry = find_same(&self.waiting, label)?;
+        Some((Place::Waiting, entry))
     }
 
     /// Whether an entry beats the label.

@@ -1,11 +1,12 @@
-ghost use Rattle.std.specs.Prelude.{OnOk, Contains};
-ghost use Rattle.event_machine.specs.Machine.{LeadsOn};
+ghost use Rattle.std.specs.Prelude.{◌≡◌, ◌≢◌, ◌⊎◌, OnOk, Contains};
+ghost use Rattle.event_machine.specs.Machine.{settled, waiting, Beats, LeadsOn};
 ghost use Rattle.event_machine.specs.Events.{May, Happens, MayTake, Takes, MayDrop, Drops, Relaxes, Merges};
-ghost use Rattle.machine_model.specs.Views.{label_of, state_of, task_of, event_of, HasRoom, FitsEvent};
-ghost use Rattle.machine_model.specs.Changes.{PutsInPlace, Admits};
+ghost use Rattle.machine_model.specs.Views.{label_of, place_of, state_of, task_of, event_of, HasRoom, FitsEvent};
+ghost use Rattle.machine_model.specs.Changes.{Changes};
 
-use crate::labels::{add, replace, take_out, take_out_beaten, take_out_once};
+use crate::labels::{add, replace, take_out_beaten, take_out_once};
 use crate::pairs::{add_arcs, take_out_pair};
+use crate::state::Place;
 use crate::{Event, State, Task};
 use cost_vector::{ArcNo, Label, OutOfMemory};
 
@@ -31,9 +32,9 @@ impl State {
         ensures { OnOk result (Takes (task_of task.now)
             (state_of self.old) (label_of label.now) (state_of self.new)) }
     {
-        add(&mut self.settled, label)?;
-        take_out(&mut self.waiting, label);
-        add_arcs(&mut self.unrelaxed, task, label)
+        add_arcs(&mut self.unrelaxed, task, label)?;
+        self.put(label, label, Place::Settled)?;
+        Ok(())
     }
 
     /// Drops a waiting label.
@@ -42,8 +43,7 @@ impl State {
             → OnOk result (Drops task
             (state_of self.old) (label_of label.now) (state_of self.new)) }
     {
-        take_out(&mut self.waiting, label);
-        add(&mut self.dropped, label)
+        self.put(label, label, Place::Dropped)
     }
 
     /// Relaxes an arc from a settled label.
@@ -69,30 +69,33 @@ impl State {
         let beaten = self.beats(label);
         take_out_once(&mut self.candidates, label);
         match entry {
-            Some(entry) if entry.arc <= label.arc => Ok(()),
-            Some(entry) => self.lower(&entry, label),
+            Some((_, entry)) if entry.arc <= label.arc => Ok(()),
+            Some((place, entry)) => self.put(&entry, label, place),
             None if beaten => Ok(()),
             None => self.enter(label),
         }
     }
 
-    /// Puts a label in the place of an entry.
-    fn lower(&mut self, entry: &Label, label: &Label) -> Result<(), OutOfMemory>
-        ensures { OnOk result (PutsInPlace (state_of self.old)
-            (label_of entry.now) (label_of label.now) (state_of self.new)) }
+    /// Takes an entry out, wherever it stands, and puts a label at a place.
+    fn put(&mut self, entry: &Label, label: &Label, to: Place) -> Result<(), OutOfMemory>
+        ensures { OnOk result (Changes (state_of self.old) (λ _ y. y ≢ label_of entry.now)
+            (label_of label.now) (place_of to) (state_of self.new)) }
     {
-        replace(&mut self.settled, entry, label)?;
-        replace(&mut self.dropped, entry, label)?;
-        replace(&mut self.waiting, entry, label)
+        replace(&mut self.settled, entry, label, to == Place::Settled)?;
+        replace(&mut self.dropped, entry, label, to == Place::Dropped)?;
+        replace(&mut self.waiting, entry, label, to == Place::Waiting)?;
+        Ok(())
     }
 
     /// Lets a label wait in place of those that it beats.
     fn enter(&mut self, label: &Label) -> Result<(), OutOfMemory>
-        ensures { OnOk result (Admits
-            (state_of self.old) (label_of label.now) (state_of self.new)) }
+        ensures { OnOk result (Changes (state_of self.old)
+            (λ place y. (place ≡ settled) ⊎ (¬ Beats (label_of label.now) y))
+            (label_of label.now) waiting (state_of self.new)) }
     {
         take_out_beaten(&mut self.dropped, label);
         take_out_beaten(&mut self.waiting, label);
-        add(&mut self.waiting, label)
+        add(&mut self.waiting, label)?;
+        Ok(())
     }
 }

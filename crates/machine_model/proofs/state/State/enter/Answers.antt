@@ -1,19 +1,10 @@
-use Rattle.std.proofs.Common.{refl}
-use Rattle.std.proofs.lemmas.Result.{on_ok_weaker}
-use Rattle.std.specs.Prelude.{Contains}
-use Rattle.event_machine.specs.Machine.{Beats}
-use Rattle.machine_model.specs.Views.{label_of, labels_of}
-use Rattle.machine_model.proofs.SetsLemmas.{gains_on}
+use Rattle.std.proofs.Common.{refl, inl, inr}
+use Rattle.machine_model.proofs.ChangesLemmas.{changes_by_entering}
 use Rattle.machine_model.proofs.state.State.enter.Goals as goal
 
 pub returns : goal.returns
 returns c =
-    let x = label_of c.args.label.now in
-    on_ok_weaker c.add.result (λ gains. record {
-      settled = refl;
-      dropped = c.take_out_beaten.ensures;
-      waiting = gains_on (λ y. Contains (labels_of c.args.self.now.waiting.items) y × (¬ Beats x y)) (labels_of c.take_out_beaten-2.new.labels.items)
-          (labels_of c.add.new.labels.items) x c.take_out_beaten-2.ensures gains;
-      unrelaxed = refl;
-      candidates = refl;
-    }) c.add.ensures
+    changes_by_entering _ _ _ refl c.take_out_beaten.ensures (λ y. (
+      λ h. elim ((c.in_ok-add.ensures y).0 h) [ inl old ↦ inl ((c.take_out_beaten-2.ensures y).0 old) | inr new ↦ inr new ],
+      elim [ inl old ↦ (c.in_ok-add.ensures y).1 (inl ((c.take_out_beaten-2.ensures y).1 old)) | inr new ↦ (c.in_ok-add.ensures y).1 (inr new) ],
+    )) refl refl

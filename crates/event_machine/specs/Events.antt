@@ -114,6 +114,13 @@ pub record Merges (before : SearchState) (x : Label) (after : SearchState) : Typ
   pub unrelaxed : SameMembers after.unrelaxed before.unrelaxed
   pub entries : IsMerged before x after
 
+-- the event may happen
+abbrev pub May : Task → SearchState → Event → Type 0
+May task s (take l) = MayTake task s l
+May task s (drop l) = MayDrop task s l
+May task s (relax l k) = Contains s.unrelaxed (l, k) × LeadsOn task.network l.node k
+May task s (merge x) = Contains s.candidates x
+
 -- the event may happen in the state before, and leads to the state after
 abbrev pub Happens : Task → SearchState → Event → SearchState → Type 0
 Happens task before (take l) after = Takes task before l after

@@ -1,0 +1,7 @@
+pub mod ViewLemmas
+pub mod RetainLemmas
+pub mod PushLemmas
+pub mod TakingLemmas
+pub mod ArcsLemmas
+pub mod ChangesLemmas
+pub mod MergeLemmas

@@ -1,14 +1,15 @@
 -- What a joiner keeps when an arc of a later file comes.
 use Rattle.std.proofs.Common.{◌≡◌, ℕ, ◌+◌, ◌-◌, ◌^◌, ◌<◌, ◌≤◌, List, Option, length, get_or, set, arith, ◌∙◌, subst, sym}
-use Rattle.std.specs.List.{AllByRecursion}
+use Rattle.std.specs.Prelude.{All}
+use Rattle.std.proofs.lemmas.List.Elements.{All-get_or, All-set}
 use Rattle.std.proofs.lemmas.List.{length-set}
 use Rattle.arc_graph.specs.declared.join.OtherEnds.{OtherEnds}
 use Rattle.arc_graph.specs.Joining.{Joining, IsJoining}
 use Rattle.arc_graph.specs.Stored.{IsStored}
-use Rattle.arc_graph.proofs.Places.{all_after_set, all_at, stored_after_set}
+use Rattle.arc_graph.proofs.Places.{stored_after_set}
 
 pub joining_after_arc : (j : Joining) (vectors : List (List ℕ)) (told : Option OtherEnds) → 2 ≤ j.begun → j.come < j.due_arcs → length vectors ≡ length j.ends
-    → AllByRecursion (IsStored j.begun) vectors → IsJoining j → IsJoining (record j { vectors = vectors; come = j.come + 1; other_ends = told })
+    → All (IsStored j.begun) vectors → IsJoining j → IsJoining (record j { vectors = vectors; come = j.come + 1; other_ends = told })
 joining_after_arc j vectors told later due matched stored kept = record {
   files = kept.files;
   come = omega arith;
@@ -30,7 +31,7 @@ pub joining_after_weight : (j : Joining) (places : List ℕ) (x : ℕ) (told : O
     → IsJoining (record j { vectors = set j.vectors j.come (set places (j.begun - 1) x); come = j.come + 1; other_ends = told })
 joining_after_weight j places x told later due there small at kept =
     let Stored : List ℕ → Type 0 = IsStored j.begun in
-    let stored : Stored places = subst Stored (sym at) (all_at Stored j.vectors j.come places kept.stored (omega (arith, kept.matched))) in
+    let stored : Stored places = subst Stored (sym at) (All-get_or Stored j.vectors j.come places (omega (arith, kept.matched)) kept.stored) in
     let written = set places (j.begun - 1) x in
     joining_after_arc j (set j.vectors j.come written) told later due (length-set j.vectors j.come written ∙ kept.matched)
-    (all_after_set Stored j.vectors j.come written kept.stored (stored_after_set j.begun places x (omega arith) small stored)) kept
+    (All-set Stored j.vectors j.come written (stored_after_set j.begun places x (omega arith) small stored) kept.stored) kept

@@ -1,7 +1,6 @@
 pub mod Places
 pub mod JoiningLemmas
-pub mod Least
-pub mod Gets
+pub mod OtherEndsLemmas
 pub mod SizeLemmas
 pub mod WeightLemmas
 pub mod EndsLemmas
@@ -12,11 +11,4 @@ pub mod JoinedLemmas
 pub mod ChainLemmas
 pub mod LayoutLemmas
 pub mod GraphLemmas
-pub mod ListLaws
-pub mod WalkLaws
 pub mod RelaxLaws
-pub mod SumLaws
-mod Reached
-pub mod BestLaws
-pub mod BackwardLaws
-pub mod AnswerLaws

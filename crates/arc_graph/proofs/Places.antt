@@ -1,7 +1,8 @@
 -- The four places of an arc: what they say, and what stays when one is written.
 use Rattle.std.proofs.Common.{◌≡◌, ℕ, ◌+◌, ◌^◌, ◌<◌, ◌≤◌, zero, suc, true, false, cond, List, [], ◌∷◌, Some, None, IfSome, length, take, sum, get_or, arith, ap, subst, sym, ◌∙◌, ◌-◌, refl, Bool, set, length-set, get_or-set_other, ◌≢◌}
 use Rattle.std.specs.Prelude.{nat_eq, replicate, slice_index, slice_get}
-use Rattle.std.specs.List.{AllByRecursion}
+use Rattle.std.specs.Prelude.{All}
+use Rattle.std.proofs.lemmas.List.Elements.{All-take, All-set, All-get_or, All-map, All-weaker}
 use Rattle.std.specs.Cmp.Lexicographic.{pointwise}
 use Rattle.std.proofs.lemmas.List.{length-take}
 use Rattle.std.proofs.lemmas.List.Sums.{sum_by-cons}
@@ -18,12 +19,6 @@ nonzero_four (suc a) b x y h = omega arith
 nonzero_four zero (suc b) x y h = omega arith
 nonzero_four zero zero (suc x) y h = omega arith
 nonzero_four zero zero zero (suc y) h = omega arith
-
--- what P holds of all, it holds of the first ones
-pub all_of_front : {X : Type 0} (P : X → Type 0) (n : ℕ) (xs : List X) → AllByRecursion P xs → AllByRecursion P (take n xs)
-all_of_front P zero xs h = tt
-all_of_front P (suc n) [] h = tt
-all_of_front P (suc n) (x ∷ xs) h = (h.0, all_of_front P n xs h.1)
 
 -- what lies past the front adds nothing
 pub sum_front : (n : ℕ) (xs : List ℕ) → ((i : ℕ) → n ≤ i → slice_index xs i ≡ 0) → sum (take n xs) ≡ sum xs
@@ -55,27 +50,20 @@ vector_in criteria (a ∷ b ∷ x ∷ y ∷ []) most stored =
 vector_in criteria (a ∷ b ∷ x ∷ y ∷ z ∷ more) most stored = absurd (omega (arith, stored.four))
 
 -- its weights have 32 bits
-pub small_in : (criteria : ℕ) (places : List ℕ) → IsStored criteria places → IfSome (state_in criteria places) (AllByRecursion (λ x. x < 2 ^ 32))
+pub small_in : (criteria : ℕ) (places : List ℕ) → IsStored criteria places → IfSome (state_in criteria places) (All (λ x. x < 2 ^ 32))
 small_in criteria places stored =
     let Small : ℕ → Type 0 = λ x. x < 2 ^ 32 in
-    let from_test : (t : Bool) → IfSome (cond t None (Some (take criteria places))) (AllByRecursion Small) =
-    elim [ true ↦ tt | false ↦ all_of_front Small criteria places stored.small ] in from_test (pointwise nat_eq places (replicate 4 0))
+    let from_test : (t : Bool) → IfSome (cond t None (Some (take criteria places))) (All Small) =
+    elim [ true ↦ tt | false ↦ All-take Small criteria places stored.small ] in from_test (pointwise nat_eq places (replicate 4 0))
 
 -- the same of all arcs
 pub states_in : (criteria : ℕ) (vectors : List (List ℕ)) → AreStored criteria vectors
     → AreStates (record { criteria = criteria; states = states_of criteria vectors })
 states_in criteria vectors stored = record {
-  vectors = each_in vectors stored.each;
-  small = small_each vectors stored.each;
-} where
-  each_in : (vs : List (List ℕ)) → AllByRecursion (IsStored criteria) vs → AllByRecursion (λ s. IfSome s (IsVector criteria)) (states_of criteria vs)
-  each_in [] h = tt
-  each_in (v ∷ vs) h = (vector_in criteria v stored.four h.0, each_in vs h.1)
-
-  small_each : (vs : List (List ℕ)) → AllByRecursion (IsStored criteria) vs
-      → AllByRecursion (λ s. IfSome s (AllByRecursion (λ x. x < 2 ^ 32))) (states_of criteria vs)
-  small_each [] h = tt
-  small_each (v ∷ vs) h = (small_in criteria v h.0, small_each vs h.1)
+  vectors = All-map (λ s. IfSome s (IsVector criteria)) (state_in criteria) vectors
+      (All-weaker (IsStored criteria) _ (λ v. vector_in criteria v stored.four) vectors stored.each);
+  small = All-map (λ s. IfSome s (All (λ x. x < 2 ^ 32))) (state_in criteria) vectors (All-weaker (IsStored criteria) _ (small_in criteria) vectors stored.each);
+}
 
 length_states : (criteria : ℕ) (vectors : List (List ℕ)) → length (states_of criteria vectors) ≡ length vectors
 length_states criteria [] = refl
@@ -101,23 +89,11 @@ state_by_places criteria vectors w a places t view counted there at test =
     ∙ ap (state_in criteria) (sym at)
     ∙ ap (λ b. cond b None (Some (take criteria places))) test
 
--- P holds of all still, where it holds of the element that is written
-pub all_after_set : {X : Type 0} (P : X → Type 0) (xs : List X) (i : ℕ) (x : X) → AllByRecursion P xs → P x → AllByRecursion P (set xs i x)
-all_after_set P [] i x all new = tt
-all_after_set P (y ∷ ys) zero x all new = (new, all.1)
-all_after_set P (y ∷ ys) (suc i) x all new = (all.0, all_after_set P ys i x all.1 new)
-
--- what P holds of all, it holds of the element at a place
-pub all_at : {X : Type 0} (P : X → Type 0) (xs : List X) (i : ℕ) (d : X) → AllByRecursion P xs → i < length xs → P (get_or xs i d)
-all_at P [] i d all h = absurd (omega arith)
-all_at P (x ∷ xs) zero d all h = all.0
-all_at P (x ∷ xs) (suc i) d all h = all_at P xs i d all.1 (omega arith)
-
 -- the place of a file is written
 pub stored_after_set : (files : ℕ) (places : List ℕ) (x : ℕ) → 1 ≤ files → x < 2 ^ 32 → IsStored files places → IsStored files (set places (files - 1) x)
 stored_after_set files places x some small stored = record {
   four = length-set places (files - 1) x ∙ stored.four;
-  small = all_after_set (λ n. n < 2 ^ 32) places (files - 1) x stored.small small;
+  small = All-set (λ n. n < 2 ^ 32) places (files - 1) x small stored.small;
   filler = λ i past. let apart : i ≢ files - 1 = omega arith in get_or-set_other places (files - 1) i x 0 apart ∙ stored.filler i past;
 }
 
@@ -125,12 +101,12 @@ stored_after_set files places x some small stored = record {
 pub vector_found : (criteria : ℕ) (vectors : List (List ℕ)) (w : States) (a : ℕ) (places : List ℕ) (v : List ℕ)
     → record { criteria = criteria; states = states_of criteria vectors } ≡ w → AreStored criteria vectors → a < length w.states
     → places ≡ get_or vectors a places → pointwise nat_eq places (replicate 4 0) ≡ false → v ≡ take criteria places
-    → IsVector w.criteria v × AllByRecursion (λ x. x < 2 ^ 32) v
+    → IsVector w.criteria v × All (λ x. x < 2 ^ 32) v
 vector_found criteria vectors w a places v view stored there at test is_front =
     let same : length w.states ≡ length (states_of criteria vectors) = ap (λ (s : States). length s.states) (sym view) in
     let here : IsStored criteria places =
-    subst (IsStored criteria) (sym at) (all_at (IsStored criteria) vectors a places stored.each (omega (arith, same, length_states criteria vectors))) in
+    subst (IsStored criteria) (sym at) (All-get_or (IsStored criteria) vectors a places (omega (arith, same, length_states criteria vectors)) stored.each) in
     let found : state_in criteria places ≡ Some v = ap (λ b. cond b None (Some (take criteria places))) test ∙ ap Some (sym is_front) in (
       subst (λ n. IsVector n v) (ap (λ (s : States). s.criteria) view) (subst (λ s. IfSome s (IsVector criteria)) found (vector_in criteria places stored.four here)),
-      subst (λ s. IfSome s (AllByRecursion (λ x. x < 2 ^ 32))) found (small_in criteria places here),
+      subst (λ s. IfSome s (All (λ x. x < 2 ^ 32))) found (small_in criteria places here),
     )

@@ -1,16 +1,17 @@
 -- What relaxing gives: exactly the labels of the arcs that lead on.
-use Rattle.std.proofs.Common.{◌≡◌, ℕ, zero, suc, ◌+◌, ◌-◌, ◌<◌, length, get_or, true, false, cond, List, [], ◌∷◌, Option, Some, None, IfSome, refl, sym, ap, subst, ◌∙◌, inl, inr, eq-eqb, arith}
+use Rattle.std.proofs.Common.{◌≡◌, ℕ, zero, suc, ◌+◌, ◌-◌, ◌^◌, ◌<◌, length, get_or, true, false, cond, List, [], ◌∷◌, Option, Some, None, IfSome, refl, sym, ap, subst, ◌∙◌, inl, inr, eq-eqb, arith}
 use Rattle.std.specs.Prelude.{nat_eq, slice_get}
-use Rattle.std.specs.List.{AllByRecursion}
+use Rattle.std.specs.Prelude.{All, Contains}
+use Rattle.std.proofs.lemmas.List.Elements.{All-nil, All-cons, All-head, All-tail, Contains-get_or}
 use Rattle.std.specs.Option.{option_and_then}
 use Rattle.std.proofs.lemmas.Bool.{cases_Bool, eqb-true}
 use Rattle.cost_vector.specs.declared.label.ArcNo.{ArcNo}
 use Rattle.cost_vector.specs.declared.label.Label.{Label}
 use Rattle.cost_vector.specs.Costs.{plus}
-use Rattle.arc_graph.specs.Lists.{IsIn}
 use Rattle.road_network.specs.Network.{IsNetwork, IsVector, Leads}
 use Rattle.arc_graph.specs.Graph.{Arcs, States, IsGraph, AreStates, Match, network, numbers_from, Fits, SumsFit, label_over, label_by, relaxed, state_of, ComesOf}
-use Rattle.arc_graph.proofs.ListLaws.{in_at, in_filter_map, of_filter_map}
+use Rattle.road_network.proofs.SumLaws.{small_by}
+use Rattle.list_laws.proofs.Members.{in_none, in_front, in_rest, cases_in, in_filter_map, of_filter_map}
 
 -- a graph and states that match it are a network
 pub network_of : (g : Arcs) (w : States) → IsGraph g → AreStates w → Match g w → IsNetwork (network g w)
@@ -20,25 +21,25 @@ network_of g w graph states matched = record {
   tails = graph.tails;
   heads = graph.heads;
   matched = matched.arcs;
-  vectors = subst (λ d. AllByRecursion (λ s. IfSome s (IsVector d)) w.states) matched.criteria states.vectors;
+  vectors = subst (λ d. All (λ s. IfSome s (IsVector d)) w.states) matched.criteria states.vectors;
 }
 
 -- ---- the numbers of the arcs with a tail
 
-in_numbers : (k : ℕ) (es : List (ℕ × ℕ)) (tail i head : ℕ) → slice_get es i ≡ Some (tail, head) → IsIn (record { 0 = k + i }) (numbers_from k es tail)
+in_numbers : (k : ℕ) (es : List (ℕ × ℕ)) (tail i head : ℕ) → slice_get es i ≡ Some (tail, head) → Contains (numbers_from k es tail) (record { 0 = k + i })
 in_numbers k [] tail i head e = cc
 in_numbers k (x ∷ es) tail zero head e =
     let same : x.0 ≡ tail = ap (λ (o : Option (ℕ × ℕ)). first o) e in
-    rw (eq-eqb x.0 tail same) (inl (ap (λ (n : ℕ). record { 0 = n }) (omega arith))) where
+    rw (eq-eqb x.0 tail same) (in_front _ _ _ (ap (λ (n : ℕ). record { 0 = n }) (omega arith))) where
       first : Option (ℕ × ℕ) → ℕ
       first None = tail
       first (Some p) = p.0
 in_numbers k (x ∷ es) tail (suc i) head e =
     let place : k + 1 + i ≡ k + suc i = omega arith in
-    let rest : IsIn (record { 0 = k + suc i }) (numbers_from (k + 1) es tail) =
-    subst (λ n. IsIn (record { 0 = n }) (numbers_from (k + 1) es tail)) place (in_numbers (k + 1) es tail i head e) in
-    elim (nat_eq x.0 tail) as (λ t. IsIn (record { 0 = k + suc i }) (cond t (record { 0 = k } ∷ numbers_from (k + 1) es tail) (numbers_from (k + 1) es tail)))
-    [ true ↦ inr rest | false ↦ rest ]
+    let more = numbers_from (k + 1) es tail in
+    let rest : Contains more (record { 0 = k + suc i }) = subst (λ n. Contains more (record { 0 = n })) place (in_numbers (k + 1) es tail i head e) in
+    elim (nat_eq x.0 tail) as (λ t. Contains (cond t (record { 0 = k } ∷ more) more) (record { 0 = k + suc i }))
+    [ true ↦ in_rest (record { 0 = k }) more (record { 0 = k + suc i }) rest | false ↦ rest ]
 
 -- the place of an arc in the list, and the arc there
 record StandsAt (k : ℕ) (es : List (ℕ × ℕ)) (tail : ℕ) (a : ArcNo) : Type 0 where
@@ -50,12 +51,12 @@ record StandsAt (k : ℕ) (es : List (ℕ × ℕ)) (tail : ℕ) (a : ArcNo) : Ty
 later : (k : ℕ) (x : ℕ × ℕ) (es : List (ℕ × ℕ)) (tail : ℕ) (a : ArcNo) → StandsAt (k + 1) es tail a → StandsAt k (x ∷ es) tail a
 later k x es tail a rest = record { place = suc rest.place; head = rest.head; number = rest.number ∙ (omega arith); ends = rest.ends }
 
-of_numbers : (k : ℕ) (es : List (ℕ × ℕ)) (tail : ℕ) (a : ArcNo) → IsIn a (numbers_from k es tail) → StandsAt k es tail a
-of_numbers k [] tail a h = absurd h
+of_numbers : (k : ℕ) (es : List (ℕ × ℕ)) (tail : ℕ) (a : ArcNo) → Contains (numbers_from k es tail) a → StandsAt k es tail a
+of_numbers k [] tail a h = absurd (in_none a h)
 of_numbers k (x ∷ es) tail a h = elim (cases_Bool (nat_eq x.0 tail)) [
   | inr other ↦ later k x es tail a (of_numbers (k + 1) es tail a (rw other at h))
-  | inl same ↦ let first_or_more : IsIn a (record { 0 = k } ∷ numbers_from (k + 1) es tail) = rw same at h in
-      elim first_or_more [
+  | inl same ↦ let first_or_more : Contains (record { 0 = k } ∷ numbers_from (k + 1) es tail) a = rw same at h in
+      elim (cases_in (record { 0 = k }) (numbers_from (k + 1) es tail) a first_or_more) [
         | inl first ↦ record {
           place = 0;
           head = x.1;
@@ -74,7 +75,7 @@ fits_along g w u c arcs i d fits all within = by_state (slice_get w.states (a.0 
   a = get_or arcs i d
 
   at : StandsAt 1 g.ends u a
-  at = of_numbers 1 g.ends u a (subst (IsIn a) all (in_at arcs i d within))
+  at = of_numbers 1 g.ends u a (subst (λ ns. Contains ns a) all (Contains-get_or arcs i d within))
 
   ends : slice_get g.ends (a.0 - 1) ≡ Some (u, at.head)
   ends = let place : at.place ≡ a.0 - 1 = omega (arith, at.number) in subst (λ n. slice_get g.ends n ≡ Some (u, at.head)) place at.ends
@@ -89,18 +90,18 @@ fits_along g w u c arcs i d fits all within = by_state (slice_get w.states (a.0 
 module _ (g : Arcs) (w : States) (u : ℕ) (c : List ℕ) where
   -- each arc that leads on gives a label
   pub label_in : (k v : ℕ) (y : List ℕ) → Leads (network g w) k u y v
-      → IsIn (label_over k v c y) (relaxed g w u c)
+      → Contains (relaxed g w u c) (label_over k v c y)
   label_in k v y arc =
       let a : ArcNo = record { 0 = k } in
       let number : 1 + (k - 1) ≡ k = omega (arith, arc.counted) in
-      let there : IsIn a (numbers_from 1 g.ends u) =
-      subst (λ n. IsIn (record { 0 = n }) (numbers_from 1 g.ends u)) number (in_numbers 1 g.ends u (k - 1) v arc.ends) in
-      in_filter_map (label_by g w c) a _ (numbers_from 1 g.ends u) there (rw (arc.ends, arc.passable) refl)
+      let there : Contains (numbers_from 1 g.ends u) a =
+      subst (λ n. Contains (numbers_from 1 g.ends u) (record { 0 = n })) number (in_numbers 1 g.ends u (k - 1) v arc.ends) in
+      in_filter_map (label_by g w c) (numbers_from 1 g.ends u) a _ there (rw (arc.ends, arc.passable) refl)
 
   -- and there are no others
-  pub label_of : (l : Label) → IsIn l (relaxed g w u c) → ComesOf g w u c l
+  pub label_of : (l : Label) → Contains (relaxed g w u c) l → ComesOf g w u c l
   label_of l h =
-      let from = of_filter_map (label_by g w c) l (numbers_from 1 g.ends u) h in
+      let from = of_filter_map (label_by g w c) (numbers_from 1 g.ends u) l h in
       let at = of_numbers 1 g.ends u from.0 from.1 in
       let place : at.place ≡ from.0.0 - 1 = omega (arith, at.number) in
       let ends : slice_get g.ends (from.0.0 - 1) ≡ Some (u, at.head) = subst (λ i. slice_get g.ends i ≡ Some (u, at.head)) place at.ends in
@@ -118,3 +119,19 @@ module _ (g : Arcs) (w : States) (u : ℕ) (c : List ℕ) where
               leads = subst (λ (m : Label). Leads (network g w) m.arc.0 u y m.node.0) same arc;
               cost = ap (λ (m : Label). m.cost) (sym same);
             }
+
+-- ---- sums
+
+-- a cost below 2^58 leaves room for one more vector
+sum_fits : (c w : List ℕ) → All (λ x. x < 2 ^ 58) c → All (λ x. x < 2 ^ 32) w → Fits (plus c w)
+sum_fits [] w below small = All-nil (λ n. n < 2 ^ 64)
+sum_fits (x ∷ xs) [] below small = All-nil (λ n. n < 2 ^ 64)
+sum_fits (x ∷ xs) (y ∷ ys) below small =
+    let first = All-head (λ n. n < 2 ^ 58) x xs below in
+    let added = All-head (λ n. n < 2 ^ 32) y ys small in
+    All-cons (λ n. n < 2 ^ 64) (x + y) (plus xs ys) (omega (arith, first, added))
+    (sum_fits xs ys (All-tail (λ n. n < 2 ^ 58) x xs below) (All-tail (λ n. n < 2 ^ 32) y ys small))
+
+-- so all that relaxing adds to it fits
+pub sums_fit : (g : Arcs) (w : States) (u : ℕ) (c : List ℕ) → AreStates w → All (λ x. x < 2 ^ 58) c → SumsFit g w u c
+sums_fit g w u c states below = λ k v by arc. sum_fits c by below (small_by (network g w) states.small k u v by arc)

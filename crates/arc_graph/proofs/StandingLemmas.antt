@@ -11,6 +11,7 @@ use Rattle.arc_graph.specs.Joining.{Joining, IsJoining}
 use Rattle.list_laws.specs.Least.{IsLeastIfAny}
 use Rattle.arc_graph.specs.StandsFor.{StandsFor, sizes_said}
 use Rattle.arc_graph.specs.Faults.{AreLeastIfAny, IsEarlier}
+use Rattle.std.proofs.lemmas.List.Elements.{All-get_or}
 use Rattle.list_laws.proofs.Gets.{get_in_push, get_added}
 use Rattle.list_laws.proofs.Least.{Adds, least_same, least_without, least_or}
 use Rattle.arc_graph.proofs.OtherEndsLemmas.{AddsPair, pair_same, pair_if, pair_without, pair_earlier}
@@ -20,7 +21,7 @@ use Rattle.arc_graph.proofs.EndsLemmas.{HasOther, adds_arc, arc_at, ends_read, n
 use Rattle.arc_graph.specs.declared.graph.Ends.{Ends}
 use Rattle.arc_graph.specs.Layout.{pair_of}
 use Rattle.arc_graph.specs.Stored.{IsStored}
-use Rattle.arc_graph.proofs.Places.{all_at}
+use Rattle.arc_graph.proofs.Places.{}
 use Rattle.arc_graph.proofs.WeightLemmas.{vector_with_new, vectors_with_first, vector_elsewhere, vectors_with_weight}
 use Rattle.arc_graph.proofs.SizeLemmas.{adds_size, no_other_size}
 
@@ -154,7 +155,7 @@ begin_later j (first ∷ others) nodes arcs told kept some room stands least =
       ends = stands.ends;
       weights = λ place within.
           vector_with_new files nodes j.begun place (get_or j.vectors place []) room
-          (all_at (IsStored j.begun) j.vectors place [] kept.stored (omega (arith, kept.matched))) (stands.weights place within);
+          (All-get_or (IsStored j.begun) j.vectors place [] (omega (arith, kept.matched)) kept.stored) (stands.weights place within);
       other_size = subst (λ said. IsLeastIfAny (IsOtherSize said) told) (sym (said_last begun files new (omega (arith, stands.begun)))) least;
       other_ends = pair_same (DiffersInEnds files) (DiffersInEnds (files ++ new ∷ [])) j.other_ends (ends_with_new first new others)
           (λ a f d. ends_before_new first new others a f refl d) stands.other_ends;
@@ -233,7 +234,7 @@ pub arc_within : (j : Joining) (front : List Contents) (last : Contents) (a : Ar
 arc_within j front last a v told kept later within read stands least =
     let has = last_has j front last stands in
     let there : j.come < length j.vectors = omega (arith, kept.matched) in
-    let stored : IsStored j.begun v = subst (IsStored j.begun) (sym read) (all_at (IsStored j.begun) j.vectors j.come v kept.stored there) in
+    let stored : IsStored j.begun v = subst (IsStored j.begun) (sym read) (All-get_or (IsStored j.begun) j.vectors j.come v there kept.stored) in
     let next : j.begun - 1 + 1 ≡ j.begun = omega arith in
     let old = λ (p : ℕ) (w : p < length j.vectors).
     subst (λ n. take n (get_or j.vectors p []) ≡ vector_at (front ++ last ∷ []) p) (sym next) (stands.weights p (omega (arith, kept.matched))) in

@@ -1,15 +1,17 @@
 -- Which arcs have only zero weights, and what network the others make.
 use Rattle.std.proofs.Common.{◌≡◌, ℕ, ◌+◌, ◌-◌, ◌<◌, ◌≤◌, zero, suc, true, false, List, [], ◌∷◌, ◌∙◌}
-use Rattle.std.proofs.Common.{Option, Some, None, Bool, cond, length, sum, get_or, nat_lt, inl, inr, arith, sym, subst, ap, refl}
+use Rattle.std.proofs.Common.{Option, Some, None, Bool, length, sum, get_or, inl, inr, arith, sym, subst, ap, refl}
 use Rattle.std.specs.Prelude.{slice_get, position, nat_eq, replicate, IsSomeAnd}
 use Rattle.std.specs.Bool.{MatchBool}
 use Rattle.std.specs.Cmp.Lexicographic.{pointwise}
-use Rattle.std.specs.List.{AllByRecursion, position_or_len}
+use Rattle.std.specs.Prelude.{All}
+use Rattle.std.proofs.lemmas.List.Elements.{All-nil, All-cons, All-head, All-tail, All-get_or}
+use Rattle.list_laws.proofs.Gets.{all_from_get, is_some_within, position_none}
 use Rattle.std.specs.Option.{option_map, option_map_or}
-use Rattle.std.proofs.lemmas.Bool.{ltb-false, eqb-true, and_parts, cases_eq, true≢false, MatchBool-at_true}
+use Rattle.std.proofs.lemmas.Bool.{eqb-true, and_parts, cases_eq, true≢false, MatchBool-at_true}
 use Rattle.std.proofs.lemmas.List.{length-map}
 use Rattle.std.proofs.lemmas.List.Quantifiers.{position-Some}
-use Rattle.std.proofs.lemmas.List.Sums.{sum_by-cons, fails_before_first}
+use Rattle.std.proofs.lemmas.List.Sums.{sum_by-cons}
 use Rattle.std.proofs.lemmas.Option.{slice_get-map}
 use Rattle.arc_graph.specs.declared.file.ArcLine.{ArcLine}
 use Rattle.arc_graph.specs.Files.{Contents, size_of, ends_of}
@@ -18,7 +20,7 @@ use Rattle.arc_graph.specs.Joining.{Joining, IsJoining}
 use Rattle.list_laws.specs.Least.{IsLeastWith}
 use Rattle.arc_graph.specs.StandsFor.{StandsFor}
 use Rattle.arc_graph.specs.Stored.{IsStored, is_zero}
-use Rattle.arc_graph.proofs.Places.{all_at, nonzero_four, sum_front}
+use Rattle.arc_graph.proofs.Places.{nonzero_four, sum_front}
 
 abbrev is_zeros : List ℕ → Bool
 is_zeros xs = pointwise nat_eq xs (replicate (length xs) 0)
@@ -47,21 +49,19 @@ weight_of (Some arc) is = is
 weight_of None is = absurd is
 
 -- a vector adds up to 0 exactly where each file's weight is 0
-all_zero : (files : List Contents) (place : ℕ) → AllByRecursion (λ f. place < length f.arcs) files → sum (vector_at files place) ≡ 0
-    → AllByRecursion (HasZero place) files
-all_zero [] place have none = tt
+all_zero : (files : List Contents) (place : ℕ) → All (λ f. place < length f.arcs) files → sum (vector_at files place) ≡ 0
+    → All (HasZero place) files
+all_zero [] place have none = All-nil (HasZero place)
 all_zero (f ∷ fs) place have none =
     let parts = sum_by-cons (λ n. n) (weight_at place f) (vector_at fs place) in
-    (zero_of f.arcs place have.0 (omega (arith, parts)), all_zero fs place have.1 (omega (arith, parts)))
+    All-cons (HasZero place) f fs (zero_of f.arcs place (All-head (λ g. place < length g.arcs) f fs have) (omega (arith, parts)))
+    (all_zero fs place (All-tail (λ g. place < length g.arcs) f fs have) (omega (arith, parts)))
 
-none_left : (files : List Contents) (place : ℕ) → AllByRecursion (HasZero place) files → sum (vector_at files place) ≡ 0
+none_left : (files : List Contents) (place : ℕ) → All (HasZero place) files → sum (vector_at files place) ≡ 0
 none_left [] place zeros = refl
 none_left (f ∷ fs) place zeros =
-    omega (arith, sum_by-cons (λ n. n) (weight_at place f) (vector_at fs place), weight_of (slice_get f.arcs place) zeros.0, none_left fs place zeros.1)
-
-all_from_get : {X : Type 0} (P : X → Type 0) (xs : List X) → ((i : ℕ) (x : X) → slice_get xs i ≡ Some x → P x) → AllByRecursion P xs
-all_from_get P [] each = tt
-all_from_get P (x ∷ xs) each = (each 0 x refl, all_from_get P xs (λ i y at. each (suc i) y at))
+    let first = weight_of (slice_get f.arcs place) (All-head (HasZero place) f fs zeros) in
+    omega (arith, sum_by-cons (λ n. n) (weight_at place f) (vector_at fs place), first, none_left fs place (All-tail (HasZero place) f fs zeros))
 
 -- files that agree in size have as many arcs
 same_arcs : (first : Contents) (others : List Contents) → AgreeInSize (first ∷ others)
@@ -89,36 +89,25 @@ pub zero_at : (j : Joining) (first : Contents) (others : List Contents) (place :
 zero_at j first others place kept stands sizes within =
     let files = first ∷ others in
     let v = get_or j.vectors place [] in
-    let stored : IsStored j.begun v = all_at (IsStored j.begun) j.vectors place [] kept.stored (omega (arith, kept.matched)) in
+    let stored : IsStored j.begun v = All-get_or (IsStored j.begun) j.vectors place [] (omega (arith, kept.matched)) kept.stored in
     let total : sum v ≡ sum (vector_at files place) = sym (sum_front j.begun v stored.filler) ∙ ap sum (stands.weights place within) in
     let count : length j.ends ≡ length first.arcs = ap length (stands.ends first refl) ∙ length-map first.arcs ends_of in
-    let have : AllByRecursion (λ f. place < length f.arcs) files =
+    let have : All (λ f. place < length f.arcs) files =
     all_from_get (λ f. place < length f.arcs) files (λ i f at. let same = same_arcs first others sizes i f at in omega arith) in
     let here : place ≡ place + 1 - 1 = omega arith in
     by_test (is_zero v)
-    (λ none. record { counted = omega arith; zero = subst (λ p. AllByRecursion (HasZero p) files) here (all_zero files place have (sym total ∙ none)) })
-    (λ some only. let none = none_left files place (subst (λ p. AllByRecursion (HasZero p) files) (sym here) only.zero) in omega (arith, some, total, none))
+    (λ none. record { counted = omega arith; zero = subst (λ p. All (HasZero p) files) here (all_zero files place have (sym total ∙ none)) })
+    (λ some only. let none = none_left files place (subst (λ p. All (HasZero p) files) (sym here) only.zero) in omega (arith, some, total, none))
     (four_sum v (is_zero v) stored.four refl) where
       by_test : (t : Bool) {P Q Z : Type 0} → (P → Z) → (Q → ¬ Z) → MatchBool t P Q → MatchBool t Z (¬ Z)
       by_test true to out is = to is
       by_test false to out is = out is
 
-position_none : {X : Type 0} (p : X → Bool) (xs : List X) (d : X) → position p xs ≡ None → (k : ℕ) → k < length xs → p (get_or xs k d) ≡ false
-position_none p xs d none k within = by_test (nat_lt (position_or_len p xs) (length xs)) refl none where
-  by_test : (t : Bool) → nat_lt (position_or_len p xs) (length xs) ≡ t → cond t (Some (position_or_len p xs)) None ≡ None → p (get_or xs k d) ≡ false
-  by_test true test is = absurd cc
-  by_test false test is = let past = ltb-false (position_or_len p xs) (length xs) test in fails_before_first p xs k d (omega arith)
-
-is_some_within : {X : Type 0} (P : X → Type 0) (xs : List X) (i : ℕ) → IsSomeAnd (slice_get xs i) P → i < length xs
-is_some_within P [] i is = absurd is
-is_some_within P (x ∷ xs) zero is = omega arith
-is_some_within P (x ∷ xs) (suc i) is = let rest = is_some_within P xs i is in omega arith
-
 -- an arc with only zero weights is one of the first file's, and the test tells of it
 told_zero : (j : Joining) (first : Contents) (others : List Contents) (a : ℕ) → IsJoining j → StandsFor j (first ∷ others) → AgreeInSize (first ∷ others)
     → IsZeroArc (first ∷ others) a → (a - 1 < length j.vectors) × (is_zero (get_or j.vectors (a - 1) []) ≡ true)
 told_zero j first others a kept stands sizes only =
-    let inside = is_some_within _ first.arcs (a - 1) only.zero.0 in
+    let inside = is_some_within _ first.arcs (a - 1) (All-head (HasZero (a - 1)) first others only.zero) in
     let count : length j.ends ≡ length first.arcs = ap length (stands.ends first refl) ∙ length-map first.arcs ends_of in
     let there : a - 1 < length j.ends = omega arith in
     let here : a ≡ a - 1 + 1 = omega (arith, only.counted) in

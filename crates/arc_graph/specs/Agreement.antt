@@ -1,6 +1,6 @@
 -- When files list the same arcs with different weights, and what network they then say.
-use Rattle.std.specs.Prelude.{◌≡◌, ◌≢◌, ℕ, ◌-◌, ◌≤◌, ◌⊎◌, List, [], ◌∷◌, Some, IsSomeAnd, length, map, slice_get}
-use Rattle.std.specs.List.{AllByRecursion, enumerate_from}
+use Rattle.std.specs.Prelude.{◌≡◌, ◌≢◌, ℕ, ◌-◌, ◌≤◌, ◌⊎◌, List, [], ◌∷◌, Some, IsSomeAnd, length, map, slice_get, All}
+use Rattle.std.specs.List.{enumerate_from}
 use Rattle.std.specs.Option.{option_map_or}
 use Rattle.arc_graph.specs.declared.file.ArcLine.{ArcLine}
 use Rattle.arc_graph.specs.declared.join.JoinFault.{JoinFault}
@@ -41,7 +41,7 @@ pub record DiffersInEnds (files : List Contents) (a f : ℕ) : Type 0 where
 -- the weight of arc a is 0 in every file
 pub record IsZeroArc (files : List Contents) (a : ℕ) : Type 0 where
   pub counted : 1 ≤ a
-  pub zero : AllByRecursion (λ f. IsSomeAnd (slice_get f.arcs (a - 1)) (λ arc. arc.weight ≡ 0)) files
+  pub zero : All (λ f. IsSomeAnd (slice_get f.arcs (a - 1)) (λ arc. arc.weight ≡ 0)) files
 
 -- arc a can't be joined
 abbrev pub IsFaultyArc : List Contents → ℕ → Type 0

@@ -1,9 +1,8 @@
 -- What a weight file says.
-use Rattle.std.specs.Prelude.{ℕ, ◌≤◌, List, [], ◌∷◌, ◌++◌, length}
-use Rattle.std.specs.List.{AllByRecursion}
+use Rattle.std.specs.Prelude.{ℕ, ◌≤◌, List, [], ◌∷◌, ◌++◌, length, All}
 use Rattle.road_network.specs.Network.{IsNode}
 use Rattle.arc_graph.specs.declared.file.ArcLine.{ArcLine}
-use Rattle.arc_graph.specs.declared.file.TheConstants.{MAX_NODES, MAX_ARCS}
+use Rattle.road_network.specs.Limits.{max_nodes, max_arcs}
 
 -- how many nodes there are, and the arcs in the order of their lines
 pub record Contents : Type 0 where
@@ -29,7 +28,7 @@ with_arc file arc = record { nodes = file.nodes; arcs = file.arcs ++ arc ∷ [] 
 -- the file is within the limits of a graph, and its arcs' ends are nodes
 pub record IsContents (file : Contents) : Type 0 where
   pub some_node : 1 ≤ file.nodes
-  pub nodes : file.nodes ≤ MAX_NODES
-  pub arcs : length file.arcs ≤ MAX_ARCS
-  pub tails : AllByRecursion (λ (a : ArcLine). IsNode file.nodes a.tail) file.arcs
-  pub heads : AllByRecursion (λ (a : ArcLine). IsNode file.nodes a.head) file.arcs
+  pub nodes : file.nodes ≤ max_nodes
+  pub arcs : length file.arcs ≤ max_arcs
+  pub tails : All (λ (a : ArcLine). IsNode file.nodes a.tail) file.arcs
+  pub heads : All (λ (a : ArcLine). IsNode file.nodes a.head) file.arcs

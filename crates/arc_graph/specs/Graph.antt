@@ -1,13 +1,13 @@
 -- A network in two parts, the graph and the states of its arcs, and what relaxing a label gives.
-use Rattle.std.specs.Prelude.{◌≡◌, ℕ, ◌+◌, ◌-◌, ◌^◌, ◌<◌, ◌≤◌, ◌==◌, List, [], ◌∷◌, Option, IfSome, length}
+use Rattle.std.specs.Prelude.{◌≡◌, ℕ, ◌+◌, ◌-◌, ◌^◌, ◌<◌, ◌≤◌, ◌==◌, List, [], ◌∷◌, Option, IfSome, length, All}
 use Rattle.std.specs.Prelude.{slice_get, if◌then◌else◌}
-use Rattle.std.specs.List.{AllByRecursion, filter_map}
+use Rattle.std.specs.List.{filter_map}
 use Rattle.std.specs.Option.{option_map, option_map_or, option_and_then}
 use Rattle.cost_vector.specs.declared.label.ArcNo.{ArcNo}
 use Rattle.cost_vector.specs.declared.label.Label.{Label}
-use Rattle.cost_vector.specs.Costs.{plus}
+use Rattle.cost_vector.specs.Costs.{plus, max_criteria, min_criteria}
 use Rattle.road_network.specs.Network.{Network, AreSmall, IsNode, IsVector, Leads}
-use Rattle.arc_graph.specs.declared.file.TheConstants.{MAX_NODES, MAX_ARCS}
+use Rattle.road_network.specs.Limits.{max_nodes, max_arcs}
 
 -- the nodes, the tail and the head of each arc, and the number of criteria
 pub record Arcs : Type 0 where
@@ -23,16 +23,16 @@ pub record States : Type 0 where
 -- the graph is within the limits, and its ends are nodes
 pub record IsGraph (g : Arcs) : Type 0 where
   pub some_node : 1 ≤ g.nodes
-  pub nodes : g.nodes ≤ MAX_NODES
-  pub arcs : length g.ends ≤ MAX_ARCS
-  pub two : 2 ≤ g.criteria
-  pub four : g.criteria ≤ 4
-  pub tails : AllByRecursion (λ e. IsNode g.nodes e.0) g.ends
-  pub heads : AllByRecursion (λ e. IsNode g.nodes e.1) g.ends
+  pub nodes : g.nodes ≤ max_nodes
+  pub arcs : length g.ends ≤ max_arcs
+  pub two : min_criteria ≤ g.criteria
+  pub four : g.criteria ≤ max_criteria
+  pub tails : All (λ e. IsNode g.nodes e.0) g.ends
+  pub heads : All (λ e. IsNode g.nodes e.1) g.ends
 
 -- each vector has a weight for each criterion, of 32 bits, and isn't all zero
 pub record AreStates (w : States) : Type 0 where
-  pub vectors : AllByRecursion (λ s. IfSome s (IsVector w.criteria)) w.states
+  pub vectors : All (λ s. IfSome s (IsVector w.criteria)) w.states
   pub small : AreSmall w.states
 
 -- the states are those of the graph's arcs
@@ -86,7 +86,7 @@ pub record ComesOf (g : Arcs) (w : States) (u : ℕ) (c : List ℕ) (l : Label) 
 
 -- each number fits 64 bits
 abbrev pub Fits : List ℕ → Type 0
-Fits cost = AllByRecursion (λ x. x < 2 ^ 64) cost
+Fits cost = All (λ x. x < 2 ^ 64) cost
 
 -- each sum of the cost and the vector of an arc that leads on from the node fits
 abbrev pub SumsFit : Arcs → States → ℕ → List ℕ → Type 0

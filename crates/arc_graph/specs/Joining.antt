@@ -1,10 +1,10 @@
 -- What a joiner keeps of the files that came so far.
-use Rattle.std.specs.Prelude.{◌≡◌, ℕ, ◌≤◌, List, Option, length}
-use Rattle.std.specs.List.{AllByRecursion}
+use Rattle.std.specs.Prelude.{◌≡◌, ℕ, ◌≤◌, List, Option, length, All}
+use Rattle.cost_vector.specs.Costs.{max_criteria}
 use Rattle.arc_graph.specs.declared.join.OtherEnds.{OtherEnds}
 use Rattle.road_network.specs.Network.{IsNode}
 use Rattle.arc_graph.specs.Stored.{IsStored}
-use Rattle.arc_graph.specs.declared.file.TheConstants.{MAX_NODES, MAX_ARCS}
+use Rattle.road_network.specs.Limits.{max_nodes, max_arcs}
 
 -- the first file's nodes and ends, each arc's weights so far, how many files were begun, what the one begun last is to
 -- have and how many of its arcs have come, and the faults that would be told
@@ -21,15 +21,15 @@ pub record Joining : Type 0 where
 
 -- what every joiner keeps
 pub record IsJoining (j : Joining) : Type 0 where
-  pub files : j.begun ≤ 4
+  pub files : j.begun ≤ max_criteria
   pub come : j.come ≤ j.due_arcs
-  pub due : j.due_arcs ≤ MAX_ARCS
+  pub due : j.due_arcs ≤ max_arcs
   pub none_begun : j.begun ≡ 0 → length j.ends ≡ 0
   pub first_begun : j.begun ≡ 1 → (length j.ends ≡ j.come) × (j.due_nodes ≡ j.nodes)
   pub some_node : 1 ≤ j.begun → 1 ≤ j.nodes
-  pub nodes : j.nodes ≤ MAX_NODES
-  pub arcs : length j.ends ≤ MAX_ARCS
+  pub nodes : j.nodes ≤ max_nodes
+  pub arcs : length j.ends ≤ max_arcs
   pub matched : length j.vectors ≡ length j.ends
-  pub tails : AllByRecursion (λ e. IsNode j.nodes e.0) j.ends
-  pub heads : AllByRecursion (λ e. IsNode j.nodes e.1) j.ends
-  pub stored : AllByRecursion (IsStored j.begun) j.vectors
+  pub tails : All (λ e. IsNode j.nodes e.0) j.ends
+  pub heads : All (λ e. IsNode j.nodes e.1) j.ends
+  pub stored : All (IsStored j.begun) j.vectors

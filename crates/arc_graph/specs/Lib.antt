@@ -1,8 +1,3 @@
-pub mod Lists
-pub mod Network
-pub mod Walks
-pub mod Best
-pub mod Answers
 pub mod Files
 pub mod Agreement
 pub mod Graph

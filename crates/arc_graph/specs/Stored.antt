@@ -1,9 +1,9 @@
 -- How the states of the arcs lie in memory: four places each, all 0 for a shut arc.
-use Rattle.std.specs.Prelude.{◌≡◌, ℕ, ◌^◌, ◌<◌, ◌≤◌, Bool, List, Option, Some, None, length, map, take, replicate, slice_index}
+use Rattle.std.specs.Prelude.{◌≡◌, ℕ, ◌^◌, ◌<◌, ◌≤◌, Bool, List, Option, Some, None, length, map, take, replicate, slice_index, All}
 use Rattle.std.specs.Prelude.{nat_eq, if◌then◌else◌}
 use Rattle.std.specs.Cmp.Lexicographic.{pointwise}
-use Rattle.std.specs.List.{AllByRecursion}
-use Rattle.arc_graph.specs.declared.file.TheConstants.{MAX_ARCS}
+use Rattle.cost_vector.specs.Costs.{max_criteria, min_criteria}
+use Rattle.road_network.specs.Limits.{max_arcs}
 
 -- all four places are 0
 abbrev pub is_zero : List ℕ → Bool
@@ -20,12 +20,12 @@ states_of criteria vectors = map (state_in criteria) vectors
 -- four places of 32 bits, of which those past the criteria are 0
 pub record IsStored (criteria : ℕ) (places : List ℕ) : Type 0 where
   pub four : length places ≡ 4
-  pub small : AllByRecursion (λ x. x < 2 ^ 32) places
+  pub small : All (λ x. x < 2 ^ 32) places
   pub filler : (i : ℕ) → criteria ≤ i → slice_index places i ≡ 0
 
 -- the same for each arc
 pub record AreStored (criteria : ℕ) (vectors : List (List ℕ)) : Type 0 where
-  pub two : 2 ≤ criteria
-  pub four : criteria ≤ 4
-  pub count : length vectors ≤ MAX_ARCS
-  pub each : AllByRecursion (IsStored criteria) vectors
+  pub two : min_criteria ≤ criteria
+  pub four : criteria ≤ max_criteria
+  pub count : length vectors ≤ max_arcs
+  pub each : All (IsStored criteria) vectors

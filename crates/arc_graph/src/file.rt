@@ -1,16 +1,11 @@
 ghost use Rattle.std.specs.Prelude.{◌≡◌, ◌<◌, ◌≤◌, ◌^◌, [], ◌∷◌, ◌++◌, length, OnOk, OnErr};
+ghost use Rattle.road_network.specs.Limits.{max_arcs, max_nodes};
 ghost use Rattle.road_network.specs.Network.{IsNode};
 
 use crate::graph::Ends;
 use cost_vector::{NodeNo, OutOfMemory};
 use std::alloc::Global;
 use std::marker::Model;
-
-/// The greatest number of nodes of a graph.
-pub const MAX_NODES: u32 = 1 << 23;
-
-/// The greatest number of arcs of a graph.
-pub const MAX_ARCS: u32 = 1 << 24;
 
 /// One arc of a weight file: its ends, numbered from 1, and its weight by the file's criterion.
 #[derive(Clone, Copy, Debug, PartialEq, Eq)]
@@ -59,7 +54,7 @@ impl ArcFile {
     /// A file of this many nodes and no arc yet.
     pub fn new(alloc: Global, nodes: u32) -> ArcFile
         requires some_node { 1 ≤ nodes }
-        requires limit { nodes ≤ MAX_NODES }
+        requires limit { nodes ≤ max_nodes }
         ensures nodes { result.nodes ≡ nodes }
         ensures empty { result.arcs ≡ [] }
     {
@@ -88,7 +83,7 @@ impl ArcFile {
     pub fn push(&mut self, a: ArcLine) -> Result<(), OutOfMemory>
         requires tail { IsNode self.old.nodes a.tail }
         requires head { IsNode self.old.nodes a.head }
-        requires room { length self.old.arcs < MAX_ARCS }
+        requires room { length self.old.arcs < max_arcs }
         ensures nodes { self.new.nodes ≡ self.old.nodes }
         ensures ok { OnOk result (self.new.arcs ≡ self.old.arcs ++ a ∷ []) }
         ensures err { OnErr result (self.new.arcs ≡ self.old.arcs) }

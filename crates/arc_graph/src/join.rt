@@ -1,5 +1,6 @@
 ghost use Rattle.std.specs.Prelude.{◌≡◌, ◌≢◌, ◌≤◌, ◌<◌, ◌+◌, ◌↔◌, ◌++◌, List, [], ◌∷◌, length, vec_len, map, position};
 ghost use Rattle.std.specs.Prelude.{IsTrue, IfOk, IfErr, OnOk, MatchOption};
+ghost use Rattle.road_network.specs.Limits.{max_arcs, max_nodes};
 ghost use Rattle.road_network.specs.Network.{IsNetwork, IsNode};
 ghost use Rattle.arc_graph.specs.Graph.{Match, network};
 ghost use Rattle.arc_graph.specs.Files.{Contents, empty_file, size_of, with_arc};
@@ -9,8 +10,9 @@ ghost use Rattle.arc_graph.specs.StandsFor.{StandsFor};
 ghost use Rattle.arc_graph.specs.Faults.{AreLeastIfAny, IsEarlier, arc_fault_of};
 ghost use Rattle.list_laws.specs.Least.{IsLeastIfAny};
 ghost use Rattle.arc_graph.specs.Stored.{is_zero, states_of};
+ghost use Rattle.cost_vector.specs.Costs.{max_criteria, min_criteria};
 
-use crate::file::{ArcFile, ArcLine, MAX_ARCS, MAX_NODES};
+use crate::file::{ArcFile, ArcLine};
 use crate::graph::{Ends, Graph};
 use crate::weights::{Places, Weights, is_shut};
 use cost_vector::OutOfMemory;
@@ -107,9 +109,9 @@ impl Joiner {
     /// Begins the next file, which is to have this many nodes and arcs. After an error the joiner is only dropped.
     pub fn begin_file(&mut self, nodes: u32, arcs: u32) -> Result<(), OutOfMemory>
         requires some_node { 1 ≤ nodes }
-        requires most_nodes { nodes ≤ MAX_NODES }
-        requires most_arcs { arcs ≤ MAX_ARCS }
-        requires fewer_than_four { self.old.begun < 4 }
+        requires most_nodes { nodes ≤ max_nodes }
+        requires most_arcs { arcs ≤ max_arcs }
+        requires fewer_than_four { self.old.begun < max_criteria }
         requires whole { self.old.come ≡ self.old.due_arcs }
 
         // What is due of the file, and that nothing of it has come.
@@ -139,7 +141,7 @@ impl Joiner {
     /// The least file whose sizes differ, once a file of these sizes has begun.
     fn other_size_with(&self, nodes: u32, arcs: u32) -> Option<u32>
         requires begun { 1 ≤ self.now.begun }
-        requires fewer_than_four { self.now.begun < 4 }
+        requires fewer_than_four { self.now.begun < max_criteria }
         requires whole { self.now.come ≡ self.now.due_arcs }
         ensures { (files : List Contents) → StandsFor self.now files
             → IsLeastIfAny (IsOtherSize (map size_of files ++ (nodes, arcs) ∷ [])) result }
@@ -201,7 +203,7 @@ impl Joiner {
     }
 
     fn push_later(&mut self, a: ArcLine)
-        requires begun { 2 ≤ self.old.begun }
+        requires begun { min_criteria ≤ self.old.begun }
         requires due { self.old.come < self.old.due_arcs }
 
         // One arc more has come of the file that was begun last.
@@ -225,7 +227,7 @@ impl Joiner {
 
     /// The least arc whose ends differ, in the least such file, once the file begun last has this arc more.
     fn other_ends_with(&self, a: ArcLine) -> Option<OtherEnds>
-        requires begun { 2 ≤ self.now.begun }
+        requires begun { min_criteria ≤ self.now.begun }
         requires there { self.now.come < length self.now.ends }
         ensures { (front : List Contents) (last : Contents)
             → StandsFor self.now (front ++ last ∷ [])
@@ -243,7 +245,7 @@ impl Joiner {
 
     /// The joined graph and its weights, or the fault: another size first, then the least arc that can't be joined.
     pub fn finish(self) -> Result<(Graph, Weights), JoinFault>
-        requires two { 2 ≤ self.begun }
+        requires two { min_criteria ≤ self.begun }
         requires whole { self.come ≡ self.due_arcs }
         ensures criteria { IfOk result (λ r. r.0.criteria ≡ self.begun) }
         ensures matched { IfOk result (λ r. Match r.0 r.1) }
@@ -293,7 +295,7 @@ impl Joiner {
     }
 
     fn joined(self) -> Result<(Graph, Weights), JoinFault>
-        requires { 2 ≤ self.begun }
+        requires { min_criteria ≤ self.begun }
         ensures criteria { IfOk result (λ r. r.0.criteria ≡ self.begun) }
         ensures matched { IfOk result (λ r. Match r.0 r.1) }
         ensures is_network { IfOk result (λ r. IsNetwork (network r.0 r.1)) }
@@ -348,8 +350,8 @@ fn first_zero(vectors: &[Places]) -> Option<usize>
 
 /// Joins two to four files that list the same arcs, each with its own weights.
 pub fn join_files(alloc: Global, files: Vec<ArcFile>) -> Result<(Graph, Weights), JoinFault>
-    requires two { 2 ≤ vec_len files }
-    requires four { vec_len files ≤ 4 }
+    requires two { min_criteria ≤ vec_len files }
+    requires four { vec_len files ≤ max_criteria }
     ensures criteria { IfOk result (λ r. r.0.criteria ≡ vec_len files) }
     ensures matched { IfOk result (λ r. Match r.0 r.1) }
     ensures is_network { IfOk result (λ r. IsNetwork (network r.0 r.1)) }
@@ -368,7 +370,7 @@ pub fn join_files(alloc: Global, files: Vec<ArcFile>) -> Result<(Graph, Weights)
 
 /// Adds a whole file.
 fn add_file(joiner: &mut Joiner, file: &ArcFile) -> Result<(), OutOfMemory>
-    requires fewer_than_four { joiner.old.begun < 4 }
+    requires fewer_than_four { joiner.old.begun < max_criteria }
     requires whole { joiner.old.come ≡ joiner.old.due_arcs }
     ensures begun { OnOk result (joiner.new.begun ≡ joiner.old.begun + 1) }
     ensures whole { OnOk result (joiner.new.come ≡ joiner.new.due_arcs) }

@@ -16,7 +16,8 @@ pub fn files_have_one_fault_at_most()
 
 /// A graph and weights that match are a network.
 pub fn matching_parts_are_a_network()
-    ensures { (g : Arcs) (w : States) → IsGraph g → AreStates w → Match g w → IsNetwork (network g w) }
+    ensures { (g : Arcs) (w : States) → IsGraph g → AreStates w → Match g w
+        → IsNetwork (network g w) }
 {}
 
 /// What relaxing gives is exactly the labels of the arcs that lead on.

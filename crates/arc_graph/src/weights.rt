@@ -1,5 +1,4 @@
-ghost use Rattle.std.specs.Prelude.{◌≡◌, ◌≤◌, ◌<◌, ◌-◌, ◌^◌, length, IfOk, IfSome};
-ghost use Rattle.std.specs.List.{AllByRecursion};
+ghost use Rattle.std.specs.Prelude.{◌≡◌, ◌≤◌, ◌<◌, ◌-◌, ◌^◌, length, IfOk, IfSome, All};
 ghost use Rattle.road_network.specs.Network.{IsVector};
 ghost use Rattle.arc_graph.specs.Graph.{AreStates, state_of};
 ghost use Rattle.arc_graph.specs.Stored.{AreStored, is_zero, states_of};
@@ -58,7 +57,7 @@ impl Weights {
         requires there { a.0 ≤ length self.now.states }
         ensures state { result ≡ state_of self.now a }
         ensures vector { IfSome result (IsVector self.now.criteria) }
-        ensures small { IfSome result (AllByRecursion (λ x. x < 2 ^ 32)) }
+        ensures small { IfSome result (All (λ x. x < 2 ^ 32)) }
     {
         let places = self.vectors[a.0 as usize - 1];
         if is_shut(&places) {

@@ -7,6 +7,14 @@ use Rattle.std.specs.declared.cmp.Ordering.TheVariants.{Less}
 use Rattle.std.specs.Ordering.{nat_cmp}
 use Rattle.std.specs.Cmp.Lexicographic.{slice_cmp}
 
+-- the fewest criteria
+abbrev pub min_criteria : ℕ
+min_criteria = 2
+
+-- the most criteria
+abbrev pub max_criteria : ℕ
+max_criteria = 4
+
 -- as many components, and each is at most the other's
 abbrev pub AtMost : List ℕ → List ℕ → Type 0
 AtMost = AllZip ◌≤◌

@@ -2,9 +2,9 @@ ghost use Rattle.std.specs.Prelude.{◌≡◌, ℕ, ◌^◌, ◌<◌, ◌≤◌,
 ghost use Rattle.std.specs.Ordering.{nat_cmp};
 ghost use Rattle.std.specs.Cmp.{partial_equiv_from_equiv};
 ghost use Rattle.std.specs.Cmp.Lexicographic.{pointwise, slice_cmp, nat_list_eq_equiv, nat_list_cmp_total, texts_po, texts_ties};
-ghost use Rattle.cost_vector.specs.Costs.{AtMost, Dominates, plus, lex_cmp};
+ghost use Rattle.cost_vector.specs.Costs.{AtMost, Dominates, plus, lex_cmp, max_criteria, min_criteria};
 
-use crate::Weight;
+use crate::{MAX_CRITERIA, Weight};
 use std::cmp::Ordering;
 use std::fmt;
 use std::marker::Model;
@@ -15,7 +15,7 @@ use std::marker::Model;
 #[derive(Clone, Copy)]
 pub struct Cost {
     count: usize,
-    pub(crate) places: [u64; 4],
+    pub(crate) places: [u64; MAX_CRITERIA],
 }
 
 impl Model for Cost {
@@ -39,23 +39,23 @@ impl Model for Cost {
 impl Cost {
     /// The cost of standing still, in `d` criteria.
     pub fn zero(d: usize) -> Cost
-        requires at_least_two { 2 ≤ d }
-        requires at_most_four { d ≤ 4 }
+        requires at_least_two { min_criteria ≤ d }
+        requires at_most_four { d ≤ max_criteria }
         ensures { result ≡ replicate d 0 }
     {
         Cost {
             count: d,
-            places: [0; 4],
+            places: [0; MAX_CRITERIA],
         }
     }
 
     /// The cost with these components.
     pub fn of_numbers(list: &[u64]) -> Cost
-        requires at_least_two { 2 ≤ length list.now }
-        requires at_most_four { length list.now ≤ 4 }
+        requires at_least_two { min_criteria ≤ length list.now }
+        requires at_most_four { length list.now ≤ max_criteria }
         ensures { result ≡ list.now }
     {
-        let mut places = [0; 4];
+        let mut places = [0; MAX_CRITERIA];
         places[..list.len()].copy_from_slice(list);
         Cost {
             count: list.len(),
@@ -66,8 +66,8 @@ impl Cost {
     /// How many components there are.
     pub fn count(&self) -> usize
         ensures value { result ≡ length self.now }
-        ensures at_least_two { 2 ≤ result }
-        ensures at_most_four { result ≤ 4 }
+        ensures at_least_two { min_criteria ≤ result }
+        ensures at_most_four { result ≤ max_criteria }
         ensures in_range { All (λ x. x < 2 ^ 64) self.now }
     {
         let components = self.as_slice();
@@ -85,8 +85,8 @@ impl Cost {
 
     fn as_slice(&self) -> &[u64]
         ensures value { result.now ≡ self.now }
-        ensures at_least_two { 2 ≤ length result.now }
-        ensures at_most_four { length result.now ≤ 4 }
+        ensures at_least_two { min_criteria ≤ length result.now }
+        ensures at_most_four { length result.now ≤ max_criteria }
     {
         &self.places[..self.count]
     }

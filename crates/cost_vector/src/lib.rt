@@ -18,3 +18,9 @@ pub use label::{ArcNo, Label, NodeNo, Spot};
 pub use limit::Limit;
 pub use out_of_memory::OutOfMemory;
 pub use weight::Weight;
+
+/// The fewest criteria.
+pub const MIN_CRITERIA: usize = 2;
+
+/// The most criteria; so many places each vector has.
+pub const MAX_CRITERIA: usize = 4;

@@ -3,10 +3,10 @@ ghost use Rattle.std.specs.Ordering.{nat_cmp};
 ghost use Rattle.std.specs.Option.{option_eq, option_cmp};
 ghost use Rattle.std.specs.Cmp.{partial_equiv_from_equiv};
 ghost use Rattle.std.specs.Cmp.Lexicographic.{pointwise, slice_cmp};
-ghost use Rattle.cost_vector.specs.Costs.{IsAllowed, Within, no_limit};
+ghost use Rattle.cost_vector.specs.Costs.{IsAllowed, Within, no_limit, max_criteria, min_criteria};
 ghost use Rattle.cost_vector.specs.LimitOrder.{limits_equiv, limits_total, limits_tie, limits_po};
 
-use crate::Cost;
+use crate::{Cost, MAX_CRITERIA};
 use std::cmp::Ordering;
 use std::fmt;
 use std::marker::Model;
@@ -18,7 +18,7 @@ use std::marker::Model;
 #[derive(Clone, Copy)]
 pub struct Limit {
     count: usize,
-    places: [Option<u64>; 4],
+    places: [Option<u64>; MAX_CRITERIA],
 }
 
 impl Model for Limit {
@@ -42,23 +42,23 @@ impl Model for Limit {
 impl Limit {
     /// No bound in any of `d` criteria.
     pub fn none(d: usize) -> Limit
-        requires at_least_two { 2 ≤ d }
-        requires at_most_four { d ≤ 4 }
+        requires at_least_two { min_criteria ≤ d }
+        requires at_most_four { d ≤ max_criteria }
         ensures { result ≡ no_limit d }
     {
         Limit {
             count: d,
-            places: [None; 4],
+            places: [None; MAX_CRITERIA],
         }
     }
 
     /// The limit with these places.
     pub fn of_places(list: &[Option<u64>]) -> Limit
-        requires at_least_two { 2 ≤ length list.now }
-        requires at_most_four { length list.now ≤ 4 }
+        requires at_least_two { min_criteria ≤ length list.now }
+        requires at_most_four { length list.now ≤ max_criteria }
         ensures { result ≡ list.now }
     {
-        let mut places = [None; 4];
+        let mut places = [None; MAX_CRITERIA];
         places[..list.len()].copy_from_slice(list);
         Limit {
             count: list.len(),
@@ -69,8 +69,8 @@ impl Limit {
     /// How many places there are.
     pub fn count(&self) -> usize
         ensures value { result ≡ length self.now }
-        ensures at_least_two { 2 ≤ result }
-        ensures at_most_four { result ≤ 4 }
+        ensures at_least_two { min_criteria ≤ result }
+        ensures at_most_four { result ≤ max_criteria }
     {
         self.count
     }

@@ -2,9 +2,9 @@ ghost use Rattle.std.specs.Prelude.{◌≡◌, ℕ, ◌^◌, ◌<◌, ◌≤◌,
 ghost use Rattle.std.specs.Ordering.{nat_cmp};
 ghost use Rattle.std.specs.Cmp.{partial_equiv_from_equiv};
 ghost use Rattle.std.specs.Cmp.Lexicographic.{pointwise, slice_cmp, nat_list_eq_equiv, nat_list_cmp_total, texts_po, texts_ties};
-ghost use Rattle.cost_vector.specs.Costs.{AtMost};
+ghost use Rattle.cost_vector.specs.Costs.{AtMost, max_criteria, min_criteria};
 
-use crate::Cost;
+use crate::{Cost, MAX_CRITERIA};
 use std::cmp::Ordering;
 use std::fmt;
 use std::marker::Model;
@@ -15,7 +15,7 @@ use std::marker::Model;
 #[derive(Clone, Copy)]
 pub struct Weight {
     count: usize,
-    pub(crate) places: [u32; 4],
+    pub(crate) places: [u32; MAX_CRITERIA],
 }
 
 impl Model for Weight {
@@ -39,11 +39,11 @@ impl Model for Weight {
 impl Weight {
     /// The weight with these components.
     pub fn of_numbers(list: &[u32]) -> Weight
-        requires at_least_two { 2 ≤ length list.now }
-        requires at_most_four { length list.now ≤ 4 }
+        requires at_least_two { min_criteria ≤ length list.now }
+        requires at_most_four { length list.now ≤ max_criteria }
         ensures { result ≡ list.now }
     {
-        let mut places = [0; 4];
+        let mut places = [0; MAX_CRITERIA];
         places[..list.len()].copy_from_slice(list);
         Weight {
             count: list.len(),
@@ -54,8 +54,8 @@ impl Weight {
     /// How many components there are.
     pub fn count(&self) -> usize
         ensures value { result ≡ length self.now }
-        ensures at_least_two { 2 ≤ result }
-        ensures at_most_four { result ≤ 4 }
+        ensures at_least_two { min_criteria ≤ result }
+        ensures at_most_four { result ≤ max_criteria }
         ensures in_range { All (λ x. x < 2 ^ 32) self.now }
     {
         let components = self.as_slice();
@@ -75,13 +75,13 @@ impl Weight {
     pub fn is_zero(&self) -> bool
         ensures { IsTrue result ↔ All (λ x. x ≡ 0) self.now }
     {
-        self.places == [0; 4]
+        self.places == [0; MAX_CRITERIA]
     }
 
     fn as_slice(&self) -> &[u32]
         ensures value { result.now ≡ self.now }
-        ensures at_least_two { 2 ≤ length result.now }
-        ensures at_most_four { length result.now ≤ 4 }
+        ensures at_least_two { min_criteria ≤ length result.now }
+        ensures at_most_four { length result.now ≤ max_criteria }
     {
         &self.places[..self.count]
     }

@@ -3,7 +3,7 @@ use Rattle.std.proofs.Common.{◌≡◌, ℕ, ◌+◌, ◌<◌, ◌≤◌, ◌^�
 use Rattle.std.specs.List.{AllByRecursion}
 use Rattle.std.specs.Option.{option_or}
 use Rattle.std.proofs.lemmas.Bool.Decides.{nat_tests}
-use Rattle.arc_graph.specs.declared.file.TheConstants.{MAX_NODES, MAX_ARCS}
+use Rattle.road_network.specs.Limits.{max_nodes, max_arcs}
 use Rattle.arc_graph.specs.declared.file.ArcLine.{ArcLine}
 use Rattle.line_text.specs.Lines.{without_cr, lines_of}
 use Rattle.gr_reader.specs.declared.fault.FileLimits.{FileLimits}
@@ -241,10 +241,10 @@ module _ (limits : FileLimits) (total : ℕ) where
   told_file (line ∷ lines) number passed nodes arcs file =
       rw file.unbroken.0 (told_file-line line lines (told_file lines) number passed nodes arcs file (form_of (without_cr line)) refl)
 
-in_size_from : (nodes arcs : ℕ) → 1 ≤ nodes → nodes ≤ MAX_NODES → arcs ≤ MAX_ARCS → in_range nodes arcs ≡ true
+in_size_from : (nodes arcs : ℕ) → 1 ≤ nodes → nodes ≤ max_nodes → arcs ≤ max_arcs → in_range nodes arcs ≡ true
 in_size_from nodes arcs some most_nodes most_arcs = grind (arith, nat_tests)
 
-in_size-parts : (nodes arcs : ℕ) → in_range nodes arcs ≡ true → (1 ≤ nodes) × (nodes ≤ MAX_NODES) × (arcs ≤ MAX_ARCS)
+in_size-parts : (nodes arcs : ℕ) → in_range nodes arcs ≡ true → (1 ≤ nodes) × (nodes ≤ max_nodes) × (arcs ≤ max_arcs)
 in_size-parts nodes arcs e = grind (arith, nat_tests)
 
 -- A reading that ends without a fault is of a weight file.

@@ -1,7 +1,7 @@
 -- A number of more than 32 bits is out of every range, whichever it is.
 use Rattle.std.proofs.Common.{◌≡◌, ℕ, ◌^◌, ◌≤◌, ◌&&◌, not, nat_le, cond, Bool, List, Option, Some, None, refl, ap, ◌∙◌, arith}
 use Rattle.std.proofs.lemmas.Bool.Decides.{nat_tests}
-use Rattle.arc_graph.specs.declared.file.TheConstants.{MAX_NODES}
+use Rattle.road_network.specs.Limits.{max_nodes}
 use Rattle.gr_reader.specs.declared.fault.FileLimits.{FileLimits}
 use Rattle.gr_reader.specs.declared.fault.LineKind.{LineKind}
 use Rattle.gr_reader.specs.declared.fault.LineKind.TheVariants.{SizeRange, CountWrong, NodeRange, WeightRange}
@@ -15,7 +15,7 @@ use Rattle.gr_reader.proofs.LineSteps.{given}
 in_range-capped : (nodes arcs : ℕ) → in_range (capped_number nodes) (capped_number arcs) ≡ in_range nodes arcs
 in_range-capped nodes arcs = grind (arith, nat_tests)
 
-is_node-capped : (nodes v : ℕ) → nodes ≤ MAX_NODES → is_node nodes (capped_number v) ≡ is_node nodes v
+is_node-capped : (nodes v : ℕ) → nodes ≤ max_nodes → is_node nodes (capped_number v) ≡ is_node nodes v
 is_node-capped nodes v small = grind (arith, nat_tests)
 
 weight-capped : (weight : ℕ) → nat_le (2 ^ 32) (capped_number weight) ≡ nat_le (2 ^ 32) weight
@@ -44,7 +44,7 @@ small_is n small = omega arith
 in_range-small : (nodes arcs : ℕ) → ◌≡◌ {A = Option LineKind} (cond (not (in_range nodes arcs)) (Some SizeRange) None) None → (nodes ≤ 2 ^ 32) × (arcs ≤ 2 ^ 32)
 in_range-small nodes arcs e = grind (arith, nat_tests)
 
-arc-small : (nodes : ℕ) (full : Bool) (tail head weight : ℕ) → nodes ≤ MAX_NODES
+arc-small : (nodes : ℕ) (full : Bool) (tail head weight : ℕ) → nodes ≤ max_nodes
     → arc_kind full (is_node nodes tail && is_node nodes head) (nat_le (2 ^ 32) weight) ≡ None → (tail ≤ 2 ^ 32) × (head ≤ 2 ^ 32) × (weight ≤ 2 ^ 32)
 unfolding arc_kind
 arc-small nodes full tail head weight small e = grind (arith, nat_tests)

@@ -1,7 +1,7 @@
 -- The weight files of the 9th DIMACS Implementation Challenge, and the first fault of a text that is none.
 use Rattle.std.specs.Prelude.{◌≡◌, ℕ, ◌+◌, ◌-◌, ◌^◌, ◌<◌, ◌≤◌, Bool, true, false, List, [], ◌∷◌, length, map, min, take, sum_by, count_by, slice_get, Option, Some, None}
 use Rattle.std.specs.List.{AllByRecursion, filter_map}
-use Rattle.arc_graph.specs.declared.file.TheConstants.{MAX_NODES, MAX_ARCS}
+use Rattle.road_network.specs.Limits.{max_nodes, max_arcs}
 use Rattle.arc_graph.specs.declared.file.ArcLine.{ArcLine}
 use Rattle.road_network.specs.Network.{IsNode}
 use Rattle.line_text.specs.Lines.{lines_of, without_cr}
@@ -33,8 +33,8 @@ pub record IsGr (limits : FileLimits) (bytes : List ℕ) (nodes : ℕ) (arcs : L
   pub short_file : length bytes ≤ limits.file
   pub lines : forms_of (lines_of bytes) ≡ Problem nodes (length arcs) ∷ map form_of_arc arcs
   pub some_node : 1 ≤ nodes
-  pub most_nodes : nodes ≤ MAX_NODES
-  pub most_arcs : length arcs ≤ MAX_ARCS
+  pub most_nodes : nodes ≤ max_nodes
+  pub most_arcs : length arcs ≤ max_arcs
   pub in_range : AllByRecursion (IsArc nodes) arcs
 
 -- the sizes of the first problem line

@@ -1,7 +1,7 @@
 -- What a reader of a weight file shows, and what its answers say.
 use Rattle.std.specs.Prelude.{◌≡◌, ◌≢◌, ℕ, ◌+◌, ◌^◌, ◌≤◌, ◌⊎◌, ⊤, IfSome, IsSome, IsSomeAnd, Bool, true, false, List, [], length, Option, Some, None, Result, Ok, Err}
 use Rattle.route_io.specs.Causes.{Rose}
-use Rattle.arc_graph.specs.declared.file.TheConstants.{MAX_NODES, MAX_ARCS}
+use Rattle.road_network.specs.Limits.{max_nodes, max_arcs}
 use Rattle.arc_graph.specs.declared.file.ArcLine.{ArcLine}
 use Rattle.arc_graph.specs.Files.{Contents}
 use Rattle.line_text.specs.declared.limits.LineLimits.{LineLimits}
@@ -45,8 +45,8 @@ unread limits = record {
 pub record IsGrReading (reading : GrReading) : Type 0 where
   pub file : reading.lines.limits.total ≤ 2 ^ 63
   pub in_limits : InLimits reading.lines
-  pub nodes : reading.nodes ≤ MAX_NODES
-  pub arcs : reading.arcs ≤ MAX_ARCS
+  pub nodes : reading.nodes ≤ max_nodes
+  pub arcs : reading.arcs ≤ max_arcs
   pub come : reading.come ≤ reading.arcs
   pub all_come : reading.whole ≡ true → reading.come ≡ reading.arcs
   pub one_end : reading.whole ≡ true → reading.fault ≡ None
@@ -122,8 +122,8 @@ ReadHasCause before now (Ok value) = now ≡ before
 -- the numbers of nodes and arcs are in range
 pub record AreSizes (nodes arcs : ℕ) : Type 0 where
   pub some_node : 1 ≤ nodes
-  pub most_nodes : nodes ≤ MAX_NODES
-  pub most_arcs : arcs ≤ MAX_ARCS
+  pub most_nodes : nodes ≤ max_nodes
+  pub most_arcs : arcs ≤ max_arcs
 
 -- an arc is counted, and nothing else is
 abbrev pub CountsArc : GrReading → GrReading → Result (Option ArcLine) FileFault → Type 0

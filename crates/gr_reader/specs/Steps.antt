@@ -1,6 +1,6 @@
 -- What the next line of a file that isn't ignored gives.
 use Rattle.std.specs.Prelude.{◌≡◌, ℕ, ◌+◌, ◌^◌, ◌≤◌, ◌&&◌, nat_le, if◌then◌else◌, ⊤, List, [], length, Option, Some, None, IfSome, Result, Ok, Err}
-use Rattle.arc_graph.specs.declared.file.TheConstants.{MAX_NODES}
+use Rattle.road_network.specs.Limits.{max_nodes}
 use Rattle.line_text.specs.Lines.{lines_of}
 use Rattle.line_text.specs.Reading.{Reading}
 use Rattle.gr_reader.specs.declared.fault.FileFault.{FileFault}
@@ -14,7 +14,7 @@ use Rattle.gr_reader.specs.Reader.{file_limits, state_of, told_of}
 
 -- the nodes are so few that a number of more than 32 bits is none
 abbrev pub AreNodesInRange : Option Sizes → Type 0
-AreNodesInRange sizes = IfSome sizes (λ (s : Sizes). s.nodes ≤ MAX_NODES)
+AreNodesInRange sizes = IfSome sizes (λ (s : Sizes). s.nodes ≤ max_nodes)
 
 -- The first lines are ignored, up to this place.
 abbrev pub Skips : Reading → Reading → List ℕ → List ℕ → Type 0

@@ -1,7 +1,7 @@
 -- Which fault a line has: the first of the table that fits it.
 use Rattle.std.specs.Prelude.{ℕ, ◌+◌, ◌-◌, ◌^◌, ◌&&◌, nat_le, if◌then◌else◌, not, min, Bool, true, false, is_none, is_some, List, [], ◌∷◌, length, find, Option, Some, None, option_and_then}
 use Rattle.std.specs.Option.{option_or}
-use Rattle.arc_graph.specs.declared.file.TheConstants.{MAX_NODES, MAX_ARCS}
+use Rattle.road_network.specs.Limits.{max_nodes, max_arcs}
 use Rattle.line_text.specs.declared.limits.LineFault.{LineFault}
 use Rattle.line_text.specs.declared.limits.LineFault.TheVariants as lines
 use Rattle.line_text.specs.declared.limits.LineLimits.{LineLimits}
@@ -32,7 +32,7 @@ pub record State : Type 0 where
 
 -- the test that a file may have so many nodes and arcs
 abbrev pub in_range : ℕ → ℕ → Bool
-in_range nodes arcs = nat_le 1 nodes && nat_le nodes MAX_NODES && nat_le arcs MAX_ARCS
+in_range nodes arcs = nat_le 1 nodes && nat_le nodes max_nodes && nat_le arcs max_arcs
 
 -- the test that a number is a node's
 abbrev pub is_node : ℕ → ℕ → Bool

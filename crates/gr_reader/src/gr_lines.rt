@@ -1,5 +1,6 @@
 ghost use Rattle.std.specs.Prelude.{◌≡◌, ◌≢◌, ◌≤◌, ◌<◌, ◌^◌, ◌+◌, ◌↔◌, None, Some, Ok, Err, true, false, IfOk, IfNone, IfSome, IfErr, OnOk, OnSome, MatchResult};
 ghost use Rattle.std.specs.Result.{result_err};
+ghost use Rattle.road_network.specs.Limits.{max_nodes};
 ghost use Rattle.line_text.specs.Reading.{InLimits, LosesNone, rest_of};
 ghost use Rattle.gr_reader.specs.Grammar.{IsArc, form_of_arc};
 ghost use Rattle.gr_reader.specs.Steps.{FormTells, IsAccepted, range_kind};
@@ -8,9 +9,10 @@ ghost use Rattle.gr_reader.specs.Reader.{ArcTells, AreSizes, BeginTells, CountsA
 
 use crate::fault::{FileFault, FileLimits, LineKind};
 use crate::form::{Form, form_of};
-use arc_graph::{ArcLine, MAX_ARCS, MAX_NODES};
+use arc_graph::ArcLine;
 use cost_vector::OutOfMemory;
 use line_text::{LONGEST_LINE, LineLimits, Lines};
+use road_network::{MAX_ARCS, MAX_NODES};
 use route_io::Source;
 use std::alloc::Global;
 use std::marker::Model;
@@ -215,7 +217,7 @@ fn read_arc<S: Source>(
 ) -> Result<Option<ArcLine>, FileFault>
     requires fits { lines.old.limits.total ≤ 2 ^ 63 }
     requires goes_on { lines.old.fault ≡ None }
-    requires nodes { nodes ≤ MAX_NODES }
+    requires nodes { nodes ≤ max_nodes }
 
     // Where the source tells its bytes, the answer is that of the file's text, and no byte is lost.
     ensures tells { IfSome (rest_of lines.old (S.left source.old))

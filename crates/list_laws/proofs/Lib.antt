@@ -3,3 +3,6 @@ pub mod Pairs
 pub mod Gets
 pub mod Least
 pub mod Ascending
+pub mod FirstDifference
+pub mod LeastMember
+pub mod Retained

@@ -1,8 +1,9 @@
 -- Members of lists: the steps of an induction, and the members of lists that are made from lists.
-use Rattle.std.proofs.Common.{◌≡◌, ℕ, zero, suc, List, [], ◌∷◌, ◌++◌, map, get_or, Option, Some, None, ◌⊎◌, inl, inr, refl, sym, ap, subst, ◌∙◌, arith}
-use Rattle.std.specs.Prelude.{slice_get, All, Contains}
-use Rattle.std.specs.List.{AllByRecursion, filter_map, cons_option}
-use Rattle.std.proofs.lemmas.List.Elements.{recursion_from_All, All-contains, Contains-push_cases, Contains-get_or}
+use Rattle.std.proofs.Common.{◌≡◌, ℕ, zero, suc, Bool, true, false, List, [], ◌∷◌, ◌++◌, map, get_or, Option, Some, None, ◌⊎◌, ◌↔◌, inl, inr, refl, sym, ap, subst, ◌∙◌, arith}
+use Rattle.std.specs.Prelude.{slice_get, filter, All, Any, Contains}
+use Rattle.std.specs.List.{AllByRecursion, filter_map, cons_option, flat_map}
+use Rattle.std.proofs.lemmas.Bool.{cases_Bool}
+use Rattle.std.proofs.lemmas.List.Elements.{recursion_from_All, All-contains, All-filter, All-contains_itself, filter_passes, Contains-push_cases, Contains-get_or, Contains-append_left, Contains-append_right}
 
 got : {X : Type 0} (P : X → Type 0) (xs : List X) (i : ℕ) (x : X) → AllByRecursion P xs → slice_get xs i ≡ Some x → P x
 got P [] i x all e = cc
@@ -28,6 +29,10 @@ module _ {X : Type 0} where
   cases_in y xs x (zero, within, is) = inl (sym is)
   cases_in y xs x (suc i, within, is) = inr (i, omega (arith, within), is)
 
+  -- both directions at once
+  pub in_either : (y : X) (xs : List X) (x : X) → Contains (y ∷ xs) x ↔ ((x ≡ y) ⊎ Contains xs x)
+  in_either y xs x = (cases_in y xs x, λ either. elim either [ inl same ↦ in_front y xs x same | inr there ↦ in_rest y xs x there ])
+
   pub in_one : (y x : X) → Contains (y ∷ []) x → x ≡ y
   in_one y x h = elim (cases_in y [] x h) [ inl same ↦ same | inr none ↦ absurd (in_none x none) ]
 
@@ -46,7 +51,40 @@ module _ {X : Type 0} where
   pub cases_push : (xs : List X) (y x : X) → Contains (xs ++ y ∷ []) x → Contains xs x ⊎ (x ≡ y)
   cases_push xs y x h = elim (Contains-push_cases xs y x h) [ inl old ↦ inl old | inr last ↦ inr (sym last) ]
 
+  -- ---- what holds of some element
+
+  pub any_in : (P : X → Type 0) (xs : List X) (x : X) → Contains xs x → P x → Any P xs
+  any_in P xs x h holds = (h.0, x, h.1, h.2, holds)
+
+  -- an element that it holds of
+  pub found_in : (P : X → Type 0) (xs : List X) → Any P xs → (x : X) × Contains xs x × P x
+  found_in P xs any = (any.1, (any.0, any.2, any.3), any.4)
+
+  -- something else holds of some element of another list
+  pub any_from : (P Q : X → Type 0) (xs ys : List X) → ((x : X) → Contains xs x → P x → Any Q ys) → Any P xs → Any Q ys
+  any_from P Q xs ys each any = let found = found_in P xs any in each found.0 found.1 found.2
+
+  -- of one of before, or of the last one that was added
+  pub cases_any_push : (P : X → Type 0) (xs : List X) (y : X) → Any P (xs ++ y ∷ []) → Any P xs ⊎ P y
+  cases_any_push P xs y any =
+      let found = found_in P (xs ++ y ∷ []) any in
+      elim (cases_push xs y found.0 found.1) [ inl old ↦ inl (any_in P xs found.0 old found.2) | inr last ↦ inr (subst P last found.2) ]
+
 -- ---- lists made from lists
+
+module _ {X : Type 0} (p : X → Bool) where
+  pub in_filter : (xs : List X) (x : X) → Contains xs x → p x ≡ true → Contains (filter p xs) x
+  in_filter [] x h passes = absurd (in_none x h)
+  in_filter (z ∷ zs) x h passes = elim (cases_Bool (p z)) [
+    | inl kept ↦ rw kept (elim (cases_in z zs x h) [ inl e ↦ in_front z (filter p zs) x e | inr more ↦ in_rest z (filter p zs) x (in_filter zs x more passes) ])
+    | inr gone ↦ rw gone (elim (cases_in z zs x h) [ inl e ↦ (let no : true ≡ false = sym passes ∙ ap p e ∙ gone in absurd cc) | inr more ↦ in_filter zs x more passes ])
+  ]
+
+  pub of_filter : (xs : List X) (x : X) → Contains (filter p xs) x → Contains xs x × (p x ≡ true)
+  of_filter xs x h = (
+    each_in (Contains xs) (filter p xs) (All-filter p (Contains xs) xs (All-contains_itself xs)) x h,
+    each_in (λ y. p y ≡ true) (filter p xs) (filter_passes p xs) x h,
+  )
 
 in_cons_option : {Y : Type 0} (o : Option Y) (ys : List Y) (y : Y) → Contains ys y → Contains (cons_option o ys) y
 in_cons_option None ys y h = h
@@ -84,3 +122,15 @@ module _ {X Y : Type 0} where
     | inl first ↦ (z, in_first z zs, first)
     | inr more ↦ let rest = of_filter_map f zs y more in (rest.0, in_rest z zs rest.0 rest.1, rest.2)
   ]
+
+-- what f makes of an element of each of two lists
+abbrev pub products : {X Y Z : Type 0} → (X → Y → Z) → List X → List Y → List Z
+products f xs ys = flat_map (λ x. map (f x) ys) xs
+
+pub in_products : {X Y Z : Type 0} (f : X → Y → Z) (xs : List X) (ys : List Y) (x : X) (y : Y) → Contains xs x → Contains ys y
+    → Contains (products f xs ys) (f x y)
+in_products f [] ys x y there too = absurd (in_none x there)
+in_products f (z ∷ zs) ys x y there too = elim (cases_in z zs x there) [
+  | inl same ↦ Contains-append_left (map (f z) ys) (products f zs ys) (f x y) (subst (λ u. Contains (map (f u) ys) (f x y)) same (in_map (f x) ys y too))
+  | inr later ↦ Contains-append_right (map (f z) ys) (products f zs ys) (f x y) (in_products f zs ys x y later too)
+]

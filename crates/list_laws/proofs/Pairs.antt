@@ -1,7 +1,7 @@
 -- Lists of which each element stands in a relation to each later one, above all lists without repeats.
-use Rattle.std.proofs.Common.{◌≡◌, ◌≢◌, suc, ◌≤◌, List, [], ◌∷◌, ◌++◌, length, map, get_or, inl, inr, refl, sym, ap, subst, ◌∙◌, arith}
+use Rattle.std.proofs.Common.{◌≡◌, ◌≢◌, ℕ, zero, suc, ◌≤◌, List, [], ◌∷◌, ◌++◌, length, map, take, get_or, inl, inr, refl, sym, ap, subst, ◌∙◌, arith}
 use Rattle.std.specs.Prelude.{All, AllPairs, Contains}
-use Rattle.std.proofs.lemmas.List.Elements.{Contains-get_or}
+use Rattle.std.proofs.lemmas.List.Elements.{All-take, Contains-get_or}
 use Rattle.std.proofs.lemmas.List.Kept.{AllPairs-cons}
 use Rattle.std.proofs.lemmas.List.Quantifiers.{all_pairs_push}
 use Rattle.list_laws.proofs.Members.{in_none, in_first, in_rest, cases_in, each_in, all_from_in, of_map}
@@ -25,6 +25,13 @@ module _ {X : Type 0} (R : X → X → Type 0) where
 
   pub pairs_push : (xs : List X) (y : X) → AllPairs R xs → ((x : X) → Contains xs x → R x y) → AllPairs R (xs ++ y ∷ [])
   pairs_push xs y pairs last = all_pairs_push R xs y pairs (λ k d within. last (get_or xs k d) (Contains-get_or xs k d within))
+
+  -- the front of a list
+  pub pairs_take : (n : ℕ) (xs : List X) → AllPairs R xs → AllPairs R (take n xs)
+  pairs_take zero xs pairs = pairs_none
+  pairs_take (suc n) [] pairs = pairs_none
+  pairs_take (suc n) (x ∷ xs) pairs =
+      AllPairs-cons R x (take n xs) (All-take (R x) n xs (pairs_first x xs pairs)) (pairs_take n xs (pairs_rest x xs pairs))
 
 pub pairs_map : {X Y : Type 0} (R : X → X → Type 0) (S : Y → Y → Type 0) (f : X → Y) → ((x z : X) → R x z → S (f x) (f z)) → (xs : List X)
     → AllPairs R xs → AllPairs S (map f xs)

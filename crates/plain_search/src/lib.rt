@@ -13,4 +13,4 @@ mod search;
 mod tests;
 
 pub use martins::plain_search;
-pub use query::{MAX_BUDGET, Query, SearchFault};
+pub use query::{Query, SearchFault};

@@ -1,9 +1,10 @@
 ghost use Rattle.std.specs.Prelude.{IfOk};
 ghost use Rattle.arc_graph.specs.Graph.{Match};
 
-use crate::{MAX_BUDGET, Query, SearchFault, plain_search};
+use crate::{Query, SearchFault, plain_search};
 use arc_graph::{ArcFile, ArcLine, Graph, Weights, join_files};
 use cost_vector::{Cost, Limit, NodeNo};
+use road_network::MAX_BUDGET;
 use std::alloc::Global;
 use std::process::Abort;
 use std::test::Fail;

@@ -1,17 +1,18 @@
--- One list is the answer to a query, and it is empty only where no walk leads to the target.
+-- Each query has one list of best costs, empty only where no walk leads to the target, and one answer with walks.
 use Rattle.std.proofs.Common.{◌≡◌, ℕ, List, [], ◌∷◌, map, Option, refl, sym, ap, ap₂, subst}
 use Rattle.std.specs.Prelude.{All}
 use Rattle.std.proofs.lemmas.List.Elements.{All-nil, All-cons, All-head, All-tail}
-use Rattle.cost_vector.specs.Costs.{LexLess, no_limit}
-use Rattle.cost_vector.proofs.Vectors.{LexLess-irrefl, LexLess-trans, Within-no_limit}
+use Rattle.cost_vector.specs.Costs.{LexLess, Within, no_limit}
+use Rattle.cost_vector.proofs.Vectors.{LexLess-irrefl, LexLess-trans, cases_LexLess, Within-no_limit}
 use Rattle.road_network.specs.Network.{Network, IsNetwork}
 use Rattle.road_network.specs.Walks.{IsWalk}
 use Rattle.road_network.specs.Best.{IsBest, IsBackwardLeast}
 use Rattle.road_network.specs.Answers.{AreBestCosts, IsAnswer, Route}
 use Rattle.list_laws.proofs.Members.{in_none, all_from_in}
-use Rattle.list_laws.proofs.Ascending.{ascending_same}
+use Rattle.list_laws.proofs.Ascending.{ascending_same, ascending_of}
 use Rattle.road_network.proofs.WalkLaws.{length_of_walk}
-use Rattle.road_network.proofs.BestLaws.{each_has_best_below}
+use Rattle.road_network.proofs.BestLaws.{each_has_best_below, cases_best_within}
+use Rattle.road_network.proofs.FiniteLaws.{best_costs_are_listed}
 use Rattle.road_network.proofs.BackwardLaws.{has_backward_least, one_backward_least}
 
 -- ---- the best costs
@@ -21,6 +22,14 @@ module _ (net : Network) (s t : ℕ) where
   one_list limit xs ys these those =
       ascending_same LexLess LexLess-irrefl LexLess-trans xs ys these.ascending those.ascending
       (λ c. (λ h. (those.exact c).1 ((these.exact c).0 h), λ h. (these.exact c).1 ((those.exact c).0 h)))
+
+  -- best costs are finitely many, and each can be told: so they have a list
+  pub some_list : IsNetwork net → (limit : List (Option ℕ)) → (costs : List (List ℕ)) × AreBestCosts net s t limit costs
+  some_list is limit =
+      let all = best_costs_are_listed net is in
+      let found = ascending_of LexLess LexLess-trans cases_LexLess (λ c. IsBest net s t c × Within limit c) (cases_best_within net is s t limit)
+      all.0 (λ c both. all.1 s t c both.0) in
+      (found.0, record { ascending = found.1; exact = found.2 })
 
   pub none_only_where_no_walk : IsNetwork net → (p c : List ℕ) → AreBestCosts net s t (no_limit net.criteria) [] → ¬ IsWalk net s p t c
   none_only_where_no_walk is p c answer walk =

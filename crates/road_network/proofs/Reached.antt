@@ -1,15 +1,15 @@
 -- Whether some walk to a node has a cost that is so related to another can be decided, arc by arc from the last one back.
-use Rattle.std.proofs.Common.{◌≡◌, ℕ, zero, suc, ◌+◌, ◌-◌, ◌<◌, List, [], ◌∷◌, length, replicate, sum, Option, Some, None, ◌⊎◌, inl, inr, refl, sym, ap, subst, ◌∙◌, arith}
+use Rattle.std.proofs.Common.{◌≡◌, ℕ, zero, suc, ◌+◌, ◌-◌, ◌<◌, List, [], ◌∷◌, length, replicate, reverse, sum, Option, Some, None, ◌⊎◌, inl, inr, refl, sym, ap, subst, ◌∙◌, arith}
 use Rattle.std.specs.Prelude.{slice_get}
 use Rattle.std.proofs.lemmas.Bool.{cases_eq, cases_lt}
 use Rattle.std.proofs.lemmas.Option.{get_or_from_slice_get, slice_get_cases}
 use Rattle.cost_vector.specs.Costs.{AtMost, Dominates, plus}
 use Rattle.cost_vector.proofs.Sums.{each, length-each, plus-minus}
-use Rattle.cost_vector.proofs.Vectors.{AtMost-refl, AtMost-trans, AtMost-plus_other, cases_AtMost, cases_Dominates, cases_same, Dominates-plus, Dominates-cancel, plus_cancel, sum-plus}
+use Rattle.cost_vector.proofs.Vectors.{AtMost-refl, AtMost-trans, AtMost-plus_other, AtMost-length, cases_AtMost, cases_Dominates, cases_same, Dominates-plus, Dominates-cancel, plus_cancel, sum-plus}
 use Rattle.road_network.specs.Network.{Network, IsNetwork, IsNode, Leads}
-use Rattle.road_network.specs.Walks.{Arrives, EndsBy}
+use Rattle.road_network.specs.Walks.{IsWalk, Arrives, EndsBy}
 use Rattle.list_laws.proofs.Least.{least_below}
-use Rattle.road_network.proofs.WalkLaws.{leads_by_vector, length_of_arrival}
+use Rattle.road_network.proofs.WalkLaws.{leads_by_vector, length_of_arrival, length_of_walk, start_of_walk, arrives_by_walk, walk_by_arrival}
 
 -- a relation of costs that stands where the same is added to both, or taken from both
 pub record IsShiftable (R : List ℕ → List ℕ → Type 0) : Type 0 where
@@ -69,6 +69,12 @@ module _ (net : Network) where
             other (ap (λ (p : ℕ × ℕ). p.1) same))
       ]
     ]
+
+cases_node : (nodes v : ℕ) → IsNode nodes v ⊎ (¬ IsNode nodes v)
+cases_node nodes v = elim (cases_lt v 1) [
+  | inl below ↦ inr (λ node. omega arith)
+  | inr counted ↦ elim (cases_lt nodes v) [ inl above ↦ inr (λ node. omega arith) | inr within ↦ inl (counted, within) ]
+]
 
 -- what is left of a cost when a vector is taken from it
 abbrev pub less : List ℕ → List ℕ → List ℕ
@@ -188,3 +194,17 @@ module _ (net : Network) (is : IsNetwork net) (s : ℕ) (node : IsNode net.nodes
 
   pub cases_along : (v : ℕ) (c : List ℕ) → length c ≡ net.criteria → (k : ℕ) → Along v c k ⊎ (¬ Along v c k)
   cases_along v c long = cases_along_if v c long (λ u d less. cases_reached u d)
+
+-- a walk is found whose cost is so related to c, or there is none: wherever it starts, and whatever the length of c
+pub cases_walk : (net : Network) → IsNetwork net → {R : List ℕ → List ℕ → Type 0} → IsShiftable R → (s v : ℕ) (c : List ℕ)
+    → ((p : List ℕ) × (b : List ℕ) × IsWalk net s p v b × R b c) ⊎ ((p b : List ℕ) → IsWalk net s p v b → ¬ R b c)
+cases_walk net is shifts s v c = elim (cases_node net.nodes s) [
+  | inr other ↦ inr (λ p b walk related. other (start_of_walk net is p s v b walk))
+  | inl node ↦ elim (cases_eq (length c) net.criteria) [
+    | inr other ↦ inr (λ p b walk related. other (sym (AtMost-length b c (shifts.at_most b c related)) ∙ length_of_walk net is p s v b walk))
+    | inl long ↦ elim (cases_reached net is s node shifts v c long) [
+      | inl found ↦ inl (reverse found.arcs, found.cost, walk_by_arrival net is found.arcs s v found.cost found.walk, found.related)
+      | inr none ↦ inr (λ p b walk related. none (record { arcs = reverse p; cost = b; walk = arrives_by_walk net is p s v b walk; related = related }))
+    ]
+  ]
+]

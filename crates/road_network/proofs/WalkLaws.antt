@@ -4,7 +4,7 @@ use Rattle.std.proofs.lemmas.List.{length-replicate, reverse-append, reverse-rev
 use Rattle.cost_vector.specs.Costs.{plus}
 use Rattle.cost_vector.proofs.Vectors.{length-plus, plus_assoc, plus-zeros, zeros-plus}
 use Rattle.road_network.specs.Network.{Network, IsNetwork, IsNode, IsVector, Leads}
-use Rattle.road_network.specs.Walks.{IsWalk, Arrives}
+use Rattle.road_network.specs.Walks.{IsWalk, Arrives, EndsBy}
 use Rattle.list_laws.proofs.Members.{all_got}
 
 module _ (net : Network) (is : IsNetwork net) where
@@ -99,8 +99,21 @@ module _ (net : Network) (is : IsNetwork net) where
     λ walk. subst (λ q. IsWalk net s q v c) (reverse-reverse p) (walk_by_arrival (reverse p) s v c walk),
   )
 
+  -- a walk and its last arc
+  pub ends_by_last : (p : List ℕ) (s v k : ℕ) (c : List ℕ) → IsWalk net s (p ++ k ∷ []) v c ↔ EndsBy net k v (λ u b. IsWalk net s p u b) c
+  ends_by_last p s v k c = (
+    λ walk.
+        let back = subst (λ q. Arrives net s q v c) (reverse-append p (k ∷ [])) (arrives_by_walk (p ++ k ∷ []) s v c walk) in
+        let before = (readings_agree p s back.at back.before).1 back.walk in
+        record { at = back.at; by = back.by; before = back.before; walk = before; leads = back.leads; cost = back.cost },
+    λ ends. subst (IsWalk net s (p ++ k ∷ []) v) (sym ends.cost) (walk_on p s ends.at v k ends.before ends.by ends.walk ends.leads),
+  )
+
   pub length_of_walk : (p : List ℕ) (s v : ℕ) (c : List ℕ) → IsWalk net s p v c → length c ≡ net.criteria
   length_of_walk p s v c walk = length_of_arrival (reverse p) s v c (arrives_by_walk p s v c walk)
+
+  pub node_of_walk : (p : List ℕ) (s v : ℕ) (c : List ℕ) → IsWalk net s p v c → IsNode net.nodes v
+  node_of_walk p s v c walk = node_of_arrival (reverse p) s v c (arrives_by_walk p s v c walk)
 
   -- ---- two walks are one, and one is two
 

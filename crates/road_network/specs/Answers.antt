@@ -26,6 +26,11 @@ pub record IsRelevant (net : Network) (s t : ℕ) (limit : List (Option ℕ)) (v
   pub within : Within limit c
   pub undominated : (b : List ℕ) → IsBest net s t b → ¬ Dominates b c
 
+-- the relevant pairs, each once
+pub record AreRelevantPairs (net : Network) (s t : ℕ) (limit : List (Option ℕ)) (pairs : List (ℕ × List ℕ)) : Type 0 where
+  pub distinct : AllPairs ◌≢◌ pairs
+  pub exact : (p : ℕ × List ℕ) → Contains pairs p ↔ IsRelevant net s t limit p.0 p.1
+
 -- the query is refused by its budget: it has at least one relevant pair more than the budget
 pub record Passes (net : Network) (s t : ℕ) (limit : List (Option ℕ)) (budget : ℕ) : Type 0 where
   pub pairs : List (ℕ × List ℕ)

@@ -1,6 +1,7 @@
 -- Road networks whose arcs have several weights each: the problem of Martins, "On a multicriteria shortest path
 -- problem", European Journal of Operational Research 16, 1984.
 use Rattle.std.specs.Prelude.{◌≡◌, ℕ, ◌-◌, ◌^◌, ◌<◌, ◌≤◌, List, Option, Some, IfSome, length, sum, slice_get, All}
+use Rattle.cost_vector.specs.Costs.{max_criteria, min_criteria}
 
 -- A network: the nodes are numbered from 1 to `nodes`, the arcs from 1 in the order of `ends`, which has the tail and
 -- the head of each. `states` has for each arc its vector, which lists its weights, or None where the arc is shut.
@@ -26,8 +27,8 @@ AreSmall states = All (λ s. IfSome s (All (λ x. x < 2 ^ 32))) states
 
 -- the network is one: two to four criteria, ends that are nodes, and a state for each arc
 pub record IsNetwork (net : Network) : Type 0 where
-  pub two : 2 ≤ net.criteria
-  pub four : net.criteria ≤ 4
+  pub two : min_criteria ≤ net.criteria
+  pub four : net.criteria ≤ max_criteria
   pub tails : All (λ e. IsNode net.nodes e.0) net.ends
   pub heads : All (λ e. IsNode net.nodes e.1) net.ends
   pub matched : length net.states ≡ length net.ends

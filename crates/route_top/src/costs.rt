@@ -3,7 +3,7 @@ ghost use Rattle.std.specs.Prelude.{◌≡◌, ◌≤◌, [], false, length, Ok,
 ghost use Rattle.std.specs.Io.KnownBytes.{Appends};
 ghost use Rattle.cost_vector.specs.Costs.{no_limit};
 ghost use Rattle.arc_graph.specs.Graph.{Match, network};
-ghost use Rattle.plain_search.specs.declared.query.TheConstants.{MAX_BUDGET};
+ghost use Rattle.road_network.specs.Limits.{max_budget};
 ghost use Rattle.command_words.specs.Words.{costs_asked, query_asked};
 ghost use Rattle.route_io.specs.Causes.{Rose};
 ghost use Rattle.route_top.specs.Costs.{CostsEnd, Replies};
@@ -33,7 +33,7 @@ pub(crate) fn run<'a, F: Folder, K: Sink>(
     requires admitted { All F.admits (costs_asked asked.now).files }
     requires two { 2 ≤ vec_len asked.now.files }
     requires four { vec_len asked.now.files ≤ 4 }
-    requires budget { asked.now.query.budget ≤ MAX_BUDGET }
+    requires budget { asked.now.query.budget ≤ max_budget }
     ensures stops { IfErr result IsWordless }
     ensures output { IfSome (F.files folder.old) (λ file_of.
         RunSends (CostsEnd file_of (costs_asked asked.now))
@@ -62,7 +62,7 @@ fn put_reply(
     reply: &mut SureSink,
 ) -> Result<bool, OutOfMemory>
     requires matched { Match graph.now weights.now }
-    requires budget { query.now.budget ≤ MAX_BUDGET }
+    requires budget { query.now.budget ≤ max_budget }
     requires empty { reply.old.sent ≡ [] }
     ensures { IfOk result (λ is_answer.
         Replies (query_asked query.now) is_answer (network graph.now weights.now) reply.new.sent) }

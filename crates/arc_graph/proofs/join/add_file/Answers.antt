@@ -1,23 +1,23 @@
 use Rattle.std.proofs.Common.{arith, subst, sym, ◌∙◌}
 use Rattle.std.proofs.lemmas.List.{take_all}
 use Rattle.arc_graph.proofs.StandingLemmas.{stands_more}
-use Rattle.std.specs.List.{AllByRecursion}
+use Rattle.std.specs.Prelude.{All}
+use Rattle.std.proofs.lemmas.List.Elements.{All-get_or}
 use Rattle.arc_graph.specs.declared.file.ArcLine.{ArcLine}
 use Rattle.road_network.specs.Network.{IsNode}
-use Rattle.arc_graph.proofs.Places.{all_at}
 use Rattle.arc_graph.proofs.join.add_file.Goals as goal
 
 pub push-requires-clause-tail : goal.push-requires-clause-tail
 push-requires-clause-tail c =
     let Tail : ArcLine → Type 0 = λ a. IsNode c.args.file.now.nodes a.tail in
-    let each = subst (AllByRecursion Tail) (sym c.arcs-arcs.ensures) c.nodes.ensures.contents.tails in
-    rw c.loop-arc.invariant.nodes (all_at Tail _ c.loop-arc.arc-index _ each c.loop-arc-test.true)
+    let each = subst (All Tail) (sym c.arcs-arcs.ensures) c.nodes.ensures.contents.tails in
+    rw c.loop-arc.invariant.nodes (All-get_or Tail _ c.loop-arc.arc-index _ c.loop-arc-test.true each)
 
 pub push-requires-clause-head : goal.push-requires-clause-head
 push-requires-clause-head c =
     let Head : ArcLine → Type 0 = λ a. IsNode c.args.file.now.nodes a.head in
-    let each = subst (AllByRecursion Head) (sym c.arcs-arcs.ensures) c.nodes.ensures.contents.heads in
-    rw c.loop-arc.invariant.nodes (all_at Head _ c.loop-arc.arc-index _ each c.loop-arc-test.true)
+    let each = subst (All Head) (sym c.arcs-arcs.ensures) c.nodes.ensures.contents.heads in
+    rw c.loop-arc.invariant.nodes (All-get_or Head _ c.loop-arc.arc-index _ c.loop-arc-test.true each)
 
 pub loop-arc-preserved : goal.loop-arc-preserved
 loop-arc-preserved c = record {

@@ -1,9 +1,12 @@
-use Rattle.std.proofs.Common.{◌<◌, ◌^◌, sym, subst, arith}
+use Rattle.std.proofs.Common.{◌<◌, ◌^◌, ◌∷◌, [], sym, subst, arith}
+use Rattle.std.specs.Prelude.{All}
 use Rattle.std.specs.List.{AllByRecursion}
-use Rattle.road_network.proofs.SumLaws.{sums_fit}
+use Rattle.std.proofs.lemmas.List.Elements.{All-from_recursion}
+use Rattle.arc_graph.proofs.RelaxLaws.{sums_fit}
 use Rattle.arc_graph.proofs.tests.joins_files_that_agree.Goals as goal
 
 pub relax-requires-clause-fits : goal.relax-requires-clause-fits
 relax-requires-clause-fits g c =
-    let small = subst (AllByRecursion (λ x. x < 2 ^ 58)) (sym c.zero.ensures) (omega arith, (omega arith, (omega arith, tt))) in
+    let zeros : AllByRecursion (λ x. x < 2 ^ 58) (0 ∷ 0 ∷ 0 ∷ []) = (omega arith, (omega arith, (omega arith, tt))) in
+    let small = subst (All (λ x. x < 2 ^ 58)) (sym c.zero.ensures) (All-from_recursion (λ x. x < 2 ^ 58) (0 ∷ 0 ∷ 0 ∷ []) zeros) in
     sums_fit c.in_ok-graph.graph c.in_ok-weights.weights 1 c.zero.result c.arcs-2.ensures.states small

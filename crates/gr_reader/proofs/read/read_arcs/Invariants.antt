@@ -1,5 +1,5 @@
 use Rattle.std.proofs.Common.{◌≡◌, ◌≤◌, ◌-◌, length, true, false, None, IfSome, IsSomeAnd}
-use Rattle.arc_graph.specs.declared.file.TheConstants.{MAX_ARCS}
+use Rattle.road_network.specs.Limits.{max_arcs}
 use Rattle.line_text.specs.Reading.{LosesNone, rest_of}
 use Rattle.gr_reader.specs.Reader.{told_by, unread}
 use Rattle.gr_reader.specs.Table.{line_limits}
@@ -14,7 +14,7 @@ invariant-loop-file g l = record {
   no_end : l.lines.whole ≡ false;
   nodes : l.lines.nodes ≡ l.file.nodes;
   come : length l.file.arcs ≡ l.lines.come;
-  arcs : l.lines.arcs ≤ MAX_ARCS;
+  arcs : l.lines.arcs ≤ max_arcs;
   limits : l.lines.lines.limits ≡ line_limits l.fn.limits;
   loses_none : LosesNone (unread l.fn.limits).lines l.lines.lines (g.S.Source.left l.fn.source) (g.S.Source.left l.source);
   count : g.S.Source.faults l.source ≡ g.S.Source.faults l.fn.source;

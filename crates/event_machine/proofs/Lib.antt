@@ -7,3 +7,7 @@ pub mod Frontier
 pub mod Keeping
 pub mod SettledLabels
 pub mod Bounding
+pub mod ToldLaws
+pub mod RoundLaws
+pub mod CountingLaws
+pub mod BudgetLaws

@@ -10,3 +10,7 @@ pub mod Taking
 pub mod Keeping
 pub mod SettledLabels
 pub mod Bounding
+pub mod ToldLaws
+pub mod OnceLaws
+pub mod HappensLaws
+pub mod OutcomeLaws

@@ -1,5 +1,5 @@
 -- What each event changes.
-use Rattle.std.proofs.Common.{◌≡◌, ℕ, ◌∷◌, ◌⊎◌, inl, inr, refl, sym, ap, subst, ◌∙◌}
+use Rattle.std.proofs.Common.{◌≡◌, ℕ, ◌∷◌, ◌⊎◌, ◌↔◌, inl, inr, refl, sym, ap, subst, ◌∙◌}
 use Rattle.std.specs.Prelude.{length, Contains}
 use Rattle.std.proofs.lemmas.List.Sorted.{IsPermutation-sym}
 use Rattle.cost_vector.specs.Costs.{AtMost, Within, plus}
@@ -27,6 +27,40 @@ follows_alike net e x y f g arc =
 
 pub leads_on : (net : Network) (e x : Label) → Follows net e x → LeadsOn net e.node x.arc
 leads_on net e x f = record { by = f.by; to = x.node; leads = f.leads }
+
+-- what arrives stays the same where an arc is relaxed
+pub arrivals_by_relax : (task : Task) (a b : SearchState) (l : Label) (k : ℕ) → Relaxes task a l k b → (x : Label)
+    → IsArrival task.network a x ↔ IsArrival task.network b x
+arrivals_by_relax task a b l k h x = (
+  elim [
+    | came there ↦ came ((gains x).1 (inl there))
+    | comes e there f ↦ elim (cases_pair (e, x.arc) (l, k)) [
+      | inr other ↦ comes e ((h.unrelaxed (e, x.arc)).1 (there, other)) f
+      | inl same ↦
+          let from : Follows task.network l x = subst (λ (m : Label). Follows task.network m x) (ap (λ (p : Label × ℕ). p.0) same) f in
+          let arc : x.arc ≡ h.candidate.arc = ap (λ (p : Label × ℕ). p.1) same ∙ sym h.arc in
+          came ((gains x).1 (inr (follows_alike task.network l x h.candidate from h.follows arc)))
+    ]
+  ],
+  elim [
+    | comes e here f ↦ comes e ((h.unrelaxed (e, x.arc)).0 here).0 f
+    | came here ↦ elim ((gains x).0 here) [
+      | inl old ↦ came old
+      | inr e ↦ subst (IsArrival task.network a) (sym e) (comes l (subst (λ j. Contains a.unrelaxed (l, j)) (sym h.arc) h.may) h.follows)
+    ]
+  ],
+) where
+  gains : Gains a.candidates h.candidate b.candidates
+  gains = gains_by_permutation h.candidate a.candidates b.candidates h.candidates
+
+-- what is merged leaves the candidates
+pub gains_back_by_merge : (a b : SearchState) (x : Label) → Merges a x b → Gains b.candidates x a.candidates
+gains_back_by_merge a b x h = gains_by_permutation x b.candidates a.candidates (IsPermutation-sym a.candidates (x ∷ b.candidates) h.candidates)
+
+-- no candidate of a sound state dominates or equals a settled label
+pub harmless_candidate : (task : Task) (s : SearchState) → IsSound task s → (x : Label) → Contains s.candidates x → IsHarmless s x
+harmless_candidate task s sound x there =
+    record { undominated = λ l settled. sound.undominated l x settled (is_candidate there); unequalled = λ l settled. sound.unequalled l x settled there }
 
 as_active : (s : SearchState) (y : Label) → IsActive s y → HasActiveBelow s y.cost
 as_active s y active = record { label = y; active = active; at_most = AtMost-refl y.cost }
@@ -108,7 +142,7 @@ module _ (task : Task) (a b : SearchState) (sound : IsSound task a) where
       | has_arc j here ↦ as_active a y (has_arc j ((h.unrelaxed (y, j)).0 here).0)
     ];
     covers = λ y (p, there). covered_by_itself b y (p, (h.entries p y).1 there);
-    arrivals = λ y. elim [ came here ↦ inl (came ((gains y).1 (inl here))) | comes e there f ↦ inl (still y e there f) ];
+    arrivals = λ y arrival. inl ((arrivals_by_relax task a b l k h y).0 arrival);
     apart = apart_as_before a b sound.apart (λ p y. (h.entries p y).0);
   } where
     gains : Gains a.candidates h.candidate b.candidates
@@ -122,15 +156,6 @@ module _ (task : Task) (a b : SearchState) (sound : IsSound task a) where
 
     grown : (e x : Label) → length e.cost ≡ task.network.criteria → Follows task.network e x → AtMost e.cost x.cost
     grown e x long f = subst (AtMost e.cost) (sym f.cost) (grows_along task.network is x.arc e.node x.node f.by e.cost f.leads long).at_most
-
-    still : (y e : Label) → Contains a.unrelaxed (e, y.arc) → Follows task.network e y → IsArrival task.network b y
-    still y e there f = elim (cases_pair (e, y.arc) (l, k)) [
-      | inr other ↦ comes e ((h.unrelaxed (e, y.arc)).1 (there, other)) f
-      | inl same ↦
-          let from : Follows task.network l y = subst (λ (m : Label). Follows task.network m y) (ap (λ (p : Label × ℕ). p.0) same) f in
-          let arc : y.arc ≡ h.candidate.arc = ap (λ (p : Label × ℕ). p.1) same ∙ sym h.arc in
-          came ((gains y).1 (inr (follows_alike task.network l y h.candidate from h.follows arc)))
-    ]
 
   pub merge_changes : (x : Label) → Merges a x b → Changes task a b
   merge_changes x h = record {
@@ -164,13 +189,13 @@ module _ (task : Task) (a b : SearchState) (sound : IsSound task a) where
     apart = apart_by_merge a b x sound.apart harmless h.entries;
   } where
     gains : Gains b.candidates x a.candidates
-    gains = gains_by_permutation x b.candidates a.candidates (IsPermutation-sym a.candidates (x ∷ b.candidates) h.candidates)
+    gains = gains_back_by_merge a b x h
 
     mine : Contains a.candidates x
     mine = (gains x).1 (inr refl)
 
     harmless : IsHarmless a x
-    harmless = record { undominated = λ l there. sound.undominated l x there (is_candidate mine); unequalled = λ l there. sound.unequalled l x there mine }
+    harmless = harmless_candidate task a sound x mine
 
     stands : SameMembers b.settled a.settled
     stands = settled_by_merge a b x sound.apart harmless h.entries

@@ -1,147 +1,161 @@
--- What changes between a state and the next, whatever happens.
-use Rattle.std.proofs.Common.{◌≡◌, ◌≢◌, ℕ, List, ◌⊎◌, inl, inr, refl, sym, ap, subst, ◌∙◌}
+-- What becomes of the entries where an event happens in a sound state.
+use Rattle.std.proofs.Common.{◌≡◌, ◌≢◌, List, ◌⊎◌, inl, inr, refl, sym, ap, subst, ◌∙◌, arith}
 use Rattle.std.specs.Prelude.{Contains}
-use Rattle.cost_vector.specs.Costs.{AtMost, Within}
-use Rattle.event_machine.specs.Machine.{Task, Label, SearchState, Place, settled, dropped, waiting, entries_at, IsEntry, IsActive, IsBeatenAtTarget, LeadsOn, Follows}
-use Rattle.event_machine.specs.Events.{MayTake, Takes, Drops}
-use Rattle.event_machine.specs.Orders.{IsArrival}
+use Rattle.cost_vector.specs.Costs.{AtMost}
+use Rattle.cost_vector.proofs.Vectors.{AtMost-refl}
+use Rattle.event_machine.specs.Machine.{Task, Label, IsSamePair, Beats, SearchState, Place, settled, waiting, entries_at, IsEntry, IsActive, waits, is_candidate}
+use Rattle.event_machine.specs.Events.{SameEntries, Becomes, LowersEntry, Enters, IsMerged, keeps, lowers, discards, enters}
+use Rattle.event_machine.specs.Orders.{HasPair}
 use Rattle.event_machine.specs.Laws.{IsKnown}
-use Rattle.event_machine.proofs.Covering.{cases_label}
-use Rattle.event_machine.proofs.Sound.{IsCovered, AreApart}
+use Rattle.event_machine.proofs.Sound.{Covers, better, as_good, IsCovered, covered_by_itself, AreApart, IsSound, cases_label, cases_beats, cases_below, same_pair, pair_back}
 
--- y is a new candidate: some settled label with an arc to be relaxed gives it
-pub record IsGiven (task : Task) (s : SearchState) (y : Label) : Type 0 where
-  pub from : Label
-  pub settled : Contains s.settled from
-  pub active : IsActive s from
-  pub follows : Follows task.network from y
-
--- some label from which the search still goes on costs at most c
-pub record HasActiveBelow (s : SearchState) (c : List ℕ) : Type 0 where
-  pub label : Label
-  pub active : IsActive s label
-  pub at_most : AtMost label.cost c
-
--- y is settled next, and what it gives arrives
-pub record IsTaken (task : Task) (a b : SearchState) (y : Label) : Type 0 where
-  pub may : MayTake task a y
-  pub opens : (x : Label) → Follows task.network y x → IsArrival task.network b x
-
-pub record Changes (task : Task) (a b : SearchState) : Type 0 where
+-- no settled label goes, each entry was known and can be stood for later, and they stay apart
+pub record EntriesChange (a b : SearchState) : Type 0 where
   pub kept : (y : Label) → Contains a.settled y → Contains b.settled y
-  pub settled : (y : Label) → Contains b.settled y → Contains a.settled y ⊎ IsTaken task a b y
-  pub useless : (y : Label) → Contains b.dropped y → (¬ Within task.limit y.cost) ⊎ IsBeatenAtTarget task a y.cost
-  pub paired : (e : Label) (k : ℕ) → Contains b.unrelaxed (e, k) → Contains b.settled e × LeadsOn task.network e.node k
-  pub known : (y : Label) → IsKnown b y → IsKnown a y ⊎ IsGiven task a y
-  pub candidates : (y : Label) → Contains b.candidates y → Contains a.candidates y ⊎ IsGiven task a y
-  pub active : (y : Label) → IsActive b y → HasActiveBelow a y.cost
+  pub known : (y : Label) → IsEntry b y → IsKnown a y
+  pub active : (y : Label) → Contains b.waiting y → IsActive a y
   pub covers : (y : Label) → IsEntry a y → IsCovered b y
-  pub arrivals : (y : Label) → IsArrival task.network a y → IsArrival task.network b y ⊎ IsCovered b y
   pub apart : AreApart b
 
--- ---- where entries stand
-
--- the entries of b are those of a, but for n, which stands in one place
-pub record IsPlaced (a b : SearchState) (n : Label) (q : Place) : Type 0 where
-  pub back : (p : Place) (y : Label) → Contains (entries_at b p) y → (Contains (entries_at a p) y × (y ≢ n)) ⊎ ((y ≡ n) × (p ≡ q))
-  pub clear : (z : Label) → IsEntry b z → z ≢ n → n.node ≡ z.node → ¬ (AtMost n.cost z.cost ⊎ AtMost z.cost n.cost)
+-- n can come to the entries that stay
+pub record HasRoom (a : SearchState) (Stays : Place → Label → Type 0) (n : Label) : Type 0 where
+  pub source : Contains a.waiting n ⊎ Contains a.candidates n
+  pub settled_stay : (y : Label) → Contains a.settled y → Stays settled y
+  pub others_covered : (p : Place) (y : Label) → Contains (entries_at a p) y → Stays p y ⊎ Covers n y
+  pub clear : (p : Place) (y : Label) → Contains (entries_at a p) y → Stays p y → n.node ≡ y.node → ¬ (AtMost n.cost y.cost ⊎ AtMost y.cost n.cost)
 
 module _ (a b : SearchState) (apart : AreApart a) where
-  pub apart_as_placed : (n : Label) (q : Place) → IsPlaced a b n q → AreApart b
-  apart_as_placed n q is = record {
-    alone = λ y z (p, y_in) (r, z_in) node at_most. elim (is.back p y y_in) [
-      | inl (y_old, other) ↦ elim (is.back r z z_in) [
-        | inl (z_old, _) ↦ apart.alone y z (p, y_old) (r, z_old) node at_most
-        | inr (e, _) ↦ absurd (is.clear y (p, y_in) other (ap (λ (l : Label). l.node) (sym e) ∙ sym node) (inr (subst (λ (l : Label). AtMost y.cost l.cost) e at_most)))
-      ]
-      | inr (e, _) ↦ elim (is.back r z z_in) [
-        | inl (_, other) ↦ absurd (is.clear z (r, z_in) other (ap (λ (l : Label). l.node) (sym e) ∙ node) (inl (subst (λ (l : Label). AtMost l.cost z.cost) e at_most)))
-        | inr (f, _) ↦ e ∙ sym f
-      ]
-    ];
-    placed = λ p r y here there. elim (is.back p y here) [
-      | inl (old, other) ↦ elim (is.back r y there) [ inl (old_too, _) ↦ apart.placed p r y old old_too | inr (e, _) ↦ absurd (other e) ]
-      | inr (e, is_p) ↦ elim (is.back r y there) [ inl (_, other) ↦ absurd (other e) | inr (_, is_r) ↦ is_p ∙ sym is_r ]
+  pub entries_stay : SameEntries b a → EntriesChange a b
+  entries_stay same = record {
+    kept = λ y there. (same settled y).1 there;
+    known = λ y (p, here). inl (p, (same p y).0 here);
+    active = λ y here. waits ((same waiting y).0 here);
+    covers = λ y (p, there). covered_by_itself b y (p, (same p y).1 there);
+    apart = record {
+      alone = λ y z (p, y_in) (q, z_in). apart.alone y z (p, (same p y).0 y_in) (q, (same q z).0 z_in);
+      placed = λ p q y here there. apart.placed p q y ((same p y).0 here) ((same q y).0 there);
+    };
+  }
+
+  module _ (Stays : Place → Label → Type 0) (n : Label) (to : Place) (becomes : Becomes a Stays n to b) (room : HasRoom a Stays n) where
+    -- an entry that stays isn't n
+    is_other : (p : Place) (y : Label) → Contains (entries_at a p) y → Stays p y → y ≢ n
+    is_other p y there stays e = room.clear p y there stays (ap (λ (l : Label). l.node) (sym e)) (inr (subst (λ (l : Label). AtMost y.cost l.cost) e (AtMost-refl y.cost)))
+
+    apart_after : AreApart b
+    apart_after = record {
+      alone = λ y z (p, y_in) (q, z_in) node below. elim ((becomes p y).0 y_in) [
+        | inl old ↦ elim ((becomes q z).0 z_in) [
+          | inl old_too ↦ apart.alone y z (p, old.0) (q, old_too.0) node below
+          | inr (_, e) ↦ absurd (room.clear p y old.0 old.1 (ap (λ (l : Label). l.node) (sym e) ∙ sym node) (inr (subst (λ (l : Label). AtMost y.cost l.cost) e below)))
+        ]
+        | inr (_, e) ↦ elim ((becomes q z).0 z_in) [
+          | inl old ↦ absurd (room.clear q z old.0 old.1 (ap (λ (l : Label). l.node) (sym e) ∙ node) (inl (subst (λ (l : Label). AtMost l.cost z.cost) e below)))
+          | inr (_, f) ↦ e ∙ sym f
+        ]
+      ];
+      placed = λ p q y here there. elim ((becomes p y).0 here) [
+        | inl old ↦ elim ((becomes q y).0 there) [ inl old_too ↦ apart.placed p q y old.0 old_too.0 | inr (_, e) ↦ absurd (is_other p y old.0 old.1 e) ]
+        | inr (is_to, e) ↦ elim ((becomes q y).0 there) [ inl old ↦ absurd (is_other q y old.0 old.1 e) | inr (is_to_too, _) ↦ is_to ∙ sym is_to_too ]
+      ];
+    }
+
+    pub entries_become : EntriesChange a b
+    entries_become = record {
+      kept = λ y there. (becomes settled y).1 (inl (there, room.settled_stay y there));
+      known = λ y (p, here). elim ((becomes p y).0 here) [
+        | inl old ↦ inl (p, old.0)
+        | inr (_, e) ↦ subst (IsKnown a) (sym e) (elim room.source [ inl there ↦ inl (waiting, there) | inr there ↦ inr there ])
+      ];
+      active = λ y here. elim ((becomes waiting y).0 here) [
+        | inl old ↦ waits old.0
+        | inr (_, e) ↦ subst (IsActive a) (sym e) (elim room.source [ inl there ↦ waits there | inr there ↦ is_candidate there ])
+      ];
+      covers = λ y (p, there). elim (room.others_covered p y there) [
+        | inl stays ↦ covered_by_itself b y (p, (becomes p y).1 (inl (there, stays)))
+        | inr covers ↦ record { entry = n; is_entry = (to, (becomes to n).1 (inr (refl, refl))); covers = covers }
+      ];
+      apart = apart_after;
+    }
+
+  -- ---- a waiting label moves
+
+  pub room_to_move : (l : Label) → Contains a.waiting l → HasRoom a (λ _ y. y ≢ l) l
+  room_to_move l there = record {
+    source = inl there;
+    settled_stay = λ y is_settled e. let same : settled ≡ waiting = apart.placed settled waiting l (subst (Contains a.settled) e is_settled) there in cc;
+    others_covered = λ p y y_in. elim (cases_label y l) [ inr other ↦ inl other | inl e ↦ inr (as_good (same_pair l y (sym e)) (omega (arith, ap (λ (m : Label). m.arc) e))) ];
+    clear = λ p y y_in other node. elim [
+      | inl below ↦ other (sym (apart.alone l y (waiting, there) (p, y_in) node below))
+      | inr above ↦ other (apart.alone y l (p, y_in) (waiting, there) (sym node) above)
     ];
   }
 
-  pub apart_as_before : ((p : Place) (y : Label) → Contains (entries_at b p) y → Contains (entries_at a p) y) → AreApart b
-  apart_as_before back = record {
-    alone = λ y z (p, y_in) (r, z_in). apart.alone y z (p, back p y y_in) (r, back r z z_in);
-    placed = λ p r y here there. apart.placed p r y (back p y here) (back r y there);
+-- ---- a candidate is merged
+
+module _ (task : Task) (a b : SearchState) (sound : IsSound task a) (x : Label) (mine : Contains a.candidates x) where
+  room_to_lower : (h : LowersEntry a x b) → HasRoom a (λ _ y. y ≢ h.entry) x
+  room_to_lower h = record {
+    source = inr mine;
+    settled_stay = λ y there e. sound.unequalled h.entry x (subst (Contains a.settled) e there) mine (pair_back h.entry x h.same);
+    others_covered = λ p y there. elim (cases_label y h.entry) [
+      | inr other ↦ inl other
+      | inl e ↦ inr (subst (Covers x) (sym e) (as_good (pair_back h.entry x h.same) (omega (arith, h.greater))))
+    ];
+    clear = λ p y there other node. elim [
+      | inl below ↦ other (sym (sound.apart.alone h.entry y (h.place, h.is_entry) (p, there) (h.same.node ∙ node) (subst (λ c. AtMost c y.cost) (sym h.same.cost) below)))
+      | inr above ↦ other (sound.apart.alone y h.entry (p, there) (h.place, h.is_entry) (sym node ∙ sym h.same.node) (subst (AtMost y.cost) (sym h.same.cost) above))
+    ];
   }
 
--- ---- a waiting label moves
+  room_to_enter : (h : Enters a x b) → HasRoom a (λ p y. (p ≡ settled) ⊎ (¬ Beats x y)) x
+  room_to_enter h = record {
+    source = inr mine;
+    settled_stay = λ y there. inl refl;
+    others_covered = λ p y there. elim (cases_beats x y) [ inl beats ↦ inr (better beats) | inr unbeaten ↦ inl (inr unbeaten) ];
+    clear = λ p y there stays node. elim [
+      | inr above ↦ elim (cases_below y x (sym node) above) [ inl pair ↦ h.new y (p, there) pair | inr beats ↦ h.unbeaten y (p, there) beats ]
+      | inl below ↦ elim (cases_below x y node below) [
+        | inl pair ↦ h.new y (p, there) (pair_back x y pair)
+        | inr beats ↦ elim stays [
+          | inr unbeaten ↦ unbeaten beats
+          | inl is_settled ↦ sound.undominated y x (subst (λ q. Contains (entries_at a q) y) is_settled there) (is_candidate mine) beats.cost
+        ]
+      ]
+    ];
+  }
 
--- l moves from the waiting labels to another place, and no other entry moves
-pub record Moves (a b : SearchState) (l : Label) (q : Place) : Type 0 where
-  pub waits : Contains a.waiting l
-  pub back : (p : Place) (y : Label) → Contains (entries_at b p) y → Contains (entries_at a p) y ⊎ ((y ≡ l) × (p ≡ q))
-  pub gone : ¬ Contains b.waiting l
-  pub there : Contains (entries_at b q) l
-  pub stay : (p : Place) (y : Label) → Contains (entries_at a p) y → y ≢ l → Contains (entries_at b p) y
+  pub entries_by_merge : IsMerged a x b → EntriesChange a b
+  entries_by_merge (keeps h) = entries_stay a b sound.apart h.entries
+  entries_by_merge (lowers h) = entries_become a b sound.apart (λ _ y. y ≢ h.entry) x h.place h.entries (room_to_lower h)
+  entries_by_merge (discards h) = entries_stay a b sound.apart h.entries
+  entries_by_merge (enters h) = entries_become a b sound.apart (λ p y. (p ≡ settled) ⊎ (¬ Beats x y)) x waiting h.entries (room_to_enter h)
 
-module _ (a b : SearchState) (l : Label) (q : Place) (moves : Moves a b l q) where
-  pub entry_before_move : (y : Label) → IsEntry b y → IsEntry a y
-  entry_before_move y (p, here) = elim (moves.back p y here) [
-    | inl old ↦ (p, old)
-    | inr (e, _) ↦ (waiting, subst (Contains a.waiting) (sym e) moves.waits)
+  -- x itself can be stood for
+  pub covered_by_merge : IsMerged a x b → IsCovered b x
+  covered_by_merge (keeps h) = record { entry = h.entry; is_entry = (h.is_entry.0, (h.entries h.is_entry.0 h.entry).1 h.is_entry.1); covers = as_good h.same h.lesser }
+  covered_by_merge (lowers h) = covered_by_itself b x (h.place, (h.entries h.place x).1 (inr (refl, refl)))
+  covered_by_merge (discards h) = record { entry = h.entry; is_entry = (h.is_entry.0, (h.entries h.is_entry.0 h.entry).1 h.is_entry.1); covers = better h.beats }
+  covered_by_merge (enters h) = covered_by_itself b x (waiting, (h.entries waiting x).1 (inr (refl, refl)))
+
+  pair_itself : (xs : List Label) (y : Label) → Contains xs y → HasPair xs y
+  pair_itself xs y there = record { label = y; member = there; same = same_pair y y refl }
+
+  -- each entry is of the node and cost of one that stood in its place, or entered to wait
+  pub place_before_merge : IsMerged a x b → (p : Place) (y : Label) → Contains (entries_at b p) y → HasPair (entries_at a p) y ⊎ ((p ≡ waiting) × (y ≡ x))
+  place_before_merge (keeps h) p y here = inl (pair_itself (entries_at a p) y ((h.entries p y).0 here))
+  place_before_merge (discards h) p y here = inl (pair_itself (entries_at a p) y ((h.entries p y).0 here))
+  place_before_merge (enters h) p y here = elim ((h.entries p y).0 here) [ inl old ↦ inl (pair_itself (entries_at a p) y old.0) | inr new ↦ inr new ]
+  place_before_merge (lowers h) p y here = elim ((h.entries p y).0 here) [
+    | inl old ↦ inl (pair_itself (entries_at a p) y old.0)
+    | inr (is_place, e) ↦ inl (record { label = h.entry; member = subst (λ q. Contains (entries_at a q) h.entry) (sym is_place) h.is_entry; same = subst (IsSamePair h.entry) (sym e) h.same })
   ]
 
-  pub entry_after_move : (y : Label) → IsEntry a y → IsEntry b y
-  entry_after_move y (p, here) = elim (cases_label y l) [
-    | inl e ↦ (q, subst (Contains (entries_at b q)) (sym e) moves.there)
-    | inr other ↦ (p, moves.stay p y here other)
+  pub settled_before_merge : IsMerged a x b → (y : Label) → Contains b.settled y → Contains a.settled y
+  settled_before_merge (keeps h) y here = (h.entries settled y).0 here
+  settled_before_merge (discards h) y here = (h.entries settled y).0 here
+  settled_before_merge (enters h) y here = elim ((h.entries settled y).0 here) [ inl old ↦ old.0 | inr (wrong, _) ↦ absurd cc ]
+  settled_before_merge (lowers h) y here = elim ((h.entries settled y).0 here) [
+    | inl old ↦ old.0
+    | inr (is_settled, _) ↦ absurd (sound.unequalled h.entry x (subst (λ q. Contains (entries_at a q) h.entry) (sym is_settled) h.is_entry) mine (pair_back h.entry x h.same))
   ]
-
-  pub apart_after_move : AreApart a → AreApart b
-  apart_after_move apart = apart_as_placed a b apart l q (record {
-    back = λ p y here. elim (moves.back p y here) [
-      | inr new ↦ inr new
-      | inl old ↦ inl (
-        old,
-        λ e.
-            let is_waiting : p ≡ waiting = apart.placed p waiting l (subst (Contains (entries_at a p)) e old) moves.waits in
-            moves.gone (subst (λ r. Contains (entries_at b r) l) is_waiting (subst (Contains (entries_at b p)) e here)),
-      )
-    ];
-    clear = λ z entry other node. elim [
-      | inl above ↦ other (sym (apart.alone l z (waiting, moves.waits) (entry_before_move z entry) node above))
-      | inr below ↦ other (apart.alone z l (entry_before_move z entry) (waiting, moves.waits) (sym node) below)
-    ];
-  })
-
-module _ (task : Task) (a b : SearchState) (l : Label) where
-  pub move_of_take : Takes task a l b → Moves a b l settled
-  move_of_take h = record {
-    waits = h.may.waits;
-    back = elim [
-      | settled ↦ λ y here. elim ((h.settled y).0 here) [ inl old ↦ inl old | inr e ↦ inr (e, refl) ]
-      | dropped ↦ λ y here. inl ((h.dropped y).0 here)
-      | waiting ↦ λ y here. inl ((h.waiting y).0 here).0
-    ];
-    gone = λ here. ((h.waiting l).0 here).1 refl;
-    there = (h.settled l).1 (inr refl);
-    stay = elim [
-      | settled ↦ λ y old other. (h.settled y).1 (inl old)
-      | dropped ↦ λ y old other. (h.dropped y).1 old
-      | waiting ↦ λ y old other. (h.waiting y).1 (old, other)
-    ];
-  }
-
-  pub move_of_drop : Drops task a l b → Moves a b l dropped
-  move_of_drop h = record {
-    waits = h.may.waits;
-    back = elim [
-      | settled ↦ λ y here. inl ((h.settled y).0 here)
-      | dropped ↦ λ y here. elim ((h.dropped y).0 here) [ inl old ↦ inl old | inr e ↦ inr (e, refl) ]
-      | waiting ↦ λ y here. inl ((h.waiting y).0 here).0
-    ];
-    gone = λ here. ((h.waiting l).0 here).1 refl;
-    there = (h.dropped l).1 (inr refl);
-    stay = elim [
-      | settled ↦ λ y old other. (h.settled y).1 old
-      | dropped ↦ λ y old other. (h.dropped y).1 (inl old)
-      | waiting ↦ λ y old other. (h.waiting y).1 (old, other)
-    ];
-  }

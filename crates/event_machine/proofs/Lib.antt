@@ -1,12 +1,9 @@
 pub mod SetLaws
 pub mod Running
 pub mod Sound
-pub mod Covering
 pub mod Changing
-pub mod Merging
 pub mod Stepping
 pub mod Frontier
-pub mod Taking
 pub mod Keeping
 pub mod SettledLabels
 pub mod Bounding

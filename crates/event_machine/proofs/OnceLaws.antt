@@ -1,13 +1,12 @@
 -- Lists without repeats: in another order, joined end to end, and made from others.
-use Rattle.std.proofs.Common.{◌≡◌, ◌≢◌, ℕ, ◌<◌, ◌≤◌, ◌↔◌, List, [], ◌∷◌, ◌++◌, length, map, get_or, remove, inl, inr, refl, sym, ap, subst, ◌∙◌, arith}
+use Rattle.std.proofs.Common.{◌≡◌, ◌≢◌, List, [], ◌∷◌, ◌++◌, get_or, remove, inl, inr, sym, subst, ◌∙◌, arith}
 use Rattle.std.specs.Prelude.{AllPairs, Contains, IsPermutation}
 use Rattle.std.proofs.lemmas.List.{get_or_default}
 use Rattle.std.proofs.lemmas.List.Edits.{get_or-remove_below, length-remove}
-use Rattle.std.proofs.lemmas.List.Elements.{Contains-get_or, Contains-append_left, Contains-append_right, Contains-append_cases}
-use Rattle.std.proofs.lemmas.List.Sorted.{Contains-permutation, IsPermutation-remove, IsPermutation-sym, length_permutation}
-use Rattle.list_laws.proofs.Members.{in_first, in_rest, cases_in, in_map, of_map}
-use Rattle.list_laws.proofs.Pairs.{pairs_rest, pair_with_first, pairs_cons, pairs_map, pigeonhole}
-use Rattle.event_machine.specs.Sets.{ListsOnce}
+use Rattle.std.proofs.lemmas.List.Elements.{Contains-get_or, Contains-append_cases}
+use Rattle.std.proofs.lemmas.List.Sorted.{Contains-permutation, IsPermutation-remove, length_permutation}
+use Rattle.list_laws.proofs.Members.{in_first, in_rest, cases_in}
+use Rattle.list_laws.proofs.Pairs.{pairs_rest, pair_with_first, pairs_cons, pigeonhole}
 
 module _ {X : Type 0} where
   -- a member of a list can be taken out

@@ -1,22 +1,18 @@
 -- Relaxes and merges keep what survives, and where; at the end all survivors are entries.
-use Rattle.std.proofs.Common.{◌≡◌, ◌↔◌, ◌⊎◌, ℕ, ◌≤◌, List, [], ◌∷◌, inl, inr, refl, sym, ap, subst, ◌∙◌, arith}
+use Rattle.std.proofs.Common.{◌≡◌, ◌≢◌, ◌↔◌, ◌⊎◌, ◌≤◌, List, [], ◌∷◌, inl, inr, refl, sym, ap, subst, ◌∙◌, arith}
 use Rattle.std.specs.Prelude.{Contains, IsPermutation}
-use Rattle.std.proofs.lemmas.List.Sorted.{Contains-permutation, IsPermutation-refl, IsPermutation-sym}
-use Rattle.cost_vector.specs.Costs.{AtMost}
+use Rattle.std.proofs.lemmas.List.Sorted.{Contains-permutation, IsPermutation-refl}
+use Rattle.cost_vector.specs.Costs.{AtMost, Dominates}
 use Rattle.cost_vector.proofs.Vectors.{AtMost-refl, Dominates-trans}
 use Rattle.road_network.specs.Network.{Network}
-use Rattle.list_laws.proofs.Members.{in_first, in_rest}
-use Rattle.event_machine.specs.Sets.{SameMembers}
-use Rattle.event_machine.specs.Machine.{Task, IsTask, Label, IsSamePair, Beats, SearchState, Place, settled, dropped, waiting, entries_at, IsEntry, Follows}
-use Rattle.event_machine.specs.Events.{Event, take, drop, relax, merge, IsSame, Relaxes, IsMerged, keeps, lowers, discards, enters, Merges, Happens, Runs}
+use Rattle.list_laws.proofs.Members.{in_front, in_rest}
+use Rattle.event_machine.specs.Machine.{Task, IsTask, Label, IsSamePair, Beats, SearchState, Place, settled, dropped, waiting, entries_at, IsEntry}
+use Rattle.event_machine.specs.Events.{Event, take, drop, relax, merge, SameEntries, IsSame, IsMerged, keeps, lowers, discards, enters, Merges, Happens, Runs}
 use Rattle.event_machine.specs.Orders.{IsArrival, came, comes, Survives, HasPair, IsOutcome}
-use Rattle.event_machine.proofs.SetLaws.{same_by_permutation, gains_by_permutation, none_of_empty}
-use Rattle.event_machine.proofs.Sound.{IsSound, AreApart, Covers, better, as_good, IsCovered}
-use Rattle.event_machine.proofs.Running.{entry_alike}
-use Rattle.event_machine.proofs.Covering.{cases_label, label_by_parts, pair_back, pair_through, beats_pair, pair_beats, covers_itself, covers_through}
-use Rattle.event_machine.proofs.Changing.{Changes}
-use Rattle.event_machine.proofs.Merging.{IsHarmless, settled_by_merge, entry_before_merge, dropped_before_merge}
-use Rattle.event_machine.proofs.Stepping.{arrivals_by_relax, gains_back_by_merge, harmless_candidate, same_changes}
+use Rattle.event_machine.proofs.SetLaws.{none_of_empty}
+use Rattle.event_machine.proofs.Sound.{IsSound, AreApart, Covers, better, as_good, IsCovered, cases_label, label_by_parts, same_pair, pair_back}
+use Rattle.event_machine.proofs.Changing.{place_before_merge}
+use Rattle.event_machine.proofs.Stepping.{Changes, arrivals_by_relax, candidates_by_merge, same_changes}
 use Rattle.event_machine.proofs.Keeping.{changes_of, sound_after, sound_by_run}
 
 -- ---- what is there, and what covers it
@@ -35,9 +31,15 @@ record Condenses (net : Network) (a b : SearchState) : Type 0 where
   pub matched : (y : Label) → IsPresent net a y → IsMatched net b y
   pub back : (y : Label) → IsPresent net b y → IsPresent net a y
 
+pair_through : (x y z : Label) → IsSamePair x y → IsSamePair y z → IsSamePair x z
+pair_through x y z h k = record { node = h.node ∙ k.node; cost = h.cost ∙ k.cost }
+
+beats_pair : (x y z : Label) → Beats x y → IsSamePair y z → Beats x z
+beats_pair x y z h k = record { node = h.node ∙ k.node; cost = subst (Dominates x.cost) k.cost h.cost }
+
 covers_beaten : (x y z : Label) → Covers x y → Beats y z → Beats x z
-covers_beaten x y z (better h) beats = record { node = h.node ∙ beats.node; cost = Dominates-trans x.cost y.cost z.cost h.cost beats.cost }
-covers_beaten x y z (as_good h less) beats = pair_beats x y z h beats
+covers_beaten x y z (better h) k = record { node = h.node ∙ k.node; cost = Dominates-trans x.cost y.cost z.cost h.cost k.cost }
+covers_beaten x y z (as_good h less) k = record { node = h.node ∙ k.node; cost = subst (λ c. Dominates c z.cost) (sym h.cost) k.cost }
 
 module _ (net : Network) (a b : SearchState) (h : Condenses net a b) where
   survives_after : (y : Label) → Survives net a y → Survives net b y
@@ -68,114 +70,101 @@ module _ (net : Network) (a b : SearchState) (h : Condenses net a b) where
 
 -- ---- the outcome is kept
 
-pairs_alike : (xs ys : List Label) → SameMembers ys xs → (y : Label) → HasPair xs y ↔ HasPair ys y
-pairs_alike xs ys same y = (
-  λ h. record { label = h.label; member = (same h.label).1 h.member; same = h.same },
-  λ h. record { label = h.label; member = (same h.label).0 h.member; same = h.same },
-)
-
 -- the outcome at a is the outcome at b
 record KeepsOutcome (net : Network) (a b : SearchState) : Type 0 where
   pub survives : (y : Label) → Survives net a y ↔ Survives net b y
-  pub settled : (y : Label) → HasPair a.settled y ↔ HasPair b.settled y
-  pub dropped : (y : Label) → Survives net a y → HasPair a.dropped y ↔ HasPair b.dropped y
+  pub places : (p : Place) → p ≢ waiting → (y : Label) → Survives net a y → HasPair (entries_at a p) y ↔ HasPair (entries_at b p) y
 
 outcome_before : (net : Network) (a b c : SearchState) → KeepsOutcome net a b → IsOutcome net b c → IsOutcome net a c
 outcome_before net a b c kept outcome = record {
   settled = λ y. (
-    λ h. let was = (outcome.settled y).0 h in ((kept.survives y).1 was.0, (kept.settled y).1 was.1),
-    λ (survives, pair). (outcome.settled y).1 ((kept.survives y).0 survives, (kept.settled y).0 pair),
+    λ h. let was = (outcome.settled y).0 h in let survives = (kept.survives y).1 was.0 in (survives, (in_settled y survives).1 was.1),
+    λ (survives, pair). (outcome.settled y).1 ((kept.survives y).0 survives, (in_settled y survives).0 pair),
   );
   dropped = λ y. (
-    λ h. let was = (outcome.dropped y).0 h in let survives = (kept.survives y).1 was.0 in (survives, (kept.dropped y survives).1 was.1),
-    λ (survives, pair). (outcome.dropped y).1 ((kept.survives y).0 survives, (kept.dropped y survives).0 pair),
+    λ h. let was = (outcome.dropped y).0 h in let survives = (kept.survives y).1 was.0 in (survives, (in_dropped y survives).1 was.1),
+    λ (survives, pair). (outcome.dropped y).1 ((kept.survives y).0 survives, (in_dropped y survives).0 pair),
   );
   waiting = λ y. (
     λ h.
         let was = (outcome.waiting y).0 h in
         let survives = (kept.survives y).1 was.0 in
-        (survives, λ pair. was.1 ((kept.settled y).0 pair), λ pair. was.2 ((kept.dropped y survives).0 pair)),
-    λ (survives, unsettled, undropped).
-        (outcome.waiting y).1 ((kept.survives y).0 survives, λ pair. unsettled ((kept.settled y).1 pair), λ pair. undropped ((kept.dropped y survives).1 pair)),
+        (survives, λ pair. was.1 ((in_settled y survives).0 pair), λ pair. was.2 ((in_dropped y survives).0 pair)),
+    λ (survives, unsettled, undropped). (outcome.waiting y).1
+        ((kept.survives y).0 survives, λ pair. unsettled ((in_settled y survives).1 pair), λ pair. undropped ((in_dropped y survives).1 pair)),
   );
   unrelaxed = outcome.unrelaxed;
   candidates = outcome.candidates;
-}
+} where
+  in_settled : (y : Label) → Survives net a y → HasPair a.settled y ↔ HasPair b.settled y
+  in_settled = kept.places settled (λ e. absurd cc)
 
-module _ (task : Task) (a b : SearchState) (changes : Changes task a b) (back : (y : Label) → IsPresent task.network b y → IsPresent task.network a y)
-    (stands : SameMembers b.settled a.settled) where
+  in_dropped : (y : Label) → Survives net a y → HasPair a.dropped y ↔ HasPair b.dropped y
+  in_dropped = kept.places dropped (λ e. absurd cc)
+
+-- ---- relaxes, merges and same states keep it
+
+module _ (task : Task) (a b : SearchState) (changes : Changes task a b) (arrivals : (y : Label) → IsArrival task.network b y → IsArrival task.network a y) where
+  by_entry : (y : Label) → IsCovered b y → IsMatched task.network b y
+  by_entry y by = record { by = by.entry; present = inl by.is_entry; covers = by.covers }
+
   condenses : Condenses task.network a b
   condenses = record {
     matched = λ y. elim [
-      | inl entry ↦ by_entry y (changes.covers y entry)
-      | inr arrival ↦ elim (changes.arrivals y arrival) [ inl again ↦ record { by = y; present = inr again; covers = covers_itself y } | inr by ↦ by_entry y by ]
+      | inl entry ↦ by_entry y (changes.entries.covers y entry)
+      | inr arrival ↦ elim (changes.arrivals y arrival) [
+        | inl again ↦ record { by = y; present = inr again; covers = as_good (same_pair y y refl) (omega arith) }
+        | inr by ↦ by_entry y by
+      ]
     ];
-    back = back;
-  } where
-    by_entry : (y : Label) → IsCovered b y → IsMatched task.network b y
-    by_entry y by = record { by = by.entry; present = inl by.is_entry; covers = by.covers }
-
-  keeps_outcome : ((y : Label) → Survives task.network a y → HasPair a.dropped y ↔ HasPair b.dropped y) → KeepsOutcome task.network a b
-  keeps_outcome drops = record {
-    survives = λ y. (survives_after task.network a b condenses y, survives_before task.network a b condenses y);
-    settled = pairs_alike a.settled b.settled stands;
-    dropped = drops;
+    back = λ y. elim [ inr arrival ↦ inr (arrivals y arrival) | inl entry ↦ elim (changes.entries.known y entry) [ inl old ↦ inl old | inr candidate ↦ inr (came candidate) ] ];
   }
 
--- ---- relaxes, merges and same states keep it
+  keeps_outcome : ((p : Place) → p ≢ waiting → (y : Label) → Survives task.network a y → HasPair (entries_at a p) y ↔ HasPair (entries_at b p) y)
+      → KeepsOutcome task.network a b
+  keeps_outcome places = record { survives = λ y. (survives_after task.network a b condenses y, survives_before task.network a b condenses y); places = places }
+
+  keeps_outcome_of_same : SameEntries b a → KeepsOutcome task.network a b
+  keeps_outcome_of_same same = keeps_outcome (λ p other y survives. (
+    λ h. record { label = h.label; member = (same p h.label).1 h.member; same = h.same },
+    λ h. record { label = h.label; member = (same p h.label).0 h.member; same = h.same },
+  ))
 
 pub arrival_alike : (net : Network) (a b : SearchState) → IsSame a b → (y : Label) → IsArrival net a y → IsArrival net b y
 arrival_alike net a b same y (came there) = came (Contains-permutation a.candidates b.candidates y same.candidates there)
 arrival_alike net a b same y (comes e there f) = comes e ((same.unrelaxed (e, y.arc)).0 there) f
 
-module _ (task : Task) (is : IsTask task) (a b : SearchState) (sound : IsSound task a) where
-  same_keeps : IsSame b a → KeepsOutcome task.network a b
-  same_keeps same = keeps_outcome task a b (same_changes task a b sound same)
-      (λ y. elim [ inl entry ↦ inl (entry_alike b a same y entry) | inr arrival ↦ inr (arrival_alike task.network b a same y arrival) ])
-      (same.entries settled) (λ y survives. pairs_alike a.dropped b.dropped (same.entries dropped) y)
+module _ (task : Task) (is : IsTask task) (a b : SearchState) (sound : IsSound task a) (x : Label) (h : Merges a x b) where
+  mine : Contains a.candidates x
+  mine = (candidates_by_merge a b x h x).1 (inr refl)
 
-  relax_keeps : (l : Label) (k : ℕ) → Relaxes task a l k b → KeepsOutcome task.network a b
-  relax_keeps l k h = keeps_outcome task a b (changes_of task is a b (relax l k) sound h)
-      (λ y. elim [ inl (p, here) ↦ inl (p, (h.entries p y).0 here) | inr arrival ↦ inr ((arrivals_by_relax task a b l k h y).1 arrival) ])
-      (h.entries settled) (λ y survives. pairs_alike a.dropped b.dropped (h.entries dropped) y)
+  arrival_before_merge : (y : Label) → IsArrival task.network b y → IsArrival task.network a y
+  arrival_before_merge y (came here) = came ((candidates_by_merge a b x h y).1 (inl here))
+  arrival_before_merge y (comes e there f) = comes e ((h.unrelaxed (e, y.arc)).0 there) f
 
-  module _ (x : Label) (h : Merges a x b) where
-    mine : Contains a.candidates x
-    mine = (gains_back_by_merge a b x h x).1 (inr refl)
+  -- what survives has its place also after the merge
+  place_after_merge : IsMerged a x b → (p : Place) (y : Label) → Survives task.network a y → HasPair (entries_at a p) y → HasPair (entries_at b p) y
+  place_after_merge (keeps k) p y survives was = record { label = was.label; member = (k.entries p was.label).1 was.member; same = was.same }
+  place_after_merge (discards k) p y survives was = record { label = was.label; member = (k.entries p was.label).1 was.member; same = was.same }
+  place_after_merge (enters k) p y survives was =
+      let unbeaten : ¬ Beats x was.label = λ beats. survives.unbeaten x (inr (came mine)) (beats_pair x was.label y beats was.same) in
+      record { label = was.label; member = (k.entries p was.label).1 (inl (was.member, inr unbeaten)); same = was.same }
+  place_after_merge (lowers k) p y survives was = elim (cases_label was.label k.entry) [
+    | inr other ↦ record { label = was.label; member = (k.entries p was.label).1 (inl (was.member, other)); same = was.same }
+    | inl e ↦
+        let there : p ≡ k.place = sound.apart.placed p k.place k.entry (subst (Contains (entries_at a p)) e was.member) k.is_entry in
+        let pair : IsSamePair k.entry y = subst (λ m. IsSamePair m y) e was.same in
+        record { label = x; member = (k.entries p x).1 (inr (there, refl)); same = pair_through x k.entry y (pair_back k.entry x k.same) pair }
+  ]
 
-    harmless : IsHarmless a x
-    harmless = harmless_candidate task a sound x mine
-
-    merge_back : (y : Label) → IsPresent task.network b y → IsPresent task.network a y
-    merge_back y (inl entry) = elim (entry_before_merge a b x sound.apart harmless h.entries y entry) [ inl old ↦ inl old | inr e ↦ inr (came (subst (Contains a.candidates) (sym e) mine)) ]
-    merge_back y (inr (came here)) = inr (came ((gains_back_by_merge a b x h y).1 (inl here)))
-    merge_back y (inr (comes e there f)) = inr (comes e ((h.unrelaxed (e, y.arc)).0 there) f)
-
-    -- what was dropped and survives is dropped after the merge
-    dropped_after_merge : IsMerged a x b → (y : Label) → Survives task.network a y → HasPair a.dropped y → HasPair b.dropped y
-    dropped_after_merge (keeps merged) y survives was = record { label = was.label; member = (merged.entries dropped was.label).1 was.member; same = was.same }
-    dropped_after_merge (discards merged) y survives was = record { label = was.label; member = (merged.entries dropped was.label).1 was.member; same = was.same }
-    dropped_after_merge (enters merged) y survives was = record {
-      label = was.label;
-      member = (merged.dropped was.label).1 (was.member, λ beats. survives.unbeaten x (inr (came mine)) (beats_pair x was.label y beats was.same));
-      same = was.same;
-    }
-    dropped_after_merge (lowers merged) y survives was = elim (cases_label was.label merged.entry) [
-      | inr other ↦ record { label = was.label; member = (merged.replaces dropped was.label).1 (inl (was.member, other)); same = was.same }
-      | inl e ↦ record {
-        label = x;
-        member = (merged.replaces dropped x).1 (inr (subst (Contains a.dropped) e was.member, refl));
-        same = pair_through x merged.entry y (pair_back merged.entry x merged.same) (subst (λ m. IsSamePair m y) e was.same);
-      }
-    ]
-
-    merge_keeps : KeepsOutcome task.network a b
-    merge_keeps = keeps_outcome task a b (changes_of task is a b (merge x) sound h) merge_back (settled_by_merge a b x sound.apart harmless h.entries) (λ y survives. (
-      dropped_after_merge h.entries y survives,
-      λ now.
-          let was = dropped_before_merge a b x sound.apart harmless h.entries now.label now.member in
-          record { label = was.label; member = was.member; same = pair_through was.label now.label y was.same now.same },
-    ))
+  merge_keeps : KeepsOutcome task.network a b
+  merge_keeps = keeps_outcome task a b (changes_of task is a b (merge x) sound h) arrival_before_merge (λ p other y survives. (
+    place_after_merge h.entries p y survives,
+    λ now. elim (place_before_merge task a b sound x mine h.entries p now.label now.member) [
+      | inl was ↦ record { label = was.label; member = was.member; same = pair_through was.label now.label y was.same now.same }
+      | inr (waits, _) ↦ absurd (other waits)
+    ],
+  ))
 
 -- ---- at the end
 
@@ -221,23 +210,26 @@ module _ (net : Network) (s : SearchState) (apart : AreApart s) (no_arc : s.unre
 -- ---- runs
 
 module _ (task : Task) (is : IsTask task) where
+  event_keeps : (a b : SearchState) (event : Event) → IsSound task a → Happens task a event b → ((l : Label) → event ≢ take l) → ((l : Label) → event ≢ drop l)
+      → KeepsOutcome task.network a b
+  event_keeps a b (take l) sound h no_take no_drop = absurd (no_take l refl)
+  event_keeps a b (drop l) sound h no_take no_drop = absurd (no_drop l refl)
+  event_keeps a b (merge x) sound h no_take no_drop = merge_keeps task is a b sound x h
+  event_keeps a b (relax l k) sound h no_take no_drop =
+      keeps_outcome_of_same task a b (changes_of task is a b (relax l k) sound h) (λ y. (arrivals_by_relax task a b l k h y).1) h.entries
+
   -- each run of relaxes and merges that leaves none of them leads to the outcome
   pub outcome_of_run : (a b : SearchState) (events : List Event) → IsSound task a → Runs task a events b
       → ((l : Label) → ¬ Contains events (take l)) → ((l : Label) → ¬ Contains events (drop l)) → b.unrelaxed ≡ [] → b.candidates ≡ []
       → IsOutcome task.network a b
-  outcome_of_run a b [] sound run no_take no_drop no_arc no_candidate =
-      outcome_before task.network a b b (same_keeps task is a b sound run)
+  outcome_of_run a b [] sound run no_take no_drop no_arc no_candidate = outcome_before task.network a b b
+      (keeps_outcome_of_same task a b (same_changes task a b sound run) (arrival_alike task.network b a run) run.entries)
       (outcome_at_end task.network b (sound_by_run task is a b [] sound run).apart no_arc no_candidate)
   outcome_of_run a b (event ∷ rest) sound run no_take no_drop no_arc no_candidate =
-      outcome_before task.network a run.next b (kept event no_take no_drop run.step)
-      (outcome_of_run run.next b rest (sound_after task is a run.next event sound run.step) run.rest
-        (λ l h. no_take l (in_rest event rest (take l) h)) (λ l h. no_drop l (in_rest event rest (drop l) h)) no_arc no_candidate) where
-      kept : (event : Event) → ((l : Label) → ¬ Contains (event ∷ rest) (take l)) → ((l : Label) → ¬ Contains (event ∷ rest) (drop l))
-          → Happens task a event run.next → KeepsOutcome task.network a run.next
-      kept (take l) no_take no_drop step = absurd (no_take l (in_first (take l) rest))
-      kept (drop l) no_take no_drop step = absurd (no_drop l (in_first (drop l) rest))
-      kept (relax l k) no_take no_drop step = relax_keeps task is a run.next sound l k step
-      kept (merge x) no_take no_drop step = merge_keeps task is a run.next sound x step
+      let kept = event_keeps a run.next event sound run.step (λ l e. no_take l (in_front event rest (take l) (sym e))) (λ l e. no_drop l (in_front event rest (drop l) (sym e))) in
+      let sound_next = sound_after task is a run.next event sound run.step in
+      outcome_before task.network a run.next b kept (outcome_of_run run.next b rest sound_next run.rest
+      (λ l h. no_take l (in_rest event rest (take l) h)) (λ l h. no_drop l (in_rest event rest (drop l) h)) no_arc no_candidate)
 
 -- the outcome is one state
 pub one_outcome : (net : Network) (s a b : SearchState) → IsOutcome net s a → IsOutcome net s b → IsSame a b

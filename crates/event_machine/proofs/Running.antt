@@ -1,11 +1,18 @@
 -- Runs: which states are the same, that runs go on from and to same states, and that runs follow one another.
 use Rattle.std.proofs.Common.{ℕ, List, [], ◌∷◌, ◌++◌, inl, inr}
 use Rattle.std.proofs.lemmas.List.Sorted.{Contains-permutation, IsPermutation-refl, IsPermutation-sym, IsPermutation-trans, IsPermutation-cons}
-use Rattle.event_machine.specs.Machine.{Task, Label, SearchState, settled, dropped, waiting, entries_at, IsEntry, IsActive, waits, is_candidate, has_arc, IsBeatenAtTarget}
-use Rattle.event_machine.specs.Events.{Event, take, drop, relax, merge, SameEntries, IsSame, Takes, MayDrop, Drops, IsMerged, keeps, lowers, discards, enters, Happens, Runs}
-use Rattle.event_machine.proofs.SetLaws.{same_from, gains_from, loses_from, replaces_from}
+use Rattle.event_machine.specs.Sets.{SameMembers}
+use Rattle.event_machine.specs.Machine.{Task, Label, SearchState, Place, settled, dropped, waiting, IsEntry, IsActive, waits, is_candidate, has_arc, IsBeatenAtTarget}
+use Rattle.event_machine.specs.Events.{Event, take, drop, relax, merge, SameEntries, Becomes, IsSame, MayTake, MayDrop, IsMerged, keeps, lowers, discards, enters, Happens, Runs}
 
 -- ---- same states
+
+module _ {X : Type 0} where
+  same_members_back : (xs ys : List X) → SameMembers xs ys → SameMembers ys xs
+  same_members_back xs ys same x = ((same x).1, (same x).0)
+
+  same_members_through : (xs ys zs : List X) → SameMembers xs ys → SameMembers ys zs → SameMembers xs zs
+  same_members_through xs ys zs first second x = (λ h. (second x).0 ((first x).0 h), λ h. (first x).1 ((second x).1 h))
 
 pub same_itself : (s : SearchState) → IsSame s s
 same_itself s = record {
@@ -16,15 +23,15 @@ same_itself s = record {
 
 pub same_back : (a b : SearchState) → IsSame a b → IsSame b a
 same_back a b same = record {
-  entries = λ p y. ((same.entries p y).1, (same.entries p y).0);
-  unrelaxed = λ p. ((same.unrelaxed p).1, (same.unrelaxed p).0);
+  entries = λ p. same_members_back _ _ (same.entries p);
+  unrelaxed = same_members_back _ _ same.unrelaxed;
   candidates = IsPermutation-sym a.candidates b.candidates same.candidates;
 }
 
 pub same_through : (a b c : SearchState) → IsSame a b → IsSame b c → IsSame a c
 same_through a b c first second = record {
-  entries = λ p y. (λ h. (second.entries p y).0 ((first.entries p y).0 h), λ h. (first.entries p y).1 ((second.entries p y).1 h));
-  unrelaxed = λ p. (λ h. (second.unrelaxed p).0 ((first.unrelaxed p).0 h), λ h. (first.unrelaxed p).1 ((second.unrelaxed p).1 h));
+  entries = λ p. same_members_through _ _ _ (first.entries p) (second.entries p);
+  unrelaxed = same_members_through _ _ _ first.unrelaxed second.unrelaxed;
   candidates = IsPermutation-trans a.candidates b.candidates c.candidates first.candidates second.candidates;
 }
 
@@ -52,91 +59,79 @@ module _ (a b : SearchState) (same : IsSame a b) where
 
 -- ---- from one of two same states the same events lead to the same
 
-module _ (task : Task) (a b : SearchState) (same : IsSame a b) where
-  take_from_same : (l : Label) (c : SearchState) → Takes task b l c → Takes task a l c
-  take_from_same l c h = record {
-    may = record {
-      waits = (same.entries waiting l).1 h.may.waits;
-      within = h.may.within;
-      undominated = λ y active. h.may.undominated y (active_alike a b same y active);
-      unbeaten = λ beaten. h.may.unbeaten (beaten_alike a b same task l.cost beaten);
-      alone = λ x there. h.may.alone x (Contains-permutation a.candidates b.candidates x same.candidates there);
-    };
-    settled = gains_from a.settled b.settled (same.entries settled) l c.settled h.settled;
-    dropped = same_from a.dropped b.dropped (same.entries dropped) c.dropped h.dropped;
-    waiting = loses_from a.waiting b.waiting (same.entries waiting) l c.waiting h.waiting;
+module _ (task : Task) (a b c : SearchState) (same : IsSame a b) where
+  take_alike : (l : Label) → MayTake task b l → MayTake task a l
+  take_alike l may = record {
+    waits = (same.entries waiting l).1 may.waits;
+    within = may.within;
+    undominated = λ y active. may.undominated y (active_alike a b same y active);
+    unbeaten = λ beaten. may.unbeaten (beaten_alike a b same task l.cost beaten);
+    alone = λ x there. may.alone x (Contains-permutation a.candidates b.candidates x same.candidates there);
+  }
+
+  becomes_from_same : (Stays : Place → Label → Type 0) (n : Label) (to : Place) → Becomes b Stays n to c → Becomes a Stays n to c
+  becomes_from_same Stays n to becomes p y = (
+    λ here. elim ((becomes p y).0 here) [ inl old ↦ inl ((same.entries p y).1 old.0, old.1) | inr new ↦ inr new ],
+    elim [ inl old ↦ (becomes p y).1 (inl ((same.entries p y).0 old.0, old.1)) | inr new ↦ (becomes p y).1 (inr new) ],
+  )
+
+  entries_from_same : SameEntries c b → SameEntries c a
+  entries_from_same h p = same_members_through _ _ _ (h p) (same_members_back _ _ (same.entries p))
+
+  merged_from_same : (x : Label) → IsMerged b x c → IsMerged a x c
+  merged_from_same x = elim [
+    | keeps h ↦ keeps (record { entry = h.entry; is_entry = back h.entry h.is_entry; same = h.same; lesser = h.lesser; entries = entries_from_same h.entries })
+    | lowers h ↦ lowers (record {
+      place = h.place;
+      entry = h.entry;
+      is_entry = (same.entries h.place h.entry).1 h.is_entry;
+      same = h.same;
+      greater = h.greater;
+      entries = becomes_from_same _ x h.place h.entries;
+    })
+    | discards h ↦ discards (record { new = new h.new; entry = h.entry; is_entry = back h.entry h.is_entry; beats = h.beats; entries = entries_from_same h.entries })
+    | enters h ↦ enters (record { new = new h.new; unbeaten = new h.unbeaten; entries = becomes_from_same _ x waiting h.entries })
+  ]
+    where
+      back : (y : Label) → IsEntry b y → IsEntry a y
+      back y h = entry_alike b a (same_back a b same) y h
+
+      new : {P : Label → Type 0} → ((y : Label) → IsEntry b y → P y) → (y : Label) → IsEntry a y → P y
+      new is y entry = is y (entry_alike a b same y entry)
+
+  pub happens_from_same : (event : Event) → Happens task b event c → Happens task a event c
+  happens_from_same (take l) h = record {
+    may = take_alike l h.may;
+    entries = becomes_from_same _ l settled h.entries;
     unrelaxed = λ p. (
       λ there. elim ((h.unrelaxed p).0 there) [ inl old ↦ inl ((same.unrelaxed p).1 old) | inr new ↦ inr new ],
       elim [ inl old ↦ (h.unrelaxed p).1 (inl ((same.unrelaxed p).0 old)) | inr new ↦ (h.unrelaxed p).1 (inr new) ],
     );
     candidates = IsPermutation-trans a.candidates b.candidates c.candidates same.candidates h.candidates;
   }
-
-  drop_from_same : (l : Label) (c : SearchState) → Drops task b l c → Drops task a l c
-  drop_from_same l c h = record {
+  happens_from_same (drop l) h = record {
     may = drop_alike b a (same_back a b same) task l h.may;
-    settled = same_from a.settled b.settled (same.entries settled) c.settled h.settled;
-    dropped = gains_from a.dropped b.dropped (same.entries dropped) l c.dropped h.dropped;
-    waiting = loses_from a.waiting b.waiting (same.entries waiting) l c.waiting h.waiting;
-    unrelaxed = same_from a.unrelaxed b.unrelaxed same.unrelaxed c.unrelaxed h.unrelaxed;
+    entries = becomes_from_same _ l dropped h.entries;
+    unrelaxed = same_members_through _ _ _ h.unrelaxed (same_members_back _ _ same.unrelaxed);
     candidates = IsPermutation-trans a.candidates b.candidates c.candidates same.candidates h.candidates;
   }
-
-  entries_from_same : (c : SearchState) → SameEntries c b → SameEntries c a
-  entries_from_same c h = λ p y. (λ there. (same.entries p y).1 ((h p y).0 there), λ there. (h p y).1 ((same.entries p y).0 there))
-
-  merged_from_same : (x : Label) (c : SearchState) → IsMerged b x c → IsMerged a x c
-  merged_from_same x c = elim [
-    | keeps h ↦ keeps (record { entry = h.entry; is_entry = back h.entry h.is_entry; same = h.same; lesser = h.lesser; entries = entries_from_same c h.entries })
-    | lowers h ↦ lowers (record {
-      entry = h.entry;
-      is_entry = back h.entry h.is_entry;
-      same = h.same;
-      greater = h.greater;
-      replaces = λ p. replaces_from (entries_at a p) (entries_at b p) (same.entries p) h.entry x (entries_at c p) (h.replaces p);
-    })
-    | discards h ↦ discards (record {
-      new = λ y entry. h.new y (entry_alike a b same y entry);
-      entry = h.entry;
-      is_entry = back h.entry h.is_entry;
-      beats = h.beats;
-      entries = entries_from_same c h.entries;
-    })
-    | enters h ↦ enters (record {
-      new = λ y entry. h.new y (entry_alike a b same y entry);
-      unbeaten = λ y entry. h.unbeaten y (entry_alike a b same y entry);
-      settled = same_from a.settled b.settled (same.entries settled) c.settled h.settled;
-      dropped = λ y. (
-        λ there. let old = (h.dropped y).0 there in ((same.entries dropped y).1 old.0, old.1),
-        λ old. (h.dropped y).1 ((same.entries dropped y).0 old.0, old.1),
-      );
-      waiting = λ y. (
-        λ there. elim ((h.waiting y).0 there) [ inl old ↦ inl ((same.entries waiting y).1 old.0, old.1) | inr new ↦ inr new ],
-        elim [ inl old ↦ (h.waiting y).1 (inl ((same.entries waiting y).0 old.0, old.1)) | inr new ↦ (h.waiting y).1 (inr new) ],
-      );
-    })
-  ]
-    where
-      back : (y : Label) → IsEntry b y → IsEntry a y
-      back y h = entry_alike b a (same_back a b same) y h
-
-  pub happens_from_same : (event : Event) (c : SearchState) → Happens task b event c → Happens task a event c
-  happens_from_same (take l) c h = take_from_same l c h
-  happens_from_same (drop l) c h = drop_from_same l c h
-  happens_from_same (relax l k) c h = record {
+  happens_from_same (relax l k) h = record {
     may = (same.unrelaxed (l, k)).1 h.may;
     candidate = h.candidate;
     follows = h.follows;
     arc = h.arc;
-    entries = entries_from_same c h.entries;
-    unrelaxed = loses_from a.unrelaxed b.unrelaxed same.unrelaxed (l, k) c.unrelaxed h.unrelaxed;
+    entries = entries_from_same h.entries;
+    unrelaxed = λ p. (
+      λ there. let old = (h.unrelaxed p).0 there in ((same.unrelaxed p).1 old.0, old.1),
+      λ old. (h.unrelaxed p).1 ((same.unrelaxed p).0 old.0, old.1),
+    );
     candidates = IsPermutation-trans (h.candidate ∷ a.candidates) (h.candidate ∷ b.candidates) c.candidates
         (IsPermutation-cons h.candidate a.candidates b.candidates same.candidates) h.candidates;
   }
-  happens_from_same (merge x) c h = record {
+  happens_from_same (merge x) h = record {
     candidates = IsPermutation-trans a.candidates b.candidates (x ∷ c.candidates) same.candidates h.candidates;
-    unrelaxed = same_from a.unrelaxed b.unrelaxed same.unrelaxed c.unrelaxed h.unrelaxed;
-    entries = merged_from_same x c h.entries;
+    unrelaxed = same_members_through _ _ _ h.unrelaxed (same_members_back _ _ same.unrelaxed);
+    entries = merged_from_same x h.entries;
   }
 
 -- ---- runs
@@ -144,7 +139,7 @@ module _ (task : Task) (a b : SearchState) (same : IsSame a b) where
 module _ (task : Task) where
   pub runs_from_same : (a b c : SearchState) (events : List Event) → IsSame a b → Runs task b events c → Runs task a events c
   runs_from_same a b c [] same run = same_through c b a run (same_back a b same)
-  runs_from_same a b c (event ∷ rest) same run = record { next = run.next; step = happens_from_same task a b same event run.next run.step; rest = run.rest }
+  runs_from_same a b c (event ∷ rest) same run = record { next = run.next; step = happens_from_same task a b run.next same event run.step; rest = run.rest }
 
   pub runs_to_same : (a b c : SearchState) (events : List Event) → Runs task a events b → IsSame c b → Runs task a events c
   runs_to_same a b c [] run same = same_through c b a same run

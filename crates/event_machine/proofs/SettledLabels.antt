@@ -46,7 +46,8 @@ module _ (task : Task) (is : IsTask task) where
       ]
 
   module _ (s : SearchState) (sound : IsSound task s) where
-    least_arc : (l : Label) → Contains s.settled l → HasLeastArc task.network task.start l
+    -- a settled label's arc is the last of the backward-least walk of its cost
+    pub least_arc : (l : Label) → Contains s.settled l → HasLeastArc task.network task.start l
     least_arc l there =
         let way = sound.walked l (inl (settled, there)) in
         let q = way.arcs in
@@ -104,17 +105,11 @@ module _ (task : Task) (is : IsTask task) where
     sound : IsSound task s
     sound = sound_if_reached task is s reached
 
-    pub settled_is_relevant : (l : Label) → Contains s.settled l → IsRelevant task.network task.start task.target task.limit l.node l.cost
-    settled_is_relevant l there = sound.relevant l there
-
     pub settled_once : (l m : Label) → Contains s.settled l → Contains s.settled m → IsSamePair l m → l ≡ m
     settled_once l m there there_too pair = sound.apart.alone l m (settled, there) (settled, there_too) pair.node (subst (AtMost l.cost) pair.cost (AtMost-refl l.cost))
 
-    pub settled_has_least_arc : (l : Label) → Contains s.settled l → HasLeastArc task.network task.start l
-    settled_has_least_arc l there = least_arc s sound l there
-
     pub settled_stays : (next : SearchState) (event : Event) (l : Label) → Happens task s event next → Contains s.settled l → Contains next.settled l
-    settled_stays next event l step there = (changes_of task is s next event sound step).kept l there
+    settled_stays next event l step there = (changes_of task is s next event sound step).entries.kept l there
 
     pub entries_stand : (next : SearchState) (event : Event) (l y : Label) → Happens task s event next → Contains s.settled l
         → y.node ≡ l.node → AtMost y.cost l.cost → IsEntry s y ↔ IsEntry next y

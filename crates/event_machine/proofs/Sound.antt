@@ -1,12 +1,63 @@
 -- What each state keeps to which events lead.
-use Rattle.std.proofs.Common.{◌≡◌, ℕ, ◌≤◌, ◌⊎◌, List, ◌∷◌}
+use Rattle.std.proofs.Common.{◌≡◌, ◌≢◌, ℕ, List, ◌∷◌, ◌≤◌, ◌⊎◌, inl, inr, refl, sym, ap, ap₂, subst, ◌∙◌, arith}
 use Rattle.std.specs.Prelude.{slice_index, Contains}
+use Rattle.std.proofs.lemmas.Bool.{cases_eq}
 use Rattle.cost_vector.specs.Costs.{AtMost, Dominates, Within}
+use Rattle.cost_vector.proofs.Vectors.{AtMost-refl, Dominates-trans, cases_same, cases_Dominates}
 use Rattle.road_network.specs.Walks.{Arrives}
 use Rattle.road_network.specs.Answers.{IsRelevant}
 use Rattle.event_machine.specs.Machine.{Task, Label, IsSamePair, Beats, SearchState, start_label, Place, entries_at, IsEntry, IsActive, IsBeatenAtTarget, LeadsOn, Follows}
 use Rattle.event_machine.specs.Orders.{IsArrival}
 use Rattle.event_machine.specs.Laws.{IsKnown}
+
+-- ---- what can be told of labels
+
+pub label_by_parts : (x y : Label) → IsSamePair x y → x.arc ≡ y.arc → x ≡ y
+label_by_parts x y pair arc =
+    let made : ℕ → List ℕ → ℕ → Label = λ n c k. record { node = n; cost = c; arc = k } in
+    ap₂ (λ n c. made n c x.arc) pair.node pair.cost ∙ ap (made y.node y.cost) arc
+
+pub cases_label : (x y : Label) → (x ≡ y) ⊎ (x ≢ y)
+cases_label x y = elim (cases_eq x.node y.node) [
+  | inr other ↦ inr (λ e. other (ap (λ (l : Label). l.node) e))
+  | inl node ↦ elim (cases_same x.cost y.cost) [
+    | inr other ↦ inr (λ e. other (ap (λ (l : Label). l.cost) e))
+    | inl cost ↦ elim (cases_eq x.arc y.arc) [
+      | inr other ↦ inr (λ e. other (ap (λ (l : Label). l.arc) e))
+      | inl arc ↦ inl (label_by_parts x y (record { node = node; cost = cost }) arc)
+    ]
+  ]
+]
+
+pub cases_pair : (p q : Label × ℕ) → (p ≡ q) ⊎ (p ≢ q)
+cases_pair p q = elim (cases_label p.0 q.0) [
+  | inr other ↦ inr (λ e. other (ap (λ (r : Label × ℕ). r.0) e))
+  | inl label ↦ elim (cases_eq p.1 q.1) [
+    | inr other ↦ inr (λ e. other (ap (λ (r : Label × ℕ). r.1) e))
+    | inl arc ↦ inl (ap₂ (λ (l : Label) (k : ℕ). (l, k)) label arc)
+  ]
+]
+
+pub cases_beats : (x y : Label) → Beats x y ⊎ (¬ Beats x y)
+cases_beats x y = elim (cases_eq x.node y.node) [
+  | inr other ↦ inr (λ h. other h.node)
+  | inl node ↦ elim (cases_Dominates x.cost y.cost) [ inl cost ↦ inl (record { node = node; cost = cost }) | inr none ↦ inr (λ h. none h.cost) ]
+]
+
+pub same_pair : (x y : Label) → x ≡ y → IsSamePair x y
+same_pair x y e = record { node = ap (λ (l : Label). l.node) e; cost = ap (λ (l : Label). l.cost) e }
+
+pub pair_back : (x y : Label) → IsSamePair x y → IsSamePair y x
+pair_back x y h = record { node = sym h.node; cost = sym h.cost }
+
+-- at one node what costs at most as much as another has its cost, or dominates it
+pub cases_below : (x y : Label) → x.node ≡ y.node → AtMost x.cost y.cost → IsSamePair x y ⊎ Beats x y
+cases_below x y node below = elim (cases_same x.cost y.cost) [
+  | inl cost ↦ inl (record { node = node; cost = cost })
+  | inr other ↦ inr (record { node = node; cost = record { at_most = below; differs = other } })
+]
+
+-- ---- labels that can stand for others
 
 -- z can stand for x: it is of x's node, and dominates it or has its cost and no greater arc
 pub data Covers (z x : Label) : Type 0 where
@@ -18,6 +69,25 @@ pub record IsCovered (s : SearchState) (x : Label) : Type 0 where
   pub entry : Label
   pub is_entry : IsEntry s entry
   pub covers : Covers entry x
+
+pub covers_through : (x y z : Label) → Covers x y → Covers y z → Covers x z
+covers_through x y z (better h) (better k) = better (record { node = h.node ∙ k.node; cost = Dominates-trans x.cost y.cost z.cost h.cost k.cost })
+covers_through x y z (better h) (as_good k less) = better (record { node = h.node ∙ k.node; cost = subst (Dominates x.cost) k.cost h.cost })
+covers_through x y z (as_good h less) (better k) = better (record { node = h.node ∙ k.node; cost = subst (λ c. Dominates c z.cost) (sym h.cost) k.cost })
+covers_through x y z (as_good h less) (as_good k less_too) = as_good (record { node = h.node ∙ k.node; cost = h.cost ∙ k.cost }) (omega (arith, less, less_too))
+
+pub node_of_cover : (x y : Label) → Covers x y → x.node ≡ y.node
+node_of_cover x y (better h) = h.node
+node_of_cover x y (as_good h less) = h.node
+
+pub cost_of_cover : (x y : Label) → Covers x y → AtMost x.cost y.cost
+cost_of_cover x y (better h) = h.cost.at_most
+cost_of_cover x y (as_good h less) = subst (AtMost x.cost) h.cost (AtMost-refl x.cost)
+
+pub covered_by_itself : (s : SearchState) (x : Label) → IsEntry s x → IsCovered s x
+covered_by_itself s x entry = record { entry = x; is_entry = entry; covers = as_good (same_pair x x refl) (omega arith) }
+
+-- ---- sound states
 
 -- y is the label of the start, or what some settled label gives along y's arc
 pub data IsFounded (task : Task) (s : SearchState) (y : Label) : Type 0 where

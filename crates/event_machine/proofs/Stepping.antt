@@ -1,22 +1,37 @@
 -- What each event changes.
-use Rattle.std.proofs.Common.{◌≡◌, ℕ, ◌∷◌, ◌⊎◌, ◌↔◌, inl, inr, refl, sym, ap, subst, ◌∙◌}
-use Rattle.std.specs.Prelude.{length, Contains}
+use Rattle.std.proofs.Common.{◌≡◌, ◌≢◌, ℕ, ◌∷◌, ◌⊎◌, ◌↔◌, inl, inr, refl, sym, ap, subst, ◌∙◌}
+use Rattle.std.specs.Prelude.{Contains}
 use Rattle.std.proofs.lemmas.List.Sorted.{IsPermutation-sym}
-use Rattle.cost_vector.specs.Costs.{AtMost, Within, plus}
-use Rattle.cost_vector.proofs.Vectors.{AtMost-refl}
-use Rattle.road_network.specs.Network.{Network, IsNetwork, Leads}
+use Rattle.cost_vector.specs.Costs.{Within, plus}
+use Rattle.road_network.specs.Network.{Network, Leads}
 use Rattle.road_network.proofs.Reached.{leads_alike}
-use Rattle.road_network.proofs.BestLaws.{grows_along}
-use Rattle.event_machine.specs.Machine.{Task, Label, SearchState, settled, dropped, waiting, IsActive, waits, is_candidate, has_arc, IsBeatenAtTarget, LeadsOn, Follows}
-use Rattle.event_machine.specs.Events.{Takes, Drops, Relaxes, Merges, IsSame}
+use Rattle.event_machine.specs.Machine.{Task, Label, SearchState, settled, dropped, IsActive, waits, has_arc, IsBeatenAtTarget, LeadsOn, Follows}
+use Rattle.event_machine.specs.Events.{MayTake, Takes, Drops, Relaxes, Merges, IsSame}
 use Rattle.event_machine.specs.Orders.{IsArrival, came, comes}
-use Rattle.event_machine.specs.Sets.{SameMembers, Gains}
 use Rattle.event_machine.proofs.SetLaws.{same_by_permutation, gains_by_permutation}
-use Rattle.event_machine.proofs.Sound.{IsSound, IsCovered}
-use Rattle.event_machine.proofs.Running.{active_alike}
-use Rattle.event_machine.proofs.Covering.{cases_pair, label_by_parts, covered_by_itself}
-use Rattle.event_machine.proofs.Changing.{Changes, Moves, IsGiven, IsTaken, HasActiveBelow, apart_as_before, entry_before_move, entry_after_move, apart_after_move, move_of_take, move_of_drop}
-use Rattle.event_machine.proofs.Merging.{IsHarmless, settled_by_merge, apart_by_merge, entry_before_merge, dropped_before_merge, waiting_before_merge, covered_by_merge, entry_covered_after_merge}
+use Rattle.event_machine.proofs.Sound.{IsSound, IsCovered, label_by_parts, cases_pair}
+use Rattle.event_machine.proofs.Changing.{EntriesChange, entries_stay, entries_become, room_to_move, entries_by_merge, covered_by_merge, place_before_merge, settled_before_merge}
+
+-- y is a new candidate: some settled label with an arc to be relaxed gives it
+pub record IsGiven (task : Task) (s : SearchState) (y : Label) : Type 0 where
+  pub from : Label
+  pub settled : Contains s.settled from
+  pub active : IsActive s from
+  pub follows : Follows task.network from y
+
+-- y is settled next, and what it gives arrives
+pub record IsTaken (task : Task) (a b : SearchState) (y : Label) : Type 0 where
+  pub may : MayTake task a y
+  pub opens : (x : Label) → Follows task.network y x → IsArrival task.network b x
+
+-- what any event changes at most
+pub record Changes (task : Task) (a b : SearchState) : Type 0 where
+  pub entries : EntriesChange a b
+  pub settled : (y : Label) → Contains b.settled y → Contains a.settled y ⊎ IsTaken task a b y
+  pub useless : (y : Label) → Contains b.dropped y → (¬ Within task.limit y.cost) ⊎ IsBeatenAtTarget task a y.cost
+  pub paired : (e : Label) (k : ℕ) → Contains b.unrelaxed (e, k) → IsActive a e × Contains b.settled e × LeadsOn task.network e.node k
+  pub candidates : (y : Label) → Contains b.candidates y → Contains a.candidates y ⊎ IsGiven task a y
+  pub arrivals : (y : Label) → IsArrival task.network a y → IsArrival task.network b y ⊎ IsCovered b y
 
 -- one label follows from another along one arc
 pub follows_alike : (net : Network) (e x y : Label) → Follows net e x → Follows net e y → x.arc ≡ y.arc → x ≡ y
@@ -50,168 +65,101 @@ arrivals_by_relax task a b l k h x = (
     ]
   ],
 ) where
-  gains : Gains a.candidates h.candidate b.candidates
+  gains : (y : Label) → Contains b.candidates y ↔ (Contains a.candidates y ⊎ (y ≡ h.candidate))
   gains = gains_by_permutation h.candidate a.candidates b.candidates h.candidates
 
 -- what is merged leaves the candidates
-pub gains_back_by_merge : (a b : SearchState) (x : Label) → Merges a x b → Gains b.candidates x a.candidates
-gains_back_by_merge a b x h = gains_by_permutation x b.candidates a.candidates (IsPermutation-sym a.candidates (x ∷ b.candidates) h.candidates)
-
--- no candidate of a sound state dominates or equals a settled label
-pub harmless_candidate : (task : Task) (s : SearchState) → IsSound task s → (x : Label) → Contains s.candidates x → IsHarmless s x
-harmless_candidate task s sound x there =
-    record { undominated = λ l settled. sound.undominated l x settled (is_candidate there); unequalled = λ l settled. sound.unequalled l x settled there }
-
-as_active : (s : SearchState) (y : Label) → IsActive s y → HasActiveBelow s y.cost
-as_active s y active = record { label = y; active = active; at_most = AtMost-refl y.cost }
+pub candidates_by_merge : (a b : SearchState) (x : Label) → Merges a x b → (y : Label) → Contains a.candidates y ↔ (Contains b.candidates y ⊎ (y ≡ x))
+candidates_by_merge a b x h = gains_by_permutation x b.candidates a.candidates (IsPermutation-sym a.candidates (x ∷ b.candidates) h.candidates)
 
 module _ (task : Task) (a b : SearchState) (sound : IsSound task a) where
+  -- a pair that was to be relaxed before
+  still_paired : EntriesChange a b → (e : Label) (k : ℕ) → Contains a.unrelaxed (e, k) → IsActive a e × Contains b.settled e × LeadsOn task.network e.node k
+  still_paired entries e k there = let pair = sound.paired e k there in (has_arc k there, entries.kept e pair.0, pair.1)
+
   pub take_changes : (l : Label) → Takes task a l b → Changes task a b
   take_changes l h = record {
-    kept = λ y there. (h.settled y).1 (inl there);
-    settled = λ y here. elim ((h.settled y).0 here) [ inl old ↦ inl old | inr e ↦ inr (subst (IsTaken task a b) (sym e) taken) ];
-    useless = λ y here. sound.useless y ((h.dropped y).0 here);
+    entries = entries;
+    settled = λ y here. elim ((h.entries settled y).0 here) [ inl old ↦ inl old.0 | inr (_, e) ↦ inr (subst (IsTaken task a b) (sym e) taken) ];
+    useless = λ y here. elim ((h.entries dropped y).0 here) [ inl old ↦ sound.useless y old.0 | inr (wrong, _) ↦ absurd cc ];
     paired = λ e k here. elim ((h.unrelaxed (e, k)).0 here) [
-      | inl old ↦ let pair = sound.paired e k old in ((h.settled e).1 (inl pair.0), pair.1)
-      | inr new ↦ ((h.settled e).1 (inr new.0), subst (λ (m : Label). LeadsOn task.network m.node k) (sym new.0) new.1)
+      | inl old ↦ still_paired entries e k old
+      | inr (is_l, leads) ↦ subst (λ (m : Label). IsActive a m × Contains b.settled m × LeadsOn task.network m.node k) (sym is_l) (waits h.may.waits, (h.entries settled l).1 (inr (refl, refl)), leads)
     ];
-    known = λ y. elim [ inl entry ↦ inl (inl (entry_before_move a b l settled move y entry)) | inr here ↦ inl (inr ((candidates y).0 here)) ];
-    candidates = λ y here. inl ((candidates y).0 here);
-    active = λ y. elim [
-      | waits here ↦ as_active a y (waits ((h.waiting y).0 here).0)
-      | is_candidate here ↦ as_active a y (is_candidate ((candidates y).0 here))
-      | has_arc k here ↦ as_active a y (elim ((h.unrelaxed (y, k)).0 here) [
-        | inl old ↦ has_arc k old
-        | inr new ↦ waits (subst (Contains a.waiting) (sym new.0) h.may.waits)
-      ])
+    candidates = λ y here. inl ((same_by_permutation a.candidates b.candidates h.candidates y).0 here);
+    arrivals = λ x. elim [
+      | came here ↦ inl (came ((same_by_permutation a.candidates b.candidates h.candidates x).1 here))
+      | comes e here f ↦ inl (comes e ((h.unrelaxed (e, x.arc)).1 (inl here)) f)
     ];
-    covers = λ y entry. covered_by_itself b y (entry_after_move a b l settled move y entry);
-    arrivals = λ x. elim [ came here ↦ inl (came ((candidates x).1 here)) | comes e here f ↦ inl (comes e ((h.unrelaxed (e, x.arc)).1 (inl here)) f) ];
-    apart = apart_after_move a b l settled move sound.apart;
   } where
-    move : Moves a b l settled
-    move = move_of_take task a b l h
-
-    candidates : SameMembers b.candidates a.candidates
-    candidates = same_by_permutation a.candidates b.candidates h.candidates
+    entries : EntriesChange a b
+    entries = entries_become a b sound.apart (λ _ y. y ≢ l) l settled h.entries (room_to_move a b sound.apart l h.may.waits)
 
     taken : IsTaken task a b l
     taken = record { may = h.may; opens = λ x f. comes l ((h.unrelaxed (l, x.arc)).1 (inr (refl, leads_on task.network l x f))) f }
 
   pub drop_changes : (l : Label) → Drops task a l b → Changes task a b
-  drop_changes l h = record {
-    kept = λ y there. (h.settled y).1 there;
-    settled = λ y here. inl ((h.settled y).0 here);
-    useless = λ y here. elim ((h.dropped y).0 here) [
-      | inl old ↦ sound.useless y old
-      | inr e ↦ subst (λ (m : Label). (¬ Within task.limit m.cost) ⊎ IsBeatenAtTarget task a m.cost) (sym e) h.may.useless
-    ];
-    paired = λ e k here. let pair = sound.paired e k ((h.unrelaxed (e, k)).0 here) in ((h.settled e).1 pair.0, pair.1);
-    known = λ y. elim [ inl entry ↦ inl (inl (entry_before_move a b l dropped move y entry)) | inr here ↦ inl (inr ((candidates y).0 here)) ];
-    candidates = λ y here. inl ((candidates y).0 here);
-    active = λ y. elim [
-      | waits here ↦ as_active a y (waits ((h.waiting y).0 here).0)
-      | is_candidate here ↦ as_active a y (is_candidate ((candidates y).0 here))
-      | has_arc k here ↦ as_active a y (has_arc k ((h.unrelaxed (y, k)).0 here))
-    ];
-    covers = λ y entry. covered_by_itself b y (entry_after_move a b l dropped move y entry);
-    arrivals = λ x. elim [ came here ↦ inl (came ((candidates x).1 here)) | comes e here f ↦ inl (comes e ((h.unrelaxed (e, x.arc)).1 here) f) ];
-    apart = apart_after_move a b l dropped move sound.apart;
-  } where
-    move : Moves a b l dropped
-    move = move_of_drop task a b l h
+  drop_changes l h =
+      let entries = entries_become a b sound.apart (λ _ y. y ≢ l) l dropped h.entries (room_to_move a b sound.apart l h.may.waits) in
+      let candidates = same_by_permutation a.candidates b.candidates h.candidates in record {
+        entries = entries;
+        settled = λ y here. elim ((h.entries settled y).0 here) [ inl old ↦ inl old.0 | inr (wrong, _) ↦ absurd cc ];
+        useless = λ y here. elim ((h.entries dropped y).0 here) [
+          | inl old ↦ sound.useless y old.0
+          | inr (_, e) ↦ subst (λ (m : Label). (¬ Within task.limit m.cost) ⊎ IsBeatenAtTarget task a m.cost) (sym e) h.may.useless
+        ];
+        paired = λ e k here. still_paired entries e k ((h.unrelaxed (e, k)).0 here);
+        candidates = λ y here. inl ((candidates y).0 here);
+        arrivals = λ x. elim [ came here ↦ inl (came ((candidates x).1 here)) | comes e here f ↦ inl (comes e ((h.unrelaxed (e, x.arc)).1 here) f) ];
+      }
 
-    candidates : SameMembers b.candidates a.candidates
-    candidates = same_by_permutation a.candidates b.candidates h.candidates
-
-  pub relax_changes : (is : IsNetwork task.network) → ((y : Label) → Contains a.settled y → length y.cost ≡ task.network.criteria)
-      → (l : Label) (k : ℕ) → Relaxes task a l k b → Changes task a b
-  relax_changes is long l k h = record {
-    kept = λ y there. (h.entries settled y).1 there;
+  pub relax_changes : (l : Label) (k : ℕ) → Relaxes task a l k b → Changes task a b
+  relax_changes l k h = record {
+    entries = entries_stay a b sound.apart h.entries;
     settled = λ y here. inl ((h.entries settled y).0 here);
     useless = λ y here. sound.useless y ((h.entries dropped y).0 here);
-    paired = λ e j here. let pair = sound.paired e j ((h.unrelaxed (e, j)).0 here).0 in ((h.entries settled e).1 pair.0, pair.1);
-    known = λ y. elim [ inl (p, here) ↦ inl (inl (p, (h.entries p y).0 here)) | inr here ↦ elim (new y here) [ inl old ↦ inl (inr old) | inr given ↦ inr given ] ];
-    candidates = new;
-    active = λ y. elim [
-      | waits here ↦ as_active a y (waits ((h.entries waiting y).0 here))
-      | is_candidate here ↦ elim (new y here) [
-        | inl old ↦ as_active a y (is_candidate old)
-        | inr given ↦ record { label = given.from; active = given.active; at_most = grown given.from y (long given.from given.settled) given.follows }
-      ]
-      | has_arc j here ↦ as_active a y (has_arc j ((h.unrelaxed (y, j)).0 here).0)
-    ];
-    covers = λ y (p, there). covered_by_itself b y (p, (h.entries p y).1 there);
+    paired = λ e j here. still_paired (entries_stay a b sound.apart h.entries) e j ((h.unrelaxed (e, j)).0 here).0;
+    candidates = λ y here. elim ((gains y).0 here) [ inl old ↦ inl old | inr e ↦ inr (subst (IsGiven task a) (sym e) given) ];
     arrivals = λ y arrival. inl ((arrivals_by_relax task a b l k h y).0 arrival);
-    apart = apart_as_before a b sound.apart (λ p y. (h.entries p y).0);
   } where
-    gains : Gains a.candidates h.candidate b.candidates
+    gains : (y : Label) → Contains b.candidates y ↔ (Contains a.candidates y ⊎ (y ≡ h.candidate))
     gains = gains_by_permutation h.candidate a.candidates b.candidates h.candidates
 
-    new : (y : Label) → Contains b.candidates y → Contains a.candidates y ⊎ IsGiven task a y
-    new y here = elim ((gains y).0 here) [
-      | inl old ↦ inl old
-      | inr e ↦ inr (subst (IsGiven task a) (sym e) (record { from = l; settled = (sound.paired l k h.may).0; active = has_arc k h.may; follows = h.follows }))
-    ]
-
-    grown : (e x : Label) → length e.cost ≡ task.network.criteria → Follows task.network e x → AtMost e.cost x.cost
-    grown e x long f = subst (AtMost e.cost) (sym f.cost) (grows_along task.network is x.arc e.node x.node f.by e.cost f.leads long).at_most
+    given : IsGiven task a h.candidate
+    given = record { from = l; settled = (sound.paired l k h.may).0; active = has_arc k h.may; follows = h.follows }
 
   pub merge_changes : (x : Label) → Merges a x b → Changes task a b
   merge_changes x h = record {
-    kept = λ y there. (stands y).1 there;
-    settled = λ y here. inl ((stands y).0 here);
-    useless = λ y here.
-        let from = dropped_before_merge a b x sound.apart harmless h.entries y here in
-        subst (λ c. (¬ Within task.limit c) ⊎ IsBeatenAtTarget task a c) from.same.cost (sound.useless from.label from.member);
-    paired = λ e k here. let pair = sound.paired e k ((h.unrelaxed (e, k)).0 here) in ((stands e).1 pair.0, pair.1);
-    known = λ y. elim [
-      | inl entry ↦ elim (entry_before_merge a b x sound.apart harmless h.entries y entry) [ inl old ↦ inl (inl old) | inr e ↦ inl (inr (subst (Contains a.candidates) (sym e) mine)) ]
-      | inr here ↦ inl (inr ((gains y).1 (inl here)))
+    entries = entries;
+    settled = λ y here. inl (settled_before_merge task a b sound x mine h.entries y here);
+    useless = λ y here. elim (place_before_merge task a b sound x mine h.entries dropped y here) [
+      | inl from ↦ subst (λ c. (¬ Within task.limit c) ⊎ IsBeatenAtTarget task a c) from.same.cost (sound.useless from.label from.member)
+      | inr (wrong, _) ↦ absurd cc
     ];
+    paired = λ e k here. still_paired entries e k ((h.unrelaxed (e, k)).0 here);
     candidates = λ y here. inl ((gains y).1 (inl here));
-    active = λ y. elim [
-      | waits here ↦ as_active a y (elim (waiting_before_merge a b x sound.apart harmless h.entries y here) [
-        | inl old ↦ waits old
-        | inr e ↦ is_candidate (subst (Contains a.candidates) (sym e) mine)
-      ])
-      | is_candidate here ↦ as_active a y (is_candidate ((gains y).1 (inl here)))
-      | has_arc k here ↦ as_active a y (has_arc k ((h.unrelaxed (y, k)).0 here))
-    ];
-    covers = entry_covered_after_merge a b x sound.apart harmless h.entries;
     arrivals = λ y. elim [
       | comes e there f ↦ inl (comes e ((h.unrelaxed (e, y.arc)).1 there) f)
-      | came there ↦ elim ((gains y).0 there) [
-        | inl here ↦ inl (came here)
-        | inr e ↦ inr (subst (IsCovered b) (sym e) (covered_by_merge a b x sound.apart harmless h.entries))
-      ]
+      | came there ↦ elim ((gains y).0 there) [ inl here ↦ inl (came here) | inr e ↦ inr (subst (IsCovered b) (sym e) (covered_by_merge task a b sound x mine h.entries)) ]
     ];
-    apart = apart_by_merge a b x sound.apart harmless h.entries;
   } where
-    gains : Gains b.candidates x a.candidates
-    gains = gains_back_by_merge a b x h
+    gains : (y : Label) → Contains a.candidates y ↔ (Contains b.candidates y ⊎ (y ≡ x))
+    gains = candidates_by_merge a b x h
 
     mine : Contains a.candidates x
     mine = (gains x).1 (inr refl)
 
-    harmless : IsHarmless a x
-    harmless = harmless_candidate task a sound x mine
-
-    stands : SameMembers b.settled a.settled
-    stands = settled_by_merge a b x sound.apart harmless h.entries
+    entries : EntriesChange a b
+    entries = entries_by_merge task a b sound x mine h.entries
 
   pub same_changes : IsSame b a → Changes task a b
-  same_changes h = record {
-    kept = λ y there. (h.entries settled y).1 there;
-    settled = λ y here. inl ((h.entries settled y).0 here);
-    useless = λ y here. sound.useless y ((h.entries dropped y).0 here);
-    paired = λ e k here. let pair = sound.paired e k ((h.unrelaxed (e, k)).0 here) in ((h.entries settled e).1 pair.0, pair.1);
-    known = λ y. elim [ inl (p, here) ↦ inl (inl (p, (h.entries p y).0 here)) | inr here ↦ inl (inr ((candidates y).0 here)) ];
-    candidates = λ y here. inl ((candidates y).0 here);
-    active = λ y here. as_active a y (active_alike b a h y here);
-    covers = λ y (p, there). covered_by_itself b y (p, (h.entries p y).1 there);
-    arrivals = λ y. elim [ came here ↦ inl (came ((candidates y).1 here)) | comes e there f ↦ inl (comes e ((h.unrelaxed (e, y.arc)).1 there) f) ];
-    apart = apart_as_before a b sound.apart (λ p y. (h.entries p y).0);
-  } where
-    candidates : SameMembers b.candidates a.candidates
-    candidates = same_by_permutation a.candidates b.candidates (IsPermutation-sym b.candidates a.candidates h.candidates)
+  same_changes h =
+      let entries = entries_stay a b sound.apart h.entries in
+      let candidates = same_by_permutation a.candidates b.candidates (IsPermutation-sym b.candidates a.candidates h.candidates) in record {
+        entries = entries;
+        settled = λ y here. inl ((h.entries settled y).0 here);
+        useless = λ y here. sound.useless y ((h.entries dropped y).0 here);
+        paired = λ e k here. still_paired entries e k ((h.unrelaxed (e, k)).0 here);
+        candidates = λ y here. inl ((candidates y).0 here);
+        arrivals = λ y. elim [ came here ↦ inl (came ((candidates y).1 here)) | comes e there f ↦ inl (comes e ((h.unrelaxed (e, y.arc)).1 there) f) ];
+      }

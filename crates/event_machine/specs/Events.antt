@@ -1,9 +1,9 @@
 -- The single events of the search, when each may happen, and what it does. All that an event doesn't name stays.
 -- Sources: Martins 1984; Sanders and Mandow 2013. Drop, what Take asks of the target, and the lesser arc are this project's.
-use Rattle.std.specs.Prelude.{◌≡◌, ℕ, ◌<◌, ◌≤◌, ◌⊎◌, ◌↔◌, List, [], ◌∷◌, Contains, IsPermutation}
+use Rattle.std.specs.Prelude.{◌≡◌, ◌≢◌, ℕ, ◌<◌, ◌≤◌, ◌⊎◌, ◌↔◌, List, [], ◌∷◌, Contains, IsPermutation}
 use Rattle.cost_vector.specs.Costs.{Dominates, Within}
-use Rattle.event_machine.specs.Sets.{SameMembers, Gains, Loses, Replaces}
-use Rattle.event_machine.specs.Machine.{Task, Label, IsSamePair, Beats, SearchState, start_state, Place, entries_at, IsEntry, IsActive, IsBeatenAtTarget, LeadsOn, Follows}
+use Rattle.event_machine.specs.Sets.{SameMembers, Loses}
+use Rattle.event_machine.specs.Machine.{Task, Label, IsSamePair, Beats, SearchState, start_state, Place, settled, dropped, waiting, entries_at, IsEntry, IsActive, IsBeatenAtTarget, LeadsOn, Follows}
 
 -- A waiting label is settled, or dropped; an arc is relaxed from a settled label; a candidate is merged.
 pub data Event : Type 0 where
@@ -15,6 +15,11 @@ pub data Event : Type 0 where
 -- the same settled, dropped and waiting labels
 abbrev pub SameEntries : SearchState → SearchState → Type 0
 SameEntries a b = (place : Place) → SameMembers (entries_at a place) (entries_at b place)
+
+-- Of the entries those stay that Stays holds of, each where it stands, and n comes to stand at the place `to`.
+abbrev pub Becomes : SearchState → (Place → Label → Type 0) → Label → Place → SearchState → Type 0
+Becomes before Stays n to after = (place : Place) (y : Label) → Contains (entries_at after place) y
+    ↔ ((Contains (entries_at before place) y × Stays place y) ⊎ ((place ≡ to) × (y ≡ n)))
 
 -- the same state: each set has the same members, and the candidates are the same up to order
 pub record IsSame (a b : SearchState) : Type 0 where
@@ -34,9 +39,7 @@ pub record MayTake (task : Task) (s : SearchState) (l : Label) : Type 0 where
 -- l moves from the waiting to the settled labels, and the passable arcs that lead on from its node are to be relaxed
 pub record Takes (task : Task) (before : SearchState) (l : Label) (after : SearchState) : Type 0 where
   pub may : MayTake task before l
-  pub settled : Gains before.settled l after.settled
-  pub dropped : SameMembers after.dropped before.dropped
-  pub waiting : Loses before.waiting l after.waiting
+  pub entries : Becomes before (λ _ y. y ≢ l) l settled after
   pub unrelaxed : (p : Label × ℕ) → Contains after.unrelaxed p
       ↔ (Contains before.unrelaxed p ⊎ ((p.0 ≡ l) × LeadsOn task.network l.node p.1))
   pub candidates : IsPermutation before.candidates after.candidates
@@ -49,9 +52,7 @@ pub record MayDrop (task : Task) (s : SearchState) (l : Label) : Type 0 where
 -- l moves from the waiting to the dropped labels
 pub record Drops (task : Task) (before : SearchState) (l : Label) (after : SearchState) : Type 0 where
   pub may : MayDrop task before l
-  pub settled : SameMembers after.settled before.settled
-  pub dropped : Gains before.dropped l after.dropped
-  pub waiting : Loses before.waiting l after.waiting
+  pub entries : Becomes before (λ _ y. y ≢ l) l dropped after
   pub unrelaxed : SameMembers after.unrelaxed before.unrelaxed
   pub candidates : IsPermutation before.candidates after.candidates
 
@@ -75,11 +76,12 @@ pub record KeepsEntry (before : SearchState) (x : Label) (after : SearchState) :
 
 -- an entry has x's node and cost, and a greater arc: it gets x's arc, and stays settled, dropped or waiting
 pub record LowersEntry (before : SearchState) (x : Label) (after : SearchState) : Type 0 where
+  pub place : Place
   pub entry : Label
-  pub is_entry : IsEntry before entry
+  pub is_entry : Contains (entries_at before place) entry
   pub same : IsSamePair entry x
   pub greater : x.arc < entry.arc
-  pub replaces : (place : Place) → Replaces (entries_at before place) entry x (entries_at after place)
+  pub entries : Becomes before (λ _ y. y ≢ entry) x place after
 
 -- no entry has x's node and cost, and an entry of its node dominates it: it is discarded
 pub record Discards (before : SearchState) (x : Label) (after : SearchState) : Type 0 where
@@ -94,9 +96,7 @@ pub record Discards (before : SearchState) (x : Label) (after : SearchState) : T
 pub record Enters (before : SearchState) (x : Label) (after : SearchState) : Type 0 where
   pub new : (y : Label) → IsEntry before y → ¬ IsSamePair y x
   pub unbeaten : (y : Label) → IsEntry before y → ¬ Beats y x
-  pub settled : SameMembers after.settled before.settled
-  pub dropped : (y : Label) → Contains after.dropped y ↔ (Contains before.dropped y × (¬ Beats x y))
-  pub waiting : (y : Label) → Contains after.waiting y ↔ ((Contains before.waiting y × (¬ Beats x y)) ⊎ (y ≡ x))
+  pub entries : Becomes before (λ place y. (place ≡ settled) ⊎ (¬ Beats x y)) x waiting after
 
 -- what becomes of the entries where x is merged
 pub data IsMerged (before : SearchState) (x : Label) (after : SearchState) : Type 0 where

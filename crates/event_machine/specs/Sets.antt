@@ -1,21 +1,13 @@
 -- Lists that stand for sets: what they contain counts, and neither how often nor in which order.
-use Rattle.std.specs.Prelude.{◌≡◌, ◌≢◌, ℕ, ◌+◌, ◌⊎◌, ◌↔◌, List, length, All, AllPairs, Contains}
+use Rattle.std.specs.Prelude.{◌≡◌, ◌≢◌, ℕ, ◌+◌, ◌↔◌, List, length, All, AllPairs, Contains}
 
 -- both contain the same
 abbrev pub SameMembers : {X : Type 0} → List X → List X → Type 0
 SameMembers {X} xs ys = (x : X) → Contains xs x ↔ Contains ys x
 
--- `after` contains what `before` does, and x
-abbrev pub Gains : {X : Type 0} → List X → X → List X → Type 0
-Gains {X} before x after = (y : X) → Contains after y ↔ (Contains before y ⊎ (y ≡ x))
-
 -- `after` contains what `before` does, but not x
 abbrev pub Loses : {X : Type 0} → List X → X → List X → Type 0
 Loses {X} before x after = (y : X) → Contains after y ↔ (Contains before y × (y ≢ x))
-
--- `after` contains what `before` does, with x in the place of e
-abbrev pub Replaces : {X : Type 0} → List X → X → X → List X → Type 0
-Replaces {X} before e x after = (y : X) → Contains after y ↔ ((Contains before y × (y ≢ e)) ⊎ (Contains before e × (y ≡ x)))
 
 -- the list has exactly what P holds of, each once
 pub record ListsOnce {X : Type 0} (P : X → Type 0) (xs : List X) : Type 0 where

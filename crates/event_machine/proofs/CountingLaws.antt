@@ -1,5 +1,5 @@
 -- Counted rounds: there is one number of them, and each makes what waits heavier.
-use Rattle.std.proofs.Common.{◌≡◌, ◌≢◌, ℕ, zero, suc, ◌+◌, ◌≤◌, ◌⊎◌, List, [], ◌∷◌, length, map, replicate, sum, inl, inr, refl, sym, ap, subst, arith}
+use Rattle.std.proofs.Common.{◌≡◌, ◌≢◌, ℕ, zero, suc, ◌+◌, ◌<◌, ◌≤◌, ◌⊎◌, List, [], ◌∷◌, length, map, replicate, sum, inl, inr, refl, sym, ap, subst, arith}
 use Rattle.std.specs.Prelude.{Contains, AllPairs}
 use Rattle.std.proofs.lemmas.Bool.{cases_eq, cases_lt}
 use Rattle.cost_vector.specs.Costs.{Dominates, Within}
@@ -19,7 +19,7 @@ use Rattle.event_machine.proofs.Sound.{cases_label, same_pair}
 use Rattle.event_machine.proofs.Running.{same_itself, same_back, same_through, drop_alike, runs_from_same}
 use Rattle.event_machine.proofs.Keeping.{sound_if_reached}
 use Rattle.event_machine.proofs.Frontier.{grown_from_settled}
-use Rattle.event_machine.proofs.RoundLaws.{HaveOneEnd, reached_by_round, some_round, reached_begun, begun_of, outcome_of, between_after, counted, kept_by_round, one_end, has_lightest, settles, taken_is_new}
+use Rattle.event_machine.proofs.RoundLaws.{HaveOneEnd, reached_on, reached_by_round, some_round, reached_begun, begun_of, outcome_of, between_after, counted, kept_by_round, one_end, has_lightest, settles, taken_is_new}
 
 -- whether a list contains more than n different labels
 pub cases_more : (n : ℕ) (xs : List Label) → IsTold (HasMoreThan n xs)
@@ -60,7 +60,7 @@ module _ (task : Task) where
     drops = h.drops;
     each_drop = once_as (MayDrop task b) (MayDrop task a) h.drops (λ l. (drop_alike b a (same_back a b same) task l, drop_alike a b same task l)) h.each_drop;
     left = h.left;
-    dropping = runs_from_same task a b h.left (map (λ l. drop l) h.drops) same h.dropping;
+    dropping = runs_from_same task a b h.left (map (λ l. drop l) h.drops) (same_back a b same) h.dropping;
     takes = h.takes;
     each_take = h.each_take;
     taking = h.taking;
@@ -109,9 +109,12 @@ module _ (task : Task) (is : IsTask task) (ends : HaveOneEnd task) (budget : ℕ
   reached_at_start : IsReached task (start_state task)
   reached_at_start = record { events = []; run = same_itself (start_state task) }
 
+  start_between : IsBetweenRounds (start_state task)
+  start_between = record { unrelaxed = refl; candidates = refl }
+
   pub some_number : (n : ℕ) × Rounds task budget n
   some_number =
-      let found = rounds_from (budget + 1) (start_state task) reached_at_start (record { unrelaxed = refl; candidates = refl }) [] (pairs_none ◌≢◌)
+      let found = rounds_from (budget + 1) (start_state task) reached_at_start start_between [] (pairs_none ◌≢◌)
       (λ y there. absurd (in_none y there)) (omega arith) in
       (found.0, record { last = found.1.last; rounds = found.1.rounds; stops = found.1.stops })
 
@@ -124,23 +127,30 @@ module _ (task : Task) (is : IsTask task) (ends : HaveOneEnd task) (budget : ℕ
       let stays = (ends.left a round.round.begun reached round.round.begins round.label).0 round.waits in
       stays.kept (drop_alike b a same task round.label (none round.label ((same.entries waiting round.label).1 stays.waits)))
 
-  one_count : (n m : ℕ) (a c b d : SearchState) → IsReached task a → IsReached task c → IsSame a c → GoRounds task budget n a b → Stops b
-      → GoRounds task budget m c d → Stops d → n ≡ m
-  one_count zero zero a c b d reached reached_too same go stops go_too stops_too = refl
-  one_count zero (suc m) a c b d reached reached_too same go stops go_too stops_too =
-      absurd (none_begins c b go_too.next reached_too (same_through b a c go same) stops go_too.within go_too.round)
-  one_count (suc n) zero a c b d reached reached_too same go stops go_too stops_too =
-      absurd (none_begins a d go.next reached (same_through d c a go_too (same_back a c same)) stops_too go.within go.round)
-  one_count (suc n) (suc m) a c b d reached reached_too same go stops go_too stops_too =
+  -- no more rounds go on from a state than lead to where the search stops
+  no_more : (k n : ℕ) (a c b d : SearchState) → IsReached task a → IsReached task c → IsSame a c → GoRounds task budget k a b
+      → GoRounds task budget n c d → Stops d → k ≤ n
+  no_more zero n a c b d reached reached_too same go go_too stops = omega arith
+  no_more (suc k) zero a c b d reached reached_too same go go_too stops =
+      absurd (none_begins a d go.next reached (same_through d c a go_too (same_back a c same)) stops go.within go.round)
+  no_more (suc k) (suc n) a c b d reached reached_too same go go_too stops =
       let that = round_from_same task a c go_too.next same go.round.round.between go_too.round.round in
       let next = one_end task is ends a go.next go_too.next reached go.round.round that in
-      ap suc (one_count n m go.next go_too.next b d (reached_by_round task is a go.next reached go.round.round)
-      (reached_by_round task is c go_too.next reached_too go_too.round.round) next go.rest stops go_too.rest stops_too)
+      let most = no_more k n go.next go_too.next b d (reached_by_round task is a go.next reached go.round.round)
+      (reached_by_round task is c go_too.next reached_too go_too.round.round) next go.rest go_too.rest stops in
+      omega (arith, most)
+
+  -- so many rounds go on from the start, and no more
+  pub at_most_all : (k n : ℕ) (s : SearchState) → GoRounds task budget k (start_state task) s → Rounds task budget n → k ≤ n
+  at_most_all k n s go all =
+      let start = start_state task in no_more k n start start s all.last reached_at_start reached_at_start (same_itself start) go all.rounds all.stops
 
   pub one_number : (n m : ℕ) → Rounds task budget n → Rounds task budget m → n ≡ m
-  one_number n m these those =
-      let start = start_state task in
-      one_count n m start start these.last those.last reached_at_start reached_at_start (same_itself start) these.rounds these.stops those.rounds those.stops
+  one_number n m these those = omega (arith, at_most_all n m these.last these.rounds those, at_most_all m n those.last those.rounds these)
+
+  pub reached_by_rounds : (n : ℕ) (a b : SearchState) → IsReached task a → GoRounds task budget n a b → IsReached task b
+  reached_by_rounds zero a b reached same = reached_on task is a b [] reached same
+  reached_by_rounds (suc n) a b reached go = reached_by_rounds n go.next b (reached_by_round task is a go.next reached go.round.round) go.rest
 
   -- ---- one round more, after those of before
 
@@ -165,6 +175,23 @@ module _ (task : Task) (is : IsTask task) (ends : HaveOneEnd task) (budget : ℕ
     rest = one_round_more n go.next b t (reached_by_round task is a go.next reached go.round.round)
         (between_after task is ends a go.next reached go.round.round) reached_too go.rest few round;
   }
+
+  pub round_after_all : (n : ℕ) (s t : SearchState) → GoRounds task budget n (start_state task) s → ¬ HasMoreThan budget s.settled → CountedRound task s t
+      → GoRounds task budget (n + 1) (start_state task) t
+  round_after_all n s t go few round =
+      let start = start_state task in
+      let one : suc n ≡ n + 1 = omega arith in
+      subst (λ m. GoRounds task budget m start t) one
+      (one_round_more n start s t reached_at_start start_between (reached_by_rounds n start s reached_at_start go) go few round)
+
+  -- where the search doesn't stop between rounds, more rounds come
+  pub more_to_come : (k n : ℕ) (s : SearchState) (l : Label) → GoRounds task budget k (start_state task) s → IsBetweenRounds s
+      → ¬ HasMoreThan budget s.settled → Stays task s l → Rounds task budget n → k < n
+  more_to_come k n s l go between few stays all =
+      let reached = reached_by_rounds k (start_state task) s reached_at_start go in
+      let (after, round) = some_round task is ends s reached between in
+      let more = round_after_all k s after go few (counted task is ends s after reached round l stays) in
+      omega (arith, at_most_all (k + 1) n after more all)
 
   -- ---- what waits grows heavier
 

@@ -1,4 +1,6 @@
 pub mod SetLaws
+pub mod ToldLaws
+pub mod OnceLaws
 pub mod Running
 pub mod Sound
 pub mod Changing
@@ -7,7 +9,8 @@ pub mod Frontier
 pub mod Keeping
 pub mod SettledLabels
 pub mod Bounding
-pub mod ToldLaws
+pub mod HappensLaws
+pub mod OutcomeLaws
 pub mod RoundLaws
 pub mod CountingLaws
 pub mod BudgetLaws

@@ -10,9 +10,9 @@ use Rattle.event_machine.specs.Events.{Event, drop, take, merge, IsSame, Runs, I
 use Rattle.event_machine.specs.Rounds.{IsBetweenRounds, Begins, Finishes, Round, CountedRound, relaxing}
 use Rattle.event_machine.specs.Orders.{Stays, IsNext, IsBegun, IsOutcome}
 use Rattle.event_machine.proofs.Sound.{IsSound}
-use Rattle.event_machine.proofs.Running.{runs_on, runs_from_same}
+use Rattle.event_machine.proofs.Running.{same_back, runs_on, runs_from_same}
 use Rattle.event_machine.proofs.ToldLaws.{once_as}
-use Rattle.event_machine.proofs.Keeping.{changes_of, sound_after, sound_if_reached}
+use Rattle.event_machine.proofs.Keeping.{changes_of, sound_after, sound_by_run, sound_if_reached}
 
 -- what the laws of orders say of the two halves of a round
 pub record HaveOneEnd (task : Task) : Type 0 where
@@ -27,7 +27,7 @@ pub record HaveOneEnd (task : Task) : Type 0 where
 module _ (task : Task) (is : IsTask task) where
   -- ---- what a round leads to is reached, and keeps what is settled
 
-  reached_on : (s t : SearchState) (events : List Event) → IsReached task s → Runs task s events t → IsReached task t
+  pub reached_on : (s t : SearchState) (events : List Event) → IsReached task s → Runs task s events t → IsReached task t
   reached_on s t events reached run = record {
     events = reached.events ++ events;
     run = runs_on task (start_state task) s t reached.events events reached.run run;
@@ -36,8 +36,9 @@ module _ (task : Task) (is : IsTask task) where
   kept_by_run : (s t : SearchState) (events : List Event) (l : Label) → IsSound task s → Runs task s events t → Contains s.settled l → Contains t.settled l
   kept_by_run s t [] l sound same there = (same.entries settled l).1 there
   kept_by_run s t (event ∷ rest) l sound run there =
-      kept_by_run run.next t rest l (sound_after task is s run.next event sound run.step) run.rest
-      ((changes_of task is s run.next event sound run.step).entries.kept l there)
+      let from = sound_by_run task is s run.from [] sound run.same in
+      kept_by_run run.next t rest l (sound_after task is run.from run.next event from run.step) run.rest
+      ((changes_of task is run.from run.next event from run.step).entries.kept l ((run.same.entries settled l).1 there))
 
   reached_by_begins : (s t : SearchState) → IsReached task s → Begins task s t → IsReached task t
   reached_by_begins s t reached h = reached_on h.left t (map (λ l. take l) h.takes) (reached_on s h.left (map (λ l. drop l) h.drops) reached h.dropping) h.taking
@@ -62,7 +63,7 @@ module _ (task : Task) (is : IsTask task) where
     relaxes = h.relaxes;
     each_relax = once_as (Contains b.unrelaxed) (Contains a.unrelaxed) h.relaxes (λ p. ((same.unrelaxed p).1, (same.unrelaxed p).0)) h.each_relax;
     relaxed = h.relaxed;
-    relaxing_all = runs_from_same task a b h.relaxed (map relaxing h.relaxes) same h.relaxing_all;
+    relaxing_all = runs_from_same task a b h.relaxed (map relaxing h.relaxes) (same_back a b same) h.relaxing_all;
     merges = h.merges;
     each_merge = h.each_merge;
     merging_all = h.merging_all;

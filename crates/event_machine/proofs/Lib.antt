@@ -11,3 +11,4 @@ pub mod ToldLaws
 pub mod OnceLaws
 pub mod HappensLaws
 pub mod OutcomeLaws
+pub mod CompletesLaws

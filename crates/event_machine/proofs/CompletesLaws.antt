@@ -29,7 +29,7 @@ empty_if_none [] none = refl
 empty_if_none (x ∷ xs) none = absurd (none x (in_first x xs))
 
 -- each candidate stands once, and no pair gives it
-record IsFresh (net : Network) (s : SearchState) : Type 0 where
+pub record IsFresh (net : Network) (s : SearchState) : Type 0 where
   pub once : AllPairs ◌≢◌ s.candidates
   pub apart : (e x : Label) → Contains s.candidates x → Contains s.unrelaxed (e, x.arc) → ¬ Follows net e x
 
@@ -141,7 +141,7 @@ module _ (task : Task) (is : IsTask task) where
   ]
 
   -- each list that completes is a run
-  completes_run : (s : SearchState) (events : List Event) → IsSound task s → IsFresh task.network s → Completes task.network s events
+  pub completes_run : (s : SearchState) (events : List Event) → IsSound task s → IsFresh task.network s → Completes task.network s events
       → (after : SearchState) × Runs task s events after
   completes_run s [] sound fresh c = (s, same_itself s)
   completes_run s (event ∷ rest) sound fresh c =
@@ -151,7 +151,7 @@ module _ (task : Task) (is : IsTask task) where
       (after, record { next = next; step = step; rest = run })
 
   -- what is left of it completes from where its beginning leads to
-  completes_along : (s b : SearchState) (events more : List Event) → IsSound task s → IsFresh task.network s → Completes task.network s (events ++ more)
+  pub completes_along : (s b : SearchState) (events more : List Event) → IsSound task s → IsFresh task.network s → Completes task.network s (events ++ more)
       → Runs task s events b → Completes task.network b more × IsFresh task.network b
   completes_along s b [] more sound fresh c run = (
     record {
@@ -172,7 +172,7 @@ module _ (task : Task) (is : IsTask task) where
       completes_along run.next b rest more (sound_after task is s run.next event sound run.step) fresh_next c_next run.rest
 
   module _ (s : SearchState) (sound : IsSound task s) (no_candidate : s.candidates ≡ []) where
-    fresh_at_first : IsFresh task.network s
+    pub fresh_at_first : IsFresh task.network s
     fresh_at_first = record {
       once = subst (AllPairs ◌≢◌) (sym no_candidate) (pairs_none ◌≢◌);
       apart = λ e x there. absurd (none_of_empty s.candidates no_candidate x there);

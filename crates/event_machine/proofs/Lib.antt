@@ -12,3 +12,4 @@ pub mod OnceLaws
 pub mod HappensLaws
 pub mod OutcomeLaws
 pub mod CompletesLaws
+pub mod FinishesLaws

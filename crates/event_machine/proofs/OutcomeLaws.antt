@@ -10,6 +10,7 @@ use Rattle.event_machine.specs.Machine.{Task, IsTask, Label, IsSamePair, Beats, 
 use Rattle.event_machine.specs.Events.{Event, take, drop, relax, merge, SameEntries, IsSame, IsMerged, keeps, lowers, discards, enters, Merges, Happens, Runs}
 use Rattle.event_machine.specs.Orders.{IsArrival, came, comes, Survives, HasPair, IsOutcome}
 use Rattle.event_machine.proofs.SetLaws.{none_of_empty}
+use Rattle.event_machine.proofs.ToldLaws.{same_by}
 use Rattle.event_machine.proofs.Sound.{IsSound, AreApart, Covers, better, as_good, IsCovered, cases_label, label_by_parts, same_pair, pair_back}
 use Rattle.event_machine.proofs.Changing.{place_before_merge}
 use Rattle.event_machine.proofs.Stepping.{Changes, arrivals_by_relax, candidates_by_merge, same_changes}
@@ -235,9 +236,9 @@ module _ (task : Task) (is : IsTask task) where
 pub one_outcome : (net : Network) (s a b : SearchState) → IsOutcome net s a → IsOutcome net s b → IsSame a b
 one_outcome net s a b first second = record {
   entries = elim [
-    | settled ↦ λ y. (λ h. (second.settled y).1 ((first.settled y).0 h), λ h. (first.settled y).1 ((second.settled y).0 h))
-    | dropped ↦ λ y. (λ h. (second.dropped y).1 ((first.dropped y).0 h), λ h. (first.dropped y).1 ((second.dropped y).0 h))
-    | waiting ↦ λ y. (λ h. (second.waiting y).1 ((first.waiting y).0 h), λ h. (first.waiting y).1 ((second.waiting y).0 h))
+    | settled ↦ same_by _ a.settled b.settled first.settled second.settled
+    | dropped ↦ same_by _ a.dropped b.dropped first.dropped second.dropped
+    | waiting ↦ same_by _ a.waiting b.waiting first.waiting second.waiting
   ];
   unrelaxed = λ p. subst (λ ps. Contains a.unrelaxed p ↔ Contains ps p) (first.unrelaxed ∙ sym second.unrelaxed) (λ h. h, λ h. h);
   candidates = subst (IsPermutation a.candidates) (first.candidates ∙ sym second.candidates) (IsPermutation-refl a.candidates);

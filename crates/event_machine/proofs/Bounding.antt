@@ -47,7 +47,10 @@ module _ (task : Task) (is : IsTask task) (small : AreSmall task.network.states)
         record {
           before = e ∷ rest.before;
           distinct = pairs_cons ◌≢◌ l (e ∷ rest.before) (λ x here same. omega (arith, below x here, ap (λ (m : Label). sum m.cost) same)) rest.distinct;
-          each = λ x here. elim (cases_in l (e ∷ rest.before) x here) [ inl same ↦ subst (Contains s.settled) (sym same) there | inr later ↦ rest.each x later ];
+          each = λ x here. elim (cases_in l (e ∷ rest.before) x here) [
+            | inl same ↦ subst (Contains s.settled) (sym same) there
+            | inr later ↦ rest.each x later
+          ];
           below = below;
           bound = sum_of_most (length rest.before + 1) (length (e ∷ rest.before)) l.cost (omega arith) (one_more (length rest.before) e l f rest.bound);
         }

@@ -1,13 +1,15 @@
 -- What becomes of the entries where an event happens in a sound state.
-use Rattle.std.proofs.Common.{◌≡◌, ◌≢◌, List, ◌⊎◌, inl, inr, refl, sym, ap, subst, ◌∙◌, arith}
+use Rattle.std.proofs.Common.{◌≡◌, ◌≢◌, List, ◌⊎◌, inl, inr, refl, sym, subst, ◌∙◌, arith}
 use Rattle.std.specs.Prelude.{Contains}
 use Rattle.cost_vector.specs.Costs.{AtMost}
 use Rattle.cost_vector.proofs.Vectors.{AtMost-refl}
-use Rattle.event_machine.specs.Machine.{Task, Label, IsSamePair, Beats, SearchState, Place, settled, waiting, entries_at, IsEntry, IsActive, waits, is_candidate}
+use Rattle.event_machine.specs.Machine.{Task, Label, IsSamePair, Beats, SearchState, Place, settled, waiting, entries_at, IsEntry}
+use Rattle.event_machine.specs.Machine.{IsActive, waits, is_candidate}
 use Rattle.event_machine.specs.Events.{SameEntries, Becomes, LowersEntry, Enters, IsMerged, keeps, lowers, discards, enters}
 use Rattle.event_machine.specs.Orders.{HasPair}
 use Rattle.event_machine.specs.Laws.{IsKnown}
-use Rattle.event_machine.proofs.Sound.{Covers, better, as_good, IsCovered, covered_by_itself, AreApart, IsSound, cases_label, cases_beats, cases_below, same_pair, pair_back}
+use Rattle.event_machine.proofs.Sound.{Covers, better, as_good, IsCovered, covers_itself, covered_by_itself}
+use Rattle.event_machine.proofs.Sound.{AreApart, IsSound, cases_label, cases_beats, cases_below, same_pair, pair_back}
 
 -- no settled label goes, each entry was known and can be stood for later, and they stay apart
 pub record EntriesChange (a b : SearchState) : Type 0 where
@@ -25,6 +27,7 @@ pub record HasRoom (a : SearchState) (Stays : Place → Label → Type 0) (n : L
   pub clear : (p : Place) (y : Label) → Contains (entries_at a p) y → Stays p y → n.node ≡ y.node → ¬ (AtMost n.cost y.cost ⊎ AtMost y.cost n.cost)
 
 module _ (a b : SearchState) (apart : AreApart a) where
+  -- entries that stay the same
   pub entries_stay : SameEntries b a → EntriesChange a b
   entries_stay same = record {
     kept = λ y there. (same settled y).1 there;
@@ -40,17 +43,23 @@ module _ (a b : SearchState) (apart : AreApart a) where
   module _ (Stays : Place → Label → Type 0) (n : Label) (to : Place) (becomes : Becomes a Stays n to b) (room : HasRoom a Stays n) where
     -- an entry that stays isn't n
     is_other : (p : Place) (y : Label) → Contains (entries_at a p) y → Stays p y → y ≢ n
-    is_other p y there stays e = room.clear p y there stays (ap (λ (l : Label). l.node) (sym e)) (inr (subst (λ (l : Label). AtMost y.cost l.cost) e (AtMost-refl y.cost)))
+    is_other p y there stays e =
+        let pair = same_pair y n e in
+        room.clear p y there stays (sym pair.node) (inr (subst (AtMost y.cost) pair.cost (AtMost-refl y.cost)))
 
     apart_after : AreApart b
     apart_after = record {
       alone = λ y z (p, y_in) (q, z_in) node below. elim ((becomes p y).0 y_in) [
         | inl old ↦ elim ((becomes q z).0 z_in) [
           | inl old_too ↦ apart.alone y z (p, old.0) (q, old_too.0) node below
-          | inr (_, e) ↦ absurd (room.clear p y old.0 old.1 (ap (λ (l : Label). l.node) (sym e) ∙ sym node) (inr (subst (λ (l : Label). AtMost y.cost l.cost) e below)))
+          | inr (_, e) ↦
+              let pair = same_pair z n e in
+              absurd (room.clear p y old.0 old.1 (sym (node ∙ pair.node)) (inr (subst (AtMost y.cost) pair.cost below)))
         ]
         | inr (_, e) ↦ elim ((becomes q z).0 z_in) [
-          | inl old ↦ absurd (room.clear q z old.0 old.1 (ap (λ (l : Label). l.node) (sym e) ∙ node) (inl (subst (λ (l : Label). AtMost l.cost z.cost) e below)))
+          | inl old ↦
+              let pair = same_pair y n e in
+              absurd (room.clear q z old.0 old.1 (sym pair.node ∙ node) (inl (subst (λ c. AtMost c z.cost) pair.cost below)))
           | inr (_, f) ↦ e ∙ sym f
         ]
       ];
@@ -60,6 +69,7 @@ module _ (a b : SearchState) (apart : AreApart a) where
       ];
     }
 
+    -- n comes, and others may go
     pub entries_become : EntriesChange a b
     entries_become = record {
       kept = λ y there. (becomes settled y).1 (inl (there, room.settled_stay y there));
@@ -78,13 +88,12 @@ module _ (a b : SearchState) (apart : AreApart a) where
       apart = apart_after;
     }
 
-  -- ---- a waiting label moves
-
+  -- a waiting label has room among the others, wherever it stands
   pub room_to_move : (l : Label) → Contains a.waiting l → HasRoom a (λ _ y. y ≢ l) l
   room_to_move l there = record {
     source = inl there;
     settled_stay = λ y is_settled e. let same : settled ≡ waiting = apart.placed settled waiting l (subst (Contains a.settled) e is_settled) there in cc;
-    others_covered = λ p y y_in. elim (cases_label y l) [ inr other ↦ inl other | inl e ↦ inr (as_good (same_pair l y (sym e)) (omega (arith, ap (λ (m : Label). m.arc) e))) ];
+    others_covered = λ p y y_in. elim (cases_label y l) [ inr other ↦ inl other | inl e ↦ inr (subst (Covers l) (sym e) (covers_itself l)) ];
     clear = λ p y y_in other node. elim [
       | inl below ↦ other (sym (apart.alone l y (waiting, there) (p, y_in) node below))
       | inr above ↦ other (apart.alone y l (p, y_in) (waiting, there) (sym node) above)
@@ -102,9 +111,9 @@ module _ (task : Task) (a b : SearchState) (sound : IsSound task a) (x : Label) 
       | inr other ↦ inl other
       | inl e ↦ inr (subst (Covers x) (sym e) (as_good (pair_back h.entry x h.same) (omega (arith, h.greater))))
     ];
-    clear = λ p y there other node. elim [
-      | inl below ↦ other (sym (sound.apart.alone h.entry y (h.place, h.is_entry) (p, there) (h.same.node ∙ node) (subst (λ c. AtMost c y.cost) (sym h.same.cost) below)))
-      | inr above ↦ other (sound.apart.alone y h.entry (p, there) (h.place, h.is_entry) (sym node ∙ sym h.same.node) (subst (AtMost y.cost) (sym h.same.cost) above))
+    clear = λ p y there other node. let entry : IsEntry a h.entry = (h.place, h.is_entry) in elim [
+      | inl below ↦ other (sym (sound.apart.alone h.entry y entry (p, there) (h.same.node ∙ node) (subst (λ c. AtMost c y.cost) (sym h.same.cost) below)))
+      | inr above ↦ other (sound.apart.alone y h.entry (p, there) entry (sym (h.same.node ∙ node)) (subst (AtMost y.cost) (sym h.same.cost) above))
     ];
   }
 
@@ -125,17 +134,21 @@ module _ (task : Task) (a b : SearchState) (sound : IsSound task a) (x : Label) 
     ];
   }
 
+  -- whatever becomes of x
   pub entries_by_merge : IsMerged a x b → EntriesChange a b
   entries_by_merge (keeps h) = entries_stay a b sound.apart h.entries
   entries_by_merge (lowers h) = entries_become a b sound.apart (λ _ y. y ≢ h.entry) x h.place h.entries (room_to_lower h)
   entries_by_merge (discards h) = entries_stay a b sound.apart h.entries
   entries_by_merge (enters h) = entries_become a b sound.apart (λ p y. (p ≡ settled) ⊎ (¬ Beats x y)) x waiting h.entries (room_to_enter h)
 
+  entry_after : SameEntries b a → (y : Label) → IsEntry a y → IsEntry b y
+  entry_after same y (p, there) = (p, (same p y).1 there)
+
   -- x itself can be stood for
   pub covered_by_merge : IsMerged a x b → IsCovered b x
-  covered_by_merge (keeps h) = record { entry = h.entry; is_entry = (h.is_entry.0, (h.entries h.is_entry.0 h.entry).1 h.is_entry.1); covers = as_good h.same h.lesser }
+  covered_by_merge (keeps h) = record { entry = h.entry; is_entry = entry_after h.entries h.entry h.is_entry; covers = as_good h.same h.lesser }
   covered_by_merge (lowers h) = covered_by_itself b x (h.place, (h.entries h.place x).1 (inr (refl, refl)))
-  covered_by_merge (discards h) = record { entry = h.entry; is_entry = (h.is_entry.0, (h.entries h.is_entry.0 h.entry).1 h.is_entry.1); covers = better h.beats }
+  covered_by_merge (discards h) = record { entry = h.entry; is_entry = entry_after h.entries h.entry h.is_entry; covers = better h.beats }
   covered_by_merge (enters h) = covered_by_itself b x (waiting, (h.entries waiting x).1 (inr (refl, refl)))
 
   pair_itself : (xs : List Label) (y : Label) → Contains xs y → HasPair xs y
@@ -148,14 +161,21 @@ module _ (task : Task) (a b : SearchState) (sound : IsSound task a) (x : Label) 
   place_before_merge (enters h) p y here = elim ((h.entries p y).0 here) [ inl old ↦ inl (pair_itself (entries_at a p) y old.0) | inr new ↦ inr new ]
   place_before_merge (lowers h) p y here = elim ((h.entries p y).0 here) [
     | inl old ↦ inl (pair_itself (entries_at a p) y old.0)
-    | inr (is_place, e) ↦ inl (record { label = h.entry; member = subst (λ q. Contains (entries_at a q) h.entry) (sym is_place) h.is_entry; same = subst (IsSamePair h.entry) (sym e) h.same })
+    | inr (is_place, e) ↦ inl (record {
+      label = h.entry;
+      member = subst (λ q. Contains (entries_at a q) h.entry) (sym is_place) h.is_entry;
+      same = subst (IsSamePair h.entry) (sym e) h.same;
+    })
   ]
 
+  -- no settled label comes or changes
   pub settled_before_merge : IsMerged a x b → (y : Label) → Contains b.settled y → Contains a.settled y
-  settled_before_merge (keeps h) y here = (h.entries settled y).0 here
-  settled_before_merge (discards h) y here = (h.entries settled y).0 here
-  settled_before_merge (enters h) y here = elim ((h.entries settled y).0 here) [ inl old ↦ old.0 | inr (wrong, _) ↦ absurd cc ]
-  settled_before_merge (lowers h) y here = elim ((h.entries settled y).0 here) [
-    | inl old ↦ old.0
-    | inr (is_settled, _) ↦ absurd (sound.unequalled h.entry x (subst (λ q. Contains (entries_at a q) h.entry) (sym is_settled) h.is_entry) mine (pair_back h.entry x h.same))
+  settled_before_merge merged y here = elim (place_before_merge merged settled y here) [
+    | inr (wrong, _) ↦ absurd cc
+    | inl e ↦ elim ((entries_by_merge merged).known y (settled, here)) [
+      | inr arrived ↦ absurd (sound.unequalled e.label y e.member arrived (pair_back e.label y e.same))
+      | inl entry ↦
+          let below = subst (AtMost e.label.cost) e.same.cost (AtMost-refl e.label.cost) in
+          subst (Contains a.settled) (sound.apart.alone e.label y (settled, e.member) entry e.same.node below) e.member
+    ]
   ]

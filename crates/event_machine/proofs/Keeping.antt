@@ -4,7 +4,8 @@ use Rattle.std.specs.Prelude.{Contains}
 use Rattle.cost_vector.specs.Costs.{Dominates, Within}
 use Rattle.cost_vector.proofs.Vectors.{AtMost-Dominates}
 use Rattle.list_laws.proofs.Members.{in_none, in_first, in_one}
-use Rattle.event_machine.specs.Machine.{Task, IsTask, Label, IsSamePair, SearchState, start_label, start_state, Place, settled, dropped, waiting, entries_at, IsActive, waits, is_candidate, has_arc, IsBeatenAtTarget, Follows}
+use Rattle.event_machine.specs.Machine.{Task, IsTask, Label, IsSamePair, SearchState, start_label, start_state, Place, settled, dropped}
+use Rattle.event_machine.specs.Machine.{waiting, entries_at, IsActive, waits, is_candidate, has_arc, IsBeatenAtTarget, Follows}
 use Rattle.event_machine.specs.Events.{Event, take, drop, relax, merge, Happens, Runs, IsReached}
 use Rattle.event_machine.specs.Orders.{IsArrival}
 use Rattle.event_machine.specs.Laws.{IsKnown}
@@ -15,7 +16,10 @@ use Rattle.event_machine.proofs.Frontier.{grown_from_settled, taken_is_relevant,
 module _ (task : Task) (is : IsTask task) where
   module _ (a b : SearchState) (sound : IsSound task a) (changes : Changes task a b) where
     known_before : (y : Label) → IsKnown b y → IsKnown a y ⊎ IsGiven task a y
-    known_before y = elim [ inl entry ↦ inl (changes.entries.known y entry) | inr here ↦ elim (changes.candidates y here) [ inl old ↦ inl (inr old) | inr given ↦ inr given ] ]
+    known_before y = elim [
+      | inl entry ↦ inl (changes.entries.known y entry)
+      | inr here ↦ elim (changes.candidates y here) [ inl old ↦ inl (inr old) | inr given ↦ inr given ]
+    ]
 
     walk_of_given : (y : Label) → IsGiven task a y → HasWalk task y
     walk_of_given y given =
@@ -34,7 +38,7 @@ module _ (task : Task) (is : IsTask task) where
 
     -- no label from which the search went on dominates a settled one
     no_better : (l y : Label) → Contains b.settled l → IsActive a y → ¬ Dominates y.cost l.cost
-    no_better l y there active less = elim (changes.settled l there) [ inl old ↦ sound.undominated l y old active less | inr taken ↦ taken.may.undominated y active less ]
+    no_better l y there active = elim (changes.settled l there) [ inl old ↦ sound.undominated l y old active | inr taken ↦ taken.may.undominated y active ]
 
     no_better_than : (l : Label) → Contains b.settled l → (y : Label) → IsActive b y → ¬ Dominates y.cost l.cost
     no_better_than l there y (waits here) less = no_better l y there (changes.entries.active y here) less
@@ -47,7 +51,9 @@ module _ (task : Task) (is : IsTask task) where
 
     no_equal : (l x : Label) → Contains b.settled l → Contains b.candidates x → ¬ IsSamePair x l
     no_equal l x there here pair = elim (changes.candidates x here) [
-      | inr given ↦ no_better l given.from there given.active (subst (Dominates given.from.cost) pair.cost (grown_from_settled task is a sound given.from x given.settled given.follows))
+      | inr given ↦
+          let less = grown_from_settled task is a sound given.from x given.settled given.follows in
+          no_better l given.from there given.active (subst (Dominates given.from.cost) pair.cost less)
       | inl old ↦ elim (changes.settled l there) [ inl before ↦ sound.unequalled l x before old pair | inr taken ↦ taken.may.alone x old pair ]
     ]
 
@@ -83,6 +89,8 @@ module _ (task : Task) (is : IsTask task) where
       least = λ l there. elim (changes.settled l there) [ inl old ↦ sound.least l old | inr taken ↦ taken_is_least task is a sound l taken.may ];
     }
 
+  -- ---- event by event, and run by run
+
   pub changes_of : (a b : SearchState) (event : Event) → IsSound task a → Happens task a event b → Changes task a b
   changes_of a b (take l) sound h = take_changes task a b sound l h
   changes_of a b (drop l) sound h = drop_changes task a b sound l h
@@ -94,7 +102,11 @@ module _ (task : Task) (is : IsTask task) where
 
   pub sound_by_run : (a b : SearchState) (events : List Event) → IsSound task a → Runs task a events b → IsSound task b
   sound_by_run a b [] sound same = sound_by_changes a b sound (same_changes task a b sound same)
-  sound_by_run a b (event ∷ rest) sound run = sound_by_run run.next b rest (sound_after a run.next event sound run.step) run.rest
+  sound_by_run a b (event ∷ rest) sound run =
+      let sound_too = sound_by_changes a run.from sound (same_changes task a run.from sound run.same) in
+      sound_by_run run.next b rest (sound_after run.from run.next event sound_too run.step) run.rest
+
+  -- ---- from the start
 
   at_start_alone : (p : Place) (y : Label) → Contains (entries_at (start_state task) p) y → (p ≡ waiting) × (y ≡ start_label task)
   at_start_alone settled y here = absurd (in_none y here)

@@ -6,7 +6,8 @@ use Rattle.cost_vector.specs.Costs.{AtMost, Dominates, Within}
 use Rattle.cost_vector.proofs.Vectors.{AtMost-refl, Dominates-trans, cases_same, cases_Dominates}
 use Rattle.road_network.specs.Walks.{Arrives}
 use Rattle.road_network.specs.Answers.{IsRelevant}
-use Rattle.event_machine.specs.Machine.{Task, Label, IsSamePair, Beats, SearchState, start_label, Place, entries_at, IsEntry, IsActive, IsBeatenAtTarget, LeadsOn, Follows}
+use Rattle.event_machine.specs.Machine.{Task, Label, IsSamePair, Beats, SearchState, start_label, Place, entries_at, IsEntry, IsActive}
+use Rattle.event_machine.specs.Machine.{IsBeatenAtTarget, LeadsOn, Follows}
 use Rattle.event_machine.specs.Orders.{IsArrival}
 use Rattle.event_machine.specs.Laws.{IsKnown}
 
@@ -84,10 +85,17 @@ pub cost_of_cover : (x y : Label) → Covers x y → AtMost x.cost y.cost
 cost_of_cover x y (better h) = h.cost.at_most
 cost_of_cover x y (as_good h less) = subst (AtMost x.cost) h.cost (AtMost-refl x.cost)
 
+pub covers_itself : (x : Label) → Covers x x
+covers_itself x = as_good (same_pair x x refl) (omega arith)
+
 pub covered_by_itself : (s : SearchState) (x : Label) → IsEntry s x → IsCovered s x
-covered_by_itself s x entry = record { entry = x; is_entry = entry; covers = as_good (same_pair x x refl) (omega arith) }
+covered_by_itself s x entry = record { entry = x; is_entry = entry; covers = covers_itself x }
 
 -- ---- sound states
+
+-- the arcs, from the last to the first, are a walk from the start to v of cost c
+abbrev pub Comes : Task → List ℕ → ℕ → List ℕ → Type 0
+Comes task q v c = Arrives task.network task.start q v c
 
 -- y is the label of the start, or what some settled label gives along y's arc
 pub data IsFounded (task : Task) (s : SearchState) (y : Label) : Type 0 where
@@ -97,7 +105,7 @@ pub data IsFounded (task : Task) (s : SearchState) (y : Label) : Type 0 where
 -- a walk from the start has the label's cost, and ends by its arc
 pub record HasWalk (task : Task) (y : Label) : Type 0 where
   pub arcs : List ℕ
-  pub walk : Arrives task.network task.start arcs y.node y.cost
+  pub walk : Comes task arcs y.node y.cost
   pub last : y.arc ≡ slice_index arcs 0
 
 -- of two entries of one node neither cost is at most the other, and each entry stands in one place
@@ -107,7 +115,7 @@ pub record AreApart (s : SearchState) : Type 0 where
 
 -- no walk of the label's cost ends by a lesser arc
 abbrev pub IsLeastArc : Task → Label → Type 0
-IsLeastArc task l = (k : ℕ) (before : List ℕ) → Arrives task.network task.start (k ∷ before) l.node l.cost → l.arc ≤ k
+IsLeastArc task l = (k : ℕ) (before : List ℕ) → Comes task (k ∷ before) l.node l.cost → l.arc ≤ k
 
 -- all that each state keeps to which events lead
 pub record IsSound (task : Task) (s : SearchState) : Type 0 where

@@ -10,7 +10,8 @@ use Rattle.event_machine.specs.Events.{MayTake, Takes, Drops, Relaxes, Merges, I
 use Rattle.event_machine.specs.Orders.{IsArrival, came, comes}
 use Rattle.event_machine.proofs.SetLaws.{same_by_permutation, gains_by_permutation}
 use Rattle.event_machine.proofs.Sound.{IsSound, IsCovered, label_by_parts, cases_pair}
-use Rattle.event_machine.proofs.Changing.{EntriesChange, entries_stay, entries_become, room_to_move, entries_by_merge, covered_by_merge, place_before_merge, settled_before_merge}
+use Rattle.event_machine.proofs.Changing.{EntriesChange, entries_stay, entries_become, room_to_move, entries_by_merge, covered_by_merge}
+use Rattle.event_machine.proofs.Changing.{place_before_merge, settled_before_merge}
 
 -- y is a new candidate: some settled label with an arc to be relaxed gives it
 pub record IsGiven (task : Task) (s : SearchState) (y : Label) : Type 0 where
@@ -19,7 +20,7 @@ pub record IsGiven (task : Task) (s : SearchState) (y : Label) : Type 0 where
   pub active : IsActive s from
   pub follows : Follows task.network from y
 
--- y is settled next, and what it gives arrives
+-- y is settled by the event, and what it gives arrives
 pub record IsTaken (task : Task) (a b : SearchState) (y : Label) : Type 0 where
   pub may : MayTake task a y
   pub opens : (x : Label) → Follows task.network y x → IsArrival task.network b x
@@ -40,6 +41,7 @@ follows_alike net e x y f g arc =
     let alike = leads_alike net x.arc e.node x.node e.node y.node f.by g.by f.leads that in
     label_by_parts x y (record { node = alike.2; cost = f.cost ∙ ap (plus e.cost) alike.1 ∙ sym g.cost }) arc
 
+-- the arc along which a label follows leads on
 pub leads_on : (net : Network) (e x : Label) → Follows net e x → LeadsOn net e.node x.arc
 leads_on net e x f = record { by = f.by; to = x.node; leads = f.leads }
 
@@ -77,6 +79,8 @@ module _ (task : Task) (a b : SearchState) (sound : IsSound task a) where
   still_paired : EntriesChange a b → (e : Label) (k : ℕ) → Contains a.unrelaxed (e, k) → IsActive a e × Contains b.settled e × LeadsOn task.network e.node k
   still_paired entries e k there = let pair = sound.paired e k there in (has_arc k there, entries.kept e pair.0, pair.1)
 
+  -- ---- event by event
+
   pub take_changes : (l : Label) → Takes task a l b → Changes task a b
   take_changes l h = record {
     entries = entries;
@@ -84,7 +88,8 @@ module _ (task : Task) (a b : SearchState) (sound : IsSound task a) where
     useless = λ y here. elim ((h.entries dropped y).0 here) [ inl old ↦ sound.useless y old.0 | inr (wrong, _) ↦ absurd cc ];
     paired = λ e k here. elim ((h.unrelaxed (e, k)).0 here) [
       | inl old ↦ still_paired entries e k old
-      | inr (is_l, leads) ↦ subst (λ (m : Label). IsActive a m × Contains b.settled m × LeadsOn task.network m.node k) (sym is_l) (waits h.may.waits, (h.entries settled l).1 (inr (refl, refl)), leads)
+      | inr (is_l, leads) ↦ subst (λ (m : Label). IsActive a m × Contains b.settled m × LeadsOn task.network m.node k) (sym is_l)
+          (waits h.may.waits, (h.entries settled l).1 (inr (refl, refl)), leads)
     ];
     candidates = λ y here. inl ((same_by_permutation a.candidates b.candidates h.candidates y).0 here);
     arrivals = λ x. elim [
@@ -140,7 +145,7 @@ module _ (task : Task) (a b : SearchState) (sound : IsSound task a) where
     candidates = λ y here. inl ((gains y).1 (inl here));
     arrivals = λ y. elim [
       | comes e there f ↦ inl (comes e ((h.unrelaxed (e, y.arc)).1 there) f)
-      | came there ↦ elim ((gains y).0 there) [ inl here ↦ inl (came here) | inr e ↦ inr (subst (IsCovered b) (sym e) (covered_by_merge task a b sound x mine h.entries)) ]
+      | came there ↦ elim ((gains y).0 there) [ inl here ↦ inl (came here) | inr e ↦ inr (subst (IsCovered b) (sym e) covered) ]
     ];
   } where
     gains : (y : Label) → Contains a.candidates y ↔ (Contains b.candidates y ⊎ (y ≡ x))
@@ -149,9 +154,13 @@ module _ (task : Task) (a b : SearchState) (sound : IsSound task a) where
     mine : Contains a.candidates x
     mine = (gains x).1 (inr refl)
 
+    covered : IsCovered b x
+    covered = covered_by_merge task a b sound x mine h.entries
+
     entries : EntriesChange a b
     entries = entries_by_merge task a b sound x mine h.entries
 
+  -- a state that is the same
   pub same_changes : IsSame b a → Changes task a b
   same_changes h =
       let entries = entries_stay a b sound.apart h.entries in

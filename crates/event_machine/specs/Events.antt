@@ -1,9 +1,12 @@
 -- The single events of the search, when each may happen, and what it does. All that an event doesn't name stays.
--- Sources: Martins 1984; Sanders and Mandow 2013. Drop, what Take asks of the target, and the lesser arc are this project's.
+-- Sources: Martins 1984; Sanders and Mandow 2013. Drop, what Take asks of the target, and the lesser arc are this
+-- project's own.
 use Rattle.std.specs.Prelude.{◌≡◌, ◌≢◌, ℕ, ◌<◌, ◌≤◌, ◌⊎◌, ◌↔◌, List, [], ◌∷◌, Contains, IsPermutation}
 use Rattle.cost_vector.specs.Costs.{Dominates, Within}
 use Rattle.event_machine.specs.Sets.{SameMembers, Loses}
-use Rattle.event_machine.specs.Machine.{Task, Label, IsSamePair, Beats, SearchState, start_state, Place, settled, dropped, waiting, entries_at, IsEntry, IsActive, IsBeatenAtTarget, LeadsOn, Follows}
+use Rattle.event_machine.specs.Machine.{Task, Label, IsSamePair, Beats, SearchState, start_state, Place, settled}
+use Rattle.event_machine.specs.Machine.{dropped, waiting, entries_at, IsEntry, IsActive, IsBeatenAtTarget, LeadsOn}
+use Rattle.event_machine.specs.Machine.{Follows}
 
 -- A waiting label is settled, or dropped; an arc is relaxed from a settled label; a candidate is merged.
 pub data Event : Type 0 where
@@ -27,8 +30,8 @@ pub record IsSame (a b : SearchState) : Type 0 where
   pub unrelaxed : SameMembers a.unrelaxed b.unrelaxed
   pub candidates : IsPermutation a.candidates b.candidates
 
--- l may be settled: it waits and is within the limit, no label from which the search still goes on and no settled label of
--- the target dominates it, and no candidate has its node and cost
+-- l may be settled: it waits and is within the limit, no label from which the search still goes on and no settled label
+-- of the target dominates it, and no candidate has its node and cost
 pub record MayTake (task : Task) (s : SearchState) (l : Label) : Type 0 where
   pub waits : Contains s.waiting l
   pub within : Within task.limit l.cost
@@ -91,8 +94,8 @@ pub record Discards (before : SearchState) (x : Label) (after : SearchState) : T
   pub beats : Beats entry x
   pub entries : SameEntries after before
 
--- no entry has x's node and cost, and none of its node dominates it: it waits, and those that it dominates leave, if they
--- wait or were dropped
+-- no entry has x's node and cost, and none of its node dominates it: it waits, and those that it dominates leave, if
+-- they wait or were dropped
 pub record Enters (before : SearchState) (x : Label) (after : SearchState) : Type 0 where
   pub new : (y : Label) → IsEntry before y → ¬ IsSamePair y x
   pub unbeaten : (y : Label) → IsEntry before y → ¬ Beats y x
@@ -118,10 +121,12 @@ Happens task before (drop l) after = Drops task before l after
 Happens task before (relax l k) after = Relaxes task before l k after
 Happens task before (merge x) after = Merges before x after
 
--- the event leads to a state from which the rest goes on
+-- the event happens in the state before, or one that is the same, and leads to a state from which the rest goes on
 pub record GoesOn (task : Task) (before : SearchState) (event : Event) (Rest : SearchState → Type 0) : Type 0 where
+  pub from : SearchState
+  pub same : IsSame from before
   pub next : SearchState
-  pub step : Happens task before event next
+  pub step : Happens task from event next
   pub rest : Rest next
 
 -- The events may happen one after another, and lead from one state to the other. No event leads to each same state.

@@ -1,5 +1,6 @@
 -- The state of a label-setting search for all best costs, which settles labels in any order that is safe.
--- Sources: Martins 1984; P. Sanders and L. Mandow, "Parallel label-setting multi-objective shortest path search", IPDPS 2013.
+-- Sources: Martins 1984; P. Sanders and L. Mandow, "Parallel label-setting multi-objective shortest path search",
+-- IPDPS 2013.
 use Rattle.std.specs.Prelude.{◌≡◌, ℕ, List, [], ◌∷◌, Option, length, replicate, Contains}
 use Rattle.cost_vector.specs.Costs.{Dominates, plus}
 use Rattle.road_network.specs.Network.{Network, IsNetwork, IsNode, Leads}
@@ -18,7 +19,7 @@ pub record IsTask (task : Task) : Type 0 where
   pub target : IsNode task.network.nodes task.target
   pub limit : length task.limit ≡ task.network.criteria
 
--- A label: some walk from the start to the node has this cost and this last arc. The walk without arcs has arc number 0.
+-- A label: some walk from the start to the node has this cost and this last arc, or no arc where the number is 0.
 pub record Label : Type 0 where
   pub node : ℕ
   pub cost : List ℕ
@@ -34,9 +35,9 @@ pub record Beats (x y : Label) : Type 0 where
   pub node : x.node ≡ y.node
   pub cost : Dominates x.cost y.cost
 
--- The settled, the dropped and the waiting labels, the pairs of a settled label and the number of an arc that is still to
--- be relaxed, and the candidates that are still to be merged. The first four lists stand for sets; a candidate may stand
--- in its list several times.
+-- The settled, the dropped and the waiting labels, the pairs of a settled label and the number of an arc that is still
+-- to be relaxed, and the candidates that are still to be merged. The first four lists stand for sets; a candidate may
+-- stand in its list several times.
 pub record SearchState : Type 0 where
   pub settled : List Label
   pub dropped : List Label
@@ -50,7 +51,8 @@ start_label task = record { node = task.start; cost = replicate task.network.cri
 
 -- at the start this label waits, and all else is empty
 abbrev pub start_state : Task → SearchState
-start_state task = record { settled = []; dropped = []; waiting = start_label task ∷ []; unrelaxed = []; candidates = [] }
+start_state task =
+    record { settled = []; dropped = []; waiting = start_label task ∷ []; unrelaxed = []; candidates = [] }
 
 -- where an entry of a node stands
 pub data Place : Type 0 where

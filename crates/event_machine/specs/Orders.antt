@@ -31,7 +31,8 @@ pub record IsBegun (task : Task) (before after : SearchState) : Type 0 where
   pub settled : (y : Label) → Contains after.settled y ↔ (Contains before.settled y ⊎ IsNext task before y)
   pub dropped : (y : Label) → Contains after.dropped y ↔ (Contains before.dropped y ⊎ MayDrop task before y)
   pub waiting : (y : Label) → Contains after.waiting y ↔ (Stays task before y × (¬ IsNext task before y))
-  pub unrelaxed : (p : Label × ℕ) → Contains after.unrelaxed p ↔ (IsNext task before p.0 × LeadsOn task.network p.0.node p.1)
+  pub unrelaxed : (p : Label × ℕ) → Contains after.unrelaxed p
+      ↔ (IsNext task before p.0 × LeadsOn task.network p.0.node p.1)
   pub candidates : after.candidates ≡ []
 
 -- ---- the second half
@@ -67,8 +68,8 @@ pub record HasPair (labels : List Label) (y : Label) : Type 0 where
   pub member : Contains labels label
   pub same : IsSamePair label y
 
--- What each such order leads to: the labels that survive, settled or dropped exactly where an entry of the node and cost
--- was so before, and waiting elsewhere.
+-- What each such order leads to: the labels that survive, settled or dropped exactly where an entry of the node and
+-- cost was so before, and waiting elsewhere.
 pub record IsOutcome (net : Network) (before after : SearchState) : Type 0 where
   pub settled : (y : Label) → Contains after.settled y ↔ (Survives net before y × HasPair before.settled y)
   pub dropped : (y : Label) → Contains after.dropped y ↔ (Survives net before y × HasPair before.dropped y)

@@ -18,7 +18,7 @@ use Rattle.event_machine.proofs.SetLaws.{none_of_empty, gains_by_permutation}
 use Rattle.event_machine.proofs.Running.{same_itself, same_back, runs_on, runs_apart, runs_to_same}
 use Rattle.event_machine.proofs.Sound.{IsSound}
 use Rattle.event_machine.proofs.Stepping.{arrivals_by_relax, candidates_by_merge}
-use Rattle.event_machine.proofs.Frontier.{length_of_known}
+use Rattle.event_machine.proofs.Frontier.{length_of_walk}
 use Rattle.event_machine.proofs.Keeping.{sound_after, sound_by_run}
 use Rattle.event_machine.proofs.OnceLaws.{once_in_any_order, pairs_append}
 use Rattle.event_machine.proofs.HappensLaws.{relax_happens, merge_happens}
@@ -40,8 +40,10 @@ follows_once task is s sound d e x there there_too f g =
     let alike = leads_alike task.network x.arc d.node x.node e.node x.node f.by g.by f.leads g.leads in
     let long = (leads_by_vector task.network is.network x.arc e.node x.node g.by g.leads).whole in
     let sums : plus d.cost g.by ≡ plus e.cost g.by = ap (plus d.cost) (sym alike.1) ∙ sym f.cost ∙ g.cost in
+    let way = sound.walked d (inl (settled, there)) in
+    let way_too = sound.walked e (inl (settled, there_too)) in
     let cost : d.cost ≡ e.cost = plus_cancel d.cost e.cost g.by
-    (length_of_known task is s sound d (inl (settled, there)) ∙ sym long) (length_of_known task is s sound e (inl (settled, there_too)) ∙ sym long) sums in
+    (length_of_walk task is way.arcs d.node d.cost way.walk ∙ sym long) (length_of_walk task is way_too.arcs e.node e.cost way_too.walk ∙ sym long) sums in
     sound.apart.alone d e (settled, there) (settled, there_too) alike.0 (subst (AtMost d.cost) cost (AtMost-refl d.cost))
 
 module _ (task : Task) (is : IsTask task) (s next : SearchState) (sound : IsSound task s) (fresh : IsFresh task.network s) (event : Event) (rest : List Event)
@@ -148,28 +150,37 @@ module _ (task : Task) (is : IsTask task) where
       let (next, step) = first_happens s event rest sound c in
       let (c_next, fresh_next) = goes_on s next event rest sound fresh c step in
       let (after, run) = completes_run next rest (sound_after task is s next event sound step) fresh_next c_next in
-      (after, record { next = next; step = step; rest = run })
+      (after, record { from = s; same = same_itself s; next = next; step = step; rest = run })
 
-  -- what is left of it completes from where its beginning leads to
-  pub completes_along : (s b : SearchState) (events more : List Event) → IsSound task s → IsFresh task.network s → Completes task.network s (events ++ more)
-      → Runs task s events b → Completes task.network b more × IsFresh task.network b
-  completes_along s b [] more sound fresh c run = (
+  same_completes : (s b : SearchState) (events : List Event) → IsSame b s → IsFresh task.network s → Completes task.network s events
+      → Completes task.network b events × IsFresh task.network b
+  same_completes s b events same fresh c = (
     record {
-      relaxes = λ l k. (λ h. (run.unrelaxed (l, k)).1 ((c.relaxes l k).0 h), λ h. (c.relaxes l k).1 ((run.unrelaxed (l, k)).0 h));
-      merges = λ x. (λ h. arrival_alike task.network s b (same_back b s run) x ((c.merges x).0 h), λ h. (c.merges x).1 (arrival_alike task.network b s run x h));
+      relaxes = λ l k. (λ h. (same.unrelaxed (l, k)).1 ((c.relaxes l k).0 h), λ h. (c.relaxes l k).1 ((same.unrelaxed (l, k)).0 h));
+      merges = λ x. (
+        λ h. arrival_alike task.network s b (same_back b s same) x ((c.merges x).0 h),
+        λ h. (c.merges x).1 (arrival_alike task.network b s same x h),
+      );
       takes = c.takes;
       drops = c.drops;
       once = c.once;
       in_order = c.in_order;
     },
     record {
-      once = once_in_any_order s.candidates b.candidates (IsPermutation-sym b.candidates s.candidates run.candidates) fresh.once;
-      apart = λ e x there pair. fresh.apart e x (Contains-permutation b.candidates s.candidates x run.candidates there) ((run.unrelaxed (e, x.arc)).0 pair);
+      once = once_in_any_order s.candidates b.candidates (IsPermutation-sym b.candidates s.candidates same.candidates) fresh.once;
+      apart = λ e x there pair. fresh.apart e x (Contains-permutation b.candidates s.candidates x same.candidates there) ((same.unrelaxed (e, x.arc)).0 pair);
     },
   )
+
+  -- what is left of it completes from where its beginning leads to
+  pub completes_along : (s b : SearchState) (events more : List Event) → IsSound task s → IsFresh task.network s → Completes task.network s (events ++ more)
+      → Runs task s events b → Completes task.network b more × IsFresh task.network b
+  completes_along s b [] more sound fresh c run = same_completes s b more run fresh c
   completes_along s b (event ∷ rest) more sound fresh c run =
-      let (c_next, fresh_next) = goes_on s run.next event (rest ++ more) sound fresh c run.step in
-      completes_along run.next b rest more (sound_after task is s run.next event sound run.step) fresh_next c_next run.rest
+      let sound_too = sound_by_run task is s run.from [] sound run.same in
+      let (c_too, fresh_too) = same_completes s run.from (event ∷ (rest ++ more)) run.same fresh c in
+      let (c_next, fresh_next) = goes_on run.from run.next event (rest ++ more) sound_too fresh_too c_too run.step in
+      completes_along run.next b rest more (sound_after task is run.from run.next event sound_too run.step) fresh_next c_next run.rest
 
   module _ (s : SearchState) (sound : IsSound task s) (no_candidate : s.candidates ≡ []) where
     pub fresh_at_first : IsFresh task.network s

@@ -1,6 +1,6 @@
 -- Lists that complete a round are runs, in whatever order; so are those that relax all and then merge all.
-use Rattle.std.proofs.Common.{◌≡◌, ◌≢◌, ◌↔◌, ◌⊎◌, ℕ, length, List, [], ◌∷◌, ◌++◌, map, inl, inr, refl, sym, ap, ap₂, subst, ◌∙◌, append-nil}
-use Rattle.std.specs.Prelude.{AllPairs, Contains, IsPermutation}
+use Rattle.std.proofs.Common.{◌≡◌, ◌≢◌, ◌↔◌, ℕ, List, [], ◌∷◌, ◌++◌, inl, inr, refl, sym, ap, ap₂, subst, ◌∙◌, append-nil}
+use Rattle.std.specs.Prelude.{AllPairs, Contains}
 use Rattle.std.proofs.lemmas.List.Sorted.{Contains-permutation, IsPermutation-sym}
 use Rattle.cost_vector.specs.Costs.{AtMost, plus}
 use Rattle.cost_vector.proofs.Vectors.{AtMost-refl, plus_cancel}
@@ -9,24 +9,19 @@ use Rattle.road_network.proofs.WalkLaws.{leads_by_vector}
 use Rattle.road_network.proofs.Reached.{leads_alike}
 use Rattle.list_laws.proofs.Members.{in_none, in_first, in_rest, cases_in}
 use Rattle.list_laws.proofs.Pairs.{pairs_none, pairs_rest, pair_with_first, pairs_cons}
-use Rattle.event_machine.specs.Sets.{ListsOnce}
 use Rattle.event_machine.specs.Machine.{Task, IsTask, Label, SearchState, settled, Follows}
 use Rattle.event_machine.specs.Events.{Event, take, drop, relax, merge, IsSame, Relaxes, Merges, Happens, Runs}
-use Rattle.event_machine.specs.Rounds.{relaxing, Finishes}
+use Rattle.event_machine.specs.Rounds.{relaxing}
 use Rattle.event_machine.specs.Orders.{IsArrival, came, comes, MergesResult, Completes, IsOutcome}
 use Rattle.event_machine.proofs.SetLaws.{none_of_empty, gains_by_permutation}
-use Rattle.event_machine.proofs.Running.{same_itself, same_back, runs_on, runs_apart, runs_to_same}
+use Rattle.event_machine.proofs.Running.{same_itself, same_back, runs_to_same}
 use Rattle.event_machine.proofs.Sound.{IsSound}
 use Rattle.event_machine.proofs.Stepping.{arrivals_by_relax, candidates_by_merge}
 use Rattle.event_machine.proofs.Frontier.{length_of_walk}
 use Rattle.event_machine.proofs.Keeping.{sound_after, sound_by_run}
-use Rattle.event_machine.proofs.OnceLaws.{once_in_any_order, pairs_append}
+use Rattle.event_machine.proofs.OnceLaws.{empty_if_none, once_in_any_order}
 use Rattle.event_machine.proofs.HappensLaws.{relax_happens, merge_happens}
 use Rattle.event_machine.proofs.OutcomeLaws.{arrival_alike, outcome_of_run, one_outcome}
-
-empty_if_none : {X : Type 0} (xs : List X) → ((x : X) → ¬ Contains xs x) → xs ≡ []
-empty_if_none [] none = refl
-empty_if_none (x ∷ xs) none = absurd (none x (in_first x xs))
 
 -- each candidate stands once, and no pair gives it
 pub record IsFresh (net : Network) (s : SearchState) : Type 0 where

@@ -11,7 +11,7 @@ use Rattle.cost_vector.proofs.Vectors.{cases_same}
 use Rattle.road_network.specs.Network.{Network}
 use Rattle.road_network.proofs.Reached.{arc_counts}
 use Rattle.list_laws.proofs.Members.{in_rest, in_front, in_map}
-use Rattle.event_machine.specs.Sets.{Loses, ListsOnce}
+use Rattle.event_machine.specs.Sets.{ListsOnce}
 use Rattle.event_machine.specs.Machine.{Task, Label, IsSamePair, Beats, SearchState, Place, settled, dropped, waiting, entries_at, IsEntry, LeadsOn}
 use Rattle.event_machine.specs.Events.{Becomes, MayTake, Takes, MayDrop, Drops, Relaxes, IsMerged, keeps, lowers, discards, enters, Merges}
 use Rattle.event_machine.proofs.Sound.{cases_label, cases_pair, cases_beats}

@@ -13,3 +13,4 @@ pub mod HappensLaws
 pub mod OutcomeLaws
 pub mod CompletesLaws
 pub mod FinishesLaws
+pub mod BegunLaws

@@ -1,5 +1,5 @@
 -- Lists without repeats: in another order, joined end to end, and made from others.
-use Rattle.std.proofs.Common.{◌≡◌, ◌≢◌, List, [], ◌∷◌, ◌++◌, map, get_or, remove, inl, inr, sym, subst, ◌∙◌, arith}
+use Rattle.std.proofs.Common.{◌≡◌, ◌≢◌, List, [], ◌∷◌, ◌++◌, map, get_or, remove, inl, inr, refl, sym, subst, ◌∙◌, arith}
 use Rattle.std.specs.Prelude.{AllPairs, Contains, IsPermutation}
 use Rattle.std.proofs.lemmas.List.{get_or_default}
 use Rattle.std.proofs.lemmas.List.Edits.{get_or-remove_below, length-remove}
@@ -10,6 +10,11 @@ use Rattle.list_laws.proofs.Pairs.{pairs_rest, pair_with_first, pairs_cons, pair
 use Rattle.event_machine.specs.Sets.{ListsOnce}
 
 module _ {X : Type 0} where
+  -- a list that contains nothing is empty
+  pub empty_if_none : (xs : List X) → ((x : X) → ¬ Contains xs x) → xs ≡ []
+  empty_if_none [] none = refl
+  empty_if_none (x ∷ xs) none = absurd (none x (in_first x xs))
+
   -- a member of a list can be taken out
   pub taken_out : (xs : List X) (x : X) → Contains xs x → (ys : List X) × IsPermutation xs (x ∷ ys)
   taken_out xs x h = (remove xs h.0, IsPermutation-remove xs h.0 x h.1 (sym h.2))

@@ -11,7 +11,7 @@ use Rattle.event_machine.specs.Events.{Event, take, drop, relax, merge, SameEntr
 use Rattle.event_machine.specs.Orders.{IsArrival, came, comes, Survives, HasPair, IsOutcome}
 use Rattle.event_machine.proofs.SetLaws.{none_of_empty}
 use Rattle.event_machine.proofs.ToldLaws.{same_by}
-use Rattle.event_machine.proofs.Sound.{IsSound, AreApart, Covers, better, as_good, IsCovered, covers_itself, cases_label, label_by_parts, same_pair, pair_back}
+use Rattle.event_machine.proofs.Sound.{IsSound, AreApart, Covers, better, as_good, IsCovered, covers_itself, cases_label, label_by_parts, pair_back}
 use Rattle.event_machine.proofs.Changing.{place_before_merge}
 use Rattle.event_machine.proofs.Stepping.{Changes, arrivals_by_relax, candidates_by_merge, same_changes}
 use Rattle.event_machine.proofs.Keeping.{changes_of, sound_after, sound_by_run}

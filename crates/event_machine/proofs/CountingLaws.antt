@@ -1,25 +1,25 @@
 -- Counted rounds: there is one number of them, and each makes what waits heavier.
-use Rattle.std.proofs.Common.{◌≡◌, ◌≢◌, ℕ, zero, suc, ◌+◌, ◌<◌, ◌≤◌, ◌⊎◌, List, [], ◌∷◌, length, map, replicate, sum, inl, inr, refl, sym, ap, subst, arith}
+use Rattle.std.proofs.Common.{◌≡◌, ◌≢◌, ℕ, zero, suc, ◌+◌, ◌<◌, ◌≤◌, ◌⊎◌, List, [], ◌∷◌, length, map, replicate, sum, inl, inr, refl, sym, subst, arith}
 use Rattle.std.specs.Prelude.{Contains, AllPairs}
-use Rattle.std.proofs.lemmas.Bool.{cases_eq, cases_lt}
-use Rattle.cost_vector.specs.Costs.{Dominates, Within}
-use Rattle.cost_vector.proofs.Vectors.{cases_Dominates, cases_Within, sum-Dominates}
+use Rattle.std.proofs.lemmas.Bool.{cases_lt}
+use Rattle.cost_vector.proofs.Vectors.{sum-Dominates}
 use Rattle.list_laws.proofs.Members.{in_none, cases_in, each_in}
 use Rattle.list_laws.proofs.Pairs.{pairs_none, pairs_cons, pigeonhole}
 use Rattle.road_network.specs.Answers.{IsRelevant}
 use Rattle.road_network.proofs.BestLaws.{start_is_relevant}
 use Rattle.event_machine.specs.Sets.{HasMoreThan}
-use Rattle.event_machine.specs.Machine.{Task, IsTask, Label, SearchState, start_state, settled, dropped, waiting, IsBeatenAtTarget}
+use Rattle.event_machine.specs.Machine.{Task, IsTask, Label, SearchState, start_state, settled, dropped, waiting}
 use Rattle.event_machine.specs.Events.{drop, IsSame, MayDrop, IsReached}
 use Rattle.event_machine.specs.Rounds.{IsBetweenRounds, Begins, Round, CountedRound, GoRounds, NoneStays, Rounds}
 use Rattle.event_machine.specs.Orders.{Stays, came, comes}
 use Rattle.event_machine.proofs.SetLaws.{none_of_empty, more_by_list}
-use Rattle.event_machine.proofs.ToldLaws.{IsTold, told_not, told_both, told_either, told_some, told_in, list_all, once_as}
+use Rattle.event_machine.proofs.ToldLaws.{IsTold, told_some, told_in, list_all, once_as}
 use Rattle.event_machine.proofs.Sound.{cases_label, same_pair}
 use Rattle.event_machine.proofs.Running.{same_itself, same_back, same_through, drop_alike, runs_from_same}
+use Rattle.event_machine.proofs.BegunLaws.{told_may_drop, told_stays}
 use Rattle.event_machine.proofs.Keeping.{sound_if_reached}
 use Rattle.event_machine.proofs.Frontier.{grown_from_settled}
-use Rattle.event_machine.proofs.RoundLaws.{HaveOneEnd, reached_on, reached_by_round, some_round, reached_begun, begun_of, outcome_of, between_after, counted, kept_by_round, one_end, has_lightest, settles, taken_is_new}
+use Rattle.event_machine.proofs.RoundLaws.{left_after_drops, reached_on, reached_by_round, some_round, reached_begun, begun_of, outcome_of, between_after, counted, kept_by_round, one_end, has_lightest, settles, taken_is_new}
 
 -- whether a list contains more than n different labels
 pub cases_more : (n : ℕ) (xs : List Label) → IsTold (HasMoreThan n xs)
@@ -36,24 +36,12 @@ more_on : (n : ℕ) (xs ys : List Label) → ((y : Label) → Contains xs y → 
 more_on n xs ys on more = more_by_list n ys more.members more.distinct (λ y there. on y (each_in (Contains xs) more.members more.each y there)) (omega (arith, more.more))
 
 module _ (task : Task) where
-  told_beaten : (s : SearchState) (c : List ℕ) → IsTold (IsBeatenAtTarget task s c)
-  told_beaten s c = elim (told_some (λ e. (e.node ≡ task.target) × Dominates e.cost c) (λ e. told_both (cases_eq e.node task.target) (cases_Dominates e.cost c)) s.settled) [
-    | inl found ↦ inl (record { by = found.0; settled = found.1; node = found.2.0; dominates = found.2.1 })
-    | inr none ↦ inr (λ h. none h.by h.settled (h.node, h.dominates))
-  ]
-
   -- some waiting label stays after the drops, or none does
   pub cases_stays : (s : SearchState) → ((l : Label) × Stays task s l) ⊎ NoneStays task s
-  cases_stays s =
-      let Useless : Label → Type 0 = λ l. (¬ Within task.limit l.cost) ⊎ IsBeatenAtTarget task s l.cost in
-      let told : (l : Label) → IsTold (Useless l) = λ l. told_either (told_not (cases_Within task.limit l.cost)) (told_beaten s l.cost) in
-      elim (told_some (λ l. ¬ Useless l) (λ l. told_not (told l)) s.waiting) [
-        | inl found ↦ inl (found.0, record { waits = found.1; kept = λ may. found.2 may.useless })
-        | inr none ↦ inr (λ l there. record {
-          waits = there;
-          useless = elim (told l) [ inl useless ↦ useless | inr useful ↦ absurd (none l there useful) ];
-        })
-      ]
+  cases_stays s = elim (told_some (Stays task s) (told_stays task s) s.waiting) [
+    | inl found ↦ inl (found.0, found.2)
+    | inr none ↦ inr (λ l there. elim (told_may_drop task s l) [ inl may ↦ may | inr not ↦ absurd (none l there (record { waits = there; kept = not })) ])
+  ]
 
   begins_from_same : (a b t : SearchState) → IsSame a b → Begins task b t → Begins task a t
   begins_from_same a b t same h = record {
@@ -70,7 +58,7 @@ module _ (task : Task) where
   round_from_same a b t same between h =
       record { between = between; begun = h.begun; begins = begins_from_same a b h.begun same h.begins; finishes = h.finishes }
 
-module _ (task : Task) (is : IsTask task) (ends : HaveOneEnd task) (budget : ℕ) where
+module _ (task : Task) (is : IsTask task) (budget : ℕ) where
   -- ---- there is a number
 
   abbrev Stops : SearchState → Type 0
@@ -94,11 +82,11 @@ module _ (task : Task) (is : IsTask task) (ends : HaveOneEnd task) (budget : ℕ
     | inr few ↦ elim (cases_stays task s) [
       | inr none ↦ stops_here s (inr none)
       | inl (l, stays) ↦
-          let (after, round) = some_round task is ends s reached between in
-          let counts = counted task is ends s after reached round l stays in
-          let new = settles task is ends s after reached counts in
-          let kept = λ (y : Label) (there : Contains seen y). kept_by_round task is ends s after reached round y (each y there) in
-          let rest = rounds_from left after (reached_by_round task is s after reached round) (between_after task is ends s after reached round) (new.0 ∷ seen)
+          let (after, round) = some_round task is s reached between in
+          let counts = counted task is s after reached round l stays in
+          let new = settles task is s after reached counts in
+          let kept = λ (y : Label) (there : Contains seen y). kept_by_round task is s after reached round y (each y there) in
+          let rest = rounds_from left after (reached_by_round task is s after reached round) (between_after task is s after reached round) (new.0 ∷ seen)
           (pairs_cons ◌≢◌ new.0 seen (λ y there same. new.2 (subst (Contains s.settled) (sym same) (each y there))) once)
           (λ y there. elim (cases_in new.0 seen y there) [ inl same ↦ subst (Contains after.settled) (sym same) new.1 | inr old ↦ kept y old ])
           (omega (arith, full)) in
@@ -124,7 +112,7 @@ module _ (task : Task) (is : IsTask task) (ends : HaveOneEnd task) (budget : ℕ
   none_begins : (a b t : SearchState) → IsReached task a → IsSame b a → Stops b → ¬ HasMoreThan budget a.settled → ¬ CountedRound task a t
   none_begins a b t reached same (inl more) few round = few (more_on budget b.settled a.settled (λ y there. (same.entries settled y).0 there) more)
   none_begins a b t reached same (inr none) few round =
-      let stays = (ends.left a round.round.begun reached round.round.begins round.label).0 round.waits in
+      let stays = (left_after_drops task is a round.round.begun reached round.round.begins round.label).0 round.waits in
       stays.kept (drop_alike b a same task round.label (none round.label ((same.entries waiting round.label).1 stays.waits)))
 
   -- no more rounds go on from a state than lead to where the search stops
@@ -135,7 +123,7 @@ module _ (task : Task) (is : IsTask task) (ends : HaveOneEnd task) (budget : ℕ
       absurd (none_begins a d go.next reached (same_through d c a go_too (same_back a c same)) stops go.within go.round)
   no_more (suc k) (suc n) a c b d reached reached_too same go go_too stops =
       let that = round_from_same task a c go_too.next same go.round.round.between go_too.round.round in
-      let next = one_end task is ends a go.next go_too.next reached go.round.round that in
+      let next = one_end task is a go.next go_too.next reached go.round.round that in
       let most = no_more k n go.next go_too.next b d (reached_by_round task is a go.next reached go.round.round)
       (reached_by_round task is c go_too.next reached_too go_too.round.round) next go.rest go_too.rest stops in
       omega (arith, most)
@@ -156,8 +144,8 @@ module _ (task : Task) (is : IsTask task) (ends : HaveOneEnd task) (budget : ℕ
 
   counted_from_same : (a b t : SearchState) → IsSame a b → IsReached task a → IsReached task b → IsBetweenRounds a → CountedRound task b t → CountedRound task a t
   counted_from_same a b t same reached reached_too between h =
-      let stays = (ends.left b h.round.begun reached_too h.round.begins h.label).0 h.waits in
-      counted task is ends a t reached (round_from_same task a b t same between h.round) h.label
+      let stays = (left_after_drops task is b h.round.begun reached_too h.round.begins h.label).0 h.waits in
+      counted task is a t reached (round_from_same task a b t same between h.round) h.label
       (record { waits = (same.entries waiting h.label).1 stays.waits; kept = λ may. stays.kept (drop_alike a b same task h.label may) })
 
   pub one_round_more : (n : ℕ) (a b t : SearchState) → IsReached task a → IsBetweenRounds a → IsReached task b → GoRounds task budget n a b
@@ -173,7 +161,7 @@ module _ (task : Task) (is : IsTask task) (ends : HaveOneEnd task) (budget : ℕ
     next = go.next;
     round = go.round;
     rest = one_round_more n go.next b t (reached_by_round task is a go.next reached go.round.round)
-        (between_after task is ends a go.next reached go.round.round) reached_too go.rest few round;
+        (between_after task is a go.next reached go.round.round) reached_too go.rest few round;
   }
 
   pub round_after_all : (n : ℕ) (s t : SearchState) → GoRounds task budget n (start_state task) s → ¬ HasMoreThan budget s.settled → CountedRound task s t
@@ -189,8 +177,8 @@ module _ (task : Task) (is : IsTask task) (ends : HaveOneEnd task) (budget : ℕ
       → ¬ HasMoreThan budget s.settled → Stays task s l → Rounds task budget n → k < n
   more_to_come k n s l go between few stays all =
       let reached = reached_by_rounds k (start_state task) s reached_at_start go in
-      let (after, round) = some_round task is ends s reached between in
-      let more = round_after_all k s after go few (counted task is ends s after reached round l stays) in
+      let (after, round) = some_round task is s reached between in
+      let more = round_after_all k s after go few (counted task is s after reached round l stays) in
       omega (arith, at_most_all (k + 1) n after more all)
 
   -- ---- what waits grows heavier
@@ -200,8 +188,8 @@ module _ (task : Task) (is : IsTask task) (ends : HaveOneEnd task) (budget : ℕ
 
   heavier : (k : ℕ) (s t : SearchState) → IsReached task s → Round task s t → Weighs k s → Weighs (k + 1) t
   heavier k s t reached round weighs y there =
-      let outcome = (outcome_of task is ends s t reached round).waiting y in
-      let begun = begun_of task is ends s t reached round in
+      let outcome = (outcome_of task is s t reached round).waiting y in
+      let begun = begun_of task is s t reached round in
       let survives = outcome.0 there in
       elim survives.0.present [
         | inl (settled, here) ↦ absurd (survives.1 (record { label = y; member = here; same = same_pair y y refl }))
@@ -218,7 +206,7 @@ module _ (task : Task) (is : IsTask task) (ends : HaveOneEnd task) (budget : ℕ
         | inr (came here) ↦ absurd (none_of_empty round.begun.candidates begun.candidates y here)
         | inr (comes e here follows) ↦
             let next = ((begun.unrelaxed (e, y.arc)).0 here).0 in
-            let sound = sound_if_reached task is round.begun (reached_begun task is ends s t reached round) in
+            let sound = sound_if_reached task is round.begun (reached_begun task is s t reached round) in
             let less = sum-Dominates e.cost y.cost (grown_from_settled task is round.begun sound e y ((begun.settled e).1 (inr next)) follows) in
             omega (arith, less, weighs e next.stays.waits)
       ]
@@ -228,8 +216,8 @@ module _ (task : Task) (is : IsTask task) (ends : HaveOneEnd task) (budget : ℕ
 
   heavy_end : (n k : ℕ) (a b : SearchState) → IsReached task a → Weighs k a → GoRounds task budget (suc n) a b → (l : Label) × IsRelevantLabel l × (k + n ≤ sum l.cost)
   heavy_end zero k a b reached weighs go =
-      let first = has_lightest task is ends a go.next reached go.round in
-      let there = (taken_is_new task is ends a go.next reached go.round.round first.label first.next).0 in
+      let first = has_lightest task is a go.next reached go.round in
+      let there = (taken_is_new task is a go.next reached go.round.round first.label first.next).0 in
       let sound = sound_if_reached task is go.next (reached_by_round task is a go.next reached go.round.round) in
       (first.label, sound.relevant first.label there, omega (arith, weighs first.label first.next.stays.waits))
   heavy_end (suc n) k a b reached weighs go =

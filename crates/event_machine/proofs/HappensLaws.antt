@@ -3,7 +3,7 @@ use Rattle.std.proofs.Common.{◌≡◌, ◌≢◌, ℕ, ◌+◌, ◌-◌, ◌<�
 use Rattle.std.specs.Prelude.{slice_get, Contains}
 use Rattle.std.specs.List.{range_with_len}
 use Rattle.std.proofs.lemmas.Bool.{cases_eq, cases_lt}
-use Rattle.std.proofs.lemmas.List.Elements.{Contains-get_or, Contains-append_left, Contains-append_right}
+use Rattle.std.proofs.lemmas.List.Elements.{Contains-get_or, Contains-append_left, Contains-append_right, Contains-append_cases}
 use Rattle.std.proofs.lemmas.List.FromFn.{length-range_with_len, get_or-range_with_len}
 use Rattle.std.proofs.lemmas.List.Sorted.{IsPermutation-refl}
 use Rattle.cost_vector.specs.Costs.{plus}
@@ -11,28 +11,20 @@ use Rattle.cost_vector.proofs.Vectors.{cases_same}
 use Rattle.road_network.specs.Network.{Network}
 use Rattle.road_network.proofs.Reached.{arc_counts}
 use Rattle.list_laws.proofs.Members.{in_rest, in_front, in_map}
-use Rattle.event_machine.specs.Sets.{Loses, ListsOnce}
+use Rattle.event_machine.specs.Sets.{ListsOnce}
 use Rattle.event_machine.specs.Machine.{Task, Label, IsSamePair, Beats, SearchState, Place, settled, dropped, waiting, entries_at, IsEntry, LeadsOn}
-use Rattle.event_machine.specs.Events.{Becomes, MayTake, Takes, MayDrop, Drops, Relaxes, keeps, lowers, discards, enters, Merges}
+use Rattle.event_machine.specs.Events.{Becomes, MayTake, Takes, MayDrop, Drops, Relaxes, IsMerged, keeps, lowers, discards, enters, Merges}
 use Rattle.event_machine.proofs.Sound.{cases_label, cases_pair, cases_beats}
 use Rattle.event_machine.proofs.ToldLaws.{IsTold, told_as, told_not, told_both, told_either, told_some, told_in, sift, list_all}
 use Rattle.event_machine.proofs.OnceLaws.{taken_out}
 
--- ---- changes of lists
-
-lost : {X : Type 0} (same : (x y : X) → IsTold (x ≡ y)) (xs : List X) (x : X) → (ys : List X) × Loses xs x ys
-lost same xs x = let sifted = sift same (λ y. y ≢ x) (λ y. told_not (same y x)) xs in (sifted.0, sifted.1.exact)
+-- ---- entries
 
 told_place : (p q : Place) → IsTold (p ≡ q)
 told_place settled settled = inl refl
 told_place dropped dropped = inl refl
 told_place waiting waiting = inl refl
-told_place settled dropped = inr (λ e. absurd cc)
-told_place settled waiting = inr (λ e. absurd cc)
-told_place dropped settled = inr (λ e. absurd cc)
-told_place dropped waiting = inr (λ e. absurd cc)
-told_place waiting settled = inr (λ e. absurd cc)
-told_place waiting dropped = inr (λ e. absurd cc)
+told_place _ _ = inr (λ e. absurd cc)
 
 -- the entries may change in each way that can be told
 module _ (s : SearchState) (Stays : Place → Label → Type 0) (told : (p : Place) (y : Label) → IsTold (Stays p y)) (n : Label) (to : Place) where
@@ -112,7 +104,7 @@ module _ (task : Task) (s : SearchState) where
 
   pub relax_happens : (l : Label) (k : ℕ) → Contains s.unrelaxed (l, k) → LeadsOn task.network l.node k → (next : SearchState) × Relaxes task s l k next
   relax_happens l k may on =
-      let rest = lost cases_pair s.unrelaxed (l, k) in
+      let rest = sift cases_pair (λ p. p ≢ (l, k)) (λ p. told_not (cases_pair p (l, k))) s.unrelaxed in
       let x : Label = record { node = on.to; cost = plus l.cost on.by; arc = k } in (
         record s { unrelaxed = rest.0; candidates = x ∷ s.candidates },
         record {
@@ -121,7 +113,7 @@ module _ (task : Task) (s : SearchState) where
           follows = record { by = on.by; leads = on.leads; cost = refl };
           arc = refl;
           entries = λ p y. (λ h. h, λ h. h);
-          unrelaxed = rest.1;
+          unrelaxed = rest.1.exact;
           candidates = IsPermutation-refl (x ∷ s.candidates);
         },
       )
@@ -129,74 +121,59 @@ module _ (task : Task) (s : SearchState) where
 -- whether P holds of an entry
 told_entry : (P : Label → Type 0) → ((y : Label) → IsTold (P y)) → (s : SearchState)
     → ((y : Label) × IsEntry s y × P y) ⊎ ((y : Label) → IsEntry s y → ¬ P y)
-told_entry P told s = elim (told_some P told s.settled) [
-  | inl found ↦ inl (found.0, (settled, found.1), found.2)
-  | inr unsettled ↦ elim (told_some P told s.dropped) [
-    | inl found ↦ inl (found.0, (dropped, found.1), found.2)
-    | inr undropped ↦ elim (told_some P told s.waiting) [
-      | inl found ↦ inl (found.0, (waiting, found.1), found.2)
-      | inr none ↦ inr (λ y (p, here). nowhere unsettled undropped none p y here)
-    ]
-  ]
+told_entry P told s = elim (told_some P told (s.settled ++ others)) [
+  | inr none ↦ inr (λ y (p, here). none y (in_all p y here))
+  | inl (y, there, holds) ↦ inl (
+    y,
+    elim (Contains-append_cases s.settled others y there) [
+      | inl here ↦ (settled, here)
+      | inr other ↦ elim (Contains-append_cases s.dropped s.waiting y other) [ inl here ↦ (dropped, here) | inr here ↦ (waiting, here) ]
+    ],
+    holds,
+  )
 ] where
-  nowhere : ((y : Label) → Contains s.settled y → ¬ P y) → ((y : Label) → Contains s.dropped y → ¬ P y) → ((y : Label) → Contains s.waiting y → ¬ P y)
-      → (p : Place) (y : Label) → Contains (entries_at s p) y → ¬ P y
-  nowhere unsettled undropped none settled y here = unsettled y here
-  nowhere unsettled undropped none dropped y here = undropped y here
-  nowhere unsettled undropped none waiting y here = none y here
+  others : List Label
+  others = s.dropped ++ s.waiting
+
+  in_all : (p : Place) (y : Label) → Contains (entries_at s p) y → Contains (s.settled ++ others) y
+  in_all settled y here = Contains-append_left s.settled others y here
+  in_all dropped y here = Contains-append_right s.settled others y (Contains-append_left s.dropped s.waiting y here)
+  in_all waiting y here = Contains-append_right s.settled others y (Contains-append_right s.dropped s.waiting y here)
 
 told_pair : (x y : Label) → IsTold (IsSamePair x y)
 told_pair x y = told_as (λ h. record { node = h.0; cost = h.1 }) (λ h. (h.node, h.cost)) (told_both (cases_eq x.node y.node) (cases_same x.cost y.cost))
 
 module _ (s : SearchState) (x : Label) (there : Contains s.candidates x) where
+  abbrev less : List Label
+  less = (taken_out s.candidates x there).0
+
+  merged : (next : SearchState) → IsMerged s x (record next { unrelaxed = s.unrelaxed; candidates = less }) → (after : SearchState) × Merges s x after
+  merged next is = (
+    record next { unrelaxed = s.unrelaxed; candidates = less },
+    record { candidates = (taken_out s.candidates x there).1; unrelaxed = λ p. (λ h. h, λ h. h); entries = is },
+  )
+
   pub merge_happens : (next : SearchState) × Merges s x next
-  merge_happens =
-      let (less, out) = taken_out s.candidates x there in
-      let same : SearchState = record s { candidates = less } in
-      elim (told_entry (λ y. IsSamePair y x) (λ y. told_pair y x) s) [
-        | inl (e, (place, here), pair) ↦ elim (cases_lt x.arc e.arc) [
-          | inr lesser ↦ (
-            same,
-            record {
-              candidates = out;
-              unrelaxed = λ p. (λ h. h, λ h. h);
-              entries = keeps (record { entry = e; is_entry = (place, here); same = pair; lesser = lesser; entries = λ p y. (λ h. h, λ h. h) });
-            },
-          )
-          | inl greater ↦
-              let told = λ (p : Place) (y : Label). told_not (cases_label y e) in (
-                changed s (λ _ y. y ≢ e) told x place s.unrelaxed less,
-                record {
-                  candidates = out;
-                  unrelaxed = λ p. (λ h. h, λ h. h);
-                  entries = lowers (record {
-                    place = place;
-                    entry = e;
-                    is_entry = here;
-                    same = pair;
-                    greater = greater;
-                    entries = becomes_changed s (λ _ y. y ≢ e) told x place s.unrelaxed less;
-                  });
-                },
-              )
-        ]
-        | inr new ↦ elim (told_entry (λ y. Beats y x) (λ y. cases_beats y x) s) [
-          | inl (e, entry, beats) ↦ (
-            same,
-            record {
-              candidates = out;
-              unrelaxed = λ p. (λ h. h, λ h. h);
-              entries = discards (record { new = new; entry = e; is_entry = entry; beats = beats; entries = λ p y. (λ h. h, λ h. h) });
-            },
-          )
-          | inr unbeaten ↦
-              let told = λ (p : Place) (y : Label). told_either (told_place p settled) (told_not (cases_beats x y)) in (
-                changed s (λ p y. (p ≡ settled) ⊎ (¬ Beats x y)) told x waiting s.unrelaxed less,
-                record {
-                  candidates = out;
-                  unrelaxed = λ p. (λ h. h, λ h. h);
-                  entries = enters (record { new = new; unbeaten = unbeaten; entries = becomes_changed s (λ p y. (p ≡ settled) ⊎ (¬ Beats x y)) told x waiting s.unrelaxed less });
-                },
-              )
-        ]
-      ]
+  merge_happens = elim (told_entry (λ y. IsSamePair y x) (λ y. told_pair y x) s) [
+    | inl (e, (place, here), pair) ↦ elim (cases_lt x.arc e.arc) [
+      | inr lesser ↦ merged s (keeps (record { entry = e; is_entry = (place, here); same = pair; lesser = lesser; entries = λ p y. (λ h. h, λ h. h) }))
+      | inl greater ↦
+          let told = λ (p : Place) (y : Label). told_not (cases_label y e) in
+          merged (changed s (λ _ y. y ≢ e) told x place s.unrelaxed less) (lowers (record {
+            place = place;
+            entry = e;
+            is_entry = here;
+            same = pair;
+            greater = greater;
+            entries = becomes_changed s (λ _ y. y ≢ e) told x place s.unrelaxed less;
+          }))
+    ]
+    | inr new ↦ elim (told_entry (λ y. Beats y x) (λ y. cases_beats y x) s) [
+      | inl (e, entry, beats) ↦ merged s (discards (record { new = new; entry = e; is_entry = entry; beats = beats; entries = λ p y. (λ h. h, λ h. h) }))
+      | inr unbeaten ↦
+          let told = λ (p : Place) (y : Label). told_either (told_place p settled) (told_not (cases_beats x y)) in
+          let Stays = λ (p : Place) (y : Label). (p ≡ settled) ⊎ (¬ Beats x y) in
+          merged (changed s Stays told x waiting s.unrelaxed less)
+          (enters (record { new = new; unbeaten = unbeaten; entries = becomes_changed s Stays told x waiting s.unrelaxed less }))
+    ]
+  ]

@@ -11,6 +11,9 @@ pub mod SettledLabels
 pub mod Bounding
 pub mod HappensLaws
 pub mod OutcomeLaws
+pub mod CompletesLaws
+pub mod FinishesLaws
+pub mod BegunLaws
 pub mod RoundLaws
 pub mod CountingLaws
 pub mod BudgetLaws

@@ -10,7 +10,8 @@ use Rattle.event_machine.specs.Machine.{Task, IsTask, Label, IsSamePair, Beats, 
 use Rattle.event_machine.specs.Events.{Event, take, drop, relax, merge, SameEntries, IsSame, IsMerged, keeps, lowers, discards, enters, Merges, Happens, Runs}
 use Rattle.event_machine.specs.Orders.{IsArrival, came, comes, Survives, HasPair, IsOutcome}
 use Rattle.event_machine.proofs.SetLaws.{none_of_empty}
-use Rattle.event_machine.proofs.Sound.{IsSound, AreApart, Covers, better, as_good, IsCovered, cases_label, label_by_parts, same_pair, pair_back}
+use Rattle.event_machine.proofs.ToldLaws.{same_by}
+use Rattle.event_machine.proofs.Sound.{IsSound, AreApart, Covers, better, as_good, IsCovered, covers_itself, cases_label, label_by_parts, pair_back}
 use Rattle.event_machine.proofs.Changing.{place_before_merge}
 use Rattle.event_machine.proofs.Stepping.{Changes, arrivals_by_relax, candidates_by_merge, same_changes}
 use Rattle.event_machine.proofs.Keeping.{changes_of, sound_after, sound_by_run}
@@ -113,7 +114,7 @@ module _ (task : Task) (a b : SearchState) (changes : Changes task a b) (arrival
     matched = λ y. elim [
       | inl entry ↦ by_entry y (changes.entries.covers y entry)
       | inr arrival ↦ elim (changes.arrivals y arrival) [
-        | inl again ↦ record { by = y; present = inr again; covers = as_good (same_pair y y refl) (omega arith) }
+        | inl again ↦ record { by = y; present = inr again; covers = covers_itself y }
         | inr by ↦ by_entry y by
       ]
     ];
@@ -210,6 +211,10 @@ module _ (net : Network) (s : SearchState) (apart : AreApart s) (no_arc : s.unre
 -- ---- runs
 
 module _ (task : Task) (is : IsTask task) where
+  same_keeps : (a b c : SearchState) → IsSound task a → IsSame b a → IsOutcome task.network b c → IsOutcome task.network a c
+  same_keeps a b c sound same = outcome_before task.network a b c
+      (keeps_outcome_of_same task a b (same_changes task a b sound same) (arrival_alike task.network b a same) same.entries)
+
   event_keeps : (a b : SearchState) (event : Event) → IsSound task a → Happens task a event b → ((l : Label) → event ≢ take l) → ((l : Label) → event ≢ drop l)
       → KeepsOutcome task.network a b
   event_keeps a b (take l) sound h no_take no_drop = absurd (no_take l refl)
@@ -222,22 +227,24 @@ module _ (task : Task) (is : IsTask task) where
   pub outcome_of_run : (a b : SearchState) (events : List Event) → IsSound task a → Runs task a events b
       → ((l : Label) → ¬ Contains events (take l)) → ((l : Label) → ¬ Contains events (drop l)) → b.unrelaxed ≡ [] → b.candidates ≡ []
       → IsOutcome task.network a b
-  outcome_of_run a b [] sound run no_take no_drop no_arc no_candidate = outcome_before task.network a b b
-      (keeps_outcome_of_same task a b (same_changes task a b sound run) (arrival_alike task.network b a run) run.entries)
-      (outcome_at_end task.network b (sound_by_run task is a b [] sound run).apart no_arc no_candidate)
+  outcome_of_run a b [] sound run no_take no_drop no_arc no_candidate =
+      same_keeps a b b sound run (outcome_at_end task.network b (sound_by_run task is a b [] sound run).apart no_arc no_candidate)
   outcome_of_run a b (event ∷ rest) sound run no_take no_drop no_arc no_candidate =
-      let kept = event_keeps a run.next event sound run.step (λ l e. no_take l (in_front event rest (take l) (sym e))) (λ l e. no_drop l (in_front event rest (drop l) (sym e))) in
-      let sound_next = sound_after task is a run.next event sound run.step in
-      outcome_before task.network a run.next b kept (outcome_of_run run.next b rest sound_next run.rest
-      (λ l h. no_take l (in_rest event rest (take l) h)) (λ l h. no_drop l (in_rest event rest (drop l) h)) no_arc no_candidate)
+      let c = run.from in
+      let sound_too = sound_by_run task is a c [] sound run.same in
+      let kept = event_keeps c run.next event sound_too run.step
+      (λ l e. no_take l (in_front event rest (take l) (sym e))) (λ l e. no_drop l (in_front event rest (drop l) (sym e))) in
+      same_keeps a c b sound run.same (outcome_before task.network c run.next b kept
+      (outcome_of_run run.next b rest (sound_after task is c run.next event sound_too run.step) run.rest
+      (λ l h. no_take l (in_rest event rest (take l) h)) (λ l h. no_drop l (in_rest event rest (drop l) h)) no_arc no_candidate))
 
 -- the outcome is one state
 pub one_outcome : (net : Network) (s a b : SearchState) → IsOutcome net s a → IsOutcome net s b → IsSame a b
 one_outcome net s a b first second = record {
   entries = elim [
-    | settled ↦ λ y. (λ h. (second.settled y).1 ((first.settled y).0 h), λ h. (first.settled y).1 ((second.settled y).0 h))
-    | dropped ↦ λ y. (λ h. (second.dropped y).1 ((first.dropped y).0 h), λ h. (first.dropped y).1 ((second.dropped y).0 h))
-    | waiting ↦ λ y. (λ h. (second.waiting y).1 ((first.waiting y).0 h), λ h. (first.waiting y).1 ((second.waiting y).0 h))
+    | settled ↦ same_by _ a.settled b.settled first.settled second.settled
+    | dropped ↦ same_by _ a.dropped b.dropped first.dropped second.dropped
+    | waiting ↦ same_by _ a.waiting b.waiting first.waiting second.waiting
   ];
   unrelaxed = λ p. subst (λ ps. Contains a.unrelaxed p ↔ Contains ps p) (first.unrelaxed ∙ sym second.unrelaxed) (λ h. h, λ h. h);
   candidates = subst (IsPermutation a.candidates) (first.candidates ∙ sym second.candidates) (IsPermutation-refl a.candidates);

@@ -1,5 +1,5 @@
 -- Rounds: each state between rounds has one, all its rounds lead to one state, and a counted round settles some label.
-use Rattle.std.proofs.Common.{◌≡◌, ◌<◌, ◌≤◌, ◌⊎◌, ◌↔◌, List, [], ◌∷◌, ◌++◌, map, sum, inl, inr, subst, arith}
+use Rattle.std.proofs.Common.{◌<◌, ◌≤◌, ◌⊎◌, ◌↔◌, List, [], ◌∷◌, ◌++◌, map, sum, inl, inr, subst, arith}
 use Rattle.std.specs.Prelude.{Contains}
 use Rattle.cost_vector.proofs.Vectors.{sum-Dominates}
 use Rattle.list_laws.proofs.Members.{in_none, each_in}
@@ -12,17 +12,10 @@ use Rattle.event_machine.specs.Orders.{Stays, IsNext, IsBegun, IsOutcome}
 use Rattle.event_machine.proofs.Sound.{IsSound}
 use Rattle.event_machine.proofs.Running.{same_back, runs_on, runs_from_same}
 use Rattle.event_machine.proofs.ToldLaws.{once_as}
+use Rattle.event_machine.proofs.BegunLaws.{drops_in_any_order, some_begun, begins_is_begun, one_begun}
+use Rattle.event_machine.proofs.FinishesLaws.{some_outcome, finishes_is_outcome}
+use Rattle.event_machine.proofs.OutcomeLaws.{one_outcome}
 use Rattle.event_machine.proofs.Keeping.{changes_of, sound_after, sound_by_run, sound_if_reached}
-
--- what the laws of orders say of the two halves of a round
-pub record HaveOneEnd (task : Task) : Type 0 where
-  pub some_begun : (s : SearchState) → IsReached task s → IsBetweenRounds s → (b : SearchState) × IsBegun task s b
-  pub begins : (s b : SearchState) → IsReached task s → IsBetweenRounds s → Begins task s b ↔ IsBegun task s b
-  pub one_begun : (s a b : SearchState) → IsBegun task s a → IsBegun task s b → IsSame a b
-  pub left : (s b : SearchState) → IsReached task s → (h : Begins task s b) → (y : Label) → Contains h.left.waiting y ↔ Stays task s y
-  pub some_outcome : (s : SearchState) → IsReached task s → s.candidates ≡ [] → (t : SearchState) × IsOutcome task.network s t
-  pub finishes : (s t : SearchState) → IsReached task s → s.candidates ≡ [] → Finishes task s t ↔ IsOutcome task.network s t
-  pub one_outcome : (s a b : SearchState) → IsOutcome task.network s a → IsOutcome task.network s b → IsSame a b
 
 module _ (task : Task) (is : IsTask task) where
   -- ---- what a round leads to is reached, and keeps what is settled
@@ -69,81 +62,89 @@ module _ (task : Task) (is : IsTask task) where
     merging_all = h.merging_all;
   }
 
-  module _ (ends : HaveOneEnd task) where
-    pub some_round : (s : SearchState) → IsReached task s → IsBetweenRounds s → (t : SearchState) × Round task s t
-    some_round s reached between =
-        let (begun, is_begun) = ends.some_begun s reached between in
-        let begins = (ends.begins s begun reached between).1 is_begun in
-        let there = reached_by_begins s begun reached begins in
-        let (after, outcome) = ends.some_outcome begun there is_begun.candidates in
-        (after, record { between = between; begun = begun; begins = begins; finishes = (ends.finishes begun after there is_begun.candidates).1 outcome })
+  -- ---- the two halves of a round
 
-    module _ (s t : SearchState) (reached : IsReached task s) (round : Round task s t) where
-      pub reached_begun : IsReached task round.begun
-      reached_begun = reached_by_begins s round.begun reached round.begins
+  -- what is left after the drops
+  pub left_after_drops : (s b : SearchState) → IsReached task s → (h : Begins task s b) → (y : Label) → Contains h.left.waiting y ↔ Stays task s y
+  left_after_drops s b reached h = ((drops_in_any_order task is s (sound_if_reached task is s reached) h.left h.drops h.each_drop).0 h.dropping).waiting
 
-      pub begun_of : IsBegun task s round.begun
-      begun_of = (ends.begins s round.begun reached round.between).0 round.begins
+  pub some_round : (s : SearchState) → IsReached task s → IsBetweenRounds s → (t : SearchState) × Round task s t
+  some_round s reached between =
+      let sound = sound_if_reached task is s reached in
+      let (begun, is_begun) = some_begun task is s sound between in
+      let begins = (begins_is_begun task is s sound between begun).1 is_begun in
+      let there = reached_by_begins s begun reached begins in
+      let sound_begun = sound_if_reached task is begun there in
+      let (after, outcome) = some_outcome task is begun sound_begun is_begun.candidates in
+      (after, record { between = between; begun = begun; begins = begins; finishes = (finishes_is_outcome task is begun sound_begun is_begun.candidates after).1 outcome })
 
-      pub outcome_of : IsOutcome task.network round.begun t
-      outcome_of = (ends.finishes round.begun t reached_begun begun_of.candidates).0 round.finishes
+  module _ (s t : SearchState) (reached : IsReached task s) (round : Round task s t) where
+    pub reached_begun : IsReached task round.begun
+    reached_begun = reached_by_begins s round.begun reached round.begins
 
-      pub between_after : IsBetweenRounds t
-      between_after = record { unrelaxed = outcome_of.unrelaxed; candidates = outcome_of.candidates }
+    pub begun_of : IsBegun task s round.begun
+    begun_of = (begins_is_begun task is s (sound_if_reached task is s reached) round.between round.begun).0 round.begins
 
-      pub counted : (l : Label) → Stays task s l → CountedRound task s t
-      counted l stays = record { round = round; label = l; waits = (ends.left s round.begun reached round.begins l).1 stays }
+    pub outcome_of : IsOutcome task.network round.begun t
+    outcome_of = (finishes_is_outcome task is round.begun (sound_if_reached task is round.begun reached_begun) begun_of.candidates t).0 round.finishes
 
-      -- what is taken is settled at the end, and was not at the start
-      pub taken_is_new : (y : Label) → IsNext task s y → Contains t.settled y × (¬ Contains s.settled y)
-      taken_is_new y next = (
-        kept_by_finishes round.begun t y reached_begun round.finishes ((begun_of.settled y).1 (inr next)),
-        λ there. let same = (sound_if_reached task is s reached).apart.placed settled waiting y there next.stays.waits in cc,
-      )
+    pub between_after : IsBetweenRounds t
+    between_after = record { unrelaxed = outcome_of.unrelaxed; candidates = outcome_of.candidates }
 
-      pub kept_by_round : (y : Label) → Contains s.settled y → Contains t.settled y
-      kept_by_round y there = kept_by_finishes round.begun t y reached_begun round.finishes ((begun_of.settled y).1 (inl there))
+    pub counted : (l : Label) → Stays task s l → CountedRound task s t
+    counted l stays = record { round = round; label = l; waits = (left_after_drops s round.begun reached round.begins l).1 stays }
 
-    pub one_end : (s a b : SearchState) → IsReached task s → Round task s a → Round task s b → IsSame a b
-    one_end s a b reached first second =
-        let same = ends.one_begun s first.begun second.begun (begun_of s a reached first) (begun_of s b reached second) in
-        let there = reached_by_begins s first.begun reached first.begins in
-        let that = finishes_from_same first.begun second.begun b same second.finishes in
-        ends.one_outcome first.begun a b (outcome_of s a reached first) ((ends.finishes first.begun b there (begun_of s a reached first).candidates).0 that)
+    -- what is taken is settled at the end, and was not at the start
+    pub taken_is_new : (y : Label) → IsNext task s y → Contains t.settled y × (¬ Contains s.settled y)
+    taken_is_new y next = (
+      kept_by_finishes round.begun t y reached_begun round.finishes ((begun_of.settled y).1 (inr next)),
+      λ there. let same = (sound_if_reached task is s reached).apart.placed settled waiting y there next.stays.waits in cc,
+    )
 
-    -- ---- a counted round
+    pub kept_by_round : (y : Label) → Contains s.settled y → Contains t.settled y
+    kept_by_round y there = kept_by_finishes round.begun t y reached_begun round.finishes ((begun_of.settled y).1 (inl there))
 
-    abbrev IsLighter : Label → Label → Type 0
-    IsLighter x y = sum x.cost < sum y.cost
+  pub one_end : (s a b : SearchState) → IsReached task s → Round task s a → Round task s b → IsSame a b
+  one_end s a b reached first second =
+      let same = one_begun task s first.begun second.begun (begun_of s a reached first) (begun_of s b reached second) in
+      let there = reached_by_begins s first.begun reached first.begins in
+      let that = finishes_from_same first.begun second.begun b same second.finishes in
+      one_outcome task.network first.begun a b (outcome_of s a reached first)
+      ((finishes_is_outcome task is first.begun (sound_if_reached task is first.begun there) (begun_of s a reached first).candidates b).0 that)
 
-    cases_lighter : (x y : Label) → IsLighter x y ⊎ (¬ IsLighter x y)
-    cases_lighter x y = elim (cases_lt (sum x.cost) (sum y.cost)) [ inl below ↦ inl below | inr above ↦ inr (λ below. omega (arith, below, above)) ]
+  -- ---- a counted round
 
-    -- of what stays after the drops some label has the least sum, and is taken
-    pub record HasLightest (s : SearchState) : Type 0 where
-      pub label : Label
-      pub next : IsNext task s label
-      pub lightest : (z : Label) → Stays task s z → sum label.cost ≤ sum z.cost
+  abbrev IsLighter : Label → Label → Type 0
+  IsLighter x y = sum x.cost < sum y.cost
 
-    pub has_lightest : (s t : SearchState) → IsReached task s → CountedRound task s t → HasLightest s
-    has_lightest s t reached h =
-        let list = h.round.begins.left.waiting in
-        let left = ends.left s h.round.begun reached h.round.begins in
-        let least = has_least IsLighter (λ x below. omega (arith, below)) (λ x y z below above. omega (arith, below, above)) cases_lighter
-        list (λ none. in_none h.label (subst (λ xs. Contains xs h.label) none h.waits)) in
-        let lightest : (z : Label) → Stays task s z → sum least.0.cost ≤ sum z.cost = λ z stays.
-        let none : ¬ IsLighter z least.0 = each_in (λ y. ¬ IsLighter y least.0) list least.1.none_below z ((left z).1 stays) in (omega (arith, none)) in
-        record {
-          label = least.0;
-          next = record {
-            stays = (left least.0).0 least.1.there;
-            none_better = λ z stays better. let less = sum-Dominates z.cost least.0.cost better in omega (arith, less, lightest z stays);
-          };
-          lightest = lightest;
-        }
+  cases_lighter : (x y : Label) → IsLighter x y ⊎ (¬ IsLighter x y)
+  cases_lighter x y = elim (cases_lt (sum x.cost) (sum y.cost)) [ inl below ↦ inl below | inr above ↦ inr (λ below. omega (arith, below, above)) ]
 
-    pub settles : (s t : SearchState) → IsReached task s → CountedRound task s t → (l : Label) × Contains t.settled l × (¬ Contains s.settled l)
-    settles s t reached h =
-        let lightest = has_lightest s t reached h in
-        let new = taken_is_new s t reached h.round lightest.label lightest.next in
-        (lightest.label, new.0, new.1)
+  -- of what stays after the drops some label has the least sum, and is taken
+  pub record HasLightest (s : SearchState) : Type 0 where
+    pub label : Label
+    pub next : IsNext task s label
+    pub lightest : (z : Label) → Stays task s z → sum label.cost ≤ sum z.cost
+
+  pub has_lightest : (s t : SearchState) → IsReached task s → CountedRound task s t → HasLightest s
+  has_lightest s t reached h =
+      let list = h.round.begins.left.waiting in
+      let left = left_after_drops s h.round.begun reached h.round.begins in
+      let least = has_least IsLighter (λ x below. omega (arith, below)) (λ x y z below above. omega (arith, below, above)) cases_lighter
+      list (λ none. in_none h.label (subst (λ xs. Contains xs h.label) none h.waits)) in
+      let lightest : (z : Label) → Stays task s z → sum least.0.cost ≤ sum z.cost = λ z stays.
+      let none : ¬ IsLighter z least.0 = each_in (λ y. ¬ IsLighter y least.0) list least.1.none_below z ((left z).1 stays) in (omega (arith, none)) in
+      record {
+        label = least.0;
+        next = record {
+          stays = (left least.0).0 least.1.there;
+          none_better = λ z stays better. let less = sum-Dominates z.cost least.0.cost better in omega (arith, less, lightest z stays);
+        };
+        lightest = lightest;
+      }
+
+  pub settles : (s t : SearchState) → IsReached task s → CountedRound task s t → (l : Label) × Contains t.settled l × (¬ Contains s.settled l)
+  settles s t reached h =
+      let lightest = has_lightest s t reached h in
+      let new = taken_is_new s t reached h.round lightest.label lightest.next in
+      (lightest.label, new.0, new.1)

@@ -3,7 +3,7 @@ use Rattle.std.proofs.Common.{◌≡◌, ◌≢◌, ◌⊎◌, ◌↔◌, List, 
 use Rattle.std.specs.Prelude.{Contains}
 use Rattle.list_laws.proofs.Members.{in_none, in_first, in_rest, in_front, cases_in}
 use Rattle.list_laws.proofs.Pairs.{pairs_none, pairs_cons}
-use Rattle.event_machine.specs.Sets.{ListsOnce}
+use Rattle.event_machine.specs.Sets.{SameMembers, ListsOnce}
 
 -- it can be told whether P holds
 abbrev pub IsTold : Type 0 → Type 0
@@ -39,6 +39,10 @@ told_some P told (y ∷ ys) = elim (told y) [
     | inr none ↦ inr (λ x h. elim (cases_in y ys x h) [ inl e ↦ λ p. not_here (subst P e p) | inr later ↦ none x later ])
   ]
 ]
+
+-- two lists of just what P holds of have the same members
+pub same_by : {X : Type 0} (P : X → Type 0) (xs ys : List X) → ((x : X) → Contains xs x ↔ P x) → ((x : X) → Contains ys x ↔ P x) → SameMembers xs ys
+same_by P xs ys first second x = (λ h. (second x).1 ((first x).0 h), λ h. (first x).1 ((second x).0 h))
 
 -- a list of all that P holds of is one of all that Q holds of, if both hold of the same
 pub once_as : {X : Type 0} (P Q : X → Type 0) (xs : List X) → ((x : X) → P x ↔ Q x) → ListsOnce P xs → ListsOnce Q xs

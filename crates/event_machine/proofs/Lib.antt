@@ -1,4 +1,6 @@
 pub mod SetLaws
+pub mod ToldLaws
+pub mod OnceLaws
 pub mod Running
 pub mod Sound
 pub mod Changing
@@ -7,3 +9,11 @@ pub mod Frontier
 pub mod Keeping
 pub mod SettledLabels
 pub mod Bounding
+pub mod HappensLaws
+pub mod OutcomeLaws
+pub mod CompletesLaws
+pub mod FinishesLaws
+pub mod BegunLaws
+pub mod RoundLaws
+pub mod CountingLaws
+pub mod BudgetLaws

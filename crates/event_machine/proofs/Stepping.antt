@@ -45,6 +45,35 @@ follows_alike net e x y f g arc =
 pub leads_on : (net : Network) (e x : Label) → Follows net e x → LeadsOn net e.node x.arc
 leads_on net e x f = record { by = f.by; to = x.node; leads = f.leads }
 
+-- what arrives stays the same where an arc is relaxed
+pub arrivals_by_relax : (task : Task) (a b : SearchState) (l : Label) (k : ℕ) → Relaxes task a l k b → (x : Label)
+    → IsArrival task.network a x ↔ IsArrival task.network b x
+arrivals_by_relax task a b l k h x = (
+  elim [
+    | came there ↦ came ((gains x).1 (inl there))
+    | comes e there f ↦ elim (cases_pair (e, x.arc) (l, k)) [
+      | inr other ↦ comes e ((h.unrelaxed (e, x.arc)).1 (there, other)) f
+      | inl same ↦
+          let from : Follows task.network l x = subst (λ (m : Label). Follows task.network m x) (ap (λ (p : Label × ℕ). p.0) same) f in
+          let arc : x.arc ≡ h.candidate.arc = ap (λ (p : Label × ℕ). p.1) same ∙ sym h.arc in
+          came ((gains x).1 (inr (follows_alike task.network l x h.candidate from h.follows arc)))
+    ]
+  ],
+  elim [
+    | comes e here f ↦ comes e ((h.unrelaxed (e, x.arc)).0 here).0 f
+    | came here ↦ elim ((gains x).0 here) [
+      | inl old ↦ came old
+      | inr e ↦ subst (IsArrival task.network a) (sym e) (comes l (subst (λ j. Contains a.unrelaxed (l, j)) (sym h.arc) h.may) h.follows)
+    ]
+  ],
+) where
+  gains : (y : Label) → Contains b.candidates y ↔ (Contains a.candidates y ⊎ (y ≡ h.candidate))
+  gains = gains_by_permutation h.candidate a.candidates b.candidates h.candidates
+
+-- what is merged leaves the candidates
+pub candidates_by_merge : (a b : SearchState) (x : Label) → Merges a x b → (y : Label) → Contains a.candidates y ↔ (Contains b.candidates y ⊎ (y ≡ x))
+candidates_by_merge a b x h = gains_by_permutation x b.candidates a.candidates (IsPermutation-sym a.candidates (x ∷ b.candidates) h.candidates)
+
 module _ (task : Task) (a b : SearchState) (sound : IsSound task a) where
   -- a pair that was to be relaxed before
   still_paired : EntriesChange a b → (e : Label) (k : ℕ) → Contains a.unrelaxed (e, k) → IsActive a e × Contains b.settled e × LeadsOn task.network e.node k
@@ -96,22 +125,13 @@ module _ (task : Task) (a b : SearchState) (sound : IsSound task a) where
     useless = λ y here. sound.useless y ((h.entries dropped y).0 here);
     paired = λ e j here. still_paired (entries_stay a b sound.apart h.entries) e j ((h.unrelaxed (e, j)).0 here).0;
     candidates = λ y here. elim ((gains y).0 here) [ inl old ↦ inl old | inr e ↦ inr (subst (IsGiven task a) (sym e) given) ];
-    arrivals = λ y. elim [ came here ↦ inl (came ((gains y).1 (inl here))) | comes e there f ↦ inl (still y e there f) ];
+    arrivals = λ y arrival. inl ((arrivals_by_relax task a b l k h y).0 arrival);
   } where
     gains : (y : Label) → Contains b.candidates y ↔ (Contains a.candidates y ⊎ (y ≡ h.candidate))
     gains = gains_by_permutation h.candidate a.candidates b.candidates h.candidates
 
     given : IsGiven task a h.candidate
     given = record { from = l; settled = (sound.paired l k h.may).0; active = has_arc k h.may; follows = h.follows }
-
-    still : (y e : Label) → Contains a.unrelaxed (e, y.arc) → Follows task.network e y → IsArrival task.network b y
-    still y e there f = elim (cases_pair (e, y.arc) (l, k)) [
-      | inr other ↦ comes e ((h.unrelaxed (e, y.arc)).1 (there, other)) f
-      | inl same ↦
-          let from : Follows task.network l y = subst (λ (m : Label). Follows task.network m y) (ap (λ (p : Label × ℕ). p.0) same) f in
-          let arc : y.arc ≡ h.candidate.arc = ap (λ (p : Label × ℕ). p.1) same ∙ sym h.arc in
-          came ((gains y).1 (inr (follows_alike task.network l y h.candidate from h.follows arc)))
-    ]
 
   pub merge_changes : (x : Label) → Merges a x b → Changes task a b
   merge_changes x h = record {
@@ -129,7 +149,7 @@ module _ (task : Task) (a b : SearchState) (sound : IsSound task a) where
     ];
   } where
     gains : (y : Label) → Contains a.candidates y ↔ (Contains b.candidates y ⊎ (y ≡ x))
-    gains = gains_by_permutation x b.candidates a.candidates (IsPermutation-sym a.candidates (x ∷ b.candidates) h.candidates)
+    gains = candidates_by_merge a b x h
 
     mine : Contains a.candidates x
     mine = (gains x).1 (inr refl)

@@ -1,7 +1,8 @@
 -- In which orders the events of a round may happen, and the one state to which all of these lead.
-use Rattle.std.specs.Prelude.{◌≡◌, ◌≢◌, ℕ, ◌≤◌, ◌⊎◌, ◌↔◌, List, [], AllPairs, Contains}
+use Rattle.std.specs.Prelude.{◌≡◌, ◌≢◌, ℕ, ◌≤◌, ◌⊎◌, ◌↔◌, List, [], AllPairs, Contains, IsPermutation}
 use Rattle.cost_vector.specs.Costs.{Dominates}
 use Rattle.road_network.specs.Network.{Network}
+use Rattle.event_machine.specs.Sets.{SameMembers}
 use Rattle.event_machine.specs.Machine.{Task, Label, IsSamePair, Beats, SearchState, IsEntry, LeadsOn, Follows}
 use Rattle.event_machine.specs.Events.{Event, take, drop, relax, merge, MayDrop}
 
@@ -12,12 +13,20 @@ pub record Stays (task : Task) (s : SearchState) (y : Label) : Type 0 where
   pub waits : Contains s.waiting y
   pub kept : ¬ MayDrop task s y
 
+-- what each order of the drops leads to: each label that may be dropped is dropped, and nothing else changes
+pub record DropsAll (task : Task) (before after : SearchState) : Type 0 where
+  pub settled : SameMembers after.settled before.settled
+  pub dropped : (y : Label) → Contains after.dropped y ↔ (Contains before.dropped y ⊎ MayDrop task before y)
+  pub waiting : (y : Label) → Contains after.waiting y ↔ Stays task before y
+  pub unrelaxed : SameMembers after.unrelaxed before.unrelaxed
+  pub candidates : IsPermutation before.candidates after.candidates
+
 -- y is taken next: it stays after the drops, and no label that stays dominates it
 pub record IsNext (task : Task) (s : SearchState) (y : Label) : Type 0 where
   pub stays : Stays task s y
   pub none_better : (z : Label) → Stays task s z → ¬ Dominates z.cost y.cost
 
--- what each order of the drops, and then each order of the takes, leads to
+-- what each order of the drops, and then each order of the takes, leads to from a state between rounds
 pub record IsBegun (task : Task) (before after : SearchState) : Type 0 where
   pub settled : (y : Label) → Contains after.settled y ↔ (Contains before.settled y ⊎ IsNext task before y)
   pub dropped : (y : Label) → Contains after.dropped y ↔ (Contains before.dropped y ⊎ MayDrop task before y)

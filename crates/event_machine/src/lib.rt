@@ -5,8 +5,10 @@
 #![tactic(auto)]
 
 mod finality;
+mod rounds;
 
 pub use finality::{
     entries_below_settled_labels_stand, settled_labels_are_final, sums_are_bounded_by_the_settled,
     the_end_has_all_relevant_pairs,
 };
+pub use rounds::{rounds_are_counted, rounds_have_one_end, rounds_tell_the_budget};

@@ -41,7 +41,8 @@ module _ (net : Network) where
       let vector : w ≡ z = cc in
       (ap (λ (p : ℕ × ℕ). p.0) ends, vector, ap (λ (p : ℕ × ℕ). p.1) ends)
 
-  arc_counts : (k u v : ℕ) (w : List ℕ) → Leads net k u w v → k < length net.ends + 1
+  -- an arc that leads somewhere has a number up to the number of arcs
+  pub arc_counts : (k u v : ℕ) (w : List ℕ) → Leads net k u w v → k < length net.ends + 1
   arc_counts k u v w arc = elim (slice_get_cases net.ends (k - 1)).1 [
     | inl there ↦ omega (arith, there.1)
     | inr beyond ↦ let none = sym arc.ends ∙ beyond.1 in absurd cc

@@ -1,0 +1,179 @@
+-- Each event that may happen leads to some state.
+use Rattle.std.proofs.Common.{◌≡◌, ◌≢◌, ℕ, ◌+◌, ◌-◌, ◌<◌, ◌≤◌, ◌⊎◌, List, ◌∷◌, ◌++◌, length, map, get_or, Option, Some, None, inl, inr, refl, sym, ap, subst, ◌∙◌, arith, zero-add}
+use Rattle.std.specs.Prelude.{slice_get, Contains}
+use Rattle.std.specs.List.{range_with_len}
+use Rattle.std.proofs.lemmas.Bool.{cases_eq, cases_lt}
+use Rattle.std.proofs.lemmas.List.Elements.{Contains-get_or, Contains-append_left, Contains-append_right, Contains-append_cases}
+use Rattle.std.proofs.lemmas.List.FromFn.{length-range_with_len, get_or-range_with_len}
+use Rattle.std.proofs.lemmas.List.Sorted.{IsPermutation-refl}
+use Rattle.cost_vector.specs.Costs.{plus}
+use Rattle.cost_vector.proofs.Vectors.{cases_same}
+use Rattle.road_network.specs.Network.{Network}
+use Rattle.road_network.proofs.Reached.{arc_counts}
+use Rattle.list_laws.proofs.Members.{in_rest, in_front, in_map}
+use Rattle.event_machine.specs.Sets.{ListsOnce}
+use Rattle.event_machine.specs.Machine.{Task, Label, IsSamePair, Beats, SearchState, Place, settled, dropped, waiting, entries_at, IsEntry, LeadsOn}
+use Rattle.event_machine.specs.Events.{Becomes, MayTake, Takes, MayDrop, Drops, Relaxes, IsMerged, keeps, lowers, discards, enters, Merges}
+use Rattle.event_machine.proofs.Sound.{cases_label, cases_pair, cases_beats}
+use Rattle.event_machine.proofs.ToldLaws.{IsTold, told_as, told_not, told_both, told_either, told_some, told_in, sift, list_all}
+use Rattle.event_machine.proofs.OnceLaws.{taken_out}
+
+-- ---- entries
+
+told_place : (p q : Place) → IsTold (p ≡ q)
+told_place settled settled = inl refl
+told_place dropped dropped = inl refl
+told_place waiting waiting = inl refl
+told_place _ _ = inr (λ e. absurd cc)
+
+-- the entries may change in each way that can be told
+module _ (s : SearchState) (Stays : Place → Label → Type 0) (told : (p : Place) (y : Label) → IsTold (Stays p y)) (n : Label) (to : Place) where
+  list_at : (p : Place) → (ys : List Label) × ListsOnce (λ y. (Contains (entries_at s p) y × Stays p y) ⊎ ((p ≡ to) × (y ≡ n))) ys
+  list_at p =
+      let old = entries_at s p in
+      list_all cases_label (λ y. (Contains old y × Stays p y) ⊎ ((p ≡ to) × (y ≡ n)))
+      (λ y. told_either (told_both (told_in cases_label old y) (told p y)) (told_both (told_place p to) (cases_label y n)))
+      (n ∷ old) (λ y. elim [ inl stays ↦ in_rest n old y stays.0 | inr new ↦ in_front n old y new.1 ])
+
+  abbrev changed : List (Label × ℕ) → List Label → SearchState
+  changed unrelaxed candidates = record { settled = (list_at settled).0; dropped = (list_at dropped).0; waiting = (list_at waiting).0; unrelaxed = unrelaxed; candidates = candidates }
+
+  becomes_changed : (unrelaxed : List (Label × ℕ)) (candidates : List Label) → Becomes s Stays n to (changed unrelaxed candidates)
+  becomes_changed unrelaxed candidates = elim [ settled ↦ (list_at settled).1.exact | dropped ↦ (list_at dropped).1.exact | waiting ↦ (list_at waiting).1.exact ]
+
+-- ---- arcs
+
+pub told_leads : (net : Network) (u k : ℕ) → IsTold (LeadsOn net u k)
+told_leads net u k = by (slice_get net.ends (k - 1)) refl (slice_get net.states (k - 1)) refl (cases_lt 0 k) where
+  by : (e : Option (ℕ × ℕ)) → slice_get net.ends (k - 1) ≡ e → (o : Option (Option (List ℕ))) → slice_get net.states (k - 1) ≡ o
+      → (0 < k) ⊎ (k ≤ 0) → IsTold (LeadsOn net u k)
+  by e at o is (inr below) = inr (λ h. omega (arith, h.leads.counted, below))
+  by None at o is counted = inr (λ h. let none : None ≡ Some (u, h.to) = sym at ∙ h.leads.ends in absurd cc)
+  by (Some e) at None is counted = inr (λ h. let none : None ≡ Some (Some h.by) = sym is ∙ h.leads.passable in absurd cc)
+  by (Some e) at (Some None) is counted = inr (λ h. let none : Some None ≡ Some (Some h.by) = sym is ∙ h.leads.passable in absurd cc)
+  by (Some e) at (Some (Some w)) is (inl counted) = told_as
+      (λ same. record { by = w; to = e.1; leads = record { counted = counted; ends = at ∙ ap (λ x. Some (x, e.1)) same; passable = is } })
+      (λ h. let ends : Some e ≡ Some (u, h.to) = sym at ∙ h.leads.ends in cc)
+      (cases_eq e.0 u)
+
+-- the pairs of l and each arc that leads on from its node
+abbrev out_of : (net : Network) (l : Label) → List (Label × ℕ)
+out_of net l = map (λ k. (l, k)) (range_with_len 0 (length net.ends + 1))
+
+in_out_of : (net : Network) (l : Label) (k : ℕ) → LeadsOn net l.node k → Contains (out_of net l) (l, k)
+in_out_of net l k h =
+    let n = length net.ends + 1 in
+    let below : k < n = arc_counts net k l.node h.to h.by h.leads in
+    let numbers = range_with_len 0 n in
+    let at : get_or numbers k 0 ≡ k = get_or-range_with_len 0 n k 0 below ∙ zero-add k in
+    in_map (λ (j : ℕ). (l, j)) numbers k (subst (Contains numbers) at (Contains-get_or numbers k 0 (omega (arith, length-range_with_len 0 n, below))))
+
+-- ---- events
+
+module _ (task : Task) (s : SearchState) where
+  pub drop_happens : (l : Label) → MayDrop task s l → (next : SearchState) × Drops task s l next
+  drop_happens l may =
+      let told = λ (p : Place) (y : Label). told_not (cases_label y l) in (
+        changed s (λ _ y. y ≢ l) told l dropped s.unrelaxed s.candidates,
+        record {
+          may = may;
+          entries = becomes_changed s (λ _ y. y ≢ l) told l dropped s.unrelaxed s.candidates;
+          unrelaxed = λ p. (λ h. h, λ h. h);
+          candidates = IsPermutation-refl s.candidates;
+        },
+      )
+
+  pub take_happens : (l : Label) → MayTake task s l → (next : SearchState) × Takes task s l next
+  take_happens l may =
+      let told = λ (p : Place) (y : Label). told_not (cases_label y l) in
+      let out = out_of task.network l in
+      let pairs = list_all cases_pair (λ p. Contains s.unrelaxed p ⊎ ((p.0 ≡ l) × LeadsOn task.network l.node p.1))
+      (λ p. told_either (told_in cases_pair s.unrelaxed p) (told_both (cases_label p.0 l) (told_leads task.network l.node p.1)))
+      (s.unrelaxed ++ out) (λ p. elim [
+        | inl old ↦ Contains-append_left s.unrelaxed out p old
+        | inr new ↦ Contains-append_right s.unrelaxed out p (subst (λ (m : Label). Contains out (m, p.1)) (sym new.0) (in_out_of task.network l p.1 new.1))
+      ]) in (
+        changed s (λ _ y. y ≢ l) told l settled pairs.0 s.candidates,
+        record {
+          may = may;
+          entries = becomes_changed s (λ _ y. y ≢ l) told l settled pairs.0 s.candidates;
+          unrelaxed = pairs.1.exact;
+          candidates = IsPermutation-refl s.candidates;
+        },
+      )
+
+  pub relax_happens : (l : Label) (k : ℕ) → Contains s.unrelaxed (l, k) → LeadsOn task.network l.node k → (next : SearchState) × Relaxes task s l k next
+  relax_happens l k may on =
+      let rest = sift cases_pair (λ p. p ≢ (l, k)) (λ p. told_not (cases_pair p (l, k))) s.unrelaxed in
+      let x : Label = record { node = on.to; cost = plus l.cost on.by; arc = k } in (
+        record s { unrelaxed = rest.0; candidates = x ∷ s.candidates },
+        record {
+          may = may;
+          candidate = x;
+          follows = record { by = on.by; leads = on.leads; cost = refl };
+          arc = refl;
+          entries = λ p y. (λ h. h, λ h. h);
+          unrelaxed = rest.1.exact;
+          candidates = IsPermutation-refl (x ∷ s.candidates);
+        },
+      )
+
+-- whether P holds of an entry
+told_entry : (P : Label → Type 0) → ((y : Label) → IsTold (P y)) → (s : SearchState)
+    → ((y : Label) × IsEntry s y × P y) ⊎ ((y : Label) → IsEntry s y → ¬ P y)
+told_entry P told s = elim (told_some P told (s.settled ++ others)) [
+  | inr none ↦ inr (λ y (p, here). none y (in_all p y here))
+  | inl (y, there, holds) ↦ inl (
+    y,
+    elim (Contains-append_cases s.settled others y there) [
+      | inl here ↦ (settled, here)
+      | inr other ↦ elim (Contains-append_cases s.dropped s.waiting y other) [ inl here ↦ (dropped, here) | inr here ↦ (waiting, here) ]
+    ],
+    holds,
+  )
+] where
+  others : List Label
+  others = s.dropped ++ s.waiting
+
+  in_all : (p : Place) (y : Label) → Contains (entries_at s p) y → Contains (s.settled ++ others) y
+  in_all settled y here = Contains-append_left s.settled others y here
+  in_all dropped y here = Contains-append_right s.settled others y (Contains-append_left s.dropped s.waiting y here)
+  in_all waiting y here = Contains-append_right s.settled others y (Contains-append_right s.dropped s.waiting y here)
+
+told_pair : (x y : Label) → IsTold (IsSamePair x y)
+told_pair x y = told_as (λ h. record { node = h.0; cost = h.1 }) (λ h. (h.node, h.cost)) (told_both (cases_eq x.node y.node) (cases_same x.cost y.cost))
+
+module _ (s : SearchState) (x : Label) (there : Contains s.candidates x) where
+  abbrev less : List Label
+  less = (taken_out s.candidates x there).0
+
+  merged : (next : SearchState) → IsMerged s x (record next { unrelaxed = s.unrelaxed; candidates = less }) → (after : SearchState) × Merges s x after
+  merged next is = (
+    record next { unrelaxed = s.unrelaxed; candidates = less },
+    record { candidates = (taken_out s.candidates x there).1; unrelaxed = λ p. (λ h. h, λ h. h); entries = is },
+  )
+
+  pub merge_happens : (next : SearchState) × Merges s x next
+  merge_happens = elim (told_entry (λ y. IsSamePair y x) (λ y. told_pair y x) s) [
+    | inl (e, (place, here), pair) ↦ elim (cases_lt x.arc e.arc) [
+      | inr lesser ↦ merged s (keeps (record { entry = e; is_entry = (place, here); same = pair; lesser = lesser; entries = λ p y. (λ h. h, λ h. h) }))
+      | inl greater ↦
+          let told = λ (p : Place) (y : Label). told_not (cases_label y e) in
+          merged (changed s (λ _ y. y ≢ e) told x place s.unrelaxed less) (lowers (record {
+            place = place;
+            entry = e;
+            is_entry = here;
+            same = pair;
+            greater = greater;
+            entries = becomes_changed s (λ _ y. y ≢ e) told x place s.unrelaxed less;
+          }))
+    ]
+    | inr new ↦ elim (told_entry (λ y. Beats y x) (λ y. cases_beats y x) s) [
+      | inl (e, entry, beats) ↦ merged s (discards (record { new = new; entry = e; is_entry = entry; beats = beats; entries = λ p y. (λ h. h, λ h. h) }))
+      | inr unbeaten ↦
+          let told = λ (p : Place) (y : Label). told_either (told_place p settled) (told_not (cases_beats x y)) in
+          let Stays = λ (p : Place) (y : Label). (p ≡ settled) ⊎ (¬ Beats x y) in
+          merged (changed s Stays told x waiting s.unrelaxed less)
+          (enters (record { new = new; unbeaten = unbeaten; entries = becomes_changed s Stays told x waiting s.unrelaxed less }))
+    ]
+  ]

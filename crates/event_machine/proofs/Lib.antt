@@ -14,3 +14,4 @@ pub mod OutcomeLaws
 pub mod CompletesLaws
 pub mod FinishesLaws
 pub mod BegunLaws
+pub mod PieceLaws

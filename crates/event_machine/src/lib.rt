@@ -5,8 +5,12 @@
 #![tactic(auto)]
 
 mod finality;
+mod orders;
+mod pieces;
 
 pub use finality::{
     entries_below_settled_labels_stand, settled_labels_are_final, sums_are_bounded_by_the_settled,
     the_end_has_all_relevant_pairs,
 };
+pub use orders::{rounds_begin_in_any_order, rounds_end_in_any_order};
+pub use pieces::pieces_complete_rounds;

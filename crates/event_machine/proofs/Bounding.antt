@@ -8,10 +8,10 @@ use Rattle.list_laws.proofs.Pairs.{pairs_none, pairs_cons}
 use Rattle.road_network.specs.Network.{AreSmall}
 use Rattle.road_network.specs.Walks.{IsSumOf}
 use Rattle.road_network.proofs.SumLaws.{sum_of_none, sum_of_more, sum_of_most, small_by}
-use Rattle.event_machine.specs.Sets.{HasMoreThan}
+use Rattle.list_laws.specs.Sets.{HasMoreThan}
 use Rattle.event_machine.specs.Machine.{Task, IsTask, Label, SearchState, settled, Follows}
 use Rattle.event_machine.specs.Laws.{IsKnown}
-use Rattle.event_machine.proofs.SetLaws.{more_by_list}
+use Rattle.list_laws.proofs.SetLaws.{more_by_list}
 use Rattle.event_machine.proofs.Sound.{IsSound, at_start, follows}
 use Rattle.event_machine.proofs.Frontier.{grown_from_settled}
 

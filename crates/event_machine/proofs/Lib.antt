@@ -1,6 +1,3 @@
-pub mod SetLaws
-pub mod ToldLaws
-pub mod OnceLaws
 pub mod Running
 pub mod Sound
 pub mod Changing
@@ -9,11 +6,3 @@ pub mod Frontier
 pub mod Keeping
 pub mod SettledLabels
 pub mod Bounding
-pub mod HappensLaws
-pub mod OutcomeLaws
-pub mod CompletesLaws
-pub mod FinishesLaws
-pub mod BegunLaws
-pub mod RoundLaws
-pub mod CountingLaws
-pub mod BudgetLaws

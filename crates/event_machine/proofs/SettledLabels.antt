@@ -13,7 +13,7 @@ use Rattle.event_machine.specs.Machine.{HasSettled, IsBeatenAtTarget}
 use Rattle.event_machine.specs.Events.{Event, Happens, IsReached}
 use Rattle.event_machine.specs.Rounds.{NoneStays}
 use Rattle.event_machine.specs.Laws.{HasLeastArc}
-use Rattle.event_machine.proofs.SetLaws.{none_of_empty}
+use Rattle.list_laws.proofs.SetLaws.{none_of_empty}
 use Rattle.event_machine.proofs.Sound.{Comes, IsSound}
 use Rattle.event_machine.proofs.Frontier.{length_of_walk, forwards, backwards, less_before, frontier}
 use Rattle.event_machine.proofs.Keeping.{changes_of, sound_after, sound_if_reached}

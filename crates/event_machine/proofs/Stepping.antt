@@ -8,7 +8,7 @@ use Rattle.road_network.proofs.Reached.{leads_alike}
 use Rattle.event_machine.specs.Machine.{Task, Label, SearchState, settled, dropped, IsActive, waits, has_arc, IsBeatenAtTarget, LeadsOn, Follows}
 use Rattle.event_machine.specs.Events.{MayTake, Takes, Drops, Relaxes, Merges, IsSame}
 use Rattle.event_machine.specs.Orders.{IsArrival, came, comes}
-use Rattle.event_machine.proofs.SetLaws.{same_by_permutation, gains_by_permutation}
+use Rattle.list_laws.proofs.SetLaws.{same_by_permutation, gains_by_permutation}
 use Rattle.event_machine.proofs.Sound.{IsSound, IsCovered, label_by_parts, cases_pair}
 use Rattle.event_machine.proofs.Changing.{EntriesChange, entries_stay, entries_become, room_to_move, entries_by_merge, covered_by_merge}
 use Rattle.event_machine.proofs.Changing.{place_before_merge, settled_before_merge}

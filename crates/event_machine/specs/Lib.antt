@@ -1,4 +1,3 @@
-pub mod Sets
 pub mod Machine
 pub mod Events
 pub mod Rounds

@@ -2,7 +2,7 @@
 use Rattle.std.specs.Prelude.{◌≡◌, ◌≢◌, ℕ, ◌≤◌, ◌⊎◌, ◌↔◌, List, [], AllPairs, Contains, IsPermutation}
 use Rattle.cost_vector.specs.Costs.{Dominates}
 use Rattle.road_network.specs.Network.{Network}
-use Rattle.event_machine.specs.Sets.{SameMembers}
+use Rattle.list_laws.specs.Sets.{SameMembers}
 use Rattle.event_machine.specs.Machine.{Task, Label, IsSamePair, Beats, SearchState, IsEntry, LeadsOn, Follows}
 use Rattle.event_machine.specs.Events.{Event, take, drop, relax, merge, MayDrop}
 

@@ -3,7 +3,7 @@ use Rattle.std.specs.Prelude.{◌≢◌, ℕ, ◌<◌, List, [], length, map, fl
 use Rattle.std.specs.Prelude.{AllPairs, Contains, IsPermutation}
 use Rattle.std.specs.List.{AllZip}
 use Rattle.road_network.specs.Network.{Network}
-use Rattle.event_machine.specs.Sets.{ListsOnce}
+use Rattle.list_laws.specs.Sets.{ListsOnce}
 use Rattle.event_machine.specs.Machine.{Label, SearchState}
 use Rattle.event_machine.specs.Events.{Event, relax, merge}
 use Rattle.event_machine.specs.Orders.{IsArrival}

@@ -1,7 +1,7 @@
 -- The search by bulk rounds, in which all labels are settled that no waiting label dominates (Sanders and Mandow 2013).
 use Rattle.std.specs.Prelude.{◌≡◌, ℕ, zero, suc, ◌⊎◌, List, [], map, Contains, IsPermutation}
 use Rattle.cost_vector.specs.Costs.{Dominates}
-use Rattle.event_machine.specs.Sets.{ListsOnce, HasMoreThan}
+use Rattle.list_laws.specs.Sets.{ListsOnce, HasMoreThan}
 use Rattle.event_machine.specs.Machine.{Task, Label, SearchState, start_state}
 use Rattle.event_machine.specs.Events.{Event, take, drop, relax, merge, IsSame, MayDrop, Runs}
 

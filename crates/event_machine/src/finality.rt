@@ -3,7 +3,7 @@ ghost use Rattle.cost_vector.specs.Costs.{AtMost};
 ghost use Rattle.road_network.specs.Network.{AreSmall};
 ghost use Rattle.road_network.specs.Walks.{IsSumOf};
 ghost use Rattle.road_network.specs.Answers.{IsRelevant};
-ghost use Rattle.event_machine.specs.Sets.{HasMoreThan};
+ghost use Rattle.list_laws.specs.Sets.{HasMoreThan};
 ghost use Rattle.event_machine.specs.Machine.{Task, IsTask, Label, IsSamePair, SearchState, IsEntry, HasSettled};
 ghost use Rattle.event_machine.specs.Events.{Event, Happens, IsReached};
 ghost use Rattle.event_machine.specs.Laws.{IsKnown, HasLeastArc};

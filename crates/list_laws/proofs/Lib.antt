@@ -6,3 +6,6 @@ pub mod Ascending
 pub mod FirstDifference
 pub mod LeastMember
 pub mod Retained
+pub mod SetLaws
+pub mod ToldLaws
+pub mod OnceLaws

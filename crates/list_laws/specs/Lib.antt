@@ -1,3 +1,4 @@
 pub mod FirstDifference
 pub mod Least
 pub mod Without
+pub mod Sets

@@ -1,7 +1,7 @@
 -- A merge, by what becomes of the state in which the candidate has left.
 use Rattle.std.proofs.Common.{◌≢◌, ◌∷◌, ◌<◌, ◌≤◌, List, sym, subst}
 use Rattle.std.specs.Prelude.{Contains, IsPermutation}
-use Rattle.event_machine.specs.Sets.{SameMembers}
+use Rattle.list_laws.specs.Sets.{SameMembers}
 use Rattle.event_machine.specs.Machine.{Label, IsSamePair, SearchState, Place, entries_at}
 use Rattle.event_machine.specs.Events.{Merges, IsMerged, keeps, lowers}
 use Rattle.machine_model.specs.Changes.{Changes}

@@ -1,7 +1,7 @@
 ghost use Rattle.std.specs.Prelude.{◌≡◌, ◌≢◌, ◌↔◌, ◌⊎◌, ◌∷◌, IsTrue, IfSome, IfNone, OnOk, All, Any, Contains, IsPermutation};
 ghost use Rattle.cost_vector.specs.Costs.{Dominates};
 ghost use Rattle.event_machine.specs.Machine.{IsSamePair, Beats};
-ghost use Rattle.event_machine.specs.Sets.{Loses};
+ghost use Rattle.list_laws.specs.Sets.{Loses};
 ghost use Rattle.machine_model.specs.Views.{label_of, labels_of};
 
 use cost_vector::{Cost, Label, OutOfMemory};

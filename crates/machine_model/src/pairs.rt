@@ -1,7 +1,7 @@
 ghost use Rattle.std.specs.Prelude.{◌≡◌, ◌↔◌, ◌⊎◌, map, IsTrue, OnOk, Any, Contains};
 ghost use Rattle.cost_vector.specs.Costs.{Dominates};
 ghost use Rattle.event_machine.specs.Machine.{LeadsOn};
-ghost use Rattle.event_machine.specs.Sets.{Loses};
+ghost use Rattle.list_laws.specs.Sets.{Loses};
 ghost use Rattle.machine_model.specs.Views.{label_of, pair_of, task_of};
 
 use crate::Task;

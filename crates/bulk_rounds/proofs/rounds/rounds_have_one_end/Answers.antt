@@ -1,5 +1,5 @@
-use Rattle.event_machine.proofs.RoundLaws.{some_round, one_end, reached_by_round, between_after, counted, settles}
-use Rattle.event_machine.proofs.rounds.rounds_have_one_end.Goals as goal
+use Rattle.bulk_rounds.proofs.RoundLaws.{some_round, one_end, reached_by_round, between_after, counted, settles}
+use Rattle.bulk_rounds.proofs.rounds.rounds_have_one_end.Goals as goal
 
 pub returns-clause-some_round : goal.returns-clause-some_round
 returns-clause-some_round c = λ task s is. some_round task is s

@@ -7,19 +7,19 @@ use Rattle.list_laws.proofs.Members.{in_none, cases_in, each_in}
 use Rattle.list_laws.proofs.Pairs.{pairs_none, pairs_cons, pigeonhole}
 use Rattle.road_network.specs.Answers.{IsRelevant}
 use Rattle.road_network.proofs.BestLaws.{start_is_relevant}
-use Rattle.event_machine.specs.Sets.{HasMoreThan}
+use Rattle.list_laws.specs.Sets.{HasMoreThan}
 use Rattle.event_machine.specs.Machine.{Task, IsTask, Label, SearchState, start_state, settled, dropped, waiting}
 use Rattle.event_machine.specs.Events.{drop, IsSame, MayDrop, IsReached}
 use Rattle.event_machine.specs.Rounds.{IsBetweenRounds, Begins, Round, CountedRound, GoRounds, NoneStays, Rounds}
 use Rattle.event_machine.specs.Orders.{Stays, came, comes}
-use Rattle.event_machine.proofs.SetLaws.{none_of_empty, more_by_list}
-use Rattle.event_machine.proofs.ToldLaws.{IsTold, told_some, told_in, list_all, once_as}
+use Rattle.list_laws.proofs.SetLaws.{none_of_empty, more_by_list}
+use Rattle.list_laws.proofs.ToldLaws.{IsTold, told_some, told_in, list_all, once_as}
 use Rattle.event_machine.proofs.Sound.{cases_label, same_pair}
 use Rattle.event_machine.proofs.Running.{same_itself, same_back, same_through, drop_alike, runs_from_same}
-use Rattle.event_machine.proofs.BegunLaws.{told_may_drop, told_stays}
+use Rattle.bulk_rounds.proofs.BegunLaws.{told_may_drop, told_stays}
 use Rattle.event_machine.proofs.Keeping.{sound_if_reached}
 use Rattle.event_machine.proofs.Frontier.{grown_from_settled}
-use Rattle.event_machine.proofs.RoundLaws.{left_after_drops, reached_on, reached_by_round, some_round, reached_begun, begun_of, outcome_of, between_after, counted, kept_by_round, one_end, has_lightest, settles, taken_is_new}
+use Rattle.bulk_rounds.proofs.RoundLaws.{left_after_drops, reached_on, reached_by_round, some_round, reached_begun, begun_of, outcome_of, between_after, counted, kept_by_round, one_end, has_lightest, settles, taken_is_new}
 
 -- whether a list contains more than n different labels
 pub cases_more : (n : ℕ) (xs : List Label) → IsTold (HasMoreThan n xs)

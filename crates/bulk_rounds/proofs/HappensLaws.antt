@@ -11,12 +11,12 @@ use Rattle.cost_vector.proofs.Vectors.{cases_same}
 use Rattle.road_network.specs.Network.{Network}
 use Rattle.road_network.proofs.Reached.{arc_counts}
 use Rattle.list_laws.proofs.Members.{in_rest, in_front, in_map}
-use Rattle.event_machine.specs.Sets.{ListsOnce}
+use Rattle.list_laws.specs.Sets.{ListsOnce}
 use Rattle.event_machine.specs.Machine.{Task, Label, IsSamePair, Beats, SearchState, Place, settled, dropped, waiting, entries_at, IsEntry, LeadsOn}
 use Rattle.event_machine.specs.Events.{Becomes, MayTake, Takes, MayDrop, Drops, Relaxes, IsMerged, keeps, lowers, discards, enters, Merges}
 use Rattle.event_machine.proofs.Sound.{cases_label, cases_pair, cases_beats}
-use Rattle.event_machine.proofs.ToldLaws.{IsTold, told_as, told_not, told_both, told_either, told_some, told_in, sift, list_all}
-use Rattle.event_machine.proofs.OnceLaws.{taken_out}
+use Rattle.list_laws.proofs.ToldLaws.{IsTold, told_as, told_not, told_both, told_either, told_some, told_in, sift, list_all}
+use Rattle.list_laws.proofs.OnceLaws.{taken_out}
 
 -- ---- entries
 

@@ -7,7 +7,7 @@ use Rattle.std.proofs.lemmas.List.Elements.{Contains-get_or, Contains-append_cas
 use Rattle.std.proofs.lemmas.List.Sorted.{Contains-permutation, IsPermutation-remove, IsPermutation-sym, length_permutation}
 use Rattle.list_laws.proofs.Members.{in_first, in_rest, cases_in, in_map, of_map}
 use Rattle.list_laws.proofs.Pairs.{pairs_rest, pair_with_first, pairs_cons, pairs_map, pigeonhole}
-use Rattle.event_machine.specs.Sets.{ListsOnce}
+use Rattle.list_laws.specs.Sets.{ListsOnce}
 
 module _ {X : Type 0} where
   -- a list that contains nothing is empty

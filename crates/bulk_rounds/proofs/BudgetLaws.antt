@@ -6,7 +6,7 @@ use Rattle.std.proofs.lemmas.List.Elements.{All-nil, All-cons, All-head, All-tai
 use Rattle.list_laws.proofs.Pairs.{pairs_none, pairs_cons, pairs_rest, pair_with_first, pairs_map}
 use Rattle.list_laws.proofs.Members.{in_map}
 use Rattle.road_network.specs.Answers.{IsRelevant, Passes}
-use Rattle.event_machine.specs.Sets.{HasMoreThan}
+use Rattle.list_laws.specs.Sets.{HasMoreThan}
 use Rattle.event_machine.specs.Machine.{Task, IsTask, Label, IsSamePair, SearchState, HasSettled}
 use Rattle.event_machine.specs.Events.{IsReached}
 use Rattle.event_machine.specs.Rounds.{IsBetweenRounds, NoneStays}

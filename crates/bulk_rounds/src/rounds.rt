@@ -1,6 +1,6 @@
 ghost use Rattle.std.specs.Prelude.{◌≡◌, ℕ, ◌+◌, ◌<◌, ◌≤◌, List, sum, Contains};
 ghost use Rattle.road_network.specs.Answers.{IsRelevant, Passes};
-ghost use Rattle.event_machine.specs.Sets.{HasMoreThan};
+ghost use Rattle.list_laws.specs.Sets.{HasMoreThan};
 ghost use Rattle.event_machine.specs.Machine.{Task, IsTask, Label, SearchState, start_state};
 ghost use Rattle.event_machine.specs.Events.{IsSame, IsReached};
 ghost use Rattle.event_machine.specs.Orders.{Stays};

@@ -3,7 +3,7 @@ use Rattle.std.proofs.Common.{◌≡◌, ◌≢◌, ◌⊎◌, ◌↔◌, List, 
 use Rattle.std.specs.Prelude.{Contains}
 use Rattle.list_laws.proofs.Members.{in_none, in_first, in_rest, in_front, cases_in}
 use Rattle.list_laws.proofs.Pairs.{pairs_none, pairs_cons}
-use Rattle.event_machine.specs.Sets.{SameMembers, ListsOnce}
+use Rattle.list_laws.specs.Sets.{SameMembers, ListsOnce}
 
 -- it can be told whether P holds
 abbrev pub IsTold : Type 0 → Type 0

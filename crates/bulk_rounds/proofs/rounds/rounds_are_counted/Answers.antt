@@ -1,5 +1,5 @@
-use Rattle.event_machine.proofs.CountingLaws.{some_number, one_number, bounded, round_after_all, at_most_all, more_to_come}
-use Rattle.event_machine.proofs.rounds.rounds_are_counted.Goals as goal
+use Rattle.bulk_rounds.proofs.CountingLaws.{some_number, one_number, bounded, round_after_all, at_most_all, more_to_come}
+use Rattle.bulk_rounds.proofs.rounds.rounds_are_counted.Goals as goal
 
 pub returns-clause-some_number : goal.returns-clause-some_number
 returns-clause-some_number c = λ task budget is. some_number task is budget

@@ -1,5 +1,5 @@
-use Rattle.event_machine.proofs.BudgetLaws.{passes_where_more, within_where_none_stays}
-use Rattle.event_machine.proofs.rounds.rounds_tell_the_budget.Goals as goal
+use Rattle.bulk_rounds.proofs.BudgetLaws.{passes_where_more, within_where_none_stays}
+use Rattle.bulk_rounds.proofs.rounds.rounds_tell_the_budget.Goals as goal
 
 pub returns-clause-passes : goal.returns-clause-passes
 returns-clause-passes c = λ task s budget is reached. passes_where_more task is s reached budget

@@ -7,19 +7,19 @@ use Rattle.cost_vector.specs.Costs.{Dominates}
 use Rattle.cost_vector.proofs.Vectors.{cases_Dominates, cases_Within}
 use Rattle.list_laws.proofs.Members.{in_none, in_first, in_rest, in_front, cases_in}
 use Rattle.list_laws.proofs.Pairs.{pairs_rest, pair_with_first}
-use Rattle.event_machine.specs.Sets.{ListsOnce}
+use Rattle.list_laws.specs.Sets.{ListsOnce}
 use Rattle.event_machine.specs.Machine.{Task, IsTask, Label, SearchState, Place, settled, dropped, waiting, entries_at, waits, is_candidate, has_arc}
 use Rattle.event_machine.specs.Machine.{IsBeatenAtTarget, LeadsOn}
 use Rattle.event_machine.specs.Events.{Event, take, drop, IsSame, MayTake, Takes, MayDrop, Drops, Happens, Runs}
 use Rattle.event_machine.specs.Rounds.{IsBetweenRounds, IsUndominated, Begins}
 use Rattle.event_machine.specs.Orders.{Stays, DropsAll, IsNext, IsBegun}
-use Rattle.event_machine.proofs.SetLaws.{none_of_empty}
+use Rattle.list_laws.proofs.SetLaws.{none_of_empty}
 use Rattle.event_machine.proofs.Running.{same_itself, runs_on, runs_apart, runs_to_same}
 use Rattle.event_machine.proofs.Sound.{IsSound, cases_label}
 use Rattle.event_machine.proofs.Keeping.{changes_of, sound_after}
-use Rattle.event_machine.proofs.ToldLaws.{IsTold, told_as, told_not, told_both, told_either, told_some, told_in, same_by, once_as, list_all}
-use Rattle.event_machine.proofs.OnceLaws.{empty_if_none}
-use Rattle.event_machine.proofs.HappensLaws.{drop_happens, take_happens}
+use Rattle.list_laws.proofs.ToldLaws.{IsTold, told_as, told_not, told_both, told_either, told_some, told_in, same_by, once_as, list_all}
+use Rattle.list_laws.proofs.OnceLaws.{empty_if_none}
+use Rattle.bulk_rounds.proofs.HappensLaws.{drop_happens, take_happens}
 
 -- ---- labels that move to one place
 

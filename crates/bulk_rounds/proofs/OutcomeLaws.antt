@@ -9,8 +9,8 @@ use Rattle.list_laws.proofs.Members.{in_front, in_rest}
 use Rattle.event_machine.specs.Machine.{Task, IsTask, Label, IsSamePair, Beats, SearchState, Place, settled, dropped, waiting, entries_at, IsEntry}
 use Rattle.event_machine.specs.Events.{Event, take, drop, relax, merge, SameEntries, IsSame, IsMerged, keeps, lowers, discards, enters, Merges, Happens, Runs}
 use Rattle.event_machine.specs.Orders.{IsArrival, came, comes, Survives, HasPair, IsOutcome}
-use Rattle.event_machine.proofs.SetLaws.{none_of_empty}
-use Rattle.event_machine.proofs.ToldLaws.{same_by}
+use Rattle.list_laws.proofs.SetLaws.{none_of_empty}
+use Rattle.list_laws.proofs.ToldLaws.{same_by}
 use Rattle.event_machine.proofs.Sound.{IsSound, AreApart, Covers, better, as_good, IsCovered, covers_itself, cases_label, label_by_parts, pair_back}
 use Rattle.event_machine.proofs.Changing.{place_before_merge}
 use Rattle.event_machine.proofs.Stepping.{Changes, arrivals_by_relax, candidates_by_merge, same_changes}

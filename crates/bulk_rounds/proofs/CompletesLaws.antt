@@ -13,15 +13,15 @@ use Rattle.event_machine.specs.Machine.{Task, IsTask, Label, SearchState, settle
 use Rattle.event_machine.specs.Events.{Event, take, drop, relax, merge, IsSame, Relaxes, Merges, Happens, Runs}
 use Rattle.event_machine.specs.Rounds.{relaxing}
 use Rattle.event_machine.specs.Orders.{IsArrival, came, comes, MergesResult, Completes, IsOutcome}
-use Rattle.event_machine.proofs.SetLaws.{none_of_empty, gains_by_permutation}
+use Rattle.list_laws.proofs.SetLaws.{none_of_empty, gains_by_permutation}
 use Rattle.event_machine.proofs.Running.{same_itself, same_back, runs_to_same}
 use Rattle.event_machine.proofs.Sound.{IsSound}
 use Rattle.event_machine.proofs.Stepping.{arrivals_by_relax, candidates_by_merge}
 use Rattle.event_machine.proofs.Frontier.{length_of_walk}
 use Rattle.event_machine.proofs.Keeping.{sound_after, sound_by_run}
-use Rattle.event_machine.proofs.OnceLaws.{empty_if_none, once_in_any_order}
-use Rattle.event_machine.proofs.HappensLaws.{relax_happens, merge_happens}
-use Rattle.event_machine.proofs.OutcomeLaws.{arrival_alike, outcome_of_run, one_outcome}
+use Rattle.list_laws.proofs.OnceLaws.{empty_if_none, once_in_any_order}
+use Rattle.bulk_rounds.proofs.HappensLaws.{relax_happens, merge_happens}
+use Rattle.bulk_rounds.proofs.OutcomeLaws.{arrival_alike, outcome_of_run, one_outcome}
 
 -- each candidate stands once, and no pair gives it
 pub record IsFresh (net : Network) (s : SearchState) : Type 0 where

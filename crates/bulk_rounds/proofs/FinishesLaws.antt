@@ -6,20 +6,20 @@ use Rattle.std.proofs.lemmas.List.Sorted.{IsPermutation-refl}
 use Rattle.cost_vector.specs.Costs.{plus}
 use Rattle.road_network.specs.Network.{Network}
 use Rattle.list_laws.proofs.Members.{in_none, in_first, in_rest, in_front, cases_in}
-use Rattle.event_machine.specs.Sets.{ListsOnce}
+use Rattle.list_laws.specs.Sets.{ListsOnce}
 use Rattle.event_machine.specs.Machine.{Task, IsTask, Label, SearchState, LeadsOn, Follows}
 use Rattle.event_machine.specs.Events.{Event, take, drop, relax, merge, Runs}
 use Rattle.event_machine.specs.Rounds.{relaxing, Finishes}
 use Rattle.event_machine.specs.Orders.{IsArrival, came, comes, MergesResult, Completes, IsOutcome}
-use Rattle.event_machine.proofs.SetLaws.{none_of_empty}
+use Rattle.list_laws.proofs.SetLaws.{none_of_empty}
 use Rattle.event_machine.proofs.Running.{runs_on, runs_apart, runs_to_same}
 use Rattle.event_machine.proofs.Sound.{IsSound, cases_label, cases_pair}
 use Rattle.event_machine.proofs.Stepping.{follows_alike}
 use Rattle.event_machine.proofs.Keeping.{sound_by_run}
-use Rattle.event_machine.proofs.ToldLaws.{told_as, told_in, list_all}
-use Rattle.event_machine.proofs.OnceLaws.{pairs_append, pairs_of_members, lists_in_any_order, lists_images}
-use Rattle.event_machine.proofs.OutcomeLaws.{one_outcome}
-use Rattle.event_machine.proofs.CompletesLaws.{IsFresh, fresh_at_first, completes_run, completes_along, completes_to_outcome}
+use Rattle.list_laws.proofs.ToldLaws.{told_as, told_in, list_all}
+use Rattle.list_laws.proofs.OnceLaws.{pairs_append, pairs_of_members, lists_in_any_order, lists_images}
+use Rattle.bulk_rounds.proofs.OutcomeLaws.{one_outcome}
+use Rattle.bulk_rounds.proofs.CompletesLaws.{IsFresh, fresh_at_first, completes_run, completes_along, completes_to_outcome}
 
 -- ---- halves
 

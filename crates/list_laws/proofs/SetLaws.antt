@@ -6,7 +6,7 @@ use Rattle.std.proofs.lemmas.List.Elements.{All-take}
 use Rattle.std.proofs.lemmas.List.Sorted.{Contains-permutation, IsPermutation-sym}
 use Rattle.list_laws.proofs.Members.{in_none, in_first, in_rest, cases_in, each_in, all_from_in}
 use Rattle.list_laws.proofs.Pairs.{pigeonhole}
-use Rattle.event_machine.specs.Sets.{SameMembers, HasMoreThan}
+use Rattle.list_laws.specs.Sets.{SameMembers, HasMoreThan}
 
 module _ {X : Type 0} where
   -- what a list has, its permutation has

@@ -13,6 +13,8 @@ use Rattle.event_machine.specs.Events.{drop, IsSame, MayDrop, IsReached}
 use Rattle.event_machine.specs.Rounds.{IsBetweenRounds, Begins, Round, CountedRound, GoRounds, NoneStays, Rounds}
 use Rattle.event_machine.specs.Orders.{Stays, came, comes}
 use Rattle.list_laws.proofs.SetLaws.{none_of_empty, more_by_list}
+use Rattle.list_laws.proofs.OnceLaws.{empty_if_none}
+use Rattle.std.proofs.lemmas.List.Sorted.{Contains-permutation}
 use Rattle.list_laws.proofs.ToldLaws.{IsTold, told_some, told_in, list_all, once_as}
 use Rattle.event_machine.proofs.Sound.{cases_label, same_pair}
 use Rattle.event_machine.proofs.Running.{same_itself, same_back, same_through, drop_alike, runs_from_same}
@@ -140,6 +142,15 @@ module _ (task : Task) (is : IsTask task) (budget : ℕ) where
   reached_by_rounds zero a b reached same = reached_on task is a b [] reached same
   reached_by_rounds (suc n) a b reached go = reached_by_rounds n go.next b (reached_by_round task is a go.next reached go.round.round) go.rest
 
+  between_by_rounds : (n : ℕ) (a b : SearchState) → IsReached task a → IsBetweenRounds a → GoRounds task budget n a b → IsBetweenRounds b
+  between_by_rounds zero a b reached between same = record {
+    unrelaxed = empty_if_none b.unrelaxed (λ p there. none_of_empty a.unrelaxed between.unrelaxed p ((same.unrelaxed p).0 there));
+    candidates = empty_if_none b.candidates
+        (λ x there. none_of_empty a.candidates between.candidates x (Contains-permutation b.candidates a.candidates x same.candidates there));
+  }
+  between_by_rounds (suc n) a b reached between go = between_by_rounds n go.next b (reached_by_round task is a go.next reached go.round.round)
+      (between_after task is a go.next reached go.round.round) go.rest
+
   -- ---- one round more, after those of before
 
   counted_from_same : (a b t : SearchState) → IsSame a b → IsReached task a → IsReached task b → IsBetweenRounds a → CountedRound task b t → CountedRound task a t
@@ -173,10 +184,11 @@ module _ (task : Task) (is : IsTask task) (budget : ℕ) where
       (one_round_more n start s t reached_at_start start_between (reached_by_rounds n start s reached_at_start go) go few round)
 
   -- where the search doesn't stop between rounds, more rounds come
-  pub more_to_come : (k n : ℕ) (s : SearchState) (l : Label) → GoRounds task budget k (start_state task) s → IsBetweenRounds s
+  pub more_to_come : (k n : ℕ) (s : SearchState) (l : Label) → GoRounds task budget k (start_state task) s
       → ¬ HasMoreThan budget s.settled → Stays task s l → Rounds task budget n → k < n
-  more_to_come k n s l go between few stays all =
+  more_to_come k n s l go few stays all =
       let reached = reached_by_rounds k (start_state task) s reached_at_start go in
+      let between = between_by_rounds k (start_state task) s reached_at_start start_between go in
       let (after, round) = some_round task is s reached between in
       let more = round_after_all k s after go few (counted task is s after reached round l stays) in
       omega (arith, at_most_all (k + 1) n after more all)

@@ -1,6 +1,6 @@
 -- Pieces of a round, drawn in any order: their events complete the round.
-use Rattle.std.proofs.Common.{◌≡◌, ◌≢◌, ◌↔◌, ◌⊎◌, ℕ, zero, suc, ◌<◌, List, [], ◌∷◌, ◌++◌, length, map, get_or, inl, inr, refl, sym, ap, subst, ◌∙◌, arith}
-use Rattle.std.specs.Prelude.{AllPairs, Contains, IsPermutation}
+use Rattle.std.proofs.Common.{◌≡◌, ◌≢◌, ℕ, zero, suc, ◌<◌, List, [], ◌∷◌, ◌++◌, length, map, get_or, inl, inr, refl, sym, ap, subst, arith}
+use Rattle.std.specs.Prelude.{AllPairs, Contains}
 use Rattle.std.specs.List.{flat_map, AllZip}
 use Rattle.std.proofs.lemmas.List.{get_or-map, length-map}
 use Rattle.std.proofs.lemmas.List.Elements.{Contains-append_left, Contains-append_right, Contains-append_cases}
@@ -11,7 +11,7 @@ use Rattle.road_network.specs.Network.{Network}
 use Rattle.list_laws.specs.Sets.{ListsOnce}
 use Rattle.event_machine.specs.Machine.{Label, SearchState}
 use Rattle.event_machine.specs.Events.{Event, relax, merge}
-use Rattle.event_machine.specs.Orders.{IsArrival, Completes}
+use Rattle.event_machine.specs.Orders.{Completes}
 use Rattle.event_machine.specs.Pieces.{joined, IsRelaxOf, relaxes, AreRelaxPieces, AreMergePieces, merges_of, AreDoneInPieces}
 use Rattle.list_laws.proofs.ToldLaws.{once_as}
 use Rattle.list_laws.proofs.OnceLaws.{pairs_append, lists_in_any_order, lists_images}
@@ -95,7 +95,7 @@ done_once Q pieces numbers events each one done =
       λ (i, there, q). (i, (done.drawn.exact i).0 there, q),
       λ (i, below, q). (i, (done.drawn.exact i).1 below, q),
     )) (lists_in_any_order All (flat_map (λ i. get_or pieces i []) numbers) events done.done
-      (lists_by_number Q (λ i. get_or pieces i []) numbers done.drawn.once (λ i there. each i ((done.drawn.exact i).0 there)) one))
+    (lists_by_number Q (λ i. get_or pieces i []) numbers done.drawn.once (λ i there. each i ((done.drawn.exact i).0 there)) one))
 
 -- ---- both halves
 
@@ -131,11 +131,11 @@ module _ (net : Network) (s : SearchState) where
         from event,
       ))
       (done_once Of (merges_of cut) numbers events (λ i below.
-        let piece = get_or cut i [] in
-        subst (ListsOnce (Of i)) (sym (get_or-map (λ labels. map (λ x. merge x) labels) cut i [] [] (omega (arith, below, long))))
-          (lists_images (λ x. merge x) (Contains piece) (Of i) piece (λ x y e. cc) (λ x h. (x, h, refl)) (λ event h. h)
-            (record { exact = λ x. (λ h. h, λ h. h); once = piece_once cut arrivals.once i })))
-        (λ i j event (x, there, e) (y, there_too, f). let same : x ≡ y = cc in one_piece cut arrivals.once i j y (subst (Contains (get_or cut i [])) same there) there_too) done) where
+      let piece = get_or cut i [] in
+      subst (ListsOnce (Of i)) (sym (get_or-map (λ labels. map (λ x. merge x) labels) cut i [] [] (omega (arith, below, long))))
+      (lists_images (λ x. merge x) (Contains piece) (Of i) piece (λ x y e. cc) (λ x h. (x, h, refl)) (λ event h. h)
+      (record { exact = λ x. (λ h. h, λ h. h); once = piece_once cut arrivals.once i })))
+      (λ i j event (x, there, e) (y, there_too, f). let same : x ≡ y = cc in one_piece cut arrivals.once i j y (subst (Contains (get_or cut i [])) same there) there_too) done) where
         from : (event : Event) → IsMerging net s event → (i : ℕ) × (i < length (merges_of cut)) × ((x : Label) × Contains (get_or cut i []) x × (event ≡ merge x))
         from (merge x) arrival =
             let (i, below, there) = of_joined cut x ((arrivals.exact x).1 arrival) in

@@ -18,7 +18,7 @@ pub fn rounds_begin_in_any_order()
         → IsTask task → IsReached task s → IsBetweenRounds s
         → ListsOnce (MayDrop task s) drops → ListsOnce (IsNext task s) takes
         → (Runs task s (map (λ l. drop l) drops ++ map (λ l. take l) takes) begun
-            ↔ IsBegun task s begun) }
+        ↔ IsBegun task s begun) }
     ensures begins { (task : Task) (s begun : SearchState)
         → IsTask task → IsReached task s → IsBetweenRounds s
         → (Begins task s begun ↔ IsBegun task s begun) }

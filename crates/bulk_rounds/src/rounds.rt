@@ -25,8 +25,9 @@ pub fn rounds_have_one_end()
         → (l : Label) × Contains after.settled l × (¬ Contains s.settled l) }
 {}
 
-/// There is one number of counted rounds, and it is at most 1 plus the greatest component sum of a relevant cost. A search
-/// that makes them one by one makes no more, and has more to come as long as some label stays within the budget.
+/// There is one number of counted rounds, and it is at most 1 plus the greatest component sum of a relevant cost. Rounds
+/// that are made one by one are no more than these, and more are to come as long as some label stays after the drops and
+/// no more labels are settled than the budget.
 pub fn rounds_are_counted()
     ensures some_number { (task : Task) (budget : ℕ)
         → IsTask task → (n : ℕ) × Rounds task budget n }
@@ -43,7 +44,7 @@ pub fn rounds_are_counted()
     ensures no_more { (task : Task) (budget k n : ℕ) (s : SearchState)
         → IsTask task → GoRounds task budget k (start_state task) s → Rounds task budget n → k ≤ n }
     ensures more_to_come { (task : Task) (budget k n : ℕ) (s : SearchState) (l : Label)
-        → IsTask task → GoRounds task budget k (start_state task) s → IsBetweenRounds s
+        → IsTask task → GoRounds task budget k (start_state task) s
         → ¬ HasMoreThan budget s.settled → Stays task s l → Rounds task budget n → k < n }
 {}
 

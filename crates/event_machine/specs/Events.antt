@@ -19,10 +19,11 @@ pub data Event : Type 0 where
 abbrev pub SameEntries : SearchState → SearchState → Type 0
 SameEntries a b = (place : Place) → SameMembers (entries_at a place) (entries_at b place)
 
--- Of the entries those stay that Stays holds of, each where it stands, and n comes to stand at the place `to`.
+-- Of the entries those are kept that Kept holds of, each where it stands, and n comes to stand at the place `to`. In each
+-- state to which events lead from the start, a label stands in one place at most.
 abbrev pub Becomes : SearchState → (Place → Label → Type 0) → Label → Place → SearchState → Type 0
-Becomes before Stays n to after = (place : Place) (y : Label) → Contains (entries_at after place) y
-    ↔ ((Contains (entries_at before place) y × Stays place y) ⊎ ((place ≡ to) × (y ≡ n)))
+Becomes before Kept n to after = (place : Place) (y : Label) → Contains (entries_at after place) y
+    ↔ ((Contains (entries_at before place) y × Kept place y) ⊎ ((place ≡ to) × (y ≡ n)))
 
 -- the same state: each set has the same members, and the candidates are the same up to order
 pub record IsSame (a b : SearchState) : Type 0 where

@@ -33,7 +33,7 @@ pub fn entries_below_settled_labels_stand()
         → y.node ≡ l.node → AtMost y.cost l.cost → (IsEntry s y ↔ IsEntry next y) }
 {}
 
-/// Where nothing waits, arrives or is still to be relaxed, the settled labels are exactly the relevant pairs.
+/// Where nothing waits, is a candidate or is still to be relaxed, the settled labels are exactly the relevant pairs.
 pub fn the_end_has_all_relevant_pairs()
     ensures { (task : Task) (s : SearchState) (v : ℕ) (c : List ℕ)
         → IsTask task → IsReached task s

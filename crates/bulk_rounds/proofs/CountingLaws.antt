@@ -15,7 +15,7 @@ use Rattle.event_machine.specs.Orders.{Stays, came, comes}
 use Rattle.list_laws.proofs.SetLaws.{none_of_empty, more_by_list}
 use Rattle.list_laws.proofs.OnceLaws.{empty_if_none}
 use Rattle.std.proofs.lemmas.List.Sorted.{Contains-permutation}
-use Rattle.list_laws.proofs.ToldLaws.{IsTold, told_some, told_in, list_all, once_as}
+use Rattle.list_laws.proofs.OnceLaws.{IsTold, told_some, told_in, list_all, once_as}
 use Rattle.event_machine.proofs.Sound.{cases_label, same_pair}
 use Rattle.event_machine.proofs.Running.{same_itself, same_back, same_through, drop_alike, runs_from_same}
 use Rattle.bulk_rounds.proofs.BegunLaws.{told_may_drop, told_stays}

@@ -1,9 +1,8 @@
 pub mod HappensLaws
 pub mod OutcomeLaws
 pub mod CompletesLaws
-pub mod FinishesLaws
 pub mod BegunLaws
+pub mod PieceLaws
 pub mod RoundLaws
 pub mod CountingLaws
 pub mod BudgetLaws
-pub mod PieceLaws

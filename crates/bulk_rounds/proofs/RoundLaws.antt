@@ -11,9 +11,9 @@ use Rattle.event_machine.specs.Rounds.{IsBetweenRounds, Begins, Finishes, Round,
 use Rattle.event_machine.specs.Orders.{Stays, IsNext, IsBegun, IsOutcome}
 use Rattle.event_machine.proofs.Sound.{IsSound}
 use Rattle.event_machine.proofs.Running.{same_back, runs_on, runs_from_same}
-use Rattle.list_laws.proofs.ToldLaws.{once_as}
+use Rattle.list_laws.proofs.OnceLaws.{once_as}
 use Rattle.bulk_rounds.proofs.BegunLaws.{drops_in_any_order, some_begun, begins_is_begun, one_begun}
-use Rattle.bulk_rounds.proofs.FinishesLaws.{some_outcome, finishes_is_outcome}
+use Rattle.bulk_rounds.proofs.CompletesLaws.{some_outcome, finishes_is_outcome}
 use Rattle.bulk_rounds.proofs.OutcomeLaws.{one_outcome}
 use Rattle.event_machine.proofs.Keeping.{changes_of, sound_after, sound_by_run, sound_if_reached}
 

@@ -27,8 +27,8 @@ pub fn rounds_begin_in_any_order()
 {}
 
 /// From a state without candidates each list of events that relaxes each pair and merges each arrival once, after it
-/// was relaxed, is a run, and all these runs lead to one state. Where all pairs are relaxed, each arrival is a candidate
-/// once.
+/// was relaxed, is a run, and all these runs lead to one state. Once all pairs are relaxed, the candidates are the
+/// arrivals, each once.
 pub fn rounds_end_in_any_order()
     ensures some_state { (task : Task) (s : SearchState)
         → IsTask task → IsReached task s → s.candidates ≡ []

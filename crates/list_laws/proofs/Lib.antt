@@ -7,5 +7,4 @@ pub mod FirstDifference
 pub mod LeastMember
 pub mod Retained
 pub mod SetLaws
-pub mod ToldLaws
 pub mod OnceLaws

@@ -1,7 +1,6 @@
 use Rattle.event_machine.proofs.Keeping.{sound_if_reached}
 use Rattle.bulk_rounds.proofs.OutcomeLaws.{one_outcome}
-use Rattle.bulk_rounds.proofs.CompletesLaws.{completes_to_outcome}
-use Rattle.bulk_rounds.proofs.FinishesLaws.{some_outcome, arrivals_when_relaxed, finishes_is_outcome}
+use Rattle.bulk_rounds.proofs.CompletesLaws.{completes_to_outcome, some_outcome, arrivals_when_relaxed, finishes_is_outcome}
 use Rattle.bulk_rounds.proofs.orders.rounds_end_in_any_order.Goals as goal
 
 pub returns-clause-some_state : goal.returns-clause-some_state

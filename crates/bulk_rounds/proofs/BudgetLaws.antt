@@ -57,7 +57,8 @@ module _ (task : Task) (is : IsTask task) (s : SearchState) (reached : IsReached
       → ¬ Passes task.network task.start task.target task.limit budget
   within_where_none_stays budget between none few passes =
       let all = all_settled task is s (sound_if_reached task is s reached) between.candidates between.unrelaxed none in
-      let labels = labels_of passes.pairs (All-weaker IsRelevantPair (λ p. HasSettled s p.0 p.1) (λ p relevant. all p.0 p.1 relevant) passes.pairs passes.relevant) in
+      let labels = labels_of passes.pairs
+      (All-weaker IsRelevantPair (λ p. HasSettled s p.0 p.1) (λ p relevant. all p.0 p.1 relevant) passes.pairs passes.relevant) in
       few (record {
         members = labels.0;
         more = sym (length-map labels.0 pair_of) ∙ ap length labels.1 ∙ passes.more;

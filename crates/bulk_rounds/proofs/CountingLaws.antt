@@ -35,7 +35,8 @@ cases_more n xs =
     ]
 
 more_on : (n : ℕ) (xs ys : List Label) → ((y : Label) → Contains xs y → Contains ys y) → HasMoreThan n xs → HasMoreThan n ys
-more_on n xs ys on more = more_by_list n ys more.members more.distinct (λ y there. on y (each_in (Contains xs) more.members more.each y there)) (omega (arith, more.more))
+more_on n xs ys on more =
+    more_by_list n ys more.members more.distinct (λ y there. on y (each_in (Contains xs) more.members more.each y there)) (omega (arith, more.more))
 
 module _ (task : Task) where
   -- some waiting label stays after the drops, or none does
@@ -92,7 +93,8 @@ module _ (task : Task) (is : IsTask task) (budget : ℕ) where
           (pairs_cons ◌≢◌ new.0 seen (λ y there same. new.2 (subst (Contains s.settled) (sym same) (each y there))) once)
           (λ y there. elim (cases_in new.0 seen y there) [ inl same ↦ subst (Contains after.settled) (sym same) new.1 | inr old ↦ kept y old ])
           (omega (arith, full)) in
-          (suc rest.0, record { last = rest.1.last; rounds = record { within = few; next = after; round = counts; rest = rest.1.rounds }; stops = rest.1.stops })
+          let rounds : GoRounds task budget (suc rest.0) s rest.1.last = record { within = few; next = after; round = counts; rest = rest.1.rounds } in
+          (suc rest.0, record { last = rest.1.last; rounds = rounds; stops = rest.1.stops })
     ]
   ]
 
@@ -153,7 +155,8 @@ module _ (task : Task) (is : IsTask task) (budget : ℕ) where
 
   -- ---- one round more, after those of before
 
-  counted_from_same : (a b t : SearchState) → IsSame a b → IsReached task a → IsReached task b → IsBetweenRounds a → CountedRound task b t → CountedRound task a t
+  counted_from_same : (a b t : SearchState) → IsSame a b → IsReached task a → IsReached task b → IsBetweenRounds a → CountedRound task b t
+      → CountedRound task a t
   counted_from_same a b t same reached reached_too between h =
       let stays = (left_after_drops task is b h.round.begun reached_too h.round.begins h.label).0 h.waits in
       counted task is a t reached (round_from_same task a b t same between h.round) h.label
@@ -226,20 +229,24 @@ module _ (task : Task) (is : IsTask task) (budget : ℕ) where
   abbrev IsRelevantLabel : Label → Type 0
   IsRelevantLabel l = IsRelevant task.network task.start task.target task.limit l.node l.cost
 
-  heavy_end : (n k : ℕ) (a b : SearchState) → IsReached task a → Weighs k a → GoRounds task budget (suc n) a b → (l : Label) × IsRelevantLabel l × (k + n ≤ sum l.cost)
+  heavy_end : (n k : ℕ) (a b : SearchState) → IsReached task a → Weighs k a → GoRounds task budget (suc n) a b
+      → (l : Label) × IsRelevantLabel l × (k + n ≤ sum l.cost)
   heavy_end zero k a b reached weighs go =
       let first = has_lightest task is a go.next reached go.round in
       let there = (taken_is_new task is a go.next reached go.round.round first.label first.next).0 in
       let sound = sound_if_reached task is go.next (reached_by_round task is a go.next reached go.round.round) in
       (first.label, sound.relevant first.label there, omega (arith, weighs first.label first.next.stays.waits))
   heavy_end (suc n) k a b reached weighs go =
-      let rest = heavy_end n (k + 1) go.next b (reached_by_round task is a go.next reached go.round.round) (heavier k a go.next reached go.round.round weighs) go.rest in
+      let next = reached_by_round task is a go.next reached go.round.round in
+      let rest = heavy_end n (k + 1) go.next b next (heavier k a go.next reached go.round.round weighs) go.rest in
       (rest.0, rest.1, omega (arith, rest.2))
 
   -- so many rounds take a label of no less a sum
   pub bounded : (n : ℕ) → Rounds task budget n
       → (v : ℕ) × (c : List ℕ) × IsRelevant task.network task.start task.target task.limit v c × (n ≤ sum c + 1)
-  bounded zero h = (task.start, replicate task.network.criteria 0, start_is_relevant task.network is.network task.start task.target task.limit is.start is.limit, omega arith)
+  bounded zero h =
+      let start = start_is_relevant task.network is.network task.start task.target task.limit is.start is.limit in
+      (task.start, replicate task.network.criteria 0, start, omega arith)
   bounded (suc n) h =
       let found = heavy_end n 0 (start_state task) h.last reached_at_start (λ y there. omega arith) h.rounds in
       (found.0.node, found.0.cost, found.1, omega (arith, found.2))

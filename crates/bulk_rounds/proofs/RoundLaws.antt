@@ -34,7 +34,8 @@ module _ (task : Task) (is : IsTask task) where
       ((changes_of task is run.from run.next event from run.step).entries.kept l ((run.same.entries settled l).1 there))
 
   reached_by_begins : (s t : SearchState) → IsReached task s → Begins task s t → IsReached task t
-  reached_by_begins s t reached h = reached_on h.left t (map (λ l. take l) h.takes) (reached_on s h.left (map (λ l. drop l) h.drops) reached h.dropping) h.taking
+  reached_by_begins s t reached h =
+      reached_on h.left t (map (λ l. take l) h.takes) (reached_on s h.left (map (λ l. drop l) h.drops) reached h.dropping) h.taking
 
   reached_before_merges : (s t : SearchState) → IsReached task s → (h : Finishes task s t) → IsReached task h.relaxed
   reached_before_merges s t reached h = reached_on s h.relaxed (map relaxing h.relaxes) reached h.relaxing_all
@@ -76,7 +77,8 @@ module _ (task : Task) (is : IsTask task) where
       let there = reached_by_begins s begun reached begins in
       let sound_begun = sound_if_reached task is begun there in
       let (after, outcome) = some_outcome task is begun sound_begun is_begun.candidates in
-      (after, record { between = between; begun = begun; begins = begins; finishes = (finishes_is_outcome task is begun sound_begun is_begun.candidates after).1 outcome })
+      let finishes = (finishes_is_outcome task is begun sound_begun is_begun.candidates after).1 outcome in
+      (after, record { between = between; begun = begun; begins = begins; finishes = finishes })
 
   module _ (s t : SearchState) (reached : IsReached task s) (round : Round task s t) where
     pub reached_begun : IsReached task round.begun

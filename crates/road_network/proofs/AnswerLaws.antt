@@ -35,7 +35,8 @@ module _ (net : Network) (s t : ℕ) where
   none_only_where_no_walk is p c answer walk =
       let below = each_has_best_below net is p s t c walk in
       let path = below.best.reached in
-      in_none below.cost ((answer.exact below.cost).1 (below.best, Within-no_limit net.criteria below.cost (length_of_walk net is path.0 s t below.cost path.1)))
+      let long = length_of_walk net is path.0 s t below.cost path.1 in
+      in_none below.cost ((answer.exact below.cost).1 (below.best, Within-no_limit net.criteria below.cost long))
 
   -- ---- with walks
 

@@ -10,7 +10,7 @@ use Rattle.gr_reader.specs.declared.fault.LineKind.TheVariants.{LineTooLong, Fil
 use Rattle.gr_reader.specs.declared.form.Form.{Form}
 use Rattle.gr_reader.specs.Forms.{form_of, capped}
 use Rattle.gr_reader.specs.Kinds.{told_as}
-use Rattle.gr_reader.specs.Reader.{file_limits, state_of}
+use Rattle.gr_reader.specs.Reader.{file_limits, line_state}
 use Rattle.gr_reader.specs.Steps.{Skips, FindsForm, FindsFault}
 use Rattle.gr_reader.proofs.LineSteps.{given, told_of-taken, told_of-broken}
 use Rattle.gr_reader.proofs.Capping.{given-capped}
@@ -63,7 +63,7 @@ module _ (old now new : Reading) (after : Option (List ℕ)) (limits : new.limit
         left = taken.left;
         told = λ sizes come small.
             let first = told_of-taken now new more after taken limits (sym number) sizes come in
-            let same = given-capped (file_limits new.limits) (new.passed + length (after_line more)) sizes come small (state_of new sizes come)
+            let same = given-capped (file_limits new.limits) (new.passed + length (after_line more)) sizes come small (line_state new sizes come)
             (lines_of (after_line more)) line.0 in
             skips sizes come small ∙ (rw line.1 at first) ∙ (rw (← line.2) at same);
       }

@@ -1,7 +1,7 @@
 use Rattle.std.proofs.Common.{rules, sym}
 use Rattle.std.proofs.lemmas.Option.{MatchOption-at_none}
 use Rattle.gr_reader.proofs.Finding.{joined, skips_line, finds_form, finds_fault}
-use Rattle.gr_reader.proofs.Taking.{loses_none-joined}
+use Rattle.gr_reader.proofs.TakesLemmas.{loses_none-then}
 use Rattle.gr_reader.proofs.gr_lines.next_form.Goals as goal
 
 pub returns-in-Err-clause-tells : goal.returns-in-Err-clause-tells
@@ -29,7 +29,7 @@ lines-preserved g c =
     record {
       limits = search rules;
       goes_on = search rules;
-      loses_none = loses_none-joined c.args.lines.now c.lines.lines c.next_line.new.self _ _ _ c.lines.invariant.loses_none c.in-Ok-true.ensures.loses_none;
+      loses_none = loses_none-then c.args.lines.now c.lines.lines c.next_line.new.self _ _ _ c.lines.invariant.loses_none c.in-Ok-true.ensures.loses_none;
       count = search rules;
       files = search rules;
       skips = joined _ _ _ c.lines.invariant.skips tells

@@ -1,0 +1,15 @@
+use Rattle.std.proofs.Common.{◌≡◌}
+use Rattle.gr_reader.specs.Reader.{Takes, unread}
+use Rattle.gr_reader.proofs.HasComeLemmas.{HasCome, arcs_left}
+use Rattle.gr_reader.proofs.read.read_into.Given as goal
+
+abbrev pub invariant-arcs : goal.invariant-arcs
+invariant-arcs g l = record {
+  come : HasCome l.fn.limits l.lines (g.S.Source.left l.fn.source) (g.S.Source.left l.source) (g.A.ArcSink.has_taken l.fn.sink l.sink);
+  takes : Takes (unread l.fn.limits).lines l.lines.lines (g.S.Source.left l.fn.source) (g.S.Source.left l.source);
+  count : g.S.Source.faults l.source ≡ g.S.Source.faults l.fn.source;
+  files : g.S.Source.files l.source ≡ g.S.Source.files l.fn.source;
+}
+
+abbrev pub decreases-arcs : goal.decreases-arcs
+decreases-arcs g l = arcs_left l.lines.stage

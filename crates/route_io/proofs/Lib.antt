@@ -1,2 +1,3 @@
-pub mod Naming
-pub mod Sending
+pub mod FileLemmas
+pub mod ReadsLemmas
+pub mod SendsLemmas

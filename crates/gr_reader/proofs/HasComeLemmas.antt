@@ -1,10 +1,12 @@
 -- The arcs of a file that have come to a sink, and what is told of those that follow.
 use Rattle.std.proofs.Common.{◌≡◌, ℕ, ◌+◌, ◌-◌, ◌≤◌, List, [], ◌∷◌, ◌++◌, Option, Some, None, IfSome, IsSomeAnd, Ok, Err, length, refl, sym, ap, ◌∙◌, append_assoc}
 use Rattle.std.proofs.lemmas.List.{append-nil, length_push}
+use Rattle.std.specs.Io.KnownBytes.{prepend_known}
+use Rattle.route_io.specs.Sources.{SourceState}
 use Rattle.road_network.specs.Limits.{max_arcs}
 use Rattle.arc_graph.specs.declared.file.ArcLine.{ArcLine}
 use Rattle.arc_graph.specs.Files.{Contents, empty_file, with_arc}
-use Rattle.line_text.specs.Reading.{Reading, rest_of}
+use Rattle.line_text.specs.Reading.{Lines, rest_of}
 use Rattle.gr_reader.specs.declared.fault.FileFault.{FileFault}
 use Rattle.gr_reader.specs.declared.fault.FileFault.TheVariants.{Line, Read, OutOfMemory}
 use Rattle.gr_reader.specs.declared.fault.FileLimits.{FileLimits}
@@ -21,14 +23,14 @@ use Rattle.gr_reader.proofs.Finding.{joined}
 pub record Collects (arcs : List ArcLine) (whole later : Told) : Type 0 where
   pub parts : whole ≡ record later { arcs = arcs ++ later.arcs }
 
--- This of the file has come to what has taken it. Where the text is known, what is left of it gives the others.
-pub record HasCome (limits : FileLimits) (lines : GrLines) (text left : Option (List ℕ)) (HasTaken : ℕ → Contents → Type 0) : Type 0 where
+-- This of a file has come to a sink. Where the source told the text at the start, what is left now gives the rest of the file.
+pub record HasCome (limits : FileLimits) (lines : GrLines) (start now : SourceState) (HasTaken : ℕ → Contents → Type 0) : Type 0 where
   pub file : Contents
   pub arcs : ℕ
   pub at : lines.stage ≡ Arcs file.nodes arcs (length file.arcs)
   pub most : arcs ≤ max_arcs
   pub taken : HasTaken arcs file
-  pub told : IfSome text (λ bytes. IsSomeAnd (rest_of lines.lines left)
+  pub told : IfSome start.left (λ bytes. IsSomeAnd (rest_of lines.lines now)
       (λ rest. Collects file.arcs (read_rest limits at_start bytes) (told_of lines.lines (said file.nodes arcs) (length file.arcs) rest)))
 
 -- how many arcs are still to come
@@ -37,11 +39,13 @@ arcs_left (Arcs nodes arcs come) = arcs - come
 arcs_left other = 0
 
 -- what is told of the rest before the first line is told of the text
-of_start : (limits : FileLimits) (text : Option (List ℕ)) (P : Told → Type 0) {Q : List ℕ → Type 0}
-    → IfSome (rest_of (unread limits).lines text) (λ rest. P (told_of (unread limits).lines None 0 rest))
-    → ((bytes : List ℕ) → P (read_rest limits at_start bytes) → Q bytes) → IfSome text Q
-of_start limits None P told each = tt
-of_start limits (Some bytes) P told each = each bytes told
+of_start : (limits : FileLimits) (source : SourceState) (P : Told → Type 0) {Q : List ℕ → Type 0}
+    → IfSome (rest_of (unread limits).lines source) (λ rest. P (told_of (unread limits).lines None 0 rest))
+    → ((bytes : List ℕ) → P (read_rest limits at_start bytes) → Q bytes) → IfSome source.left Q
+of_start limits source P {Q} told each = by_left source.left told where
+  by_left : (left : Option (List ℕ)) → IfSome (prepend_known [] left) (λ rest. P (told_of (unread limits).lines None 0 rest)) → IfSome left Q
+  by_left None told = tt
+  by_left (Some bytes) told = each bytes told
 
 first_fault : (limits : FileLimits) (bytes : List ℕ) (arcs : List ArcLine) (later : Told) (sizes : Option Sizes) (fault : FileFault)
     → Collects arcs (read_rest limits at_start bytes) later → FaultTold sizes later fault → IsFirstFault limits bytes fault
@@ -50,35 +54,35 @@ first_fault limits bytes arcs later sizes (Line kind line) collects told =
 first_fault limits bytes arcs later sizes Read collects told = tt
 first_fault limits bytes arcs later sizes OutOfMemory collects told = tt
 
-module _ (limits : FileLimits) (text : Option (List ℕ)) where
+module _ (limits : FileLimits) (start : SourceState) where
   -- the file has a fault where its sizes should be
-  pub begins_badly : (new : Reading) (left : Option (List ℕ)) (fault : FileFault) → BeginTells (unread limits).lines new text left (Err fault)
-      → IfSome text (λ bytes. IsFirstFault limits bytes fault)
-  begins_badly new left fault tells =
-      of_start limits text (λ told. SizesTold new told (rest_of new left) (Err fault)) tells
+  pub begins_badly : (new : Lines) (now : SourceState) (fault : FileFault) → BeginTells (unread limits).lines new start now (Err fault)
+      → IfSome start.left (λ bytes. IsFirstFault limits bytes fault)
+  begins_badly new now fault tells =
+      of_start limits start (λ told. SizesTold new told (rest_of new now) (Err fault)) tells
       (λ bytes told. first_fault limits bytes [] _ None fault (record { parts = refl }) told)
 
   -- no arc has come yet
-  pub has_come-none : (new : GrLines) (left : Option (List ℕ)) (nodes arcs : ℕ) (HasTaken : ℕ → Contents → Type 0) → new.stage ≡ Arcs nodes arcs 0
-      → arcs ≤ max_arcs → BeginTells (unread limits).lines new.lines text left (Ok (nodes, arcs)) → HasTaken arcs (empty_file nodes)
-      → HasCome limits new text left HasTaken
-  has_come-none new left nodes arcs HasTaken at most tells taken =
+  pub has_come-none : (new : GrLines) (now : SourceState) (nodes arcs : ℕ) (HasTaken : ℕ → Contents → Type 0) → new.stage ≡ Arcs nodes arcs 0
+      → arcs ≤ max_arcs → BeginTells (unread limits).lines new.lines start now (Ok (nodes, arcs)) → HasTaken arcs (empty_file nodes)
+      → HasCome limits new start now HasTaken
+  has_come-none new now nodes arcs HasTaken at most tells taken =
       record {
         file = empty_file nodes;
         arcs = arcs;
         at = at;
         most = most;
         taken = taken;
-        told = of_start limits text (λ told. SizesTold new.lines told (rest_of new.lines left) (Ok (nodes, arcs))) tells
+        told = of_start limits start (λ told. SizesTold new.lines told (rest_of new.lines now) (Ok (nodes, arcs))) tells
             (λ bytes tells. rw tells.left (record { parts = tells.same }));
       }
 
-  module _ (old : GrLines) (left : Option (List ℕ)) (HasTaken : ℕ → Contents → Type 0) (come : HasCome limits old text left HasTaken) (new : GrLines)
-      (after : Option (List ℕ)) where
+  module _ (old : GrLines) (now : SourceState) (HasTaken : ℕ → Contents → Type 0) (come : HasCome limits old start now HasTaken) (new : GrLines)
+      (after : SourceState) where
     -- one more arc has come
     pub has_come-more : (arc : ArcLine) (HasMore : ℕ → Contents → Type 0) → Moves old.stage new.stage (Ok (Some arc))
-        → WhereArcs old.stage (λ nodes arcs come. ArcTells (said nodes arcs) come old.lines new.lines left after (Ok (Some arc)))
-        → ((arcs : ℕ) (file : Contents) → HasTaken arcs file → HasMore arcs (with_arc file arc)) → HasCome limits new text after HasMore
+        → WhereArcs old.stage (λ nodes arcs come. ArcTells (said nodes arcs) come old.lines new.lines now after (Ok (Some arc)))
+        → ((arcs : ℕ) (file : Contents) → HasTaken arcs file → HasMore arcs (with_arc file arc)) → HasCome limits new start after HasMore
     has_come-more arc HasMore moves tells takes =
         let comes : ArcComes come.file.nodes come.arcs (length come.file.arcs) new.stage arc = rw come.at at moves in
         let count = length_push come.file.arcs arc in
@@ -88,7 +92,7 @@ module _ (limits : FileLimits) (text : Option (List ℕ)) where
           at = comes.counted ∙ ap (Arcs come.file.nodes come.arcs) (sym count);
           most = come.most;
           taken = takes come.arcs come.file come.taken;
-          told = joined text (rest_of old.lines left) _ come.told (rw come.at at tells)
+          told = joined start.left (rest_of old.lines now) _ come.told (rw come.at at tells)
               (λ bytes rest collects tells.
               rw (tells.left, count)
               (record {
@@ -100,14 +104,14 @@ module _ (limits : FileLimits) (text : Option (List ℕ)) where
 
     -- all arcs have come
     pub has_come-whole : Moves old.stage new.stage (Ok None)
-        → WhereArcs old.stage (λ nodes arcs come. ArcTells (said nodes arcs) come old.lines new.lines left after (Ok None))
-        → TakesFile limits text HasTaken
+        → WhereArcs old.stage (λ nodes arcs come. ArcTells (said nodes arcs) come old.lines new.lines now after (Ok None))
+        → TakesFile limits start.left HasTaken
     has_come-whole moves tells =
         let all : (length come.file.arcs ≡ come.arcs) × (new.stage ≡ Whole) = rw come.at at moves in
         record {
           file = come.file;
           taken = rw all.0 come.taken;
-          is_gr = joined text (rest_of old.lines left) _ come.told (rw come.at at tells)
+          is_gr = joined start.left (rest_of old.lines now) _ come.told (rw come.at at tells)
               (λ bytes rest collects told.
               let at : ℕ → List ArcLine → Told = λ n arcs. record { sizes = said come.file.nodes n; arcs = arcs; end = None } in
               read_is_file limits bytes come.file.nodes come.file.arcs
@@ -117,8 +121,8 @@ module _ (limits : FileLimits) (text : Option (List ℕ)) where
 
     -- the file has a fault where an arc or its end should be
     pub has_come-badly : (fault : FileFault)
-        → WhereArcs old.stage (λ nodes arcs come. ArcTells (said nodes arcs) come old.lines new.lines left after (Err fault))
-        → IfSome text (λ bytes. IsFirstFault limits bytes fault)
+        → WhereArcs old.stage (λ nodes arcs come. ArcTells (said nodes arcs) come old.lines new.lines now after (Err fault))
+        → IfSome start.left (λ bytes. IsFirstFault limits bytes fault)
     has_come-badly fault tells =
-        joined text (rest_of old.lines left) _ come.told (rw come.at at tells)
+        joined start.left (rest_of old.lines now) _ come.told (rw come.at at tells)
         (λ bytes rest collects told. first_fault limits bytes come.file.arcs _ _ fault collects told)

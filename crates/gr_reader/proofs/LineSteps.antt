@@ -5,7 +5,7 @@ use Rattle.line_text.specs.declared.limits.LineFault.{LineFault}
 use Rattle.line_text.specs.declared.limits.LineLimits.{LineLimits}
 use Rattle.line_text.specs.Lines.{first_lf, raw_line, after_line, line_size, without_cr, lines_of}
 use Rattle.line_text.specs.Marks.{line_fault, first_fault, line_answer, answer_of}
-use Rattle.line_text.specs.Reading.{Reading, TakesLine}
+use Rattle.line_text.specs.Reading.{Lines, TakesLine}
 use Rattle.line_text.proofs.LineLemmas.{first_lf-le, length-raw_line, lines_of-first}
 use Rattle.gr_reader.specs.declared.fault.FileLimits.{FileLimits}
 use Rattle.gr_reader.specs.declared.fault.LineKind.{LineKind}
@@ -45,7 +45,7 @@ line_kind-known limits total state line size broken sized e =
     (ap (line_fault limits state.passed (length line)) sized ∙ e)
 
 -- the place behind a line
-past-is : (total : ℕ) (old : Reading) (sizes : Option Sizes) (come : ℕ) (line : List ℕ) (number passed : ℕ) → number ≡ old.number + 1
+past-is : (total : ℕ) (old : Lines) (sizes : Option Sizes) (come : ℕ) (line : List ℕ) (number passed : ℕ) → number ≡ old.number + 1
     → passed ≡ old.passed + size_in total old.passed line
     → past total (line_state old sizes come) line ≡ record { sizes = sizes; come = come; number = number; passed = passed }
 past-is total old sizes come line number passed e f =
@@ -53,7 +53,7 @@ past-is total old sizes come line number passed e f =
     ap (λ n. at n (old.passed + size_in total old.passed line)) (sym e) ∙ ap (at number) (sym f)
 
 -- A line of the rest breaks a limit.
-module _ (old : Reading) (rest : List ℕ) (sizes : Option Sizes) (come : ℕ) (some : 0 < length rest) where
+module _ (old : Lines) (rest : List ℕ) (sizes : Option Sizes) (come : ℕ) (some : 0 < length rest) where
   pub told_of-broken : (fault : LineFault) (kind : LineKind) → limit_kind (Some fault) ≡ Some kind → first_fault old.limits old.passed rest ≡ Some fault
       → told_of old sizes come rest ≡ record { sizes = sizes; arcs = []; end = Some (record { kind = kind; line = old.number + 1 }) }
   unfolding given
@@ -68,7 +68,7 @@ module _ (old : Reading) (rest : List ℕ) (sizes : Option Sizes) (come : ℕ) (
       (lines_of (after_line rest))) kind_is
 
 -- The first line of the rest is taken.
-module _ (old new : Reading) (rest : List ℕ) (after : Option (List ℕ)) (taken : TakesLine old new rest after) (limits : new.limits ≡ old.limits)
+module _ (old new : Lines) (rest : List ℕ) (after : Option (List ℕ)) (taken : TakesLine old new rest after) (limits : new.limits ≡ old.limits)
     (number : new.number ≡ old.number + 1) where
   unbroken : first_fault old.limits old.passed rest ≡ None
   unbroken = by_rest rest taken.answer where

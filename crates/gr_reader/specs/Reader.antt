@@ -1,11 +1,11 @@
 -- What a reader of a weight file shows, and what its answers say.
-use Rattle.std.specs.Prelude.{◌≡◌, ◌≢◌, ℕ, ◌+◌, ◌^◌, ◌<◌, ◌≤◌, ⊤, IfSome, IsSomeAnd, List, [], length, Option, Some, None, Result, Ok, Err}
-use Rattle.route_io.specs.Causes.{Rose}
+use Rattle.std.specs.Prelude.{◌≡◌, ◌≢◌, ℕ, ◌+◌, ◌^◌, ◌<◌, ◌≤◌, ⊤, IfSome, IsSomeAnd, Bool, true, false, List, [], length, Option, Some, None, Result, Ok, Err}
+use Rattle.route_io.specs.Sources.{SourceState}
 use Rattle.road_network.specs.Limits.{max_nodes, max_arcs}
 use Rattle.arc_graph.specs.declared.file.ArcLine.{ArcLine}
 use Rattle.arc_graph.specs.Files.{Contents}
 use Rattle.line_text.specs.declared.limits.LineLimits.{LineLimits}
-use Rattle.line_text.specs.Reading.{Reading, InLimits, LosesNone, begun, rest_of}
+use Rattle.line_text.specs.Reading.{Lines, InLimits, LosesNone, begun, rest_of}
 use Rattle.gr_reader.specs.declared.fault.FileFault.{FileFault}
 use Rattle.gr_reader.specs.declared.fault.FileFault.TheVariants.{Line, Read, OutOfMemory}
 use Rattle.gr_reader.specs.declared.fault.FileLimits.{FileLimits}
@@ -18,7 +18,7 @@ use Rattle.gr_reader.specs.Grammar.{IsArc, IsGr, GrFault, form_of_arc}
 
 -- a reader of a weight file: its lines, and how far it has come
 pub record GrLines : Type 0 where
-  pub lines : Reading
+  pub lines : Lines
   pub stage : Stage
 
 -- a reader before its first line
@@ -32,14 +32,14 @@ pub record AreSizes (nodes arcs : ℕ) : Type 0 where
   pub most_arcs : arcs ≤ max_arcs
 
 -- what every reader keeps at a stage: at most all arcs have come, and the lines go on until the end
-abbrev pub IsStage : Reading → Stage → Type 0
+abbrev pub IsStage : Lines → Stage → Type 0
 IsStage lines Unread = lines.fault ≡ None
 IsStage lines (Arcs nodes arcs come) = AreSizes nodes arcs × (come ≤ arcs) × (lines.fault ≡ None)
 IsStage lines Whole = ⊤
 IsStage lines (Failed fault) = fault ≢ OutOfMemory
 
 -- what every reader keeps
-pub record IsReader (lines : Reading) (stage : Stage) : Type 0 where
+pub record IsReader (lines : Lines) (stage : Stage) : Type 0 where
   pub file : lines.limits.total ≤ 2 ^ 63
   pub in_limits : InLimits lines
   pub at_stage : IsStage lines stage
@@ -81,11 +81,11 @@ abbrev pub file_limits : LineLimits → FileLimits
 file_limits limits = record { line = limits.line; file = limits.total }
 
 -- the state behind the current line, with these sizes and so many arc lines
-abbrev pub line_state : Reading → Option Sizes → ℕ → State
+abbrev pub line_state : Lines → Option Sizes → ℕ → State
 line_state lines sizes come = record { sizes = sizes; come = come; number = lines.number; passed = lines.passed }
 
 -- what the rest of the file gives from there on
-abbrev pub told_of : Reading → Option Sizes → ℕ → List ℕ → Told
+abbrev pub told_of : Lines → Option Sizes → ℕ → List ℕ → Told
 told_of lines sizes come rest = read_rest (file_limits lines.limits) (line_state lines sizes come) rest
 
 -- no more arcs are told, and then this end
@@ -100,55 +100,58 @@ FaultTold sizes told OutOfMemory = ⊤
 
 -- The first problem line is accepted, and it says so many nodes and arcs. What is left gives the same as what was left
 -- before.
-pub record TellsSizes (new : Reading) (told : Told) (after : Option (List ℕ)) (nodes arcs : ℕ) : Type 0 where
+pub record TellsSizes (new : Lines) (told : Told) (after : Option (List ℕ)) (nodes arcs : ℕ) : Type 0 where
   pub rest : List ℕ
   pub left : after ≡ Some rest
   pub sizes_are : told.sizes ≡ said nodes arcs
   pub same : told ≡ told_of new (said nodes arcs) 0 rest
 
 -- what `begin` answers where this was told of what was left before
-abbrev pub SizesTold : Reading → Told → Option (List ℕ) → Result (ℕ × ℕ) FileFault → Type 0
+abbrev pub SizesTold : Lines → Told → Option (List ℕ) → Result (ℕ × ℕ) FileFault → Type 0
 SizesTold new told after (Ok answer) = TellsSizes new told after answer.0 answer.1
 SizesTold new told after (Err fault) = FaultTold None told fault
 
 -- the same of a reader and its source, where the source tells what it has left
-abbrev pub BeginTells : Reading → Reading → Option (List ℕ) → Option (List ℕ) → Result (ℕ × ℕ) FileFault → Type 0
+abbrev pub BeginTells : Lines → Lines → SourceState → SourceState → Result (ℕ × ℕ) FileFault → Type 0
 BeginTells old new before after result =
     IfSome (rest_of old before) (λ rest. SizesTold new (told_of old None 0 rest) (rest_of new after) result)
 
 -- This arc is told first, and what is left gives the others and the same end.
-pub record TellsArc (new : Reading) (sizes : Option Sizes) (come : ℕ) (told : Told) (after : Option (List ℕ)) (arc : ArcLine) : Type 0 where
+pub record TellsArc (new : Lines) (sizes : Option Sizes) (come : ℕ) (told : Told) (after : Option (List ℕ)) (arc : ArcLine) : Type 0 where
   pub rest : List ℕ
   pub left : after ≡ Some rest
   pub first : told ≡ with_line (Some (form_of_arc arc)) (told_of new sizes (come + 1) rest)
 
 -- what `next_arc` answers where this was told of what was left before
-abbrev pub ArcTold : Reading → Option Sizes → ℕ → Told → Option (List ℕ) → Result (Option ArcLine) FileFault → Type 0
+abbrev pub ArcTold : Lines → Option Sizes → ℕ → Told → Option (List ℕ) → Result (Option ArcLine) FileFault → Type 0
 ArcTold new sizes come told after (Ok (Some arc)) = TellsArc new sizes come told after arc
 ArcTold new sizes come told after (Ok None) = told ≡ ends_with sizes None
 ArcTold new sizes come told after (Err fault) = FaultTold sizes told fault
 
 -- the same of a reader and its source
-abbrev pub ArcTells : Option Sizes → ℕ → Reading → Reading → Option (List ℕ) → Option (List ℕ) → Result (Option ArcLine) FileFault → Type 0
+abbrev pub ArcTells : Option Sizes → ℕ → Lines → Lines → SourceState → SourceState → Result (Option ArcLine) FileFault → Type 0
 ArcTells sizes come old new before after result =
     IfSome (rest_of old before) (λ rest. ArcTold new sizes come (told_of old sizes come rest) (rest_of new after) result)
 
 -- What was taken from a source stays in the limits: at most one byte past the total in all. No byte is lost.
-pub record Takes (old new : Reading) (before after : Option (List ℕ)) : Type 0 where
+pub record Takes (old new : Lines) (before after : SourceState) : Type 0 where
   pub limits : new.limits ≡ old.limits
   pub in_limits : InLimits new
   pub loses_none : LosesNone old new before after
 
--- A failed read comes only where the source's count rose. Any other answer leaves the count as it was.
-abbrev pub ReadHasCause : {T : Type 0} → ℕ → ℕ → Result T FileFault → Type 0
-ReadHasCause before now (Err Read) = Rose before now
-ReadHasCause before now (Err OutOfMemory) = now ≡ before
-ReadHasCause before now (Err (Line kind line)) = now ≡ before
-ReadHasCause before now (Ok value) = now ≡ before
+-- the test that this answer says that the source failed
+abbrev pub file_failed : {T : Type 0} → Result T FileFault → Bool
+file_failed (Err Read) = true
+file_failed other = false
+
+-- the same of a call at a stage, of which only those that read can fail
+abbrev pub read_failed : {T : Type 0} → Stage → Result T FileFault → Bool
+read_failed (Arcs nodes arcs come) result = file_failed result
+read_failed other result = false
 
 -- at most so many bytes were taken from a source, which still tells what is left where it told it before
-abbrev pub TakesAtMost : ℕ → Option (List ℕ) → Option (List ℕ) → Type 0
-TakesAtMost most before after = IfSome before (λ bytes. IsSomeAnd after (λ rest. length bytes ≤ length rest + most))
+abbrev pub TakesAtMost : ℕ → SourceState → SourceState → Type 0
+TakesAtMost most before after = IfSome before.left (λ bytes. IsSomeAnd after.left (λ rest. length bytes ≤ length rest + most))
 
 -- the fault of a line is the first of the text
 abbrev pub IsFirstFault : FileLimits → List ℕ → FileFault → Type 0

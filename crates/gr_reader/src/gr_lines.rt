@@ -1,16 +1,18 @@
 ghost use Rattle.std.specs.Prelude.{◌≡◌, ◌≢◌, ◌≤◌, ◌<◌, ◌^◌, ◌+◌, None, Some, Ok, Err, IfOk, IfSome, IfErr, OnOk, OnSome};
 ghost use Rattle.std.specs.Result.{result_err};
+ghost use Rattle.route_io.specs.Sources.{ReadsFrom};
 ghost use Rattle.road_network.specs.Limits.{max_nodes};
+ghost use Rattle.line_text.specs.Reading.{max_line};
 ghost use Rattle.gr_reader.specs.Grammar.{IsArc, form_of_arc};
 ghost use Rattle.gr_reader.specs.Steps.{FormTells, IsAccepted, range_kind};
 ghost use Rattle.gr_reader.specs.Table.{form_kind, in_range, said};
-ghost use Rattle.gr_reader.specs.Reader.{ArcTells, AreSizes, BeginTells, IsEnded, Moves, ReadHasCause, Takes, WhereArcs, stage_begun, unread};
+ghost use Rattle.gr_reader.specs.Reader.{ArcTells, AreSizes, BeginTells, IsEnded, Moves, Takes, WhereArcs, file_failed, read_failed, stage_begun, unread};
 
 use crate::fault::{FileFault, FileLimits, LineKind};
 use crate::form::{Form, form_of};
 use arc_graph::ArcLine;
 use cost_vector::OutOfMemory;
-use line_text::{LONGEST_LINE, LineLimits, Lines};
+use line_text::{LineLimits, Lines};
 use road_network::{MAX_ARCS, MAX_NODES};
 use route_io::Source;
 use std::alloc::Global;
@@ -50,7 +52,7 @@ impl GrLines {
     /// Takes the one buffer that the reader has.
     pub fn new(alloc: Global, limits: FileLimits) -> Result<GrLines, OutOfMemory>
         requires some { 1 ≤ limits.line }
-        requires line { limits.line ≤ LONGEST_LINE }
+        requires line { limits.line ≤ max_line }
         requires file { limits.file ≤ 2 ^ 63 }
         ensures { IfOk result (λ gr. gr ≡ unread limits) }
     {
@@ -75,14 +77,12 @@ impl GrLines {
 
         // Where the source tells its bytes, the answer is that of the file's text, and no byte is lost.
         ensures tells { BeginTells
-            self.old.lines self.new.lines (S.left source.old) (S.left source.new) result }
+            self.old.lines self.new.lines (S.state source.old) (S.state source.new) result }
         ensures takes { Takes
-            self.old.lines self.new.lines (S.left source.old) (S.left source.new) }
+            self.old.lines self.new.lines (S.state source.old) (S.state source.new) }
 
         // The source's failures alone make a failed read.
-        ensures cause { ReadHasCause (S.faults source.old) (S.faults source.new) result }
-        ensures never_falls { S.faults source.old ≤ S.faults source.new }
-        ensures files { S.files source.new ≡ S.files source.old }
+        ensures source { ReadsFrom (S.state source.old) (S.state source.new) (file_failed result) }
     {
         let answer = read_sizes(&mut self.lines, source);
         self.stage = match answer {
@@ -110,15 +110,13 @@ impl GrLines {
 
         // Where the source tells its bytes, the answer is that of the file's text, and no byte is lost.
         ensures tells { WhereArcs self.old.stage (λ nodes arcs come. ArcTells (said nodes arcs) come
-            self.old.lines self.new.lines (S.left source.old) (S.left source.new) result) }
+            self.old.lines self.new.lines (S.state source.old) (S.state source.new) result) }
         ensures takes { Takes
-            self.old.lines self.new.lines (S.left source.old) (S.left source.new) }
+            self.old.lines self.new.lines (S.state source.old) (S.state source.new) }
 
         // The source's failures alone make a failed read.
-        ensures cause { WhereArcs self.old.stage (λ nodes arcs come.
-            ReadHasCause (S.faults source.old) (S.faults source.new) result) }
-        ensures never_falls { S.faults source.old ≤ S.faults source.new }
-        ensures files { S.files source.new ≡ S.files source.old }
+        ensures source { ReadsFrom
+            (S.state source.old) (S.state source.new) (read_failed self.old.stage result) }
     {
         let (nodes, arcs, come) = match self.stage {
             Stage::Unread => unreachable!(),
@@ -147,8 +145,8 @@ fn read_sizes<S: Source>(lines: &mut Lines, source: &mut S) -> Result<(u32, u32)
 
     // Where the source tells its bytes, the answer is that of the file's text, and no byte is lost.
     ensures tells { BeginTells
-        lines.old lines.new (S.left source.old) (S.left source.new) result }
-    ensures takes { Takes lines.old lines.new (S.left source.old) (S.left source.new) }
+        lines.old lines.new (S.state source.old) (S.state source.new) result }
+    ensures takes { Takes lines.old lines.new (S.state source.old) (S.state source.new) }
 
     // What holds over every source.
     ensures goes_on { OnOk result (lines.new.fault ≡ None) }
@@ -156,9 +154,7 @@ fn read_sizes<S: Source>(lines: &mut Lines, source: &mut S) -> Result<(u32, u32)
     ensures takes_no_memory { result ≢ Err FileFault.OutOfMemory }
 
     // The source's failures alone make a failed read.
-    ensures cause { ReadHasCause (S.faults source.old) (S.faults source.new) result }
-    ensures never_falls { S.faults source.old ≤ S.faults source.new }
-    ensures files { S.files source.new ≡ S.files source.old }
+    ensures source { ReadsFrom (S.state source.old) (S.state source.new) (file_failed result) }
 {
     match next_form(lines, source)? {
         Some(form) => match sizes_of(form) {
@@ -183,8 +179,8 @@ fn read_arc<S: Source>(
 
     // Where the source tells its bytes, the answer is that of the file's text, and no byte is lost.
     ensures tells { ArcTells (said nodes arcs) come
-        lines.old lines.new (S.left source.old) (S.left source.new) result }
-    ensures takes { Takes lines.old lines.new (S.left source.old) (S.left source.new) }
+        lines.old lines.new (S.state source.old) (S.state source.new) result }
+    ensures takes { Takes lines.old lines.new (S.state source.old) (S.state source.new) }
 
     // What holds over every source.
     ensures goes_on { OnOk result (lines.new.fault ≡ None) }
@@ -194,9 +190,7 @@ fn read_arc<S: Source>(
     ensures takes_no_memory { result ≢ Err FileFault.OutOfMemory }
 
     // The source's failures alone make a failed read.
-    ensures cause { ReadHasCause (S.faults source.old) (S.faults source.new) result }
-    ensures never_falls { S.faults source.old ≤ S.faults source.new }
-    ensures files { S.files source.new ≡ S.files source.old }
+    ensures source { ReadsFrom (S.state source.old) (S.state source.new) (file_failed result) }
 {
     match next_form(lines, source)? {
         Some(form) => match arc_in(form, nodes, arcs, come) {
@@ -215,17 +209,15 @@ fn next_form<S: Source>(lines: &mut Lines, source: &mut S) -> Result<Option<Form
 
     // Where the source tells its bytes, the answer is that of the file's text, and no byte is lost.
     ensures tells { FormTells
-        lines.old lines.new (S.left source.old) (S.left source.new) result }
-    ensures takes { Takes lines.old lines.new (S.left source.old) (S.left source.new) }
+        lines.old lines.new (S.state source.old) (S.state source.new) result }
+    ensures takes { Takes lines.old lines.new (S.state source.old) (S.state source.new) }
 
     // What holds over every source.
     ensures goes_on { OnOk result (lines.new.fault ≡ None) }
     ensures takes_no_memory { result ≢ Err FileFault.OutOfMemory }
 
     // The source's failures alone make a failed read.
-    ensures cause { ReadHasCause (S.faults source.old) (S.faults source.new) result }
-    ensures never_falls { S.faults source.old ≤ S.faults source.new }
-    ensures files { S.files source.new ≡ S.files source.old }
+    ensures source { ReadsFrom (S.state source.old) (S.state source.new) (file_failed result) }
 {
     'lines: loop {
         match lines.next_line(source) {

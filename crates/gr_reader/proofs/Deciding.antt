@@ -12,8 +12,8 @@ use Rattle.gr_reader.specs.Rest.{Fault, Told, read_rest, at_start}
 use Rattle.gr_reader.specs.Grammar.{IsGr, GrFault}
 use Rattle.gr_reader.specs.Reader.{IsSound, IsComplete}
 use Rattle.gr_reader.specs.Laws.{FilesAreRead, FirstFaultsAreMet, IsDecided, TextsAreDecided}
-use Rattle.gr_reader.proofs.Accepting.{reading_is, file_is_read}
-use Rattle.gr_reader.proofs.FirstFault.{fault_is_first, first_is_fault}
+use Rattle.gr_reader.proofs.IsGrLemmas.{reading_is, file_is_read}
+use Rattle.gr_reader.proofs.GrFaultLemmas.{fault_is_first, first_is_fault}
 
 -- what is told of a whole file
 abbrev whole : ℕ → List ArcLine → Told

@@ -15,7 +15,7 @@ use Rattle.gr_reader.specs.declared.gr_lines.Stage.TheVariants.{Arcs, Whole}
 use Rattle.gr_reader.specs.Table.{Sizes, said}
 use Rattle.gr_reader.specs.Rest.{Told, read_rest, at_start}
 use Rattle.gr_reader.specs.Reader.{GrLines, unread, told_of, Moves, ArcComes, WhereArcs, BeginTells, SizesTold, ArcTells, FaultTold, IsFirstFault, TakesFile}
-use Rattle.gr_reader.proofs.FirstFault.{fault_is_first}
+use Rattle.gr_reader.proofs.GrFaultLemmas.{fault_is_first}
 use Rattle.gr_reader.proofs.Deciding.{read_is_file}
 use Rattle.gr_reader.proofs.Finding.{joined}
 

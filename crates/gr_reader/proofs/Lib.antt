@@ -3,9 +3,9 @@ pub mod Capping
 pub mod Finding
 pub mod TakesLemmas
 pub mod Telling
-pub mod Limits
-pub mod Accepting
-pub mod FirstFault
+pub mod LimitLemmas
+pub mod IsGrLemmas
+pub mod GrFaultLemmas
 pub mod Deciding
 pub mod HasComeLemmas
 pub mod FormLemmas

@@ -16,8 +16,8 @@ use Rattle.gr_reader.specs.Table.{Sizes, said}
 use Rattle.gr_reader.specs.Rest.{Told, read_rest, at_start}
 use Rattle.gr_reader.specs.Reader.{GrLines, unread, told_of, Moves, ArcComes, WhereArcs, BeginTells, SizesTold, ArcTells, FaultTold, IsFirstFault, TakesFile}
 use Rattle.gr_reader.proofs.GrFaultLemmas.{fault_is_first}
-use Rattle.gr_reader.proofs.Deciding.{read_is_file}
-use Rattle.gr_reader.proofs.Finding.{joined}
+use Rattle.gr_reader.proofs.LawsLemmas.{read_is_file}
+use Rattle.gr_reader.proofs.StepsLemmas.{IfSome_through}
 
 -- The whole gives these arcs, and then what is told later.
 pub record Collects (arcs : List ArcLine) (whole later : Told) : Type 0 where
@@ -92,7 +92,7 @@ module _ (limits : FileLimits) (start : SourceState) where
           at = comes.counted ∙ ap (Arcs come.file.nodes come.arcs) (sym count);
           most = come.most;
           taken = takes come.arcs come.file come.taken;
-          told = joined start.left (rest_of old.lines now) _ come.told (rw come.at at tells)
+          told = IfSome_through start.left (rest_of old.lines now) _ come.told (rw come.at at tells)
               (λ bytes rest collects tells.
               rw (tells.left, count)
               (record {
@@ -111,7 +111,7 @@ module _ (limits : FileLimits) (start : SourceState) where
         record {
           file = come.file;
           taken = rw all.0 come.taken;
-          is_gr = joined start.left (rest_of old.lines now) _ come.told (rw come.at at tells)
+          is_gr = IfSome_through start.left (rest_of old.lines now) _ come.told (rw come.at at tells)
               (λ bytes rest collects told.
               let at : ℕ → List ArcLine → Told = λ n arcs. record { sizes = said come.file.nodes n; arcs = arcs; end = None } in
               read_is_file limits bytes come.file.nodes come.file.arcs
@@ -124,5 +124,5 @@ module _ (limits : FileLimits) (start : SourceState) where
         → WhereArcs old.stage (λ nodes arcs come. ArcTells (said nodes arcs) come old.lines new.lines now after (Err fault))
         → IfSome start.left (λ bytes. IsFirstFault limits bytes fault)
     has_come-badly fault tells =
-        joined start.left (rest_of old.lines now) _ come.told (rw come.at at tells)
+        IfSome_through start.left (rest_of old.lines now) _ come.told (rw come.at at tells)
         (λ bytes rest collects told. first_fault limits bytes come.file.arcs _ _ fault collects told)

@@ -17,7 +17,7 @@ use Rattle.gr_reader.specs.Table.{Sizes, State, said, form_kind, lacking, line_k
 use Rattle.gr_reader.specs.Rest.{Told, past, ends, with_line, read_lines, read_rest, at_start}
 use Rattle.gr_reader.specs.Grammar.{IsGr, IsArc, form_of_arc, forms_of}
 use Rattle.gr_reader.proofs.LimitLemmas.{limit_of, Unbroken, unbroken-short, unbroken-within, file_unbroken}
-use Rattle.gr_reader.proofs.LineSteps.{given}
+use Rattle.gr_reader.proofs.ToldLemmas.{given}
 
 problem_accepted : (right : Bool) → ◌≡◌ {A = Option LineKind} (cond (not right) (Some SizeRange) None) None → right ≡ true
 problem_accepted true e = refl

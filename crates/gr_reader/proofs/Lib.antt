@@ -1,11 +1,9 @@
-pub mod LineSteps
-pub mod Capping
-pub mod Finding
-pub mod TakesLemmas
-pub mod Telling
+pub mod ToldLemmas
+pub mod FormLemmas
+pub mod StepsLemmas
 pub mod LimitLemmas
 pub mod IsGrLemmas
 pub mod GrFaultLemmas
-pub mod Deciding
+pub mod LawsLemmas
+pub mod TakesBytesLemmas
 pub mod HasComeLemmas
-pub mod FormLemmas

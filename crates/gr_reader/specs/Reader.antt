@@ -100,7 +100,7 @@ FaultTold sizes told OutOfMemory = ⊤
 
 -- The first problem line is accepted, and it says so many nodes and arcs. What is left gives the same as what was left
 -- before.
-pub record TellsSizes (new : Lines) (told : Told) (after : Option (List ℕ)) (nodes arcs : ℕ) : Type 0 where
+pub record BeginsWithSizes (new : Lines) (told : Told) (after : Option (List ℕ)) (nodes arcs : ℕ) : Type 0 where
   pub rest : List ℕ
   pub left : after ≡ Some rest
   pub sizes_are : told.sizes ≡ said nodes arcs
@@ -108,7 +108,7 @@ pub record TellsSizes (new : Lines) (told : Told) (after : Option (List ℕ)) (n
 
 -- what `begin` answers where this was told of what was left before
 abbrev pub SizesTold : Lines → Told → Option (List ℕ) → Result (ℕ × ℕ) FileFault → Type 0
-SizesTold new told after (Ok answer) = TellsSizes new told after answer.0 answer.1
+SizesTold new told after (Ok answer) = BeginsWithSizes new told after answer.0 answer.1
 SizesTold new told after (Err fault) = FaultTold None told fault
 
 -- the same of a reader and its source, where the source tells what it has left
@@ -117,24 +117,27 @@ BeginTells old new before after result =
     IfSome (rest_of old before) (λ rest. SizesTold new (told_of old None 0 rest) (rest_of new after) result)
 
 -- This arc is told first, and what is left gives the others and the same end.
-pub record TellsArc (new : Lines) (sizes : Option Sizes) (come : ℕ) (told : Told) (after : Option (List ℕ)) (arc : ArcLine) : Type 0 where
+pub record BeginsWithArc
+    (new : Lines) (sizes : Option Sizes) (come : ℕ) (told : Told) (after : Option (List ℕ)) (arc : ArcLine) : Type 0 where
   pub rest : List ℕ
   pub left : after ≡ Some rest
   pub first : told ≡ with_line (Some (form_of_arc arc)) (told_of new sizes (come + 1) rest)
 
 -- what `next_arc` answers where this was told of what was left before
 abbrev pub ArcTold : Lines → Option Sizes → ℕ → Told → Option (List ℕ) → Result (Option ArcLine) FileFault → Type 0
-ArcTold new sizes come told after (Ok (Some arc)) = TellsArc new sizes come told after arc
+ArcTold new sizes come told after (Ok (Some arc)) = BeginsWithArc new sizes come told after arc
 ArcTold new sizes come told after (Ok None) = told ≡ ends_with sizes None
 ArcTold new sizes come told after (Err fault) = FaultTold sizes told fault
 
 -- the same of a reader and its source
-abbrev pub ArcTells : Option Sizes → ℕ → Lines → Lines → SourceState → SourceState → Result (Option ArcLine) FileFault → Type 0
+abbrev pub ArcTells : Option Sizes → ℕ → Lines → Lines → SourceState → SourceState
+    → Result (Option ArcLine) FileFault → Type 0
 ArcTells sizes come old new before after result =
-    IfSome (rest_of old before) (λ rest. ArcTold new sizes come (told_of old sizes come rest) (rest_of new after) result)
+    IfSome (rest_of old before)
+    (λ rest. ArcTold new sizes come (told_of old sizes come rest) (rest_of new after) result)
 
 -- What was taken from a source stays in the limits: at most one byte past the total in all. No byte is lost.
-pub record Takes (old new : Lines) (before after : SourceState) : Type 0 where
+pub record TakesBytes (old new : Lines) (before after : SourceState) : Type 0 where
   pub limits : new.limits ≡ old.limits
   pub in_limits : InLimits new
   pub loses_none : LosesNone old new before after
@@ -145,13 +148,14 @@ file_failed (Err Read) = true
 file_failed other = false
 
 -- the same of a call at a stage, of which only those that read can fail
-abbrev pub read_failed : {T : Type 0} → Stage → Result T FileFault → Bool
-read_failed (Arcs nodes arcs come) result = file_failed result
-read_failed other result = false
+abbrev pub failed_at : {T : Type 0} → Stage → Result T FileFault → Bool
+failed_at (Arcs nodes arcs come) result = file_failed result
+failed_at other result = false
 
 -- at most so many bytes were taken from a source, which still tells what is left where it told it before
 abbrev pub TakesAtMost : ℕ → SourceState → SourceState → Type 0
-TakesAtMost most before after = IfSome before.left (λ bytes. IsSomeAnd after.left (λ rest. length bytes ≤ length rest + most))
+TakesAtMost most before after =
+    IfSome before.left (λ bytes. IsSomeAnd after.left (λ rest. length bytes ≤ length rest + most))
 
 -- the fault of a line is the first of the text
 abbrev pub IsFirstFault : FileLimits → List ℕ → FileFault → Type 0
@@ -171,7 +175,8 @@ pub record TakesFile (limits : FileLimits) (text : Option (List ℕ)) (HasTaken 
   pub is_gr : IfSome text (λ bytes. IsGr limits bytes file.nodes file.arcs)
 
 -- A whole file was taken, or the fault is the text's.
-abbrev pub ReadsInto : {T : Type 0} → FileLimits → Option (List ℕ) → (ℕ → Contents → Type 0) → Result T FileFault → Type 0
+abbrev pub ReadsInto : {T : Type 0} → FileLimits → Option (List ℕ) → (ℕ → Contents → Type 0) → Result T FileFault
+    → Type 0
 ReadsInto limits text HasTaken (Ok done) = TakesFile limits text HasTaken
 ReadsInto limits text HasTaken (Err fault) = IfSome text (λ bytes. IsFirstFault limits bytes fault)
 

@@ -22,7 +22,8 @@ pub record Told : Type 0 where
 
 -- the state behind one more line
 abbrev pub past : ℕ → State → List ℕ → State
-past total state line = record state { number = state.number + 1; passed = state.passed + size_in total state.passed line }
+past total state line =
+    record state { number = state.number + 1; passed = state.passed + size_in total state.passed line }
 
 -- the state with what an accepted line says
 abbrev pub with_form : State → Option Form → State

@@ -6,7 +6,7 @@ ghost use Rattle.line_text.specs.Reading.{max_line};
 ghost use Rattle.gr_reader.specs.Grammar.{IsArc, form_of_arc};
 ghost use Rattle.gr_reader.specs.Steps.{FormTells, IsAccepted, range_kind};
 ghost use Rattle.gr_reader.specs.Table.{form_kind, in_range, said};
-ghost use Rattle.gr_reader.specs.Reader.{ArcTells, AreSizes, BeginTells, IsEnded, Moves, Takes, WhereArcs, file_failed, read_failed, stage_begun, unread};
+ghost use Rattle.gr_reader.specs.Reader.{ArcTells, AreSizes, BeginTells, IsEnded, Moves, TakesBytes, WhereArcs, file_failed, failed_at, stage_begun, unread};
 
 use crate::fault::{FileFault, FileLimits, LineKind};
 use crate::form::{Form, form_of};
@@ -78,7 +78,7 @@ impl GrLines {
         // Where the source tells its bytes, the answer is that of the file's text, and no byte is lost.
         ensures tells { BeginTells
             self.old.lines self.new.lines (S.state source.old) (S.state source.new) result }
-        ensures takes { Takes
+        ensures takes { TakesBytes
             self.old.lines self.new.lines (S.state source.old) (S.state source.new) }
 
         // The source's failures alone make a failed read.
@@ -111,12 +111,12 @@ impl GrLines {
         // Where the source tells its bytes, the answer is that of the file's text, and no byte is lost.
         ensures tells { WhereArcs self.old.stage (λ nodes arcs come. ArcTells (said nodes arcs) come
             self.old.lines self.new.lines (S.state source.old) (S.state source.new) result) }
-        ensures takes { Takes
+        ensures takes { TakesBytes
             self.old.lines self.new.lines (S.state source.old) (S.state source.new) }
 
         // The source's failures alone make a failed read.
         ensures source { ReadsFrom
-            (S.state source.old) (S.state source.new) (read_failed self.old.stage result) }
+            (S.state source.old) (S.state source.new) (failed_at self.old.stage result) }
     {
         let (nodes, arcs, come) = match self.stage {
             Stage::Unread => unreachable!(),
@@ -146,7 +146,7 @@ fn read_sizes<S: Source>(lines: &mut Lines, source: &mut S) -> Result<(u32, u32)
     // Where the source tells its bytes, the answer is that of the file's text, and no byte is lost.
     ensures tells { BeginTells
         lines.old lines.new (S.state source.old) (S.state source.new) result }
-    ensures takes { Takes lines.old lines.new (S.state source.old) (S.state source.new) }
+    ensures takes { TakesBytes lines.old lines.new (S.state source.old) (S.state source.new) }
 
     // What holds over every source.
     ensures goes_on { OnOk result (lines.new.fault ≡ None) }
@@ -180,7 +180,7 @@ fn read_arc<S: Source>(
     // Where the source tells its bytes, the answer is that of the file's text, and no byte is lost.
     ensures tells { ArcTells (said nodes arcs) come
         lines.old lines.new (S.state source.old) (S.state source.new) result }
-    ensures takes { Takes lines.old lines.new (S.state source.old) (S.state source.new) }
+    ensures takes { TakesBytes lines.old lines.new (S.state source.old) (S.state source.new) }
 
     // What holds over every source.
     ensures goes_on { OnOk result (lines.new.fault ≡ None) }
@@ -210,7 +210,7 @@ fn next_form<S: Source>(lines: &mut Lines, source: &mut S) -> Result<Option<Form
     // Where the source tells its bytes, the answer is that of the file's text, and no byte is lost.
     ensures tells { FormTells
         lines.old lines.new (S.state source.old) (S.state source.new) result }
-    ensures takes { Takes lines.old lines.new (S.state source.old) (S.state source.new) }
+    ensures takes { TakesBytes lines.old lines.new (S.state source.old) (S.state source.new) }
 
     // What holds over every source.
     ensures goes_on { OnOk result (lines.new.fault ≡ None) }

@@ -26,7 +26,8 @@ pub fn read_gr<S: Source>(
     ensures complete { IfSome (S.state source.old).left (λ bytes. IsComplete limits bytes result) }
 
     // Where the source tells its bytes, at most one byte past the limit is taken.
-    ensures takes_at_most { TakesAtMost (limits.file + 1) (S.state source.old) (S.state source.new) }
+    ensures takes_at_most { TakesAtMost (limits.file + 1)
+        (S.state source.old) (S.state source.new) }
 
     // The source's failures alone make a failed read.
     ensures source { ReadsFrom (S.state source.old) (S.state source.new) (file_failed result) }
@@ -50,10 +51,12 @@ pub fn read_into<S: Source, A: ArcSink>(
 
     // The sink has taken the file that is read. Where the source tells its bytes, that is the one of the text, and a
     // fault of a line is the first.
-    ensures reads { ReadsInto limits (S.state source.old).left (A.has_taken sink.old sink.new) result }
+    ensures reads { ReadsInto limits (S.state source.old).left
+        (A.has_taken sink.old sink.new) result }
 
     // Where the source tells its bytes, at most one byte past the limit is taken.
-    ensures takes_at_most { TakesAtMost (limits.file + 1) (S.state source.old) (S.state source.new) }
+    ensures takes_at_most { TakesAtMost (limits.file + 1)
+        (S.state source.old) (S.state source.new) }
 
     // The source's failures alone make a failed read.
     ensures source { ReadsFrom (S.state source.old) (S.state source.new) (file_failed result) }

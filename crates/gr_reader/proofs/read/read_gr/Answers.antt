@@ -1,7 +1,7 @@
 use Rattle.std.proofs.Common.{◌≡◌, Ok, Err}
 use Rattle.std.proofs.lemmas.Option.{IfSome_then}
 use Rattle.std.proofs.lemmas.Result.{err_from_is_err_and}
-use Rattle.gr_reader.proofs.Deciding.{complete}
+use Rattle.gr_reader.proofs.LawsLemmas.{complete}
 use Rattle.gr_reader.proofs.read.read_gr.Goals as goal
 
 pub returns-in_err-read_into-clause-complete : goal.returns-in_err-read_into-clause-complete

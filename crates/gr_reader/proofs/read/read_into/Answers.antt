@@ -1,7 +1,7 @@
 use Rattle.std.proofs.lemmas.Result.{err_from_is_err_and}
 use Rattle.route_io.proofs.ReadsLemmas.{ReadsFrom-then}
 use Rattle.gr_reader.proofs.HasComeLemmas.{begins_badly, has_come-none, has_come-more, has_come-whole, has_come-badly}
-use Rattle.gr_reader.proofs.TakesLemmas.{takes-then, takes_at_most}
+use Rattle.gr_reader.proofs.TakesBytesLemmas.{takes_bytes-then, takes_at_most}
 use Rattle.gr_reader.proofs.read.read_into.Goals as goal
 
 pub returns-in_err-nodes-clause-reads : goal.returns-in_err-nodes-clause-reads
@@ -32,7 +32,7 @@ arcs-preserved g c =
     record {
       come = has_come-more _ _ _ _ _ c.arcs.invariant.come _ _ c.in-Some.arc _ (rw c.in-Some.is at c.in_ok-arc.ensures.stage)
           (rw c.in-Some.is at c.in_ok-arc.ensures.tells) (λ arcs file. c.in_ok-take.ensures c.args.sink.now arcs file);
-      takes = takes-then c.arcs.invariant.takes c.in_ok-arc.ensures.takes;
+      takes = takes_bytes-then c.arcs.invariant.takes c.in_ok-arc.ensures.takes;
       source = ReadsFrom-then _ _ _ _ c.arcs.invariant.source (rw c.arcs.invariant.come.at at c.in_ok-arc.ensures.source);
     }
 
@@ -42,10 +42,10 @@ returns-clause-reads g c =
     (rw c.in_default.is at c.in_ok-arc.ensures.stage) (rw c.in_default.is at c.in_ok-arc.ensures.tells)
 
 pub returns-in_err-arc-clause-takes_at_most : goal.returns-in_err-arc-clause-takes_at_most
-returns-in_err-arc-clause-takes_at_most g c = takes_at_most (takes-then c.arcs.invariant.takes c.in_err-arc.ensures.takes)
+returns-in_err-arc-clause-takes_at_most g c = takes_at_most (takes_bytes-then c.arcs.invariant.takes c.in_err-arc.ensures.takes)
 
 pub returns-in_err-take-clause-takes_at_most : goal.returns-in_err-take-clause-takes_at_most
-returns-in_err-take-clause-takes_at_most g c = takes_at_most (takes-then c.arcs.invariant.takes c.in_ok-arc.ensures.takes)
+returns-in_err-take-clause-takes_at_most g c = takes_at_most (takes_bytes-then c.arcs.invariant.takes c.in_ok-arc.ensures.takes)
 
 pub returns-clause-takes_at_most : goal.returns-clause-takes_at_most
-returns-clause-takes_at_most g c = takes_at_most (takes-then c.arcs.invariant.takes c.in_ok-arc.ensures.takes)
+returns-clause-takes_at_most g c = takes_at_most (takes_bytes-then c.arcs.invariant.takes c.in_ok-arc.ensures.takes)

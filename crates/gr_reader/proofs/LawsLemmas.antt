@@ -23,6 +23,7 @@ said-nodes : (nodes other arcs other_arcs : ℕ) → said nodes arcs ≡ said ot
 said-nodes nodes other arcs other_arcs e = ap (λ (sizes : Sizes). sizes.nodes) (same_Some _ _ e)
 
 module _ (limits : FileLimits) (bytes : List ℕ) where
+  -- a text that is read to its end is this weight file
   pub read_is_file : (nodes : ℕ) (arcs : List ArcLine) → read_rest limits at_start bytes ≡ whole nodes arcs → IsGr limits bytes nodes arcs
   read_is_file nodes arcs e =
       let found = reading_is limits bytes (ap (λ told. told.end) e) in
@@ -35,7 +36,7 @@ module _ (limits : FileLimits) (bytes : List ℕ) where
   by_end None e = let found = reading_is limits bytes e in inl (found.0, (read_rest limits at_start bytes).arcs, found.2)
   by_end (Some fault) e = inr (fault.kind, fault.line, fault_is_first limits bytes fault.kind fault.line e)
 
-  pub is_decided : IsDecided limits bytes
+  is_decided : IsDecided limits bytes
   is_decided = record {
     answer = by_end (read_rest limits at_start bytes).end refl;
     one_file = λ nodes others arcs other_arcs file other.
@@ -66,11 +67,14 @@ module _ (limits : FileLimits) (bytes : List ℕ) where
   complete (Err Read) sound = record { accepts = λ nodes arcs is_gr. tt; refuses = λ kind line first. tt }
   complete (Err OutOfMemory) sound = record { accepts = λ nodes arcs is_gr. tt; refuses = λ kind line first. tt }
 
+-- exactly the weight files are read to their end
 pub files_are_read : FilesAreRead
 files_are_read limits bytes nodes arcs = (file_is_read limits bytes nodes arcs, read_is_file limits bytes nodes arcs)
 
+-- the first fault is met
 pub first_faults_are_met : FirstFaultsAreMet
 first_faults_are_met limits bytes kind line = (first_is_fault limits bytes kind line, fault_is_first limits bytes kind line)
 
+-- each text has one answer
 pub texts_are_decided : TextsAreDecided
 texts_are_decided limits bytes = is_decided limits bytes

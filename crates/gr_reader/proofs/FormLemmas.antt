@@ -1,5 +1,6 @@
 -- What a line says, with its numbers capped: one of more than 32 bits is out of every range, whichever it is.
-use Rattle.std.proofs.Common.{◌≡◌, ℕ, false, cond, List, Option, Some, None, unwrap_or, nat_eq, slice_index, refl, sym, ap, ◌∙◌, ◌^◌, ◌≤◌, ◌&&◌, not, nat_le, Bool, arith}
+use Rattle.std.proofs.Common.{◌≡◌, ℕ, false, cond, List, Option, Some, None, unwrap_or, nat_eq, slice_index, refl, sym, ap, ◌∙◌, ◌^◌, ◌≤◌, ◌&&◌, not, nat_le}
+use Rattle.std.proofs.Common.{Bool, arith}
 use Rattle.std.specs.Option.{option_map}
 use Rattle.line_text.specs.Fields.{fields_of, FirstField}
 use Rattle.gr_reader.specs.declared.form.Form.{Form}

@@ -1,5 +1,6 @@
 -- The fault that a reading meets is that of the first faulty line.
-use Rattle.std.proofs.Common.{◌≡◌, ℕ, ◌+◌, ◌-◌, ◌<◌, ◌≤◌, min, List, [], ◌∷◌, ◌++◌, Option, Some, None, MatchOption, option_and_then, length, refl, sym, ap, subst, ◌∙◌, arith, append_assoc, length-append, below_more, cond, ⊎_elim}
+use Rattle.std.proofs.Common.{◌≡◌, ℕ, ◌+◌, ◌-◌, ◌<◌, ◌≤◌, min, List, [], ◌∷◌, ◌++◌, Option, Some, None, MatchOption, option_and_then, length, refl, sym, ap}
+use Rattle.std.proofs.Common.{subst, ◌∙◌, arith, append_assoc, length-append, below_more, cond, ⊎_elim}
 use Rattle.std.specs.Prelude.{sum_by, count_by, slice_get}
 use Rattle.std.specs.List.{cons_option}
 use Rattle.std.specs.Option.{option_or}
@@ -34,7 +35,8 @@ sizes_in-push (Arc tail head weight ∷ forms) form = sizes_in-push forms form
 sizes_in-push (Malformed ∷ forms) form = sizes_in-push forms form
 
 -- an accepted problem line is the first
-sizes-problem : (sizes : Option Sizes) (come nodes arcs : ℕ) → form_kind sizes come (Problem nodes arcs) ≡ None → said nodes arcs ≡ option_or sizes (said nodes arcs)
+sizes-problem : (sizes : Option Sizes) (come nodes arcs : ℕ) → form_kind sizes come (Problem nodes arcs) ≡ None
+    → said nodes arcs ≡ option_or sizes (said nodes arcs)
 sizes-problem None come nodes arcs k = refl
 sizes-problem (Some known) come nodes arcs k = absurd cc
 

@@ -1,5 +1,6 @@
 -- The lines that a reading accepts to their end are those of a weight file.
-use Rattle.std.proofs.Common.{◌≡◌, ℕ, ◌+◌, ◌<◌, ◌≤◌, ◌^◌, nat_le, not, Bool, true, false, cond, List, [], ◌∷◌, ◌++◌, Option, Some, None, option_and_then, length, map, refl, sym, ap, subst, ◌∙◌, arith}
+use Rattle.std.proofs.Common.{◌≡◌, ℕ, ◌+◌, ◌<◌, ◌≤◌, ◌^◌, nat_le, not, Bool, true, false, cond, List, [], ◌∷◌, ◌++◌, Option, Some, None, option_and_then}
+use Rattle.std.proofs.Common.{length, map, refl, sym, ap, subst, ◌∙◌, arith}
 use Rattle.std.specs.List.{AllByRecursion}
 use Rattle.std.specs.Option.{option_or}
 use Rattle.std.proofs.lemmas.Bool.Decides.{nat_tests}
@@ -108,7 +109,8 @@ module _ (limits : FileLimits) (total : ℕ) where
       let ends = rest.2 in
       let fits = subst (λ (s : Sizes). IsArc s.nodes (record { tail = tail; head = head; weight = weight })) ends.knows arc.1 in
       let forms = ap (λ forms. Arc tail head weight ∷ forms) ends.forms in
-      (rest.0, rest.1, record { unbroken = (limit, ends.unbroken); knows = ends.knows; forms = rw f forms; count = omega (arith, ends.count); fit = (fits, ends.fit) })
+      let count = ends.count in
+      (rest.0, rest.1, record { unbroken = (limit, ends.unbroken); knows = ends.knows; forms = rw f forms; count = omega arith; fit = (fits, ends.fit) })
   accepts-line line lines later None come number passed may limit (Some (Arc tail head weight)) f k accepted = absurd cc
   accepts-line line lines later (Some known) come number passed may limit (Some (Problem nodes arcs)) f k accepted = absurd cc
   accepts-line line lines later sizes come number passed may limit (Some Malformed) f k accepted = absurd cc

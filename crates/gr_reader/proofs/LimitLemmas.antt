@@ -68,14 +68,16 @@ lines_of-sum [] = omega arith
 lines_of-sum (byte ∷ bytes) = lines_of-step byte bytes (lines_of-sum bytes) (is_lf byte)
 
 module _ (limits : FileLimits) (bytes : List ℕ) where
+  file_keeps : Unbroken limits (length bytes) 0 (lines_of bytes) → Keeps limits (length bytes) 0 (lines_of bytes)
+  file_keeps unbroken = keeps_from limits (length bytes) 0 (lines_of bytes) (omega arith) (omega arith) unbroken
+
   -- such lines are short
   pub unbroken-short : Unbroken limits (length bytes) 0 (lines_of bytes) → All (λ line. length line ≤ limits.line) (lines_of bytes)
-  unbroken-short unbroken = All-from_recursion _ (lines_of bytes) (keeps_from limits (length bytes) 0 (lines_of bytes) (omega arith) (omega arith) unbroken).short
+  unbroken-short unbroken = All-from_recursion _ (lines_of bytes) (file_keeps unbroken).short
 
   -- and so is the file
   pub unbroken-within : Unbroken limits (length bytes) 0 (lines_of bytes) → length bytes ≤ limits.file
-  unbroken-within unbroken =
-      omega (arith, (keeps_from limits (length bytes) 0 (lines_of bytes) (omega arith) (omega arith) unbroken).within, lines_of-sum bytes)
+  unbroken-within unbroken = omega (arith, (file_keeps unbroken).within, lines_of-sum bytes)
 
   -- the lines of a short file, if each is short
   pub file_unbroken : All (λ line. length line ≤ limits.line) (lines_of bytes) → length bytes ≤ limits.file → Unbroken limits (length bytes) 0 (lines_of bytes)

@@ -27,7 +27,8 @@ takes_bytes-then {old} {mid} {new} {before} {between} {after} first next =
 by_sizes : (limits : LineLimits) (new : Lines) (before after : SourceState) → new.passed + length new.held ≤ limits.total + 1
     → LosesNone (begun limits) new before after → TakesAtMost (limits.total + 1) before after
 by_sizes limits new before after within = by_left before.left after.left where
-  by_left : (left more : Option (List ℕ)) → IfSome (prepend_known [] left) (λ rest. IsSomeAnd (prepend_known new.held more) (λ more. new.passed + length more ≡ 0 + length rest))
+  by_left : (left more : Option (List ℕ))
+      → IfSome (prepend_known [] left) (λ rest. IsSomeAnd (prepend_known new.held more) (λ more. new.passed + length more ≡ 0 + length rest))
       → IfSome left (λ bytes. IsSomeAnd more (λ rest. length bytes ≤ length rest + (limits.total + 1)))
   by_left None more loses_none = tt
   by_left (Some bytes) None loses_none = absurd loses_none

@@ -1,5 +1,6 @@
 -- What a line of a weight file says.
-use Rattle.std.specs.Prelude.{ℕ, ◌^◌, ◌==◌, Bool, if◌then◌else◌, List, [], ◌∷◌, Option, Some, None, codes, min, nat_eq, slice_index, unwrap_or}
+use Rattle.std.specs.Prelude.{ℕ, ◌^◌, ◌==◌, Bool, if◌then◌else◌, List, [], ◌∷◌, Option, Some, None, codes, min, nat_eq}
+use Rattle.std.specs.Prelude.{slice_index, unwrap_or}
 use Rattle.std.specs.Cmp.Lexicographic.{pointwise}
 use Rattle.line_text.specs.Fields.{fields_of}
 use Rattle.line_text.specs.Numerals.{is_digits, value_of}

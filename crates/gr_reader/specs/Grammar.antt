@@ -1,5 +1,6 @@
 -- The weight files of the 9th DIMACS Implementation Challenge, and the first fault of a text that is none.
-use Rattle.std.specs.Prelude.{◌≡◌, ℕ, ◌+◌, ◌-◌, ◌^◌, ◌<◌, ◌≤◌, Bool, true, false, List, [], ◌∷◌, length, map, min, take, sum_by, count_by, slice_get, Option, Some, None, All}
+use Rattle.std.specs.Prelude.{◌≡◌, ℕ, ◌+◌, ◌-◌, ◌^◌, ◌<◌, ◌≤◌, Bool, true, false, List, [], ◌∷◌, length, map, min, take}
+use Rattle.std.specs.Prelude.{sum_by, count_by, slice_get, Option, Some, None, All}
 use Rattle.std.specs.List.{filter_map}
 use Rattle.road_network.specs.Limits.{max_nodes, max_arcs}
 use Rattle.arc_graph.specs.declared.file.ArcLine.{ArcLine}

@@ -1,5 +1,6 @@
 -- What a reader of a weight file shows, and what its answers say.
-use Rattle.std.specs.Prelude.{◌≡◌, ◌≢◌, ℕ, ◌+◌, ◌^◌, ◌<◌, ◌≤◌, ⊤, IfSome, IsSomeAnd, Bool, true, false, List, [], length, Option, Some, None, Result, Ok, Err}
+use Rattle.std.specs.Prelude.{◌≡◌, ◌≢◌, ℕ, ◌+◌, ◌^◌, ◌<◌, ◌≤◌, ⊤, IfSome, IsSomeAnd, Bool, true, false, List, []}
+use Rattle.std.specs.Prelude.{length, Option, Some, None, Result, Ok, Err}
 use Rattle.route_io.specs.Sources.{SourceState}
 use Rattle.road_network.specs.Limits.{max_nodes, max_arcs}
 use Rattle.arc_graph.specs.declared.file.ArcLine.{ArcLine}
@@ -118,7 +119,8 @@ BeginTells old new before after result =
 
 -- This arc is told first, and what is left gives the others and the same end.
 pub record BeginsWithArc
-    (new : Lines) (sizes : Option Sizes) (come : ℕ) (told : Told) (after : Option (List ℕ)) (arc : ArcLine) : Type 0 where
+    (new : Lines) (sizes : Option Sizes) (come : ℕ) (told : Told) (after : Option (List ℕ)) (arc : ArcLine)
+    : Type 0 where
   pub rest : List ℕ
   pub left : after ≡ Some rest
   pub first : told ≡ with_line (Some (form_of_arc arc)) (told_of new sizes (come + 1) rest)

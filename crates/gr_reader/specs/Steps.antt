@@ -1,5 +1,6 @@
 -- What the next line of a file that isn't ignored gives.
-use Rattle.std.specs.Prelude.{◌≡◌, ℕ, ◌+◌, ◌^◌, ◌≤◌, ◌&&◌, nat_le, if◌then◌else◌, ⊤, List, length, Option, Some, None, IfSome, Result, Ok, Err}
+use Rattle.std.specs.Prelude.{◌≡◌, ℕ, ◌+◌, ◌^◌, ◌≤◌, ◌&&◌, nat_le, if◌then◌else◌, ⊤, List, length, Option, Some, None}
+use Rattle.std.specs.Prelude.{IfSome, Result, Ok, Err}
 use Rattle.route_io.specs.Sources.{SourceState}
 use Rattle.road_network.specs.Limits.{max_nodes}
 use Rattle.line_text.specs.Lines.{lines_of}

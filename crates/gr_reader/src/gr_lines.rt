@@ -1,4 +1,5 @@
-ghost use Rattle.std.specs.Prelude.{◌≡◌, ◌≢◌, ◌≤◌, ◌<◌, ◌^◌, ◌+◌, None, Some, Ok, Err, IfOk, IfSome, IfErr, OnOk, OnSome};
+ghost use Rattle.std.specs.Prelude.{◌≡◌, ◌≢◌, ◌≤◌, ◌<◌, ◌^◌, ◌+◌, None, Some, Ok, Err, IfOk, IfSome, IfErr, OnOk};
+ghost use Rattle.std.specs.Prelude.{OnSome};
 ghost use Rattle.std.specs.Result.{result_err};
 ghost use Rattle.route_io.specs.Sources.{ReadsFrom};
 ghost use Rattle.road_network.specs.Limits.{max_nodes};
@@ -6,7 +7,8 @@ ghost use Rattle.line_text.specs.Reading.{max_line};
 ghost use Rattle.gr_reader.specs.Grammar.{IsArc, form_of_arc};
 ghost use Rattle.gr_reader.specs.Steps.{FormTells, IsAccepted, range_kind};
 ghost use Rattle.gr_reader.specs.Table.{form_kind, in_range, said};
-ghost use Rattle.gr_reader.specs.Reader.{ArcTells, AreSizes, BeginTells, IsEnded, Moves, TakesBytes, WhereArcs, file_failed, failed_at, stage_begun, unread};
+ghost use Rattle.gr_reader.specs.Reader.{ArcTells, AreSizes, BeginTells, IsEnded, Moves, TakesBytes, WhereArcs};
+ghost use Rattle.gr_reader.specs.Reader.{file_failed, failed_at, stage_begun, unread};
 
 use crate::fault::{FileFault, FileLimits, LineKind};
 use crate::form::{Form, form_of};

@@ -20,7 +20,7 @@ pub(super) fn pieces(
 }
 
 /// How many bytes a source of a short text has left.
-fn left_in(source: &mut MemorySource) -> usize {
+pub(super) fn left_in(source: &mut MemorySource) -> usize {
     let mut left = 0usize;
     let mut buf = [0; 8];
     for _ in 0..100 {

@@ -1,5 +1,6 @@
 -- The next line, step by step.
-use Rattle.std.proofs.Common.{◌≡◌, ℕ, ◌+◌, ◌<◌, ◌≤◌, Bool, true, false, List, [], ◌++◌, Option, Some, None, IfSome, IsSomeAnd, IsTrue, Result, Ok, Err, length, refl, sym, ap, subst, ◌∙◌, arith, length-append}
+use Rattle.std.proofs.Common.{◌≡◌, ℕ, ◌+◌, ◌<◌, ◌≤◌, Bool, true, false, List, [], ◌++◌, Option, Some, None, IfSome, IsSomeAnd, IsTrue, Result, Ok, Err, length}
+use Rattle.std.proofs.Common.{refl, sym, ap, subst, ◌∙◌, arith, length-append}
 use Rattle.std.proofs.lemmas.List.{append-nil, length-drop}
 use Rattle.std.proofs.KnownBytes.{Keeps-trans}
 use Rattle.std.specs.Io.KnownBytes.{Keeps, IsAtEnd, prepend_known}
@@ -10,7 +11,8 @@ use Rattle.line_text.specs.Lines.{first_lf, raw_line, after_line, line_size, wit
 use Rattle.line_text.specs.Marks.{first_fault, line_answer, answer_of}
 use Rattle.line_text.specs.Pieces.{past_line, Grows, TakesWhole, LacksLf, Breaks}
 use Rattle.line_text.specs.Reading.{Lines, rest_of, Counts, CountsLine, CountsNone, TakesLine, Stays, Tells, Advances}
-use Rattle.line_text.proofs.LineLemmas.{first_lf-le, first_lf-part, length-raw_line, raw_line-whole, after_line-whole, line_size-whole, lines_of-first, text_at_most, text_at_least}
+use Rattle.line_text.proofs.LineLemmas.{first_lf-le, first_lf-part, length-raw_line, raw_line-whole, after_line-whole, line_size-whole, lines_of-first}
+use Rattle.line_text.proofs.LineLemmas.{text_at_most, text_at_least}
 use Rattle.line_text.proofs.MarkLemmas.{answer_of-some, never_read, never_memory, first_fault-whole, first_fault-broken}
 
 -- Bytes were taken from a source behind those that were held, and there is no current line.

@@ -1,5 +1,6 @@
 -- Where the fields of a text stand.
-use Rattle.std.proofs.Common.{◌≡◌, ℕ, ◌+◌, ◌-◌, ◌<◌, Bool, true, false, List, [], ◌∷◌, ◌++◌, length, take, drop, slice_range, refl, sym, ap, ◌∙◌, arith, filter, append_assoc, length-append}
+use Rattle.std.proofs.Common.{◌≡◌, ℕ, ◌+◌, ◌-◌, ◌<◌, Bool, true, false, List, [], ◌∷◌, ◌++◌, length, take, drop, slice_range, refl, sym, ap, ◌∙◌, arith, filter}
+use Rattle.std.proofs.Common.{append_assoc, length-append}
 use Rattle.std.specs.List.{slice_split, onto_first, AllPass}
 use Rattle.std.proofs.lemmas.List.{append-nil, append_cancel_right, length_push, take_at, drop_at}
 use Rattle.std.proofs.lemmas.List.Elements.{filter-append, All-head, All-tail}

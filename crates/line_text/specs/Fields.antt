@@ -1,5 +1,6 @@
 -- The fields of a text.
-use Rattle.std.specs.Prelude.{◌≡◌, ◌<◌, ◌≤◌, ℕ, ◌==◌, ◌||◌, nat_lt, not, ⊤, true, Bool, List, [], ◌∷◌, ◌++◌, length, take, drop, filter, slice_range}
+use Rattle.std.specs.Prelude.{◌≡◌, ◌<◌, ◌≤◌, ℕ, ◌==◌, ◌||◌, nat_lt, not, ⊤, true, Bool, List, [], ◌∷◌, ◌++◌, length}
+use Rattle.std.specs.Prelude.{take, drop, filter, slice_range}
 use Rattle.std.specs.List.{slice_split, AllPass}
 
 -- the test that a byte is a space or a tab

@@ -1,5 +1,6 @@
 -- Where a line breaks the limits, and which fault that is.
-use Rattle.std.specs.Prelude.{ℕ, ◌+◌, nat_lt, if◌then◌else◌, Bool, true, false, List, [], ◌∷◌, length, Option, Some, None, Result, Ok, Err}
+use Rattle.std.specs.Prelude.{ℕ, ◌+◌, nat_lt, if◌then◌else◌, Bool, true, false, List, [], ◌∷◌, length, Option, Some}
+use Rattle.std.specs.Prelude.{None, Result, Ok, Err}
 use Rattle.line_text.specs.declared.limits.LineFault.{LineFault}
 use Rattle.line_text.specs.declared.limits.LineFault.TheVariants.{TooLong, Total}
 use Rattle.line_text.specs.declared.limits.LineLimits.{LineLimits}

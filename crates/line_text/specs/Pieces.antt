@@ -13,7 +13,7 @@ pub record InPlace (size text_start text_end held_start held_end : ℕ) : Type 0
   pub held : held_start ≤ held_end
   pub held_within : held_end ≤ size
 
--- The counts are within the limits, at most one byte past the total was taken, and the line's limit leaves room in the buffer.
+-- The counts are within the limits, at most one byte past the total was taken, and the line's limit leaves room.
 pub record InBounds (limits : LineLimits) (text_len held_len number passed : ℕ) : Type 0 where
   pub counted : number ≤ passed
   pub within_total : passed ≤ limits.total

@@ -1,5 +1,6 @@
 -- What a reader of lines shows, and what the next line does to it.
-use Rattle.std.specs.Prelude.{◌≡◌, ◌≢◌, ◌+◌, ◌<◌, ◌≤◌, ℕ, Bool, true, false, List, [], ◌∷◌, length, Option, Some, None, IfSome, IsSomeAnd, Result, Ok, Err}
+use Rattle.std.specs.Prelude.{◌≡◌, ◌≢◌, ◌+◌, ◌<◌, ◌≤◌, ℕ, Bool, true, false, List, [], ◌∷◌, length, Option, Some, None}
+use Rattle.std.specs.Prelude.{IfSome, IsSomeAnd, Result, Ok, Err}
 use Rattle.std.specs.Io.KnownBytes.{prepend_known}
 use Rattle.route_io.specs.Sources.{SourceState}
 use Rattle.line_text.specs.declared.limits.LineFault.{LineFault}
@@ -45,8 +46,8 @@ begun limits = record {
 abbrev pub rest_of : Lines → SourceState → Option (List ℕ)
 rest_of lines source = prepend_known lines.held source.left
 
--- The counts are within the limits: each line has a byte at least. At most one byte past the total was taken from the source,
--- and no more bytes are held than the buffer has.
+-- The counts are within the limits: each line has a byte at least. At most one byte past the total was taken from the
+-- source, and no more bytes are held than the buffer has.
 pub record InLimits (lines : Lines) : Type 0 where
   pub number : lines.number ≤ lines.passed
   pub passed : lines.passed ≤ lines.limits.total
@@ -64,7 +65,8 @@ pub record CountsLine (old new : Lines) : Type 0 where
 -- No byte is lost: where it is told what is left to read, as many bytes as before are passed or left.
 abbrev pub LosesNone : Lines → Lines → SourceState → SourceState → Type 0
 LosesNone old new before after =
-    IfSome (rest_of old before) (λ rest. IsSomeAnd (rest_of new after) (λ more. new.passed + length more ≡ old.passed + length rest))
+    IfSome (rest_of old before) (λ rest.
+    IsSomeAnd (rest_of new after) (λ more. new.passed + length more ≡ old.passed + length rest))
 
 -- There is no current line, and the counts stand.
 pub record CountsNone (old new : Lines) : Type 0 where
@@ -78,9 +80,9 @@ Counts old new (Ok true) = CountsLine old new
 Counts old new other = CountsNone old new
 
 -- the test that the source failed in a call with this answer, where this fault was kept before the call
-abbrev pub read_failed : {T : Type 0} → Option LineFault → Result T LineFault → Bool
-read_failed None (Err fault.Read) = true
-read_failed kept other = false
+abbrev pub line_failed : {T : Type 0} → Option LineFault → Result T LineFault → Bool
+line_failed None (Err fault.Read) = true
+line_failed kept other = false
 
 -- The first line of the rest is current, and what stands behind it is left.
 pub record TakesLine (old new : Lines) (rest : List ℕ) (after : Option (List ℕ)) : Type 0

@@ -1,11 +1,13 @@
-ghost use Rattle.std.specs.Prelude.{◌≡◌, ◌≢◌, ◌↔◌, ◌+◌, ◌-◌, ◌<◌, ◌≤◌, ◌++◌, List, [], length, take, drop, false, true, Ok, Err, Some, IfOk, OnOk, OnErr, IfSome, IfNone, IsSome, IsTrue, MatchOption, min, slice_range, is_err, None};
+ghost use Rattle.std.specs.Prelude.{◌≡◌, ◌≢◌, ◌↔◌, ◌+◌, ◌-◌, ◌<◌, ◌≤◌, ◌++◌, List, [], length, take, drop, false, true};
+ghost use Rattle.std.specs.Prelude.{Ok, Err, Some, IfOk, OnOk, OnErr, IfSome, IfNone, IsSome, IsTrue, MatchOption, min};
+ghost use Rattle.std.specs.Prelude.{slice_range, is_err, None};
 ghost use Rattle.std.specs.Result.{result_err};
 ghost use Rattle.std.specs.Io.KnownBytes.{Keeps, IsAtEnd};
 ghost use Rattle.route_io.specs.Sources.{Reads, ReadsFrom};
 ghost use Rattle.line_text.specs.Lines.{first_lf, without_cr};
 ghost use Rattle.line_text.specs.Marks.{first_fault, line_fault};
 ghost use Rattle.line_text.specs.Pieces.{Grows, TakesHeld, past_line};
-ghost use Rattle.line_text.specs.Reading.{Advances, InLimits, begun, max_held, max_line, read_failed, rest_of};
+ghost use Rattle.line_text.specs.Reading.{Advances, InLimits, begun, max_held, max_line, line_failed, rest_of};
 
 use crate::{LineFault, LineLimits};
 use cost_vector::OutOfMemory;
@@ -83,8 +85,8 @@ impl Lines {
 
     /// Makes the next line current and answers true, or false where the input has ended and no byte is left.
     ///
-    /// `TooLong` is a line with more bytes before its LF than the limit, and `Total` one in which the first byte past the
-    /// total stands. Where both are so, the byte that comes first decides, and at one byte it is `TooLong`.
+    /// `TooLong` is a line with more bytes before its LF than the limit, and `Total` one in which the first byte past
+    /// the total stands. Where both are so, the byte that comes first decides, and at one byte it is `TooLong`.
     pub fn next_line<S: Source>(&mut self, source: &mut S) -> Result<bool, LineFault>
         // A kept fault is answered again. Nothing changes then, and nothing is read.
         ensures again { IfSome self.old.fault (λ fault. result ≡ Err fault) }
@@ -95,15 +97,16 @@ impl Lines {
         ensures keeps_fault { self.new.fault ≡ result_err result }
         ensures takes_no_memory { result ≢ Err LineFault.OutOfMemory }
 
-        // Over every source the counts are those of lines, and at most one byte past the total is passed or held. Where
-        // the source tells its bytes, the lines are those of what is left, in whatever pieces it comes, and no byte is lost.
+        // Over every source the counts are those of lines, and at most one byte past the total is passed or held.
+        // Where the source tells its bytes, the lines are those of what is left, in whatever pieces it comes, and no
+        // byte is lost.
         ensures advances { IfNone self.old.fault
             (Advances self.old self.new (S.state source.old) (S.state source.new) result) }
         ensures in_limits { InLimits self.new }
 
         // The source's failures alone make a failed read.
         ensures source { ReadsFrom (S.state source.old) (S.state source.new)
-            (read_failed self.old.fault result) }
+            (line_failed self.old.fault result) }
     {
         if let Some(fault) = self.fault {
             return Err(fault);
@@ -134,7 +137,7 @@ impl Lines {
         ensures advances { Advances self.old self.new
             (S.state source.old) (S.state source.new) result }
         ensures source { ReadsFrom (S.state source.old) (S.state source.new)
-            (read_failed None result) }
+            (line_failed None result) }
     {
         self.drop_text();
         let mut searched = 0;
@@ -299,8 +302,8 @@ fn text_len(line: &[u8]) -> usize
     }
 }
 
-/// Leaves room behind the bytes from `start` up to `end`, and answers where they start then. They are moved to the front
-/// only where they reach the buffer's end.
+/// Leaves room behind the bytes from `start` up to `end`, and answers where they start then. They are moved to the
+/// front only where they reach the buffer's end.
 fn make_room(buffer: &mut [u8], start: usize, end: usize) -> usize
     requires ordered { start ≤ end }
     requires within { end ≤ length buffer.old }

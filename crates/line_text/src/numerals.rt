@@ -16,7 +16,8 @@ pub enum Numeral {
     Value(u64),
 }
 
-/// The number that a text of one or more ASCII digits writes, if it is at most `greatest`. Leading zeros count for nothing.
+/// The number that a text of one or more ASCII digits writes, if it is at most `greatest`. Leading zeros count for
+/// nothing.
 pub fn decimal(text: &[u8], greatest: u64) -> Numeral
     ensures { result ≡ numeral_of text.now greatest }
 {

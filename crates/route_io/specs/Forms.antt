@@ -15,7 +15,7 @@ pub record MemorySource : Type 0 where
 abbrev pub memory_source_state : MemorySource → SourceState
 memory_source_state source = record { left = Some source.left; files = None; faults = source.calls.faults }
 
--- a sink in memory: the bytes that it took, the most that it takes in all and by a write, its wants of memory, and its calls
+-- a sink in memory: the bytes that it took, the most that it takes in all and in one write, its wants, and its calls
 pub record MemorySink : Type 0 where
   pub sent : List ℕ
   pub bound : ℕ
@@ -35,7 +35,7 @@ room sink = min sink.piece (sink.bound - length sink.sent)
 abbrev pub IsFull : MemorySink → Type 0
 IsFull sink = sink.bound ≤ length sink.sent
 
--- a folder in memory: its files, what is left of the one that was selected last, the most that a read gives, and its calls
+-- a folder in memory: its files, what is left of the one selected last, the most that a read gives, and its calls
 pub record MemoryFolder : Type 0 where
   pub files : List NamedFile
   pub left : List ℕ
@@ -44,7 +44,11 @@ pub record MemoryFolder : Type 0 where
 
 -- what it shows as a folder
 abbrev pub memory_folder_state : MemoryFolder → SourceState
-memory_folder_state folder = record { left = Some folder.left; files = Some (first_of_name folder.files); faults = folder.calls.faults }
+memory_folder_state folder = record {
+  left = Some folder.left;
+  files = Some (first_of_name folder.files);
+  faults = folder.calls.faults;
+}
 
 -- what a source that never fails shows: it is the list of the bytes that it has left
 abbrev pub sure_source_state : List ℕ → SourceState
@@ -67,7 +71,11 @@ pub record SureFolder : Type 0 where
 
 -- what it shows as a folder
 abbrev pub sure_folder_state : SureFolder → SourceState
-sure_folder_state folder = record { left = Some folder.left; files = Some (first_of_name folder.files); faults = folder.missing }
+sure_folder_state folder = record {
+  left = Some folder.left;
+  files = Some (first_of_name folder.files);
+  faults = folder.missing;
+}
 
 -- what is left of an open file, where it tells, and nothing where none is open
 abbrev pub open_left : {F : Type 0} → (F → Option (List ℕ)) → Option F → Option (List ℕ)

@@ -1,5 +1,6 @@
 -- What a sink shows to contracts, and what its calls do to it.
-use Rattle.std.specs.Prelude.{ℕ, ◌<◌, ◌≤◌, List, Bool, true, false, Option, Result, Ok, Err, IfOk, MatchResult, length, take}
+use Rattle.std.specs.Prelude.{ℕ, ◌<◌, ◌≤◌, List, Bool, true, false, Option, Result, Ok, Err, IfOk, MatchResult, length}
+use Rattle.std.specs.Prelude.{take}
 use Rattle.std.specs.Io.KnownBytes.{Appends, WriteAppends}
 use Rattle.route_io.specs.declared.fault.SinkFault.{SinkFault}
 use Rattle.route_io.specs.declared.fault.SinkFault.TheVariants as sink
@@ -16,7 +17,7 @@ pub record SinkState : Type 0 where
   -- how often the sink itself wanted memory and had none: a count that never falls
   pub wants : ℕ
 
--- What calls did to a sink, but for the bytes that it took: a failure was counted, a want of memory was, and nothing else.
+-- What calls did to the counts of a sink: a failure was counted, or a want of memory, and nothing else.
 pub record WritesTo (old new : SinkState) (failed wanted : Bool) : Type 0 where
   pub faults : IsCounted failed old.faults new.faults
   pub wants : IsCounted wanted old.wants new.wants
@@ -45,7 +46,7 @@ abbrev pub SendsOrPrefix : {T E : Type 0} → Option (List ℕ) → Option (List
 SendsOrPrefix old new text result =
     MatchResult result (λ _. Appends old new text) (λ _. (n : ℕ) × (n < length text) × Appends old new (take n text))
 
--- A text was sent: the sink took it whole, or it failed or wanted memory, and took a part of it from the front, short of the whole.
+-- A text was sent: the sink took it whole, or took a part of it from the front and failed or wanted memory.
 pub record Sends {T : Type 0} (old new : SinkState) (text : List ℕ) (result : Result T WriteFault) : Type 0 where
   pub bytes : SendsOrPrefix old.sent new.sent text result
   pub cause : WriteHasCause old new result

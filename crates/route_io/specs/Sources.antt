@@ -15,7 +15,7 @@ pub record SourceState : Type 0 where
   -- how often the source has failed: a count that never falls
   pub faults : ℕ
 
--- What calls did to a source, but for the bytes that they took: a failure was counted, nothing else was, and the files stay.
+-- What calls did to a source but for its bytes: a failure was counted, nothing else was, and the files stay.
 pub record ReadsFrom (old new : SourceState) (failed : Bool) : Type 0 where
   pub cause : IsCounted failed old.faults new.faults
   pub files : new.files ≡ old.files

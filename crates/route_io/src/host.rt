@@ -1,6 +1,7 @@
 //! Forms of the host: its files, and what it prints to. They tell of content what the runtime's files and writers tell:
 //! those of the real host nothing.
-ghost use Rattle.std.specs.Prelude.{◌≡◌, ◌<◌, ◌≤◌, [], None, Some, Ok, false, is_err, is_ok, length, IfOk, IfErr, OnErr};
+ghost use Rattle.std.specs.Prelude.{◌≡◌, ◌<◌, ◌≤◌, [], None, Some, Ok, false, is_err, is_ok, length, IfOk, IfErr};
+ghost use Rattle.std.specs.Prelude.{OnErr};
 ghost use Rattle.route_io.specs.Causes.{IsCounted, count_up};
 ghost use Rattle.route_io.specs.Forms.{host_folder_state, reader_state, writer_state};
 ghost use Rattle.route_io.specs.Sinks.{Writes};
@@ -127,11 +128,7 @@ impl<P: Print> Sink for HostSink<P> {
 }
 
 /// Writes some of a piece from its front. A write that takes nothing is an error too.
-fn write_some<W: Write>(
-    to: &mut W,
-    faults: &mut u64,
-    piece: &[u8],
-) -> Result<usize, SinkFault>
+fn write_some<W: Write>(to: &mut W, faults: &mut u64, piece: &[u8]) -> Result<usize, SinkFault>
     requires { 0 < length piece.now }
     ensures never_wants { IfErr result (λ fault. fault ≡ SinkFault.Failed) }
     ensures counted { OnErr result (faults.new ≡ count_up faults.old) }

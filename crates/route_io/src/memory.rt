@@ -1,6 +1,7 @@
-//! Forms in memory, which tell their bytes to contracts. Each fails at the calls whose numbers, from 0, it was given, and
-//! gives or takes as many bytes a call as there are, or at most as many as `with_piece` says.
-ghost use Rattle.std.specs.Prelude.{◌≡◌, ◌<◌, ◌≤◌, ◌↔◌, ◌⊎◌, [], Some, None, length, min, Err, IsErr, IfOk, OnOk, OnErr};
+//! Forms in memory, which tell their bytes to contracts. Each fails at the calls whose numbers, from 0, it was given,
+//! and a call gives or takes as many bytes as there are, or at most as many as `with_piece` says.
+ghost use Rattle.std.specs.Prelude.{◌≡◌, ◌<◌, ◌≤◌, ◌↔◌, ◌⊎◌, [], Some, None, length, min, Err, IsErr, IfOk, OnOk};
+ghost use Rattle.std.specs.Prelude.{OnErr};
 ghost use Rattle.route_io.specs.Calls.{IsToFail, after_call, after_write, none_made};
 ghost use Rattle.route_io.specs.Files.{first_of_name};
 ghost use Rattle.route_io.specs.Forms.{IsFull, memory_folder_state, memory_sink_state, memory_source_state, room};
@@ -49,15 +50,12 @@ impl MemorySource {
     }
 
     /// The same source, whose reads give at most so many bytes.
-    pub fn with_piece(self, size: usize) -> Self
+    pub fn with_piece(mut self, size: usize) -> Self
         requires { 1 ≤ size }
         ensures { result ≡ record self { piece = size } }
     {
-        MemorySource {
-            source: self.source,
-            piece: size,
-            calls: self.calls,
-        }
+        self.piece = size;
+        self
     }
 }
 
@@ -123,16 +121,12 @@ impl MemorySink {
     }
 
     /// The same sink, whose writes take at most so many bytes.
-    pub fn with_piece(self, size: usize) -> Self
+    pub fn with_piece(mut self, size: usize) -> Self
         requires { 1 ≤ size }
         ensures { result ≡ record self { piece = size } }
     {
-        MemorySink {
-            sink: self.sink,
-            bound: self.bound,
-            piece: size,
-            calls: self.calls,
-        }
+        self.piece = size;
+        self
     }
 
     /// The bytes that it took.
@@ -208,15 +202,12 @@ impl MemoryFolder {
     }
 
     /// The same folder, whose reads give at most so many bytes.
-    pub fn with_piece(self, size: usize) -> Self
+    pub fn with_piece(mut self, size: usize) -> Self
         requires { 1 ≤ size }
         ensures { result ≡ record self { piece = size } }
     {
-        MemoryFolder {
-            shelf: self.shelf,
-            piece: size,
-            calls: self.calls,
-        }
+        self.piece = size;
+        self
     }
 }
 

@@ -44,7 +44,8 @@ impl Source for SureSource {
 
     fn read(&mut self, buf: &mut [u8]) -> Result<usize, Failed>
         ensures never_fails { result ≡ Ok (min (length self.old) (length buf.old)) }
-        ensures reads { Reads (sure_source_state self.old) (sure_source_state self.new) result buf.new }
+        ensures reads { Reads
+            (sure_source_state self.old) (sure_source_state self.new) result buf.new }
     {
         let given = copy_front(&self.bytes[self.given..], buf);
         self.given += given;
@@ -94,7 +95,8 @@ impl Sink for SureSink {
         requires { 0 < length piece.now }
         ensures never_fails { IfErr result (λ fault. fault ≡ SinkFault.OutOfMemory) }
         ensures whole { IfOk result (λ n. n ≡ length piece.now) }
-        ensures writes { Writes (sure_sink_state self.old) (sure_sink_state self.new) piece.now result }
+        ensures writes { Writes
+            (sure_sink_state self.old) (sure_sink_state self.new) piece.now result }
     {
         if self.sent.extend_from_slice(piece).is_err() {
             count(&mut self.wants);
@@ -140,7 +142,8 @@ impl Source for SureFolder {
         ensures never_fails { result ≡ Ok (min (length self.old.left) (length buf.old)) }
         ensures same_files { self.new.files ≡ self.old.files }
         ensures same_count { self.new.missing ≡ self.old.missing }
-        ensures reads { Reads (sure_folder_state self.old) (sure_folder_state self.new) result buf.new }
+        ensures reads { Reads
+            (sure_folder_state self.old) (sure_folder_state self.new) result buf.new }
     {
         Ok(self.shelf.give(buf))
     }
@@ -153,7 +156,8 @@ impl Folder for SureFolder {
         ensures missing { IsErr result ↔ (first_of_name self.old.files name.now ≡ None) }
         ensures counted { OnErr result (self.new.missing ≡ count_up self.old.missing) }
         ensures same_files { self.new.files ≡ self.old.files }
-        ensures selects { Selects (sure_folder_state self.old) (sure_folder_state self.new) name.now result }
+        ensures selects { Selects
+            (sure_folder_state self.old) (sure_folder_state self.new) name.now result }
     {
         let opened = self.shelf.open(name);
         if opened.is_err() {

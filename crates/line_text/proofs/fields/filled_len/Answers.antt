@@ -9,6 +9,6 @@ use Rattle.line_text.proofs.fields.filled_len.Goals as goal
 
 pub returns-clause-value : goal.returns-clause-value
 returns-clause-value c =
-    let place = position_from_yields_List is_blank _ _ c.position-blank.result c.position-blank.ensures.ran (YieldsList-from_slice c.args.text.now c.iter.ensures.rest)
-    (λ x b q k. search rules) in
+    let place = position_from_yields_List is_blank _ _ c.position-blank.result c.position-blank.ensures.ran
+    (YieldsList-from_slice c.args.text.now c.iter.ensures.rest) (λ x b q k. search rules) in
     c.unwrap_or.ensures ∙ ap (λ found. unwrap_or found (length c.args.text.now)) place ∙ place_or_len _ _ (prefix_len-le-length _ c.args.text.now)

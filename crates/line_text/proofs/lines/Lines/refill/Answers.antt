@@ -66,9 +66,10 @@ returns-clause-grows g c = (_, grown g ((goal.at.returns-clause-grows g c).After
 
 pub returns-clause-end : goal.returns-clause-end
 returns-clause-end g c = λ e.
-    let none : c.in_ok-taken.taken ≡ 0 = zero_from_false _ e in (
-      kept_by g ((goal.at.returns-clause-end g c).After-read_behind) c.in_ok-taken.taken none,
-      c.in_ok-taken.ensures.reads.bytes.1 none (omega (arith, length-drop (end_after g ((goal.at.returns-clause-end g c).After-read_behind)) c.read_behind.new.buffer)),
+    let none : c.in_ok-taken.taken ≡ 0 = zero_from_false _ e in
+    let read = (goal.at.returns-clause-end g c).After-read_behind in (
+      kept_by g read c.in_ok-taken.taken none,
+      c.in_ok-taken.ensures.reads.bytes.1 none (omega (arith, length-drop (end_after g read) c.read_behind.new.buffer)),
     )
 
 pub returns-clause-rest : goal.returns-clause-rest

@@ -1,5 +1,6 @@
 -- What a line of a weight file says.
-use Rattle.std.specs.Prelude.{ℕ, ◌^◌, ◌==◌, Bool, if◌then◌else◌, List, [], ◌∷◌, Option, Some, None, codes, min, nat_eq, slice_index, unwrap_or}
+use Rattle.std.specs.Prelude.{ℕ, ◌^◌, ◌==◌, Bool, if◌then◌else◌, List, [], ◌∷◌, Option, Some, None, codes, min, nat_eq}
+use Rattle.std.specs.Prelude.{slice_index, unwrap_or}
 use Rattle.std.specs.Cmp.Lexicographic.{pointwise}
 use Rattle.line_text.specs.Fields.{fields_of}
 use Rattle.line_text.specs.Numerals.{is_digits, value_of}
@@ -41,12 +42,15 @@ arc_from fields = None
 -- what a line says by its first field and the others
 abbrev pub form_from : List ℕ → List (List ℕ) → Option Form
 form_from word fields =
-    if is_word word (codes "a") then arc_from fields else (if is_word word (codes "p") then problem_from fields else None)
+    if is_word word (codes "a")
+    then arc_from fields
+    else (if is_word word (codes "p") then problem_from fields else None)
 
 -- what a line of these fields says: it is ignored where it has no field, or its first byte that isn't a blank is a `c`
 abbrev pub form_of_fields : List (List ℕ) → Option Form
 form_of_fields [] = None
-form_of_fields (word ∷ fields) = if slice_index word 0 == 99 then None else Some (unwrap_or (form_from word fields) Malformed)
+form_of_fields (word ∷ fields) =
+    if slice_index word 0 == 99 then None else Some (unwrap_or (form_from word fields) Malformed)
 
 -- what a line without a CR at its end says, or None where it is blank or a comment
 abbrev pub form_of : List ℕ → Option Form

@@ -1,6 +1,7 @@
 -- The weight files of the 9th DIMACS Implementation Challenge, and the first fault of a text that is none.
-use Rattle.std.specs.Prelude.{◌≡◌, ℕ, ◌+◌, ◌-◌, ◌^◌, ◌<◌, ◌≤◌, Bool, true, false, List, [], ◌∷◌, length, map, min, take, sum_by, count_by, slice_get, Option, Some, None}
-use Rattle.std.specs.List.{AllByRecursion, filter_map}
+use Rattle.std.specs.Prelude.{◌≡◌, ℕ, ◌+◌, ◌-◌, ◌^◌, ◌<◌, ◌≤◌, Bool, true, false, List, [], ◌∷◌, length, map, min, take}
+use Rattle.std.specs.Prelude.{sum_by, count_by, slice_get, Option, Some, None, All}
+use Rattle.std.specs.List.{filter_map}
 use Rattle.road_network.specs.Limits.{max_nodes, max_arcs}
 use Rattle.arc_graph.specs.declared.file.ArcLine.{ArcLine}
 use Rattle.road_network.specs.Network.{IsNode}
@@ -26,16 +27,16 @@ pub record IsArc (nodes : ℕ) (arc : ArcLine) : Type 0 where
   pub head : IsNode nodes arc.head
   pub weight : arc.weight < 2 ^ 32
 
--- The text is a weight file of so many nodes and these arcs. But for blank lines and comments it has one problem line and
--- behind it as many arc lines as that says.
+-- The text is a weight file of so many nodes and these arcs. But for blank lines and comments it has one problem line
+-- and behind it as many arc lines as that says.
 pub record IsGr (limits : FileLimits) (bytes : List ℕ) (nodes : ℕ) (arcs : List ArcLine) : Type 0 where
-  pub short_lines : AllByRecursion (λ line. length line ≤ limits.line) (lines_of bytes)
+  pub short_lines : All (λ line. length line ≤ limits.line) (lines_of bytes)
   pub short_file : length bytes ≤ limits.file
   pub lines : forms_of (lines_of bytes) ≡ Problem nodes (length arcs) ∷ map form_of_arc arcs
   pub some_node : 1 ≤ nodes
   pub most_nodes : nodes ≤ max_nodes
   pub most_arcs : length arcs ≤ max_arcs
-  pub in_range : AllByRecursion (IsArc nodes) arcs
+  pub in_range : All (IsArc nodes) arcs
 
 -- the sizes of the first problem line
 abbrev pub sizes_in : List Form → Option Sizes
@@ -67,10 +68,11 @@ kind_there limits total state None = end_kind state
 -- the fault of the place number i, from 0
 abbrev pub kind_at : FileLimits → List ℕ → ℕ → Option LineKind
 kind_at limits bytes i =
-    kind_there limits (length bytes) (state_behind (length bytes) (take i (lines_of bytes))) (slice_get (lines_of bytes) i)
+    kind_there limits (length bytes) (state_behind (length bytes) (take i (lines_of bytes)))
+    (slice_get (lines_of bytes) i)
 
--- The line of this number, from 1, is the first faulty one, and this is the first fault that fits it. The place behind the
--- last line counts as a line.
+-- The line of this number, from 1, is the first faulty one, and this is the first fault that fits it. The place behind
+-- the last line counts as a line.
 pub record GrFault (limits : FileLimits) (bytes : List ℕ) (kind : LineKind) (line : ℕ) : Type 0 where
   pub counted : 1 ≤ line
   pub within : line ≤ length (lines_of bytes) + 1

@@ -5,7 +5,8 @@ use Rattle.line_text.specs.declared.limits.LineFault.TheVariants as lines
 use Rattle.gr_reader.specs.declared.fault.FileFault.{FileFault}
 use Rattle.gr_reader.specs.declared.fault.FileFault.TheVariants.{Line, Read, OutOfMemory}
 use Rattle.gr_reader.specs.declared.fault.LineKind.{LineKind}
-use Rattle.gr_reader.specs.declared.fault.LineKind.TheVariants.{BadLine, NoProblem, SecondProblem, SizeRange, NodeRange, WeightRange, CountWrong, LineTooLong, FileTooLong}
+use Rattle.gr_reader.specs.declared.fault.LineKind.TheVariants.{BadLine, NoProblem, SecondProblem, SizeRange, NodeRange}
+use Rattle.gr_reader.specs.declared.fault.LineKind.TheVariants.{WeightRange, CountWrong, LineTooLong, FileTooLong}
 
 -- the number of a kind
 abbrev pub kind_number : LineKind → ℕ

@@ -11,20 +11,26 @@ use Rattle.gr_reader.specs.Grammar.{IsGr, GrFault}
 abbrev pub FilesAreRead : Type 0
 FilesAreRead =
     (limits : FileLimits) (bytes : List ℕ) (nodes : ℕ) (arcs : List ArcLine) →
-    IsGr limits bytes nodes arcs ↔ (read_rest limits at_start bytes ≡ record { sizes = said nodes (length arcs); arcs = arcs; end = None })
+    IsGr limits bytes nodes arcs
+    ↔ (read_rest limits at_start bytes ≡ record { sizes = said nodes (length arcs); arcs = arcs; end = None })
 
 -- The fault that a reading meets is exactly that of the first faulty line.
 abbrev pub FirstFaultsAreMet : Type 0
 FirstFaultsAreMet =
     (limits : FileLimits) (bytes : List ℕ) (kind : LineKind) (line : ℕ) →
-    GrFault limits bytes kind line ↔ ((read_rest limits at_start bytes).end ≡ Some (record { kind = kind; line = line }))
+    GrFault limits bytes kind line
+    ↔ ((read_rest limits at_start bytes).end ≡ Some (record { kind = kind; line = line }))
 
 -- A text is one weight file, or it has one first fault, and never both.
 pub record IsDecided (limits : FileLimits) (bytes : List ℕ) : Type 0 where
-  pub answer : ((nodes : ℕ) × (arcs : List ArcLine) × IsGr limits bytes nodes arcs) ⊎ ((kind : LineKind) × (line : ℕ) × GrFault limits bytes kind line)
-  pub one_file : (nodes others : ℕ) (arcs other_arcs : List ArcLine) → IsGr limits bytes nodes arcs → IsGr limits bytes others other_arcs → (nodes ≡ others) × (arcs ≡ other_arcs)
-  pub one_fault : (kind other : LineKind) (line other_line : ℕ) → GrFault limits bytes kind line → GrFault limits bytes other other_line → (kind ≡ other) × (line ≡ other_line)
-  pub never_both : (nodes : ℕ) (arcs : List ArcLine) (kind : LineKind) (line : ℕ) → IsGr limits bytes nodes arcs → GrFault limits bytes kind line → ⊥
+  pub answer : ((nodes : ℕ) × (arcs : List ArcLine) × IsGr limits bytes nodes arcs)
+      ⊎ ((kind : LineKind) × (line : ℕ) × GrFault limits bytes kind line)
+  pub one_file : (nodes others : ℕ) (arcs other_arcs : List ArcLine) → IsGr limits bytes nodes arcs
+      → IsGr limits bytes others other_arcs → (nodes ≡ others) × (arcs ≡ other_arcs)
+  pub one_fault : (kind other : LineKind) (line other_line : ℕ) → GrFault limits bytes kind line
+      → GrFault limits bytes other other_line → (kind ≡ other) × (line ≡ other_line)
+  pub never_both : (nodes : ℕ) (arcs : List ArcLine) (kind : LineKind) (line : ℕ) → IsGr limits bytes nodes arcs
+      → GrFault limits bytes kind line → ⊥
 
 -- the same of every text
 abbrev pub TextsAreDecided : Type 0

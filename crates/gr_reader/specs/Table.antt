@@ -1,5 +1,6 @@
 -- Which fault a line has: the first of the table that fits it.
-use Rattle.std.specs.Prelude.{ℕ, ◌+◌, ◌-◌, ◌^◌, ◌&&◌, nat_le, if◌then◌else◌, not, min, Bool, true, false, is_none, is_some, List, [], ◌∷◌, length, find, Option, Some, None, option_and_then}
+use Rattle.std.specs.Prelude.{ℕ, ◌+◌, ◌-◌, ◌^◌, ◌&&◌, nat_le, if◌then◌else◌, not, min, Bool, true, false, is_none}
+use Rattle.std.specs.Prelude.{is_some, List, [], ◌∷◌, length, find, Option, Some, None, option_and_then}
 use Rattle.std.specs.Option.{option_or}
 use Rattle.road_network.specs.Limits.{max_nodes, max_arcs}
 use Rattle.line_text.specs.declared.limits.LineFault.{LineFault}
@@ -9,7 +10,8 @@ use Rattle.line_text.specs.Lines.{without_cr}
 use Rattle.line_text.specs.Marks.{line_fault}
 use Rattle.gr_reader.specs.declared.fault.FileLimits.{FileLimits}
 use Rattle.gr_reader.specs.declared.fault.LineKind.{LineKind}
-use Rattle.gr_reader.specs.declared.fault.LineKind.TheVariants.{BadLine, NoProblem, SecondProblem, SizeRange, NodeRange, WeightRange, CountWrong, LineTooLong, FileTooLong}
+use Rattle.gr_reader.specs.declared.fault.LineKind.TheVariants.{BadLine, NoProblem, SecondProblem, SizeRange, NodeRange}
+use Rattle.gr_reader.specs.declared.fault.LineKind.TheVariants.{WeightRange, CountWrong, LineTooLong, FileTooLong}
 use Rattle.gr_reader.specs.declared.form.Form.{Form}
 use Rattle.gr_reader.specs.declared.form.Form.TheVariants.{Problem, Arc, Malformed}
 use Rattle.gr_reader.specs.Forms.{form_of}

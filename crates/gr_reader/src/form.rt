@@ -1,7 +1,8 @@
 ghost use Rattle.std.specs.Prelude.{◌≡◌, ◌≢◌, [], ◌∷◌, MatchOption, length};
 ghost use Rattle.std.specs.Option.{option_map};
 ghost use Rattle.line_text.specs.Fields.{fields_of};
-ghost use Rattle.gr_reader.specs.Forms.{arc_from, capped, capped_number, form_from, form_of as form_of_text, number_of, problem_from};
+ghost use Rattle.gr_reader.specs.Forms.{arc_from, capped, capped_number, form_from, form_of as form_of_text, number_of};
+ghost use Rattle.gr_reader.specs.Forms.{problem_from};
 
 use line_text::{Numeral, decimal, next_field};
 

@@ -10,7 +10,7 @@ use std::alloc::{AllocError, Global};
 use std::test::Fail;
 
 /// A source that gives a text in pieces of this length, and fails at the reads of these numbers.
-fn pieces(
+pub(super) fn pieces(
     alloc: Global,
     text: &[u8],
     length: usize,
@@ -20,7 +20,7 @@ fn pieces(
 }
 
 /// How many bytes a source of a short text has left.
-fn left_in(source: &mut MemorySource) -> usize {
+pub(super) fn left_in(source: &mut MemorySource) -> usize {
     let mut left = 0usize;
     let mut buf = [0; 8];
     for _ in 0..100 {

@@ -1,4 +1,4 @@
-use Rattle.gr_reader.proofs.Deciding.{files_are_read}
+use Rattle.gr_reader.proofs.LawsLemmas.{files_are_read}
 use Rattle.gr_reader.proofs.laws.files_are_read.Goals as goal
 
 pub returns : goal.returns

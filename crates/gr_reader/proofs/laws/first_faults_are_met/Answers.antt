@@ -1,4 +1,4 @@
-use Rattle.gr_reader.proofs.Deciding.{first_faults_are_met}
+use Rattle.gr_reader.proofs.LawsLemmas.{first_faults_are_met}
 use Rattle.gr_reader.proofs.laws.first_faults_are_met.Goals as goal
 
 pub returns : goal.returns

@@ -1,4 +1,4 @@
-use Rattle.gr_reader.proofs.Deciding.{texts_are_decided}
+use Rattle.gr_reader.proofs.LawsLemmas.{texts_are_decided}
 use Rattle.gr_reader.proofs.laws.texts_are_decided.Goals as goal
 
 pub returns : goal.returns

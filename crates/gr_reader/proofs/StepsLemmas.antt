@@ -1,37 +1,34 @@
 -- From line to line up to the first that isn't ignored, in whatever a source tells.
-use Rattle.std.proofs.Common.{◌≡◌, ℕ, ◌+◌, ◌<◌, List, [], ◌∷◌, Option, Some, None, IfSome, IsSomeAnd, Err, length, refl, sym, ◌∙◌, arith}
+use Rattle.std.proofs.Common.{◌≡◌, ℕ, ◌+◌, ◌<◌, List, [], ◌∷◌, Option, Some, None, IfSome, IfNone, IsSomeAnd, Bool, Result, Err, length, refl, sym, ◌∙◌, arith}
 use Rattle.std.specs.Option.{option_map}
+use Rattle.std.proofs.lemmas.Option.{MatchOption-at_none}
+use Rattle.route_io.specs.Sources.{SourceState}
 use Rattle.line_text.specs.declared.limits.LineFault.{LineFault}
 use Rattle.line_text.specs.declared.limits.LineFault.TheVariants as lines
 use Rattle.line_text.specs.Lines.{after_line, lines_of}
 use Rattle.line_text.specs.Marks.{first_fault, line_answer, answer_of}
-use Rattle.line_text.specs.Reading.{Reading, CountsNone, TakesLine, Tells}
+use Rattle.line_text.specs.Reading.{Lines, Advances, CountsNone, TakesLine, Tells}
 use Rattle.gr_reader.specs.declared.fault.LineKind.TheVariants.{LineTooLong, FileTooLong}
 use Rattle.gr_reader.specs.declared.form.Form.{Form}
 use Rattle.gr_reader.specs.Forms.{form_of, capped}
 use Rattle.gr_reader.specs.Kinds.{told_as}
-use Rattle.gr_reader.specs.Reader.{file_limits, state_of}
+use Rattle.gr_reader.specs.Reader.{file_limits, line_state}
 use Rattle.gr_reader.specs.Steps.{Skips, FindsForm, FindsFault}
-use Rattle.gr_reader.proofs.LineSteps.{given, told_of-taken, told_of-broken}
-use Rattle.gr_reader.proofs.Capping.{given-capped}
+use Rattle.gr_reader.proofs.ToldLemmas.{given, told_of-taken, told_of-broken}
+use Rattle.gr_reader.proofs.FormLemmas.{given-capped}
 
 -- what is told of a rest that is known, and of what is left of it
-pub joined : (known left : Option (List ℕ)) {P Q : List ℕ → Type 0} (S : List ℕ → List ℕ → Type 0) → IfSome known (λ rest. IsSomeAnd left (S rest))
+pub IfSome_through : (known left : Option (List ℕ)) {P Q : List ℕ → Type 0} (S : List ℕ → List ℕ → Type 0) → IfSome known (λ rest. IsSomeAnd left (S rest))
     → IfSome left P
     → ((rest more : List ℕ) → S rest more → P more → Q rest) → IfSome known Q
-joined None left S skips told each = tt
-joined (Some rest) None S skips told each = absurd skips
-joined (Some rest) (Some more) S skips told each = each rest more skips told
+IfSome_through None left S skips told each = tt
+IfSome_through (Some rest) None S skips told each = absurd skips
+IfSome_through (Some rest) (Some more) S skips told each = each rest more skips told
 
--- what holds of each rest that is known
-pub of_known : (known : Option (List ℕ)) {P Q : List ℕ → Type 0} → IfSome known P → ((rest : List ℕ) → P rest → Q rest) → IfSome known Q
-of_known None told each = tt
-of_known (Some rest) told each = each rest told
-
--- nothing is skipped yet
-pub skips_none : (known : Option (List ℕ)) (lines : Reading) → IfSome known (λ rest. IsSomeAnd known (Skips lines lines rest))
-skips_none None lines = tt
-skips_none (Some rest) lines = λ sizes come small. refl
+-- what a call did to a reader of lines that kept no fault
+pub advanced : {old new : Lines} {before after : SourceState} {result : Result Bool LineFault} → old.fault ≡ None
+    → IfNone old.fault (Advances old new before after result) → Advances old new before after result
+advanced none advances = MatchOption-at_none _ _ none advances
 
 -- the form of a line that isn't ignored
 form_is : (text : Option Form) (form : Form) → Some form ≡ option_map capped text → (line : Form) × (text ≡ Some line) × (form ≡ capped line)
@@ -42,7 +39,7 @@ ignored_is : (text : Option Form) → None ≡ option_map capped text → text �
 ignored_is None e = refl
 ignored_is (Some line) e = absurd cc
 
-module _ (old now new : Reading) (after : Option (List ℕ)) (limits : new.limits ≡ now.limits) where
+module _ (old now new : Lines) (after : Option (List ℕ)) (limits : new.limits ≡ now.limits) where
   -- one more line is ignored
   pub skips_line : (rest more : List ℕ) → Skips old now rest more → now.number + 1 ≡ new.number → TakesLine now new more after
       → None ≡ option_map capped (form_of new.text)
@@ -52,6 +49,7 @@ module _ (old now new : Reading) (after : Option (List ℕ)) (limits : new.limit
       let e = ignored_is (form_of new.text) ignored in
       rw taken.left (λ sizes come small. skips sizes come small ∙ told_of-taken now new more after taken limits (sym number) sizes come ∙ rw e refl)
 
+  -- the line says something
   pub finds_form : (rest more : List ℕ) (form : Form) → Skips old now rest more → now.number + 1 ≡ new.number → TakesLine now new more after
       → Some form ≡ option_map capped (form_of new.text)
       → FindsForm old new rest after form
@@ -63,12 +61,12 @@ module _ (old now new : Reading) (after : Option (List ℕ)) (limits : new.limit
         left = taken.left;
         told = λ sizes come small.
             let first = told_of-taken now new more after taken limits (sym number) sizes come in
-            let same = given-capped (file_limits new.limits) (new.passed + length (after_line more)) sizes come small (state_of new sizes come)
+            let same = given-capped (file_limits new.limits) (new.passed + length (after_line more)) sizes come small (line_state new sizes come)
             (lines_of (after_line more)) line.0 in
             skips sizes come small ∙ (rw line.1 at first) ∙ (rw (← line.2) at same);
       }
 
-answer_of-broken : (now : Reading) (rest : List ℕ) (fault : LineFault) → answer_of now.limits now.passed rest ≡ Err fault → (0 < length rest)
+answer_of-broken : (now : Lines) (rest : List ℕ) (fault : LineFault) → answer_of now.limits now.passed rest ≡ Err fault → (0 < length rest)
     × (first_fault now.limits now.passed rest ≡ Some fault)
 answer_of-broken now [] fault e = absurd cc
 answer_of-broken now (byte ∷ rest) fault e = (omega arith, by_fault (first_fault now.limits now.passed (byte ∷ rest)) e) where
@@ -77,7 +75,7 @@ answer_of-broken now (byte ∷ rest) fault e = (omega arith, by_fault (first_fau
   by_fault (Some broken) e = cc
 
 -- a line breaks a limit
-pub finds_fault : (old now new : Reading) (rest more : List ℕ) (after : Option (List ℕ)) (fault : LineFault) → Skips old now rest more → CountsNone now new
+pub finds_fault : (old now new : Lines) (rest more : List ℕ) (after : Option (List ℕ)) (fault : LineFault) → Skips old now rest more → CountsNone now new
     → Tells now new more after (Err fault)
     → FindsFault old rest (told_as fault (new.number + 1))
 finds_fault old now new rest more after lines.Read skips counts tells = tt

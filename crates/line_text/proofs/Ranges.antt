@@ -25,11 +25,13 @@ text_range xs start end raw len within held fits text =
     let short : len ≤ raw = omega (arith, length-slice_range xs start (start + raw)) in
     sym (take-slice_range xs start (start + raw) len (omega arith)) ∙ text ∙ sym (ap without_cr (take-slice_range xs start end raw within))
 
-pub slice_range-split : (xs : List ℕ) (a n m : ℕ) → slice_range xs a (a + n + m) ≡ slice_range xs a (a + n) ++ slice_range xs (a + n) (a + n + m)
+slice_range-split : (xs : List ℕ) (a n m : ℕ) → slice_range xs a (a + n + m) ≡ slice_range xs a (a + n) ++ take m (drop (a + n) xs)
 slice_range-split xs a n m =
+    let size : a + n + m - (a + n) ≡ m = omega arith in
     sym (take-append-drop n (slice_range xs a (a + n + m)))
     ∙ ap (λ front. front ++ drop n (slice_range xs a (a + n + m))) (take-slice_range xs a (a + n + m) n (omega arith))
-    ∙ ap (λ back. slice_range xs a (a + n) ++ back) (drop-slice_range xs a (a + n + m) n (omega arith))
+    ∙ ap (λ back. slice_range xs a (a + n) ++ back)
+    (drop-slice_range xs a (a + n + m) n (omega arith) ∙ ap (λ k. take k (drop (a + n) xs)) size)
 
 -- The part of `old` was moved within `moved` to another place, and bytes were read behind it into `new`.
 module _ (old moved new : List ℕ) (start end at : ℕ) (kept : slice_range moved at (at + (end - start)) ≡ slice_range old start end)
@@ -39,6 +41,6 @@ module _ (old moved new : List ℕ) (start end at : ℕ) (kept : slice_range mov
       between_is new at (at + (end - start)) ∙ ap (drop at) front ∙ sym (between_is moved at (at + (end - start))) ∙ kept
 
   pub held_grown : (more : ℕ)
-      → slice_range new at (at + (end - start) + more) ≡ slice_range old start end ++ slice_range new (at + (end - start)) (at + (end - start) + more)
+      → slice_range new at (at + (end - start) + more) ≡ slice_range old start end ++ take more (drop (at + (end - start)) new)
   held_grown more =
-      slice_range-split new at (end - start) more ∙ ap (λ held. held ++ slice_range new (at + (end - start)) (at + (end - start) + more)) held_kept
+      slice_range-split new at (end - start) more ∙ ap (λ held. held ++ take more (drop (at + (end - start)) new)) held_kept

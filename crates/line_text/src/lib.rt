@@ -11,7 +11,7 @@ mod numerals;
 
 pub use fields::{field, next_field};
 pub use limits::{LineFault, LineLimits};
-pub use lines::{BUFFER_SIZE, LONGEST_LINE, Lines};
+pub use lines::{Lines, MAX_HELD, MAX_LINE};
 pub use numerals::{Numeral, decimal, put_decimal};
 
 #[cfg(test)]

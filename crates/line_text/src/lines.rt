@@ -1,11 +1,11 @@
-ghost use Rattle.std.specs.Prelude.{◌≡◌, ◌≢◌, ◌↔◌, ◌+◌, ◌-◌, ◌<◌, ◌≤◌, ◌++◌, List, [], length, take, drop, false, true, Ok, Err, Some, IfOk, OnOk, OnErr, IfSome, IfNone, IsSome, IsTrue, MatchOption, min, slice_range};
+ghost use Rattle.std.specs.Prelude.{◌≡◌, ◌≢◌, ◌↔◌, ◌+◌, ◌-◌, ◌<◌, ◌≤◌, ◌++◌, List, [], length, take, drop, false, true, Ok, Err, Some, IfOk, OnOk, OnErr, IfSome, IfNone, IsSome, IsTrue, MatchOption, min, slice_range, is_err, None};
 ghost use Rattle.std.specs.Result.{result_err};
-ghost use Rattle.std.specs.Io.KnownBytes.{Keeps, Consumes, IsAtEnd};
-ghost use Rattle.route_io.specs.Causes.{HasCause};
+ghost use Rattle.std.specs.Io.KnownBytes.{Keeps, IsAtEnd};
+ghost use Rattle.route_io.specs.Sources.{Reads, ReadsFrom};
 ghost use Rattle.line_text.specs.Lines.{first_lf, without_cr};
 ghost use Rattle.line_text.specs.Marks.{first_fault, line_fault};
-ghost use Rattle.line_text.specs.Pieces.{Advances, Grows, TakesHeld, past_line};
-ghost use Rattle.line_text.specs.Reading.{Reading, Counts, CountsNone, InLimits, LosesNone, ReadHasCause, Tells, begun, rest_of};
+ghost use Rattle.line_text.specs.Pieces.{Grows, TakesHeld, past_line};
+ghost use Rattle.line_text.specs.Reading.{Advances, InLimits, begun, max_held, max_line, read_failed, rest_of};
 
 use crate::{LineFault, LineLimits};
 use cost_vector::OutOfMemory;
@@ -15,10 +15,10 @@ use std::alloc::Global;
 use std::marker::Model;
 
 /// The greatest limit of a line.
-pub const LONGEST_LINE: u32 = 65_536;
+pub const MAX_LINE: u32 = 65_536;
 
-/// The size of the one buffer, twice the longest line: a line that is held in part always leaves room.
-pub const BUFFER_SIZE: usize = 2 * LONGEST_LINE as usize;
+/// The most bytes that a reader holds, twice the longest line: a line that is held in part always leaves room.
+pub const MAX_HELD: usize = 2 * MAX_LINE as usize;
 
 /// Reads the lines of a source, which may give its bytes in any pieces.
 ///
@@ -40,11 +40,10 @@ pub struct Lines {
 impl Model for Lines {
     ghost use Rattle.std.specs.Prelude.{◌≡◌, ◌≢◌, ◌-◌, Some, slice_range, vec_len};
     ghost use Rattle.line_text.specs.declared.limits.LineFault.TheVariants.{OutOfMemory};
-    ghost use Rattle.line_text.specs.declared.lines.TheConstants.{BUFFER_SIZE};
     ghost use Rattle.line_text.specs.Pieces.{InBounds, InPlace};
-    ghost use Rattle.line_text.specs.Reading.{Reading, InLimits};
+    ghost use Rattle.line_text.specs.Reading.{Lines, max_held};
 
-    ghost Value = { Reading };
+    ghost Value = { Lines };
 
     ghost view = { λ lines. record {
       limits = lines.limits;
@@ -55,8 +54,8 @@ impl Model for Lines {
       fault = lines.fault;
     } };
 
-    ghost invariant = { λ lines. (vec_len lines.buffer ≡ BUFFER_SIZE)
-        × InPlace BUFFER_SIZE lines.text_start lines.text_end lines.held_start lines.held_end
+    ghost invariant = { λ lines. (vec_len lines.buffer ≡ max_held)
+        × InPlace max_held lines.text_start lines.text_end lines.held_start lines.held_end
         × InBounds lines.limits (lines.text_end - lines.text_start)
         (lines.held_end - lines.held_start) lines.number lines.passed
         × (lines.fault ≢ Some OutOfMemory) };
@@ -66,12 +65,12 @@ impl Lines {
     /// Takes the one buffer that the reader has.
     pub fn new(alloc: Global, limits: LineLimits) -> Result<Lines, OutOfMemory>
         requires some { 1 ≤ limits.line }
-        requires fits { limits.line ≤ LONGEST_LINE }
+        requires fits { limits.line ≤ max_line }
         ensures { IfOk result (λ lines. lines ≡ begun limits) }
     {
         Ok(Lines {
             limits,
-            buffer: vec![in alloc; 0; BUFFER_SIZE]?,
+            buffer: vec![in alloc; 0; MAX_HELD]?,
             text_start: 0,
             text_end: 0,
             held_start: 0,
@@ -96,23 +95,15 @@ impl Lines {
         ensures keeps_fault { self.new.fault ≡ result_err result }
         ensures takes_no_memory { result ≢ Err LineFault.OutOfMemory }
 
-        // What holds over every source. At most one byte past the total is passed or held.
-        ensures counts { IfNone self.old.fault (Counts self.old self.new result) }
-        ensures limits { self.new.limits ≡ self.old.limits }
+        // Over every source the counts are those of lines, and at most one byte past the total is passed or held. Where
+        // the source tells its bytes, the lines are those of what is left, in whatever pieces it comes, and no byte is lost.
+        ensures advances { IfNone self.old.fault
+            (Advances self.old self.new (S.state source.old) (S.state source.new) result) }
         ensures in_limits { InLimits self.new }
-        ensures in_the_buffer { length self.new.held ≤ BUFFER_SIZE }
-
-        // Where the source tells its bytes, the lines are those of what is left, in whatever pieces it comes, and no
-        // byte is lost.
-        ensures lines { IfNone self.old.fault (IfSome (rest_of self.old (S.left source.old))
-            (λ rest. Tells self.old self.new rest (rest_of self.new (S.left source.new)) result)) }
-        ensures loses_none { LosesNone self.old self.new (S.left source.old) (S.left source.new) }
 
         // The source's failures alone make a failed read.
-        ensures cause { IfNone self.old.fault
-            (ReadHasCause (S.faults source.old) (S.faults source.new) result) }
-        ensures never_falls { S.faults source.old ≤ S.faults source.new }
-        ensures files { S.files source.new ≡ S.files source.old }
+        ensures source { ReadsFrom (S.state source.old) (S.state source.new)
+            (read_failed self.old.fault result) }
     {
         if let Some(fault) = self.fault {
             return Err(fault);
@@ -140,10 +131,10 @@ impl Lines {
 
     /// What `next_line` does where no fault is kept.
     fn read_line<S: Source>(&mut self, source: &mut S) -> Result<bool, LineFault>
-        ensures line { Advances self.old self.new (S.left source.old) (S.left source.new) result }
-        ensures cause { ReadHasCause (S.faults source.old) (S.faults source.new) result }
-        ensures never_falls { S.faults source.old ≤ S.faults source.new }
-        ensures files { S.files source.new ≡ S.files source.old }
+        ensures advances { Advances self.old self.new
+            (S.state source.old) (S.state source.new) result }
+        ensures source { ReadsFrom (S.state source.old) (S.state source.new)
+            (read_failed None result) }
     {
         self.drop_text();
         let mut searched = 0;
@@ -211,7 +202,7 @@ impl Lines {
     fn judge(&self, raw: usize, size: usize) -> Result<(), LineFault>
         requires { raw ≤ size }
         ensures fault { result_err result ≡ line_fault self.now.limits self.now.passed raw size }
-        ensures short { OnOk result (raw ≤ LONGEST_LINE) }
+        ensures short { OnOk result (raw ≤ max_line) }
         ensures some { OnErr result (0 < size) }
     {
         let room = self.limits.total - self.passed;
@@ -249,19 +240,18 @@ impl Lines {
 
     /// Reads once behind the bytes that are held, and at most one byte past the total. False is the end of input.
     fn refill<S: Source>(&mut self, source: &mut S) -> Result<bool, Failed>
-        requires room { length self.old.held ≤ LONGEST_LINE }
+        requires room { length self.old.held ≤ max_line }
         requires in_total { self.old.passed + length self.old.held ≤ self.old.limits.total }
         requires no_text { self.old.text ≡ [] }
         ensures stays { self.new ≡ record self.old { held = self.new.held } }
         ensures grows { Grows self.old.held self.new.held }
         ensures more { result ≡ Ok true → length self.old.held < length self.new.held }
         ensures end { result ≡ Ok false
-            → (self.new.held ≡ self.old.held) × IsAtEnd (S.left source.new) }
+            → (self.new.held ≡ self.old.held) × IsAtEnd (S.state source.new).left }
         ensures failed { OnErr result (self.new.held ≡ self.old.held) }
         ensures rest { Keeps
-            (rest_of self.old (S.left source.old)) (rest_of self.new (S.left source.new)) }
-        ensures cause { HasCause (S.faults source.old) (S.faults source.new) result }
-        ensures files { S.files source.new ≡ S.files source.old }
+            (rest_of self.old (S.state source.old)) (rest_of self.new (S.state source.new)) }
+        ensures source { ReadsFrom (S.state source.old) (S.state source.new) (is_err result) }
     {
         let held = self.held_end - self.held_start;
         let wanted = self.wanted();
@@ -277,10 +267,10 @@ impl Lines {
     fn wanted(&self) -> usize
         requires in_total { self.now.passed + length self.now.held ≤ self.now.limits.total }
         ensures { result
-            ≡ min (self.now.limits.total + 1 - (self.now.passed + length self.now.held)) BUFFER_SIZE }
+            ≡ min (self.now.limits.total + 1 - (self.now.passed + length self.now.held)) max_held }
     {
         let left = self.limits.total - self.passed - self.held().len() as u64;
-        left.saturating_add(1).min(BUFFER_SIZE as u64) as usize
+        left.saturating_add(1).min(MAX_HELD as u64) as usize
     }
 }
 
@@ -335,15 +325,10 @@ fn read_behind<S: Source>(
 ) -> Result<usize, Failed>
     requires room { filled < length buffer.old }
     requires some { 0 < most }
-    ensures within { IfOk result (λ taken. filled + taken ≤ length buffer.new) }
     ensures at_most { IfOk result (λ taken. taken ≤ most) }
     ensures front { take filled buffer.new ≡ take filled buffer.old }
-    ensures bytes { IfOk result (λ taken. Consumes
-        (S.left source.old) (S.left source.new) (slice_range buffer.new filled (filled + taken))) }
-    ensures end { result ≡ Ok 0 → IsAtEnd (S.left source.new) }
-    ensures failed { OnErr result (Keeps (S.left source.old) (S.left source.new)) }
-    ensures cause { HasCause (S.faults source.old) (S.faults source.new) result }
-    ensures files { S.files source.new ≡ S.files source.old }
+    ensures reads { Reads
+        (S.state source.old) (S.state source.new) result (drop filled buffer.new) }
 {
     let free = (buffer.len() - filled).min(most);
     source.read(&mut buffer[filled..filled + free])

@@ -1,6 +1,5 @@
 ghost use Rattle.std.specs.Prelude.{◌≡◌, ◌+◌, ◌*◌, decimal as decimal_text};
-ghost use Rattle.route_io.specs.Causes.{WriteHasCause};
-ghost use Rattle.route_io.specs.Sent.{SendsOrPrefix};
+ghost use Rattle.route_io.specs.Sinks.{Sends};
 ghost use Rattle.line_text.specs.Numerals.{at_most, numeral_of};
 
 use itoa::Buffer;
@@ -50,9 +49,7 @@ fn with_digit(value: u64, digit: u8, greatest: u64) -> Option<u64>
 
 /// Sends the number in base ten, or a part of that text from the front and answers the sink's fault.
 pub fn put_decimal<K: Sink>(sink: &mut K, value: u64) -> Result<(), WriteFault>
-    ensures bytes { SendsOrPrefix (K.sent sink.old) (K.sent sink.new) (decimal_text value) result }
-    ensures cause { WriteHasCause
-        (K.faults sink.old) (K.faults sink.new) (K.wants sink.old) (K.wants sink.new) result }
+    ensures { Sends (K.state sink.old) (K.state sink.new) (decimal_text value) result }
 {
     let mut buffer = Buffer::new();
     put_all(sink, buffer.format(value).as_bytes())

@@ -1,7 +1,7 @@
 ghost use Rattle.std.specs.Prelude.{◌≡◌, None};
 
 use crate::{
-    LONGEST_LINE, LineFault, LineLimits, Lines, Numeral, decimal, field, next_field, put_decimal,
+    LineFault, LineLimits, Lines, MAX_LINE, Numeral, decimal, field, next_field, put_decimal,
 };
 use route_io::sure::SureSink;
 use route_io::{Failed, Source};
@@ -32,11 +32,7 @@ impl<'a> Pieces<'a> {
 }
 
 impl Source for Pieces<'_> {
-    ghost left = { λ _. None };
-
-    ghost faults = { λ pieces. pieces.faults };
-
-    ghost files = { λ _. None };
+    ghost state = { λ pieces. record { left = None; files = None; faults = pieces.faults } };
 
     fn read(&mut self, buf: &mut [u8]) -> Result<usize, Failed> {
         if self.text.len() == self.fails_at {
@@ -55,7 +51,7 @@ impl Source for Pieces<'_> {
 /// Each line with `/` behind it, and then how the lines end: `.` for the end of input, `l`, `t`, `r` for a fault.
 fn shown(alloc: Global, source: &mut Pieces, limits: LineLimits) -> Result<Vec<u8>, AllocError> {
     let mut shown = Vec::new(alloc);
-    if limits.line == 0 || limits.line > LONGEST_LINE {
+    if limits.line == 0 || limits.line > MAX_LINE {
         return Ok(shown);
     }
     let Ok(mut lines) = Lines::new(alloc, limits) else {

@@ -1,2 +1,3 @@
 pub mod Naming
-pub mod Sending
+pub mod ReadsLemmas
+pub mod SendsLemmas

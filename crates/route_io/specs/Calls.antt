@@ -1,41 +1,38 @@
 -- The calls of a form in memory, of which some are to fail.
-use Rattle.std.specs.Prelude.{ℕ, ◌+◌, ◌-◌, ◌^◌, min, List, Contains, Result, Ok, Err}
+use Rattle.std.specs.Prelude.{ℕ, List, Contains, Result, Ok, Err}
 use Rattle.route_io.specs.declared.fault.SinkFault.{SinkFault}
 use Rattle.route_io.specs.declared.fault.SinkFault.TheVariants as sink
-
--- one more, in a counter of 64 bits that stays at its greatest value
-abbrev pub count_up : ℕ → ℕ
-count_up n = min (n + 1) (2 ^ 64 - 1)
+use Rattle.route_io.specs.Causes.{count_up}
 
 -- the numbers of the calls that are to fail, how many calls were made, and how many faults there were
-pub record Calls : Type 0 where
+pub record CallList : Type 0 where
   pub fails : List ℕ
   pub made : ℕ
   pub faults : ℕ
 
 -- no call was made yet
-abbrev pub none_made : List ℕ → Calls
+abbrev pub none_made : List ℕ → CallList
 none_made fails = record { fails = fails; made = 0; faults = 0 }
 
 -- The next call's number, which starts at 0, is listed.
-abbrev pub IsToFail : Calls → Type 0
+abbrev pub IsToFail : CallList → Type 0
 IsToFail calls = Contains calls.fails calls.made
 
 -- after a call that was no fault
-abbrev pub counted : Calls → Calls
+abbrev pub counted : CallList → CallList
 counted calls = record calls { made = count_up calls.made }
 
 -- after a call that was a fault
-abbrev pub faulted : Calls → Calls
+abbrev pub faulted : CallList → CallList
 faulted calls = record calls { made = count_up calls.made; faults = count_up calls.faults }
 
 -- after a read or a selection with this answer
-abbrev pub after_call : {T E : Type 0} → Calls → Result T E → Calls
+abbrev pub after_call : {T E : Type 0} → CallList → Result T E → CallList
 after_call calls (Ok value) = counted calls
 after_call calls (Err fault) = faulted calls
 
 -- after a write with this answer
-abbrev pub after_write : {T : Type 0} → Calls → Result T SinkFault → Calls
+abbrev pub after_write : {T : Type 0} → CallList → Result T SinkFault → CallList
 after_write calls (Ok n) = counted calls
 after_write calls (Err sink.Failed) = faulted calls
 after_write calls (Err sink.OutOfMemory) = counted calls

@@ -1,29 +1,19 @@
--- What an answer says of the counts of faults: a failure was counted, and nothing else was.
-use Rattle.std.specs.Prelude.{◌≡◌, ℕ, ◌+◌, ◌-◌, ◌^◌, ◌≤◌, min, Result, Ok, Err, OnOk, OnErr}
-use Rattle.route_io.specs.declared.fault.Failed.{Failed}
-use Rattle.route_io.specs.declared.fault.SinkFault.{SinkFault}
-use Rattle.route_io.specs.declared.fault.SinkFault.TheVariants as sink
-use Rattle.route_io.specs.declared.fault.WriteFault.{WriteFault}
-use Rattle.route_io.specs.declared.fault.WriteFault.TheVariants as write
+-- How counts of faults say that a failure was the outside's.
+use Rattle.std.specs.Prelude.{◌≡◌, ℕ, ◌+◌, ◌-◌, ◌^◌, ◌≤◌, min, Bool, true, false}
 
--- A count went up, or it stands at its greatest value, which a counter of 64 bits doesn't leave.
+-- the greatest value of a counter of 64 bits, which it doesn't leave
+abbrev pub max_count : ℕ
+max_count = 2 ^ 64 - 1
+
+-- one more, in such a counter
+abbrev pub count_up : ℕ → ℕ
+count_up n = min (n + 1) max_count
+
+-- A count went up, or it stands at its greatest value. It never fell.
 abbrev pub Rose : ℕ → ℕ → Type 0
-Rose before now = min (before + 1) (2 ^ 64 - 1) ≤ now
+Rose before now = (before ≤ now) × (count_up before ≤ now)
 
--- A failure comes only where the count rose. Any other answer leaves the count as it was.
-pub record HasCause {T : Type 0} (before now : ℕ) (result : Result T Failed) : Type 0 where
-  pub never_falls : before ≤ now
-  pub failed : OnErr result (Rose before now)
-  pub stands : OnOk result (now ≡ before)
-
--- A failure raises the count of faults, want of memory that of wants, and nothing else raises either.
-abbrev pub SinkHasCause : {T : Type 0} → ℕ → ℕ → ℕ → ℕ → Result T SinkFault → Type 0
-SinkHasCause before now wanted wants (Ok n) = (now ≡ before) × (wants ≡ wanted)
-SinkHasCause before now wanted wants (Err sink.Failed) = (before ≤ now) × Rose before now × (wants ≡ wanted)
-SinkHasCause before now wanted wants (Err sink.OutOfMemory) = (now ≡ before) × (wanted ≤ wants) × Rose wanted wants
-
--- the same of a call that makes several writes
-abbrev pub WriteHasCause : {T : Type 0} → ℕ → ℕ → ℕ → ℕ → Result T WriteFault → Type 0
-WriteHasCause before now wanted wants (Ok n) = (now ≡ before) × (wants ≡ wanted)
-WriteHasCause before now wanted wants (Err write.Failed) = (before ≤ now) × Rose before now × (wants ≡ wanted)
-WriteHasCause before now wanted wants (Err write.OutOfMemory) = (now ≡ before) × (wanted ≤ wants) × Rose wanted wants
+-- A fault was counted, or there was none and the count stands.
+abbrev pub IsCounted : Bool → ℕ → ℕ → Type 0
+IsCounted true before now = Rose before now
+IsCounted false before now = now ≡ before

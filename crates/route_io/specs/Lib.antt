@@ -2,4 +2,5 @@ pub mod Calls
 pub mod Causes
 pub mod Files
 pub mod Forms
-pub mod Sent
+pub mod Sinks
+pub mod Sources

@@ -1,5 +1,6 @@
 ghost use Rattle.std.specs.Prelude.{◌≡◌, ◌≤◌, ◌↔◌, IsErr};
-ghost use Rattle.route_io.specs.Calls.{IsToFail, after_call, count_up, none_made};
+ghost use Rattle.route_io.specs.Calls.{IsToFail, after_call, none_made};
+ghost use Rattle.route_io.specs.Causes.{count_up};
 
 use crate::Failed;
 use std::marker::Model;
@@ -13,9 +14,9 @@ pub(crate) struct CallList {
 }
 
 impl Model for CallList {
-    ghost use Rattle.route_io.specs.Calls.{Calls};
+    ghost use Rattle.route_io.specs.Calls.{CallList};
 
-    ghost Value = { Calls };
+    ghost Value = { CallList };
 
     ghost view = { λ c. record { fails = c.fails.items; made = c.made; faults = c.faults } };
 }

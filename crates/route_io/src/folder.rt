@@ -1,7 +1,5 @@
-ghost use Rattle.std.specs.Prelude.{◌≡◌, ℕ, List, OnOk, OnErr};
-ghost use Rattle.std.specs.Io.KnownBytes.{IsAtEnd};
-ghost use Rattle.route_io.specs.Causes.{HasCause};
-ghost use Rattle.route_io.specs.Files.{Opens};
+ghost use Rattle.std.specs.Prelude.{ℕ, List};
+ghost use Rattle.route_io.specs.Sources.{Selects};
 
 use crate::{Failed, Source};
 
@@ -13,8 +11,5 @@ pub trait Folder: Source {
     /// Goes to the start of the named file. A missing name is a failure, after which nothing is left.
     fn select(&mut self, name: &str) -> Result<(), Failed>
         requires { admits name.now }
-        ensures opened { OnOk result (Opens (Self.files self.old) name.now (Self.left self.new)) }
-        ensures closed { OnErr result (IsAtEnd (Self.left self.new)) }
-        ensures cause { HasCause (Self.faults self.old) (Self.faults self.new) result }
-        ensures files { Self.files self.new ≡ Self.files self.old };
+        ensures { Selects (Self.state self.old) (Self.state self.new) name.now result };
 }

@@ -1,8 +1,9 @@
 //! Forms of the host: its files, and what it prints to. They tell nothing of content.
-ghost use Rattle.std.specs.Prelude.{◌≡◌, ◌<◌, ◌≤◌, None, Ok, false, is_ok, length, IfOk, IfErr, OnErr};
-ghost use Rattle.std.specs.Io.{ReadsAtMost};
-ghost use Rattle.route_io.specs.Calls.{count_up};
-ghost use Rattle.route_io.specs.Causes.{HasCause, SinkHasCause};
+ghost use Rattle.std.specs.Prelude.{◌≡◌, ◌<◌, ◌≤◌, None, Ok, false, is_err, is_ok, length, IfOk, IfErr, OnErr};
+ghost use Rattle.route_io.specs.Causes.{IsCounted, count_up};
+ghost use Rattle.route_io.specs.Forms.{host_folder_state, host_sink_state};
+ghost use Rattle.route_io.specs.Sinks.{Writes};
+ghost use Rattle.route_io.specs.Sources.{Reads, Selects};
 
 use crate::calls::count;
 use crate::{Failed, Folder, Sink, SinkFault, Source};
@@ -20,9 +21,9 @@ pub struct HostFolder<R: Files> {
 
 impl<R: Files> Model for HostFolder<R> {
     ghost use Rattle.std.specs.Prelude.{is_some};
-    ghost use Rattle.route_io.specs.Forms.{HostFolderState};
+    ghost use Rattle.route_io.specs.Forms.{HostFolder};
 
-    ghost Value = { HostFolderState };
+    ghost Value = { HostFolder };
 
     ghost view = { λ f. record { is_open = is_some f.file; faults = f.faults } };
 }
@@ -42,20 +43,13 @@ impl<R: Files> HostFolder<R> {
 }
 
 impl<R: Files> Source for HostFolder<R> {
-    ghost left = { λ _. None };
-
-    ghost faults = { λ f. f.faults };
-
-    ghost files = { λ _. None };
+    ghost state = { host_folder_state };
 
     fn read(&mut self, buf: &mut [u8]) -> Result<usize, Failed>
         ensures closed_is_empty { self.old.is_open ≡ false → result ≡ Ok 0 }
         ensures stays { self.new.is_open ≡ self.old.is_open }
         ensures counted { OnErr result (self.new.faults ≡ count_up self.old.faults) }
-
-        // what every source promises
-        ensures within { ReadsAtMost result buf.new }
-        ensures cause { HasCause self.old.faults self.new.faults result }
+        ensures reads { Reads (host_folder_state self.old) (host_folder_state self.new) result buf.new }
     {
         let Some(file) = &mut self.file else {
             return Ok(0);
@@ -70,9 +64,7 @@ impl<R: Files> Folder for HostFolder<R> {
     fn select(&mut self, name: &str) -> Result<(), Failed>
         ensures opens { self.new.is_open ≡ is_ok result }
         ensures counted { OnErr result (self.new.faults ≡ count_up self.old.faults) }
-
-        // what every folder promises
-        ensures cause { HasCause self.old.faults self.new.faults result }
+        ensures selects { Selects (host_folder_state self.old) (host_folder_state self.new) name.now result }
     {
         self.file = None;
         let file = counted(&mut self.faults, fs::open(&self.rt, name))?;
@@ -106,21 +98,13 @@ impl<P: Print> HostSink<P> {
 }
 
 impl<P: Print> Sink for HostSink<P> {
-    ghost sent = { λ _. None };
-
-    ghost faults = { λ s. s };
-
-    ghost wants = { λ _. 0 };
+    ghost state = { host_sink_state };
 
     fn write(&mut self, piece: &[u8]) -> Result<usize, SinkFault>
         requires { 0 < length piece.now }
         ensures never_wants { IfErr result (λ fault. fault ≡ SinkFault.Failed) }
         ensures counted { OnErr result (self.new ≡ count_up self.old) }
-
-        // what every sink promises
-        ensures some { IfOk result (λ n. 0 < n) }
-        ensures within { IfOk result (λ n. n ≤ length piece.now) }
-        ensures cause { SinkHasCause self.old self.new 0 0 result }
+        ensures writes { Writes (host_sink_state self.old) (host_sink_state self.new) piece.now result }
     {
         match print_some(&self.to, piece) {
             Ok(taken) if taken > 0 => Ok(taken),
@@ -146,7 +130,7 @@ fn print_some(to: &impl Print, bytes: &[u8]) -> io::Result<usize>
 fn counted<T>(faults: &mut u64, answer: io::Result<T>) -> Result<T, Failed>
     ensures value { IfOk result (λ value. answer ≡ Ok value) }
     ensures rises { OnErr result (faults.new ≡ count_up faults.old) }
-    ensures cause { HasCause faults.old faults.new result }
+    ensures cause { IsCounted (is_err result) faults.old faults.new }
 {
     match answer {
         Ok(value) => Ok(value),

@@ -1,11 +1,10 @@
 //! Forms in memory, which tell their bytes to contracts. Each fails at the calls whose numbers, from 0, it was given.
 ghost use Rattle.std.specs.Prelude.{◌≡◌, ◌<◌, ◌≤◌, ◌↔◌, ◌⊎◌, [], Some, None, length, min, Err, IsErr, IfOk, OnOk, OnErr};
-ghost use Rattle.std.specs.Io.{ReadsAtMost};
-ghost use Rattle.std.specs.Io.KnownBytes.{ReadConsumes, WriteAppends};
 ghost use Rattle.route_io.specs.Calls.{IsToFail, after_call, after_write, none_made};
-ghost use Rattle.route_io.specs.Causes.{HasCause, SinkHasCause};
 ghost use Rattle.route_io.specs.Files.{first_of_name};
-ghost use Rattle.route_io.specs.Forms.{IsFull, room};
+ghost use Rattle.route_io.specs.Forms.{IsFull, memory_folder_state, memory_sink_state, memory_source_state, room};
+ghost use Rattle.route_io.specs.Sinks.{Writes};
+ghost use Rattle.route_io.specs.Sources.{Reads, Selects};
 
 use crate::calls::CallList;
 pub use crate::shelf::NamedFile;
@@ -23,9 +22,9 @@ pub struct MemorySource {
 }
 
 impl Model for MemorySource {
-    ghost use Rattle.route_io.specs.Forms.{SourceInMemory};
+    ghost use Rattle.route_io.specs.Forms.{MemorySource};
 
-    ghost Value = { SourceInMemory };
+    ghost Value = { MemorySource };
 
     ghost view = { λ s. record { left = s.source; calls = s.calls } };
 }
@@ -44,21 +43,14 @@ impl MemorySource {
 }
 
 impl Source for MemorySource {
-    ghost left = { λ s. Some s.left };
-
-    ghost faults = { λ s. s.calls.faults };
-
-    ghost files = { λ _. None };
+    ghost state = { memory_source_state };
 
     fn read(&mut self, buf: &mut [u8]) -> Result<usize, Failed>
         ensures listed { IsErr result ↔ IsToFail self.old.calls }
         ensures counted { self.new.calls ≡ after_call self.old.calls result }
         ensures count { IfOk result (λ n. n ≡ min (length self.old.left) (length buf.old)) }
-
-        // what every source promises
-        ensures within { ReadsAtMost result buf.new }
-        ensures bytes { ReadConsumes (Some self.old.left) (Some self.new.left) result buf.new }
-        ensures cause { HasCause self.old.calls.faults self.new.calls.faults result }
+        ensures reads { Reads
+            (memory_source_state self.old) (memory_source_state self.new) result buf.new }
     {
         self.calls.make()?;
         self.source.read(buf)
@@ -75,9 +67,9 @@ pub struct MemorySink {
 
 impl Model for MemorySink {
     ghost use Rattle.std.specs.Prelude.{◌≤◌, length};
-    ghost use Rattle.route_io.specs.Forms.{SinkInMemory};
+    ghost use Rattle.route_io.specs.Forms.{MemorySink};
 
-    ghost Value = { SinkInMemory };
+    ghost Value = { MemorySink };
 
     ghost view = { λ s. record { sent = s.sink.sent; bound = s.bound; wants = s.sink.wants; calls = s.calls } };
 
@@ -108,11 +100,7 @@ impl MemorySink {
 }
 
 impl Sink for MemorySink {
-    ghost sent = { λ s. Some s.sent };
-
-    ghost faults = { λ s. s.calls.faults };
-
-    ghost wants = { λ s. s.wants };
+    ghost state = { memory_sink_state };
 
     fn write(&mut self, piece: &[u8]) -> Result<usize, SinkFault>
         requires { 0 < length piece.now }
@@ -124,11 +112,8 @@ impl Sink for MemorySink {
         ensures count { IfOk result (λ n. n ≡ min (length piece.now) (room self.old)) }
         ensures within_bound { length self.new.sent ≤ self.new.bound }
         ensures same_bound { self.new.bound ≡ self.old.bound }
-
-        // what every sink promises
-        ensures bytes { WriteAppends (Some self.old.sent) (Some self.new.sent) result piece.now }
-        ensures cause { SinkHasCause self.old.calls.faults self.new.calls.faults
-            self.old.wants self.new.wants result }
+        ensures writes { Writes
+            (memory_sink_state self.old) (memory_sink_state self.new) piece.now result }
     {
         if self.calls.make().is_err() {
             return Err(SinkFault::Failed);
@@ -151,9 +136,9 @@ pub struct MemoryFolder {
 }
 
 impl Model for MemoryFolder {
-    ghost use Rattle.route_io.specs.Forms.{FolderInMemory};
+    ghost use Rattle.route_io.specs.Forms.{MemoryFolder};
 
-    ghost Value = { FolderInMemory };
+    ghost Value = { MemoryFolder };
 
     ghost view = { λ f. record { files = f.shelf.files; left = f.shelf.left; calls = f.calls } };
 }
@@ -173,22 +158,15 @@ impl MemoryFolder {
 }
 
 impl Source for MemoryFolder {
-    ghost left = { λ f. Some f.left };
-
-    ghost faults = { λ f. f.calls.faults };
-
-    ghost files = { λ f. Some (first_of_name f.files) };
+    ghost state = { memory_folder_state };
 
     fn read(&mut self, buf: &mut [u8]) -> Result<usize, Failed>
         ensures listed { IsErr result ↔ IsToFail self.old.calls }
         ensures counted { self.new.calls ≡ after_call self.old.calls result }
         ensures count { IfOk result (λ n. n ≡ min (length self.old.left) (length buf.old)) }
         ensures same_files { self.new.files ≡ self.old.files }
-
-        // what every source promises
-        ensures within { ReadsAtMost result buf.new }
-        ensures bytes { ReadConsumes (Some self.old.left) (Some self.new.left) result buf.new }
-        ensures cause { HasCause self.old.calls.faults self.new.calls.faults result }
+        ensures reads { Reads
+            (memory_folder_state self.old) (memory_folder_state self.new) result buf.new }
     {
         self.calls.make()?;
         Ok(self.shelf.give(buf))
@@ -203,11 +181,8 @@ impl Folder for MemoryFolder {
             (IsToFail self.old.calls ⊎ (first_of_name self.old.files name.now ≡ None)) }
         ensures counted { self.new.calls ≡ after_call self.old.calls result }
         ensures same_files { self.new.files ≡ self.old.files }
-
-        // what every folder promises
-        ensures opened { OnOk result (first_of_name self.old.files name.now ≡ Some self.new.left) }
-        ensures closed { OnErr result (self.new.left ≡ []) }
-        ensures cause { HasCause self.old.calls.faults self.new.calls.faults result }
+        ensures selects { Selects
+            (memory_folder_state self.old) (memory_folder_state self.new) name.now result }
     {
         self.shelf.close();
         self.calls.make()?;

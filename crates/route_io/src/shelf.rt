@@ -1,6 +1,6 @@
 ghost use Rattle.std.specs.Prelude.{◌≡◌, ◌+◌, ◌^◌, ◌<◌, ◌≤◌, Some, None, [], length, min, take, drop, OnOk, OnErr, position};
 ghost use Rattle.std.specs.Str.{bytes_eq};
-ghost use Rattle.route_io.specs.Files.{IsWithin, first_of_name, left_of, NamedBytes};
+ghost use Rattle.route_io.specs.Files.{IsWithin, first_of_name, left_of, NamedFile};
 
 use crate::Failed;
 use crate::front::copy_front;
@@ -15,9 +15,9 @@ pub struct NamedFile {
 
 impl Model for NamedFile {
     ghost use Rattle.std.specs.Prelude.{string_bytes};
-    ghost use Rattle.route_io.specs.Files.{NamedBytes};
+    ghost use Rattle.route_io.specs.Files.{NamedFile};
 
-    ghost Value = { NamedBytes };
+    ghost Value = { NamedFile };
 
     ghost view = { λ f. record { name = string_bytes f.name; bytes = f.bytes.items } };
 }
@@ -47,9 +47,9 @@ pub(crate) struct Shelf {
 }
 
 impl Model for Shelf {
-    ghost use Rattle.route_io.specs.Files.{FolderFiles, NamedBytes, left_of, IsWithin};
+    ghost use Rattle.route_io.specs.Files.{Shelf, NamedFile, left_of, IsWithin};
 
-    ghost Value = { FolderFiles };
+    ghost Value = { Shelf };
 
     ghost view = { λ s. record { files = s.files.items; left = left_of s.files.items s.place s.given } };
 

@@ -1,10 +1,10 @@
 //! Forms in memory that fail at a missing name alone. They tell their bytes to contracts.
 ghost use Rattle.std.specs.Prelude.{◌≡◌, ◌<◌, ◌↔◌, [], Some, None, Ok, length, min, IsErr, IfOk, IfErr, OnOk, OnErr};
-ghost use Rattle.std.specs.Io.{ReadsAtMost};
-ghost use Rattle.std.specs.Io.KnownBytes.{ReadConsumes, WriteAppends};
-ghost use Rattle.route_io.specs.Calls.{count_up};
-ghost use Rattle.route_io.specs.Causes.{HasCause, SinkHasCause};
+ghost use Rattle.route_io.specs.Causes.{count_up};
 ghost use Rattle.route_io.specs.Files.{first_of_name};
+ghost use Rattle.route_io.specs.Forms.{sure_folder_state, sure_sink_state, sure_source_state};
+ghost use Rattle.route_io.specs.Sinks.{Writes};
+ghost use Rattle.route_io.specs.Sources.{Reads, Selects};
 
 use crate::calls::count;
 use crate::front::copy_front;
@@ -40,18 +40,11 @@ impl SureSource {
 }
 
 impl Source for SureSource {
-    ghost left = { λ s. Some s };
-
-    ghost faults = { λ _. 0 };
-
-    ghost files = { λ _. None };
+    ghost state = { sure_source_state };
 
     fn read(&mut self, buf: &mut [u8]) -> Result<usize, Failed>
         ensures never_fails { result ≡ Ok (min (length self.old) (length buf.old)) }
-
-        // what every source promises
-        ensures within { ReadsAtMost result buf.new }
-        ensures bytes { ReadConsumes (Some self.old) (Some self.new) result buf.new }
+        ensures reads { Reads (sure_source_state self.old) (sure_source_state self.new) result buf.new }
     {
         let given = copy_front(&self.bytes[self.given..], buf);
         self.given += given;
@@ -67,9 +60,9 @@ pub struct SureSink {
 }
 
 impl Model for SureSink {
-    ghost use Rattle.route_io.specs.Forms.{SureSinkState};
+    ghost use Rattle.route_io.specs.Forms.{SureSink};
 
-    ghost Value = { SureSinkState };
+    ghost Value = { SureSink };
 
     ghost view = { λ s. record { sent = s.sent.items; wants = s.wants } };
 }
@@ -95,20 +88,13 @@ impl SureSink {
 }
 
 impl Sink for SureSink {
-    ghost sent = { λ s. Some s.sent };
-
-    ghost faults = { λ _. 0 };
-
-    ghost wants = { λ s. s.wants };
+    ghost state = { sure_sink_state };
 
     fn write(&mut self, piece: &[u8]) -> Result<usize, SinkFault>
         requires { 0 < length piece.now }
         ensures never_fails { IfErr result (λ fault. fault ≡ SinkFault.OutOfMemory) }
         ensures whole { IfOk result (λ n. n ≡ length piece.now) }
-
-        // what every sink promises
-        ensures bytes { WriteAppends (Some self.old.sent) (Some self.new.sent) result piece.now }
-        ensures cause { SinkHasCause 0 0 self.old.wants self.new.wants result }
+        ensures writes { Writes (sure_sink_state self.old) (sure_sink_state self.new) piece.now result }
     {
         if self.sent.extend_from_slice(piece).is_err() {
             count(&mut self.wants);
@@ -126,9 +112,9 @@ pub struct SureFolder {
 }
 
 impl Model for SureFolder {
-    ghost use Rattle.route_io.specs.Forms.{SureFolderState};
+    ghost use Rattle.route_io.specs.Forms.{SureFolder};
 
-    ghost Value = { SureFolderState };
+    ghost Value = { SureFolder };
 
     ghost view = { λ f. record { files = f.shelf.files; left = f.shelf.left; missing = f.missing } };
 }
@@ -148,20 +134,13 @@ impl SureFolder {
 }
 
 impl Source for SureFolder {
-    ghost left = { λ f. Some f.left };
-
-    ghost faults = { λ f. f.missing };
-
-    ghost files = { λ f. Some (first_of_name f.files) };
+    ghost state = { sure_folder_state };
 
     fn read(&mut self, buf: &mut [u8]) -> Result<usize, Failed>
         ensures never_fails { result ≡ Ok (min (length self.old.left) (length buf.old)) }
         ensures same_files { self.new.files ≡ self.old.files }
         ensures same_count { self.new.missing ≡ self.old.missing }
-
-        // what every source promises
-        ensures within { ReadsAtMost result buf.new }
-        ensures bytes { ReadConsumes (Some self.old.left) (Some self.new.left) result buf.new }
+        ensures reads { Reads (sure_folder_state self.old) (sure_folder_state self.new) result buf.new }
     {
         Ok(self.shelf.give(buf))
     }
@@ -174,11 +153,7 @@ impl Folder for SureFolder {
         ensures missing { IsErr result ↔ (first_of_name self.old.files name.now ≡ None) }
         ensures counted { OnErr result (self.new.missing ≡ count_up self.old.missing) }
         ensures same_files { self.new.files ≡ self.old.files }
-
-        // what every folder promises
-        ensures opened { OnOk result (first_of_name self.old.files name.now ≡ Some self.new.left) }
-        ensures closed { OnErr result (self.new.left ≡ []) }
-        ensures cause { HasCause self.old.missing self.new.missing result }
+        ensures selects { Selects (sure_folder_state self.old) (sure_folder_state self.new) name.now result }
     {
         let opened = self.shelf.open(name);
         if opened.is_err() {

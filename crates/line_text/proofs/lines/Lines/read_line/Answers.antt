@@ -1,16 +1,17 @@
-use Rattle.std.proofs.Common.{Ok, length, ap, ◌∙◌, arith}
+use Rattle.std.proofs.Common.{Ok, length, ap, arith}
 use Rattle.std.proofs.lemmas.Result.{err_from_is_err_and}
+use Rattle.route_io.proofs.ReadsLemmas.{ReadsFrom-then}
 use Rattle.line_text.specs.Pieces.{LacksLf}
 use Rattle.line_text.proofs.Steps.{advances_broken, advances_whole, advances_end, holds_more, searched_within, searched_none, still_within}
 use Rattle.line_text.proofs.lines.Lines.read_line.Goals as goal
 
-pub returns-in_err-take_line-clause-line : goal.returns-in_err-take_line-clause-line
-returns-in_err-take_line-clause-line g c =
+pub returns-in_err-take_line-clause-advances : goal.returns-in_err-take_line-clause-advances
+returns-in_err-take_line-clause-advances g c =
     let p = err_from_is_err_and c.from_residual.result c.from_residual.ensures.1 in
     rw (p.1, p.2) (advances_broken _ _ _ _ _ c.loop-self.invariant.holds _ c.in_err-take_line.ensures)
 
-pub returns-then-branch-clause-line : goal.returns-then-branch-clause-line
-returns-then-branch-clause-line g c =
+pub returns-then-branch-clause-advances : goal.returns-then-branch-clause-advances
+returns-then-branch-clause-advances g c =
     advances_whole _ _ _ _ _ c.loop-self.invariant.holds (rw c.if-branch.true at c.in_ok-take_line.ensures)
 
 pub refill-requires-clause-room : goal.refill-requires-clause-room
@@ -22,7 +23,7 @@ pub loop-self-smaller : goal.loop-self-smaller
 loop-self-smaller g c =
     let lacks : LacksLf c.loop-self.self c.take_line.new.self = rw c.if-branch.false at c.in_ok-take_line.ensures in
     let more = c.in-Ok-true.ensures.more (ap (λ b. Ok b) c.in-Ok-true.field-0-test) in
-    omega (arith, ap (λ reading. length reading.held) lacks.same, lacks.short)
+    omega (arith, ap (λ lines. length lines.held) lacks.same, lacks.short)
 
 pub loop-self-preserved : goal.loop-self-preserved
 loop-self-preserved g c =
@@ -31,12 +32,11 @@ loop-self-preserved g c =
       holds = holds_more _ _ _ lacks c.refill.ensures.stays _ _ _ _ c.loop-self.invariant.holds c.refill.ensures.rest;
       within = rw c.held-searched.ensures (searched_within _ _ _ lacks c.refill.ensures.stays c.refill.ensures.grows);
       none = rw c.held-searched.ensures (searched_none _ _ _ lacks c.refill.ensures.stays c.refill.ensures.grows);
-      faults = c.in-Ok-true.ensures.cause.stands ∙ c.loop-self.invariant.faults;
-      files = c.refill.ensures.files ∙ c.loop-self.invariant.files;
+      source = ReadsFrom-then _ _ _ _ c.loop-self.invariant.source c.in-Ok-true.ensures.source;
     }
 
-pub returns-in-Ok-false-clause-line : goal.returns-in-Ok-false-clause-line
-returns-in-Ok-false-clause-line g c =
+pub returns-in-Ok-false-clause-advances : goal.returns-in-Ok-false-clause-advances
+returns-in-Ok-false-clause-advances g c =
     let lacks : LacksLf c.loop-self.self c.take_line.new.self = rw c.if-branch.false at c.in_ok-take_line.ensures in
     let end = c.in-Ok-false.ensures.end (ap (λ b. Ok b) c.in-Ok-false.field-0-test) in
     let holds = holds_more _ _ _ lacks c.refill.ensures.stays _ _ _ _ c.loop-self.invariant.holds c.refill.ensures.rest in

@@ -1,5 +1,5 @@
-use Rattle.std.proofs.Common.{◌≡◌, ℕ, ◌+◌, ◌-◌, ◌++◌, List, [], take, slice_range, Ok, sym, ap, ◌∙◌, arith, add-zero}
-use Rattle.std.proofs.lemmas.List.{with_items_is, append-nil}
+use Rattle.std.proofs.Common.{◌≡◌, ℕ, ◌+◌, ◌-◌, ◌++◌, List, [], take, drop, slice_range, sym, ap, ◌∙◌, arith, add-zero}
+use Rattle.std.proofs.lemmas.List.{with_items_is, append-nil, length-drop}
 use Rattle.std.specs.Vec.{with_items}
 use Rattle.line_text.proofs.Ranges.{held_kept, held_grown}
 use Rattle.line_text.proofs.Told.{rest_grown, rest_kept, on_err, zero_from_false}
@@ -29,7 +29,7 @@ module _ (g : Over) (c : After-read_behind g) where
   held_was : slice_range c.as_mut_slice.result.now c.self.inside.held_start c.self.inside.held_end ≡ c.args.self.now.held
   held_was =
       ap (λ bytes. slice_range bytes c.self.inside.held_start c.self.inside.held_end) c.as_mut_slice.ensures.value
-      ∙ ap (λ reading. reading.held) c.self.view_is
+      ∙ ap (λ lines. lines.held) c.self.view_is
 
   kept : slice_range (bytes_after g c) c.make_room-start.result (end_after g c) ≡ c.args.self.now.held
   kept =
@@ -37,11 +37,11 @@ module _ (g : Over) (c : After-read_behind g) where
       ∙ held_kept _ _ _ _ _ _ c.make_room-start.ensures.kept front ∙ held_was
 
   grown : (more : ℕ) → slice_range (bytes_after g c) c.make_room-start.result (end_after g c + more)
-      ≡ c.args.self.now.held ++ slice_range c.read_behind.new.buffer (end_after g c) (end_after g c + more)
+      ≡ c.args.self.now.held ++ take more (drop (end_after g c) c.read_behind.new.buffer)
   grown more =
       ap (λ bytes. slice_range bytes c.make_room-start.result (end_after g c + more)) read
       ∙ held_grown _ _ _ _ _ _ c.make_room-start.ensures.kept front more
-      ∙ ap (λ held. held ++ slice_range c.read_behind.new.buffer (end_after g c) (end_after g c + more)) held_was
+      ∙ ap (λ held. held ++ take more (drop (end_after g c) c.read_behind.new.buffer)) held_was
 
   kept_by : (more : ℕ) → more ≡ 0
       → slice_range (bytes_after g c) c.make_room-start.result (end_after g c + more) ≡ c.args.self.now.held
@@ -59,7 +59,7 @@ returns-in_err-taken-clause-failed g c =
 
 pub returns-in_err-taken-clause-rest : goal.returns-in_err-taken-clause-rest
 returns-in_err-taken-clause-rest g c =
-    rw (kept g ((goal.at.returns-in_err-taken-clause-rest g c).After-read_behind)) (rest_kept _ _ _ c.in_err-taken.ensures.failed)
+    rw (kept g ((goal.at.returns-in_err-taken-clause-rest g c).After-read_behind)) (rest_kept _ _ _ c.in_err-taken.ensures.reads.bytes)
 
 pub returns-clause-grows : goal.returns-clause-grows
 returns-clause-grows g c = (_, grown g ((goal.at.returns-clause-grows g c).After-read_behind) c.in_ok-taken.taken)
@@ -68,9 +68,9 @@ pub returns-clause-end : goal.returns-clause-end
 returns-clause-end g c = λ e.
     let none : c.in_ok-taken.taken ≡ 0 = zero_from_false _ e in (
       kept_by g ((goal.at.returns-clause-end g c).After-read_behind) c.in_ok-taken.taken none,
-      c.read_behind.ensures.end (c.in_ok-taken.was ∙ ap (λ n. Ok n) none),
+      c.in_ok-taken.ensures.reads.bytes.1 none (omega (arith, length-drop (end_after g ((goal.at.returns-clause-end g c).After-read_behind)) c.read_behind.new.buffer)),
     )
 
 pub returns-clause-rest : goal.returns-clause-rest
 returns-clause-rest g c =
-    rw (grown g ((goal.at.returns-clause-rest g c).After-read_behind) c.in_ok-taken.taken) (rest_grown _ _ _ _ c.in_ok-taken.ensures.bytes)
+    rw (grown g ((goal.at.returns-clause-rest g c).After-read_behind) c.in_ok-taken.taken) (rest_grown _ _ _ _ c.in_ok-taken.ensures.reads.bytes.0)

@@ -1,0 +1,51 @@
+-- What a sink shows to contracts, and what its calls do to it.
+use Rattle.std.specs.Prelude.{ℕ, ◌<◌, ◌≤◌, List, Bool, true, false, Option, Result, Ok, Err, IfOk, MatchResult, length, take}
+use Rattle.std.specs.Io.KnownBytes.{Appends, WriteAppends}
+use Rattle.route_io.specs.declared.fault.SinkFault.{SinkFault}
+use Rattle.route_io.specs.declared.fault.SinkFault.TheVariants as sink
+use Rattle.route_io.specs.declared.fault.WriteFault.{WriteFault}
+use Rattle.route_io.specs.declared.fault.WriteFault.TheVariants as write
+use Rattle.route_io.specs.Causes.{IsCounted}
+
+-- what a sink was sent, its faults and its wants of memory
+pub record SinkState : Type 0 where
+  -- the bytes that were sent, where the sink tells them
+  pub sent : Option (List ℕ)
+  -- how often the sink has failed: a count that never falls
+  pub faults : ℕ
+  -- how often the sink itself wanted memory and had none: a count that never falls
+  pub wants : ℕ
+
+-- What calls did to a sink, but for the bytes that it took: a failure was counted, a want of memory was, and nothing else.
+pub record WritesTo (old new : SinkState) (failed wanted : Bool) : Type 0 where
+  pub faults : IsCounted failed old.faults new.faults
+  pub wants : IsCounted wanted old.wants new.wants
+
+-- what the answer of a write says of the counts
+abbrev pub SinkHasCause : {T : Type 0} → SinkState → SinkState → Result T SinkFault → Type 0
+SinkHasCause old new (Ok n) = WritesTo old new false false
+SinkHasCause old new (Err sink.Failed) = WritesTo old new true false
+SinkHasCause old new (Err sink.OutOfMemory) = WritesTo old new false true
+
+-- the same of a call that makes several writes
+abbrev pub WriteHasCause : {T : Type 0} → SinkState → SinkState → Result T WriteFault → Type 0
+WriteHasCause old new (Ok n) = WritesTo old new false false
+WriteHasCause old new (Err write.Failed) = WritesTo old new true false
+WriteHasCause old new (Err write.OutOfMemory) = WritesTo old new false true
+
+-- One write: the sink took at least one byte from the front of the piece, or at a fault nothing.
+pub record Writes (old new : SinkState) (piece : List ℕ) (result : Result ℕ SinkFault) : Type 0 where
+  pub some : IfOk result (λ n. 0 < n)
+  pub within : IfOk result (λ n. n ≤ length piece)
+  pub bytes : WriteAppends old.sent new.sent result piece
+  pub cause : SinkHasCause old new result
+
+-- What is sent grew by the text at Ok, and at a fault by a part of it from the front, short of the whole.
+abbrev pub SendsOrPrefix : {T E : Type 0} → Option (List ℕ) → Option (List ℕ) → List ℕ → Result T E → Type 0
+SendsOrPrefix old new text result =
+    MatchResult result (λ _. Appends old new text) (λ _. (n : ℕ) × (n < length text) × Appends old new (take n text))
+
+-- A text was sent: the sink took it whole, or it failed or wanted memory, and took a part of it from the front, short of the whole.
+pub record Sends {T : Type 0} (old new : SinkState) (text : List ℕ) (result : Result T WriteFault) : Type 0 where
+  pub bytes : SendsOrPrefix old.sent new.sent text result
+  pub cause : WriteHasCause old new result

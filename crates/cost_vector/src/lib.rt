@@ -9,8 +9,6 @@ mod cost;
 mod label;
 mod limit;
 mod out_of_memory;
-#[cfg(test)]
-mod tests;
 mod weight;
 
 pub use cost::Cost;

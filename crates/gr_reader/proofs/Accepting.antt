@@ -13,7 +13,7 @@ use Rattle.gr_reader.specs.declared.form.Form.{Form}
 use Rattle.gr_reader.specs.declared.form.Form.TheVariants.{Problem, Arc, Malformed}
 use Rattle.gr_reader.specs.Forms.{form_of}
 use Rattle.gr_reader.specs.Table.{Sizes, State, said, form_kind, in_range, size_in}
-use Rattle.gr_reader.specs.Rest.{Told, past, with_form, ends, before, line_told, read_lines, read_rest, at_start}
+use Rattle.gr_reader.specs.Rest.{Told, past, with_form, ends, with_line, line_told, read_lines, read_rest, at_start}
 use Rattle.gr_reader.specs.Grammar.{IsGr, IsArc, form_of_arc, forms_of}
 use Rattle.gr_reader.proofs.Limits.{limit_of, Unbroken, unbroken-short, file_short, file_unbroken}
 use Rattle.gr_reader.proofs.Telling.{told_of-sizes}
@@ -142,7 +142,7 @@ module _ (limits : FileLimits) (total : ℕ) (known : Sizes) where
       let accepted = arc_fits known come arc (omega (arith, follows.count)) follows.in_range.0 in
       let rest = later (come + 1) (number + 1) (passed + size_in total passed line) arcs
       (record { unbroken = follows.unbroken.1; forms = first.1; count = omega (arith, follows.count); in_range = follows.in_range.1 }) in
-      rw (first.0, accepted) (ap (before (Some (form_of_arc arc))) rest)
+      rw (first.0, accepted) (ap (with_line (Some (form_of_arc arc))) rest)
 
   tells : (lines : List (List ℕ)) → Tells lines
   tells [] come number passed arcs follows = tells-end come number passed arcs follows

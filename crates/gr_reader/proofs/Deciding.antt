@@ -1,12 +1,16 @@
 -- Each text is one weight file, or it has one first fault.
-use Rattle.std.proofs.Common.{◌≡◌, ℕ, List, Option, Some, None, ◌⊎◌, inl, inr, length, refl, sym, ap, subst, ◌∙◌}
+use Rattle.std.proofs.Common.{◌≡◌, ℕ, List, Option, Some, None, Result, Ok, Err, ◌⊎◌, inl, inr, length, refl, sym, ap, subst, ◌∙◌}
 use Rattle.std.proofs.lemmas.Option.{same_Some}
 use Rattle.arc_graph.specs.declared.file.ArcLine.{ArcLine}
+use Rattle.arc_graph.specs.Files.{Contents}
+use Rattle.gr_reader.specs.declared.fault.FileFault.{FileFault}
+use Rattle.gr_reader.specs.declared.fault.FileFault.TheVariants.{Line, Read, OutOfMemory}
 use Rattle.gr_reader.specs.declared.fault.FileLimits.{FileLimits}
 use Rattle.gr_reader.specs.declared.fault.LineKind.{LineKind}
 use Rattle.gr_reader.specs.Table.{Sizes, said}
 use Rattle.gr_reader.specs.Rest.{Fault, Told, read_rest, at_start}
 use Rattle.gr_reader.specs.Grammar.{IsGr, GrFault}
+use Rattle.gr_reader.specs.Reader.{IsSound, IsComplete}
 use Rattle.gr_reader.specs.Laws.{FilesAreRead, FirstFaultsAreMet, IsDecided, TextsAreDecided}
 use Rattle.gr_reader.proofs.Accepting.{reading_is, file_is_read}
 use Rattle.gr_reader.proofs.FirstFault.{fault_is_first, first_is_fault}
@@ -45,6 +49,22 @@ module _ (limits : FileLimits) (bytes : List ℕ) where
         let some = first_is_fault limits bytes kind line first in
         absurd cc;
   }
+
+  -- what is sound is complete, since each text has one answer
+  pub complete : (result : Result Contents FileFault) → IsSound limits bytes result → IsComplete limits bytes result
+  complete (Ok file) sound = record {
+    accepts = λ nodes arcs is_gr.
+        let same = is_decided.one_file file.nodes nodes file.arcs arcs sound is_gr in
+        let at : ℕ → List ArcLine → Contents = λ n a. record { nodes = n; arcs = a } in
+        ap (λ n. at n file.arcs) same.0 ∙ ap (at nodes) same.1;
+    refuses = λ kind line first. is_decided.never_both file.nodes file.arcs kind line sound first;
+  }
+  complete (Err (Line kind line)) sound = record {
+    accepts = λ nodes arcs is_gr. is_decided.never_both nodes arcs kind line is_gr sound;
+    refuses = λ other at first. is_decided.one_fault kind other line at sound first;
+  }
+  complete (Err Read) sound = record { accepts = λ nodes arcs is_gr. tt; refuses = λ kind line first. tt }
+  complete (Err OutOfMemory) sound = record { accepts = λ nodes arcs is_gr. tt; refuses = λ kind line first. tt }
 
 pub files_are_read : FilesAreRead
 files_are_read limits bytes nodes arcs = (file_is_read limits bytes nodes arcs, read_is_file limits bytes nodes arcs)

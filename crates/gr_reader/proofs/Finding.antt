@@ -5,12 +5,12 @@ use Rattle.line_text.specs.declared.limits.LineFault.{LineFault}
 use Rattle.line_text.specs.declared.limits.LineFault.TheVariants as lines
 use Rattle.line_text.specs.Lines.{after_line, lines_of}
 use Rattle.line_text.specs.Marks.{first_fault, line_answer, answer_of}
-use Rattle.line_text.specs.Reading.{Reading, CountsNone, TakesLine, Tells}
+use Rattle.line_text.specs.Reading.{Lines, CountsNone, TakesLine, Tells}
 use Rattle.gr_reader.specs.declared.fault.LineKind.TheVariants.{LineTooLong, FileTooLong}
 use Rattle.gr_reader.specs.declared.form.Form.{Form}
 use Rattle.gr_reader.specs.Forms.{form_of, capped}
 use Rattle.gr_reader.specs.Kinds.{told_as}
-use Rattle.gr_reader.specs.Reader.{file_limits, state_of}
+use Rattle.gr_reader.specs.Reader.{file_limits, line_state}
 use Rattle.gr_reader.specs.Steps.{Skips, FindsForm, FindsFault}
 use Rattle.gr_reader.proofs.LineSteps.{given, told_of-taken, told_of-broken}
 use Rattle.gr_reader.proofs.Capping.{given-capped}
@@ -29,7 +29,7 @@ of_known None told each = tt
 of_known (Some rest) told each = each rest told
 
 -- nothing is skipped yet
-pub skips_none : (known : Option (List ℕ)) (lines : Reading) → IfSome known (λ rest. IsSomeAnd known (Skips lines lines rest))
+pub skips_none : (known : Option (List ℕ)) (lines : Lines) → IfSome known (λ rest. IsSomeAnd known (Skips lines lines rest))
 skips_none None lines = tt
 skips_none (Some rest) lines = λ sizes come small. refl
 
@@ -42,7 +42,7 @@ ignored_is : (text : Option Form) → None ≡ option_map capped text → text �
 ignored_is None e = refl
 ignored_is (Some line) e = absurd cc
 
-module _ (old now new : Reading) (after : Option (List ℕ)) (limits : new.limits ≡ now.limits) where
+module _ (old now new : Lines) (after : Option (List ℕ)) (limits : new.limits ≡ now.limits) where
   -- one more line is ignored
   pub skips_line : (rest more : List ℕ) → Skips old now rest more → now.number + 1 ≡ new.number → TakesLine now new more after
       → None ≡ option_map capped (form_of new.text)
@@ -63,12 +63,12 @@ module _ (old now new : Reading) (after : Option (List ℕ)) (limits : new.limit
         left = taken.left;
         told = λ sizes come small.
             let first = told_of-taken now new more after taken limits (sym number) sizes come in
-            let same = given-capped (file_limits new.limits) (new.passed + length (after_line more)) sizes come small (state_of new sizes come)
+            let same = given-capped (file_limits new.limits) (new.passed + length (after_line more)) sizes come small (line_state new sizes come)
             (lines_of (after_line more)) line.0 in
             skips sizes come small ∙ (rw line.1 at first) ∙ (rw (← line.2) at same);
       }
 
-answer_of-broken : (now : Reading) (rest : List ℕ) (fault : LineFault) → answer_of now.limits now.passed rest ≡ Err fault → (0 < length rest)
+answer_of-broken : (now : Lines) (rest : List ℕ) (fault : LineFault) → answer_of now.limits now.passed rest ≡ Err fault → (0 < length rest)
     × (first_fault now.limits now.passed rest ≡ Some fault)
 answer_of-broken now [] fault e = absurd cc
 answer_of-broken now (byte ∷ rest) fault e = (omega arith, by_fault (first_fault now.limits now.passed (byte ∷ rest)) e) where
@@ -77,7 +77,7 @@ answer_of-broken now (byte ∷ rest) fault e = (omega arith, by_fault (first_fau
   by_fault (Some broken) e = cc
 
 -- a line breaks a limit
-pub finds_fault : (old now new : Reading) (rest more : List ℕ) (after : Option (List ℕ)) (fault : LineFault) → Skips old now rest more → CountsNone now new
+pub finds_fault : (old now new : Lines) (rest more : List ℕ) (after : Option (List ℕ)) (fault : LineFault) → Skips old now rest more → CountsNone now new
     → Tells now new more after (Err fault)
     → FindsFault old rest (told_as fault (new.number + 1))
 finds_fault old now new rest more after lines.Read skips counts tells = tt

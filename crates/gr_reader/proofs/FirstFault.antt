@@ -14,7 +14,7 @@ use Rattle.gr_reader.specs.declared.form.Form.{Form}
 use Rattle.gr_reader.specs.declared.form.Form.TheVariants.{Problem, Arc, Malformed}
 use Rattle.gr_reader.specs.Forms.{form_of}
 use Rattle.gr_reader.specs.Table.{Sizes, State, said, form_kind, line_kind, end_kind, size_in}
-use Rattle.gr_reader.specs.Rest.{Fault, Told, past, with_form, ends, before, line_told, read_lines, read_rest, at_start}
+use Rattle.gr_reader.specs.Rest.{Fault, Told, past, with_form, ends, with_line, line_told, read_lines, read_rest, at_start}
 use Rattle.gr_reader.specs.Grammar.{GrFault, forms_of, sizes_in, is_arc, state_behind, kind_there, kind_at}
 use Rattle.gr_reader.proofs.Limits.{with_lf}
 
@@ -151,11 +151,11 @@ module _ (limits : FileLimits) (total : ℕ) (lines : List (List ℕ)) where
       first = λ i le before. absurd (omega arith);
     }
 
-  before-end : (form : Option Form) (later : Told) → (before form later).end ≡ later.end
-  before-end None later = refl
-  before-end (Some (Problem nodes arcs)) later = refl
-  before-end (Some (Arc tail head weight)) later = refl
-  before-end (Some Malformed) later = refl
+  with_line-end : (form : Option Form) (later : Told) → (with_line form later).end ≡ later.end
+  with_line-end None later = refl
+  with_line-end (Some (Problem nodes arcs)) later = refl
+  with_line-end (Some (Arc tail head weight)) later = refl
+  with_line-end (Some Malformed) later = refl
 
   -- a line and what follows it
   says_line : (front : List (List ℕ)) (line : List ℕ) (back : List (List ℕ)) → front ++ line ∷ back ≡ lines
@@ -177,7 +177,7 @@ module _ (limits : FileLimits) (total : ℕ) (lines : List (List ℕ)) where
       let state = state_more total front line _ (form_of (without_cr line)) refl k in
       let told : Told = read_lines limits total (state_behind total (front ++ line ∷ [])) back in
       let rest = passes (length front) told.end none (subst (λ (n : ℕ). Says n told) (length_push front line) later) in
-      rw (state, before-end (form_of (without_cr line)) told) rest
+      rw (state, with_line-end (form_of (without_cr line)) told) rest
 
   says : (back front : List (List ℕ)) → front ++ back ≡ lines → Says (length front) (read_lines limits total (state_behind total front) back)
   says [] front e = says_end front e (end_kind (state_behind total front)) refl

@@ -1,11 +1,11 @@
 pub mod LineSteps
 pub mod Capping
 pub mod Finding
-pub mod Taking
+pub mod TakesLemmas
 pub mod Telling
 pub mod Limits
 pub mod Accepting
 pub mod FirstFault
 pub mod Deciding
-pub mod Collecting
+pub mod HasComeLemmas
 pub mod FormLemmas

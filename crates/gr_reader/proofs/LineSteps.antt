@@ -5,7 +5,7 @@ use Rattle.line_text.specs.declared.limits.LineFault.{LineFault}
 use Rattle.line_text.specs.declared.limits.LineLimits.{LineLimits}
 use Rattle.line_text.specs.Lines.{first_lf, raw_line, after_line, line_size, without_cr, lines_of}
 use Rattle.line_text.specs.Marks.{line_fault, first_fault, line_answer, answer_of}
-use Rattle.line_text.specs.Reading.{Reading, TakesLine}
+use Rattle.line_text.specs.Reading.{Lines, TakesLine}
 use Rattle.line_text.proofs.LineLemmas.{first_lf-le, length-raw_line, lines_of-first}
 use Rattle.gr_reader.specs.declared.fault.FileLimits.{FileLimits}
 use Rattle.gr_reader.specs.declared.fault.LineKind.{LineKind}
@@ -13,7 +13,7 @@ use Rattle.gr_reader.specs.declared.form.Form.{Form}
 use Rattle.gr_reader.specs.Forms.{form_of}
 use Rattle.gr_reader.specs.Table.{Sizes, State, form_kind, limit_kind, line_kind, size_in}
 use Rattle.gr_reader.specs.Rest.{Told, past, with_form, line_told, read_lines}
-use Rattle.gr_reader.specs.Reader.{file_limits, state_of, told_of}
+use Rattle.gr_reader.specs.Reader.{file_limits, line_state, told_of}
 
 -- what a line gives of which the fault, the state behind it and the form are known
 unfoldable pub given : FileLimits → ℕ → Option LineKind → State → Option Form → List (List ℕ) → Told
@@ -45,21 +45,21 @@ line_kind-known limits total state line size broken sized e =
     (ap (line_fault limits state.passed (length line)) sized ∙ e)
 
 -- the place behind a line
-past-is : (total : ℕ) (old : Reading) (sizes : Option Sizes) (come : ℕ) (line : List ℕ) (number passed : ℕ) → number ≡ old.number + 1
+past-is : (total : ℕ) (old : Lines) (sizes : Option Sizes) (come : ℕ) (line : List ℕ) (number passed : ℕ) → number ≡ old.number + 1
     → passed ≡ old.passed + size_in total old.passed line
-    → past total (state_of old sizes come) line ≡ record { sizes = sizes; come = come; number = number; passed = passed }
+    → past total (line_state old sizes come) line ≡ record { sizes = sizes; come = come; number = number; passed = passed }
 past-is total old sizes come line number passed e f =
     let at : ℕ → ℕ → State = λ n p. record { sizes = sizes; come = come; number = n; passed = p } in
     ap (λ n. at n (old.passed + size_in total old.passed line)) (sym e) ∙ ap (at number) (sym f)
 
 -- A line of the rest breaks a limit.
-module _ (old : Reading) (rest : List ℕ) (sizes : Option Sizes) (come : ℕ) (some : 0 < length rest) where
+module _ (old : Lines) (rest : List ℕ) (sizes : Option Sizes) (come : ℕ) (some : 0 < length rest) where
   pub told_of-broken : (fault : LineFault) (kind : LineKind) → limit_kind (Some fault) ≡ Some kind → first_fault old.limits old.passed rest ≡ Some fault
       → told_of old sizes come rest ≡ record { sizes = sizes; arcs = []; end = Some (record { kind = kind; line = old.number + 1 }) }
   unfolding given
   told_of-broken fault kind named broken =
       let total : ℕ = old.passed + length rest in
-      let state : State = state_of old sizes come in
+      let state : State = line_state old sizes come in
       let first = ap (read_lines (file_limits old.limits) total state) (lines_of-first rest some) in
       let kind_is : line_kind (file_limits old.limits) total state (raw_line rest) ≡ Some kind =
       line_kind-known old.limits total state (raw_line rest) (line_size rest) (Some fault) (size_in-rest old.passed rest) broken
@@ -68,7 +68,7 @@ module _ (old : Reading) (rest : List ℕ) (sizes : Option Sizes) (come : ℕ) (
       (lines_of (after_line rest))) kind_is
 
 -- The first line of the rest is taken.
-module _ (old new : Reading) (rest : List ℕ) (after : Option (List ℕ)) (taken : TakesLine old new rest after) (limits : new.limits ≡ old.limits)
+module _ (old new : Lines) (rest : List ℕ) (after : Option (List ℕ)) (taken : TakesLine old new rest after) (limits : new.limits ≡ old.limits)
     (number : new.number ≡ old.number + 1) where
   unbroken : first_fault old.limits old.passed rest ≡ None
   unbroken = by_rest rest taken.answer where
@@ -82,10 +82,10 @@ module _ (old new : Reading) (rest : List ℕ) (after : Option (List ℕ)) (take
 
   pub told_of-taken : (sizes : Option Sizes) (come : ℕ)
       → told_of old sizes come rest ≡ given (file_limits new.limits) (new.passed + length (after_line rest))
-      (option_and_then (form_kind sizes come) (form_of new.text)) (state_of new sizes come) (form_of new.text) (lines_of (after_line rest))
+      (option_and_then (form_kind sizes come) (form_of new.text)) (line_state new sizes come) (form_of new.text) (lines_of (after_line rest))
   told_of-taken sizes come =
       let total : ℕ = old.passed + length rest in
-      let state : State = state_of old sizes come in
+      let state : State = line_state old sizes come in
       let first = ap (read_lines (file_limits old.limits) total state) taken.lines in
       let kind_is = line_kind-known old.limits total state (raw_line rest) (line_size rest) None (size_in-rest old.passed rest) unbroken in
       let place = past-is total old sizes come (raw_line rest) new.number new.passed number (taken.passed

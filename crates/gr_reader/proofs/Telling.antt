@@ -1,7 +1,7 @@
 -- What is told of the rest of a file, from what its first line that isn't ignored says.
 use Rattle.std.proofs.Common.{◌≡◌, ℕ, ◌+◌, List, [], ◌∷◌, Option, Some, None, option_and_then, length, refl, ap, ◌∙◌}
 use Rattle.std.specs.Option.{option_or}
-use Rattle.line_text.specs.Reading.{Reading}
+use Rattle.line_text.specs.Reading.{Lines}
 use Rattle.line_text.specs.Lines.{lines_of, without_cr}
 use Rattle.gr_reader.specs.declared.fault.FileLimits.{FileLimits}
 use Rattle.gr_reader.specs.declared.fault.LineKind.{LineKind}
@@ -14,7 +14,7 @@ use Rattle.gr_reader.specs.Reader.{file_limits, told_of, TellsSizes}
 use Rattle.gr_reader.specs.Steps.{FindsForm, IsAccepted, told_here}
 
 -- an accepted problem line gives the state behind it
-told_problem : (lines : Reading) (form : Form) (nodes arcs : ℕ) (more : List ℕ) → IsAccepted None 0 form (Problem nodes arcs)
+told_problem : (lines : Lines) (form : Form) (nodes arcs : ℕ) (more : List ℕ) → IsAccepted None 0 form (Problem nodes arcs)
     → told_here lines None 0 form more ≡ told_of lines (said nodes arcs) 0 more
 told_problem lines form nodes arcs more accepted = rw (accepted.no_fault, accepted.form_is) refl
 
@@ -51,7 +51,7 @@ module _ (limits : FileLimits) (total : ℕ) (known : Sizes) where
   told_of-sizes (line ∷ lines) come number passed = stay-line line lines (told_of-sizes lines) come number passed (form_of (without_cr line)) _
 
 -- What `begin` answers.
-module _ (old new : Reading) (rest : List ℕ) (after : Option (List ℕ)) where
+module _ (old new : Lines) (rest : List ℕ) (after : Option (List ℕ)) where
   pub begin_accepts : (form : Form) (nodes arcs : ℕ) → FindsForm old new rest after form → IsAccepted None 0 form (Problem nodes arcs)
       → TellsSizes new (told_of old None 0 rest) after nodes arcs
   begin_accepts form nodes arcs found accepted =

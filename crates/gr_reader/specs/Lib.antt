@@ -4,5 +4,6 @@ pub mod Table
 pub mod Rest
 pub mod Grammar
 pub mod Reader
+pub mod Sinks
 pub mod Steps
 pub mod Laws

@@ -1,123 +1,29 @@
 -- What a reader of a weight file shows, and what its answers say.
-use Rattle.std.specs.Prelude.{◌≡◌, ◌≢◌, ℕ, ◌+◌, ◌^◌, ◌≤◌, ◌⊎◌, ⊤, IfSome, IsSome, IsSomeAnd, Bool, true, false, List, [], length, Option, Some, None, Result, Ok, Err}
-use Rattle.route_io.specs.Causes.{Rose}
+use Rattle.std.specs.Prelude.{◌≡◌, ◌≢◌, ℕ, ◌+◌, ◌^◌, ◌<◌, ◌≤◌, ⊤, IfSome, IsSomeAnd, Bool, true, false, List, [], length, Option, Some, None, Result, Ok, Err}
+use Rattle.route_io.specs.Sources.{SourceState}
 use Rattle.road_network.specs.Limits.{max_nodes, max_arcs}
 use Rattle.arc_graph.specs.declared.file.ArcLine.{ArcLine}
 use Rattle.arc_graph.specs.Files.{Contents}
 use Rattle.line_text.specs.declared.limits.LineLimits.{LineLimits}
-use Rattle.line_text.specs.Reading.{Reading, InLimits, begun}
+use Rattle.line_text.specs.Reading.{Lines, InLimits, LosesNone, begun, rest_of}
 use Rattle.gr_reader.specs.declared.fault.FileFault.{FileFault}
 use Rattle.gr_reader.specs.declared.fault.FileFault.TheVariants.{Line, Read, OutOfMemory}
 use Rattle.gr_reader.specs.declared.fault.FileLimits.{FileLimits}
 use Rattle.gr_reader.specs.declared.fault.LineKind.{LineKind}
+use Rattle.gr_reader.specs.declared.gr_lines.Stage.{Stage}
+use Rattle.gr_reader.specs.declared.gr_lines.Stage.TheVariants.{Unread, Arcs, Whole, Failed}
 use Rattle.gr_reader.specs.Table.{Sizes, State, said, line_limits}
-use Rattle.gr_reader.specs.Rest.{Fault, Told, read_rest, before}
-use Rattle.gr_reader.specs.Grammar.{IsGr, GrFault, form_of_arc}
+use Rattle.gr_reader.specs.Rest.{Fault, Told, read_rest, with_line}
+use Rattle.gr_reader.specs.Grammar.{IsArc, IsGr, GrFault, form_of_arc}
 
--- a reader of a weight file
-pub record GrReading : Type 0 where
-  pub lines : Reading
-  -- the problem line was asked for
-  pub begun : Bool
-  -- what the problem line says
-  pub nodes : ℕ
-  pub arcs : ℕ
-  -- how many arcs have come
-  pub come : ℕ
-  -- the file has ended, and all arcs have come
-  pub whole : Bool
-  -- the fault that is kept
-  pub fault : Option FileFault
+-- a reader of a weight file: its lines, and how far it has come
+pub record GrLines : Type 0 where
+  pub lines : Lines
+  pub stage : Stage
 
 -- a reader before its first line
-abbrev pub unread : FileLimits → GrReading
-unread limits = record {
-  lines = begun (line_limits limits);
-  begun = false;
-  nodes = 0;
-  arcs = 0;
-  come = 0;
-  whole = false;
-  fault = None;
-}
-
--- what every reader keeps
-pub record IsGrReading (reading : GrReading) : Type 0 where
-  pub file : reading.lines.limits.total ≤ 2 ^ 63
-  pub in_limits : InLimits reading.lines
-  pub nodes : reading.nodes ≤ max_nodes
-  pub arcs : reading.arcs ≤ max_arcs
-  pub come : reading.come ≤ reading.arcs
-  pub all_come : reading.whole ≡ true → reading.come ≡ reading.arcs
-  pub one_end : reading.whole ≡ true → reading.fault ≡ None
-  pub memory : reading.fault ≢ Some OutOfMemory
-  pub goes_on : reading.fault ≡ None → reading.lines.fault ≡ None
-  pub unread : reading.begun ≡ false → (reading.fault ≡ None) × (reading.come ≡ 0) × (reading.whole ≡ false)
-
--- there is an answer that each call gives again
-abbrev pub IsEnded : GrReading → Type 0
-IsEnded reading = (reading.whole ≡ true) ⊎ IsSome reading.fault
-
--- there is none
-pub record GoesOn (reading : GrReading) : Type 0 where
-  pub no_fault : reading.fault ≡ None
-  pub no_end : reading.whole ≡ false
-
--- the limits of a file
-abbrev pub file_limits : LineLimits → FileLimits
-file_limits limits = record { line = limits.line; file = limits.total }
-
--- the state behind the current line, with these sizes and so many arc lines
-abbrev pub state_of : Reading → Option Sizes → ℕ → State
-state_of lines sizes come = record { sizes = sizes; come = come; number = lines.number; passed = lines.passed }
-
--- what the rest of the file gives from there on
-abbrev pub told_of : Reading → Option Sizes → ℕ → List ℕ → Told
-told_of lines sizes come rest = read_rest (file_limits lines.limits) (state_of lines sizes come) rest
-
--- the same for a reader that has answered the sizes
-abbrev pub told_by : GrReading → List ℕ → Told
-told_by reading rest = told_of reading.lines (said reading.nodes reading.arcs) reading.come rest
-
--- no more arcs are told, and then this end
-abbrev pub ends_with : Option Sizes → Option Fault → Told
-ends_with sizes end = record { sizes = sizes; arcs = []; end = end }
-
--- The first problem line is accepted, and it says so many nodes and arcs. What is left gives the same as what was left
--- before.
-pub record TellsSizes (lines : Reading) (told : Told) (after : Option (List ℕ)) (nodes arcs : ℕ) : Type 0 where
-  pub rest : List ℕ
-  pub left : after ≡ Some rest
-  pub sizes_are : told.sizes ≡ said nodes arcs
-  pub same : told ≡ told_of lines (said nodes arcs) 0 rest
-
--- what `begin` answers where this was told of what was left before
-abbrev pub BeginTells : Reading → Told → Option (List ℕ) → Result (ℕ × ℕ) FileFault → Type 0
-BeginTells lines told after (Ok answer) = TellsSizes lines told after answer.0 answer.1
-BeginTells lines told after (Err (Line kind line)) = told ≡ ends_with None (Some (record { kind = kind; line = line }))
-BeginTells lines told after (Err Read) = ⊤
-BeginTells lines told after (Err OutOfMemory) = ⊤
-
--- This arc is told first, and what is left gives the others and the same end.
-pub record TellsArc (lines : Reading) (sizes : Option Sizes) (come : ℕ) (told : Told) (after : Option (List ℕ)) (arc : ArcLine) : Type 0 where
-  pub rest : List ℕ
-  pub left : after ≡ Some rest
-  pub first : told ≡ before (Some (form_of_arc arc)) (told_of lines sizes (come + 1) rest)
-
--- what `next_arc` answers where this was told of what was left before
-abbrev pub ArcTells : Reading → Option Sizes → ℕ → Told → Option (List ℕ) → Result (Option ArcLine) FileFault → Type 0
-ArcTells lines sizes come told after (Ok (Some arc)) = TellsArc lines sizes come told after arc
-ArcTells lines sizes come told after (Ok None) = told ≡ ends_with sizes None
-ArcTells lines sizes come told after (Err (Line kind line)) = told ≡ ends_with sizes (Some (record { kind = kind; line = line }))
-ArcTells lines sizes come told after (Err Read) = ⊤
-ArcTells lines sizes come told after (Err OutOfMemory) = ⊤
-
--- A failed read comes only where the source's count rose. Any other answer leaves the count as it was.
-abbrev pub ReadHasCause : {T : Type 0} → ℕ → ℕ → Result T FileFault → Type 0
-ReadHasCause before now (Err Read) = Rose before now
-ReadHasCause before now (Err OutOfMemory) = now ≡ before
-ReadHasCause before now (Err (Line kind line)) = now ≡ before
-ReadHasCause before now (Ok value) = now ≡ before
+abbrev pub unread : FileLimits → GrLines
+unread limits = record { lines = begun (line_limits limits); stage = Unread }
 
 -- the numbers of nodes and arcs are in range
 pub record AreSizes (nodes arcs : ℕ) : Type 0 where
@@ -125,29 +31,149 @@ pub record AreSizes (nodes arcs : ℕ) : Type 0 where
   pub most_nodes : nodes ≤ max_nodes
   pub most_arcs : arcs ≤ max_arcs
 
--- an arc is counted, and nothing else is
-abbrev pub CountsArc : GrReading → GrReading → Result (Option ArcLine) FileFault → Type 0
-CountsArc old new (Ok (Some arc)) = new.come ≡ old.come + 1
-CountsArc old new (Ok None) = new.come ≡ old.come
-CountsArc old new (Err fault) = new.come ≡ old.come
+-- what every reader keeps at a stage: at most all arcs have come, and the lines go on until the end
+abbrev pub IsStage : Lines → Stage → Type 0
+IsStage lines Unread = lines.fault ≡ None
+IsStage lines (Arcs nodes arcs come) = AreSizes nodes arcs × (come ≤ arcs) × (lines.fault ≡ None)
+IsStage lines Whole = ⊤
+IsStage lines (Failed fault) = fault ≢ OutOfMemory
+
+-- what every reader keeps
+pub record IsReader (lines : Lines) (stage : Stage) : Type 0 where
+  pub file : lines.limits.total ≤ 2 ^ 63
+  pub in_limits : InLimits lines
+  pub at_stage : IsStage lines stage
+
+-- there is an answer that each call gives again
+abbrev pub IsEnded : Stage → Type 0
+IsEnded Unread = ⊥
+IsEnded (Arcs nodes arcs come) = ⊥
+IsEnded Whole = ⊤
+IsEnded (Failed fault) = ⊤
+
+-- this holds where the problem line was read, and it said so many nodes and arcs, of which some have come
+abbrev pub WhereArcs : Stage → (ℕ → ℕ → ℕ → Type 0) → Type 0
+WhereArcs (Arcs nodes arcs come) P = P nodes arcs come
+WhereArcs other P = ⊤
+
+-- the stage behind an answer of `begin`
+abbrev pub stage_begun : Result (ℕ × ℕ) FileFault → Stage
+stage_begun (Ok sizes) = Arcs sizes.0 sizes.1 0
+stage_begun (Err fault) = Failed fault
+
+-- One arc more has come, which was due and is in range.
+pub record ArcComes (nodes arcs come : ℕ) (new : Stage) (arc : ArcLine) : Type 0 where
+  pub due : come < arcs
+  pub in_range : IsArc nodes arc
+  pub counted : new ≡ Arcs nodes arcs (come + 1)
+
+-- the stages before and behind an answer of `next_arc`
+abbrev pub Moves : Stage → Stage → Result (Option ArcLine) FileFault → Type 0
+Moves (Arcs nodes arcs come) new (Ok (Some arc)) = ArcComes nodes arcs come new arc
+Moves (Arcs nodes arcs come) new (Ok None) = (come ≡ arcs) × (new ≡ Whole)
+Moves (Arcs nodes arcs come) new (Err fault) = new ≡ Failed fault
+Moves Whole new (Ok None) = new ≡ Whole
+Moves (Failed fault) new (Err again) = (again ≡ fault) × (new ≡ Failed fault)
+Moves old new other = ⊥
+
+-- the limits of a file
+abbrev pub file_limits : LineLimits → FileLimits
+file_limits limits = record { line = limits.line; file = limits.total }
+
+-- the state behind the current line, with these sizes and so many arc lines
+abbrev pub line_state : Lines → Option Sizes → ℕ → State
+line_state lines sizes come = record { sizes = sizes; come = come; number = lines.number; passed = lines.passed }
+
+-- what the rest of the file gives from there on
+abbrev pub told_of : Lines → Option Sizes → ℕ → List ℕ → Told
+told_of lines sizes come rest = read_rest (file_limits lines.limits) (line_state lines sizes come) rest
+
+-- no more arcs are told, and then this end
+abbrev pub ends_with : Option Sizes → Option Fault → Told
+ends_with sizes end = record { sizes = sizes; arcs = []; end = end }
+
+-- Where the fault is of a line, no more arcs are told, and then this fault.
+abbrev pub FaultTold : Option Sizes → Told → FileFault → Type 0
+FaultTold sizes told (Line kind line) = told ≡ ends_with sizes (Some (record { kind = kind; line = line }))
+FaultTold sizes told Read = ⊤
+FaultTold sizes told OutOfMemory = ⊤
+
+-- The first problem line is accepted, and it says so many nodes and arcs. What is left gives the same as what was left
+-- before.
+pub record TellsSizes (new : Lines) (told : Told) (after : Option (List ℕ)) (nodes arcs : ℕ) : Type 0 where
+  pub rest : List ℕ
+  pub left : after ≡ Some rest
+  pub sizes_are : told.sizes ≡ said nodes arcs
+  pub same : told ≡ told_of new (said nodes arcs) 0 rest
+
+-- what `begin` answers where this was told of what was left before
+abbrev pub SizesTold : Lines → Told → Option (List ℕ) → Result (ℕ × ℕ) FileFault → Type 0
+SizesTold new told after (Ok answer) = TellsSizes new told after answer.0 answer.1
+SizesTold new told after (Err fault) = FaultTold None told fault
+
+-- the same of a reader and its source, where the source tells what it has left
+abbrev pub BeginTells : Lines → Lines → SourceState → SourceState → Result (ℕ × ℕ) FileFault → Type 0
+BeginTells old new before after result =
+    IfSome (rest_of old before) (λ rest. SizesTold new (told_of old None 0 rest) (rest_of new after) result)
+
+-- This arc is told first, and what is left gives the others and the same end.
+pub record TellsArc (new : Lines) (sizes : Option Sizes) (come : ℕ) (told : Told) (after : Option (List ℕ)) (arc : ArcLine) : Type 0 where
+  pub rest : List ℕ
+  pub left : after ≡ Some rest
+  pub first : told ≡ with_line (Some (form_of_arc arc)) (told_of new sizes (come + 1) rest)
+
+-- what `next_arc` answers where this was told of what was left before
+abbrev pub ArcTold : Lines → Option Sizes → ℕ → Told → Option (List ℕ) → Result (Option ArcLine) FileFault → Type 0
+ArcTold new sizes come told after (Ok (Some arc)) = TellsArc new sizes come told after arc
+ArcTold new sizes come told after (Ok None) = told ≡ ends_with sizes None
+ArcTold new sizes come told after (Err fault) = FaultTold sizes told fault
+
+-- the same of a reader and its source
+abbrev pub ArcTells : Option Sizes → ℕ → Lines → Lines → SourceState → SourceState → Result (Option ArcLine) FileFault → Type 0
+ArcTells sizes come old new before after result =
+    IfSome (rest_of old before) (λ rest. ArcTold new sizes come (told_of old sizes come rest) (rest_of new after) result)
+
+-- What was taken from a source stays in the limits: at most one byte past the total in all. No byte is lost.
+pub record Takes (old new : Lines) (before after : SourceState) : Type 0 where
+  pub limits : new.limits ≡ old.limits
+  pub in_limits : InLimits new
+  pub loses_none : LosesNone old new before after
+
+-- the test that this answer says that the source failed
+abbrev pub file_failed : {T : Type 0} → Result T FileFault → Bool
+file_failed (Err Read) = true
+file_failed other = false
+
+-- the same of a call at a stage, of which only those that read can fail
+abbrev pub read_failed : {T : Type 0} → Stage → Result T FileFault → Bool
+read_failed (Arcs nodes arcs come) result = file_failed result
+read_failed other result = false
 
 -- at most so many bytes were taken from a source, which still tells what is left where it told it before
-abbrev pub TakesAtMost : ℕ → Option (List ℕ) → Option (List ℕ) → Type 0
-TakesAtMost most before after = IfSome before (λ bytes. IsSomeAnd after (λ rest. length bytes ≤ length rest + most))
+abbrev pub TakesAtMost : ℕ → SourceState → SourceState → Type 0
+TakesAtMost most before after = IfSome before.left (λ bytes. IsSomeAnd after.left (λ rest. length bytes ≤ length rest + most))
 
--- what a reading of a whole text answers where this is told of it
-abbrev pub ReadTells : Told → Result Contents FileFault → Type 0
-ReadTells told (Ok file) = told ≡ record { sizes = said file.nodes (length file.arcs); arcs = file.arcs; end = None }
-ReadTells told (Err (Line kind line)) = told.end ≡ Some (record { kind = kind; line = line })
-ReadTells told (Err Read) = ⊤
-ReadTells told (Err OutOfMemory) = ⊤
+-- the fault of a line is the first of the text
+abbrev pub IsFirstFault : FileLimits → List ℕ → FileFault → Type 0
+IsFirstFault limits bytes (Line kind line) = GrFault limits bytes kind line
+IsFirstFault limits bytes Read = ⊤
+IsFirstFault limits bytes OutOfMemory = ⊤
 
 -- A file is answered only for its text, and a fault only where it is the first.
 abbrev pub IsSound : FileLimits → List ℕ → Result Contents FileFault → Type 0
 IsSound limits bytes (Ok file) = IsGr limits bytes file.nodes file.arcs
-IsSound limits bytes (Err (Line kind line)) = GrFault limits bytes kind line
-IsSound limits bytes (Err Read) = ⊤
-IsSound limits bytes (Err OutOfMemory) = ⊤
+IsSound limits bytes (Err fault) = IsFirstFault limits bytes fault
+
+-- A whole file was taken, which is that of the text where the text is known.
+pub record TakesFile (limits : FileLimits) (text : Option (List ℕ)) (HasTaken : ℕ → Contents → Type 0) : Type 0 where
+  pub file : Contents
+  pub taken : HasTaken (length file.arcs) file
+  pub is_gr : IfSome text (λ bytes. IsGr limits bytes file.nodes file.arcs)
+
+-- A whole file was taken, or the fault is the text's.
+abbrev pub ReadsInto : {T : Type 0} → FileLimits → Option (List ℕ) → (ℕ → Contents → Type 0) → Result T FileFault → Type 0
+ReadsInto limits text HasTaken (Ok done) = TakesFile limits text HasTaken
+ReadsInto limits text HasTaken (Err fault) = IfSome text (λ bytes. IsFirstFault limits bytes fault)
 
 -- this file is answered, unless the source fails or memory runs out
 abbrev pub Gives : ℕ → List ArcLine → Result Contents FileFault → Type 0
@@ -156,10 +182,6 @@ Gives nodes arcs (Err (Line kind line)) = ⊥
 Gives nodes arcs (Err Read) = ⊤
 Gives nodes arcs (Err OutOfMemory) = ⊤
 
--- A weight file is answered.
-abbrev pub AcceptsFiles : FileLimits → List ℕ → Result Contents FileFault → Type 0
-AcceptsFiles limits bytes result = (nodes : ℕ) (arcs : List ArcLine) → IsGr limits bytes nodes arcs → Gives nodes arcs result
-
 -- this fault is answered, unless the source fails or memory runs out
 abbrev pub Refuses : LineKind → ℕ → Result Contents FileFault → Type 0
 Refuses kind line (Ok file) = ⊥
@@ -167,6 +189,7 @@ Refuses kind line (Err (Line other at)) = (other ≡ kind) × (at ≡ line)
 Refuses kind line (Err Read) = ⊤
 Refuses kind line (Err OutOfMemory) = ⊤
 
--- The first fault is answered.
-abbrev pub RefusesFaults : FileLimits → List ℕ → Result Contents FileFault → Type 0
-RefusesFaults limits bytes result = (kind : LineKind) (line : ℕ) → GrFault limits bytes kind line → Refuses kind line result
+-- Each weight file is answered, and so is the first fault of each other text.
+pub record IsComplete (limits : FileLimits) (bytes : List ℕ) (result : Result Contents FileFault) : Type 0 where
+  pub accepts : (nodes : ℕ) (arcs : List ArcLine) → IsGr limits bytes nodes arcs → Gives nodes arcs result
+  pub refuses : (kind : LineKind) (line : ℕ) → GrFault limits bytes kind line → Refuses kind line result

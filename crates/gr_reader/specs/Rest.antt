@@ -40,18 +40,18 @@ abbrev pub ends : State → Option LineKind → Told
 ends state None = record { sizes = state.sizes; arcs = []; end = None }
 ends state (Some kind) = stops (record state { number = state.number + 1 }) kind
 
--- an accepted line comes before what follows it
-abbrev pub before : Option Form → Told → Told
-before (Some (Arc tail head weight)) later =
+-- what an accepted line says, and then what follows it
+abbrev pub with_line : Option Form → Told → Told
+with_line (Some (Arc tail head weight)) later =
     record later { arcs = record { tail = tail; head = head; weight = weight } ∷ later.arcs }
-before (Some (Problem nodes arcs)) later = later
-before (Some Malformed) later = later
-before None later = later
+with_line (Some (Problem nodes arcs)) later = later
+with_line (Some Malformed) later = later
+with_line None later = later
 
 -- a line gives its fault, or what it says and then what follows it
 abbrev pub line_told : Option LineKind → State → Option Form → Told → Told
 line_told (Some kind) here form later = stops here kind
-line_told None here form later = before form later
+line_told None here form later = with_line form later
 
 -- what the lines give from a state on, in a file of so many bytes
 abbrev pub read_lines : FileLimits → ℕ → State → List (List ℕ) → Told

@@ -1,17 +1,18 @@
-ghost use Rattle.std.specs.Prelude.{◌≡◌, ◌≢◌, ◌≤◌, ◌<◌, ◌^◌, ◌+◌, ◌↔◌, None, Some, Ok, Err, true, false, IfOk, IfNone, IfSome, IfErr, OnOk, OnSome, MatchResult};
+ghost use Rattle.std.specs.Prelude.{◌≡◌, ◌≢◌, ◌≤◌, ◌<◌, ◌^◌, ◌+◌, None, Some, Ok, Err, IfOk, IfSome, IfErr, OnOk, OnSome};
 ghost use Rattle.std.specs.Result.{result_err};
+ghost use Rattle.route_io.specs.Sources.{ReadsFrom};
 ghost use Rattle.road_network.specs.Limits.{max_nodes};
-ghost use Rattle.line_text.specs.Reading.{InLimits, LosesNone, rest_of};
+ghost use Rattle.line_text.specs.Reading.{max_line};
 ghost use Rattle.gr_reader.specs.Grammar.{IsArc, form_of_arc};
 ghost use Rattle.gr_reader.specs.Steps.{FormTells, IsAccepted, range_kind};
 ghost use Rattle.gr_reader.specs.Table.{form_kind, in_range, said};
-ghost use Rattle.gr_reader.specs.Reader.{ArcTells, AreSizes, BeginTells, CountsArc, GoesOn, IsEnded, ReadHasCause, told_by, told_of, unread};
+ghost use Rattle.gr_reader.specs.Reader.{ArcTells, AreSizes, BeginTells, IsEnded, Moves, Takes, WhereArcs, file_failed, read_failed, stage_begun, unread};
 
 use crate::fault::{FileFault, FileLimits, LineKind};
 use crate::form::{Form, form_of};
 use arc_graph::ArcLine;
 use cost_vector::OutOfMemory;
-use line_text::{LONGEST_LINE, LineLimits, Lines};
+use line_text::{LineLimits, Lines};
 use road_network::{MAX_ARCS, MAX_NODES};
 use route_io::Source;
 use std::alloc::Global;
@@ -21,45 +22,37 @@ use std::marker::Model;
 #[derive(Drop)]
 pub struct GrLines {
     lines: Lines,
-    begun: bool,
-    nodes: u32,
-    arcs: u32,
-    come: u32,
-    whole: bool,
-    fault: Option<FileFault>,
+    stage: Stage,
+}
+
+/// How far a reader has come in its file.
+#[derive(Clone, Copy, Debug, PartialEq, Eq)]
+enum Stage {
+    /// The problem line wasn't asked for.
+    Unread,
+    /// The problem line was read, and so many of its arcs have come.
+    Arcs { nodes: u32, arcs: u32, come: u32 },
+    /// All arcs have come, and the file has ended.
+    Whole,
+    /// The file has this fault, or it couldn't be read.
+    Failed(FileFault),
 }
 
 impl Model for GrLines {
-    ghost use Rattle.gr_reader.specs.Reader.{GrReading, IsGrReading};
+    ghost use Rattle.gr_reader.specs.Reader.{GrLines, IsReader};
 
-    ghost Value = { GrReading };
+    ghost Value = { GrLines };
 
-    ghost view = { λ gr. record {
-      lines = gr.lines;
-      begun = gr.begun;
-      nodes = gr.nodes;
-      arcs = gr.arcs;
-      come = gr.come;
-      whole = gr.whole;
-      fault = gr.fault;
-    } };
+    ghost view = { λ gr. record { lines = gr.lines; stage = gr.stage } };
 
-    ghost invariant = { λ gr. IsGrReading (record {
-      lines = gr.lines;
-      begun = gr.begun;
-      nodes = gr.nodes;
-      arcs = gr.arcs;
-      come = gr.come;
-      whole = gr.whole;
-      fault = gr.fault;
-    }) };
+    ghost invariant = { λ gr. IsReader gr.lines gr.stage };
 }
 
 impl GrLines {
     /// Takes the one buffer that the reader has.
     pub fn new(alloc: Global, limits: FileLimits) -> Result<GrLines, OutOfMemory>
         requires some { 1 ≤ limits.line }
-        requires line { limits.line ≤ LONGEST_LINE }
+        requires line { limits.line ≤ max_line }
         requires file { limits.file ≤ 2 ^ 63 }
         ensures { IfOk result (λ gr. gr ≡ unread limits) }
     {
@@ -69,108 +62,78 @@ impl GrLines {
         };
         Ok(GrLines {
             lines: Lines::new(alloc, limits)?,
-            begun: false,
-            nodes: 0,
-            arcs: 0,
-            come: 0,
-            whole: false,
-            fault: None,
+            stage: Stage::Unread,
         })
     }
 
-    /// Reads up to the problem line, and answers how many nodes and arcs it says.
+    /// Reads up to the problem line, and answers how many nodes and arcs it says. A fault is kept.
     pub fn begin<S: Source>(&mut self, source: &mut S) -> Result<(u32, u32), FileFault>
-        requires { self.old.begun ≡ false }
-        ensures begun { self.new.begun ≡ true }
-
-        // A fault is kept.
-        ensures keeps_fault { self.new.fault ≡ result_err result }
-        ensures takes_no_memory { result ≢ Err FileFault.OutOfMemory }
+        requires unread { self.old.stage ≡ Stage.Unread }
+        ensures stage { self.new.stage ≡ stage_begun result }
 
         // What holds over every source.
         ensures range { IfOk result (λ sizes. AreSizes sizes.0 sizes.1) }
-        ensures nodes { IfOk result (λ sizes. self.new.nodes ≡ sizes.0) }
-        ensures arcs { IfOk result (λ sizes. self.new.arcs ≡ sizes.1) }
-        ensures none_come { self.new.come ≡ 0 }
-        ensures goes_on { self.new.whole ≡ false }
-        ensures limits { self.new.lines.limits ≡ self.old.lines.limits }
-        ensures in_limits { InLimits self.new.lines }
+        ensures takes_no_memory { result ≢ Err FileFault.OutOfMemory }
 
         // Where the source tells its bytes, the answer is that of the file's text, and no byte is lost.
-        ensures tells { IfSome (rest_of self.old.lines (S.left source.old))
-            (λ rest. BeginTells self.new.lines (told_of self.old.lines None 0 rest)
-            (rest_of self.new.lines (S.left source.new)) result) }
-        ensures loses_none { LosesNone
-            self.old.lines self.new.lines (S.left source.old) (S.left source.new) }
+        ensures tells { BeginTells
+            self.old.lines self.new.lines (S.state source.old) (S.state source.new) result }
+        ensures takes { Takes
+            self.old.lines self.new.lines (S.state source.old) (S.state source.new) }
 
         // The source's failures alone make a failed read.
-        ensures cause { ReadHasCause (S.faults source.old) (S.faults source.new) result }
-        ensures never_falls { S.faults source.old ≤ S.faults source.new }
-        ensures files { S.files source.new ≡ S.files source.old }
+        ensures source { ReadsFrom (S.state source.old) (S.state source.new) (file_failed result) }
     {
-        self.begun = true;
         let answer = read_sizes(&mut self.lines, source);
-        match answer {
-            Ok((nodes, arcs)) => {
-                self.nodes = nodes;
-                self.arcs = arcs;
-            }
-            Err(fault) => self.fault = Some(fault),
-        }
+        self.stage = match answer {
+            Ok((nodes, arcs)) => Stage::Arcs {
+                nodes,
+                arcs,
+                come: 0,
+            },
+            Err(fault) => Stage::Failed(fault),
+        };
         answer
     }
 
-    /// Answers the next arc, or None where all have come.
+    /// Answers the next arc, or None where all have come. A fault and the end are kept, and answered again.
     pub fn next_arc<S: Source>(&mut self, source: &mut S) -> Result<Option<ArcLine>, FileFault>
-        requires { self.old.begun ≡ true }
+        requires begun { self.old.stage ≢ Stage.Unread }
+        ensures stage { Moves self.old.stage self.new.stage result }
 
-        // A fault and the end are answered again. Nothing changes then, and nothing is read.
-        ensures fault_again { IfSome self.old.fault (λ fault. result ≡ Err fault) }
-        ensures end_again { self.old.whole ≡ true → result ≡ Ok None }
-        ensures stays { IsEnded self.old → self.new ≡ self.old }
-        ensures reads_nothing { IsEnded self.old → source.new ≡ source.old }
-
-        // A fault and the end are kept.
-        ensures keeps_fault { self.new.fault ≡ result_err result }
-        ensures keeps_end { (self.new.whole ≡ true) ↔ (result ≡ Ok None) }
-        ensures takes_no_memory { result ≢ Err FileFault.OutOfMemory }
+        // Behind a fault or the end nothing changes, and nothing is read.
+        ensures stays { IsEnded self.old.stage → self.new ≡ self.old }
+        ensures reads_nothing { IsEnded self.old.stage → source.new ≡ source.old }
 
         // What holds over every source.
-        ensures begun { self.new.begun ≡ true }
-        ensures nodes { self.new.nodes ≡ self.old.nodes }
-        ensures arcs { self.new.arcs ≡ self.old.arcs }
-        ensures in_range { IfOk result (λ found. IfSome found (IsArc self.old.nodes)) }
-        ensures counts { CountsArc self.old self.new result }
-        ensures at_most { self.new.come ≤ self.new.arcs }
-        ensures all_come { result ≡ Ok None → self.new.come ≡ self.new.arcs }
-        ensures limits { self.new.lines.limits ≡ self.old.lines.limits }
-        ensures in_limits { InLimits self.new.lines }
+        ensures takes_no_memory { result ≢ Err FileFault.OutOfMemory }
 
         // Where the source tells its bytes, the answer is that of the file's text, and no byte is lost.
-        ensures tells { GoesOn self.old → IfSome (rest_of self.old.lines (S.left source.old))
-            (λ rest. ArcTells self.new.lines (said self.old.nodes self.old.arcs) self.old.come
-            (told_by self.old rest) (rest_of self.new.lines (S.left source.new)) result) }
-        ensures loses_none { LosesNone
-            self.old.lines self.new.lines (S.left source.old) (S.left source.new) }
+        ensures tells { WhereArcs self.old.stage (λ nodes arcs come. ArcTells (said nodes arcs) come
+            self.old.lines self.new.lines (S.state source.old) (S.state source.new) result) }
+        ensures takes { Takes
+            self.old.lines self.new.lines (S.state source.old) (S.state source.new) }
 
         // The source's failures alone make a failed read.
-        ensures cause { IfNone self.old.fault
-            (ReadHasCause (S.faults source.old) (S.faults source.new) result) }
-        ensures never_falls { S.faults source.old ≤ S.faults source.new }
-        ensures files { S.files source.new ≡ S.files source.old }
+        ensures source { ReadsFrom
+            (S.state source.old) (S.state source.new) (read_failed self.old.stage result) }
     {
-        if let Some(fault) = self.fault {
-            return Err(fault);
-        }
-        if self.whole {
-            return Ok(None);
-        }
-        let answer = read_arc(&mut self.lines, source, self.nodes, self.arcs, self.come);
-        match answer {
-            Ok(Some(_)) => self.come += 1,
-            Ok(None) => self.whole = true,
-            Err(fault) => self.fault = Some(fault),
-        }
+        let (nodes, arcs, come) = match self.stage {
+            Stage::Unread => unreachable!(),
+            Stage::Arcs { nodes, arcs, come } => (nodes, arcs, come),
+            Stage::Whole => return Ok(None),
+            Stage::Failed(fault) => return Err(fault),
+        };
+        let answer = read_arc(&mut self.lines, source, nodes, arcs, come);
+        self.stage = match answer {
+            Ok(Some(_)) => Stage::Arcs {
+                nodes,
+                arcs,
+                come: come + 1,
+            },
+            Ok(None) => Stage::Whole,
+            Err(fault) => Stage::Failed(fault),
+        };
         answer
     }
 }
@@ -181,22 +144,17 @@ fn read_sizes<S: Source>(lines: &mut Lines, source: &mut S) -> Result<(u32, u32)
     requires goes_on { lines.old.fault ≡ None }
 
     // Where the source tells its bytes, the answer is that of the file's text, and no byte is lost.
-    ensures tells { IfSome (rest_of lines.old (S.left source.old))
-        (λ rest. BeginTells lines.new (told_of lines.old None 0 rest)
-        (rest_of lines.new (S.left source.new)) result) }
-    ensures loses_none { LosesNone lines.old lines.new (S.left source.old) (S.left source.new) }
+    ensures tells { BeginTells
+        lines.old lines.new (S.state source.old) (S.state source.new) result }
+    ensures takes { Takes lines.old lines.new (S.state source.old) (S.state source.new) }
 
     // What holds over every source.
     ensures goes_on { OnOk result (lines.new.fault ≡ None) }
     ensures range { IfOk result (λ sizes. AreSizes sizes.0 sizes.1) }
     ensures takes_no_memory { result ≢ Err FileFault.OutOfMemory }
-    ensures limits { lines.new.limits ≡ lines.old.limits }
-    ensures in_limits { InLimits lines.new }
 
     // The source's failures alone make a failed read.
-    ensures cause { ReadHasCause (S.faults source.old) (S.faults source.new) result }
-    ensures never_falls { S.faults source.old ≤ S.faults source.new }
-    ensures files { S.files source.new ≡ S.files source.old }
+    ensures source { ReadsFrom (S.state source.old) (S.state source.new) (file_failed result) }
 {
     match next_form(lines, source)? {
         Some(form) => match sizes_of(form) {
@@ -220,11 +178,9 @@ fn read_arc<S: Source>(
     requires nodes { nodes ≤ max_nodes }
 
     // Where the source tells its bytes, the answer is that of the file's text, and no byte is lost.
-    ensures tells { IfSome (rest_of lines.old (S.left source.old))
-        (λ rest. ArcTells lines.new (said nodes arcs) come
-        (told_of lines.old (said nodes arcs) come rest)
-        (rest_of lines.new (S.left source.new)) result) }
-    ensures loses_none { LosesNone lines.old lines.new (S.left source.old) (S.left source.new) }
+    ensures tells { ArcTells (said nodes arcs) come
+        lines.old lines.new (S.state source.old) (S.state source.new) result }
+    ensures takes { Takes lines.old lines.new (S.state source.old) (S.state source.new) }
 
     // What holds over every source.
     ensures goes_on { OnOk result (lines.new.fault ≡ None) }
@@ -232,13 +188,9 @@ fn read_arc<S: Source>(
     ensures some_due { IfOk result (λ found. OnSome found (come < arcs)) }
     ensures none_due { result ≡ Ok None → arcs ≤ come }
     ensures takes_no_memory { result ≢ Err FileFault.OutOfMemory }
-    ensures limits { lines.new.limits ≡ lines.old.limits }
-    ensures in_limits { InLimits lines.new }
 
     // The source's failures alone make a failed read.
-    ensures cause { ReadHasCause (S.faults source.old) (S.faults source.new) result }
-    ensures never_falls { S.faults source.old ≤ S.faults source.new }
-    ensures files { S.files source.new ≡ S.files source.old }
+    ensures source { ReadsFrom (S.state source.old) (S.state source.new) (file_failed result) }
 {
     match next_form(lines, source)? {
         Some(form) => match arc_in(form, nodes, arcs, come) {
@@ -256,21 +208,16 @@ fn next_form<S: Source>(lines: &mut Lines, source: &mut S) -> Result<Option<Form
     requires goes_on { lines.old.fault ≡ None }
 
     // Where the source tells its bytes, the answer is that of the file's text, and no byte is lost.
-    ensures tells { IfSome (rest_of lines.old (S.left source.old))
-        (λ rest. FormTells lines.old lines.new rest
-        (rest_of lines.new (S.left source.new)) result) }
-    ensures loses_none { LosesNone lines.old lines.new (S.left source.old) (S.left source.new) }
+    ensures tells { FormTells
+        lines.old lines.new (S.state source.old) (S.state source.new) result }
+    ensures takes { Takes lines.old lines.new (S.state source.old) (S.state source.new) }
 
     // What holds over every source.
     ensures goes_on { OnOk result (lines.new.fault ≡ None) }
     ensures takes_no_memory { result ≢ Err FileFault.OutOfMemory }
-    ensures limits { lines.new.limits ≡ lines.old.limits }
-    ensures in_limits { InLimits lines.new }
 
     // The source's failures alone make a failed read.
-    ensures cause { ReadHasCause (S.faults source.old) (S.faults source.new) result }
-    ensures never_falls { S.faults source.old ≤ S.faults source.new }
-    ensures files { S.files source.new ≡ S.files source.old }
+    ensures source { ReadsFrom (S.state source.old) (S.state source.new) (file_failed result) }
 {
     'lines: loop {
         match lines.next_line(source) {

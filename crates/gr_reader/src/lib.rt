@@ -4,15 +4,17 @@
 //! isn't accepted is told with its number, and with the first of its faults in a fixed order.
 #![tactic(auto)]
 
+mod arc_sink;
 mod fault;
 mod form;
 mod gr_lines;
 pub mod laws;
 mod read;
 
+pub use arc_sink::ArcSink;
 pub use fault::{FileFault, FileLimits, LineKind};
 pub use gr_lines::GrLines;
-pub use read::read_gr;
+pub use read::{read_gr, read_into};
 
 #[cfg(test)]
 mod tests;

@@ -1,11 +1,12 @@
 ghost use Rattle.std.specs.Prelude.{◌≡◌, ◌+◌, ◌≤◌, ◌^◌, IfSome};
-ghost use Rattle.gr_reader.specs.Reader.{AcceptsFiles, IsSound, ReadHasCause, ReadTells, RefusesFaults, TakesAtMost};
-ghost use Rattle.gr_reader.specs.Rest.{at_start, read_rest};
+ghost use Rattle.route_io.specs.Sources.{ReadsFrom};
+ghost use Rattle.line_text.specs.Reading.{max_line};
+ghost use Rattle.gr_reader.specs.Reader.{IsComplete, IsSound, ReadsInto, TakesAtMost, file_failed};
 
+use crate::arc_sink::{ArcSink, OneFile};
 use crate::fault::{FileFault, FileLimits};
 use crate::gr_lines::GrLines;
 use arc_graph::ArcFile;
-use line_text::LONGEST_LINE;
 use route_io::Source;
 use std::alloc::Global;
 
@@ -16,47 +17,52 @@ pub fn read_gr<S: Source>(
     limits: FileLimits,
 ) -> Result<ArcFile, FileFault>
     requires some { 1 ≤ limits.line }
-    requires line { limits.line ≤ LONGEST_LINE }
+    requires line { limits.line ≤ max_line }
     requires file { limits.file ≤ 2 ^ 63 }
 
     // Where the source tells its bytes, a file is answered exactly for its text, and a fault of a line exactly
     // where it is the first, but for the source's failures and want of memory.
-    ensures sound { IfSome (S.left source.old) (λ bytes. IsSound limits bytes result) }
-    ensures accepts { IfSome (S.left source.old) (λ bytes. AcceptsFiles limits bytes result) }
-    ensures refuses { IfSome (S.left source.old) (λ bytes. RefusesFaults limits bytes result) }
+    ensures sound { IfSome (S.state source.old).left (λ bytes. IsSound limits bytes result) }
+    ensures complete { IfSome (S.state source.old).left (λ bytes. IsComplete limits bytes result) }
 
     // Where the source tells its bytes, at most one byte past the limit is taken.
-    ensures takes_at_most { TakesAtMost (limits.file + 1) (S.left source.old) (S.left source.new) }
+    ensures takes_at_most { TakesAtMost (limits.file + 1) (S.state source.old) (S.state source.new) }
 
     // The source's failures alone make a failed read.
-    ensures cause { ReadHasCause (S.faults source.old) (S.faults source.new) result }
-    ensures never_falls { S.faults source.old ≤ S.faults source.new }
-    ensures files { S.files source.new ≡ S.files source.old }
+    ensures source { ReadsFrom (S.state source.old) (S.state source.new) (file_failed result) }
 {
-    read_arcs(alloc, source, limits)
+    let mut file = OneFile::new(alloc);
+    read_into(alloc, source, limits, &mut file)?;
+    Ok(file.whole())
 }
 
-/// Reads the arcs of a whole file.
-fn read_arcs<S: Source>(
+/// Reads a whole weight file, and hands its arcs to the sink as they come.
+pub fn read_into<S: Source, A: ArcSink>(
     alloc: Global,
     source: &mut S,
     limits: FileLimits,
-) -> Result<ArcFile, FileFault>
+    sink: &mut A,
+) -> Result<(), FileFault>
     requires some { 1 ≤ limits.line }
-    requires line { limits.line ≤ LONGEST_LINE }
+    requires line { limits.line ≤ max_line }
     requires file { limits.file ≤ 2 ^ 63 }
-    ensures tells { IfSome (S.left source.old)
-        (λ bytes. ReadTells (read_rest limits at_start bytes) result) }
-    ensures takes_at_most { TakesAtMost (limits.file + 1) (S.left source.old) (S.left source.new) }
-    ensures cause { ReadHasCause (S.faults source.old) (S.faults source.new) result }
-    ensures never_falls { S.faults source.old ≤ S.faults source.new }
-    ensures files { S.files source.new ≡ S.files source.old }
+    requires ready { A.is_ready sink.old }
+
+    // The sink has taken the file that is read. Where the source tells its bytes, that is the one of the text, and a
+    // fault of a line is the first.
+    ensures reads { ReadsInto limits (S.state source.old).left (A.has_taken sink.old sink.new) result }
+
+    // Where the source tells its bytes, at most one byte past the limit is taken.
+    ensures takes_at_most { TakesAtMost (limits.file + 1) (S.state source.old) (S.state source.new) }
+
+    // The source's failures alone make a failed read.
+    ensures source { ReadsFrom (S.state source.old) (S.state source.new) (file_failed result) }
 {
     let mut lines = GrLines::new(alloc, limits)?;
-    let (nodes, _) = lines.begin(source)?;
-    let mut file = ArcFile::new(alloc, nodes);
-    while let Some(arc) = lines.next_arc(source)? {
-        file.push(arc)?;
+    let (nodes, arcs) = lines.begin(source)?;
+    sink.begin(nodes, arcs)?;
+    'arcs: while let Some(arc) = lines.next_arc(source)? {
+        sink.take(arc)?;
     }
-    Ok(file)
+    Ok(())
 }

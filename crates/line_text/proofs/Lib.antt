@@ -1,9 +1,9 @@
-pub mod Digits
+pub mod AdvancesLemmas
 pub mod FieldLemmas
 pub mod LfLemmas
 pub mod LineLemmas
 pub mod MarkLemmas
+pub mod NumeralLemmas
 pub mod PlaceLemmas
-pub mod Ranges
-pub mod Steps
-pub mod Told
+pub mod RangeLemmas
+pub mod RestLemmas

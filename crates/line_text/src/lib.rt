@@ -13,6 +13,3 @@ pub use fields::{field, next_field};
 pub use limits::{LineFault, LineLimits};
 pub use lines::{Lines, MAX_HELD, MAX_LINE};
 pub use numerals::{Numeral, decimal, put_decimal};
-
-#[cfg(test)]
-mod tests;

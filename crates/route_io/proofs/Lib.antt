@@ -1,3 +1,3 @@
-pub mod Naming
+pub mod FileLemmas
 pub mod ReadsLemmas
 pub mod SendsLemmas

@@ -1,23 +1,25 @@
 -- How contracts see the forms of a source, a sink and a folder.
-use Rattle.std.specs.Prelude.{ℕ, ◌-◌, ◌≤◌, Bool, List, Some, None, length}
+use Rattle.std.specs.Prelude.{ℕ, ◌-◌, ◌≤◌, Bool, List, [], Option, Some, None, length, min}
 use Rattle.route_io.specs.Calls.{CallList}
 use Rattle.route_io.specs.Files.{NamedFile, first_of_name}
 use Rattle.route_io.specs.Sinks.{SinkState}
 use Rattle.route_io.specs.Sources.{SourceState}
 
--- a source in memory: the bytes that it has left, and its calls
+-- a source in memory: the bytes that it has left, the most that a read gives, and its calls
 pub record MemorySource : Type 0 where
   pub left : List ℕ
+  pub piece : ℕ
   pub calls : CallList
 
 -- what it shows as a source
 abbrev pub memory_source_state : MemorySource → SourceState
 memory_source_state source = record { left = Some source.left; files = None; faults = source.calls.faults }
 
--- a sink in memory: the bytes that it took, the most that it takes in all, its wants of memory, and its calls
+-- a sink in memory: the bytes that it took, the most that it takes in all and by a write, its wants of memory, and its calls
 pub record MemorySink : Type 0 where
   pub sent : List ℕ
   pub bound : ℕ
+  pub piece : ℕ
   pub wants : ℕ
   pub calls : CallList
 
@@ -25,18 +27,19 @@ pub record MemorySink : Type 0 where
 abbrev pub memory_sink_state : MemorySink → SinkState
 memory_sink_state sink = record { sent = Some sink.sent; faults = sink.calls.faults; wants = sink.wants }
 
--- how many more bytes such a sink takes
+-- the most bytes that its next write takes
 abbrev pub room : MemorySink → ℕ
-room sink = sink.bound - length sink.sent
+room sink = min sink.piece (sink.bound - length sink.sent)
 
 -- It takes no more bytes.
 abbrev pub IsFull : MemorySink → Type 0
 IsFull sink = sink.bound ≤ length sink.sent
 
--- a folder in memory: its files, what is left of the one that was selected last, and its calls
+-- a folder in memory: its files, what is left of the one that was selected last, the most that a read gives, and its calls
 pub record MemoryFolder : Type 0 where
   pub files : List NamedFile
   pub left : List ℕ
+  pub piece : ℕ
   pub calls : CallList
 
 -- what it shows as a folder
@@ -66,15 +69,25 @@ pub record SureFolder : Type 0 where
 abbrev pub sure_folder_state : SureFolder → SourceState
 sure_folder_state folder = record { left = Some folder.left; files = Some (first_of_name folder.files); faults = folder.missing }
 
--- a folder of the host: whether a file is open, and how often the system has failed
+-- what is left of an open file, where it tells, and nothing where none is open
+abbrev pub open_left : {F : Type 0} → (F → Option (List ℕ)) → Option F → Option (List ℕ)
+open_left remaining None = Some []
+open_left remaining (Some file) = remaining file
+
+-- a folder of the host: what is left of the open file, whether one is open, and how often the system has failed
 pub record HostFolder : Type 0 where
+  pub left : Option (List ℕ)
   pub is_open : Bool
   pub faults : ℕ
 
--- what it shows as a folder
-abbrev pub host_folder_state : HostFolder → SourceState
-host_folder_state folder = record { left = None; files = None; faults = folder.faults }
+-- what a reader shows as a source: the bytes that it has left, where it tells them, and the number of its faults
+abbrev pub reader_state : Option (List ℕ) → ℕ → SourceState
+reader_state left faults = record { left = left; files = None; faults = faults }
 
--- what a sink of the host shows: it is the number of its faults
-abbrev pub host_sink_state : ℕ → SinkState
-host_sink_state faults = record { sent = None; faults = faults; wants = 0 }
+-- what that folder shows as a folder: it doesn't tell its files
+abbrev pub host_folder_state : HostFolder → SourceState
+host_folder_state folder = reader_state folder.left folder.faults
+
+-- what a writer shows as a sink: the bytes that it holds, where it tells them, and the number of its faults
+abbrev pub writer_state : Option (List ℕ) → ℕ → SinkState
+writer_state contents faults = record { sent = contents; faults = faults; wants = 0 }

@@ -1,7 +1,8 @@
-//! Forms of the host: its files, and what it prints to. They tell nothing of content.
-ghost use Rattle.std.specs.Prelude.{◌≡◌, ◌<◌, ◌≤◌, None, Ok, false, is_err, is_ok, length, IfOk, IfErr, OnErr};
+//! Forms of the host: its files, and what it prints to. They tell of content what the runtime's files and writers tell:
+//! those of the real host nothing.
+ghost use Rattle.std.specs.Prelude.{◌≡◌, ◌<◌, ◌≤◌, [], None, Some, Ok, false, is_err, is_ok, length, IfOk, IfErr, OnErr};
 ghost use Rattle.route_io.specs.Causes.{IsCounted, count_up};
-ghost use Rattle.route_io.specs.Forms.{host_folder_state, host_sink_state};
+ghost use Rattle.route_io.specs.Forms.{host_folder_state, reader_state, writer_state};
 ghost use Rattle.route_io.specs.Sinks.{Writes};
 ghost use Rattle.route_io.specs.Sources.{Reads, Selects};
 
@@ -21,17 +22,22 @@ pub struct HostFolder<R: Files> {
 
 impl<R: Files> Model for HostFolder<R> {
     ghost use Rattle.std.specs.Prelude.{is_some};
-    ghost use Rattle.route_io.specs.Forms.{HostFolder};
+    ghost use Rattle.route_io.specs.Forms.{HostFolder, open_left};
 
     ghost Value = { HostFolder };
 
-    ghost view = { λ f. record { is_open = is_some f.file; faults = f.faults } };
+    ghost view = { λ f. record {
+      left = open_left R.File.remaining f.file;
+      is_open = is_some f.file;
+      faults = f.faults;
+    } };
 }
 
 impl<R: Files> HostFolder<R> {
     /// The files that this part of the runtime opens, with none open yet.
     pub fn new(rt: R) -> Self
         ensures closed { result.is_open ≡ false }
+        ensures nothing_left { result.left ≡ Some [] }
         ensures no_faults { result.faults ≡ 0 }
     {
         HostFolder {
@@ -49,12 +55,13 @@ impl<R: Files> Source for HostFolder<R> {
         ensures closed_is_empty { self.old.is_open ≡ false → result ≡ Ok 0 }
         ensures stays { self.new.is_open ≡ self.old.is_open }
         ensures counted { OnErr result (self.new.faults ≡ count_up self.old.faults) }
-        ensures reads { Reads (host_folder_state self.old) (host_folder_state self.new) result buf.new }
+        ensures reads { Reads
+            (host_folder_state self.old) (host_folder_state self.new) result buf.new }
     {
         let Some(file) = &mut self.file else {
             return Ok(0);
         };
-        counted(&mut self.faults, file.read(buf))
+        read_some(file, &mut self.faults, buf)
     }
 }
 
@@ -64,16 +71,24 @@ impl<R: Files> Folder for HostFolder<R> {
     fn select(&mut self, name: &str) -> Result<(), Failed>
         ensures opens { self.new.is_open ≡ is_ok result }
         ensures counted { OnErr result (self.new.faults ≡ count_up self.old.faults) }
-        ensures selects { Selects (host_folder_state self.old) (host_folder_state self.new) name.now result }
+        ensures selects { Selects
+            (host_folder_state self.old) (host_folder_state self.new) name.now result }
     {
         self.file = None;
-        let file = counted(&mut self.faults, fs::open(&self.rt, name))?;
-        self.file = Some(file);
-        Ok(())
+        match fs::open(&self.rt, name) {
+            Ok(file) => {
+                self.file = Some(file);
+                Ok(())
+            }
+            Err(_) => {
+                count(&mut self.faults);
+                Err(Failed)
+            }
+        }
     }
 }
 
-/// What the host prints to, flushed after each write. It counts each error of the system, of whatever kind.
+/// What the host prints to, which keeps nothing back. It counts each error of the system, of whatever kind.
 #[derive(Drop)]
 pub struct HostSink<P: Print> {
     to: P,
@@ -98,42 +113,48 @@ impl<P: Print> HostSink<P> {
 }
 
 impl<P: Print> Sink for HostSink<P> {
-    ghost state = { host_sink_state };
+    ghost state = { writer_state None };
 
     fn write(&mut self, piece: &[u8]) -> Result<usize, SinkFault>
         requires { 0 < length piece.now }
         ensures never_wants { IfErr result (λ fault. fault ≡ SinkFault.Failed) }
         ensures counted { OnErr result (self.new ≡ count_up self.old) }
-        ensures writes { Writes (host_sink_state self.old) (host_sink_state self.new) piece.now result }
+        ensures writes { Writes
+            (writer_state None self.old) (writer_state None self.new) piece.now result }
     {
-        match print_some(&self.to, piece) {
-            Ok(taken) if taken > 0 => Ok(taken),
-            _ => {
-                count(&mut self.faults);
-                Err(SinkFault::Failed)
-            }
+        write_some(&mut io::writer(&self.to), &mut self.faults, piece)
+    }
+}
+
+/// Writes some of a piece from its front. A write that takes nothing is an error too.
+fn write_some<W: Write>(
+    to: &mut W,
+    faults: &mut u64,
+    piece: &[u8],
+) -> Result<usize, SinkFault>
+    requires { 0 < length piece.now }
+    ensures never_wants { IfErr result (λ fault. fault ≡ SinkFault.Failed) }
+    ensures counted { OnErr result (faults.new ≡ count_up faults.old) }
+    ensures writes { Writes (writer_state (W.contents to.old) faults.old)
+        (writer_state (W.contents to.new) faults.new) piece.now result }
+{
+    match to.write(piece) {
+        Ok(taken) if taken > 0 => Ok(taken),
+        _ => {
+            count(faults);
+            Err(SinkFault::Failed)
         }
     }
 }
 
-/// Writes a piece of the bytes from the front, and flushes it.
-fn print_some(to: &impl Print, bytes: &[u8]) -> io::Result<usize>
-    ensures { IfOk result (λ n. n ≤ length bytes.now) }
+/// Reads some bytes from the front of what is left.
+fn read_some<R: Read>(from: &mut R, faults: &mut u64, buf: &mut [u8]) -> Result<usize, Failed>
+    ensures counted { OnErr result (faults.new ≡ count_up faults.old) }
+    ensures reads { Reads (reader_state (R.remaining from.old) faults.old)
+        (reader_state (R.remaining from.new) faults.new) result buf.new }
 {
-    let mut out = io::writer(to);
-    let taken = out.write(bytes)?;
-    out.flush()?;
-    Ok(taken)
-}
-
-/// The system's answer, of which an error is counted.
-fn counted<T>(faults: &mut u64, answer: io::Result<T>) -> Result<T, Failed>
-    ensures value { IfOk result (λ value. answer ≡ Ok value) }
-    ensures rises { OnErr result (faults.new ≡ count_up faults.old) }
-    ensures cause { IsCounted (is_err result) faults.old faults.new }
-{
-    match answer {
-        Ok(value) => Ok(value),
+    match from.read(buf) {
+        Ok(taken) => Ok(taken),
         Err(_) => {
             count(faults);
             Err(Failed)

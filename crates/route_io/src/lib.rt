@@ -19,6 +19,3 @@ pub use fault::{Failed, SinkFault, WriteFault};
 pub use folder::Folder;
 pub use sink::{Sink, put_all};
 pub use source::Source;
-
-#[cfg(test)]
-mod tests;

@@ -1,4 +1,5 @@
-//! Forms in memory, which tell their bytes to contracts. Each fails at the calls whose numbers, from 0, it was given.
+//! Forms in memory, which tell their bytes to contracts. Each fails at the calls whose numbers, from 0, it was given, and
+//! gives or takes as many bytes a call as there are, or at most as many as `with_piece` says.
 ghost use Rattle.std.specs.Prelude.{◌≡◌, ◌<◌, ◌≤◌, ◌↔◌, ◌⊎◌, [], Some, None, length, min, Err, IsErr, IfOk, OnOk, OnErr};
 ghost use Rattle.route_io.specs.Calls.{IsToFail, after_call, after_write, none_made};
 ghost use Rattle.route_io.specs.Files.{first_of_name};
@@ -18,26 +19,44 @@ use std::marker::Model;
 #[derive(Drop)]
 pub struct MemorySource {
     source: SureSource,
+    piece: usize,
     calls: CallList,
 }
 
 impl Model for MemorySource {
+    ghost use Rattle.std.specs.Prelude.{◌≤◌};
     ghost use Rattle.route_io.specs.Forms.{MemorySource};
 
     ghost Value = { MemorySource };
 
-    ghost view = { λ s. record { left = s.source; calls = s.calls } };
+    ghost view = { λ s. record { left = s.source; piece = s.piece; calls = s.calls } };
+
+    ghost invariant = { λ s. 1 ≤ s.piece };
 }
 
 impl MemorySource {
     /// A source of these bytes, whose calls of these numbers fail.
     pub fn new(bytes: Vec<u8>, fails: Vec<u64>) -> Self
         ensures left { result.left ≡ bytes.items }
+        ensures piece { result.piece ≡ usize.MAX }
         ensures calls { result.calls ≡ none_made fails.items }
     {
         MemorySource {
             source: SureSource::new(bytes),
+            piece: usize::MAX,
             calls: CallList::new(fails),
+        }
+    }
+
+    /// The same source, whose reads give at most so many bytes.
+    pub fn with_piece(self, size: usize) -> Self
+        requires { 1 ≤ size }
+        ensures { result ≡ record self { piece = size } }
+    {
+        MemorySource {
+            source: self.source,
+            piece: size,
+            calls: self.calls,
         }
     }
 }
@@ -48,12 +67,15 @@ impl Source for MemorySource {
     fn read(&mut self, buf: &mut [u8]) -> Result<usize, Failed>
         ensures listed { IsErr result ↔ IsToFail self.old.calls }
         ensures counted { self.new.calls ≡ after_call self.old.calls result }
-        ensures count { IfOk result (λ n. n ≡ min (length self.old.left) (length buf.old)) }
+        ensures count { IfOk result (λ n. n
+            ≡ min (min (length self.old.left) (length buf.old)) self.old.piece) }
+        ensures same_piece { self.new.piece ≡ self.old.piece }
         ensures reads { Reads
             (memory_source_state self.old) (memory_source_state self.new) result buf.new }
     {
         self.calls.make()?;
-        self.source.read(buf)
+        let fits = buf.len().min(self.piece);
+        self.source.read(&mut buf[..fits])
     }
 }
 
@@ -62,6 +84,7 @@ impl Source for MemorySource {
 pub struct MemorySink {
     sink: SureSink,
     bound: u64,
+    piece: usize,
     calls: CallList,
 }
 
@@ -71,9 +94,15 @@ impl Model for MemorySink {
 
     ghost Value = { MemorySink };
 
-    ghost view = { λ s. record { sent = s.sink.sent; bound = s.bound; wants = s.sink.wants; calls = s.calls } };
+    ghost view = { λ s. record {
+      sent = s.sink.sent;
+      bound = s.bound;
+      piece = s.piece;
+      wants = s.sink.wants;
+      calls = s.calls;
+    } };
 
-    ghost invariant = { λ s. length s.sink.sent ≤ s.bound };
+    ghost invariant = { λ s. (length s.sink.sent ≤ s.bound) × (1 ≤ s.piece) };
 }
 
 impl MemorySink {
@@ -81,13 +110,28 @@ impl MemorySink {
     pub fn new(alloc: Global, bound: u64, fails: Vec<u64>) -> Self
         ensures sent { result.sent ≡ [] }
         ensures bound { result.bound ≡ bound }
+        ensures piece { result.piece ≡ usize.MAX }
         ensures wants { result.wants ≡ 0 }
         ensures calls { result.calls ≡ none_made fails.items }
     {
         MemorySink {
             sink: SureSink::new(alloc),
             bound,
+            piece: usize::MAX,
             calls: CallList::new(fails),
+        }
+    }
+
+    /// The same sink, whose writes take at most so many bytes.
+    pub fn with_piece(self, size: usize) -> Self
+        requires { 1 ≤ size }
+        ensures { result ≡ record self { piece = size } }
+    {
+        MemorySink {
+            sink: self.sink,
+            bound: self.bound,
+            piece: size,
+            calls: self.calls,
         }
     }
 
@@ -112,6 +156,7 @@ impl Sink for MemorySink {
         ensures count { IfOk result (λ n. n ≡ min (length piece.now) (room self.old)) }
         ensures within_bound { length self.new.sent ≤ self.new.bound }
         ensures same_bound { self.new.bound ≡ self.old.bound }
+        ensures same_piece { self.new.piece ≡ self.old.piece }
         ensures writes { Writes
             (memory_sink_state self.old) (memory_sink_state self.new) piece.now result }
     {
@@ -123,7 +168,7 @@ impl Sink for MemorySink {
             self.calls.fail();
             return Err(SinkFault::Failed);
         }
-        let fits = piece.len().min(room as usize);
+        let fits = piece.len().min(room as usize).min(self.piece);
         self.sink.write(&piece[..fits])
     }
 }
@@ -132,15 +177,19 @@ impl Sink for MemorySink {
 #[derive(Drop)]
 pub struct MemoryFolder {
     shelf: Shelf,
+    piece: usize,
     calls: CallList,
 }
 
 impl Model for MemoryFolder {
+    ghost use Rattle.std.specs.Prelude.{◌≤◌};
     ghost use Rattle.route_io.specs.Forms.{MemoryFolder};
 
     ghost Value = { MemoryFolder };
 
-    ghost view = { λ f. record { files = f.shelf.files; left = f.shelf.left; calls = f.calls } };
+    ghost view = { λ f. record { files = f.shelf.files; left = f.shelf.left; piece = f.piece; calls = f.calls } };
+
+    ghost invariant = { λ f. 1 ≤ f.piece };
 }
 
 impl MemoryFolder {
@@ -148,11 +197,25 @@ impl MemoryFolder {
     pub fn new(files: Vec<NamedFile>, fails: Vec<u64>) -> Self
         ensures files { result.files ≡ files.items }
         ensures closed { result.left ≡ [] }
+        ensures piece { result.piece ≡ usize.MAX }
         ensures calls { result.calls ≡ none_made fails.items }
     {
         MemoryFolder {
             shelf: Shelf::new(files),
+            piece: usize::MAX,
             calls: CallList::new(fails),
+        }
+    }
+
+    /// The same folder, whose reads give at most so many bytes.
+    pub fn with_piece(self, size: usize) -> Self
+        requires { 1 ≤ size }
+        ensures { result ≡ record self { piece = size } }
+    {
+        MemoryFolder {
+            shelf: self.shelf,
+            piece: size,
+            calls: self.calls,
         }
     }
 }
@@ -163,13 +226,16 @@ impl Source for MemoryFolder {
     fn read(&mut self, buf: &mut [u8]) -> Result<usize, Failed>
         ensures listed { IsErr result ↔ IsToFail self.old.calls }
         ensures counted { self.new.calls ≡ after_call self.old.calls result }
-        ensures count { IfOk result (λ n. n ≡ min (length self.old.left) (length buf.old)) }
+        ensures count { IfOk result (λ n. n
+            ≡ min (min (length self.old.left) (length buf.old)) self.old.piece) }
         ensures same_files { self.new.files ≡ self.old.files }
+        ensures same_piece { self.new.piece ≡ self.old.piece }
         ensures reads { Reads
             (memory_folder_state self.old) (memory_folder_state self.new) result buf.new }
     {
         self.calls.make()?;
-        Ok(self.shelf.give(buf))
+        let fits = buf.len().min(self.piece);
+        Ok(self.shelf.give(&mut buf[..fits]))
     }
 }
 
@@ -181,6 +247,7 @@ impl Folder for MemoryFolder {
             (IsToFail self.old.calls ⊎ (first_of_name self.old.files name.now ≡ None)) }
         ensures counted { self.new.calls ≡ after_call self.old.calls result }
         ensures same_files { self.new.files ≡ self.old.files }
+        ensures same_piece { self.new.piece ≡ self.old.piece }
         ensures selects { Selects
             (memory_folder_state self.old) (memory_folder_state self.new) name.now result }
     {

@@ -99,7 +99,7 @@ impl Shelf {
         ensures left { self.new.left ≡ drop result self.old.left }
         ensures files { self.new.files ≡ self.old.files }
     {
-        let left = rest_of(&self.files, self.place, self.given);
+        let left = bytes_left(&self.files, self.place, self.given);
         let given = copy_front(left, buf);
         self.given += given;
         given
@@ -114,7 +114,7 @@ fn place_of(files: &[NamedFile], name: &str) -> Option<usize>
 }
 
 /// What the open file has from this place on.
-fn rest_of(files: &[NamedFile], place: Option<usize>, at: usize) -> &[u8]
+fn bytes_left(files: &[NamedFile], place: Option<usize>, at: usize) -> &[u8]
     requires { IsWithin files.now place at }
     ensures left { result.now ≡ left_of files.now place at }
     ensures within { IsWithin files.now place (at + length result.now) }

@@ -1,7 +1,4 @@
-ghost use Rattle.std.specs.Prelude.{None};
-
 use route_io::memory::{MemoryFolder, MemorySink, NamedFile};
-use route_io::{Failed, Folder, Source};
 use route_top::route;
 use std::alloc::{AllocError, Global};
 use std::process::Abort;
@@ -37,34 +34,6 @@ fn words_of(alloc: Global, words: &str) -> Result<Vec<String>, AllocError> {
     Ok(list)
 }
 
-/// A folder whose reads give so many bytes at most.
-#[derive(Drop)]
-struct Pieces {
-    folder: MemoryFolder,
-    size: usize,
-}
-
-impl Source for Pieces {
-    ghost left = { λ _. None };
-
-    ghost faults = { λ pieces. pieces.folder.calls.faults };
-
-    ghost files = { λ _. None };
-
-    fn read(&mut self, buf: &mut [u8]) -> Result<usize, Failed> {
-        let size = self.size.max(1).min(buf.len());
-        self.folder.read(&mut buf[..size])
-    }
-}
-
-impl Folder for Pieces {
-    ghost admits = { λ _. Unit {0} };
-
-    fn select(&mut self, name: &str) -> Result<(), Failed> {
-        self.folder.select(name)
-    }
-}
-
 fn file_of(alloc: Global, name: &str, bytes: &[u8]) -> Result<NamedFile, AllocError> {
     Ok(NamedFile {
         name: String::from_str(alloc, name)?,
@@ -72,20 +41,16 @@ fn file_of(alloc: Global, name: &str, bytes: &[u8]) -> Result<NamedFile, AllocEr
     })
 }
 
-fn folder_of(alloc: Global, files: &[(&str, &str)], fails: Vec<u64>) -> Result<Pieces, AllocError> {
+fn folder_of(
+    alloc: Global,
+    files: &[(&str, &str)],
+    fails: Vec<u64>,
+) -> Result<MemoryFolder, AllocError> {
     let mut list = Vec::new(alloc);
     for (name, text) in files {
         list.push(file_of(alloc, name, text.as_bytes())?)?;
     }
-    Ok(whole(list, fails))
-}
-
-/// A folder that gives as much as is asked for.
-fn whole(files: Vec<NamedFile>, fails: Vec<u64>) -> Pieces {
-    Pieces {
-        folder: MemoryFolder::new(files, fails),
-        size: usize::MAX,
-    }
+    Ok(MemoryFolder::new(list, fails))
 }
 
 /// A sink that never fails.
@@ -97,7 +62,7 @@ fn ample(alloc: Global) -> MemorySink {
 fn run(
     alloc: Global,
     words: &str,
-    folder: &mut Pieces,
+    folder: &mut MemoryFolder,
     mut out: MemorySink,
     mut err: MemorySink,
 ) -> Result<Finished, AllocError> {
@@ -125,8 +90,7 @@ fn rows_have_their_output(rt: HostRuntime) -> Result<(), Fail> {
         let mut folder = folder_of(alloc, row.files, Vec::new(alloc))?;
         let done = run(alloc, row.words, &mut folder, ample(alloc), ample(alloc))?;
         assert_row(&rt, row, &done);
-        let mut folder = folder_of(alloc, row.files, Vec::new(alloc))?;
-        folder.size = 1;
+        let mut folder = folder_of(alloc, row.files, Vec::new(alloc))?.with_piece(1);
         let done = run(alloc, row.words, &mut folder, ample(alloc), ample(alloc))?;
         assert_row(&rt, row, &done);
     }
@@ -159,8 +123,7 @@ fn cut_files_are_told(rt: HostRuntime) -> Result<(), Fail> {
             let mut files = Vec::new(alloc);
             files.push(file_of(alloc, "CUT", &text[..length])?)?;
             files.push(file_of(alloc, "B.gr", rows::B.as_bytes())?)?;
-            let mut folder = whole(files, Vec::new(alloc));
-            folder.size = size;
+            let mut folder = MemoryFolder::new(files, Vec::new(alloc)).with_piece(size.max(1));
             let done = run(
                 alloc,
                 "check CUT B.gr",
@@ -287,7 +250,7 @@ fn a_line_has_65536_bytes_at_most(rt: HostRuntime) -> Result<(), Fail> {
         let mut files = Vec::new(alloc);
         files.push(file_of(alloc, "LONG", &text)?)?;
         files.push(file_of(alloc, "B.gr", rows::B.as_bytes())?)?;
-        let mut folder = whole(files, Vec::new(alloc));
+        let mut folder = MemoryFolder::new(files, Vec::new(alloc));
         let done = run(
             alloc,
             "check LONG B.gr",

@@ -24,8 +24,8 @@ fn fault_of(
     requires line { limits.line ≤ 65536 }
     requires file { limits.file ≤ 2 ^ 63 }
 {
-    let mut folder = folder_of(alloc, &[("T", text)], Vec::new(alloc))?;
-    folder.size = size;
+    let folder = folder_of(alloc, &[("T", text)], Vec::new(alloc))?;
+    let mut folder = folder.with_piece(size.max(1));
     if folder.select("T").is_err() {
         return Ok(Some(FileFault::Read));
     }

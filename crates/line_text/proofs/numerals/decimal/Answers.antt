@@ -1,5 +1,5 @@
 use Rattle.std.proofs.Common.{sym, ◌∙◌}
-use Rattle.line_text.proofs.Digits.{reads_more, stays_above}
+use Rattle.line_text.proofs.NumeralLemmas.{reads_more, stays_above}
 use Rattle.line_text.proofs.numerals.decimal.Goals as goal
 use Rattle.line_text.proofs.numerals.decimal.Goals.{in-Some, in-None}
 

@@ -1,4 +1,4 @@
-use Rattle.line_text.proofs.Digits.{ReadsFront}
+use Rattle.line_text.proofs.NumeralLemmas.{ReadsFront}
 use Rattle.line_text.proofs.numerals.decimal.Given as goal
 
 abbrev pub invariant-loop-byte : goal.invariant-loop-byte

@@ -1,5 +1,5 @@
 use Rattle.std.proofs.Common.{◌+◌, ◌≤◌, length, refl, ap, arith}
-use Rattle.line_text.proofs.Ranges.{drop-slice_range, length-slice_range, text_range}
+use Rattle.line_text.proofs.RangeLemmas.{drop-slice_range, length-slice_range, text_range}
 use Rattle.line_text.proofs.lines.Lines.pass.Goals as goal
 
 pub returns : goal.returns

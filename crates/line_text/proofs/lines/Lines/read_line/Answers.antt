@@ -2,7 +2,7 @@ use Rattle.std.proofs.Common.{Ok, length, ap, arith}
 use Rattle.std.proofs.lemmas.Result.{err_from_is_err_and}
 use Rattle.route_io.proofs.ReadsLemmas.{ReadsFrom-then}
 use Rattle.line_text.specs.Pieces.{LacksLf}
-use Rattle.line_text.proofs.Steps.{advances_broken, advances_whole, advances_end, holds_more, searched_within, searched_none, still_within}
+use Rattle.line_text.proofs.AdvancesLemmas.{advances_broken, advances_whole, advances_end, holds_more, searched_within, searched_none, still_within}
 use Rattle.line_text.proofs.lines.Lines.read_line.Goals as goal
 
 pub returns-in_err-take_line-clause-advances : goal.returns-in_err-take_line-clause-advances

@@ -2,7 +2,7 @@ use Rattle.std.proofs.Common.{◌≤◌, ◌+◌, ◌-◌, false, length}
 use Rattle.route_io.specs.Sources.{ReadsFrom}
 use Rattle.line_text.specs.Lines.{first_lf}
 use Rattle.line_text.specs.Reading.{max_line}
-use Rattle.line_text.proofs.Steps.{Holds}
+use Rattle.line_text.proofs.AdvancesLemmas.{Holds}
 use Rattle.line_text.proofs.lines.Lines.read_line.Given as goal
 
 abbrev pub invariant-loop-self : goal.invariant-loop-self

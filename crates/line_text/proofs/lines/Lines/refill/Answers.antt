@@ -1,8 +1,8 @@
 use Rattle.std.proofs.Common.{◌≡◌, ℕ, ◌+◌, ◌-◌, ◌++◌, List, [], take, drop, slice_range, sym, ap, ◌∙◌, arith, add-zero}
 use Rattle.std.proofs.lemmas.List.{with_items_is, append-nil, length-drop}
 use Rattle.std.specs.Vec.{with_items}
-use Rattle.line_text.proofs.Ranges.{held_kept, held_grown}
-use Rattle.line_text.proofs.Told.{rest_grown, rest_kept, on_err, zero_from_false}
+use Rattle.line_text.proofs.RangeLemmas.{held_kept, held_grown}
+use Rattle.line_text.proofs.RestLemmas.{rest_grown, rest_kept, on_err, zero_from_false}
 use Rattle.line_text.proofs.lines.Lines.refill.Given.{Over}
 use Rattle.line_text.proofs.lines.Lines.refill.Goals as goal
 use Rattle.line_text.proofs.lines.Lines.refill.Goals.{After-read_behind}

@@ -1,4 +1,4 @@
-use Rattle.route_io.proofs.Naming.{looked_up}
+use Rattle.route_io.proofs.FileLemmas.{looked_up}
 use Rattle.route_io.proofs.shelf.Shelf.open.Goals as goal
 
 pub returns-then-is_none-clause-missing : goal.returns-then-is_none-clause-missing

@@ -1,55 +1,43 @@
-ghost use Rattle.std.specs.Prelude.{◌≡◌, None};
+ghost use Rattle.std.specs.Prelude.{◌≡◌};
 
-use crate::{
+use line_text::{
     LineFault, LineLimits, Lines, MAX_LINE, Numeral, decimal, field, next_field, put_decimal,
 };
+use route_io::Source;
+use route_io::memory::MemorySource;
 use route_io::sure::SureSink;
-use route_io::{Failed, Source};
 use std::alloc::{AllocError, Global};
 use std::test::Fail;
 
-/// Gives a text in pieces of one length, counts what it gives, and fails once `fails_at` bytes are left.
-#[derive(Drop)]
-struct Pieces<'a> {
-    text: &'a [u8],
+/// A source that gives a text in pieces of this length, and fails at the reads of these numbers.
+fn pieces(
+    alloc: Global,
+    text: &[u8],
     length: usize,
-    fails_at: usize,
-    given: usize,
-    faults: u64,
+    fails: Vec<u64>,
+) -> Result<MemorySource, AllocError> {
+    Ok(MemorySource::new(text.to_vec(alloc)?, fails).with_piece(length.max(1)))
 }
 
-impl<'a> Pieces<'a> {
-    /// Gives a text in pieces of this length, and never fails.
-    fn new(text: &'a [u8], length: usize) -> Pieces<'a> {
-        Pieces {
-            text,
-            length,
-            fails_at: usize::MAX,
-            given: 0,
-            faults: 0,
+/// How many bytes a source of a short text has left.
+fn left_in(source: &mut MemorySource) -> usize {
+    let mut left = 0usize;
+    let mut buf = [0; 8];
+    for _ in 0..100 {
+        match source.read(&mut buf) {
+            Ok(taken) => left = left.saturating_add(taken),
+            Err(_) => break,
         }
     }
-}
-
-impl Source for Pieces<'_> {
-    ghost state = { λ pieces. record { left = None; files = None; faults = pieces.faults } };
-
-    fn read(&mut self, buf: &mut [u8]) -> Result<usize, Failed> {
-        if self.text.len() == self.fails_at {
-            self.faults = self.faults.saturating_add(1);
-            return Err(Failed);
-        }
-        let count = self.length.min(buf.len()).min(self.text.len());
-        let (front, rest) = self.text.split_at(count);
-        buf[..count].copy_from_slice(front);
-        self.text = rest;
-        self.given = self.given.saturating_add(count);
-        Ok(count)
-    }
+    left
 }
 
 /// Each line with `/` behind it, and then how the lines end: `.` for the end of input, `l`, `t`, `r` for a fault.
-fn shown(alloc: Global, source: &mut Pieces, limits: LineLimits) -> Result<Vec<u8>, AllocError> {
+fn shown(
+    alloc: Global,
+    source: &mut MemorySource,
+    limits: LineLimits,
+) -> Result<Vec<u8>, AllocError> {
     let mut shown = Vec::new(alloc);
     if limits.line == 0 || limits.line > MAX_LINE {
         return Ok(shown);
@@ -104,7 +92,7 @@ fn lines_come_in_any_pieces(rt: HostRuntime) -> Result<(), Fail> {
             (b"p sp 1 0", limits(8, 8), b"p sp 1 0/."),
         ];
         for (text, limits, wanted) in cases {
-            let mut source = Pieces::new(text, length);
+            let mut source = pieces(alloc, text, length, Vec::new(alloc))?;
             let got = shown(alloc, &mut source, limits)?;
             assert_eq!(rt; got.as_slice(), wanted);
         }
@@ -121,7 +109,7 @@ fn lines_cross_the_buffers_end(rt: HostRuntime) -> Result<(), Fail> {
         text.push(b'\n')?;
     }
     for length in [1, 7, 131_072] {
-        let mut source = Pieces::new(&text, length);
+        let mut source = pieces(alloc, &text, length, Vec::new(alloc))?;
         let mut lines = Lines::new(alloc, limits(65_536, u64::MAX))?;
         for byte in [b'a', b'b', b'c', b'd', b'e'] {
             assert_eq!(rt; lines.next_line(&mut source), Ok(true));
@@ -136,12 +124,13 @@ fn lines_cross_the_buffers_end(rt: HostRuntime) -> Result<(), Fail> {
 
 #[test]
 fn at_most_one_byte_past_the_total_is_taken(rt: HostRuntime) -> Result<(), Fail> {
+    let alloc = rt.alloc();
     let text = b"12345678\n12345678\n12345678\n";
     for length in [1, 4, 100] {
         for (total, given) in [(0, 1), (8, 9), (9, 10), (26, 27), (27, 27), (u64::MAX, 27)] {
-            let mut source = Pieces::new(text, length);
-            shown(rt.alloc(), &mut source, limits(8, total))?;
-            assert_eq!(rt; source.given, given);
+            let mut source = pieces(alloc, text, length, Vec::new(alloc))?;
+            shown(alloc, &mut source, limits(8, total))?;
+            assert_eq!(rt; left_in(&mut source), text.len() - given);
         }
     }
     Ok(())
@@ -149,15 +138,14 @@ fn at_most_one_byte_past_the_total_is_taken(rt: HostRuntime) -> Result<(), Fail>
 
 #[test]
 fn a_failed_read_is_kept(rt: HostRuntime) -> Result<(), Fail> {
-    let mut source = Pieces::new(b"a\nb\nc", 2);
-    source.fails_at = 1;
-    let mut lines = Lines::new(rt.alloc(), limits(8, 100))?;
+    let alloc = rt.alloc();
+    let mut source = pieces(alloc, b"a\nb\nc", 2, vec![in alloc; 2]?)?;
+    let mut lines = Lines::new(alloc, limits(8, 100))?;
     assert_eq!(rt; lines.next_line(&mut source), Ok(true));
     assert_eq!(rt; lines.next_line(&mut source), Ok(true));
     assert_eq!(rt; lines.next_line(&mut source), Err(LineFault::Read));
-    source.fails_at = usize::MAX;
     assert_eq!(rt; lines.next_line(&mut source), Err(LineFault::Read));
-    assert_eq!(rt; source.text, b"c".as_slice());
+    assert_eq!(rt; left_in(&mut source), 1);
     assert_eq!(rt; lines.number(), 2);
     Ok(())
 }

@@ -1,4 +1,4 @@
-use crate::{ArcNo, Cost, Label, Limit, NodeNo, Spot, Weight};
+use cost_vector::{ArcNo, Cost, Label, Limit, NodeNo, Spot, Weight};
 use std::test::Fail;
 
 #[test]

@@ -43,6 +43,7 @@ ends_with_new first new others a f d =
     let stays = get_before (first ∷ others) (new ∷ []) d.other (f - 1) d.files_are.other_is in
     moved first others (others ++ new ∷ []) a f d d.other stays d.other_arc_is
 
+-- nor does it give other ends to any arc
 pub ends_before_new : (first new : Contents) (others : List Contents) (a f : ℕ) → new.arcs ≡ [] → DiffersInEnds (first ∷ others ++ new ∷ []) a f
     → DiffersInEnds (first ∷ others) a f
 ends_before_new first new others a f none d = elim (get_in_push (first ∷ others) new d.other (f - 1) d.files_are.other_is) [

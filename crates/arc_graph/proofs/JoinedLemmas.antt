@@ -44,6 +44,7 @@ states_joined j first others kept stands agree =
     ∙ ap state_of_arc (sym (get_or-enumerate_from 0 first.arcs k (0, any) (omega (arith, kept.matched))))
     ∙ sym (get_or-map state_of_arc arcs k (0, any) d (omega (arith, kept.matched))))
 
+-- what a joiner keeps of files that agree is their network
 pub network_joined : (j : Joining) (files : List Contents) → IsJoining j → 1 ≤ j.begun → StandsFor j files → Agree files
     → record { nodes = j.nodes; ends = j.ends; criteria = j.begun; states = states_of j.begun j.vectors } ≡ joined files
 network_joined j [] kept some stands agree = absurd (omega (arith, stands.begun))

@@ -8,6 +8,7 @@ use Rattle.arc_graph.specs.Joining.{Joining, IsJoining}
 use Rattle.arc_graph.specs.Stored.{IsStored}
 use Rattle.arc_graph.proofs.Places.{stored_after_set}
 
+-- one arc more has come, whose weight is stored
 pub joining_after_arc : (j : Joining) (vectors : List (List ℕ)) (told : Option OtherEnds) → 2 ≤ j.begun → j.come < j.due_arcs → length vectors ≡ length j.ends
     → All (IsStored j.begun) vectors → IsJoining j → IsJoining (record j { vectors = vectors; come = j.come + 1; other_ends = told })
 joining_after_arc j vectors told later due matched stored kept = record {

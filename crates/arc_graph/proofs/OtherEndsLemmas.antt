@@ -23,6 +23,7 @@ pub record AddsPair (D E : ℕ → ℕ → Type 0) (a f : ℕ) (N : Type 0) : Ty
   pub only : (x y : ℕ) → E x y → D x y ⊎ ((x ≡ a) × (y ≡ f) × N)
   pub above : (y : ℕ) → D a y → y < f
 
+-- the same, where N and M say the same
 pub pair_if : (D E : ℕ → ℕ → Type 0) (a f : ℕ) (N M : Type 0) → (N → M) → (M → N) → AddsPair D E a f N → AddsPair D E a f M
 pair_if D E a f N M to back adds = record {
   kept = adds.kept;
@@ -71,6 +72,7 @@ pair_earlier D E N (Some told) here e adds differs is least = elim (cases_lt her
   | inr after ↦ subst (λ x. AreLeastIfAny E (Some x)) (sym (is.0 after)) (pair_kept D E N here told adds after least)
 ]
 
+-- where nothing is added, the least stays
 pub pair_without : (D E : ℕ → ℕ → Type 0) (a f : ℕ) (N : Type 0) (o : Option OtherEnds) → AddsPair D E a f N → ¬ N → AreLeastIfAny D o → AreLeastIfAny E o
 pair_without D E a f N o adds not_here least =
     pair_same D E o adds.kept (λ x y e. elim (adds.only x y e) [ inl d ↦ d | inr new ↦ absurd (not_here new.2) ]) least

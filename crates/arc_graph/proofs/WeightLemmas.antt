@@ -13,6 +13,7 @@ use Rattle.list_laws.proofs.Gets.{get_added, get_elsewhere}
 weight_added : (last : Contents) (a : ArcLine) (place : ℕ) → place ≡ length last.arcs → weight_at place (with_arc last a) ≡ a.weight
 weight_added last a place at = ap (λ o. option_map_or (λ (arc : ArcLine). arc.weight) o 0) (get_added last.arcs a place at)
 
+-- at other places the file's weight stays
 pub weight_elsewhere : (last : Contents) (a : ArcLine) (place : ℕ) → place ≢ length last.arcs → weight_at place (with_arc last a) ≡ weight_at place last
 weight_elsewhere last a place apart = ap (λ o. option_map_or (λ (arc : ArcLine). arc.weight) o 0) (get_elsewhere last.arcs a place apart)
 
@@ -60,6 +61,7 @@ vector_with_weight front last a i place v room at kept =
     ∙ ap (λ x. vector_at front place ++ x ∷ []) (sym (weight_added last a place at))
     ∙ sym (vector_push front (with_arc last a) place)
 
+-- so is the vector at each place, once the weight is written at that of the arc
 pub vectors_with_weight : (vectors : List (List ℕ)) (front : List Contents) (last : Contents) (a : ArcLine) (i come place : ℕ) (v : List ℕ) → i < length v
     → come ≡ length last.arcs → come < length vectors → place < length vectors → v ≡ get_or vectors come v
     → ((p : ℕ) → p < length vectors → take (i + 1) (get_or vectors p []) ≡ vector_at (front ++ last ∷ []) p)

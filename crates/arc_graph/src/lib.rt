@@ -6,8 +6,6 @@ mod graph;
 mod join;
 mod laws;
 mod relaxing;
-#[cfg(test)]
-mod tests;
 mod weights;
 
 pub use file::{ArcFile, ArcLine};

@@ -22,6 +22,7 @@ module _ {X : Type 0} (Less : X → X → Type 0) (irrefl : (x : X) → ¬ Less 
     | inl same ↦ absurd (irrefl x (subst (Less x) same (pair_with_first Less x xs ascends c there)))
   ]
 
+  -- lists that ascend strictly and have the same members are one
   pub ascending_same : (xs ys : List X) → AllPairs Less xs → AllPairs Less ys → ((c : X) → Contains xs c ↔ Contains ys c) → xs ≡ ys
   ascending_same [] [] ascends ascends_too same = refl
   ascending_same [] (y ∷ ys) ascends ascends_too same = absurd (in_none y ((same y).1 (in_first y ys)))

@@ -14,17 +14,20 @@ get_in_push [] y x (suc i) at = absurd cc
 get_in_push (z ∷ xs) y x zero at = inl at
 get_in_push (z ∷ xs) y x (suc i) at = elim (get_in_push xs y x i at) [ inl before ↦ inl before | inr added ↦ inr (ap suc added.0, added.1) ]
 
+-- what stands in the front stands there in the whole
 pub get_before : {X : Type 0} (xs ys : List X) (x : X) (i : ℕ) → slice_get xs i ≡ Some x → slice_get (xs ++ ys) i ≡ Some x
 get_before [] ys x i at = absurd cc
 get_before (z ∷ xs) ys x zero at = at
 get_before (z ∷ xs) ys x (suc i) at = get_before xs ys x i at
 
+-- the added element stands behind all others
 pub get_added : {X : Type 0} (xs : List X) (y : X) (i : ℕ) → i ≡ length xs → slice_get (xs ++ y ∷ []) i ≡ Some y
 get_added [] y zero at = refl
 get_added [] y (suc i) at = absurd (omega arith)
 get_added (z ∷ xs) y zero at = absurd (omega arith)
 get_added (z ∷ xs) y (suc i) at = get_added xs y i (omega arith)
 
+-- at other places nothing is added
 pub get_elsewhere : {X : Type 0} (xs : List X) (y : X) (i : ℕ) → i ≢ length xs → slice_get (xs ++ y ∷ []) i ≡ slice_get xs i
 get_elsewhere [] y zero not_there = absurd (not_there refl)
 get_elsewhere [] y (suc i) not_there = refl

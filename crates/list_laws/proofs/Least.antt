@@ -16,6 +16,7 @@ pub record Adds (P Q : ℕ → Type 0) (n : ℕ) (N : Type 0) : Type 0 where
   pub only : (m : ℕ) → Q m → P m ⊎ ((m ≡ n) × N)
   pub above : (m : ℕ) → P m → m < n
 
+-- where nothing is added, the least stays
 pub least_without : (P Q : ℕ → Type 0) (n : ℕ) (N : Type 0) (o : Option ℕ) → Adds P Q n N → ¬ N → IsLeastIfAny P o → IsLeastIfAny Q o
 least_without P Q n N o adds not_here least =
     least_same P Q o adds.kept (λ k q. elim (adds.only k q) [ inl p ↦ p | inr new ↦ absurd (not_here new.1) ]) least

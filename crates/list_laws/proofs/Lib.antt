@@ -3,3 +3,5 @@ pub mod Pairs
 pub mod Gets
 pub mod Least
 pub mod Ascending
+pub mod LeastMember
+pub mod Retained

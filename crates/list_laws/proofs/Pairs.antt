@@ -7,12 +7,15 @@ use Rattle.std.proofs.lemmas.List.Quantifiers.{all_pairs_push}
 use Rattle.list_laws.proofs.Members.{in_none, in_first, in_rest, cases_in, each_in, all_from_in, of_map}
 
 module _ {X : Type 0} (R : X → X → Type 0) where
+  -- the empty list has no two elements
   pub pairs_none : AllPairs R []
   pairs_none = λ i j d before within. absurd (omega (arith, within))
 
+  -- the first element and each later one
   pub pairs_first : (x : X) (xs : List X) → AllPairs R (x ∷ xs) → All (R x) xs
   pairs_first x xs pairs = λ k d within. pairs 0 (suc k) d (omega arith) (omega (arith, within))
 
+  -- the elements of the rest
   pub pairs_rest : (x : X) (xs : List X) → AllPairs R (x ∷ xs) → AllPairs R xs
   pairs_rest x xs pairs = λ i j d before within. pairs (suc i) (suc j) d (omega (arith, before)) (omega (arith, within))
 
@@ -20,12 +23,15 @@ module _ {X : Type 0} (R : X → X → Type 0) where
   pub pair_with_first : (x : X) (xs : List X) → AllPairs R (x ∷ xs) → (y : X) → Contains xs y → R x y
   pair_with_first x xs pairs y h = each_in (R x) xs (pairs_first x xs pairs) y h
 
+  -- one element more at the front
   pub pairs_cons : (x : X) (xs : List X) → ((y : X) → Contains xs y → R x y) → AllPairs R xs → AllPairs R (x ∷ xs)
   pairs_cons x xs first pairs = AllPairs-cons R x xs (all_from_in (R x) xs first) pairs
 
+  -- one element more at the end
   pub pairs_push : (xs : List X) (y : X) → AllPairs R xs → ((x : X) → Contains xs x → R x y) → AllPairs R (xs ++ y ∷ [])
   pairs_push xs y pairs last = all_pairs_push R xs y pairs (λ k d within. last (get_or xs k d) (Contains-get_or xs k d within))
 
+-- what holds of any two holds of their images
 pub pairs_map : {X Y : Type 0} (R : X → X → Type 0) (S : Y → Y → Type 0) (f : X → Y) → ((x z : X) → R x z → S (f x) (f z)) → (xs : List X)
     → AllPairs R xs → AllPairs S (map f xs)
 pairs_map R S f each [] pairs = pairs_none S

@@ -1,2 +1,3 @@
 pub mod FirstDifference
 pub mod Least
+pub mod Without

@@ -1,6 +1,7 @@
-pub mod Pruning
-pub mod Editing
-pub mod Reaching
-pub mod Steps
-pub mod Finding
-pub mod Expanding
+pub mod PrunesLemmas
+pub mod AddsLemmas
+pub mod RelevantLemmas
+pub mod SpotsLemmas
+pub mod ExpandingLemmas
+pub mod CostsAtLemmas
+pub mod AnswerLemmas

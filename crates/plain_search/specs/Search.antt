@@ -1,8 +1,9 @@
 -- What a search keeps of the spots that it has come to: the permanent ones, in that order, and the waiting ones.
-use Rattle.std.specs.Prelude.{◌≡◌, ◌≢◌, ℕ, ◌⊎◌, ◌==◌, List, Option, length, map, filter, replicate, Any}
+use Rattle.std.specs.Prelude.{◌≡◌, ◌≢◌, ℕ, ◌⊎◌, ◌==◌, List, Option, length, map, filter, replicate, All, AllPairs, Any, Contains}
 use Rattle.cost_vector.specs.declared.label.Spot.{Spot}
 use Rattle.cost_vector.specs.Costs.{AtMost, plus, Within, LexLess}
-use Rattle.arc_graph.specs.Lists.{Pairwise, IsIn, AreDistinct}
+use Rattle.list_laws.specs.Least.{IsLeastMember}
+use Rattle.list_laws.specs.Without.{IsWithout}
 use Rattle.road_network.specs.Network.{Network, Leads}
 use Rattle.road_network.specs.Walks.{Arrives, IsSumOf}
 use Rattle.road_network.specs.Answers.{IsRelevant}
@@ -46,44 +47,43 @@ abbrev pub IsCovered : ℕ → List (Option ℕ) → List Spot → List Spot →
 IsCovered to limit permanent waiting x = IsPruned to permanent x ⊎ (IsPruned to waiting x ⊎ (¬ Within limit x.cost))
 
 -- the spots without those that x prunes
-pub record TakesOut (to : ℕ) (x : Spot) (before after : List Spot) : Type 0 where
-  pub old : (y : Spot) → IsIn y after → IsIn y before
-  pub kept : (y : Spot) → IsIn y before → Prunes to x y ⊎ IsIn y after
-  pub gone : (y : Spot) → IsIn y after → ¬ Prunes to x y
+abbrev pub TakesOut : ℕ → Spot → List Spot → List Spot → Type 0
+TakesOut to x before after = IsWithout (λ y. Prunes to x y) before after
 
 -- spot x joins the waiting ones in place of those that it prunes, unless it is covered already
 pub record Adds (to : ℕ) (limit : List (Option ℕ)) (permanent before : List Spot) (x : Spot) (after : List Spot) : Type 0 where
-  pub old_or_new : (y : Spot) → IsIn y after → IsIn y before ⊎ ((y ≡ x) × Within limit x.cost × (¬ IsPruned to permanent x))
-  pub kept : (y : Spot) → IsIn y before → IsPruned to after y
+  pub old_or_new : All (λ y. Contains before y ⊎ ((y ≡ x) × Within limit x.cost × (¬ IsPruned to permanent x))) after
+  pub kept : All (λ y. IsPruned to after y) before
   pub added : IsCovered to limit permanent after x
 
 -- x stands in the list, and no cost there is lexicographically less
-pub record IsLeastOf (spots : List Spot) (x : Spot) : Type 0 where
-  pub there : IsIn x spots
-  pub least : (y : Spot) → IsIn y spots → ¬ LexLess y.cost x.cost
+abbrev pub IsLeastOf : List Spot → Spot → Type 0
+IsLeastOf spots x = IsLeastMember (λ y z. LexLess y.cost z.cost) spots x
 
 -- each arc that leads on from e leads to a spot that is covered
 abbrev pub IsExpanded : Task → List Spot → List Spot → Spot → Type 0
 IsExpanded task permanent waiting e =
     (k v : ℕ) (by : List ℕ) → Leads task.net k e.node.0 by v → IsCovered task.to task.limit permanent waiting (spot_at v (plus e.cost by))
 
--- x may wait beside the permanent spots: a walk reaches it, and its cost isn't lexicographically less than a permanent one
+-- x may wait beside the permanent spots: a walk reaches it, and it is within the limit and not needless; its cost isn't
+-- lexicographically less than a permanent one, nor greater than as many weights as there are permanent spots can make it
 pub record MayWait (task : Task) (permanent : List Spot) (x : Spot) : Type 0 where
   pub walk : (q : List ℕ) × Arrives task.net task.from q x.node.0 x.cost
-  pub later : (e : Spot) → IsIn e permanent → ¬ LexLess x.cost e.cost
+  pub within : Within task.limit x.cost
+  pub fresh : ¬ IsPruned task.to permanent x
+  pub later : All (λ e. ¬ LexLess x.cost e.cost) permanent
   pub small : IsSumOf (length permanent) x.cost
 
--- the permanent spots are relevant pairs, each once, in ascending lexicographic order; what waits isn't needless
+-- the permanent spots are relevant pairs, each once, in ascending lexicographic order, of costs as small as those that wait
 pub record AreSpots (task : Task) (permanent waiting : List Spot) : Type 0 where
-  pub relevant : (e : Spot) → IsIn e permanent → IsRelevantTo task e.node.0 e.cost
-  pub distinct : AreDistinct permanent
-  pub ascending : Pairwise (λ a b. ¬ LexLess b.cost a.cost) permanent
-  pub may_wait : (x : Spot) → IsIn x waiting → MayWait task permanent x
-  pub within : (x : Spot) → IsIn x waiting → Within task.limit x.cost
-  pub fresh : (x : Spot) → IsIn x waiting → ¬ IsPruned task.to permanent x
+  pub relevant : All (λ e. IsRelevantTo task e.node.0 e.cost) permanent
+  pub distinct : AllPairs ◌≢◌ permanent
+  pub ascending : AllPairs (λ a b. ¬ LexLess b.cost a.cost) permanent
+  pub small : All (λ e. IsSumOf (length permanent) e.cost) permanent
+  pub may_wait : All (MayWait task permanent) waiting
 
 -- besides, the start is covered, and so is all that leads on from the permanent spots
 pub record IsSearch (task : Task) (permanent waiting : List Spot) : Type 0 where
   pub spots : AreSpots task permanent waiting
   pub started : IsCovered task.to task.limit permanent waiting (spot_at task.from (replicate task.net.criteria 0))
-  pub expanded : (e : Spot) → IsIn e permanent → IsExpanded task permanent waiting e
+  pub expanded : All (IsExpanded task permanent waiting) permanent

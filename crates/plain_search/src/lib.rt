@@ -9,8 +9,6 @@
 mod martins;
 mod query;
 mod search;
-#[cfg(test)]
-mod tests;
 
 pub use martins::plain_search;
-pub use query::{MAX_BUDGET, Query, SearchFault};
+pub use query::{Query, SearchFault};

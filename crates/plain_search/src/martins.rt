@@ -1,9 +1,10 @@
-ghost use Rattle.std.specs.Prelude.{◌≡◌, ◌≤◌, length, IfOk, OnOk, IsErrOf};
-ghost use Rattle.road_network.specs.Network.{IsNode};
+ghost use Rattle.std.specs.Prelude.{◌≡◌, ◌≤◌, length, IfOk, OnOk, IsErrOf, All};
 ghost use Rattle.arc_graph.specs.Graph.{Match, network};
+ghost use Rattle.road_network.specs.Walks.{IsSumOf};
 ghost use Rattle.road_network.specs.Answers.{AreBestCosts, Passes};
+ghost use Rattle.plain_search.specs.Query.{IsQuery};
 
-use crate::query::{MAX_BUDGET, Query, SearchFault};
+use crate::query::{Query, SearchFault};
 use crate::search::Search;
 use arc_graph::{Graph, Weights};
 use cost_vector::{Cost, Spot};
@@ -17,14 +18,12 @@ pub fn plain_search(
     query: &Query,
 ) -> Result<Vec<Cost>, SearchFault>
     requires weights { Match graph.now weights.now }
-    requires from { IsNode graph.now.nodes query.now.from.0 }
-    requires to { IsNode graph.now.nodes query.now.to.0 }
-    requires limit { length query.now.limit ≡ graph.now.criteria }
-    requires budget { query.now.budget ≤ MAX_BUDGET }
+    requires query { IsQuery graph.now query.now }
 
     // An answer comes exactly where the budget isn't passed, but for want of memory.
     ensures answer { IfOk result (λ costs. AreBestCosts (network graph.now weights.now)
         query.now.from.0 query.now.to.0 query.now.limit costs.items) }
+    ensures small { IfOk result (λ costs. All (IsSumOf query.now.budget) costs.items) }
     ensures in_budget { OnOk result (¬ Passes (network graph.now weights.now)
         query.now.from.0 query.now.to.0 query.now.limit query.now.budget) }
     ensures budget { IsErrOf result SearchFault.Budget → Passes (network graph.now weights.now)

@@ -1,9 +1,6 @@
 use cost_vector::{Limit, NodeNo, OutOfMemory};
 use thiserror::Error;
 
-/// The greatest budget of a query.
-pub const MAX_BUDGET: u32 = 50_000_000;
-
 /// What is asked: the nondominated costs of the walks from a node to a node, within a limit.
 #[derive(Clone, Copy, Debug, PartialEq, Eq)]
 pub struct Query {

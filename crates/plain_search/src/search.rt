@@ -1,9 +1,10 @@
 ghost use Rattle.std.specs.Prelude.{◌≡◌, ◌≤◌, ◌<◌, ◌⊎◌, ◌↔◌, [], ◌∷◌, ◌++◌, length, IsTrue, IfOk, OnOk, IfSome, IfNone, Contains, All};
 ghost use Rattle.cost_vector.specs.Costs.{LexLess};
-ghost use Rattle.arc_graph.specs.Graph.{IsGraph, AreStates, Match};
+ghost use Rattle.road_network.specs.Limits.{max_budget};
+ghost use Rattle.plain_search.specs.Query.{IsPosed};
 ghost use Rattle.plain_search.specs.Search.{Prunes, IsPruned, IsLeastOf, TakesOut};
 
-use crate::query::{MAX_BUDGET, Query};
+use crate::query::Query;
 use arc_graph::{Graph, Weights, relax};
 use cost_vector::{Cost, NodeNo, OutOfMemory, Spot};
 use std::alloc::Global;
@@ -54,11 +55,7 @@ impl Search {
         weights: &Weights,
         query: &Query,
     ) -> Result<(), OutOfMemory>
-        requires graph { IsGraph graph.now }
-        requires states { AreStates weights.now }
-        requires weights { Match graph.now weights.now }
-        requires limit { length query.now.limit ≡ graph.now.criteria }
-        requires budget { query.now.budget ≤ MAX_BUDGET }
+        requires posed { IsPosed graph.now weights.now query.now }
         requires begun { self.old.permanent.items ≡ [] }
         requires search { IsSearch (task_of graph.now weights.now query.now)
             self.old.permanent.items self.old.waiting.items }
@@ -86,11 +83,8 @@ impl Search {
         query: &Query,
         spot: &Spot,
     ) -> Result<(), OutOfMemory>
-        requires graph { IsGraph graph.now }
-        requires states { AreStates weights.now }
-        requires weights { Match graph.now weights.now }
-        requires limit { length query.now.limit ≡ graph.now.criteria }
-        requires room { length self.old.permanent.items < MAX_BUDGET }
+        requires posed { IsPosed graph.now weights.now query.now }
+        requires room { length self.old.permanent.items < max_budget }
         requires least { IsLeastOf self.old.waiting.items spot.now }
         requires search { IsSearch (task_of graph.now weights.now query.now)
             self.old.permanent.items self.old.waiting.items }
@@ -115,7 +109,8 @@ impl Search {
     fn settle(&mut self, to: NodeNo, spot: &Spot) -> Result<(), OutOfMemory>
         ensures permanent { OnOk result
             (self.new.permanent.items ≡ self.old.permanent.items ++ spot.now ∷ []) }
-        ensures waiting { OnOk result (TakesOut to.0 spot.now self.old.waiting.items self.new.waiting.items) }
+        ensures waiting { OnOk result
+            (TakesOut to.0 spot.now self.old.waiting.items self.new.waiting.items) }
     {
         self.permanent.push(*spot)?;
         take_out(&mut self.waiting, to, spot);

@@ -1,19 +1,28 @@
 use Rattle.std.proofs.Common.{◌≢◌, [], replicate, refl, sym, ap, subst, ◌∙◌, inl, inr}
 use Rattle.std.proofs.lemmas.Bool.{false≢true}
+use Rattle.std.specs.Prelude.{All}
+use Rattle.road_network.specs.Walks.{IsSumOf}
 use Rattle.road_network.specs.Answers.{AreBestCosts}
 use Rattle.arc_graph.proofs.RelaxLaws.{network_of}
+use Rattle.plain_search.specs.Query.{IsPosed}
 use Rattle.plain_search.specs.Search.{task_of}
-use Rattle.plain_search.proofs.Expanding.{search_begins}
-use Rattle.plain_search.proofs.Finding.{answer, not_passed, passed}
+use Rattle.plain_search.proofs.ExpandingLemmas.{search_begins}
+use Rattle.plain_search.proofs.AnswerLemmas.{answer, answer_is_small, not_passed, passed}
 use Rattle.plain_search.proofs.martins.plain_search.Goals as goal
 
 pub run-requires-clause-search : goal.run-requires-clause-search
 run-requires-clause-search c =
-    search_begins c.args.graph.now c.args.weights.now c.args.query.now c.nodes.ensures.graph c.arcs-2.ensures.states c.requires.weights
+    let posed : IsPosed c.args.graph.now c.args.weights.now c.args.query.now = record {
+      graph = c.nodes.ensures.graph;
+      states = c.arcs-2.ensures.states;
+      matched = c.requires.weights;
+      is_query = c.requires.query;
+    } in
+    search_begins c.args.graph.now c.args.weights.now c.args.query.now posed
     c.new-search.result.permanent.items c.add.new.self.permanent.items c.new-search.result.waiting.items c.add.new.self.waiting.items c.zero.result
     c.new-search.ensures.permanent c.in_ok-add.ensures.permanent c.new-search.ensures.waiting
     (c.zero.ensures ∙ ap (λ n. replicate n 0) c.criteria.ensures.count)
-    c.requires.from c.in_ok-add.ensures.waiting
+    c.in_ok-add.ensures.waiting
 
 pub returns-then-not-is_done-clause-budget : goal.returns-then-not-is_done-clause-budget
 returns-then-not-is_done-clause-budget c =
@@ -42,3 +51,12 @@ returns-clause-in_budget c =
     not_passed (task_of g w query) (network_of g w c.nodes.ensures.graph c.arcs-2.ensures.states c.requires.weights)
     c.run.new.self.permanent.items c.run.new.self.waiting.items c.in_ok-run.ensures.search query.budget (c.if-not-is_done.ensures.0 refl)
     c.in_ok-run.ensures.in_budget
+
+pub returns-clause-small : goal.returns-clause-small
+returns-clause-small c =
+    let g = c.args.graph.now in
+    let w = c.args.weights.now in
+    let query = c.args.query.now in
+    subst (All (IsSumOf query.budget)) (sym c.in_ok-costs_at.ensures)
+    (answer_is_small (task_of g w query) (network_of g w c.nodes.ensures.graph c.arcs-2.ensures.states c.requires.weights)
+    c.run.new.self.permanent.items c.run.new.self.waiting.items c.in_ok-run.ensures.search query.budget c.in_ok-run.ensures.in_budget)

@@ -1,6 +1,6 @@
 use Rattle.std.proofs.Common.{refl}
 use Rattle.std.proofs.lemmas.Bool.{false≢true}
-use Rattle.plain_search.proofs.Editing.{adds_nothing, adds_last}
+use Rattle.plain_search.proofs.AddsLemmas.{adds_nothing, adds_last}
 use Rattle.plain_search.proofs.search.Search.add.Goals as goal
 
 pub returns-then-covers-clause-waiting : goal.returns-then-covers-clause-waiting

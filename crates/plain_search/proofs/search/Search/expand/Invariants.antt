@@ -1,6 +1,6 @@
 use Rattle.std.proofs.Common.{◌≡◌, ◌++◌, ◌∷◌, [], take}
 use Rattle.plain_search.specs.Search.{task_of}
-use Rattle.plain_search.proofs.Expanding.{IsExpanding}
+use Rattle.plain_search.proofs.ExpandingLemmas.{IsExpanding}
 use Rattle.plain_search.proofs.search.Search.expand.Given as goal
 
 abbrev pub invariant-loop-label : goal.invariant-loop-label

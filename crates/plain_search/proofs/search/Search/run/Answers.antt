@@ -1,6 +1,5 @@
 use Rattle.std.proofs.Common.{length, ap, subst, ◌∙◌, arith, length-append, inr, [], ◌∷◌, ◌+◌}
 use Rattle.plain_search.specs.Search.{IsLeastOf}
-use Rattle.plain_search.proofs.Pruning.{least_by_place}
 use Rattle.plain_search.proofs.search.Search.run.Goals as goal
 
 pub loop-init : goal.loop-init
@@ -17,8 +16,7 @@ expand-requires-clause-room c = omega arith
 
 pub expand-requires-clause-least : goal.expand-requires-clause-least
 expand-requires-clause-least c =
-    subst (λ spots. IsLeastOf spots c.in-Some.spot) c.deref.ensures.value
-    (least_by_place c.deref.result.now c.in-Some.spot c.in-Some.ensures.there c.in-Some.ensures.least)
+    subst (λ spots. IsLeastOf spots c.in-Some.spot) c.deref.ensures.value (record { there = c.in-Some.ensures.there; none_below = c.in-Some.ensures.least })
 
 pub expand-requires-clause-search : goal.expand-requires-clause-search
 expand-requires-clause-search c = c.loop.invariant.search

@@ -1,4 +1,4 @@
-use crate::{ArcFile, ArcLine, JoinFault, join_files, relax};
+use arc_graph::{ArcFile, ArcLine, JoinFault, join_files, relax};
 use cost_vector::{ArcNo, Cost, Label, NodeNo, OutOfMemory, Spot};
 use std::alloc::Global;
 use std::test::Fail;

@@ -1,5 +1,5 @@
 use Rattle.std.proofs.Common.{◌≡◌, ◌≤◌, length}
-use Rattle.arc_graph.proofs.tests.file.Given as goal
+use Rattle.search_rows.proofs.tests.joining.file.Given as goal
 
 -- the nodes stay, and there is at most one arc for each so far
 abbrev pub invariant-loop-tail : goal.invariant-loop-tail

@@ -3,7 +3,7 @@ use Rattle.std.specs.Prelude.{All}
 use Rattle.std.specs.List.{AllByRecursion}
 use Rattle.std.proofs.lemmas.List.Elements.{All-from_recursion}
 use Rattle.arc_graph.proofs.RelaxLaws.{sums_fit}
-use Rattle.arc_graph.proofs.tests.joins_files_that_agree.Goals as goal
+use Rattle.search_rows.proofs.tests.joining.joins_files_that_agree.Goals as goal
 
 pub relax-requires-clause-fits : goal.relax-requires-clause-fits
 relax-requires-clause-fits g c =

@@ -1,36 +1,52 @@
-ghost use Rattle.std.specs.Prelude.{IfOk};
-ghost use Rattle.arc_graph.specs.Graph.{Match};
-
-use crate::{MAX_BUDGET, Query, SearchFault, plain_search};
-use arc_graph::{ArcFile, ArcLine, Graph, Weights, join_files};
-use cost_vector::{Cost, Limit, NodeNo};
-use std::alloc::Global;
-use std::process::Abort;
-use std::test::Fail;
-
 /// A graph, a query and its answer, which a search of all simple paths found. Each arc has its tail, its head and four
 /// weights, of which there are as many as the limit has places. A budget of the relevant pairs just suffices.
-struct Case {
-    nodes: u32,
-    arcs: &'static [[u32; 6]],
-    from: u32,
-    to: u32,
-    limit: &'static [Option<u64>],
-    costs: &'static [&'static [u64]],
-    relevant: u32,
+pub(super) struct Case {
+    pub name: &'static str,
+    pub nodes: u32,
+    pub arcs: &'static [[u32; 6]],
+    pub from: u32,
+    pub to: u32,
+    pub limit: &'static [Option<u64>],
+    pub costs: &'static [&'static [u64]],
+    pub relevant: u32,
 }
 
-const CASES: [Case; 31] = [
+/// Two ways from node 1 to 4, an arc between them, and an arc past both.
+const DIAMOND: [[u32; 6]; 6] = [
+    [1, 2, 1, 4, 0, 0],
+    [1, 3, 2, 1, 0, 0],
+    [2, 4, 1, 4, 0, 0],
+    [3, 4, 2, 1, 0, 0],
+    [2, 3, 1, 1, 0, 0],
+    [1, 4, 9, 9, 0, 0],
+];
+
+/// Two ways from node 1 to 4 and an arc past both, by three criteria.
+const THREE_WEIGHTS: [[u32; 6]; 5] = [
+    [1, 2, 1, 2, 3, 0],
+    [2, 4, 3, 2, 1, 0],
+    [1, 3, 3, 1, 2, 0],
+    [3, 4, 1, 1, 4, 0],
+    [1, 4, 2, 5, 5, 0],
+];
+
+/// A chain in which each step saves one criterion or the other.
+const FOUR_CHOICES: [[u32; 6]; 8] = [
+    [1, 2, 1, 0, 0, 0],
+    [1, 2, 0, 1, 0, 0],
+    [2, 3, 2, 0, 0, 0],
+    [2, 3, 0, 2, 0, 0],
+    [3, 4, 4, 0, 0, 0],
+    [3, 4, 0, 4, 0, 0],
+    [4, 5, 8, 0, 0, 0],
+    [4, 5, 0, 8, 0, 0],
+];
+
+pub(super) const CASES: [Case; 31] = [
     Case {
+        name: "a diamond with a chord and a direct arc",
         nodes: 4,
-        arcs: &[
-            [1, 2, 1, 4, 0, 0],
-            [1, 3, 2, 1, 0, 0],
-            [2, 4, 1, 4, 0, 0],
-            [3, 4, 2, 1, 0, 0],
-            [2, 3, 1, 1, 0, 0],
-            [1, 4, 9, 9, 0, 0],
-        ],
+        arcs: &DIAMOND,
         from: 1,
         to: 4,
         limit: &[None, None],
@@ -38,15 +54,9 @@ const CASES: [Case; 31] = [
         relevant: 5,
     },
     Case {
+        name: "the second component limited",
         nodes: 4,
-        arcs: &[
-            [1, 2, 1, 4, 0, 0],
-            [1, 3, 2, 1, 0, 0],
-            [2, 4, 1, 4, 0, 0],
-            [3, 4, 2, 1, 0, 0],
-            [2, 3, 1, 1, 0, 0],
-            [1, 4, 9, 9, 0, 0],
-        ],
+        arcs: &DIAMOND,
         from: 1,
         to: 4,
         limit: &[None, Some(7)],
@@ -54,15 +64,9 @@ const CASES: [Case; 31] = [
         relevant: 4,
     },
     Case {
+        name: "a limit that just admits one cost",
         nodes: 4,
-        arcs: &[
-            [1, 2, 1, 4, 0, 0],
-            [1, 3, 2, 1, 0, 0],
-            [2, 4, 1, 4, 0, 0],
-            [3, 4, 2, 1, 0, 0],
-            [2, 3, 1, 1, 0, 0],
-            [1, 4, 9, 9, 0, 0],
-        ],
+        arcs: &DIAMOND,
         from: 1,
         to: 4,
         limit: &[Some(4), Some(2)],
@@ -70,15 +74,9 @@ const CASES: [Case; 31] = [
         relevant: 3,
     },
     Case {
+        name: "a limit below each cost",
         nodes: 4,
-        arcs: &[
-            [1, 2, 1, 4, 0, 0],
-            [1, 3, 2, 1, 0, 0],
-            [2, 4, 1, 4, 0, 0],
-            [3, 4, 2, 1, 0, 0],
-            [2, 3, 1, 1, 0, 0],
-            [1, 4, 9, 9, 0, 0],
-        ],
+        arcs: &DIAMOND,
         from: 1,
         to: 4,
         limit: &[Some(1), None],
@@ -86,15 +84,9 @@ const CASES: [Case; 31] = [
         relevant: 2,
     },
     Case {
+        name: "a target out of reach",
         nodes: 4,
-        arcs: &[
-            [1, 2, 1, 4, 0, 0],
-            [1, 3, 2, 1, 0, 0],
-            [2, 4, 1, 4, 0, 0],
-            [3, 4, 2, 1, 0, 0],
-            [2, 3, 1, 1, 0, 0],
-            [1, 4, 9, 9, 0, 0],
-        ],
+        arcs: &DIAMOND,
         from: 4,
         to: 1,
         limit: &[None, None],
@@ -102,15 +94,9 @@ const CASES: [Case; 31] = [
         relevant: 1,
     },
     Case {
+        name: "a start that is the target",
         nodes: 4,
-        arcs: &[
-            [1, 2, 1, 4, 0, 0],
-            [1, 3, 2, 1, 0, 0],
-            [2, 4, 1, 4, 0, 0],
-            [3, 4, 2, 1, 0, 0],
-            [2, 3, 1, 1, 0, 0],
-            [1, 4, 9, 9, 0, 0],
-        ],
+        arcs: &DIAMOND,
         from: 4,
         to: 4,
         limit: &[None, None],
@@ -118,6 +104,7 @@ const CASES: [Case; 31] = [
         relevant: 1,
     },
     Case {
+        name: "a cycle and a loop at the start",
         nodes: 2,
         arcs: &[[1, 2, 1, 0, 0, 0], [2, 1, 0, 1, 0, 0], [1, 1, 3, 0, 0, 0]],
         from: 1,
@@ -127,6 +114,7 @@ const CASES: [Case; 31] = [
         relevant: 1,
     },
     Case {
+        name: "loops at both ends",
         nodes: 2,
         arcs: &[[1, 1, 0, 1, 0, 0], [1, 2, 2, 2, 0, 0], [2, 2, 1, 0, 0, 0]],
         from: 1,
@@ -136,6 +124,7 @@ const CASES: [Case; 31] = [
         relevant: 2,
     },
     Case {
+        name: "parallel arcs of equal vectors",
         nodes: 2,
         arcs: &[[1, 2, 3, 5, 0, 0], [1, 2, 3, 5, 0, 0], [1, 2, 3, 5, 0, 0]],
         from: 1,
@@ -145,6 +134,7 @@ const CASES: [Case; 31] = [
         relevant: 2,
     },
     Case {
+        name: "parallel arcs, one of them dominated",
         nodes: 2,
         arcs: &[
             [1, 2, 3, 5, 0, 0],
@@ -159,6 +149,7 @@ const CASES: [Case; 31] = [
         relevant: 4,
     },
     Case {
+        name: "two walks of one cost",
         nodes: 4,
         arcs: &[
             [1, 2, 1, 2, 0, 0],
@@ -173,6 +164,7 @@ const CASES: [Case; 31] = [
         relevant: 4,
     },
     Case {
+        name: "one cost at two nodes",
         nodes: 3,
         arcs: &[[1, 2, 1, 1, 0, 0], [1, 3, 1, 1, 0, 0], [2, 3, 0, 1, 0, 0]],
         from: 1,
@@ -182,6 +174,7 @@ const CASES: [Case; 31] = [
         relevant: 3,
     },
     Case {
+        name: "a label that a cost of the target dominates",
         nodes: 3,
         arcs: &[[1, 2, 1, 1, 0, 0], [1, 3, 2, 1, 0, 0], [3, 2, 0, 1, 0, 0]],
         from: 1,
@@ -191,6 +184,7 @@ const CASES: [Case; 31] = [
         relevant: 2,
     },
     Case {
+        name: "two best costs on the way",
         nodes: 4,
         arcs: &[
             [1, 2, 0, 3, 0, 0],
@@ -206,6 +200,7 @@ const CASES: [Case; 31] = [
         relevant: 6,
     },
     Case {
+        name: "a cycle that costs something by one criterion alone",
         nodes: 3,
         arcs: &[
             [1, 2, 1, 0, 0, 0],
@@ -220,14 +215,9 @@ const CASES: [Case; 31] = [
         relevant: 3,
     },
     Case {
+        name: "three criteria",
         nodes: 4,
-        arcs: &[
-            [1, 2, 1, 2, 3, 0],
-            [2, 4, 3, 2, 1, 0],
-            [1, 3, 3, 1, 2, 0],
-            [3, 4, 1, 1, 4, 0],
-            [1, 4, 2, 5, 5, 0],
-        ],
+        arcs: &THREE_WEIGHTS,
         from: 1,
         to: 4,
         limit: &[None, None, None],
@@ -235,14 +225,9 @@ const CASES: [Case; 31] = [
         relevant: 6,
     },
     Case {
+        name: "three criteria, the third limited",
         nodes: 4,
-        arcs: &[
-            [1, 2, 1, 2, 3, 0],
-            [2, 4, 3, 2, 1, 0],
-            [1, 3, 3, 1, 2, 0],
-            [3, 4, 1, 1, 4, 0],
-            [1, 4, 2, 5, 5, 0],
-        ],
+        arcs: &THREE_WEIGHTS,
         from: 1,
         to: 4,
         limit: &[None, None, Some(5)],
@@ -250,6 +235,7 @@ const CASES: [Case; 31] = [
         relevant: 5,
     },
     Case {
+        name: "four criteria",
         nodes: 3,
         arcs: &[
             [1, 2, 1, 0, 0, 0],
@@ -265,6 +251,7 @@ const CASES: [Case; 31] = [
         relevant: 5,
     },
     Case {
+        name: "three nodes without arcs",
         nodes: 3,
         arcs: &[],
         from: 1,
@@ -274,6 +261,7 @@ const CASES: [Case; 31] = [
         relevant: 1,
     },
     Case {
+        name: "one node without arcs",
         nodes: 1,
         arcs: &[],
         from: 1,
@@ -283,17 +271,9 @@ const CASES: [Case; 31] = [
         relevant: 1,
     },
     Case {
+        name: "sixteen best costs",
         nodes: 5,
-        arcs: &[
-            [1, 2, 1, 0, 0, 0],
-            [1, 2, 0, 1, 0, 0],
-            [2, 3, 2, 0, 0, 0],
-            [2, 3, 0, 2, 0, 0],
-            [3, 4, 4, 0, 0, 0],
-            [3, 4, 0, 4, 0, 0],
-            [4, 5, 8, 0, 0, 0],
-            [4, 5, 0, 8, 0, 0],
-        ],
+        arcs: &FOUR_CHOICES,
         from: 1,
         to: 5,
         limit: &[None, None],
@@ -318,17 +298,9 @@ const CASES: [Case; 31] = [
         relevant: 31,
     },
     Case {
+        name: "six of sixteen best costs within the limit",
         nodes: 5,
-        arcs: &[
-            [1, 2, 1, 0, 0, 0],
-            [1, 2, 0, 1, 0, 0],
-            [2, 3, 2, 0, 0, 0],
-            [2, 3, 0, 2, 0, 0],
-            [3, 4, 4, 0, 0, 0],
-            [3, 4, 0, 4, 0, 0],
-            [4, 5, 8, 0, 0, 0],
-            [4, 5, 0, 8, 0, 0],
-        ],
+        arcs: &FOUR_CHOICES,
         from: 1,
         to: 5,
         limit: &[Some(9), Some(11)],
@@ -336,6 +308,7 @@ const CASES: [Case; 31] = [
         relevant: 21,
     },
     Case {
+        name: "at random: 5 nodes, 14 arcs, two criteria",
         nodes: 5,
         arcs: &[
             [4, 1, 2, 1, 0, 0],
@@ -360,6 +333,7 @@ const CASES: [Case; 31] = [
         relevant: 2,
     },
     Case {
+        name: "at random: 6 nodes, 18 arcs, two criteria",
         nodes: 6,
         arcs: &[
             [1, 5, 9, 1, 0, 0],
@@ -388,6 +362,7 @@ const CASES: [Case; 31] = [
         relevant: 3,
     },
     Case {
+        name: "at random: 6 nodes, 16 arcs, three criteria, the first limited",
         nodes: 6,
         arcs: &[
             [2, 6, 0, 1, 1, 0],
@@ -414,6 +389,7 @@ const CASES: [Case; 31] = [
         relevant: 8,
     },
     Case {
+        name: "at random: 5 nodes, 14 arcs, four criteria, the target out of reach",
         nodes: 5,
         arcs: &[
             [2, 3, 2, 0, 2, 2],
@@ -438,6 +414,7 @@ const CASES: [Case; 31] = [
         relevant: 2,
     },
     Case {
+        name: "at random: 7 nodes, 24 arcs, two criteria",
         nodes: 7,
         arcs: &[
             [7, 5, 5, 4, 0, 0],
@@ -472,6 +449,7 @@ const CASES: [Case; 31] = [
         relevant: 7,
     },
     Case {
+        name: "at random: 6 nodes, 20 arcs, three criteria, two limited",
         nodes: 6,
         arcs: &[
             [2, 4, 5, 2, 4, 0],
@@ -502,6 +480,7 @@ const CASES: [Case; 31] = [
         relevant: 8,
     },
     Case {
+        name: "at random: 4 nodes, 8 arcs, four criteria, the last limited",
         nodes: 4,
         arcs: &[
             [2, 2, 1, 1, 1, 1],
@@ -520,6 +499,7 @@ const CASES: [Case; 31] = [
         relevant: 6,
     },
     Case {
+        name: "at random: 4 nodes, 8 arcs, four criteria",
         nodes: 4,
         arcs: &[
             [3, 2, 1, 2, 1, 2],
@@ -538,6 +518,7 @@ const CASES: [Case; 31] = [
         relevant: 4,
     },
     Case {
+        name: "at random: 4 nodes, 8 arcs, three criteria",
         nodes: 4,
         arcs: &[
             [1, 4, 0, 1, 2, 0],
@@ -556,67 +537,3 @@ const CASES: [Case; 31] = [
         relevant: 4,
     },
 ];
-
-fn file(rt: &impl Abort, alloc: Global, case: &Case, criterion: usize) -> Result<ArcFile, Fail> {
-    assert!(rt; criterion < 4);
-    assert!(rt; 1 <= case.nodes && case.nodes <= 10);
-    let mut file = ArcFile::new(alloc, case.nodes);
-    for arc in case.arcs {
-        let nodes = file.nodes();
-        assert!(rt; 1 <= arc[0] && arc[0] <= nodes && 1 <= arc[1] && arc[1] <= nodes);
-        assert!(rt; file.arcs().len() < 100);
-        file.push(ArcLine {
-            tail: arc[0],
-            head: arc[1],
-            weight: arc[2 + criterion],
-        })?;
-    }
-    Ok(file)
-}
-
-fn graph(rt: &impl Abort, alloc: Global, case: &Case) -> Result<(Graph, Weights), Fail>
-    ensures { IfOk result (λ r. Match r.0 r.1) }
-{
-    let mut files = Vec::new(alloc);
-    for criterion in 0..case.limit.len() {
-        files.push(file(rt, alloc, case, criterion)?)?;
-    }
-    assert!(rt; 2 <= files.len() && files.len() <= 4);
-    Ok(join_files(alloc, files)?)
-}
-
-fn answer(
-    rt: &impl Abort,
-    alloc: Global,
-    case: &Case,
-    budget: u32,
-) -> Result<Result<Vec<Cost>, SearchFault>, Fail> {
-    let (graph, weights) = graph(rt, alloc, case)?;
-    assert!(rt; graph.has_node(case.from) && graph.has_node(case.to));
-    assert!(rt; 2 <= case.limit.len() && case.limit.len() <= 4);
-    assert!(rt; case.limit.len() == graph.criteria());
-    assert!(rt; budget <= MAX_BUDGET);
-    let query = Query {
-        from: NodeNo(case.from),
-        to: NodeNo(case.to),
-        limit: Limit::of_places(case.limit),
-        budget,
-    };
-    Ok(plain_search(alloc, &graph, &weights, &query))
-}
-
-#[test]
-fn finds_the_fronts_of_small_graphs(rt: HostRuntime) -> Result<(), Fail> {
-    for case in &CASES {
-        let costs = answer(&rt, rt.alloc(), case, case.relevant)??;
-        assert_eq!(rt; costs.len(), case.costs.len());
-        for (cost, numbers) in costs.iter().zip(case.costs) {
-            assert!(rt; 2 <= numbers.len() && numbers.len() <= 4);
-            assert_eq!(rt; *cost, Cost::of_numbers(numbers));
-        }
-        assert!(rt; 1 <= case.relevant);
-        let refused = answer(&rt, rt.alloc(), case, case.relevant - 1)?;
-        assert_eq!(rt; refused.err(), Some(SearchFault::Budget));
-    }
-    Ok(())
-}

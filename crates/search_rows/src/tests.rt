@@ -1,0 +1,3 @@
+mod cases;
+mod joining;
+mod searching;

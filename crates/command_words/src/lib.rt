@@ -21,8 +21,6 @@ use thiserror::Error;
 
 /// The budget of a query that gives none.
 pub const DEFAULT_BUDGET: u32 = 10_000_000;
-/// The greatest budget.
-pub const MAX_BUDGET: u32 = 50_000_000;
 /// The greatest number that may stand for a node.
 pub const MAX_NODE: u32 = u32::MAX;
 /// The fewest weight files, of which each is one criterion.

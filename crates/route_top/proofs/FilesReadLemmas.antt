@@ -1,10 +1,10 @@
 -- The named files that come one by one to the joiner, and the run that goes on over their network.
-use Rattle.std.proofs.Common.{◌≡◌, ◌≢◌, ℕ, ◌+◌, ◌<◌, ◌≤◌, List, [], ◌∷◌, ◌++◌, Option, false, take, drop, get_or, length, refl, sym, ap, subst, ◌∙◌, append_assoc}
+use Rattle.std.proofs.Common.{◌≡◌, ◌≢◌, ℕ, ◌+◌, ◌<◌, ◌≤◌, List, [], ◌∷◌, ◌++◌, Option, Some, None, IfSome, false, take, drop, get_or, length, map, refl, sym, ap, subst, ◌∙◌, append_assoc, arith}
 use Rattle.std.specs.Prelude.{◌==◌}
-use Rattle.std.specs.List.{AllZip}
-use Rattle.std.proofs.lemmas.List.{take_all, take_more, take-append-drop}
+use Rattle.std.specs.List.{All, AllZip}
+use Rattle.std.proofs.lemmas.List.{get_or-map, length-map, take_all, take_more, take-append-drop}
 use Rattle.std.proofs.lemmas.Slice.Zip.{all_zipped_more}
-use Rattle.route_io.specs.Files.{FileMap}
+use Rattle.route_io.specs.Files.{FileMap, Opens}
 use Rattle.route_io.specs.Sinks.{SinkState}
 use Rattle.route_io.specs.Sources.{SourceState, ReadsFrom}
 use Rattle.road_network.specs.Network.{Network}
@@ -14,12 +14,19 @@ use Rattle.arc_graph.specs.Agreement.{HasFault}
 use Rattle.arc_graph.specs.Files.{Contents}
 use Rattle.arc_graph.specs.Joining.{Joining}
 use Rattle.arc_graph.specs.StandsFor.{StandsFor}
-use Rattle.route_top.specs.FilesRead.{Says, FileStop, failed, faulty, starved, FilesStop, at_file, disagree, unjoined, FilesEnd, stops, goes_on, ReadAs}
+use Rattle.route_top.specs.FilesRead.{Tells, Says, FileStop, failed, faulty, starved, FilesStop, at_file, disagree, unjoined, FilesEnd, stops, goes_on, ReadAs}
 use Rattle.route_top.specs.Outcome.{Outcome, status_of}
 use Rattle.route_top.specs.Output.{Runs}
-use Rattle.route_top.specs.ReadResults.{StandsWith}
+use Rattle.route_top.specs.ReadResults.{TakesNamed}
 use Rattle.route_top.specs.Stops.{Replies, outcome_of, stop_of}
 use Rattle.route_top.proofs.RunsLemmas.{LeavesOut, nothing_sent, runs_then}
+
+-- what holds of the bytes of the file that was opened
+pub tells : (files : Option FileMap) (name : List ℕ) (left : Option (List ℕ)) (Holds : List ℕ → Type 0) → Opens files name left
+    → IfSome left Holds → Tells files name Holds
+tells None name left Holds opens holds = tt
+tells (Some file_of) name left Holds opens holds =
+    record { bytes = opens.0; found = opens.1; holds = rw opens.2 at holds }
 
 -- The joiner stands for the files of these names.
 pub record HasRead (files : Option FileMap) (names : List (List ℕ)) (joiner : Joining) : Type 0 where
@@ -27,28 +34,50 @@ pub record HasRead (files : Option FileMap) (names : List (List ℕ)) (joiner : 
   pub read : AllZip (Says files) names contents
   pub stands : StandsFor joiner contents
 
-module _ (files : Option FileMap) (names : List (List ℕ)) (i : ℕ) (name : List ℕ) (within : i < length names) (next : name ≡ get_or names i [])
-    (joiner : Joining) (has : HasRead files (take i names) joiner) where
-  one_name_more : take (i + 1) names ≡ take i names ++ name ∷ []
-  one_name_more = take_more names i [] within ∙ ap (λ n. take i names ++ n ∷ []) (sym next)
+module _ {N : Type 0} (text : N → List ℕ) (items : List N) (i : ℕ) (d : N) (within : i < length items) where
+  within_texts : i < length (map text items)
+  within_texts = omega (arith, length-map items text)
 
-  -- one file more was read
-  pub reads_more : (more : Joining) → StandsWith (Says files name) has.contents more → HasRead files (take (i + 1) names) more
-  reads_more more one = rw one_name_more (record {
-    contents = has.contents ++ one.contents ∷ [];
-    read = all_zipped_more (Says files) (take i names) has.contents name one.contents has.read one.told;
-    stands = one.stands;
-  })
+  next : get_or (map text items) i [] ≡ text (get_or items i d)
+  next = get_or-map text items i d [] within
 
-  place : names ≡ take i names ++ name ∷ drop (i + 1) names
-  place =
-      sym (take-append-drop (i + 1) names) ∙ ap (λ front. front ++ drop (i + 1) names) one_name_more
-      ∙ append_assoc (take i names) (name ∷ []) (drop (i + 1) names)
+  -- what holds of all names holds of the next one
+  pub next_of : (P : List ℕ → Type 0) → All P (map text items) → P (text (get_or items i d))
+  next_of P all = subst P next (all i [] within_texts)
 
-  -- this one couldn't be read
-  pub stopped_at : {outcome : Outcome} → FileStop files name outcome → FilesStop files names outcome
-  stopped_at stop =
-      at_file name (record { before = take i names; after = drop (i + 1) names; place = place; contents = has.contents; read = has.read }) stop
+  module _ (files told : Option FileMap) (same : told ≡ files) (joiner : Joining) (has : HasRead files (take i (map text items)) joiner) where
+    one_name_more : take (i + 1) (map text items) ≡ take i (map text items) ++ text (get_or items i d) ∷ []
+    one_name_more = take_more (map text items) i [] within_texts ∙ ap (λ name. take i (map text items) ++ name ∷ []) next
+
+    -- one file more was read
+    pub reads_more : (more : Joining) → TakesNamed told (text (get_or items i d)) joiner more → HasRead files (take (i + 1) (map text items)) more
+    reads_more more one =
+        let says = rw same at one.says in
+        rw one_name_more (record {
+          contents = has.contents ++ one.contents ∷ [];
+          read = all_zipped_more (Says files) (take i (map text items)) has.contents (text (get_or items i d)) one.contents has.read says;
+          stands = one.taken.stands has.contents has.stands;
+        })
+
+    place : map text items ≡ take i (map text items) ++ text (get_or items i d) ∷ drop (i + 1) (map text items)
+    place =
+        sym (take-append-drop (i + 1) (map text items)) ∙ ap (λ front. front ++ drop (i + 1) (map text items)) one_name_more
+        ∙ append_assoc (take i (map text items)) (text (get_or items i d) ∷ []) (drop (i + 1) (map text items))
+
+    -- the next one couldn't be read
+    pub stopped_at : {outcome : Outcome} → FileStop told (text (get_or items i d)) outcome → FilesStop files (map text items) outcome
+    stopped_at stop = at_file _ (record {
+      before = take i (map text items);
+      after = drop (i + 1) (map text items);
+      place = place;
+      contents = has.contents;
+      read = has.read;
+    }) (rw same at stop)
+
+-- all files were read
+pub has_all : {N : Type 0} (text : N → List ℕ) (items : List N) (i : ℕ) (files : Option FileMap) (joiner : Joining) → length items ≤ i
+    → HasRead files (take i (map text items)) joiner → HasRead files (map text items) joiner
+has_all text items i files joiner past has = rw (take_all i (map text items) (omega (arith, length-map items text))) at has
 
 -- all files were read, but the joining says no network
 pub not_joined : (files : Option FileMap) (names : List (List ℕ)) (joiner : Joining) (has : HasRead files names joiner) (fault : JoinFault)

@@ -10,8 +10,8 @@ use Rattle.route_io.proofs.ReadsLemmas.{ReadsFrom-then}
 use Rattle.route_top.specs.declared.reply.Reply.{Reply}
 use Rattle.route_top.specs.declared.reply.Reply.TheVariants.{Answer, Refusal}
 use Rattle.route_top.specs.declared.stop.Stop.TheVariants as stop
-use Rattle.route_top.specs.Outcome.{Outcome, done, refused, status_of, out_has_wanted}
-use Rattle.route_top.specs.Output.{Runs, EndsOrCut, uncut, failed, wanted, IsCut}
+use Rattle.route_top.specs.Outcome.{Outcome, done, refused, no_memory, status_of, out_has_wanted}
+use Rattle.route_top.specs.Output.{TookNote, Runs, EndsOrCut, uncut, failed, wanted, IsCut}
 use Rattle.route_top.specs.Stops.{IsReply, Replies, outcome_of, reply_outcome}
 
 -- nothing was sent
@@ -109,3 +109,11 @@ pub replies_so : (Whole : Outcome → List ℕ → Type 0) (end : Outcome) (repl
     → Replies (IsReply end reply) out replied outcome → Replies Whole out replied outcome
 replies_so Whole end reply out replied outcome whole sends = λ folder.
     runs_then (IsReply end reply) Whole (λ o text is. rw (is.0, is.1) whole) folder folder folder out replied outcome (stays folder) (sends folder)
+
+-- memory runs out before a reply is sent
+pub starves : (Whole : Outcome → List ℕ → Type 0) (out : SinkState) → Whole no_memory [] → Replies Whole out out no_memory
+starves Whole out whole = λ folder. nothing_sent Whole no_memory folder folder out (record { no_fault = refl; no_want = refl }) whole (stays folder)
+
+-- a sink that isn't called takes an empty note
+pub takes_nothing : (err : SinkState) → TookNote err err []
+takes_nothing err = (Ok tt, record { bytes = appends_nothing err.sent; cause = record { faults = refl; wants = refl } })

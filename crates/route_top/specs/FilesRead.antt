@@ -24,29 +24,30 @@ max_file = 2 ^ 29
 abbrev pub weight_limits : FileLimits
 weight_limits = record { line = max_line; file = max_file }
 
--- there is a file of this name, and it says this
-pub record IsFile (file_of : FileMap) (name : List ℕ) (contents : Contents) : Type 0 where
+-- there is a file of this name, and this holds of its bytes
+pub record HasFile (file_of : FileMap) (name : List ℕ) (Holds : List ℕ → Type 0) : Type 0 where
   pub bytes : List ℕ
   pub found : file_of name ≡ Some bytes
-  pub read : IsGr weight_limits bytes contents.nodes contents.arcs
+  pub holds : Holds bytes
+
+-- the same, where the folder tells its files
+abbrev pub Tells : Option FileMap → List ℕ → (List ℕ → Type 0) → Type 0
+Tells files name Holds = IfSome files (λ file_of. HasFile file_of name Holds)
 
 -- the file of this name says this
 abbrev pub Says : Option FileMap → List ℕ → Contents → Type 0
-Says files name contents = IfSome files (λ file_of. IsFile file_of name contents)
+Says files name contents = Tells files name (λ bytes. IsGr weight_limits bytes contents.nodes contents.arcs)
 
--- there is a file of this name, and this is its first fault
-pub record HasLineFault (file_of : FileMap) (name : List ℕ) (line : ℕ) (kind : LineKind) : Type 0 where
-  pub bytes : List ℕ
-  pub found : file_of name ≡ Some bytes
-  pub faulty : GrFault weight_limits bytes kind line
+-- the first fault of the file of this name
+abbrev pub HasFirstFault : Option FileMap → List ℕ → ℕ → LineKind → Type 0
+HasFirstFault files name line kind = Tells files name (λ bytes. GrFault weight_limits bytes kind line)
 
 -- how the reading of the file of this name ends a run
 pub data FileStop (files : Option FileMap) (name : List ℕ) : Outcome → Type 0 where
   -- the folder failed
   failed : FileStop files name (folder_failed name)
   -- the file isn't as its format says
-  faulty : {line : ℕ} {kind : LineKind} → IfSome files (λ file_of. HasLineFault file_of name line kind)
-      → FileStop files name (bad_file name line kind)
+  faulty : {line : ℕ} {kind : LineKind} → HasFirstFault files name line kind → FileStop files name (bad_file name line kind)
   -- memory ran out
   starved : FileStop files name no_memory
 

@@ -1,18 +1,17 @@
 //! Reads the named files and joins them.
-ghost use Rattle.std.specs.Prelude.{◌≡◌, ◌≤◌, ◌<◌, ◌+◌, ◌==◌, List, length, IfOk, OnOk, All, map};
-ghost use Rattle.arc_graph.specs.Files.{Contents};
+ghost use Rattle.std.specs.Prelude.{◌≤◌, ◌==◌, length, IfOk, All, map};
 ghost use Rattle.arc_graph.specs.Graph.{Match};
-ghost use Rattle.arc_graph.specs.StandsFor.{StandsFor};
 ghost use Rattle.command_words.specs.Ranges.{max_files, min_files};
+ghost use Rattle.gr_reader.specs.Sinks.{JoinerIsReady};
 ghost use Rattle.route_io.specs.Sources.{ReadsFrom};
 ghost use Rattle.route_top.specs.Outcome.{status_of};
-ghost use Rattle.route_top.specs.ReadResults.{FileAdded, FileRead, NetworkRead};
+ghost use Rattle.route_top.specs.ReadResults.{FileRead, NetworkRead};
 ghost use Rattle.route_top.specs.Stops.{run_outcome};
 
 use crate::MAX_FILE;
 use crate::stop::Stop;
 use arc_graph::{Graph, Joiner, Weights};
-use gr_reader::{FileFault, FileLimits, GrLines};
+use gr_reader::{FileFault, FileLimits, read_into};
 use line_text::MAX_LINE;
 use route_io::Folder;
 use std::alloc::Global;
@@ -52,19 +51,15 @@ fn read_file<'a, F: Folder>(
     joiner: &mut Joiner,
 ) -> Result<(), Stop<'a>>
     requires admitted { F.admits name.now }
-    requires fewer_than_four { joiner.old.begun < max_files }
-    requires whole { joiner.old.come ≡ joiner.old.due_arcs }
-    ensures begun { OnOk result (joiner.new.begun ≡ joiner.old.begun + 1) }
-    ensures whole { OnOk result (joiner.new.come ≡ joiner.new.due_arcs) }
-    ensures read { (before : List Contents) → StandsFor joiner.old before
-        → FileRead (F.state folder.old).files name.now before joiner.new result }
+    requires ready { JoinerIsReady joiner.old }
+    ensures read { FileRead (F.state folder.old).files name.now joiner.old joiner.new result }
     ensures folder { ReadsFrom (F.state folder.old) (F.state folder.new)
         (status_of (run_outcome result) == 3) }
 {
-    if folder.select(name).is_err() {
+    let Ok(()) = folder.select(name) else {
         return Err(Stop::Folder { name });
-    }
-    match add_file(alloc, folder, joiner) {
+    };
+    match read_into(alloc, folder, LIMITS, joiner) {
         Ok(()) => Ok(()),
         Err(FileFault::Line { kind, line }) => Err(Stop::File { name, line, kind }),
         Err(FileFault::Read) => Err(Stop::Folder { name }),

@@ -1,3 +1,4 @@
 mod costs;
 mod lines;
 mod outside;
+mod weight_files;

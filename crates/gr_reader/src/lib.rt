@@ -15,6 +15,3 @@ pub use arc_sink::ArcSink;
 pub use fault::{FileFault, FileLimits, LineKind};
 pub use gr_lines::GrLines;
 pub use read::{read_gr, read_into};
-
-#[cfg(test)]
-mod tests;

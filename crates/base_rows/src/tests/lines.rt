@@ -10,7 +10,7 @@ use std::alloc::{AllocError, Global};
 use std::test::Fail;
 
 /// A source that gives a text in pieces of this length, and fails at the reads of these numbers.
-fn pieces(
+pub(super) fn pieces(
     alloc: Global,
     text: &[u8],
     length: usize,

@@ -1,4 +1,3 @@
-use Rattle.std.proofs.Common.{rules}
 use Rattle.std.proofs.lemmas.Result.{err_from_is_err_and}
 use Rattle.route_io.proofs.ReadsLemmas.{ReadsFrom-then}
 use Rattle.gr_reader.proofs.HasComeLemmas.{begins_badly, has_come-none, has_come-more, has_come-whole, has_come-badly}

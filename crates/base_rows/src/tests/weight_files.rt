@@ -1,51 +1,9 @@
-ghost use Rattle.std.specs.Prelude.{None};
-
-use crate::{FileFault, FileLimits, GrLines, read_gr};
-use arc_graph::ArcFile;
-use route_io::{Failed, Source};
+use super::lines::pieces;
+use arc_graph::{ArcFile, Joiner};
+use gr_reader::{FileFault, FileLimits, GrLines, read_gr, read_into};
+use route_io::Source;
 use std::alloc::{AllocError, Global};
 use std::test::Fail;
-
-/// Gives a text in pieces of one length, and fails where so many bytes are left.
-#[derive(Drop)]
-struct Pieces<'a> {
-    text: &'a [u8],
-    length: usize,
-    fails_at: usize,
-    faults: u64,
-}
-
-impl<'a> Pieces<'a> {
-    fn new(text: &'a [u8], length: usize) -> Pieces<'a> {
-        Pieces {
-            text,
-            length,
-            fails_at: usize::MAX,
-            faults: 0,
-        }
-    }
-}
-
-impl Source for Pieces<'_> {
-    ghost left = { λ _. None };
-
-    ghost faults = { λ pieces. pieces.faults };
-
-    ghost files = { λ _. None };
-
-    fn read(&mut self, buf: &mut [u8]) -> Result<usize, Failed> {
-        if self.text.len() == self.fails_at {
-            self.faults = self.faults.saturating_add(1);
-            self.fails_at = usize::MAX;
-            return Err(Failed);
-        }
-        let count = self.length.min(buf.len()).min(self.text.len());
-        let (front, rest) = self.text.split_at(count);
-        buf[..count].copy_from_slice(front);
-        self.text = rest;
-        Ok(count)
-    }
-}
 
 /// The nodes and the arcs of a file, or its fault: the kind's number and the line, `r` or `m`.
 fn shown(alloc: Global, answer: Result<ArcFile, FileFault>) -> Result<String, AllocError> {
@@ -116,7 +74,8 @@ fn forms_and_faults(rt: HostRuntime) -> Result<(), Fail> {
     ];
     for (text, wanted) in cases {
         for length in [1, 1000] {
-            let got = shown(alloc, read_gr(alloc, &mut Pieces::new(text, length), WIDE))?;
+            let mut source = pieces(alloc, text, length, Vec::new(alloc))?;
+            let got = shown(alloc, read_gr(alloc, &mut source, WIDE))?;
             assert_eq!(rt; got.as_str(), wanted);
         }
     }
@@ -141,10 +100,8 @@ fn limits_come_before_forms(rt: HostRuntime) -> Result<(), Fail> {
                 line: 8,
                 file: u64::from(file),
             };
-            let got = shown(
-                alloc,
-                read_gr(alloc, &mut Pieces::new(text, length), limits),
-            )?;
+            let mut source = pieces(alloc, text, length, Vec::new(alloc))?;
+            let got = shown(alloc, read_gr(alloc, &mut source, limits))?;
             assert_eq!(rt; got.as_str(), wanted);
         }
     }
@@ -174,7 +131,7 @@ fn cut_files(rt: HostRuntime) -> Result<(), Fail> {
     let text = b"p sp 4 6\na 1 2 1\na 1 3 2\na 2 4 1\na 3 4 2\na 2 3 1\na 1 4 9\n";
     for length in 0..=57 {
         for piece in [1, 1000] {
-            let mut source = Pieces::new(&text[..length], piece);
+            let mut source = pieces(alloc, &text[..length], piece, Vec::new(alloc))?;
             let got = shown(alloc, read_gr(alloc, &mut source, WIDE))?;
             if length >= 56 {
                 assert_eq!(rt; got.as_str(), "4: 1>2 1 1>3 2 2>4 1 3>4 2 2>3 1 1>4 9");
@@ -189,16 +146,28 @@ fn cut_files(rt: HostRuntime) -> Result<(), Fail> {
 }
 
 #[test]
-fn an_end_is_answered_again(rt: HostRuntime) -> Result<(), Fail> {
+fn a_failed_read_of_an_arc_is_kept(rt: HostRuntime) -> Result<(), Fail> {
     let alloc = rt.alloc();
-    let mut source = Pieces::new(b"p sp 2 1\na 1 2 5\n", 1);
-    source.fails_at = 3;
-    let Ok(mut lines) = GrLines::new(alloc, WIDE) else {
-        return Err(Fail::from(AllocError));
-    };
+    let mut source = pieces(alloc, b"p sp 2 1\na 1 2 5\n", 1, vec![in alloc; 14]?)?;
+    let mut lines = GrLines::new(alloc, WIDE)?;
     assert!(rt; lines.begin(&mut source) == Ok((2, 1)));
     assert!(rt; lines.next_arc(&mut source) == Err(FileFault::Read));
     assert!(rt; lines.next_arc(&mut source) == Err(FileFault::Read));
-    assert_eq!(rt; source.text.len(), 3);
+    let mut next = [0; 8];
+    assert_eq!(rt; source.read(&mut next), Ok(1));
+    assert_eq!(rt; next[0], b' ');
+    Ok(())
+}
+
+#[test]
+fn files_come_to_a_joiner(rt: HostRuntime) -> Result<(), Fail> {
+    let alloc = rt.alloc();
+    let mut first = pieces(alloc, b"p sp 2 1\na 1 2 5\n", 1, Vec::new(alloc))?;
+    let mut second = pieces(alloc, b"c\np sp 2 1\na 1 2 7\n", 100, Vec::new(alloc))?;
+    let mut joiner = Joiner::new(alloc);
+    read_into(alloc, &mut first, WIDE, &mut joiner)?;
+    read_into(alloc, &mut second, WIDE, &mut joiner)?;
+    let (graph, _) = joiner.finish()?;
+    assert_eq!(rt; (graph.nodes(), graph.arcs(), graph.criteria()), (2, 1, 2));
     Ok(())
 }

@@ -7,6 +7,7 @@ use Rattle.command_words.specs.Apps.{app_for, word_of}
 use Rattle.line_text.specs.Numerals.{numeral_of}
 use Rattle.command_words.specs.declared.Command.{Command}
 use Rattle.command_words.specs.declared.Command.TheVariants as command
+use Rattle.command_words.specs.declared.CheckWords.{CheckWords}
 use Rattle.command_words.specs.declared.CostsWords.{CostsWords}
 use Rattle.command_words.specs.declared.Query.{Query}
 use Rattle.command_words.specs.declared.apps.Name.{Name}
@@ -129,7 +130,11 @@ query_asked q = record { from = q.from; to = q.to; budget = q.budget }
 abbrev pub costs_asked : CostsWords → CostsAsked
 costs_asked c = record { query = query_asked c.query; files = map (λ s. s.now) c.files.items }
 
+-- the words of `check`, as the names of the files that they ask for
+abbrev pub check_asked : CheckWords → List Text
+check_asked c = map (λ s. s.now) c.files.items
+
 -- a command, as what it asks for
 abbrev pub asked_of : Command → Asked
 asked_of (command.Costs c) = costs (costs_asked c)
-asked_of (command.Check c) = check (map (λ s. s.now) c.files.items)
+asked_of (command.Check c) = check (check_asked c)

@@ -1,5 +1,6 @@
 -- The named files that come one by one to the joiner, and the run that goes on over their network.
-use Rattle.std.proofs.Common.{◌≡◌, ◌≢◌, ℕ, ◌+◌, ◌<◌, ◌≤◌, List, [], ◌∷◌, ◌++◌, Option, Some, None, IfSome, false, take, drop, get_or, length, map, refl, sym, ap, subst, ◌∙◌, append_assoc, arith}
+use Rattle.std.proofs.Common.{false, refl, sym, ap, subst, ◌∙◌, append_assoc, arith}
+use Rattle.std.proofs.Common.{◌≡◌, ◌≢◌, ℕ, ◌+◌, ◌<◌, ◌≤◌, List, [], ◌∷◌, ◌++◌, Option, Some, None, IfSome, take, drop, get_or, length, map}
 use Rattle.std.specs.Prelude.{◌==◌}
 use Rattle.std.specs.List.{All, AllZip}
 use Rattle.std.proofs.lemmas.List.{get_or-map, length-map, take_all, take_more, take-append-drop}
@@ -14,7 +15,9 @@ use Rattle.arc_graph.specs.Agreement.{HasFault}
 use Rattle.arc_graph.specs.Files.{Contents}
 use Rattle.arc_graph.specs.Joining.{Joining}
 use Rattle.arc_graph.specs.StandsFor.{StandsFor}
-use Rattle.route_top.specs.FilesRead.{Tells, Says, FileStop, failed, faulty, starved, FilesStop, at_file, disagree, unjoined, FilesEnd, stops, goes_on, ReadAs}
+use Rattle.gr_reader.specs.Reader.{TakesFile}
+use Rattle.gr_reader.specs.Sinks.{JoinerHasTaken}
+use Rattle.route_top.specs.FilesRead.{weight_limits, Tells, Says, FileStop, failed, faulty, starved, FilesStop, at_file, disagree, unjoined, FilesEnd, stops, goes_on, ReadAs}
 use Rattle.route_top.specs.Outcome.{Outcome, status_of}
 use Rattle.route_top.specs.Output.{Runs}
 use Rattle.route_top.specs.ReadResults.{TakesNamed}
@@ -27,6 +30,12 @@ pub tells : (files : Option FileMap) (name : List ℕ) (left : Option (List ℕ)
 tells None name left Holds opens holds = tt
 tells (Some file_of) name left Holds opens holds =
     record { bytes = opens.0; found = opens.1; holds = rw opens.2 at holds }
+
+-- the joiner has taken the file that was opened
+pub takes_named : (files : Option FileMap) (name : List ℕ) (left : Option (List ℕ)) (before now : Joining) → Opens files name left
+    → TakesFile weight_limits left (JoinerHasTaken before now) → TakesNamed files name before now
+takes_named files name left before now opens takes =
+    record { contents = takes.file; says = tells files name left _ opens takes.is_gr; taken = takes.taken }
 
 -- The joiner stands for the files of these names.
 pub record HasRead (files : Option FileMap) (names : List (List ℕ)) (joiner : Joining) : Type 0 where

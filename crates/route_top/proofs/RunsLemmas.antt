@@ -1,10 +1,10 @@
 -- What a run did, by what its calls did.
-use Rattle.std.proofs.Common.{◌≡◌, ℕ, ◌<◌, List, [], Bool, false, Ok, Err, length, take, refl, sym, subst, append-nil, Option, Some, None}
+use Rattle.std.proofs.Common.{◌≡◌, ℕ, ◌<◌, List, [], false, Ok, Err, length, take, refl, sym, append-nil, Option, Some, None}
 use Rattle.std.specs.Prelude.{◌==◌}
 use Rattle.std.specs.Io.KnownBytes.{Appends}
 use Rattle.route_io.specs.declared.fault.WriteFault.{WriteFault}
 use Rattle.route_io.specs.declared.fault.WriteFault.TheVariants as write
-use Rattle.route_io.specs.Sinks.{SinkState, Sends, WritesTo}
+use Rattle.route_io.specs.Sinks.{SinkState, Sends}
 use Rattle.route_io.specs.Sources.{SourceState, ReadsFrom}
 use Rattle.route_io.proofs.ReadsLemmas.{ReadsFrom-then}
 use Rattle.route_top.specs.declared.reply.Reply.{Reply}
@@ -54,7 +54,8 @@ module _ (end : Outcome) (reply : List ℕ) (out replied : SinkState) where
   part_of n short = record { uncut = end; whole = reply; ends = (refl, refl); size = n; short = short; part = refl }
 
   -- the sink failed or wanted memory, and took a part of it
-  pub sent_part : (fault : WriteFault) → Sends {T = Unit {0}} out replied reply (Err fault) → Replies (IsReply end reply) out replied (outcome_of (stop.Out fault))
+  pub sent_part : (fault : WriteFault) → Sends {T = Unit {0}} out replied reply (Err fault)
+      → Replies (IsReply end reply) out replied (outcome_of (stop.Out fault))
   sent_part write.Failed sends = λ folder. record {
     text = take sends.bytes.0 reply;
     took = sends.bytes.2;

@@ -33,6 +33,7 @@ module _ {X : Type 0} (text : X → List ℕ) (items : List X) (i : ℕ) (d item
   cut_at fault part =
       let rest = flat_map text (drop (i + 1) items) in
       let whole : (flat_map text (take i items) ++ text item) ++ rest ≡ flat_map text items =
-      ap (λ l. l ++ rest) one_more ∙ sym (flat_map-append text (take (i + 1) items) (drop (i + 1) items)) ∙ ap (flat_map text) (take-append-drop (i + 1) items) in
+      ap (λ l. l ++ rest) one_more ∙ sym (flat_map-append text (take (i + 1) items) (drop (i + 1) items))
+      ∙ ap (flat_map text) (take-append-drop (i + 1) items) in
       subst (λ l. Sends {T = Unit {0}} old new l (Err fault)) whole
       (Sends-cut old new _ rest fault (Sends-then old mid new _ (text item) (Err fault) sent part))

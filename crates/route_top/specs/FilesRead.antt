@@ -1,5 +1,5 @@
--- What a run does with its weight files: it reads each in order, joins them, and goes on over the network that they say.
--- What is said of a file's bytes holds where the folder tells its files.
+-- What a run does with its weight files: it reads each in order, joins them, and goes on over the network that they
+-- say. What is said of a file's bytes holds where the folder tells its files.
 use Rattle.std.specs.Prelude.{◌≡◌, ℕ, ◌^◌, List, [], ◌∷◌, ◌++◌, Option, Some, IfSome}
 use Rattle.std.specs.List.{AllZip}
 use Rattle.route_io.specs.Files.{FileMap}
@@ -47,7 +47,8 @@ pub data FileStop (files : Option FileMap) (name : List ℕ) : Outcome → Type 
   -- the folder failed
   failed : FileStop files name (folder_failed name)
   -- the file isn't as its format says
-  faulty : {line : ℕ} {kind : LineKind} → HasFirstFault files name line kind → FileStop files name (bad_file name line kind)
+  faulty : {line : ℕ} {kind : LineKind} → HasFirstFault files name line kind
+      → FileStop files name (bad_file name line kind)
   -- memory ran out
   starved : FileStop files name no_memory
 

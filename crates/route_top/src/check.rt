@@ -1,6 +1,6 @@
 //! The command `check`.
-ghost use Rattle.std.specs.Prelude.{◌≡◌, [], length, map, OnOk, All};
-ghost use Rattle.command_words.specs.Words.{FilesInRange, check, names_of};
+ghost use Rattle.std.specs.Prelude.{◌≡◌, [], length, OnOk, All};
+ghost use Rattle.command_words.specs.Words.{FilesInRange, check, check_asked, names_of};
 ghost use Rattle.route_top.specs.Check.{TellsSizes};
 ghost use Rattle.route_top.specs.Output.{Ends, Runs};
 ghost use Rattle.route_top.specs.Stops.{Replies, run_outcome};
@@ -23,9 +23,9 @@ pub(crate) fn run<'a, F: Folder, K: Sink>(
     folder: &mut F,
     out: &mut K,
 ) -> Result<(), Stop<'a>>
-    requires admitted { All F.admits (map (λ s. s.now) asked.now.files.items) }
-    requires files { FilesInRange (check (map (λ s. s.now) asked.now.files.items)) }
-    ensures { Runs (Ends (F.state folder.old).files (check (map (λ s. s.now) asked.now.files.items)))
+    requires admitted { All F.admits (names_of (check (check_asked asked.now))) }
+    requires files { FilesInRange (check (check_asked asked.now)) }
+    ensures { Runs (Ends (F.state folder.old).files (check (check_asked asked.now)))
         (F.state folder.old) (F.state folder.new) (K.state out.old) (K.state out.new)
         (run_outcome result) }
 {

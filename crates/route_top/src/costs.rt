@@ -39,8 +39,8 @@ pub(crate) fn run<'a, F: Folder, K: Sink>(
     reply(alloc, &graph, &weights, &asked.query, out)
 }
 
-/// Replies to a query over a network. The reply is made in memory first, so that only a fault or a want of memory of `out`
-/// cuts it.
+/// Replies to a query over a network. The reply is made in memory first, so that only a fault or a want of memory of
+/// `out` cuts it.
 fn reply<'a, K: Sink>(
     alloc: Global,
     graph: &Graph,

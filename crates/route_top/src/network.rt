@@ -32,7 +32,8 @@ pub(crate) fn read_network<'a, F: Folder>(
     requires two { min_files ≤ length names.now }
     requires four { length names.now ≤ max_files }
     ensures matched { IfOk result (λ r. Match r.0 r.1) }
-    ensures read { NetworkRead (F.state folder.old).files (map (λ name. name.now) names.now) result }
+    ensures read { NetworkRead (F.state folder.old).files
+        (map (λ name. name.now) names.now) result }
     ensures folder { ReadsFrom (F.state folder.old) (F.state folder.new)
         (status_of (run_outcome result) == 3) }
 {

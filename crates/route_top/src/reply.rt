@@ -37,11 +37,7 @@ impl Reply {
 }
 
 /// Sends a reply that was made in memory.
-pub(crate) fn send<'a, K: Sink>(
-    out: &mut K,
-    text: &SureSink,
-    reply: Reply,
-) -> Result<(), Stop<'a>>
+pub(crate) fn send<'a, K: Sink>(out: &mut K, text: &SureSink, reply: Reply) -> Result<(), Stop<'a>>
     ensures { Replies (IsReply (reply_outcome reply) text.now.sent)
         (K.state out.old) (K.state out.new) (run_outcome result) }
 {
@@ -109,7 +105,10 @@ fn put_lines<K: Sink>(sink: &mut K, costs: &[Cost]) -> Result<(), WriteFault>
 fn put_cost<K: Sink>(sink: &mut K, cost: &Cost) -> Result<(), WriteFault>
     ensures { Sends (K.state sink.old) (K.state sink.new) (cost_line cost.now) result }
 {
-    put_pieces(sink, &[Piece::Text("v"), Piece::Cost(cost), Piece::Text("\n")])
+    put_pieces(
+        sink,
+        &[Piece::Text("v"), Piece::Cost(cost), Piece::Text("\n")],
+    )
 }
 
 /// Sends the line that refuses a query at epoch 0.

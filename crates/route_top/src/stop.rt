@@ -1,7 +1,7 @@
 //! Why a run isn't done, with its exit status and its note.
 ghost use Rattle.std.specs.Prelude.{◌≡◌};
 ghost use Rattle.route_io.specs.Sinks.{Sends};
-ghost use Rattle.route_top.specs.Outcome.{bad_files, note_of, status_of};
+ghost use Rattle.route_top.specs.Outcome.{bad_file, bad_files, note_of, status_of};
 
 use crate::pieces::{Piece, put_line};
 use crate::status::{
@@ -69,26 +69,18 @@ impl Stop<'_> {
         ensures { Sends (E.state err.old) (E.state err.new)
             (note_of (outcome_of self.now)) result }
     {
-        use Piece::{Number, Text};
+        use Piece::Text;
         match self {
             Stop::Words => put_all(err, b"route: words\n"),
             Stop::Folder { name } => {
-                put_line(alloc, err, &[Text("route: folder "), Text(name), Text("\n")])
+                put_line(
+                    alloc,
+                    err,
+                    &[Text("route: folder "), Text(name), Text("\n")],
+                )
             }
             Stop::Out(WriteFault::Failed) => put_all(err, b"route: out\n"),
-            Stop::File { name, line, kind } => put_line(
-                alloc,
-                err,
-                &[
-                    Text("route: file "),
-                    Text(name),
-                    Text(" line"),
-                    Number(*line),
-                    Text(" kind"),
-                    Number(u64::from(kind.number())),
-                    Text("\n"),
-                ],
-            ),
+            Stop::File { name, line, kind } => note_line(alloc, err, name, *line, *kind),
             Stop::Files(way) => note_disagreement(alloc, err, *way),
             Stop::Refused => Ok(()),
             Stop::Out(WriteFault::OutOfMemory) | Stop::OutOfMemory => {
@@ -96,6 +88,33 @@ impl Stop<'_> {
             }
         }
     }
+}
+
+/// Sends the note on a faulty line.
+fn note_line<E: Sink>(
+    alloc: Global,
+    err: &mut E,
+    name: &str,
+    line: u64,
+    kind: LineKind,
+) -> Result<(), WriteFault>
+    ensures { Sends (E.state err.old) (E.state err.new)
+        (note_of (bad_file name.now line kind)) result }
+{
+    use Piece::{Number, Text};
+    put_line(
+        alloc,
+        err,
+        &[
+            Text("route: file "),
+            Text(name),
+            Text(" line"),
+            Number(line),
+            Text(" kind"),
+            Number(u64::from(kind.number())),
+            Text("\n"),
+        ],
+    )
 }
 
 /// Sends the note on files that don't agree.

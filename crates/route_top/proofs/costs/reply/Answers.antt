@@ -3,7 +3,6 @@ use Rattle.std.proofs.lemmas.Result.{err_from_is_err_and}
 use Rattle.arc_graph.specs.Graph.{network}
 use Rattle.command_words.specs.Words.{query_asked}
 use Rattle.route_top.specs.Costs.{CostsReplies}
-use Rattle.route_top.specs.Stops.{reply_outcome}
 use Rattle.route_top.proofs.RunsLemmas.{replies_so, starves}
 use Rattle.route_top.proofs.costs.reply.Goals as goal
 

@@ -1,5 +1,5 @@
 use Rattle.route_top.specs.FilesRead.{failed, faulty, starved}
-use Rattle.route_top.proofs.FilesReadLemmas.{tells}
+use Rattle.route_top.proofs.FilesReadLemmas.{takes_named, tells}
 use Rattle.route_top.proofs.network.read_file.Goals as goal
 
 pub returns-in_default-clause-read : goal.returns-in_default-clause-read
@@ -7,15 +7,12 @@ returns-in_default-clause-read g c = failed
 
 pub returns-in-Ok-read_into-clause-read : goal.returns-in-Ok-read_into-clause-read
 returns-in-Ok-read_into-clause-read g c =
-    let opened = rw c.in-Ok.is at c.select.ensures.opened in
-    let takes = rw c.in-Ok-read_into.is at c.read_into.ensures.reads in
-    record { contents = takes.file; says = tells _ _ _ _ opened takes.is_gr; taken = takes.taken }
+    takes_named _ _ _ c.args.joiner.now _ (rw c.in-Ok.is at c.select.ensures.opened) (rw c.in-Ok-read_into.is at c.read_into.ensures.reads)
 
 pub returns-in-Err-Line-clause-read : goal.returns-in-Err-Line-clause-read
 returns-in-Err-Line-clause-read g c =
-    let opened = rw c.in-Ok.is at c.select.ensures.opened in
     let first = rw (c.in-Err-Line.is, c.in-Err-Line.field-0-is) at c.read_into.ensures.reads in
-    faulty (tells _ _ _ _ opened first)
+    faulty (tells _ _ _ _ (rw c.in-Ok.is at c.select.ensures.opened) first)
 
 pub returns-in-Err-Read-clause-read : goal.returns-in-Err-Read-clause-read
 returns-in-Err-Read-clause-read g c = failed

@@ -16,15 +16,13 @@ returns-in_err-read_file-clause-read g c =
     c.loop-name.invariant.read c.in_err-read_file.ensures.read)
 
 pub loop-name-preserved : goal.loop-name-preserved
-loop-name-preserved g c =
-    let one = c.in_ok-read_file.ensures.read in
-    record {
-      begun = omega (arith, one.taken.begun);
-      whole = one.taken.come ∙ sym one.taken.due;
-      folder = ReadsFrom-then _ _ _ _ c.loop-name.invariant.folder c.in_ok-read_file.ensures.folder;
-      read = reads_more _ c.args.names.now c.loop-name.name-index _ c.loop-name-test.true _ _ c.loop-name.invariant.folder.files c.loop-name.joiner
-          c.loop-name.invariant.read c.read_file.new.joiner one;
-    }
+loop-name-preserved g c = record {
+  begun = omega (arith, c.in_ok-read_file.ensures.read.taken.begun);
+  whole = c.in_ok-read_file.ensures.read.taken.come ∙ sym c.in_ok-read_file.ensures.read.taken.due;
+  folder = ReadsFrom-then _ _ _ _ c.loop-name.invariant.folder c.in_ok-read_file.ensures.folder;
+  read = reads_more _ c.args.names.now c.loop-name.name-index _ c.loop-name-test.true _ _ c.loop-name.invariant.folder.files c.loop-name.joiner
+      c.loop-name.invariant.read c.read_file.new.joiner c.in_ok-read_file.ensures.read;
+}
 
 pub returns-in_err-finish-clause-read : goal.returns-in_err-finish-clause-read
 returns-in_err-finish-clause-read g c =

@@ -12,8 +12,8 @@ loop-piece-preserved g c =
 pub returns-in_err-put_piece : goal.returns-in_err-put_piece
 returns-in_err-put_piece g c =
     let p = err_from_is_err_and c.from_residual.result c.from_residual.ensures.1 in
-    rw (p.1, p.2) (cut_at text_of c.args.pieces.now c.loop-piece.piece-index c.piece-item.result c.piece-item.result c.loop-piece-test.true c.piece-item.is _ _ _
-    c.loop-piece.invariant _ c.in_err-put_piece.ensures)
+    rw (p.1, p.2) (cut_at text_of c.args.pieces.now c.loop-piece.piece-index c.piece-item.result c.piece-item.result c.loop-piece-test.true
+    c.piece-item.is _ _ _ c.loop-piece.invariant _ c.in_err-put_piece.ensures)
 
 pub returns : goal.returns
 returns g c = all_sent text_of c.args.pieces.now c.loop-piece.piece-index _ _ (omega arith) c.loop-piece.invariant

@@ -1,5 +1,4 @@
-use Rattle.std.proofs.Common.{subst, sym}
-use Rattle.route_top.specs.Stops.{IsReply, Replies, reply_outcome}
+use Rattle.route_top.specs.Stops.{reply_outcome}
 use Rattle.route_top.proofs.RunsLemmas.{sent_reply, sent_part}
 use Rattle.route_top.proofs.reply.send.Goals as goal
 

@@ -9,8 +9,6 @@ ghost use Rattle.command_words.specs.Words.{asked_of, texts_of};
 
 mod apps;
 mod numbers;
-#[cfg(test)]
-mod tests;
 mod values;
 
 use apps::Name;

@@ -29,9 +29,9 @@ pub record LeavesOut (outcome : Outcome) : Type 0 where
   pub no_want : out_has_wanted outcome ≡ false
 
 -- a run ends so with nothing sent
-pub nothing_sent : (Whole : Outcome → List ℕ → Type 0) (outcome : Outcome) (folder after : SourceState) (out : SinkState) → LeavesOut outcome
-    → Whole outcome [] → ReadsFrom folder after (status_of outcome == 3) → Runs Whole folder after out out outcome
-nothing_sent Whole outcome folder after out leaves whole reads = record {
+pub nothing_sent : (Ending : Outcome → List ℕ → Type 0) (outcome : Outcome) (folder after : SourceState) (out : SinkState) → LeavesOut outcome
+    → Ending outcome [] → ReadsFrom folder after (status_of outcome == 3) → Runs Ending folder after out out outcome
+nothing_sent Ending outcome folder after out leaves whole reads = record {
   text = [];
   took = appends_nothing out.sent;
   ends = uncut whole;
@@ -51,7 +51,7 @@ module _ (end : Outcome) (reply : List ℕ) (out replied : SinkState) where
 
   -- a part of a reply
   part_of : (n : ℕ) → n < length reply → IsCut (IsReply end reply) (take n reply)
-  part_of n short = record { uncut = end; whole = reply; ends = (refl, refl); size = n; short = short; part = refl }
+  part_of n short = record { outcome = end; whole = reply; ends = (refl, refl); size = n; short = short; part = refl }
 
   -- the sink failed or wanted memory, and took a part of it
   pub sent_part : (fault : WriteFault) → Sends {T = Unit {0}} out replied reply (Err fault)
@@ -78,25 +78,25 @@ sent_reply Answer reply out replied sends = sent_whole done reply out replied (r
 sent_reply Refusal reply out replied sends = sent_whole refused reply out replied (record { no_fault = refl; no_want = refl }) refl sends
 
 -- what ends a run of one kind ends a run of another
-module _ (Whole Other : Outcome → List ℕ → Type 0) (each : (outcome : Outcome) (text : List ℕ) → Whole outcome text → Other outcome text) where
-  cut_as : (text : List ℕ) → IsCut Whole text → IsCut Other text
+module _ (Ending Other : Outcome → List ℕ → Type 0) (each : (outcome : Outcome) (text : List ℕ) → Ending outcome text → Other outcome text) where
+  cut_as : (text : List ℕ) → IsCut Ending text → IsCut Other text
   cut_as text cut = record {
-    uncut = cut.uncut;
+    outcome = cut.outcome;
     whole = cut.whole;
-    ends = each cut.uncut cut.whole cut.ends;
+    ends = each cut.outcome cut.whole cut.ends;
     size = cut.size;
     short = cut.short;
     part = cut.part;
   }
 
-  ends_as : {outcome : Outcome} {text : List ℕ} → EndsOrCut Whole outcome text → EndsOrCut Other outcome text
+  ends_as : {outcome : Outcome} {text : List ℕ} → EndsOrCut Ending outcome text → EndsOrCut Other outcome text
   ends_as (uncut whole) = uncut (each _ _ whole)
   ends_as (failed cut) = failed (cut_as _ cut)
   ends_as (wanted cut) = wanted (cut_as _ cut)
 
   -- it goes on where files were read before
   pub runs_then : (folder mid after : SourceState) (out replied : SinkState) (outcome : Outcome) → ReadsFrom folder mid false
-      → Runs Whole mid after out replied outcome → Runs Other folder after out replied outcome
+      → Runs Ending mid after out replied outcome → Runs Other folder after out replied outcome
   runs_then folder mid after out replied outcome read runs = record {
     text = runs.text;
     took = runs.took;
@@ -106,14 +106,14 @@ module _ (Whole Other : Outcome → List ℕ → Type 0) (each : (outcome : Outc
   }
 
 -- a reply that was made is sent
-pub replies_so : (Whole : Outcome → List ℕ → Type 0) (end : Outcome) (reply : List ℕ) (out replied : SinkState) (outcome : Outcome) → Whole end reply
-    → Replies (IsReply end reply) out replied outcome → Replies Whole out replied outcome
-replies_so Whole end reply out replied outcome whole sends = λ folder.
-    runs_then (IsReply end reply) Whole (λ o text is. rw (is.0, is.1) whole) folder folder folder out replied outcome (stays folder) (sends folder)
+pub replies_so : (Ending : Outcome → List ℕ → Type 0) (end : Outcome) (reply : List ℕ) (out replied : SinkState) (outcome : Outcome) → Ending end reply
+    → Replies (IsReply end reply) out replied outcome → Replies Ending out replied outcome
+replies_so Ending end reply out replied outcome whole sends = λ folder.
+    runs_then (IsReply end reply) Ending (λ o text is. rw (is.0, is.1) whole) folder folder folder out replied outcome (stays folder) (sends folder)
 
 -- memory runs out before a reply is sent
-pub starves : (Whole : Outcome → List ℕ → Type 0) (out : SinkState) → Whole no_memory [] → Replies Whole out out no_memory
-starves Whole out whole = λ folder. nothing_sent Whole no_memory folder folder out (record { no_fault = refl; no_want = refl }) whole (stays folder)
+pub starves : (Ending : Outcome → List ℕ → Type 0) (out : SinkState) → Ending no_memory [] → Replies Ending out out no_memory
+starves Ending out whole = λ folder. nothing_sent Ending no_memory folder folder out (record { no_fault = refl; no_want = refl }) whole (stays folder)
 
 -- a sink that isn't called takes an empty note
 pub takes_nothing : (err : SinkState) → TookNote err err []

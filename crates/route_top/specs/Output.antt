@@ -22,40 +22,40 @@ Ends files (costs asked) = FilesEnd (CostsReplies asked.query) files asked.files
 Ends files (check names) = FilesEnd CheckReplies files names
 
 -- the same of the program, by its words
-pub data Whole (words : List (List ℕ)) (files : Option FileMap) : Outcome → List ℕ → Type 0 where
+pub data EndsByWords (words : List (List ℕ)) (files : Option FileMap) : Outcome → List ℕ → Type 0 where
   -- the words are no command's words
-  no_command : ¬ AreWords words → Whole words files bad_words []
+  no_command : ¬ AreWords words → EndsByWords words files bad_words []
   -- memory ran out while they were read
-  starved : Whole words files no_memory []
+  starved : EndsByWords words files no_memory []
   -- the words ask for a command, which ends so
   asks : {outcome : Outcome} {text : List ℕ} (asked : Asked) → Asks words asked → Ends files asked outcome text
-      → Whole words files outcome text
+      → EndsByWords words files outcome text
 
 -- A part from the front, short of the whole, of what a run sends that nothing cuts short.
-pub record IsCut (Whole : Outcome → List ℕ → Type 0) (text : List ℕ) : Type 0 where
-  pub uncut : Outcome
+pub record IsCut (Ending : Outcome → List ℕ → Type 0) (text : List ℕ) : Type 0 where
+  pub outcome : Outcome
   pub whole : List ℕ
-  pub ends : Whole uncut whole
+  pub ends : Ending outcome whole
   pub size : ℕ
   pub short : size < length whole
   pub part : text ≡ take size whole
 
 -- how a run ends, and what it sends, where the sink of replies may cut that short
-pub data EndsOrCut (Whole : Outcome → List ℕ → Type 0) : Outcome → List ℕ → Type 0 where
+pub data EndsOrCut (Ending : Outcome → List ℕ → Type 0) : Outcome → List ℕ → Type 0 where
   -- nothing cut it
-  uncut : {outcome : Outcome} {text : List ℕ} → Whole outcome text → EndsOrCut Whole outcome text
+  uncut : {outcome : Outcome} {text : List ℕ} → Ending outcome text → EndsOrCut Ending outcome text
   -- the sink failed
-  failed : {text : List ℕ} → IsCut Whole text → EndsOrCut Whole out_failed text
+  failed : {text : List ℕ} → IsCut Ending text → EndsOrCut Ending out_failed text
   -- the sink wanted memory
-  wanted : {text : List ℕ} → IsCut Whole text → EndsOrCut Whole out_wanted text
+  wanted : {text : List ℕ} → IsCut Ending text → EndsOrCut Ending out_wanted text
 
 -- What a run did to the folder and to the sink of replies, all of it by how it ended.
-pub record Runs (Whole : Outcome → List ℕ → Type 0) (folder after : SourceState) (out replied : SinkState)
+pub record Runs (Ending : Outcome → List ℕ → Type 0) (folder after : SourceState) (out replied : SinkState)
     (outcome : Outcome) : Type 0 where
   -- what was sent, where the sink tells it
   pub text : List ℕ
   pub took : Appends out.sent replied.sent text
-  pub ends : EndsOrCut Whole outcome text
+  pub ends : EndsOrCut Ending outcome text
   -- the folder's failures alone make status 3, and those of the sink status 4
   pub reads : ReadsFrom folder after (status_of outcome == 3)
   pub writes : WritesTo out replied (status_of outcome == 4) (out_has_wanted outcome)
@@ -68,6 +68,6 @@ TookNote err noted note = (result : Result (Unit {0}) WriteFault) × Sends err n
 pub record Output (words : List (List ℕ)) (folder after : SourceState) (out replied err noted : SinkState)
     (status : ℕ) : Type 0 where
   pub outcome : Outcome
-  pub runs : Runs (Whole words folder.files) folder after out replied outcome
+  pub runs : Runs (EndsByWords words folder.files) folder after out replied outcome
   pub note : TookNote err noted (note_of outcome)
   pub status_is : status ≡ status_of outcome

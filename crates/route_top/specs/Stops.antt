@@ -48,4 +48,4 @@ IsReply end reply outcome text = (outcome ≡ end) × (text ≡ reply)
 
 -- what a call does to the sink of replies that leaves the folder alone
 abbrev pub Replies : (Outcome → List ℕ → Type 0) → SinkState → SinkState → Outcome → Type 0
-Replies Whole out replied outcome = (folder : SourceState) → Runs Whole folder folder out replied outcome
+Replies Ending out replied outcome = (folder : SourceState) → Runs Ending folder folder out replied outcome

@@ -6,7 +6,7 @@ ghost use Rattle.route_io.specs.Causes.{IsCounted};
 ghost use Rattle.route_io.specs.Sources.{ReadsFrom};
 ghost use Rattle.command_words.specs.Words.{AreWords, BudgetInRange, FilesInRange};
 ghost use Rattle.command_words.specs.Words.{asked_of, names_of, texts_of};
-ghost use Rattle.route_top.specs.Output.{Ends, IsAskedName, Output, Runs, Whole};
+ghost use Rattle.route_top.specs.Output.{Ends, IsAskedName, Output, Runs, EndsByWords};
 ghost use Rattle.route_top.specs.Stops.{run_outcome};
 
 mod check;
@@ -78,7 +78,7 @@ fn run<'a, F: Folder, K: Sink>(
     out: &mut K,
 ) -> Result<(), Stop<'a>>
     requires { (name : List ℕ) → IsAskedName (texts_of words.now) name → F.admits name }
-    ensures { Runs (Whole (texts_of words.entry.now) (F.state folder.old).files)
+    ensures { Runs (EndsByWords (texts_of words.entry.now) (F.state folder.old).files)
         (F.state folder.old) (F.state folder.new) (K.state out.old) (K.state out.new)
         (run_outcome result) }
 {

@@ -1,4 +1,4 @@
-//! Worked examples of the crates that all others stand on: costs, the outside, lines and weight files.
+//! Worked examples of the crates that all others stand on: costs, the outside, lines, weight files and words.
 #![tactic(auto)]
 
 #[cfg(test)]

@@ -2,3 +2,4 @@ mod costs;
 mod lines;
 mod outside;
 mod weight_files;
+mod words;

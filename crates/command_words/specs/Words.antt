@@ -7,13 +7,14 @@ use Rattle.command_words.specs.Apps.{app_for, word_of}
 use Rattle.line_text.specs.Numerals.{numeral_of}
 use Rattle.command_words.specs.declared.Command.{Command}
 use Rattle.command_words.specs.declared.Command.TheVariants as command
+use Rattle.command_words.specs.declared.CheckWords.{CheckWords}
 use Rattle.command_words.specs.declared.CostsWords.{CostsWords}
 use Rattle.command_words.specs.declared.Query.{Query}
 use Rattle.command_words.specs.declared.apps.Name.{Name}
 use Rattle.command_words.specs.declared.apps.Name.TheVariants.{Check, Costs}
 use Rattle.line_text.specs.declared.numerals.Numeral.TheVariants.{Value}
-use Rattle.command_words.specs.declared.TheConstants.{DEFAULT_BUDGET, GREATEST_BUDGET}
-use Rattle.command_words.specs.declared.TheConstants.{GREATEST_NODE, LEAST_FILES, MOST_FILES}
+use Rattle.road_network.specs.Limits.{max_budget}
+use Rattle.command_words.specs.Ranges.{default_budget, max_node, min_files, max_files}
 
 -- ---- what a command may be asked for
 
@@ -33,20 +34,25 @@ pub data Asked : Type 0 where
   costs : CostsAsked → Asked
   check : List Text → Asked
 
--- the names of the files that a command reads
+-- the names of a command's weight files
 abbrev pub files_of : Asked → List Text
 files_of (costs asked) = asked.files
 files_of (check files) = files
 
--- the files are from two to four
+-- the names of all files that a command reads, in the order of its work
+abbrev pub names_of : Asked → List Text
+names_of (costs asked) = asked.files
+names_of (check files) = files
+
+-- as many weight files as a network may have criteria
 pub record FilesInRange (asked : Asked) : Type 0 where
-  pub enough : LEAST_FILES ≤ length (files_of asked)
-  pub not_more : length (files_of asked) ≤ MOST_FILES
+  pub enough : min_files ≤ length (files_of asked)
+  pub not_more : length (files_of asked) ≤ max_files
 
 -- a query's budget is within its range
 pub record QueryInRange (asked : QueryAsked) : Type 0 where
   pub positive : 1 ≤ asked.budget
-  pub not_more : asked.budget ≤ GREATEST_BUDGET
+  pub not_more : asked.budget ≤ max_budget
 
 -- the budget of a command that has one is within its range
 abbrev pub BudgetInRange : Asked → Type 0
@@ -70,18 +76,17 @@ abbrev pub IsGivenOr : ℕ → ℕ → ℕ → Option Text → ℕ → Type 0
 IsGivenOr other least greatest (Some text) n = IsNumber least greatest text n
 IsGivenOr other least greatest None n = n ≡ other
 
--- the names of the files, from two to four
+-- the names of the weight files, as many as a network may have criteria
 pub record NamesFiles (rows : List Row) (files : List Text) : Type 0 where
   pub all : all_of (codes "files") rows ≡ Some files
-  pub enough : LEAST_FILES ≤ length files
-  pub not_more : length files ≤ MOST_FILES
+  pub enough : min_files ≤ length files
+  pub not_more : length files ≤ max_files
 
 -- the options give the query
 pub record AsksQuery (rows : List Row) (asked : QueryAsked) : Type 0 where
-  pub from : IsGiven 0 GREATEST_NODE (first_of (codes "from") rows) asked.from
-  pub to : IsGiven 0 GREATEST_NODE (first_of (codes "to") rows) asked.to
-  pub budget :
-      IsGivenOr DEFAULT_BUDGET 1 GREATEST_BUDGET (first_of (codes "budget") rows) asked.budget
+  pub from : IsGiven 0 max_node (first_of (codes "from") rows) asked.from
+  pub to : IsGiven 0 max_node (first_of (codes "to") rows) asked.to
+  pub budget : IsGivenOr default_budget 1 max_budget (first_of (codes "budget") rows) asked.budget
 
 -- the values are those of `costs`
 pub record AsksCosts (rows : List Row) (asked : CostsAsked) : Type 0 where
@@ -125,7 +130,11 @@ query_asked q = record { from = q.from; to = q.to; budget = q.budget }
 abbrev pub costs_asked : CostsWords → CostsAsked
 costs_asked c = record { query = query_asked c.query; files = map (λ s. s.now) c.files.items }
 
+-- the words of `check`, as the names of the files that they ask for
+abbrev pub check_asked : CheckWords → List Text
+check_asked c = map (λ s. s.now) c.files.items
+
 -- a command, as what it asks for
 abbrev pub asked_of : Command → Asked
 asked_of (command.Costs c) = costs (costs_asked c)
-asked_of (command.Check c) = check (map (λ s. s.now) c.files.items)
+asked_of (command.Check c) = check (check_asked c)

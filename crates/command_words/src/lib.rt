@@ -1,16 +1,14 @@
 //! Reads the words of a command line into a command.
 #![tactic(auto)]
 
-ghost use Rattle.std.specs.Prelude.{◌≡◌, ◌≢◌, ◌↔◌, IfOk, IfSome, IfNone, [], map, true};
+ghost use Rattle.std.specs.Prelude.{◌≡◌, ◌≢◌, ◌↔◌, IfOk, IfSome, IfNone, [], true};
 ghost use Rattle.clap.specs.Words.{app_of, fault_of, found_of, is_simple_and_free, kind_of};
 ghost use Rattle.clap.specs.Words.{matches_of, rows_of};
 ghost use Rattle.command_words.specs.Words.{AreWords, Asks, BudgetInRange, FilesInRange, IsNamed};
-ghost use Rattle.command_words.specs.Words.{asked_of, files_of, texts_of};
+ghost use Rattle.command_words.specs.Words.{asked_of, texts_of};
 
 mod apps;
 mod numbers;
-#[cfg(test)]
-mod tests;
 mod values;
 
 use apps::Name;
@@ -21,14 +19,12 @@ use thiserror::Error;
 
 /// The budget of a query that gives none.
 pub const DEFAULT_BUDGET: u32 = 10_000_000;
-/// The greatest budget.
-pub const GREATEST_BUDGET: u32 = 50_000_000;
 /// The greatest number that may stand for a node.
-pub const GREATEST_NODE: u32 = u32::MAX;
-/// The fewest files of weights, of which each is one criterion.
-pub const LEAST_FILES: usize = 2;
-/// The most files of weights.
-pub const MOST_FILES: usize = 4;
+pub const MAX_NODE: u32 = u32::MAX;
+/// The fewest weight files, of which each is one criterion.
+pub const MIN_FILES: usize = 2;
+/// The most weight files.
+pub const MAX_FILES: usize = 4;
 
 /// A query from one node to another.
 #[derive(Clone, Copy, Debug, PartialEq, Eq)]
@@ -59,18 +55,6 @@ pub enum Command<'a> {
     Costs(CostsWords<'a>),
     /// Whether the files make up a network.
     Check(CheckWords<'a>),
-}
-
-impl<'a> Command<'a> {
-    /// The names of the files that the command reads, in the order of the words.
-    pub fn files(&self) -> &[&'a str]
-        ensures { map (λ s. s.now) result.now ≡ files_of (asked_of self.now) }
-    {
-        match self {
-            Command::Costs(costs) => costs.files.as_slice(),
-            Command::Check(check) => check.files.as_slice(),
-        }
-    }
 }
 
 /// Why no command was read.

@@ -7,10 +7,11 @@ ghost use Rattle.command_words.specs.Words.{asked_of, costs_asked, query_asked};
 use crate::apps::Name;
 use crate::numbers::{number_or, required_number};
 use crate::{
-    CheckWords, Command, CostsWords, DEFAULT_BUDGET, GREATEST_BUDGET, GREATEST_NODE, LEAST_FILES,
-    MOST_FILES, Query, WordsFault,
+    CheckWords, Command, CostsWords, DEFAULT_BUDGET, MAX_FILES, MAX_NODE, MIN_FILES,
+    Query, WordsFault,
 };
 use clap::ArgMatches;
+use road_network::MAX_BUDGET;
 use std::alloc::Global;
 
 /// Reads the values of a command.
@@ -48,9 +49,9 @@ fn read_query(matches: &ArgMatches) -> Option<Query>
         ¬ AsksQuery (rows_of (found_of matches.now)) asked) }
 {
     Some(Query {
-        from: required_number(matches, "from", 0, GREATEST_NODE)?,
-        to: required_number(matches, "to", 0, GREATEST_NODE)?,
-        budget: number_or(DEFAULT_BUDGET, matches, "budget", 1, GREATEST_BUDGET)?,
+        from: required_number(matches, "from", 0, MAX_NODE)?,
+        to: required_number(matches, "to", 0, MAX_NODE)?,
+        budget: number_or(DEFAULT_BUDGET, matches, "budget", 1, MAX_BUDGET)?,
     })
 }
 
@@ -61,7 +62,7 @@ fn read_files<'a>(alloc: Global, matches: &ArgMatches<'a>) -> Result<Vec<&'a str
         → (files : _) → ¬ NamesFiles (rows_of (found_of matches.now)) files }
 {
     match file_words(matches) {
-        Some(names) if LEAST_FILES <= names.len() && names.len() <= MOST_FILES => {
+        Some(names) if MIN_FILES <= names.len() && names.len() <= MAX_FILES => {
             Ok(Vec::from_slice(alloc, names)?)
         }
         _ => Err(WordsFault::Refused),

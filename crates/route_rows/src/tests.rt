@@ -281,14 +281,30 @@ fn a_full_err_cuts_the_note_alone(rt: HostRuntime) -> Result<(), Fail> {
 #[test]
 fn a_failing_err_cuts_the_note_alone(rt: HostRuntime) -> Result<(), Fail> {
     let alloc = rt.alloc();
-    for (call, note) in [(0u64, ""), (1, "route: folder "), (2, "route: folder N.gr")] {
+    for (call, note) in [
+        (0u64, ""),
+        (1, "route: folder "),
+        (2, "route: folder N.gr\n"),
+    ] {
         let mut folder = folder_of(alloc, rows::SIX_ARCS, Vec::new(alloc))?;
-        let err = MemorySink::new(alloc, u64::MAX, vec![in alloc; call]?);
+        let err = MemorySink::new(alloc, u64::MAX, vec![in alloc; call]?).with_piece(14);
         let words = "check A.gr N.gr";
         let done = run(alloc, words, &mut folder, ample(alloc), err)?;
         assert_eq!(rt; done.status, 3, "call {call}");
         assert_eq!(rt; done.out.sent(), b"".as_slice(), "call {call}");
         assert_eq!(rt; done.err.sent(), note.as_bytes(), "call {call}");
+    }
+    Ok(())
+}
+
+#[test]
+fn a_note_is_sent_at_once(rt: HostRuntime) -> Result<(), Fail> {
+    let alloc = rt.alloc();
+    for row in rows::ROWS {
+        let mut folder = folder_of(alloc, row.files, Vec::new(alloc))?;
+        let err = MemorySink::new(alloc, u64::MAX, vec![in alloc; 1u64]?);
+        let done = run(alloc, row.words, &mut folder, ample(alloc), err)?;
+        assert_row(&rt, row, &done);
     }
     Ok(())
 }

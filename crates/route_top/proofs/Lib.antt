@@ -1,8 +1,4 @@
-pub mod Sending
-pub mod AddingArcs
-mod Admitting
-pub mod SendLemmas
-pub mod Running
-pub mod Ending
-pub mod Noting
-mod ReadingFiles
+pub mod SentFirst
+pub mod RunsLemmas
+pub mod FilesReadLemmas
+pub mod OutputLemmas

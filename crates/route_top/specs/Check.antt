@@ -1,16 +1,15 @@
--- What the command `check` replies of a network, and how it ends.
-use Rattle.std.specs.Prelude.{◌≡◌, ℕ, Bool, true, false, List, length}
-use Rattle.route_io.specs.Files.{FileMap}
+-- What the command `check` replies of a network.
+use Rattle.std.specs.Prelude.{◌≡◌, ℕ, List, [], length}
 use Rattle.road_network.specs.Network.{Network}
-use Rattle.route_top.specs.FilesRead.{FilesEnd}
+use Rattle.route_top.specs.Outcome.{Outcome, done, no_memory}
 use Rattle.route_top.specs.Texts.{check_reply}
-use Rattle.route_top.specs.Outcome.{Outcome}
 
--- The reply has the network's sizes. No network is refused.
-abbrev pub TellsSizes : Bool → Network → List ℕ → Type 0
-TellsSizes true net text = text ≡ check_reply net.nodes (length net.ends) net.criteria
-TellsSizes false net text = ⊥
+-- The reply has these sizes, unless memory runs out before it is made. No network is refused.
+abbrev pub TellsSizes : ℕ → ℕ → ℕ → Outcome → List ℕ → Type 0
+TellsSizes nodes arcs criteria done text = text ≡ check_reply nodes arcs criteria
+TellsSizes nodes arcs criteria no_memory text = text ≡ []
+TellsSizes nodes arcs criteria outcome text = ⊥
 
--- how a run ends and what it sends to `out`
-abbrev pub CheckEnd : FileMap → List (List ℕ) → Outcome → List ℕ → Type 0
-CheckEnd file_of names = FilesEnd TellsSizes file_of names
+-- the reply has the network's sizes
+abbrev pub CheckReplies : Network → Outcome → List ℕ → Type 0
+CheckReplies net = TellsSizes net.nodes (length net.ends) net.criteria

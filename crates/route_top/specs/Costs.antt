@@ -1,13 +1,11 @@
--- What the command `costs` replies to a query over a network, and how it ends.
-use Rattle.std.specs.Prelude.{◌≡◌, ℕ, Bool, true, false, List, ◌⊎◌}
+-- What the command `costs` replies to a query over a network.
+use Rattle.std.specs.Prelude.{◌≡◌, ℕ, List, [], ◌⊎◌}
 use Rattle.cost_vector.specs.Costs.{no_limit}
-use Rattle.route_io.specs.Files.{FileMap}
 use Rattle.road_network.specs.Network.{Network, IsNode}
 use Rattle.road_network.specs.Answers.{AreBestCosts, Passes}
-use Rattle.command_words.specs.Words.{CostsAsked, QueryAsked}
-use Rattle.route_top.specs.FilesRead.{FilesEnd}
+use Rattle.command_words.specs.Words.{QueryAsked}
+use Rattle.route_top.specs.Outcome.{Outcome, done, refused, no_memory}
 use Rattle.route_top.specs.Texts.{costs_reply, node_refusal, budget_refusal}
-use Rattle.route_top.specs.Outcome.{Outcome}
 
 -- both ends of the query are nodes
 abbrev pub HaveNodes : Network → QueryAsked → Type 0
@@ -32,11 +30,9 @@ pub record PassesBudget (net : Network) (query : QueryAsked) (text : List ℕ) :
   pub passes : Passes net query.from query.to (no_limit net.criteria) query.budget
   pub reply : text ≡ budget_refusal 0 query.from query.to
 
--- The reply is an answer, or else a refusal.
-abbrev pub Replies : QueryAsked → Bool → Network → List ℕ → Type 0
-Replies query true net text = Answers net query text
-Replies query false net text = LacksNode net query text ⊎ PassesBudget net query text
-
--- how a run ends and what it sends to `out`
-abbrev pub CostsEnd : FileMap → CostsAsked → Outcome → List ℕ → Type 0
-CostsEnd file_of asked = FilesEnd (Replies asked.query) file_of asked.files
+-- The reply is the answer or a refusal, unless memory runs out before it is made.
+abbrev pub CostsReplies : QueryAsked → Network → Outcome → List ℕ → Type 0
+CostsReplies query net done text = Answers net query text
+CostsReplies query net refused text = LacksNode net query text ⊎ PassesBudget net query text
+CostsReplies query net no_memory text = text ≡ []
+CostsReplies query net outcome text = ⊥

@@ -1,64 +1,100 @@
--- What a run does with the files that its words name, in the order of its work: each file in order, then the joining.
-use Rattle.std.specs.Prelude.{◌≡◌, ℕ, Bool, true, false, List, [], ◌∷◌, ◌++◌, Some}
+-- What a run does with its weight files: it reads each in order, joins them, and goes on over the network that they
+-- say. What is said of a file's bytes holds where the folder tells its files.
+use Rattle.std.specs.Prelude.{◌≡◌, ℕ, ◌^◌, List, [], ◌∷◌, ◌++◌, Option, Some, IfSome}
 use Rattle.std.specs.List.{AllZip}
 use Rattle.route_io.specs.Files.{FileMap}
-use Rattle.arc_graph.specs.declared.join.JoinFault.{JoinFault}
 use Rattle.road_network.specs.Network.{Network}
+use Rattle.arc_graph.specs.declared.join.JoinFault.{JoinFault}
+use Rattle.arc_graph.specs.declared.join.JoinFault.TheVariants as join
 use Rattle.arc_graph.specs.Files.{Contents}
 use Rattle.arc_graph.specs.Agreement.{Agree, HasFault, joined}
+use Rattle.line_text.specs.Reading.{max_line}
 use Rattle.gr_reader.specs.Grammar.{IsGr, GrFault}
-use Rattle.gr_reader.specs.declared.fault.LineKind.{LineKind}
-use Rattle.line_text.specs.declared.lines.TheConstants.{LONGEST_LINE}
 use Rattle.gr_reader.specs.declared.fault.FileLimits.{FileLimits}
-use Rattle.route_top.specs.declared.TheConstants.{GREATEST_FILE}
-use Rattle.route_top.specs.Outcome.{Outcome, done, bad_words, folder_failed, out_failed, bad_file, bad_files, refused, no_memory}
+use Rattle.gr_reader.specs.declared.fault.LineKind.{LineKind}
+use Rattle.route_top.specs.declared.stop.Disagreement.{Disagreement}
+use Rattle.route_top.specs.declared.stop.Disagreement.TheVariants.{Sizes, Ends, ZeroArc}
+use Rattle.route_top.specs.Outcome.{Outcome, folder_failed, bad_file, bad_files, no_memory}
+
+-- the most bytes of a weight file
+abbrev pub max_file : ℕ
+max_file = 2 ^ 29
 
 -- the limits of a weight file
-abbrev pub file_limits : FileLimits
-file_limits = record { line = LONGEST_LINE; file = GREATEST_FILE }
+abbrev pub weight_limits : FileLimits
+weight_limits = record { line = max_line; file = max_file }
 
--- there is a file of this name, and it says this
-pub record Says (file_of : FileMap) (name : List ℕ) (contents : Contents) : Type 0 where
+-- there is a file of this name, and this holds of its bytes
+pub record HasFile (file_of : FileMap) (name : List ℕ) (Holds : List ℕ → Type 0) : Type 0 where
   pub bytes : List ℕ
   pub found : file_of name ≡ Some bytes
-  pub read : IsGr file_limits bytes contents.nodes contents.arcs
+  pub holds : Holds bytes
+
+-- the same, where the folder tells its files
+abbrev pub Tells : Option FileMap → List ℕ → (List ℕ → Type 0) → Type 0
+Tells files name Holds = IfSome files (λ file_of. HasFile file_of name Holds)
+
+-- the file of this name says this
+abbrev pub Says : Option FileMap → List ℕ → Contents → Type 0
+Says files name contents = Tells files name (λ bytes. IsGr weight_limits bytes contents.nodes contents.arcs)
+
+-- the first fault of the file of this name
+abbrev pub HasFirstFault : Option FileMap → List ℕ → ℕ → LineKind → Type 0
+HasFirstFault files name line kind = Tells files name (λ bytes. GrFault weight_limits bytes kind line)
+
+-- how the reading of the file of this name ends a run
+pub data FileStop (files : Option FileMap) (name : List ℕ) : Outcome → Type 0 where
+  -- the folder failed
+  failed : FileStop files name (folder_failed name)
+  -- the file isn't as its format says
+  faulty : {line : ℕ} {kind : LineKind} → HasFirstFault files name line kind
+      → FileStop files name (bad_file name line kind)
+  -- memory ran out
+  starved : FileStop files name no_memory
 
 -- A file comes after others that were all read.
-pub record ComesAfterRead (file_of : FileMap) (names : List (List ℕ)) (name : List ℕ) : Type 0 where
+pub record ComesAfterRead (files : Option FileMap) (names : List (List ℕ)) (name : List ℕ) : Type 0 where
   pub before : List (List ℕ)
   pub after : List (List ℕ)
   pub place : names ≡ before ++ name ∷ after
   pub contents : List Contents
-  pub read : AllZip (Says file_of) before contents
+  pub read : AllZip (Says files) before contents
 
--- The first file that isn't as its format says, and its first fault.
-pub record FirstFaulty (file_of : FileMap) (names : List (List ℕ)) (name : List ℕ) (line : ℕ) (kind : LineKind) : Type 0 where
-  pub place : ComesAfterRead file_of names name
-  pub bytes : List ℕ
-  pub found : file_of name ≡ Some bytes
-  pub faulty : GrFault file_limits bytes kind line
+-- the fault of the joining that it is
+abbrev pub join_fault : Disagreement → JoinFault
+join_fault (Sizes file) = join.Sizes file
+join_fault (Ends arc file) = join.Ends arc file
+join_fault (ZeroArc arc) = join.ZeroArc arc
+
+-- All files were read, but they don't agree.
+pub record Disagree (files : Option FileMap) (names : List (List ℕ)) (way : Disagreement) : Type 0 where
+  pub contents : List Contents
+  pub read : AllZip (Says files) names contents
+  pub fault_is : HasFault contents (join_fault way)
 
 -- All files were read, and they say this network together.
-pub record ReadAs (file_of : FileMap) (names : List (List ℕ)) (net : Network) : Type 0 where
+pub record ReadAs (files : Option FileMap) (names : List (List ℕ)) (net : Network) : Type 0 where
   pub contents : List Contents
-  pub read : AllZip (Says file_of) names contents
+  pub read : AllZip (Says files) names contents
   pub agree : Agree contents
   pub network : net ≡ joined contents
 
--- All files were read, but they don't agree.
-pub record Disagree (file_of : FileMap) (names : List (List ℕ)) (fault : JoinFault) : Type 0 where
-  pub contents : List Contents
-  pub read : AllZip (Says file_of) names contents
-  pub fault_is : HasFault contents fault
+-- how the weight files end a run
+pub data FilesStop (files : Option FileMap) (names : List (List ℕ)) : Outcome → Type 0 where
+  -- the first that isn't read ends it
+  at_file : {outcome : Outcome} (name : List ℕ) → ComesAfterRead files names name → FileStop files name outcome
+      → FilesStop files names outcome
+  -- all were read, but they don't agree
+  disagree : {way : Disagreement} → Disagree files names way → FilesStop files names (bad_files way)
+  -- memory ran out in the joining
+  unjoined : FilesStop files names no_memory
 
--- How a run ends that reads files and then replies by the network that they say, and what it sends to `out`. `Made` says
--- which texts are its replies: with true those of a run that is done, with false its refusals.
-abbrev pub FilesEnd : (Bool → Network → List ℕ → Type 0) → FileMap → List (List ℕ) → Outcome → List ℕ → Type 0
-FilesEnd Made file_of names (folder_failed name) text = ComesAfterRead file_of names name × (text ≡ [])
-FilesEnd Made file_of names (bad_file name line kind) text = FirstFaulty file_of names name line kind × (text ≡ [])
-FilesEnd Made file_of names (bad_files fault) text = Disagree file_of names fault × (text ≡ [])
-FilesEnd Made file_of names done text = (net : Network) × ReadAs file_of names net × Made true net text
-FilesEnd Made file_of names refused text = (net : Network) × ReadAs file_of names net × Made false net text
-FilesEnd Made file_of names bad_words text = ⊥
-FilesEnd Made file_of names out_failed text = ⊥
-FilesEnd Made file_of names no_memory text = ⊥
+-- How a run ends that reads weight files and then goes on over the network that they say, and what it sends to `out`.
+-- `After` says how it then ends, and what it sends.
+pub data FilesEnd (After : Network → Outcome → List ℕ → Type 0) (files : Option FileMap) (names : List (List ℕ))
+    : Outcome → List ℕ → Type 0 where
+  -- the weight files end it, and nothing is sent
+  stops : {outcome : Outcome} → FilesStop files names outcome → FilesEnd After files names outcome []
+  -- all were read, and it goes on
+  goes_on : {outcome : Outcome} {text : List ℕ} (net : Network) → ReadAs files names net → After net outcome text
+      → FilesEnd After files names outcome text

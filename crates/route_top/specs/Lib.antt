@@ -6,4 +6,4 @@ pub mod Costs
 pub mod Check
 pub mod Output
 pub mod Stops
-pub mod Reading
+pub mod ReadResults

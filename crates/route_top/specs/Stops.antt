@@ -1,18 +1,27 @@
--- What the reasons for which a run isn't done say of the counts of faults.
-use Rattle.std.specs.Prelude.{◌≡◌, ℕ, ◌<◌, ◌≤◌, List, length, take, Option, Result, Ok, Err}
-use Rattle.std.specs.Io.KnownBytes.{Appends}
-use Rattle.route_io.specs.Causes.{Rose}
+-- The outcomes that the code's answers stand for.
+use Rattle.std.specs.Prelude.{◌≡◌, ℕ, List, Result, Ok, Err}
+use Rattle.arc_graph.specs.declared.join.JoinFault.{JoinFault}
+use Rattle.arc_graph.specs.declared.join.JoinFault.TheVariants as join
+use Rattle.route_io.specs.Sinks.{SinkState}
+use Rattle.route_io.specs.Sources.{SourceState}
+use Rattle.route_io.specs.declared.fault.WriteFault.TheVariants as write
+use Rattle.route_top.specs.declared.reply.Reply.{Reply}
+use Rattle.route_top.specs.declared.reply.Reply.TheVariants.{Answer, Refusal}
+use Rattle.route_top.specs.declared.stop.Disagreement.TheVariants as files
 use Rattle.route_top.specs.declared.stop.Stop.{Stop}
 use Rattle.route_top.specs.declared.stop.Stop.TheVariants as stop
-use Rattle.route_top.specs.Outcome.{Outcome, done, bad_words, folder_failed, out_failed, bad_file, bad_files, refused, no_memory}
+use Rattle.route_top.specs.Outcome.{Outcome, done, bad_words, folder_failed, out_failed, bad_file, bad_files}
+use Rattle.route_top.specs.Outcome.{refused, no_memory, out_wanted}
+use Rattle.route_top.specs.Output.{Runs}
 
 -- the outcome that a reason is
 abbrev pub outcome_of : Stop → Outcome
 outcome_of stop.Words = bad_words
 outcome_of (stop.Folder name) = folder_failed name.now
-outcome_of stop.Out = out_failed
+outcome_of (stop.Out write.Failed) = out_failed
+outcome_of (stop.Out write.OutOfMemory) = out_wanted
 outcome_of (stop.File name line kind) = bad_file name.now line kind
-outcome_of (stop.Files fault) = bad_files fault
+outcome_of (stop.Files way) = bad_files way
 outcome_of stop.Refused = refused
 outcome_of stop.OutOfMemory = no_memory
 
@@ -21,32 +30,22 @@ abbrev pub run_outcome : {T : Type 0} → Result T Stop → Outcome
 run_outcome (Ok value) = done
 run_outcome (Err stop) = outcome_of stop
 
--- The folder's failures alone end a run as its failure. Nothing else changes their count.
-abbrev pub FolderHasCause : {T : Type 0} → ℕ → ℕ → Result T Stop → Type 0
-FolderHasCause before now (Err (stop.Folder name)) = (before ≤ now) × Rose before now
-FolderHasCause before now other = now ≡ before
+-- the outcome of a run whose reply is of this kind, once it was sent whole
+abbrev pub reply_outcome : Reply → Outcome
+reply_outcome Answer = done
+reply_outcome Refusal = refused
 
--- the same of the sink of replies
-abbrev pub OutHasCause : {T : Type 0} → ℕ → ℕ → Result T Stop → Type 0
-OutHasCause before now (Err stop.Out) = (before ≤ now) × Rose before now
-OutHasCause before now other = now ≡ before
+-- why files that give no network end a run
+abbrev pub stop_of : JoinFault → Stop
+stop_of (join.Sizes file) = stop.Files (files.Sizes file)
+stop_of (join.Ends arc file) = stop.Files (files.Ends arc file)
+stop_of (join.ZeroArc arc) = stop.Files (files.ZeroArc arc)
+stop_of join.OutOfMemory = stop.OutOfMemory
 
--- the reasons for which files give no network
-abbrev pub IsFileStop : Stop → Type 0
-IsFileStop (stop.Folder name) = Unit {0}
-IsFileStop (stop.File name line kind) = Unit {0}
-IsFileStop (stop.Files fault) = Unit {0}
-IsFileStop stop.OutOfMemory = Unit {0}
-IsFileStop other = ⊥
+-- what is sent is this text, and the run ends so
+abbrev pub IsReply : Outcome → List ℕ → Outcome → List ℕ → Type 0
+IsReply end reply outcome text = (outcome ≡ end) × (text ≡ reply)
 
--- a command was read, so its words aren't the reason
-abbrev pub IsWordless : Stop → Type 0
-IsWordless stop.Words = ⊥
-IsWordless other = Unit {0}
-
--- The sink took the whole reply, or a part of it from the front, short of the whole, and failed or wanted memory.
-abbrev pub SendsReply : {T : Type 0} → Option (List ℕ) → Option (List ℕ) → Type 0 → List ℕ → Result T Stop → Type 0
-SendsReply before after Wanted reply (Ok value) = Appends before after reply
-SendsReply before after Wanted reply (Err stop.Out) = (n : ℕ) × (n < length reply) × Appends before after (take n reply)
-SendsReply before after Wanted reply (Err stop.OutOfMemory) = Wanted × ((n : ℕ) × (n < length reply) × Appends before after (take n reply))
-SendsReply before after Wanted reply (Err other) = ⊥
+-- what a call does to the sink of replies that leaves the folder alone
+abbrev pub Replies : (Outcome → List ℕ → Type 0) → SinkState → SinkState → Outcome → Type 0
+Replies Ending out replied outcome = (folder : SourceState) → Runs Ending folder folder out replied outcome

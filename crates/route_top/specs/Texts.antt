@@ -17,7 +17,8 @@ cost_line cost = codes "v" ++ flat_map and_number cost ++ end_line
 -- `r K S T F`, and then a line for each of the F costs: the answer at epoch K to a query from S to T
 abbrev pub costs_reply : ℕ → ℕ → ℕ → List (List ℕ) → List ℕ
 costs_reply epoch s t costs =
-    codes "r" ++ and_number epoch ++ and_number s ++ and_number t ++ and_number (length costs) ++ end_line ++ flat_map cost_line costs
+    codes "r" ++ and_number epoch ++ and_number s ++ and_number t ++ and_number (length costs) ++ end_line
+    ++ flat_map cost_line costs
 
 -- `ok N M D`: the files say a network of N nodes, M arcs and D criteria
 abbrev pub check_reply : ℕ → ℕ → ℕ → List ℕ

@@ -1,14 +1,13 @@
 //! The command `check`.
-ghost use Rattle.std.specs.Prelude.{◌≡◌, ◌≤◌, [], length, map, OnOk, IfErr, IfSome, All, Contains, vec_len};
-ghost use Rattle.std.specs.Io.KnownBytes.{Appends};
-ghost use Rattle.route_io.specs.Causes.{Rose};
-ghost use Rattle.route_top.specs.Check.{CheckEnd};
-ghost use Rattle.route_top.specs.Output.{NamesOneOf, NothingSent, RunSends};
+ghost use Rattle.std.specs.Prelude.{◌≡◌, [], length, OnOk, All};
+ghost use Rattle.command_words.specs.Words.{FilesInRange, check, check_asked, names_of};
+ghost use Rattle.route_top.specs.Check.{TellsSizes};
+ghost use Rattle.route_top.specs.Output.{Ends, Runs};
+ghost use Rattle.route_top.specs.Stops.{Replies, run_outcome};
 ghost use Rattle.route_top.specs.Texts.{check_reply};
-ghost use Rattle.route_top.specs.Stops.{FolderHasCause, IsWordless, OutHasCause, run_outcome};
 
 use crate::network::read_network;
-use crate::reply::{kept, put_sizes, send};
+use crate::reply::{Reply, kept, put_sizes, send};
 use crate::stop::Stop;
 use arc_graph::Graph;
 use command_words::CheckWords;
@@ -24,33 +23,31 @@ pub(crate) fn run<'a, F: Folder, K: Sink>(
     folder: &mut F,
     out: &mut K,
 ) -> Result<(), Stop<'a>>
-    requires admitted { All F.admits (map (λ s. s.now) asked.now.files.items) }
-    requires two { 2 ≤ vec_len asked.now.files }
-    requires four { vec_len asked.now.files ≤ 4 }
-    ensures stops { IfErr result IsWordless }
-    ensures output { IfSome (F.files folder.old) (λ file_of.
-        RunSends (CheckEnd file_of (map (λ s. s.now) asked.now.files.items))
-        (Appends (K.sent out.old) (K.sent out.new))
-        (Rose (K.wants out.old) (K.wants out.new)) (run_outcome result)) }
-    ensures nothing_sent { NothingSent (Appends (K.sent out.old) (K.sent out.new))
-        (Rose (K.wants out.old) (K.wants out.new)) (run_outcome result) }
-    ensures named { NamesOneOf (Contains (map (λ s. s.now) asked.now.files.items))
+    requires admitted { All F.admits (names_of (check (check_asked asked.now))) }
+    requires files { FilesInRange (check (check_asked asked.now)) }
+    ensures { Runs (Ends (F.state folder.old).files (check (check_asked asked.now)))
+        (F.state folder.old) (F.state folder.new) (K.state out.old) (K.state out.new)
         (run_outcome result) }
-    ensures folder { FolderHasCause (F.faults folder.old) (F.faults folder.new) result }
-    ensures out { OutHasCause (K.faults out.old) (K.faults out.new) result }
-    ensures files { F.files folder.new ≡ F.files folder.old }
 {
     let (graph, _) = read_network(alloc, folder, &asked.files)?;
-    let mut reply = SureSink::new(alloc);
-    put_reply(&graph, &mut reply)?;
-    send(out, &reply)
+    reply(alloc, &graph, out)
+}
+
+/// Tells the sizes of a network.
+fn reply<'a, K: Sink>(alloc: Global, graph: &Graph, out: &mut K) -> Result<(), Stop<'a>>
+    ensures { Replies (TellsSizes graph.now.nodes (length graph.now.ends) graph.now.criteria)
+        (K.state out.old) (K.state out.new) (run_outcome result) }
+{
+    let mut text = SureSink::new(alloc);
+    put_reply(graph, &mut text)?;
+    send(out, &text, Reply::Answer)
 }
 
 /// Writes the sizes of a network.
-fn put_reply(graph: &Graph, reply: &mut SureSink) -> Result<(), OutOfMemory>
-    requires empty { reply.old.sent ≡ [] }
-    ensures { OnOk result (reply.new.sent
+fn put_reply(graph: &Graph, text: &mut SureSink) -> Result<(), OutOfMemory>
+    requires { text.old.sent ≡ [] }
+    ensures { OnOk result (text.new.sent
         ≡ check_reply graph.now.nodes (length graph.now.ends) graph.now.criteria) }
 {
-    kept(put_sizes(reply, graph))
+    kept(put_sizes(text, graph))
 }

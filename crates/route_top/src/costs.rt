@@ -1,18 +1,17 @@
 //! The command `costs`.
-ghost use Rattle.std.specs.Prelude.{◌≡◌, ◌≤◌, [], false, length, Ok, IfOk, OnOk, IfErr, IfSome, IsOk, All, Contains, vec_len};
-ghost use Rattle.std.specs.Io.KnownBytes.{Appends};
+ghost use Rattle.std.specs.Prelude.{◌≡◌, ◌≤◌, [], IfOk, OnOk, All};
 ghost use Rattle.cost_vector.specs.Costs.{no_limit};
-ghost use Rattle.arc_graph.specs.Graph.{Match, network};
 ghost use Rattle.road_network.specs.Limits.{max_budget};
-ghost use Rattle.command_words.specs.Words.{costs_asked, query_asked};
-ghost use Rattle.route_io.specs.Causes.{Rose};
-ghost use Rattle.route_top.specs.Costs.{CostsEnd, Replies};
-ghost use Rattle.route_top.specs.Output.{NamesOneOf, NothingSent, RunSends};
+ghost use Rattle.arc_graph.specs.Graph.{Match, network};
+ghost use Rattle.command_words.specs.Words.{FilesInRange, QueryInRange, costs, costs_asked};
+ghost use Rattle.command_words.specs.Words.{names_of, query_asked};
+ghost use Rattle.route_top.specs.Costs.{CostsReplies};
+ghost use Rattle.route_top.specs.Output.{Ends, Runs};
+ghost use Rattle.route_top.specs.Stops.{Replies, reply_outcome, run_outcome};
 ghost use Rattle.route_top.specs.Texts.{refusal};
-ghost use Rattle.route_top.specs.Stops.{FolderHasCause, IsWordless, OutHasCause, run_outcome};
 
 use crate::network::read_network;
-use crate::reply::{kept, put_costs, put_refusal, send};
+use crate::reply::{Reply, kept, put_costs, put_refusal, send};
 use crate::stop::Stop;
 use arc_graph::{Graph, Weights};
 use command_words::{CostsWords, Query};
@@ -22,73 +21,79 @@ use route_io::sure::SureSink;
 use route_io::{Folder, Sink};
 use std::alloc::Global;
 
-/// Answers one query over the named files. Its reply is made in memory first, so that only a fault or a want of memory of
-/// `out` cuts it.
+/// Answers one query over the named files.
 pub(crate) fn run<'a, F: Folder, K: Sink>(
     alloc: Global,
     asked: &CostsWords<'a>,
     folder: &mut F,
     out: &mut K,
 ) -> Result<(), Stop<'a>>
-    requires admitted { All F.admits (costs_asked asked.now).files }
-    requires two { 2 ≤ vec_len asked.now.files }
-    requires four { vec_len asked.now.files ≤ 4 }
-    requires budget { asked.now.query.budget ≤ max_budget }
-    ensures stops { IfErr result IsWordless }
-    ensures output { IfSome (F.files folder.old) (λ file_of.
-        RunSends (CostsEnd file_of (costs_asked asked.now))
-        (Appends (K.sent out.old) (K.sent out.new))
-        (Rose (K.wants out.old) (K.wants out.new)) (run_outcome result)) }
-    ensures nothing_sent { NothingSent (Appends (K.sent out.old) (K.sent out.new))
-        (Rose (K.wants out.old) (K.wants out.new)) (run_outcome result) }
-    ensures named { NamesOneOf (Contains (costs_asked asked.now).files) (run_outcome result) }
-    ensures folder { FolderHasCause (F.faults folder.old) (F.faults folder.new) result }
-    ensures out { OutHasCause (K.faults out.old) (K.faults out.new) result }
-    ensures files { F.files folder.new ≡ F.files folder.old }
+    requires admitted { All F.admits (names_of (costs (costs_asked asked.now))) }
+    requires files { FilesInRange (costs (costs_asked asked.now)) }
+    requires budget { QueryInRange (query_asked asked.now.query) }
+    ensures { Runs (Ends (F.state folder.old).files (costs (costs_asked asked.now)))
+        (F.state folder.old) (F.state folder.new) (K.state out.old) (K.state out.new)
+        (run_outcome result) }
 {
     let (graph, weights) = read_network(alloc, folder, &asked.files)?;
-    let mut reply = SureSink::new(alloc);
-    let answered = put_reply(alloc, &graph, &weights, &asked.query, &mut reply)?;
-    send(out, &reply)?;
-    if answered { Ok(()) } else { Err(Stop::Refused) }
+    reply(alloc, &graph, &weights, &asked.query, out)
 }
 
-/// Writes the reply to a query at epoch 0, and tells whether it is an answer and no refusal.
+/// Replies to a query over a network. The reply is made in memory first, so that only a fault or a want of memory of
+/// `out` cuts it.
+fn reply<'a, K: Sink>(
+    alloc: Global,
+    graph: &Graph,
+    weights: &Weights,
+    query: &Query,
+    out: &mut K,
+) -> Result<(), Stop<'a>>
+    requires matched { Match graph.now weights.now }
+    requires budget { query.now.budget ≤ max_budget }
+    ensures { Replies (CostsReplies (query_asked query.now) (network graph.now weights.now))
+        (K.state out.old) (K.state out.new) (run_outcome result) }
+{
+    let mut text = SureSink::new(alloc);
+    let reply = put_reply(alloc, graph, weights, query, &mut text)?;
+    send(out, &text, reply)
+}
+
+/// Writes the reply to a query at epoch 0, and answers what it is.
 fn put_reply(
     alloc: Global,
     graph: &Graph,
     weights: &Weights,
     query: &Query,
-    reply: &mut SureSink,
-) -> Result<bool, OutOfMemory>
+    text: &mut SureSink,
+) -> Result<Reply, OutOfMemory>
     requires matched { Match graph.now weights.now }
     requires budget { query.now.budget ≤ max_budget }
-    requires empty { reply.old.sent ≡ [] }
-    ensures { IfOk result (λ is_answer.
-        Replies (query_asked query.now) is_answer (network graph.now weights.now) reply.new.sent) }
+    requires empty { text.old.sent ≡ [] }
+    ensures { IfOk result (λ reply. CostsReplies (query_asked query.now)
+        (network graph.now weights.now) (reply_outcome reply) text.new.sent) }
 {
     let (from, to) = (query.from, query.to);
     if !graph.has_node(from) || !graph.has_node(to) {
-        return refuse(reply, query, " node");
+        return refuse(text, query, " node");
     }
     match plain_search(alloc, graph, weights, &unlimited(graph, query)) {
         Ok(costs) => {
-            kept(put_costs(reply, from, to, &costs))?;
-            Ok(true)
+            kept(put_costs(text, from, to, &costs))?;
+            Ok(Reply::Answer)
         }
-        Err(SearchFault::Budget) => refuse(reply, query, " budget"),
+        Err(SearchFault::Budget) => refuse(text, query, " budget"),
         Err(SearchFault::OutOfMemory) => Err(OutOfMemory),
     }
 }
 
-/// Writes a refusal, which is no answer.
-fn refuse(reply: &mut SureSink, query: &Query, why: &str) -> Result<bool, OutOfMemory>
-    requires empty { reply.old.sent ≡ [] }
-    ensures refuses { IfOk result (λ is_answer. is_answer ≡ false) }
-    ensures sent { OnOk result (reply.new.sent ≡ refusal 0 query.now.from query.now.to why.now) }
+/// Writes a refusal.
+fn refuse(text: &mut SureSink, query: &Query, why: &str) -> Result<Reply, OutOfMemory>
+    requires { text.old.sent ≡ [] }
+    ensures refuses { IfOk result (λ reply. reply ≡ Reply.Refusal) }
+    ensures sent { OnOk result (text.new.sent ≡ refusal 0 query.now.from query.now.to why.now) }
 {
-    kept(put_refusal(reply, query.from, query.to, why))?;
-    Ok(false)
+    kept(put_refusal(text, query.from, query.to, why))?;
+    Ok(Reply::Refusal)
 }
 
 /// The query as the search takes it, without a limit.

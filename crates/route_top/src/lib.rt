@@ -1,30 +1,31 @@
 //! The top call: it does all that the program does, from the words of the command line to the exit status.
 #![tactic(auto)]
 
-ghost use Rattle.std.specs.Prelude.{◌≡◌, ◌<◌, ◌⊎◌, ℕ, List, Err, All, Contains, IfErr, IfSome};
-ghost use Rattle.std.specs.Io.KnownBytes.{Appends};
-ghost use Rattle.route_io.specs.Causes.{Rose};
-ghost use Rattle.command_words.specs.Words.{AreWords, asked_of, files_of, texts_of};
-ghost use Rattle.route_top.specs.Output.{Ends, IsAsked, IsAskedName, NamesOneOf, NothingSent, Output};
-ghost use Rattle.route_top.specs.Output.{RunSends, StatusAndNote, Whole};
-ghost use Rattle.route_top.specs.Stops.{FolderHasCause, IsWordless, OutHasCause, run_outcome};
+ghost use Rattle.std.specs.Prelude.{◌≡◌, ◌==◌, ◌⊎◌, ℕ, List, All};
+ghost use Rattle.route_io.specs.Causes.{IsCounted};
+ghost use Rattle.route_io.specs.Sources.{ReadsFrom};
+ghost use Rattle.command_words.specs.Words.{AreWords, BudgetInRange, FilesInRange};
+ghost use Rattle.command_words.specs.Words.{asked_of, names_of, texts_of};
+ghost use Rattle.route_top.specs.Output.{Ends, IsAskedName, Output, Runs, EndsByWords};
+ghost use Rattle.route_top.specs.Stops.{run_outcome};
 
 mod check;
 mod costs;
 mod network;
+mod pieces;
 mod reply;
+mod status;
 mod stop;
 
 use command_words::{Command, WordsFault, read_words};
 use route_io::{Folder, Sink};
+use status::DONE;
+pub use status::WANT_OF_MEMORY;
 use std::alloc::Global;
 use stop::Stop;
 
-/// The exit status where memory ran out.
-pub const WANT_OF_MEMORY: u8 = 9;
-
-/// The greatest size of a file, in bytes.
-pub const GREATEST_FILE: u64 = 1 << 29;
+/// The most bytes of a weight file.
+pub const MAX_FILE: u64 = 1 << 29;
 
 /// Runs the command that the words ask for over the folder's files, and answers the exit status. Replies go to `out`.
 /// On each status but 0 and 8 one line goes to `err`, whose faults only cut that line.
@@ -48,35 +49,22 @@ pub fn route<F: Folder, K: Sink, E: Sink>(
 ) -> u8
     requires { (name : List ℕ) → IsAskedName (texts_of words.now) name → F.admits name }
 
-    // The words and the files that the folder tells say what is sent, and how the run ends. Also over a folder that tells
-    // nothing the status and the note are those of one end. Where the words, the folder or the files make that end, nothing
-    // was sent, and the note names only a file that the words ask for.
-    ensures output { IfSome (F.files folder.old) (λ file_of. Output (texts_of words.now) file_of
-        (Appends (K.sent out.old) (K.sent out.new)) (Rose (K.wants out.old) (K.wants out.new))
-        (Appends (E.sent err.old) (E.sent err.new))
-        (Rose (E.faults err.old) (E.faults err.new) ⊎ Rose (E.wants err.old) (E.wants err.new))
-        result) }
-    ensures status_and_note { StatusAndNote (texts_of words.now)
-        (Appends (K.sent out.old) (K.sent out.new)) (Rose (K.wants out.old) (K.wants out.new))
-        (Appends (E.sent err.old) (E.sent err.new))
-        (Rose (E.faults err.old) (E.faults err.new) ⊎ Rose (E.wants err.old) (E.wants err.new))
-        result }
+    // One outcome says all: what was read and sent, what the folder and the sinks counted, the note and the status.
+    ensures output { Output (texts_of words.now) (F.state folder.old) (F.state folder.new)
+        (K.state out.old) (K.state out.new) (E.state err.old) (E.state err.new) result }
 
     // The words alone make status 2, unless memory runs out.
     ensures bad_words { result ≡ 2 → ¬ AreWords (texts_of words.now) }
     ensures only_bad_words { ¬ AreWords (texts_of words.now) → (result ≡ 2) ⊎ (result ≡ 9) }
 
     // The folder's failures alone make status 3, and those of `out` status 4.
-    ensures folder_failed { result ≡ 3 → Rose (F.faults folder.old) (F.faults folder.new) }
-    ensures tells_folder { F.faults folder.old < F.faults folder.new → result ≡ 3 }
-    ensures out_failed { result ≡ 4 → Rose (K.faults out.old) (K.faults out.new) }
-    ensures tells_out { K.faults out.old < K.faults out.new → result ≡ 4 }
-    ensures files { F.files folder.new ≡ F.files folder.old }
+    ensures folder { ReadsFrom (F.state folder.old) (F.state folder.new) (result == 3) }
+    ensures out { IsCounted (result == 4) (K.state out.old).faults (K.state out.new).faults }
 {
     match run(alloc, words, folder, out) {
-        Ok(()) => 0,
+        Ok(()) => DONE,
         Err(stop) => {
-            let _ = stop.note(err);
+            let _ = stop.note(alloc, err);
             stop.status()
         }
     }
@@ -90,19 +78,9 @@ fn run<'a, F: Folder, K: Sink>(
     out: &mut K,
 ) -> Result<(), Stop<'a>>
     requires { (name : List ℕ) → IsAskedName (texts_of words.now) name → F.admits name }
-    ensures words { result ≡ Err Stop.Words → ¬ AreWords (texts_of words.entry.now) }
-    ensures asked { ¬ AreWords (texts_of words.entry.now)
-        → (result ≡ Err Stop.Words) ⊎ (result ≡ Err Stop.OutOfMemory) }
-    ensures output { IfSome (F.files folder.old) (λ file_of.
-        RunSends (Whole (texts_of words.entry.now) file_of)
-        (Appends (K.sent out.old) (K.sent out.new))
-        (Rose (K.wants out.old) (K.wants out.new)) (run_outcome result)) }
-    ensures nothing_sent { NothingSent (Appends (K.sent out.old) (K.sent out.new))
-        (Rose (K.wants out.old) (K.wants out.new)) (run_outcome result) }
-    ensures named { NamesOneOf (IsAskedName (texts_of words.entry.now)) (run_outcome result) }
-    ensures folder { FolderHasCause (F.faults folder.old) (F.faults folder.new) result }
-    ensures out { OutHasCause (K.faults out.old) (K.faults out.new) result }
-    ensures files { F.files folder.new ≡ F.files folder.old }
+    ensures { Runs (EndsByWords (texts_of words.entry.now) (F.state folder.old).files)
+        (F.state folder.old) (F.state folder.new) (K.state out.old) (K.state out.new)
+        (run_outcome result) }
 {
     match read_words(alloc, words) {
         Ok(command) => carry_out(alloc, &command, folder, out),
@@ -118,18 +96,12 @@ fn carry_out<'a, F: Folder, K: Sink>(
     folder: &mut F,
     out: &mut K,
 ) -> Result<(), Stop<'a>>
-    requires asked { IsAsked (asked_of command.now) }
-    requires admitted { All F.admits (files_of (asked_of command.now)) }
-    ensures stops { IfErr result IsWordless }
-    ensures output { IfSome (F.files folder.old) (λ file_of.
-        RunSends (Ends file_of (asked_of command.now)) (Appends (K.sent out.old) (K.sent out.new))
-        (Rose (K.wants out.old) (K.wants out.new)) (run_outcome result)) }
-    ensures nothing_sent { NothingSent (Appends (K.sent out.old) (K.sent out.new))
-        (Rose (K.wants out.old) (K.wants out.new)) (run_outcome result) }
-    ensures named { NamesOneOf (Contains (files_of (asked_of command.now))) (run_outcome result) }
-    ensures folder { FolderHasCause (F.faults folder.old) (F.faults folder.new) result }
-    ensures out { OutHasCause (K.faults out.old) (K.faults out.new) result }
-    ensures files { F.files folder.new ≡ F.files folder.old }
+    requires admitted { All F.admits (names_of (asked_of command.now)) }
+    requires files { FilesInRange (asked_of command.now) }
+    requires budget { BudgetInRange (asked_of command.now) }
+    ensures { Runs (Ends (F.state folder.old).files (asked_of command.now))
+        (F.state folder.old) (F.state folder.new) (K.state out.old) (K.state out.new)
+        (run_outcome result) }
 {
     match command {
         Command::Costs(asked) => costs::run(alloc, asked, folder, out),

@@ -1,39 +1,49 @@
-//! The lines that the program writes.
-ghost use Rattle.std.specs.Prelude.{◌≡◌, ◌≢◌, ◌↔◌, ◌++◌, ℕ, List, length, codes, IsOk, Ok, Err};
+//! The replies of the commands.
+ghost use Rattle.std.specs.Prelude.{◌≢◌, ◌↔◌, ◌≡◌, ◌++◌, length, codes, IsOk, Ok, Err};
 ghost use Rattle.std.specs.List.{flat_map};
-ghost use Rattle.route_io.specs.Causes.{Rose, WriteHasCause};
-ghost use Rattle.route_io.specs.Sent.{SendsOrPrefix};
-ghost use Rattle.route_top.specs.Pieces.{text_of, texts_of};
-ghost use Rattle.route_top.specs.Stops.{OutHasCause, SendsReply};
+ghost use Rattle.route_io.specs.Sinks.{Sends};
+ghost use Rattle.route_top.specs.Stops.{IsReply, Replies, reply_outcome, run_outcome};
 ghost use Rattle.route_top.specs.Texts.{and_number, check_reply, cost_line, costs_reply, end_line, refusal};
 
+use crate::pieces::{Piece, put_pieces};
 use crate::stop::Stop;
 use arc_graph::Graph;
 use cost_vector::{Cost, OutOfMemory};
-use line_text::put_decimal;
 use route_io::sure::SureSink;
 use route_io::{Sink, WriteFault, put_all};
 
 /// The epoch of each reply, since nothing is published.
 const EPOCH: u64 = 0;
 
-/// A part of a line: a text, or a space and a number in decimal.
+/// What a reply to a query is.
 #[derive(Clone, Copy, Debug)]
-pub(crate) enum Piece<'a> {
-    Text(&'a str),
-    Number(u64),
+pub(crate) enum Reply {
+    Answer,
+    Refusal,
+}
+
+impl Reply {
+    ghost use Rattle.route_top.specs.Stops.{reply_outcome};
+
+    /// How the run ends once the reply was sent.
+    fn end<'a>(self) -> Result<(), Stop<'a>>
+        ensures { run_outcome result ≡ reply_outcome self }
+    {
+        match self {
+            Reply::Answer => Ok(()),
+            Reply::Refusal => Err(Stop::Refused),
+        }
+    }
 }
 
 /// Sends a reply that was made in memory.
-pub(crate) fn send<'a, K: Sink>(out: &mut K, reply: &SureSink) -> Result<(), Stop<'a>>
-    ensures reply { SendsReply (K.sent out.old) (K.sent out.new)
-        (Rose (K.wants out.old) (K.wants out.new)) reply.now.sent result }
-    ensures cause { OutHasCause (K.faults out.old) (K.faults out.new) result }
+pub(crate) fn send<'a, K: Sink>(out: &mut K, text: &SureSink, reply: Reply) -> Result<(), Stop<'a>>
+    ensures { Replies (IsReply (reply_outcome reply) text.now.sent)
+        (K.state out.old) (K.state out.new) (run_outcome result) }
 {
-    match put_all(out, reply.sent()) {
-        Ok(()) => Ok(()),
-        Err(WriteFault::Failed) => Err(Stop::Out),
-        Err(WriteFault::OutOfMemory) => Err(Stop::OutOfMemory),
+    match put_all(out, text.sent()) {
+        Ok(()) => reply.end(),
+        Err(fault) => Err(Stop::Out(fault)),
     }
 }
 
@@ -48,33 +58,6 @@ pub(crate) fn kept(written: Result<(), WriteFault>) -> Result<(), OutOfMemory>
     }
 }
 
-/// Sends the pieces in order.
-pub(crate) fn put_pieces<K: Sink>(sink: &mut K, pieces: &[Piece<'_>]) -> Result<(), WriteFault>
-    ensures bytes { SendsOrPrefix (K.sent sink.old) (K.sent sink.new) (texts_of pieces.now) result }
-    ensures cause { WriteHasCause (K.faults sink.old) (K.faults sink.new)
-        (K.wants sink.old) (K.wants sink.new) result }
-{
-    for piece in pieces {
-        put_piece(sink, piece)?;
-    }
-    Ok(())
-}
-
-/// Sends one piece.
-fn put_piece<K: Sink>(sink: &mut K, piece: &Piece<'_>) -> Result<(), WriteFault>
-    ensures bytes { SendsOrPrefix (K.sent sink.old) (K.sent sink.new) (text_of piece.now) result }
-    ensures cause { WriteHasCause (K.faults sink.old) (K.faults sink.new)
-        (K.wants sink.old) (K.wants sink.new) result }
-{
-    match piece {
-        Piece::Text(text) => put_all(sink, text.as_bytes()),
-        Piece::Number(number) => {
-            put_all(sink, b" ")?;
-            put_decimal(sink, *number)
-        }
-    }
-}
-
 /// Sends the answer of costs at epoch 0: a line with their number, and then a line for each cost.
 pub(crate) fn put_costs<K: Sink>(
     sink: &mut K,
@@ -82,10 +65,7 @@ pub(crate) fn put_costs<K: Sink>(
     to: u32,
     costs: &[Cost],
 ) -> Result<(), WriteFault>
-    ensures bytes { SendsOrPrefix (K.sent sink.old) (K.sent sink.new)
-        (costs_reply 0 from to costs.now) result }
-    ensures cause { WriteHasCause (K.faults sink.old) (K.faults sink.new)
-        (K.wants sink.old) (K.wants sink.new) result }
+    ensures { Sends (K.state sink.old) (K.state sink.new) (costs_reply 0 from to costs.now) result }
 {
     put_head(sink, from, to, costs.len() as u64)?;
     put_lines(sink, costs)
@@ -93,11 +73,9 @@ pub(crate) fn put_costs<K: Sink>(
 
 /// Sends the first line of that answer.
 fn put_head<K: Sink>(sink: &mut K, from: u32, to: u32, count: u64) -> Result<(), WriteFault>
-    ensures bytes { SendsOrPrefix (K.sent sink.old) (K.sent sink.new)
+    ensures { Sends (K.state sink.old) (K.state sink.new)
         (codes "r" ++ and_number 0 ++ and_number from ++ and_number to
         ++ and_number count ++ end_line) result }
-    ensures cause { WriteHasCause (K.faults sink.old) (K.faults sink.new)
-        (K.wants sink.old) (K.wants sink.new) result }
 {
     use Piece::{Number, Text};
     put_pieces(
@@ -113,15 +91,24 @@ fn put_head<K: Sink>(sink: &mut K, from: u32, to: u32, count: u64) -> Result<(),
     )
 }
 
+/// Sends a line for each cost.
+fn put_lines<K: Sink>(sink: &mut K, costs: &[Cost]) -> Result<(), WriteFault>
+    ensures { Sends (K.state sink.old) (K.state sink.new) (flat_map cost_line costs.now) result }
+{
+    for cost in costs {
+        put_cost(sink, cost)?;
+    }
+    Ok(())
+}
+
 /// Sends the line of one cost.
 fn put_cost<K: Sink>(sink: &mut K, cost: &Cost) -> Result<(), WriteFault>
-    ensures bytes { SendsOrPrefix (K.sent sink.old) (K.sent sink.new) (cost_line cost.now) result }
-    ensures cause { WriteHasCause (K.faults sink.old) (K.faults sink.new)
-        (K.wants sink.old) (K.wants sink.new) result }
+    ensures { Sends (K.state sink.old) (K.state sink.new) (cost_line cost.now) result }
 {
-    put_all(sink, b"v")?;
-    put_components(sink, cost)?;
-    put_all(sink, b"\n")
+    put_pieces(
+        sink,
+        &[Piece::Text("v"), Piece::Cost(cost), Piece::Text("\n")],
+    )
 }
 
 /// Sends the line that refuses a query at epoch 0.
@@ -131,10 +118,7 @@ pub(crate) fn put_refusal<K: Sink>(
     to: u32,
     why: &str,
 ) -> Result<(), WriteFault>
-    ensures bytes { SendsOrPrefix (K.sent sink.old) (K.sent sink.new)
-        (refusal 0 from to why.now) result }
-    ensures cause { WriteHasCause (K.faults sink.old) (K.faults sink.new)
-        (K.wants sink.old) (K.wants sink.new) result }
+    ensures { Sends (K.state sink.old) (K.state sink.new) (refusal 0 from to why.now) result }
 {
     use Piece::{Number, Text};
     put_pieces(
@@ -150,38 +134,10 @@ pub(crate) fn put_refusal<K: Sink>(
     )
 }
 
-/// Sends each component of a cost behind a space.
-fn put_components<K: Sink>(sink: &mut K, cost: &Cost) -> Result<(), WriteFault>
-    ensures bytes { SendsOrPrefix (K.sent sink.old) (K.sent sink.new)
-        (flat_map and_number cost.now) result }
-    ensures cause { WriteHasCause (K.faults sink.old) (K.faults sink.new)
-        (K.wants sink.old) (K.wants sink.new) result }
-{
-    for place in 0..cost.count() {
-        put_piece(sink, &Piece::Number(cost.component(place)))?;
-    }
-    Ok(())
-}
-
-/// Sends a line for each cost.
-fn put_lines<K: Sink>(sink: &mut K, costs: &[Cost]) -> Result<(), WriteFault>
-    ensures bytes { SendsOrPrefix (K.sent sink.old) (K.sent sink.new)
-        (flat_map cost_line costs.now) result }
-    ensures cause { WriteHasCause (K.faults sink.old) (K.faults sink.new)
-        (K.wants sink.old) (K.wants sink.new) result }
-{
-    for cost in costs {
-        put_cost(sink, cost)?;
-    }
-    Ok(())
-}
-
 /// Sends the sizes of a network.
 pub(crate) fn put_sizes<K: Sink>(sink: &mut K, graph: &Graph) -> Result<(), WriteFault>
-    ensures bytes { SendsOrPrefix (K.sent sink.old) (K.sent sink.new)
+    ensures { Sends (K.state sink.old) (K.state sink.new)
         (check_reply graph.now.nodes (length graph.now.ends) graph.now.criteria) result }
-    ensures cause { WriteHasCause (K.faults sink.old) (K.faults sink.new)
-        (K.wants sink.old) (K.wants sink.new) result }
 {
     use Piece::{Number, Text};
     put_pieces(

@@ -1,14 +1,28 @@
 //! Why a run isn't done, with its exit status and its note.
 ghost use Rattle.std.specs.Prelude.{◌≡◌};
-ghost use Rattle.route_io.specs.Causes.{WriteHasCause};
-ghost use Rattle.route_io.specs.Sent.{SendsOrPrefix};
-ghost use Rattle.route_top.specs.Outcome.{bad_files, note_of, status_of};
+ghost use Rattle.route_io.specs.Sinks.{Sends};
+ghost use Rattle.route_top.specs.Outcome.{bad_file, bad_files, note_of, status_of};
 
-use crate::reply::{Piece, put_pieces};
+use crate::pieces::{Piece, put_line};
+use crate::status::{
+    BAD_FILE, BAD_FILES, BAD_WORDS, FOLDER_FAILED, OUT_FAILED, REFUSED, WANT_OF_MEMORY,
+};
 use arc_graph::JoinFault;
 use cost_vector::OutOfMemory;
 use gr_reader::LineKind;
-use route_io::{Sink, WriteFault};
+use route_io::{Sink, WriteFault, put_all};
+use std::alloc::Global;
+
+/// How files that were all read don't agree. Files and arcs are numbered from 1.
+#[derive(Clone, Copy, Debug)]
+pub(crate) enum Disagreement {
+    /// This file has another number of nodes or arcs than the first.
+    Sizes { file: u32 },
+    /// This arc has other ends in this file than in the first.
+    Ends { arc: u32, file: u32 },
+    /// This arc has only zero weights.
+    ZeroArc { arc: u32 },
+}
 
 /// Why a run isn't done.
 #[derive(Clone, Copy, Debug)]
@@ -18,14 +32,15 @@ pub(crate) enum Stop<'a> {
     Folder {
         name: &'a str,
     },
-    Out,
+    /// `out` failed or wanted memory.
+    Out(WriteFault),
     /// This file has a faulty line.
     File {
         name: &'a str,
         line: u64,
         kind: LineKind,
     },
-    Files(JoinFault),
+    Files(Disagreement),
     /// A line on `out` says why.
     Refused,
     OutOfMemory,
@@ -39,60 +54,81 @@ impl Stop<'_> {
         ensures { result ≡ status_of (outcome_of self.now) }
     {
         match self {
-            Stop::Words => 2,
-            Stop::Folder { .. } => 3,
-            Stop::Out => 4,
-            Stop::File { .. } => 5,
-            Stop::Files(JoinFault::OutOfMemory) => 9,
-            Stop::Files(_) => 6,
-            Stop::Refused => 8,
-            Stop::OutOfMemory => 9,
+            Stop::Words => BAD_WORDS,
+            Stop::Folder { .. } => FOLDER_FAILED,
+            Stop::Out(WriteFault::Failed) => OUT_FAILED,
+            Stop::File { .. } => BAD_FILE,
+            Stop::Files(_) => BAD_FILES,
+            Stop::Refused => REFUSED,
+            Stop::Out(WriteFault::OutOfMemory) | Stop::OutOfMemory => WANT_OF_MEMORY,
         }
     }
 
-    /// Sends the note, one line, or nothing where `out` has the reason.
-    pub(crate) fn note<E: Sink>(&self, err: &mut E) -> Result<(), WriteFault>
-        ensures bytes { SendsOrPrefix (E.sent err.old) (E.sent err.new)
+    /// Sends the note at once, one line, or nothing where `out` has the reason.
+    pub(crate) fn note<E: Sink>(&self, alloc: Global, err: &mut E) -> Result<(), WriteFault>
+        ensures { Sends (E.state err.old) (E.state err.new)
             (note_of (outcome_of self.now)) result }
-        ensures cause { WriteHasCause (E.faults err.old) (E.faults err.new)
-            (E.wants err.old) (E.wants err.new) result }
     {
-        use Piece::{Number, Text};
+        use Piece::Text;
         match self {
-            Stop::Words => put_pieces(err, &[Text("route: words\n")]),
+            Stop::Words => put_all(err, b"route: words\n"),
             Stop::Folder { name } => {
-                put_pieces(err, &[Text("route: folder "), Text(name), Text("\n")])
+                put_line(
+                    alloc,
+                    err,
+                    &[Text("route: folder "), Text(name), Text("\n")],
+                )
             }
-            Stop::Out => put_pieces(err, &[Text("route: out\n")]),
-            Stop::File { name, line, kind } => put_pieces(
-                err,
-                &[
-                    Text("route: file "),
-                    Text(name),
-                    Text(" line"),
-                    Number(*line),
-                    Text(" kind"),
-                    Number(u64::from(kind.number())),
-                    Text("\n"),
-                ],
-            ),
-            Stop::Files(fault) => note_disagreement(err, *fault),
+            Stop::Out(WriteFault::Failed) => put_all(err, b"route: out\n"),
+            Stop::File { name, line, kind } => note_line(alloc, err, name, *line, *kind),
+            Stop::Files(way) => note_disagreement(alloc, err, *way),
             Stop::Refused => Ok(()),
-            Stop::OutOfMemory => put_pieces(err, &[Text("route: memory\n")]),
+            Stop::Out(WriteFault::OutOfMemory) | Stop::OutOfMemory => {
+                put_all(err, b"route: memory\n")
+            }
         }
     }
 }
 
-/// Sends the note on files that don't agree.
-fn note_disagreement<E: Sink>(err: &mut E, fault: JoinFault) -> Result<(), WriteFault>
-    ensures bytes { SendsOrPrefix (E.sent err.old) (E.sent err.new)
-        (note_of (bad_files fault)) result }
-    ensures cause { WriteHasCause (E.faults err.old) (E.faults err.new)
-        (E.wants err.old) (E.wants err.new) result }
+/// Sends the note on a faulty line.
+fn note_line<E: Sink>(
+    alloc: Global,
+    err: &mut E,
+    name: &str,
+    line: u64,
+    kind: LineKind,
+) -> Result<(), WriteFault>
+    ensures { Sends (E.state err.old) (E.state err.new)
+        (note_of (bad_file name.now line kind)) result }
 {
     use Piece::{Number, Text};
-    match fault {
-        JoinFault::Sizes { file } => put_pieces(
+    put_line(
+        alloc,
+        err,
+        &[
+            Text("route: file "),
+            Text(name),
+            Text(" line"),
+            Number(line),
+            Text(" kind"),
+            Number(u64::from(kind.number())),
+            Text("\n"),
+        ],
+    )
+}
+
+/// Sends the note on files that don't agree.
+fn note_disagreement<E: Sink>(
+    alloc: Global,
+    err: &mut E,
+    way: Disagreement,
+) -> Result<(), WriteFault>
+    ensures { Sends (E.state err.old) (E.state err.new) (note_of (bad_files way)) result }
+{
+    use Piece::{Number, Text};
+    match way {
+        Disagreement::Sizes { file } => put_line(
+            alloc,
             err,
             &[
                 Text("route: files sizes file"),
@@ -100,7 +136,8 @@ fn note_disagreement<E: Sink>(err: &mut E, fault: JoinFault) -> Result<(), Write
                 Text("\n"),
             ],
         ),
-        JoinFault::Ends { arc, file } => put_pieces(
+        Disagreement::Ends { arc, file } => put_line(
+            alloc,
             err,
             &[
                 Text("route: files ends arc"),
@@ -110,7 +147,8 @@ fn note_disagreement<E: Sink>(err: &mut E, fault: JoinFault) -> Result<(), Write
                 Text("\n"),
             ],
         ),
-        JoinFault::ZeroArc { arc } => put_pieces(
+        Disagreement::ZeroArc { arc } => put_line(
+            alloc,
             err,
             &[
                 Text("route: files zero arc"),
@@ -118,7 +156,6 @@ fn note_disagreement<E: Sink>(err: &mut E, fault: JoinFault) -> Result<(), Write
                 Text("\n"),
             ],
         ),
-        JoinFault::OutOfMemory => put_pieces(err, &[Text("route: memory\n")]),
     }
 }
 
@@ -130,5 +167,21 @@ impl From<OutOfMemory> for Stop<'_> {
 
     fn from(_: OutOfMemory) -> Self {
         Stop::OutOfMemory
+    }
+}
+
+impl From<JoinFault> for Stop<'_> {
+    ghost use Rattle.std.specs.Prelude.{◌≡◌};
+    ghost use Rattle.route_top.specs.Stops.{stop_of};
+
+    ghost from_gives = { λ fault s. s ≡ stop_of fault };
+
+    fn from(fault: JoinFault) -> Self {
+        match fault {
+            JoinFault::Sizes { file } => Stop::Files(Disagreement::Sizes { file }),
+            JoinFault::Ends { arc, file } => Stop::Files(Disagreement::Ends { arc, file }),
+            JoinFault::ZeroArc { arc } => Stop::Files(Disagreement::ZeroArc { arc }),
+            JoinFault::OutOfMemory => Stop::OutOfMemory,
+        }
     }
 }

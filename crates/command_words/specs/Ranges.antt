@@ -1,0 +1,18 @@
+-- The ranges of the values of words.
+use Rattle.std.specs.Prelude.{ℕ, ◌-◌, ◌^◌}
+
+-- the budget of a query that gives none
+abbrev pub default_budget : ℕ
+default_budget = 10000000
+
+-- the greatest number that may stand for a node
+abbrev pub max_node : ℕ
+max_node = 2 ^ 32 - 1
+
+-- the fewest weight files: each is one criterion
+abbrev pub min_files : ℕ
+min_files = 2
+
+-- the most weight files
+abbrev pub max_files : ℕ
+max_files = 4

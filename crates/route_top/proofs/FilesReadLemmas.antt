@@ -1,0 +1,120 @@
+-- The named files that come one by one to the joiner, and the run that goes on over their network.
+use Rattle.std.proofs.Common.{false, refl, sym, ap, subst, ◌∙◌, append_assoc, arith}
+use Rattle.std.proofs.Common.{◌≡◌, ◌≢◌, ℕ, ◌+◌, ◌<◌, ◌≤◌, List, [], ◌∷◌, ◌++◌, Option, Some, None, IfSome, take, drop, get_or, length, map}
+use Rattle.std.specs.Prelude.{◌==◌}
+use Rattle.std.specs.List.{All, AllZip}
+use Rattle.std.proofs.lemmas.List.{get_or-map, length-map, take_all, take_more, take-append-drop}
+use Rattle.std.proofs.lemmas.Slice.Zip.{all_zipped_more}
+use Rattle.route_io.specs.Files.{FileMap, Opens}
+use Rattle.route_io.specs.Sinks.{SinkState}
+use Rattle.route_io.specs.Sources.{SourceState, ReadsFrom}
+use Rattle.road_network.specs.Network.{Network}
+use Rattle.arc_graph.specs.declared.join.JoinFault.{JoinFault}
+use Rattle.arc_graph.specs.declared.join.JoinFault.TheVariants as join
+use Rattle.arc_graph.specs.Agreement.{HasFault}
+use Rattle.arc_graph.specs.Files.{Contents}
+use Rattle.arc_graph.specs.Joining.{Joining}
+use Rattle.arc_graph.specs.StandsFor.{StandsFor}
+use Rattle.gr_reader.specs.Reader.{TakesFile}
+use Rattle.gr_reader.specs.Sinks.{JoinerHasTaken}
+use Rattle.route_top.specs.FilesRead.{weight_limits, Tells, Says, FileStop, failed, faulty, starved, FilesStop, at_file, disagree, unjoined, FilesEnd, stops, goes_on, ReadAs}
+use Rattle.route_top.specs.Outcome.{Outcome, status_of}
+use Rattle.route_top.specs.Output.{Runs}
+use Rattle.route_top.specs.ReadResults.{TakesNamed}
+use Rattle.route_top.specs.Stops.{Replies, outcome_of, stop_of}
+use Rattle.route_top.proofs.RunsLemmas.{LeavesOut, nothing_sent, runs_then}
+
+-- what holds of the bytes of the file that was opened
+pub tells : (files : Option FileMap) (name : List ℕ) (left : Option (List ℕ)) (Holds : List ℕ → Type 0) → Opens files name left
+    → IfSome left Holds → Tells files name Holds
+tells None name left Holds opens holds = tt
+tells (Some file_of) name left Holds opens holds =
+    record { bytes = opens.0; found = opens.1; holds = rw opens.2 at holds }
+
+-- the joiner has taken the file that was opened
+pub takes_named : (files : Option FileMap) (name : List ℕ) (left : Option (List ℕ)) (before now : Joining) → Opens files name left
+    → TakesFile weight_limits left (JoinerHasTaken before now) → TakesNamed files name before now
+takes_named files name left before now opens takes =
+    record { contents = takes.file; says = tells files name left _ opens takes.is_gr; taken = takes.taken }
+
+-- The joiner stands for the files of these names.
+pub record HasRead (files : Option FileMap) (names : List (List ℕ)) (joiner : Joining) : Type 0 where
+  pub contents : List Contents
+  pub read : AllZip (Says files) names contents
+  pub stands : StandsFor joiner contents
+
+module _ {N : Type 0} (text : N → List ℕ) (items : List N) (i : ℕ) (d : N) (within : i < length items) where
+  within_texts : i < length (map text items)
+  within_texts = omega (arith, length-map items text)
+
+  next : get_or (map text items) i [] ≡ text (get_or items i d)
+  next = get_or-map text items i d [] within
+
+  -- what holds of all names holds of the next one
+  pub next_of : (P : List ℕ → Type 0) → All P (map text items) → P (text (get_or items i d))
+  next_of P all = subst P next (all i [] within_texts)
+
+  module _ (files told : Option FileMap) (same : told ≡ files) (joiner : Joining) (has : HasRead files (take i (map text items)) joiner) where
+    one_name_more : take (i + 1) (map text items) ≡ take i (map text items) ++ text (get_or items i d) ∷ []
+    one_name_more = take_more (map text items) i [] within_texts ∙ ap (λ name. take i (map text items) ++ name ∷ []) next
+
+    -- one file more was read
+    pub reads_more : (more : Joining) → TakesNamed told (text (get_or items i d)) joiner more → HasRead files (take (i + 1) (map text items)) more
+    reads_more more one =
+        let says = rw same at one.says in
+        rw one_name_more (record {
+          contents = has.contents ++ one.contents ∷ [];
+          read = all_zipped_more (Says files) (take i (map text items)) has.contents (text (get_or items i d)) one.contents has.read says;
+          stands = one.taken.stands has.contents has.stands;
+        })
+
+    place : map text items ≡ take i (map text items) ++ text (get_or items i d) ∷ drop (i + 1) (map text items)
+    place =
+        sym (take-append-drop (i + 1) (map text items)) ∙ ap (λ front. front ++ drop (i + 1) (map text items)) one_name_more
+        ∙ append_assoc (take i (map text items)) (text (get_or items i d) ∷ []) (drop (i + 1) (map text items))
+
+    -- the next one couldn't be read
+    pub stopped_at : {outcome : Outcome} → FileStop told (text (get_or items i d)) outcome → FilesStop files (map text items) outcome
+    stopped_at stop = at_file _ (record {
+      before = take i (map text items);
+      after = drop (i + 1) (map text items);
+      place = place;
+      contents = has.contents;
+      read = has.read;
+    }) (rw same at stop)
+
+-- all files were read
+pub has_all : {N : Type 0} (text : N → List ℕ) (items : List N) (i : ℕ) (files : Option FileMap) (joiner : Joining) → length items ≤ i
+    → HasRead files (take i (map text items)) joiner → HasRead files (map text items) joiner
+has_all text items i files joiner past has = rw (take_all i (map text items) (omega (arith, length-map items text))) at has
+
+-- all files were read, but the joining says no network
+pub not_joined : (files : Option FileMap) (names : List (List ℕ)) (joiner : Joining) (has : HasRead files names joiner) (fault : JoinFault)
+    → (fault ≢ join.OutOfMemory → HasFault has.contents fault) → FilesStop files names (outcome_of (stop_of fault))
+not_joined files names joiner has (join.Sizes file) is =
+    disagree (record { contents = has.contents; read = has.read; fault_is = is (λ e. cc) })
+not_joined files names joiner has (join.Ends arc file) is =
+    disagree (record { contents = has.contents; read = has.read; fault_is = is (λ e. cc) })
+not_joined files names joiner has (join.ZeroArc arc) is =
+    disagree (record { contents = has.contents; read = has.read; fault_is = is (λ e. cc) })
+not_joined files names joiner has join.OutOfMemory is = unjoined
+
+leaves_out : {files : Option FileMap} {names : List (List ℕ)} {outcome : Outcome} → FilesStop files names outcome → LeavesOut outcome
+leaves_out (at_file name comes failed) = record { no_fault = refl; no_want = refl }
+leaves_out (at_file name comes (faulty told)) = record { no_fault = refl; no_want = refl }
+leaves_out (at_file name comes starved) = record { no_fault = refl; no_want = refl }
+leaves_out (disagree read) = record { no_fault = refl; no_want = refl }
+leaves_out unjoined = record { no_fault = refl; no_want = refl }
+
+module _ (After : Network → Outcome → List ℕ → Type 0) (names : List (List ℕ)) (folder after : SourceState) where
+  -- the files end the run
+  pub ends_at_files : {outcome : Outcome} (out : SinkState) → FilesStop folder.files names outcome → ReadsFrom folder after (status_of outcome == 3)
+      → Runs (FilesEnd After folder.files names) folder after out out outcome
+  ends_at_files out stop reads = nothing_sent (FilesEnd After folder.files names) _ folder after out (leaves_out stop) (stops stop) reads
+
+  -- the run goes on over the network, and only replies
+  pub ends_over : (net : Network) (out replied : SinkState) (outcome : Outcome) → ReadAs folder.files names net → ReadsFrom folder after false
+      → Replies (After net) out replied outcome → Runs (FilesEnd After folder.files names) folder after out replied outcome
+  ends_over net out replied outcome read reads replies =
+      runs_then (After net) (FilesEnd After folder.files names) (λ o text then. goes_on net read then) folder after after out replied outcome reads
+      (replies after)

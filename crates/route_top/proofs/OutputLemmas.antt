@@ -1,0 +1,58 @@
+-- What the program does, by its words.
+use Rattle.std.proofs.Common.{◌≡◌, ℕ, List, [], ◌⊎◌, inl, inr, length, refl, subst, ap, arith}
+use Rattle.std.specs.Prelude.{Option}
+use Rattle.route_io.specs.Files.{FileMap}
+use Rattle.route_io.specs.Sinks.{SinkState}
+use Rattle.route_io.specs.Sources.{SourceState}
+use Rattle.command_words.specs.Words.{AreWords, Asked, Asks, check, costs}
+use Rattle.route_top.specs.FilesRead.{at_file, stops, goes_on}
+use Rattle.route_top.specs.Outcome.{Outcome, done, bad_words, folder_failed, out_failed, bad_file, bad_files, refused, no_memory, out_wanted, status_of}
+use Rattle.route_top.specs.Output.{Ends, EndsByWords, no_command, starved, asks, EndsOrCut, uncut, failed, wanted, Runs}
+use Rattle.route_top.proofs.RunsLemmas.{runs_then, stays}
+
+-- the words ask for the command that ran so
+pub runs_asked : (words : List (List ℕ)) (asked : Asked) → Asks words asked → (folder after : SourceState) (out replied : SinkState) (outcome : Outcome)
+    → Runs (Ends folder.files asked) folder after out replied outcome → Runs (EndsByWords words folder.files) folder after out replied outcome
+runs_asked words asked words_ask folder after out replied outcome runs =
+    runs_then (Ends folder.files asked) (EndsByWords words folder.files) (λ o text ends. asks asked words_ask ends) folder folder after out replied outcome
+    (stays folder) runs
+
+module _ (words : List (List ℕ)) (files : Option FileMap) (none : ¬ AreWords words) where
+  -- words that ask for nothing end the run
+  whole_of_none : {outcome : Outcome} {text : List ℕ} → EndsByWords words files outcome text → (text ≡ []) × ((status_of outcome ≡ 2) ⊎ (status_of outcome ≡ 9))
+  whole_of_none (no_command no_words) = (refl, inl refl)
+  whole_of_none starved = (refl, inr refl)
+  whole_of_none (asks asked words_ask ends) = absurd (none (asked, words_ask))
+
+  pub ends_of_none : {outcome : Outcome} {text : List ℕ} → EndsOrCut (EndsByWords words files) outcome text → (status_of outcome ≡ 2) ⊎ (status_of outcome ≡ 9)
+  ends_of_none (uncut whole) = (whole_of_none whole).1
+  ends_of_none (failed cut) = let nothing = ap length (whole_of_none cut.ends).0 in absurd (omega (arith, cut.short))
+  ends_of_none (wanted cut) = inr refl
+
+-- no command ends as one that wasn't asked for
+never_bad_words : (files : Option FileMap) (asked : Asked) (text : List ℕ) → ¬ Ends files asked bad_words text
+never_bad_words files (costs asked) text (stops (at_file name comes stop)) = elim stop [ ]
+never_bad_words files (costs asked) text (goes_on net read replies) = replies
+never_bad_words files (check names) text (stops (at_file name comes stop)) = elim stop [ ]
+never_bad_words files (check names) text (goes_on net read replies) = replies
+
+is_bad_words : (outcome : Outcome) → status_of outcome ≡ 2 → outcome ≡ bad_words
+is_bad_words bad_words two = refl
+is_bad_words done two = cc
+is_bad_words (folder_failed name) two = cc
+is_bad_words out_failed two = cc
+is_bad_words (bad_file name line kind) two = cc
+is_bad_words (bad_files way) two = cc
+is_bad_words refused two = cc
+is_bad_words no_memory two = cc
+is_bad_words out_wanted two = cc
+
+-- status 2 comes only where the words ask for nothing
+pub none_of_two : (words : List (List ℕ)) (files : Option FileMap) {outcome : Outcome} {text : List ℕ}
+    → EndsOrCut (EndsByWords words files) outcome text → status_of outcome ≡ 2 → ¬ AreWords words
+none_of_two words files (uncut (no_command none)) two = none
+none_of_two words files (uncut starved) two = cc
+none_of_two words files {outcome} {text} (uncut (asks asked words_ask ends)) two =
+    absurd (never_bad_words files asked text (subst (λ o. Ends files asked o text) (is_bad_words outcome two) ends))
+none_of_two words files (failed cut) two = cc
+none_of_two words files (wanted cut) two = cc

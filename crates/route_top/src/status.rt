@@ -1,0 +1,18 @@
+//! The exit statuses.
+
+/// The reply was sent.
+pub const DONE: u8 = 0;
+/// The words are no command's words.
+pub const BAD_WORDS: u8 = 2;
+/// The folder failed.
+pub const FOLDER_FAILED: u8 = 3;
+/// `out` failed.
+pub const OUT_FAILED: u8 = 4;
+/// A file has a faulty line.
+pub const BAD_FILE: u8 = 5;
+/// The files don't agree.
+pub const BAD_FILES: u8 = 6;
+/// An end of the query is no node, or the query passes its budget; a line on `out` says which.
+pub const REFUSED: u8 = 8;
+/// Memory ran out.
+pub const WANT_OF_MEMORY: u8 = 9;

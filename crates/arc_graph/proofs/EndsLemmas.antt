@@ -8,13 +8,13 @@ use Rattle.arc_graph.specs.Layout.{pair_of}
 use Rattle.std.specs.Option.{option_map}
 use Rattle.std.proofs.lemmas.Option.{slice_get_within, slice_get-map, slice_get_read, same_Some}
 use Rattle.arc_graph.specs.declared.file.ArcLine.{ArcLine}
-use Rattle.arc_graph.specs.Files.{Contents, ends_of, with_arc}
+use Rattle.arc_graph.specs.Files.{ArcFile, ends_of, with_arc}
 use Rattle.arc_graph.specs.Agreement.{DiffersInEnds}
 use Rattle.list_laws.proofs.Gets.{get_in_push, get_before, get_added}
 use Rattle.arc_graph.proofs.OtherEndsLemmas.{AddsPair}
 
 -- the same arcs differ where the file with the other one stands in a list of the same first file
-moved : (first : Contents) (fs gs : List Contents) (a f : ℕ) (d : DiffersInEnds (first ∷ fs) a f) (other : Contents)
+moved : (first : ArcFile) (fs gs : List ArcFile) (a f : ℕ) (d : DiffersInEnds (first ∷ fs) a f) (other : ArcFile)
     → slice_get (first ∷ gs) (f - 1) ≡ Some other → slice_get other.arcs (a - 1) ≡ Some d.other_arc → DiffersInEnds (first ∷ gs) a f
 moved first fs gs a f d other at arc_at = record {
   first = d.first;
@@ -29,47 +29,47 @@ moved first fs gs a f d other at arc_at = record {
 }
 
 -- of one file no ends differ
-pub no_other_ends : (files : List Contents) (a f : ℕ) → length files ≤ 1 → ¬ DiffersInEnds files a f
+pub no_other_ends : (files : List ArcFile) (a f : ℕ) → length files ≤ 1 → ¬ DiffersInEnds files a f
 no_other_ends files a f one d =
     let within = slice_get_within files (f - 1) d.other d.files_are.other_is in
     let at_first : f - 1 ≡ 0 = omega (arith, within) in
     let same : d.other ≡ d.first = same_Some _ _ (sym d.files_are.other_is ∙ ap (slice_get files) at_first ∙ d.files_are.first_is) in
-    let same_arc : d.other_arc ≡ d.arc = same_Some _ _ (sym d.other_arc_is ∙ ap (λ (x : Contents). slice_get x.arcs (a - 1)) same ∙ d.arc_is) in
+    let same_arc : d.other_arc ≡ d.arc = same_Some _ _ (sym d.other_arc_is ∙ ap (λ (x : ArcFile). slice_get x.arcs (a - 1)) same ∙ d.arc_is) in
     d.differs (ap ends_of same_arc)
 
 -- a file without arcs has no other ends
-pub ends_with_new : (first new : Contents) (others : List Contents) (a f : ℕ) → DiffersInEnds (first ∷ others) a f
+pub ends_with_new : (first new : ArcFile) (others : List ArcFile) (a f : ℕ) → DiffersInEnds (first ∷ others) a f
     → DiffersInEnds (first ∷ others ++ new ∷ []) a f
 ends_with_new first new others a f d =
     let stays = get_before (first ∷ others) (new ∷ []) d.other (f - 1) d.files_are.other_is in
     moved first others (others ++ new ∷ []) a f d d.other stays d.other_arc_is
 
 -- nor does it give other ends to any arc
-pub ends_before_new : (first new : Contents) (others : List Contents) (a f : ℕ) → new.arcs ≡ [] → DiffersInEnds (first ∷ others ++ new ∷ []) a f
+pub ends_before_new : (first new : ArcFile) (others : List ArcFile) (a f : ℕ) → new.arcs ≡ [] → DiffersInEnds (first ∷ others ++ new ∷ []) a f
     → DiffersInEnds (first ∷ others) a f
 ends_before_new first new others a f none d = elim (get_in_push (first ∷ others) new d.other (f - 1) d.files_are.other_is) [
   | inl before ↦ moved first (others ++ new ∷ []) others a f d d.other before d.other_arc_is
   | inr added ↦
-      let no_arcs : d.other.arcs ≡ [] = ap (λ (x : Contents). x.arcs) added.1 ∙ none in
+      let no_arcs : d.other.arcs ≡ [] = ap (λ (x : ArcFile). x.arcs) added.1 ∙ none in
       let nothing : slice_get [] (a - 1) ≡ Some d.other_arc = ap (λ (xs : List ArcLine). slice_get xs (a - 1)) (sym no_arcs) ∙ d.other_arc_is in
       absurd cc
 ]
 
 -- the arc has other ends than that of its number in the first file
-pub record HasOther (first : Contents) (place : ℕ) (a : ArcLine) : Type 0 where
+pub record HasOther (first : ArcFile) (place : ℕ) (a : ArcLine) : Type 0 where
   pub arc : ArcLine
   pub arc_is : slice_get first.arcs place ≡ Some arc
   pub differs : ends_of a ≢ ends_of arc
 
 -- the ends that differ in a first file, further ones and a last one
-abbrev Differs : Contents → List Contents → Contents → ℕ → ℕ → Type 0
+abbrev Differs : ArcFile → List ArcFile → ArcFile → ℕ → ℕ → Type 0
 Differs first more last = DiffersInEnds (first ∷ more ++ last ∷ [])
 
 -- the arc that differs in the file, if that is the one with these arcs
-arc_in : (last other : Contents) (i : ℕ) (arc : ArcLine) → other ≡ last → slice_get other.arcs i ≡ Some arc → slice_get last.arcs i ≡ Some arc
-arc_in last other i arc same at = subst (λ (f : Contents). slice_get f.arcs i ≡ Some arc) same at
+arc_in : (last other : ArcFile) (i : ℕ) (arc : ArcLine) → other ≡ last → slice_get other.arcs i ≡ Some arc → slice_get last.arcs i ≡ Some arc
+arc_in last other i arc same at = subst (λ (f : ArcFile). slice_get f.arcs i ≡ Some arc) same at
 
-kept_with_arc : (first last : Contents) (more : List Contents) (a : ArcLine) (x y : ℕ) → Differs first more last x y → Differs first more (with_arc last a) x y
+kept_with_arc : (first last : ArcFile) (more : List ArcFile) (a : ArcLine) (x y : ℕ) → Differs first more last x y → Differs first more (with_arc last a) x y
 kept_with_arc first last more a x y d =
     let grown = with_arc last a in
     let before = more ++ last ∷ [] in
@@ -82,7 +82,7 @@ kept_with_arc first last more a x y d =
           moved first before after x y d grown there (get_before last.arcs (a ∷ []) d.other_arc (x - 1) at)
     ]
 
-added_by_arc : (first last : Contents) (more : List Contents) (a : ArcLine) → HasOther first (length last.arcs) a
+added_by_arc : (first last : ArcFile) (more : List ArcFile) (a : ArcLine) → HasOther first (length last.arcs) a
     → Differs first more (with_arc last a) (length last.arcs + 1) (length more + 2)
 added_by_arc first last more a here = record {
   first = first;
@@ -100,7 +100,7 @@ added_by_arc first last more a here = record {
   differs = here.differs;
 }
 
-only_by_arc : (first last : Contents) (more : List Contents) (a : ArcLine) (x y : ℕ) → Differs first more (with_arc last a) x y
+only_by_arc : (first last : ArcFile) (more : List ArcFile) (a : ArcLine) (x y : ℕ) → Differs first more (with_arc last a) x y
     → Differs first more last x y ⊎ ((x ≡ length last.arcs + 1) × (y ≡ length more + 2) × HasOther first (length last.arcs) a)
 only_by_arc first last more a x y d =
     let grown = with_arc last a in
@@ -124,7 +124,7 @@ only_by_arc first last more a x y d =
       ]
     ]
 
-before_arc : (first last : Contents) (more : List Contents) (y : ℕ) → Differs first more last (length last.arcs + 1) y → y < length more + 2
+before_arc : (first last : ArcFile) (more : List ArcFile) (y : ℕ) → Differs first more last (length last.arcs + 1) y → y < length more + 2
 before_arc first last more y d = elim (get_in_push (first ∷ more) last d.other (y - 1) d.files_are.other_is) [
   | inl stays ↦ let within = slice_get_within (first ∷ more) (y - 1) d.other stays in omega (arith, within)
   | inr added ↦
@@ -133,7 +133,7 @@ before_arc first last more y d = elim (get_in_push (first ∷ more) last d.other
 ]
 
 -- one arc more of the last file has other ends, or has not, and no other arc comes to have them
-pub adds_arc : (first last : Contents) (more : List Contents) (a : ArcLine)
+pub adds_arc : (first last : ArcFile) (more : List ArcFile) (a : ArcLine)
     → AddsPair (Differs first more last) (Differs first more (with_arc last a)) (length last.arcs + 1) (length more + 2) (HasOther first (length last.arcs) a)
 adds_arc first last more a = record {
   kept = kept_with_arc first last more a;

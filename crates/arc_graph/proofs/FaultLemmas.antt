@@ -4,13 +4,13 @@ use Rattle.std.proofs.lemmas.Bool.{ltb-true, ltb-false, cases_order}
 use Rattle.arc_graph.specs.declared.join.JoinFault.{JoinFault}
 use Rattle.arc_graph.specs.declared.join.JoinFault.TheVariants.{Sizes, Ends, ZeroArc, OutOfMemory}
 use Rattle.arc_graph.specs.declared.join.OtherEnds.{OtherEnds}
-use Rattle.arc_graph.specs.Files.{Contents}
+use Rattle.arc_graph.specs.Files.{ArcFile}
 use Rattle.arc_graph.specs.Agreement.{Agree, AgreeInSize, HasFault, DiffersInEnds, IsZeroArc}
 use Rattle.list_laws.specs.Least.{IsLeastWith, IsLeastIfAny}
 use Rattle.arc_graph.specs.Faults.{AreLeastIfAny, arc_fault_of}
 
 -- the lesser of two least arcs is the least faulty one
-pub fault_is_least : (files : List Contents) (o : Option OtherEnds) (z : Option ℕ) → AgreeInSize files → AreLeastIfAny (DiffersInEnds files) o
+pub fault_is_least : (files : List ArcFile) (o : Option OtherEnds) (z : Option ℕ) → AgreeInSize files → AreLeastIfAny (DiffersInEnds files) o
     → IsLeastIfAny (IsZeroArc files) z → MatchOption (arc_fault_of o z) (Agree files) (HasFault files)
 fault_is_least files None None sizes ends zeros = record {
   sizes = sizes;
@@ -51,7 +51,7 @@ fault_is_least files (Some e) (Some arc) sizes ends zeros = by_test (nat_lt arc 
   )
 
 -- files that agree have no fault
-pub none_of_agreeing : (files : List Contents) (e : JoinFault) → Agree files → ¬ HasFault files e
+pub none_of_agreeing : (files : List ArcFile) (e : JoinFault) → Agree files → ¬ HasFault files e
 none_of_agreeing files (Sizes f) agree has = agree.sizes f has.holds
 none_of_agreeing files (Ends a f) agree has = agree.arcs a (inl (f, has.2.holds))
 none_of_agreeing files (ZeroArc a) agree has = agree.arcs a (inr has.3)
@@ -64,7 +64,7 @@ least_is_one P m n least other = elim (cases_order m n) [
 ]
 
 -- and others have one at most
-pub one_fault : (files : List Contents) (e d : JoinFault) → HasFault files e → HasFault files d → e ≡ d
+pub one_fault : (files : List ArcFile) (e d : JoinFault) → HasFault files e → HasFault files d → e ≡ d
 one_fault files (Sizes f) (Sizes g) x y = ap Sizes (least_is_one _ f g x y)
 one_fault files (Sizes f) (Ends b g) x y = absurd (y.0 f x.holds)
 one_fault files (Sizes f) (ZeroArc b) x y = absurd (y.0 f x.holds)

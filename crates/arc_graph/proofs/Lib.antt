@@ -1,5 +1,5 @@
 pub mod Places
-pub mod JoiningLemmas
+pub mod JoinerLemmas
 pub mod OtherEndsLemmas
 pub mod SizeLemmas
 pub mod WeightLemmas

@@ -12,7 +12,7 @@ use Rattle.std.proofs.lemmas.Bool.Decides.{not_from_Decides, Decides-and, Decide
 use Rattle.std.proofs.lemmas.Option.{slice_get-map, slice_get-get_or}
 use Rattle.list_laws.proofs.Members.{all_got}
 use Rattle.cost_vector.specs.declared.label.ArcNo.{ArcNo}
-use Rattle.arc_graph.specs.Graph.{States, AreStates, arc_state}
+use Rattle.arc_graph.specs.Graph.{Weights, AreWeights, arc_state}
 use Rattle.arc_graph.specs.Stored.{IsStoredState, AreStoredStates, is_zero, state_in, states_of}
 
 -- all numbers of a list are 0 exactly where they add up to 0
@@ -57,7 +57,7 @@ small_in criteria places false stored = All-take (λ x. x < 2 ^ 32) criteria pla
 
 -- the same of all arcs
 pub states_in : (criteria : ℕ) (vectors : List (List ℕ)) → AreStoredStates criteria vectors
-    → AreStates (record { criteria = criteria; states = states_of criteria vectors })
+    → AreWeights (record { criteria = criteria; states = states_of criteria vectors })
 states_in criteria vectors stored = record {
   vectors = All-map (λ s. IfSome s (IsVector criteria)) (state_in criteria) vectors
       (All-weaker (IsStoredState criteria) _ (λ v is. vector_in criteria v (is_zero v) stored.four is refl) vectors stored.each);
@@ -66,19 +66,19 @@ states_in criteria vectors stored = record {
 }
 
 -- what holds of each vector holds of an arc's
-pub holds_of_state : (P : List ℕ → Type 0) (w : States) (a : ArcNo) → All (λ s. IfSome s P) w.states → IfSome (arc_state w a) P
+pub holds_of_state : (P : List ℕ → Type 0) (w : Weights) (a : ArcNo) → All (λ s. IfSome s P) w.states → IfSome (arc_state w a) P
 holds_of_state P w a all = by_state (slice_get w.states (a.0 - 1)) refl where
   by_state : (o : Option (Option (List ℕ))) → slice_get w.states (a.0 - 1) ≡ o → IfSome (option_and_then (λ s. s) o) P
   by_state None is = tt
   by_state (Some s) is = all_got (λ s. IfSome s P) w.states (a.0 - 1) s all is
 
 -- the state of an arc is what its places say
-pub state_by_places : (criteria : ℕ) (vectors : List (List ℕ)) (w : States) (a : ArcNo) (places : List ℕ) (t : Bool)
+pub state_by_places : (criteria : ℕ) (vectors : List (List ℕ)) (w : Weights) (a : ArcNo) (places : List ℕ) (t : Bool)
     → record { criteria = criteria; states = states_of criteria vectors } ≡ w → 1 ≤ a.0 → a.0 ≤ length w.states
     → places ≡ get_or vectors (a.0 - 1) places → pointwise nat_eq places (replicate 4 0) ≡ t
     → arc_state w a ≡ cond t None (Some (take criteria places))
 state_by_places criteria vectors w a places t view counted there at test =
-    let same : length w.states ≡ length (states_of criteria vectors) = ap (λ (v : States). length v.states) (sym view) in
+    let same : length w.states ≡ length (states_of criteria vectors) = ap (λ (v : Weights). length v.states) (sym view) in
     let within : a.0 - 1 < length vectors = omega (arith, same, length-map vectors (state_in criteria)) in
     ap (λ v. arc_state v a) (sym view)
     ∙ ap (option_and_then (λ s. s)) (slice_get-map (state_in criteria) vectors (a.0 - 1))

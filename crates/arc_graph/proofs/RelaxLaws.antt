@@ -8,13 +8,13 @@ use Rattle.cost_vector.specs.declared.label.ArcNo.{ArcNo}
 use Rattle.cost_vector.specs.declared.label.Label.{Label}
 use Rattle.cost_vector.specs.Costs.{plus}
 use Rattle.road_network.specs.Network.{IsNetwork, IsVector, Leads}
-use Rattle.arc_graph.specs.Graph.{Arcs, States, IsGraph, AreStates, Match, network, numbers_from, Fits, SumsFit, label_over, label_by, relaxed, arc_state, ComesOf}
+use Rattle.arc_graph.specs.Graph.{Graph, Weights, IsGraph, AreWeights, Match, network, numbers_from, Fits, SumsFit, label_over, label_by, relaxed, arc_state, ComesOf}
 use Rattle.road_network.proofs.SumLaws.{small_by}
 use Rattle.arc_graph.proofs.NumbersLemmas.{StandsAt, in_numbers, of_numbers}
 use Rattle.list_laws.proofs.Members.{in_filter_map, of_filter_map}
 
 -- a graph and states that match it are a network
-pub network_of : (g : Arcs) (w : States) → IsGraph g → AreStates w → Match g w → IsNetwork (network g w)
+pub network_of : (g : Graph) (w : Weights) → IsGraph g → AreWeights w → Match g w → IsNetwork (network g w)
 network_of g w graph states matched = record {
   two = graph.two;
   four = graph.four;
@@ -25,7 +25,7 @@ network_of g w graph states matched = record {
 }
 
 -- the sum along each of these arcs fits, unless it is shut
-pub fits_along : (g : Arcs) (w : States) (u : ℕ) (c : List ℕ) (arcs : List ArcNo) (i : ℕ) (d : ArcNo) → SumsFit g w u c → arcs ≡ numbers_from 1 g.ends u
+pub fits_along : (g : Graph) (w : Weights) (u : ℕ) (c : List ℕ) (arcs : List ArcNo) (i : ℕ) (d : ArcNo) → SumsFit g w u c → arcs ≡ numbers_from 1 g.ends u
     → i < length arcs → IfSome (arc_state w (get_or arcs i d)) (λ y. Fits (plus c y))
 fits_along g w u c arcs i d fits all within = by_state (slice_get w.states (a.0 - 1)) refl where
   a : ArcNo
@@ -44,7 +44,7 @@ fits_along g w u c arcs i d fits all within = by_state (slice_get w.states (a.0 
 
 -- ---- the labels
 
-module _ (g : Arcs) (w : States) (u : ℕ) (c : List ℕ) where
+module _ (g : Graph) (w : Weights) (u : ℕ) (c : List ℕ) where
   -- each arc that leads on gives a label
   pub label_in : (k v : ℕ) (y : List ℕ) → Leads (network g w) k u y v
       → Contains (relaxed g w u c) (label_over k v c y)
@@ -90,5 +90,5 @@ sum_fits (x ∷ xs) (y ∷ ys) below small =
     (sum_fits xs ys (All-tail (λ n. n < 2 ^ 58) x xs below) (All-tail (λ n. n < 2 ^ 32) y ys small))
 
 -- so all that relaxing adds to it fits
-pub sums_fit : (g : Arcs) (w : States) (u : ℕ) (c : List ℕ) → AreStates w → All (λ x. x < 2 ^ 58) c → SumsFit g w u c
+pub sums_fit : (g : Graph) (w : Weights) (u : ℕ) (c : List ℕ) → AreWeights w → All (λ x. x < 2 ^ 58) c → SumsFit g w u c
 sums_fit g w u c states below = λ k v by arc. sum_fits c by below (small_by (network g w) states.small k u v by arc)

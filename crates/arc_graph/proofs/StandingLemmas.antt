@@ -5,9 +5,9 @@ use Rattle.std.specs.Prelude.{slice_get}
 use Rattle.std.proofs.lemmas.Option.{slice_get_within, same_Some}
 use Rattle.std.proofs.lemmas.List.{length-map, length-set, map_push, set_at, take_more, length_push, nil_from_length}
 use Rattle.arc_graph.specs.declared.file.ArcLine.{ArcLine}
-use Rattle.arc_graph.specs.Files.{Contents, size_of, ends_of, empty_file, with_arc}
+use Rattle.arc_graph.specs.Files.{ArcFile, size_of, ends_of, empty_file, with_arc}
 use Rattle.arc_graph.specs.Agreement.{IsOtherSize, DiffersInSize, DiffersInEnds, vector_at}
-use Rattle.arc_graph.specs.Joining.{Joining, IsJoining}
+use Rattle.arc_graph.specs.Joiner.{Joiner, IsJoiner}
 use Rattle.list_laws.specs.Least.{IsLeastIfAny}
 use Rattle.arc_graph.specs.StandsFor.{StandsFor, sizes_said}
 use Rattle.arc_graph.specs.Faults.{AreLeastIfAny}
@@ -24,18 +24,18 @@ use Rattle.arc_graph.proofs.Places.{}
 use Rattle.arc_graph.proofs.WeightLemmas.{vector_with_new, vectors_with_first, vector_elsewhere, vectors_with_weight}
 use Rattle.arc_graph.proofs.SizeLemmas.{adds_size, no_other_size}
 
-set_own : (files : List Contents) (i : ℕ) (size : ℕ × ℕ) → ((file : Contents) → slice_get files i ≡ Some file → size_of file ≡ size)
+set_own : (files : List ArcFile) (i : ℕ) (size : ℕ × ℕ) → ((file : ArcFile) → slice_get files i ≡ Some file → size_of file ≡ size)
     → set (map size_of files) i size ≡ map size_of files
 set_own [] i size own = refl
 set_own (f ∷ fs) zero size own = ap (λ s. s ∷ map size_of fs) (sym (own f refl))
 set_own (f ∷ fs) (suc i) size own = ap (λ s. size_of f ∷ s) (set_own fs i size own)
 
 -- where the file begun last has come whole, the sizes that were said are those that came
-pub said_whole : (j : Joining) (files : List Contents) → j.come ≡ j.due_arcs → StandsFor j files → sizes_said j files ≡ map size_of files
+pub said_whole : (j : Joiner) (files : List ArcFile) → j.come ≡ j.due_arcs → StandsFor j files → sizes_said j files ≡ map size_of files
 said_whole j files whole stands = set_own files (j.begun - 1) (j.due_nodes, j.due_arcs) (λ file at. stands.last file at ∙ ap (λ n. (j.due_nodes, n)) whole)
 
 -- the sizes of the files before, and that which the last is to have
-pub said_last : (j : Joining) (front : List Contents) (last : Contents) → length front + 1 ≡ j.begun
+pub said_last : (j : Joiner) (front : List ArcFile) (last : ArcFile) → length front + 1 ≡ j.begun
     → sizes_said j (front ++ last ∷ []) ≡ map size_of front ++ (j.due_nodes, j.due_arcs) ∷ []
 said_last j front last begun =
     let place : length (map size_of front) ≡ j.begun - 1 = omega (arith, length-map front size_of) in
@@ -43,7 +43,7 @@ said_last j front last begun =
     ∙ set_at (map size_of front) (size_of last) [] (j.due_nodes, j.due_arcs) (j.begun - 1) place
 
 -- what the beginning of one file more adds
-pub adds_file : (j : Joining) (files : List Contents) (nodes arcs : ℕ) → 1 ≤ j.begun → j.come ≡ j.due_arcs → StandsFor j files
+pub adds_file : (j : Joiner) (files : List ArcFile) (nodes arcs : ℕ) → 1 ≤ j.begun → j.come ≡ j.due_arcs → StandsFor j files
     → AddsNumber (IsOtherSize (sizes_said j files)) (IsOtherSize (map size_of files ++ (nodes, arcs) ∷ [])) (j.begun + 1)
     (¬ ((nodes ≡ j.nodes) × (arcs ≡ length j.ends)))
 adds_file j [] nodes arcs some whole stands = absurd (omega (arith, stands.begun))
@@ -60,7 +60,7 @@ adds_file j (first ∷ others) nodes arcs some whole stands =
     subst (λ said. P said (j.begun + 1)) (sym (said_whole j (first ∷ others) whole stands)) (subst (P (size_of first ∷ sizes)) count adds)
 
 -- what the file begun last has
-pub last_has : (j : Joining) (front : List Contents) (last : Contents) → StandsFor j (front ++ last ∷ [])
+pub last_has : (j : Joiner) (front : List ArcFile) (last : ArcFile) → StandsFor j (front ++ last ∷ [])
     → (length front + 1 ≡ j.begun) × (last.nodes ≡ j.due_nodes) × (length last.arcs ≡ j.come)
 last_has j front last stands =
     let count : length front + 1 ≡ j.begun = omega (arith, length_push front last, stands.begun) in
@@ -68,7 +68,7 @@ last_has j front last stands =
     (count, ap (λ (s : ℕ × ℕ). s.0) size, ap (λ (s : ℕ × ℕ). s.1) size)
 
 -- what one arc more of a later file adds
-pub adds_here : (j : Joining) (front : List Contents) (last : Contents) (a : ArcLine) (ends : List Ends) (e : Ends) → 2 ≤ j.begun → j.ends ≡ map pair_of ends
+pub adds_here : (j : Joiner) (front : List ArcFile) (last : ArcFile) (a : ArcLine) (ends : List Ends) (e : Ends) → 2 ≤ j.begun → j.ends ≡ map pair_of ends
     → j.come < length j.ends → e ≡ get_or ends j.come e → StandsFor j (front ++ last ∷ [])
     → AddsPair (DiffersInEnds (front ++ last ∷ [])) (DiffersInEnds (front ++ with_arc last a ∷ [])) (j.come + 1) j.begun (ends_of a ≢ pair_of e)
 adds_here j [] last a ends e later kept within read stands = absurd (omega (arith, stands.begun))
@@ -87,17 +87,17 @@ adds_here j (first ∷ more) last a ends e later kept within read stands =
     (λ differs. record { arc = found.0; arc_is = found.1; differs = λ same. differs (same ∙ sym found.2) }) by_begun
 
 -- The first file begins.
-pub begin_first : (j : Joining) (files : List Contents) (nodes arcs : ℕ) → IsJoining j → j.begun ≡ 0 → StandsFor j files
+pub begin_first : (j : Joiner) (files : List ArcFile) (nodes arcs : ℕ) → IsJoiner j → j.begun ≡ 0 → StandsFor j files
     → StandsFor (record j { nodes = nodes; begun = j.begun + 1; due_nodes = nodes; due_arcs = arcs; come = 0 }) (files ++ empty_file nodes ∷ [])
 begin_first j (f ∷ fs) nodes arcs kept none stands = absurd (omega (arith, stands.begun))
 begin_first j [] nodes arcs kept none stands =
     let new = empty_file nodes in
-    let begun : Joining = record j { nodes = nodes; begun = j.begun + 1; due_nodes = nodes; due_arcs = arcs; come = 0 } in
+    let begun : Joiner = record j { nodes = nodes; begun = j.begun + 1; due_nodes = nodes; due_arcs = arcs; come = 0 } in
     record {
       begun = omega arith;
       last = λ file at. elim (get_in_push [] new file (j.begun + 1 - 1) at) [ inl before ↦ absurd cc | inr added ↦ ap size_of added.1 ];
-      nodes = λ first at. ap (λ (f : Contents). f.nodes) (same_Some new first at);
-      ends = λ first at. nil_from_length j.ends (kept.none_begun none) ∙ ap (λ (f : Contents). map ends_of f.arcs) (same_Some new first at);
+      nodes = λ first at. ap (λ (f : ArcFile). f.nodes) (same_Some new first at);
+      ends = λ first at. nil_from_length j.ends (kept.none_begun none) ∙ ap (λ (f : ArcFile). map ends_of f.arcs) (same_Some new first at);
       weights = λ place within. absurd (omega (arith, kept.none_begun none));
       other_size = least_same (IsOtherSize (sizes_said j [])) (IsOtherSize (sizes_said begun (new ∷ []))) j.other_size
           (λ f is. absurd (no_other_size [] f (omega arith) is))
@@ -108,14 +108,14 @@ begin_first j [] nodes arcs kept none stands =
     }
 
 -- A later file begins.
-pub begin_later : (j : Joining) (files : List Contents) (nodes arcs : ℕ) (told : Option ℕ) → IsJoining j → 1 ≤ j.begun → j.begun < 4 → StandsFor j files
+pub begin_later : (j : Joiner) (files : List ArcFile) (nodes arcs : ℕ) (told : Option ℕ) → IsJoiner j → 1 ≤ j.begun → j.begun < 4 → StandsFor j files
     → IsLeastIfAny (IsOtherSize (map size_of files ++ (nodes, arcs) ∷ [])) told
     → StandsFor (record j { begun = j.begun + 1; due_nodes = nodes; due_arcs = arcs; come = 0; other_size = told }) (files ++ empty_file nodes ∷ [])
 begin_later j [] nodes arcs told kept some room stands least = absurd (omega (arith, stands.begun))
 begin_later j (first ∷ others) nodes arcs told kept some room stands least =
     let files = first ∷ others in
     let new = empty_file nodes in
-    let begun : Joining = record j { begun = j.begun + 1; due_nodes = nodes; due_arcs = arcs; come = 0; other_size = told } in
+    let begun : Joiner = record j { begun = j.begun + 1; due_nodes = nodes; due_arcs = arcs; come = 0; other_size = told } in
     record {
       begun = omega (arith, length_push others new, stands.begun);
       last = λ file at. elim (get_in_push files new file (j.begun + 1 - 1) at) [
@@ -133,8 +133,8 @@ begin_later j (first ∷ others) nodes arcs told kept some room stands least =
     }
 
 -- the last file with one arc more
-last_more : (j : Joining) (front : List Contents) (last : Contents) (a : ArcLine) → StandsFor j (front ++ last ∷ [])
-    → (file : Contents) → slice_get (front ++ with_arc last a ∷ []) (j.begun - 1) ≡ Some file → size_of file ≡ (j.due_nodes, j.come + 1)
+last_more : (j : Joiner) (front : List ArcFile) (last : ArcFile) (a : ArcLine) → StandsFor j (front ++ last ∷ [])
+    → (file : ArcFile) → slice_get (front ++ with_arc last a ∷ []) (j.begun - 1) ≡ Some file → size_of file ≡ (j.due_nodes, j.come + 1)
 last_more j front last a stands file at =
     let has = last_has j front last stands in
     elim (get_in_push front (with_arc last a) file (j.begun - 1) at) [
@@ -145,13 +145,13 @@ last_more j front last a stands file at =
     ]
 
 -- what was said of the sizes stays when an arc comes
-said_more : (j : Joining) (front : List Contents) (last : Contents) (a : ArcLine) → StandsFor j (front ++ last ∷ [])
+said_more : (j : Joiner) (front : List ArcFile) (last : ArcFile) (a : ArcLine) → StandsFor j (front ++ last ∷ [])
     → sizes_said j (front ++ last ∷ []) ≡ sizes_said j (front ++ with_arc last a ∷ [])
 said_more j front last a stands =
     let count = (last_has j front last stands).0 in said_last j front last count ∙ sym (said_last j front (with_arc last a) count)
 
 -- The next arc of the first file comes.
-pub arc_first : (j : Joining) (front : List Contents) (last : Contents) (a : ArcLine) → IsJoining j → j.begun ≡ 1 → StandsFor j (front ++ last ∷ [])
+pub arc_first : (j : Joiner) (front : List ArcFile) (last : ArcFile) (a : ArcLine) → IsJoiner j → j.begun ≡ 1 → StandsFor j (front ++ last ∷ [])
     → StandsFor (record j { ends = j.ends ++ ends_of a ∷ []; vectors = j.vectors ++ (a.weight ∷ 0 ∷ 0 ∷ 0 ∷ []) ∷ []; come = j.come + 1 })
     (front ++ with_arc last a ∷ [])
 arc_first j (f ∷ fs) last a kept one stands = absurd (omega (arith, length_push fs last, stands.begun))
@@ -161,11 +161,11 @@ arc_first j [] last a kept one stands =
     record {
       begun = stands.begun;
       last = last_more j [] last a stands;
-      nodes = λ first at. stands.nodes last refl ∙ ap (λ (f : Contents). f.nodes) (same_Some (with_arc last a) first at);
+      nodes = λ first at. stands.nodes last refl ∙ ap (λ (f : ArcFile). f.nodes) (same_Some (with_arc last a) first at);
       ends = λ first at.
           ap (λ es. es ++ ends_of a ∷ []) ends_kept
           ∙ sym (map_push ends_of last.arcs a)
-          ∙ ap (λ (f : Contents). map ends_of f.arcs) (same_Some (with_arc last a) first at);
+          ∙ ap (λ (f : ArcFile). map ends_of f.arcs) (same_Some (with_arc last a) first at);
       weights = λ place within.
           let inside : place < length j.vectors + 1 = omega (arith, length_push j.ends (ends_of a), kept.matched) in
           let count : length j.vectors ≡ length last.arcs = kept.matched ∙ ap length ends_kept ∙ length-map last.arcs ends_of in
@@ -180,7 +180,7 @@ arc_first j [] last a kept one stands =
     }
 
 -- The next arc of a later file comes.
-arc_later : (j : Joining) (front : List Contents) (last : Contents) (a : ArcLine) (vectors : List (List ℕ)) (told : Option OtherEnds) → 2 ≤ j.begun
+arc_later : (j : Joiner) (front : List ArcFile) (last : ArcFile) (a : ArcLine) (vectors : List (List ℕ)) (told : Option OtherEnds) → 2 ≤ j.begun
     → StandsFor j (front ++ last ∷ [])
     → ((place : ℕ) → place < length j.ends → take j.begun (get_or vectors place []) ≡ vector_at (front ++ with_arc last a ∷ []) place)
     → AreLeastIfAny (DiffersInEnds (front ++ with_arc last a ∷ [])) told
@@ -197,7 +197,7 @@ arc_later j (first ∷ more) last a vectors told later stands weights least = re
 }
 
 -- It has a place of its own.
-pub arc_within : (j : Joining) (front : List Contents) (last : Contents) (a : ArcLine) (v : List ℕ) (told : Option OtherEnds) → IsJoining j → 2 ≤ j.begun
+pub arc_within : (j : Joiner) (front : List ArcFile) (last : ArcFile) (a : ArcLine) (v : List ℕ) (told : Option OtherEnds) → IsJoiner j → 2 ≤ j.begun
     → j.come < length j.ends → v ≡ get_or j.vectors j.come v → StandsFor j (front ++ last ∷ [])
     → AreLeastIfAny (DiffersInEnds (front ++ with_arc last a ∷ [])) told
     → StandsFor (record j { vectors = set j.vectors j.come (set v (j.begun - 1) a.weight); come = j.come + 1; other_ends = told })
@@ -217,7 +217,7 @@ arc_within j front last a v told kept later within read stands least =
     arc_later j front last a written told later stands new least
 
 -- The first file has no such arc.
-pub arc_past : (j : Joining) (front : List Contents) (last : Contents) (a : ArcLine) → 2 ≤ j.begun → length j.ends ≤ j.come → StandsFor j (front ++ last ∷ [])
+pub arc_past : (j : Joiner) (front : List ArcFile) (last : ArcFile) (a : ArcLine) → 2 ≤ j.begun → length j.ends ≤ j.come → StandsFor j (front ++ last ∷ [])
     → StandsFor (record j { come = j.come + 1 }) (front ++ with_arc last a ∷ [])
 arc_past j [] last a later past stands = absurd (omega (arith, stands.begun))
 arc_past j (first ∷ more) last a later past stands =
@@ -231,11 +231,11 @@ arc_past j (first ∷ more) last a later past stands =
     (pair_without _ _ _ _ _ j.other_ends (adds_arc first last more a) no_arc stands.other_ends)
 
 -- once the files have come whole, the least that differs in size is told
-pub size_whole : (j : Joining) (files : List Contents) → j.come ≡ j.due_arcs → StandsFor j files → IsLeastIfAny (DiffersInSize files) j.other_size
+pub size_whole : (j : Joiner) (files : List ArcFile) → j.come ≡ j.due_arcs → StandsFor j files → IsLeastIfAny (DiffersInSize files) j.other_size
 size_whole j files whole stands = subst (λ said. IsLeastIfAny (IsOtherSize said) j.other_size) (said_whole j files whole stands) stands.other_size
 
 -- one arc more of a list of arcs has come
-pub stands_more : (j : Joining) (files : List Contents) (nodes : ℕ) (arcs : List ArcLine) (i : ℕ) (d : ArcLine) → i < length arcs
+pub stands_more : (j : Joiner) (files : List ArcFile) (nodes : ℕ) (arcs : List ArcLine) (i : ℕ) (d : ArcLine) → i < length arcs
     → StandsFor j (files ++ with_arc (record { nodes = nodes; arcs = take i arcs }) (get_or arcs i d) ∷ [])
     → StandsFor j (files ++ record { nodes = nodes; arcs = take (i + 1) arcs } ∷ [])
 stands_more j files nodes arcs i d within stands =

@@ -14,16 +14,16 @@ use Rattle.std.proofs.lemmas.List.Quantifiers.{position-Some}
 use Rattle.std.proofs.lemmas.List.Sums.{sum_by-cons}
 use Rattle.std.proofs.lemmas.Option.{slice_get-map}
 use Rattle.arc_graph.specs.declared.file.ArcLine.{ArcLine}
-use Rattle.arc_graph.specs.Files.{Contents, size_of, ends_of}
+use Rattle.arc_graph.specs.Files.{ArcFile, size_of, ends_of}
 use Rattle.arc_graph.specs.Agreement.{AgreeInSize, IsZeroArc, vector_at, weight_at}
-use Rattle.arc_graph.specs.Joining.{Joining, IsJoining}
+use Rattle.arc_graph.specs.Joiner.{Joiner, IsJoiner}
 use Rattle.list_laws.specs.Least.{IsLeastWith}
 use Rattle.arc_graph.specs.StandsFor.{StandsFor}
 use Rattle.arc_graph.specs.Stored.{IsStoredState, is_zero}
 use Rattle.arc_graph.proofs.Places.{zero_decides, sum_front}
 
 -- the weight of the arc at a place is 0 in the file
-abbrev HasZero : ℕ → Contents → Type 0
+abbrev HasZero : ℕ → ArcFile → Type 0
 HasZero place f = IsSomeAnd (slice_get f.arcs place) (λ (arc : ArcLine). arc.weight ≡ 0)
 
 zero_of : (arcs : List ArcLine) (place : ℕ) → place < length arcs → option_map_or (λ (arc : ArcLine). arc.weight) (slice_get arcs place) 0 ≡ 0
@@ -37,7 +37,7 @@ weight_of (Some arc) is = is
 weight_of None is = absurd is
 
 -- a vector adds up to 0 exactly where each file's weight is 0
-all_zero : (files : List Contents) (place : ℕ) → All (λ f. place < length f.arcs) files → sum (vector_at files place) ≡ 0
+all_zero : (files : List ArcFile) (place : ℕ) → All (λ f. place < length f.arcs) files → sum (vector_at files place) ≡ 0
     → All (HasZero place) files
 all_zero [] place have none = All-nil (HasZero place)
 all_zero (f ∷ fs) place have none =
@@ -45,15 +45,15 @@ all_zero (f ∷ fs) place have none =
     All-cons (HasZero place) f fs (zero_of f.arcs place (All-head (λ g. place < length g.arcs) f fs have) (omega (arith, parts)))
     (all_zero fs place (All-tail (λ g. place < length g.arcs) f fs have) (omega (arith, parts)))
 
-none_left : (files : List Contents) (place : ℕ) → All (HasZero place) files → sum (vector_at files place) ≡ 0
+none_left : (files : List ArcFile) (place : ℕ) → All (HasZero place) files → sum (vector_at files place) ≡ 0
 none_left [] place zeros = refl
 none_left (f ∷ fs) place zeros =
     let first = weight_of (slice_get f.arcs place) (All-head (HasZero place) f fs zeros) in
     omega (arith, sum_by-cons (λ n. n) (weight_at place f) (vector_at fs place), first, none_left fs place (All-tail (HasZero place) f fs zeros))
 
 -- files that agree in size have as many arcs
-same_arcs : (first : Contents) (others : List Contents) → AgreeInSize (first ∷ others)
-    → (i : ℕ) (f : Contents) → slice_get (first ∷ others) i ≡ Some f → length f.arcs ≡ length first.arcs
+same_arcs : (first : ArcFile) (others : List ArcFile) → AgreeInSize (first ∷ others)
+    → (i : ℕ) (f : ArcFile) → slice_get (first ∷ others) i ≡ Some f → length f.arcs ≡ length first.arcs
 same_arcs first others sizes i f at =
     let place : i ≡ i + 1 - 1 = omega arith in
     elim (cases_eq (length f.arcs) (length first.arcs)) [
@@ -71,7 +71,7 @@ same_arcs first others sizes i f at =
     ]
 
 -- at each place of the first file the test tells whether the arc has only zero weights
-pub zero_at : (j : Joining) (first : Contents) (others : List Contents) (place : ℕ) → IsJoining j → StandsFor j (first ∷ others) → AgreeInSize (first ∷ others)
+pub zero_at : (j : Joiner) (first : ArcFile) (others : List ArcFile) (place : ℕ) → IsJoiner j → StandsFor j (first ∷ others) → AgreeInSize (first ∷ others)
     → place < length j.ends → Decides (is_zero (get_or j.vectors place [])) (IsZeroArc (first ∷ others) (place + 1))
 zero_at j first others place kept stands sizes within =
     let files = first ∷ others in
@@ -88,7 +88,7 @@ zero_at j first others place kept stands sizes within =
     (zero_decides v stored.four)
 
 -- an arc with only zero weights is one of the first file's, and the test tells of it
-told_zero : (j : Joining) (first : Contents) (others : List Contents) (a : ℕ) → IsJoining j → StandsFor j (first ∷ others) → AgreeInSize (first ∷ others)
+told_zero : (j : Joiner) (first : ArcFile) (others : List ArcFile) (a : ℕ) → IsJoiner j → StandsFor j (first ∷ others) → AgreeInSize (first ∷ others)
     → IsZeroArc (first ∷ others) a → (a - 1 < length j.vectors) × (is_zero (get_or j.vectors (a - 1) []) ≡ true)
 told_zero j first others a kept stands sizes only =
     let inside = is_some_within _ first.arcs (a - 1) (All-head (HasZero (a - 1)) first others only.zero) in
@@ -98,7 +98,7 @@ told_zero j first others a kept stands sizes only =
     (omega (arith, kept.matched), (zero_at j first others (a - 1) kept stands sizes there).1 (subst (IsZeroArc (first ∷ others)) here only))
 
 -- the first place that tests as zero is that of the least such arc
-pub zero_told : (j : Joining) (files : List Contents) (place : ℕ) → IsJoining j → 1 ≤ j.begun → StandsFor j files → AgreeInSize files
+pub zero_told : (j : Joiner) (files : List ArcFile) (place : ℕ) → IsJoiner j → 1 ≤ j.begun → StandsFor j files → AgreeInSize files
     → position is_zero j.vectors ≡ Some place → IsLeastWith (IsZeroArc files) (place + 1)
 zero_told j [] place kept some stands sizes told = absurd (omega (arith, stands.begun))
 zero_told j (first ∷ others) place kept some stands sizes told =
@@ -112,7 +112,7 @@ zero_told j (first ∷ others) place kept some stands sizes told =
     }
 
 -- and where none does, there is none
-pub none_told : (j : Joining) (files : List Contents) → IsJoining j → 1 ≤ j.begun → StandsFor j files → AgreeInSize files → position is_zero j.vectors ≡ None
+pub none_told : (j : Joiner) (files : List ArcFile) → IsJoiner j → 1 ≤ j.begun → StandsFor j files → AgreeInSize files → position is_zero j.vectors ≡ None
     → (a : ℕ) → ¬ IsZeroArc files a
 none_told j [] kept some stands sizes told a only = absurd (omega (arith, stands.begun))
 none_told j (first ∷ others) kept some stands sizes told a only =

@@ -10,18 +10,18 @@ use Rattle.road_network.specs.Network.{Network, AreSmall, IsNode, IsVector, Lead
 use Rattle.road_network.specs.Limits.{max_nodes, max_arcs}
 
 -- the nodes, the tail and the head of each arc, and the number of criteria
-pub record Arcs : Type 0 where
+pub record Graph : Type 0 where
   pub nodes : ℕ
   pub criteria : ℕ
   pub ends : List (ℕ × ℕ)
 
 -- for each arc its vector, or None where it is shut
-pub record States : Type 0 where
+pub record Weights : Type 0 where
   pub criteria : ℕ
   pub states : List (Option (List ℕ))
 
 -- the graph is within the limits, and its ends are nodes
-pub record IsGraph (g : Arcs) : Type 0 where
+pub record IsGraph (g : Graph) : Type 0 where
   pub some_node : 1 ≤ g.nodes
   pub nodes : g.nodes ≤ max_nodes
   pub arcs : length g.ends ≤ max_arcs
@@ -31,17 +31,17 @@ pub record IsGraph (g : Arcs) : Type 0 where
   pub heads : All (λ e. IsNode g.nodes e.1) g.ends
 
 -- each vector has a weight for each criterion, of 32 bits, and isn't all zero
-pub record AreStates (w : States) : Type 0 where
+pub record AreWeights (w : Weights) : Type 0 where
   pub vectors : All (λ s. IfSome s (IsVector w.criteria)) w.states
   pub small : AreSmall w.states
 
 -- the states are those of the graph's arcs
-pub record Match (g : Arcs) (w : States) : Type 0 where
+pub record Match (g : Graph) (w : Weights) : Type 0 where
   pub criteria : w.criteria ≡ g.criteria
   pub arcs : length w.states ≡ length g.ends
 
 -- both parts together
-abbrev pub network : Arcs → States → Network
+abbrev pub network : Graph → Weights → Network
 network g w = record { nodes = g.nodes; ends = g.ends; criteria = g.criteria; states = w.states }
 
 -- the numbers of the arcs with this tail, ascending, where the list's first arc has the number k
@@ -51,27 +51,27 @@ numbers_from k (e ∷ es) tail =
     if e.0 == tail then record { 0 = k } ∷ numbers_from (k + 1) es tail else numbers_from (k + 1) es tail
 
 -- the arcs that lead from a node, ascending
-abbrev pub out_arcs_of : Arcs → ℕ → List ArcNo
+abbrev pub out_arcs_of : Graph → ℕ → List ArcNo
 out_arcs_of g tail = numbers_from 1 g.ends tail
 
 -- the tail of an arc, counted from 1
-abbrev pub tail_of : Arcs → ArcNo → ℕ
+abbrev pub tail_of : Graph → ArcNo → ℕ
 tail_of g a = option_map_or (λ (e : ℕ × ℕ). e.0) (slice_get g.ends (a.0 - 1)) 0
 
 -- the head of an arc, counted from 1
-abbrev pub head_of : Arcs → ArcNo → ℕ
+abbrev pub head_of : Graph → ArcNo → ℕ
 head_of g a = option_map_or (λ (e : ℕ × ℕ). e.1) (slice_get g.ends (a.0 - 1)) 0
 
 -- the state of an arc, counted from 1
-abbrev pub arc_state : States → ArcNo → Option (List ℕ)
+abbrev pub arc_state : Weights → ArcNo → Option (List ℕ)
 arc_state w a = option_and_then (λ s. s) (slice_get w.states (a.0 - 1))
 
 -- the label that a walk of this cost gets by going on along an arc, unless it is shut
-abbrev pub label_by : Arcs → States → List ℕ → ArcNo → Option Label
+abbrev pub label_by : Graph → Weights → List ℕ → ArcNo → Option Label
 label_by g w cost a = option_map (λ v. record { node = record { 0 = head_of g a }; cost = plus cost v; arc = a }) (arc_state w a)
 
 -- the labels of all passable arcs that lead from a node, by ascending arc
-abbrev pub relaxed : Arcs → States → ℕ → List ℕ → List Label
+abbrev pub relaxed : Graph → Weights → ℕ → List ℕ → List Label
 relaxed g w node cost = filter_map (label_by g w cost) (out_arcs_of g node)
 
 -- the label that a walk of cost c gets by going on along arc k, by this vector to v
@@ -79,7 +79,7 @@ abbrev pub label_over : ℕ → ℕ → List ℕ → List ℕ → Label
 label_over k v c by = record { node = record { 0 = v }; cost = plus c by; arc = record { 0 = k } }
 
 -- The label is that of an arc that leads on from u, where a walk of cost c has come to u.
-pub record ComesOf (g : Arcs) (w : States) (u : ℕ) (c : List ℕ) (l : Label) : Type 0 where
+pub record ComesOf (g : Graph) (w : Weights) (u : ℕ) (c : List ℕ) (l : Label) : Type 0 where
   pub by : List ℕ
   pub leads : Leads (network g w) l.arc.0 u by l.node.0
   pub cost : l.cost ≡ plus c by
@@ -89,5 +89,5 @@ abbrev pub Fits : List ℕ → Type 0
 Fits cost = All (λ x. x < 2 ^ 64) cost
 
 -- each sum of the cost and the vector of an arc that leads on from the node fits
-abbrev pub SumsFit : Arcs → States → ℕ → List ℕ → Type 0
+abbrev pub SumsFit : Graph → Weights → ℕ → List ℕ → Type 0
 SumsFit g w node cost = (k v : ℕ) (by : List ℕ) → Leads (network g w) k node by v → Fits (plus cost by)

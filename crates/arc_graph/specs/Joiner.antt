@@ -1,19 +1,35 @@
--- What a contract sees of a joiner.
-use Rattle.std.specs.Prelude.{map}
-use Rattle.arc_graph.specs.declared.join.Joiner.TheInside.{Inside}
-use Rattle.arc_graph.specs.Layout.{pair_of}
-use Rattle.arc_graph.specs.Joining.{Joining}
+-- What a joiner keeps of the files that came so far.
+use Rattle.std.specs.Prelude.{◌≡◌, ℕ, ◌≤◌, List, Option, length, All}
+use Rattle.cost_vector.specs.Costs.{max_criteria}
+use Rattle.arc_graph.specs.declared.join.OtherEnds.{OtherEnds}
+use Rattle.road_network.specs.Network.{IsNode}
+use Rattle.arc_graph.specs.Stored.{IsStoredState}
+use Rattle.road_network.specs.Limits.{max_nodes, max_arcs}
 
--- all that a joiner keeps, but where it lies in memory
-abbrev pub joining_of : Inside → Joining
-joining_of j = record {
-  nodes = j.nodes;
-  ends = map pair_of j.ends.items;
-  vectors = j.vectors.items;
-  begun = j.begun;
-  due_nodes = j.due_nodes;
-  due_arcs = j.due_arcs;
-  come = j.come;
-  other_size = j.other_size;
-  other_ends = j.other_ends;
-}
+-- the first file's nodes and ends, each arc's weights so far, how many files were begun, what the one begun last is to
+-- have and how many of its arcs have come, and the faults that would be told
+pub record Joiner : Type 0 where
+  pub nodes : ℕ
+  pub ends : List (ℕ × ℕ)
+  pub vectors : List (List ℕ)
+  pub begun : ℕ
+  pub due_nodes : ℕ
+  pub due_arcs : ℕ
+  pub come : ℕ
+  pub other_size : Option ℕ
+  pub other_ends : Option OtherEnds
+
+-- what every joiner keeps
+pub record IsJoiner (j : Joiner) : Type 0 where
+  pub files : j.begun ≤ max_criteria
+  pub come : j.come ≤ j.due_arcs
+  pub due : j.due_arcs ≤ max_arcs
+  pub none_begun : j.begun ≡ 0 → length j.ends ≡ 0
+  pub first_begun : j.begun ≡ 1 → (length j.ends ≡ j.come) × (j.due_nodes ≡ j.nodes)
+  pub some_node : 1 ≤ j.begun → 1 ≤ j.nodes
+  pub nodes : j.nodes ≤ max_nodes
+  pub arcs : length j.ends ≤ max_arcs
+  pub matched : length j.vectors ≡ length j.ends
+  pub tails : All (λ e. IsNode j.nodes e.0) j.ends
+  pub heads : All (λ e. IsNode j.nodes e.1) j.ends
+  pub stored : All (IsStoredState j.begun) j.vectors

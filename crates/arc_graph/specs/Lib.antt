@@ -3,7 +3,7 @@ pub mod Agreement
 pub mod Graph
 pub mod Layout
 pub mod Stored
-pub mod Joining
 pub mod Joiner
+pub mod Inside
 pub mod Faults
 pub mod StandsFor

@@ -39,17 +39,17 @@ pub struct ArcFile {
 }
 
 impl Model for ArcFile {
-    ghost use Rattle.arc_graph.specs.Files.{Contents, IsContents};
+    ghost use Rattle.arc_graph.specs.Files.{ArcFile, IsArcFile};
 
-    ghost Value = { Contents };
+    ghost Value = { ArcFile };
 
     ghost view = { λ f. record { nodes = f.nodes; arcs = f.arcs.items } };
 
-    ghost invariant = { λ f. IsContents (record { nodes = f.nodes; arcs = f.arcs.items }) };
+    ghost invariant = { λ f. IsArcFile (record { nodes = f.nodes; arcs = f.arcs.items }) };
 }
 
 impl ArcFile {
-    ghost use Rattle.arc_graph.specs.Files.{IsContents};
+    ghost use Rattle.arc_graph.specs.Files.{IsArcFile};
 
     /// A file of this many nodes and no arc yet.
     pub fn new(alloc: Global, nodes: u32) -> ArcFile
@@ -67,7 +67,7 @@ impl ArcFile {
     /// The number of nodes.
     pub fn nodes(&self) -> u32
         ensures count { result ≡ self.now.nodes }
-        ensures contents { IsContents self.now }
+        ensures contents { IsArcFile self.now }
     {
         self.nodes
     }

@@ -3,7 +3,7 @@ ghost use Rattle.std.specs.Prelude.{IsTrue, IfOk, IfErr, OnOk, MatchOption};
 ghost use Rattle.road_network.specs.Limits.{max_arcs, max_nodes};
 ghost use Rattle.road_network.specs.Network.{IsNetwork, IsNode};
 ghost use Rattle.arc_graph.specs.Graph.{Match, network};
-ghost use Rattle.arc_graph.specs.Files.{Contents, empty_file, size_of, with_arc};
+ghost use Rattle.arc_graph.specs.Files.{ArcFile, empty_file, size_of, with_arc};
 ghost use Rattle.arc_graph.specs.Agreement.{Agree, AgreeInSize, HasFault, joined};
 ghost use Rattle.arc_graph.specs.Agreement.{IsOtherSize, IsZeroArc, DiffersInEnds};
 ghost use Rattle.arc_graph.specs.StandsFor.{StandsFor};
@@ -73,15 +73,15 @@ pub struct Joiner {
 }
 
 impl Model for Joiner {
-    ghost use Rattle.arc_graph.specs.Joining.{Joining, IsJoining};
+    ghost use Rattle.arc_graph.specs.Joiner.{Joiner, IsJoiner};
 
-    ghost Value = { Joining };
+    ghost Value = { Joiner };
 
-    ghost use Rattle.arc_graph.specs.Joiner.{joining_of};
+    ghost use Rattle.arc_graph.specs.Inside.{joiner_of};
 
-    ghost view = { joining_of };
+    ghost view = { joiner_of };
 
-    ghost invariant = { λ j. IsJoining (joining_of j) };
+    ghost invariant = { λ j. IsJoiner (joiner_of j) };
 }
 
 impl Joiner {
@@ -121,7 +121,7 @@ impl Joiner {
         ensures none { OnOk result (self.new.come ≡ 0) }
 
         // The files of before, and one without arcs.
-        ensures files { (files : List Contents) → StandsFor self.old files
+        ensures files { (files : List ArcFile) → StandsFor self.old files
             → OnOk result (StandsFor self.new (files ++ empty_file nodes ∷ [])) }
     {
         if self.begun == 0 {
@@ -143,7 +143,7 @@ impl Joiner {
         requires begun { 1 ≤ self.now.begun }
         requires fewer_than_four { self.now.begun < max_criteria }
         requires whole { self.now.come ≡ self.now.due_arcs }
-        ensures { (files : List Contents) → StandsFor self.now files
+        ensures { (files : List ArcFile) → StandsFor self.now files
             → IsLeastIfAny (IsOtherSize (map size_of files ++ (nodes, arcs) ∷ [])) result }
     {
         if self.is_size(nodes, arcs) {
@@ -166,7 +166,7 @@ impl Joiner {
         ensures come { OnOk result (self.new.come ≡ self.old.come + 1) }
 
         // The files of before, the last with this arc more.
-        ensures files { (front : List Contents) (last : Contents)
+        ensures files { (front : List ArcFile) (last : ArcFile)
             → StandsFor self.old (front ++ last ∷ [])
             → OnOk result (StandsFor self.new (front ++ with_arc last a ∷ [])) }
     {
@@ -191,7 +191,7 @@ impl Joiner {
         ensures come { OnOk result (self.new.come ≡ self.old.come + 1) }
 
         // The files of before, the last with this arc more.
-        ensures files { (front : List Contents) (last : Contents)
+        ensures files { (front : List ArcFile) (last : ArcFile)
             → StandsFor self.old (front ++ last ∷ [])
             → OnOk result (StandsFor self.new (front ++ with_arc last a ∷ [])) }
     {
@@ -213,7 +213,7 @@ impl Joiner {
         ensures come { self.new.come ≡ self.old.come + 1 }
 
         // The files of before, the last with this arc more.
-        ensures files { (front : List Contents) (last : Contents)
+        ensures files { (front : List ArcFile) (last : ArcFile)
             → StandsFor self.old (front ++ last ∷ [])
             → StandsFor self.new (front ++ with_arc last a ∷ []) }
     {
@@ -229,7 +229,7 @@ impl Joiner {
     fn other_ends_with(&self, a: ArcLine) -> Option<OtherEnds>
         requires later_file { 2 ≤ self.now.begun }
         requires there { self.now.come < length self.now.ends }
-        ensures { (front : List Contents) (last : Contents)
+        ensures { (front : List ArcFile) (last : ArcFile)
             → StandsFor self.now (front ++ last ∷ [])
             → AreLeastIfAny (DiffersInEnds (front ++ with_arc last a ∷ [])) result }
     {
@@ -252,11 +252,11 @@ impl Joiner {
         ensures is_network { IfOk result (λ r. IsNetwork (network r.0 r.1)) }
 
         // The files agree, and the network is theirs, or the fault is.
-        ensures agree { (files : List Contents) → StandsFor self files
+        ensures agree { (files : List ArcFile) → StandsFor self files
             → IfOk result (λ _. Agree files) }
-        ensures joined { (files : List Contents) → StandsFor self files
+        ensures joined { (files : List ArcFile) → StandsFor self files
             → IfOk result (λ r. network r.0 r.1 ≡ joined files) }
-        ensures fault { (files : List Contents) → StandsFor self files
+        ensures fault { (files : List ArcFile) → StandsFor self files
             → IfErr result (λ e. e ≢ JoinFault.OutOfMemory → HasFault files e) }
     {
         match self.fault() {
@@ -269,7 +269,7 @@ impl Joiner {
     fn fault(&self) -> Option<JoinFault>
         requires some { 1 ≤ self.now.begun }
         requires whole { self.now.come ≡ self.now.due_arcs }
-        ensures { (files : List Contents) → StandsFor self.now files
+        ensures { (files : List ArcFile) → StandsFor self.now files
             → MatchOption result (Agree files) (HasFault files) }
     {
         if let Some(file) = self.other_size {
@@ -281,7 +281,7 @@ impl Joiner {
     /// The least arc whose weight is 0 in every file.
     fn zero_arc(&self) -> Option<u32>
         requires some { 1 ≤ self.now.begun }
-        ensures { (files : List Contents) → StandsFor self.now files → AgreeInSize files
+        ensures { (files : List ArcFile) → StandsFor self.now files → AgreeInSize files
             → IsLeastIfAny (IsZeroArc files) result }
     {
         let place = first_zero(&self.vectors)?;
@@ -374,7 +374,7 @@ fn add_file(joiner: &mut Joiner, file: &ArcFile) -> Result<(), OutOfMemory>
     requires whole { joiner.old.come ≡ joiner.old.due_arcs }
     ensures begun { OnOk result (joiner.new.begun ≡ joiner.old.begun + 1) }
     ensures whole { OnOk result (joiner.new.come ≡ joiner.new.due_arcs) }
-    ensures files { (files : List Contents) → StandsFor joiner.old files
+    ensures files { (files : List ArcFile) → StandsFor joiner.old files
         → OnOk result (StandsFor joiner.new (files ++ file.now ∷ [])) }
 {
     let arcs = file.arcs();

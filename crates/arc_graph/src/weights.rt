@@ -1,6 +1,6 @@
 ghost use Rattle.std.specs.Prelude.{◌≡◌, ◌≤◌, ◌<◌, ◌-◌, ◌^◌, length, IfOk, IfSome, All};
 ghost use Rattle.road_network.specs.Network.{IsVector};
-ghost use Rattle.arc_graph.specs.Graph.{AreStates, arc_state};
+ghost use Rattle.arc_graph.specs.Graph.{AreWeights, arc_state};
 ghost use Rattle.arc_graph.specs.Stored.{AreStoredStates, is_zero, states_of};
 
 use cost_vector::{ArcNo, OutOfMemory, Weight};
@@ -19,10 +19,10 @@ pub struct Weights {
 }
 
 impl Model for Weights {
-    ghost use Rattle.arc_graph.specs.Graph.{States};
+    ghost use Rattle.arc_graph.specs.Graph.{Weights};
     ghost use Rattle.arc_graph.specs.Stored.{AreStoredStates, is_zero, states_of};
 
-    ghost Value = { States };
+    ghost Value = { Weights };
 
     ghost view = { λ w. record { criteria = w.criteria; states = states_of w.criteria w.vectors.items } };
 
@@ -46,7 +46,7 @@ impl Weights {
     /// The number of arcs.
     pub fn arcs(&self) -> u32
         ensures count { result ≡ length self.now.states }
-        ensures states { AreStates self.now }
+        ensures states { AreWeights self.now }
     {
         self.vectors.len() as u32
     }

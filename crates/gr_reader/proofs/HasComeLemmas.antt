@@ -6,13 +6,13 @@ use Rattle.std.specs.Io.KnownBytes.{prepend_known}
 use Rattle.route_io.specs.Sources.{SourceState}
 use Rattle.road_network.specs.Limits.{max_arcs}
 use Rattle.arc_graph.specs.declared.file.ArcLine.{ArcLine}
-use Rattle.arc_graph.specs.Files.{Contents, empty_file, with_arc}
+use Rattle.arc_graph.specs.Files.{ArcFile, empty_file, with_arc}
 use Rattle.line_text.specs.Reading.{Lines, rest_of}
 use Rattle.gr_reader.specs.declared.fault.FileFault.{FileFault}
 use Rattle.gr_reader.specs.declared.fault.FileFault.TheVariants.{Line, Read, OutOfMemory}
 use Rattle.gr_reader.specs.declared.fault.FileLimits.{FileLimits}
 use Rattle.gr_reader.specs.declared.gr_lines.Stage.{Stage}
-use Rattle.gr_reader.specs.declared.gr_lines.Stage.TheVariants.{Arcs, Whole}
+use Rattle.gr_reader.specs.declared.gr_lines.Stage.TheVariants.{Graph, Whole}
 use Rattle.gr_reader.specs.Table.{Sizes, said}
 use Rattle.gr_reader.specs.Rest.{Told, read_rest, at_start}
 use Rattle.gr_reader.specs.Reader.{GrLines, unread, told_of, Moves, ArcComes, WhereArcs, BeginTells, SizesTold, ArcTells, FaultTold, IsFirstFault, TakesFile}
@@ -25,10 +25,10 @@ pub record Collects (arcs : List ArcLine) (whole later : Told) : Type 0 where
   pub parts : whole ≡ record later { arcs = arcs ++ later.arcs }
 
 -- This of a file has come to a sink. Where the source told the text at the start, what is left now gives the rest of the file.
-pub record HasCome (limits : FileLimits) (lines : GrLines) (start now : SourceState) (HasTaken : ℕ → Contents → Type 0) : Type 0 where
-  pub file : Contents
+pub record HasCome (limits : FileLimits) (lines : GrLines) (start now : SourceState) (HasTaken : ℕ → ArcFile → Type 0) : Type 0 where
+  pub file : ArcFile
   pub arcs : ℕ
-  pub at : lines.stage ≡ Arcs file.nodes arcs (length file.arcs)
+  pub at : lines.stage ≡ Graph file.nodes arcs (length file.arcs)
   pub most : arcs ≤ max_arcs
   pub taken : HasTaken arcs file
   pub told : IfSome start.left (λ bytes. IsSomeAnd (rest_of lines.lines now)
@@ -36,7 +36,7 @@ pub record HasCome (limits : FileLimits) (lines : GrLines) (start now : SourceSt
 
 -- how many arcs are still to come
 abbrev pub arcs_left : Stage → ℕ
-arcs_left (Arcs nodes arcs come) = arcs - come
+arcs_left (Graph nodes arcs come) = arcs - come
 arcs_left other = 0
 
 -- what is told of the rest before the first line is told of the text
@@ -64,7 +64,7 @@ module _ (limits : FileLimits) (start : SourceState) where
       (λ bytes told. first_fault limits bytes [] _ None fault (record { parts = refl }) told)
 
   -- no arc has come yet
-  pub has_come-none : (new : GrLines) (now : SourceState) (nodes arcs : ℕ) (HasTaken : ℕ → Contents → Type 0) → new.stage ≡ Arcs nodes arcs 0
+  pub has_come-none : (new : GrLines) (now : SourceState) (nodes arcs : ℕ) (HasTaken : ℕ → ArcFile → Type 0) → new.stage ≡ Graph nodes arcs 0
       → arcs ≤ max_arcs → BeginTells (unread limits).lines new.lines start now (Ok (nodes, arcs)) → HasTaken arcs (empty_file nodes)
       → HasCome limits new start now HasTaken
   has_come-none new now nodes arcs HasTaken at most tells taken =
@@ -78,19 +78,19 @@ module _ (limits : FileLimits) (start : SourceState) where
             (λ bytes tells. rw tells.left (record { parts = tells.same }));
       }
 
-  module _ (old : GrLines) (now : SourceState) (HasTaken : ℕ → Contents → Type 0) (come : HasCome limits old start now HasTaken) (new : GrLines)
+  module _ (old : GrLines) (now : SourceState) (HasTaken : ℕ → ArcFile → Type 0) (come : HasCome limits old start now HasTaken) (new : GrLines)
       (after : SourceState) where
     -- one more arc has come
-    pub has_come-more : (arc : ArcLine) (HasMore : ℕ → Contents → Type 0) → Moves old.stage new.stage (Ok (Some arc))
+    pub has_come-more : (arc : ArcLine) (HasMore : ℕ → ArcFile → Type 0) → Moves old.stage new.stage (Ok (Some arc))
         → WhereArcs old.stage (λ nodes arcs come. ArcTells (said nodes arcs) come old.lines new.lines now after (Ok (Some arc)))
-        → ((arcs : ℕ) (file : Contents) → HasTaken arcs file → HasMore arcs (with_arc file arc)) → HasCome limits new start after HasMore
+        → ((arcs : ℕ) (file : ArcFile) → HasTaken arcs file → HasMore arcs (with_arc file arc)) → HasCome limits new start after HasMore
     has_come-more arc HasMore moves tells takes =
         let comes : ArcComes come.file.nodes come.arcs (length come.file.arcs) new.stage arc = rw come.at at moves in
         let count = length_push come.file.arcs arc in
         record {
           file = with_arc come.file arc;
           arcs = come.arcs;
-          at = comes.counted ∙ ap (Arcs come.file.nodes come.arcs) (sym count);
+          at = comes.counted ∙ ap (Graph come.file.nodes come.arcs) (sym count);
           most = come.most;
           taken = takes come.arcs come.file come.taken;
           told = IfSome_through start.left (rest_of old.lines now) _ come.told (rw come.at at tells)

@@ -2,7 +2,7 @@
 use Rattle.std.proofs.Common.{◌≡◌, ℕ, List, Option, Some, None, Result, Ok, Err, ◌⊎◌, inl, inr, length, refl, sym, ap, subst, ◌∙◌}
 use Rattle.std.proofs.lemmas.Option.{same_Some}
 use Rattle.arc_graph.specs.declared.file.ArcLine.{ArcLine}
-use Rattle.arc_graph.specs.Files.{Contents}
+use Rattle.arc_graph.specs.Files.{ArcFile}
 use Rattle.gr_reader.specs.declared.fault.FileFault.{FileFault}
 use Rattle.gr_reader.specs.declared.fault.FileFault.TheVariants.{Line, Read, OutOfMemory}
 use Rattle.gr_reader.specs.declared.fault.FileLimits.{FileLimits}
@@ -52,11 +52,11 @@ module _ (limits : FileLimits) (bytes : List ℕ) where
   }
 
   -- what is sound is complete, since each text has one answer
-  pub complete : (result : Result Contents FileFault) → IsSound limits bytes result → IsComplete limits bytes result
+  pub complete : (result : Result ArcFile FileFault) → IsSound limits bytes result → IsComplete limits bytes result
   complete (Ok file) sound = record {
     accepts = λ nodes arcs is_gr.
         let same = is_decided.one_file file.nodes nodes file.arcs arcs sound is_gr in
-        let at : ℕ → List ArcLine → Contents = λ n a. record { nodes = n; arcs = a } in
+        let at : ℕ → List ArcLine → ArcFile = λ n a. record { nodes = n; arcs = a } in
         ap (λ n. at n file.arcs) same.0 ∙ ap (at nodes) same.1;
     refuses = λ kind line first. is_decided.never_both file.nodes file.arcs kind line sound first;
   }

@@ -4,7 +4,7 @@ use Rattle.std.specs.Prelude.{length, Option, Some, None, Result, Ok, Err}
 use Rattle.route_io.specs.Sources.{SourceState}
 use Rattle.road_network.specs.Limits.{max_nodes, max_arcs}
 use Rattle.arc_graph.specs.declared.file.ArcLine.{ArcLine}
-use Rattle.arc_graph.specs.Files.{Contents}
+use Rattle.arc_graph.specs.Files.{ArcFile}
 use Rattle.line_text.specs.declared.limits.LineLimits.{LineLimits}
 use Rattle.line_text.specs.Reading.{Lines, InLimits, LosesNone, begun, rest_of}
 use Rattle.gr_reader.specs.declared.fault.FileFault.{FileFault}
@@ -12,7 +12,7 @@ use Rattle.gr_reader.specs.declared.fault.FileFault.TheVariants.{Line, Read, Out
 use Rattle.gr_reader.specs.declared.fault.FileLimits.{FileLimits}
 use Rattle.gr_reader.specs.declared.fault.LineKind.{LineKind}
 use Rattle.gr_reader.specs.declared.gr_lines.Stage.{Stage}
-use Rattle.gr_reader.specs.declared.gr_lines.Stage.TheVariants.{Unread, Arcs, Whole, Failed}
+use Rattle.gr_reader.specs.declared.gr_lines.Stage.TheVariants.{Unread, Graph, Whole, Failed}
 use Rattle.gr_reader.specs.Table.{Sizes, State, said, line_limits}
 use Rattle.gr_reader.specs.Rest.{Fault, Told, read_rest, with_line}
 use Rattle.gr_reader.specs.Grammar.{IsArc, IsGr, GrFault, form_of_arc}
@@ -35,7 +35,7 @@ pub record AreSizes (nodes arcs : ℕ) : Type 0 where
 -- what every reader keeps at a stage: at most all arcs have come, and the lines go on until the end
 abbrev pub IsStage : Lines → Stage → Type 0
 IsStage lines Unread = lines.fault ≡ None
-IsStage lines (Arcs nodes arcs come) = AreSizes nodes arcs × (come ≤ arcs) × (lines.fault ≡ None)
+IsStage lines (Graph nodes arcs come) = AreSizes nodes arcs × (come ≤ arcs) × (lines.fault ≡ None)
 IsStage lines Whole = ⊤
 IsStage lines (Failed fault) = fault ≢ OutOfMemory
 
@@ -48,31 +48,31 @@ pub record IsReader (lines : Lines) (stage : Stage) : Type 0 where
 -- there is an answer that each call gives again
 abbrev pub IsEnded : Stage → Type 0
 IsEnded Unread = ⊥
-IsEnded (Arcs nodes arcs come) = ⊥
+IsEnded (Graph nodes arcs come) = ⊥
 IsEnded Whole = ⊤
 IsEnded (Failed fault) = ⊤
 
 -- this holds where the problem line was read, and it said so many nodes and arcs, of which some have come
 abbrev pub WhereArcs : Stage → (ℕ → ℕ → ℕ → Type 0) → Type 0
-WhereArcs (Arcs nodes arcs come) P = P nodes arcs come
+WhereArcs (Graph nodes arcs come) P = P nodes arcs come
 WhereArcs other P = ⊤
 
 -- the stage behind an answer of `begin`
 abbrev pub stage_begun : Result (ℕ × ℕ) FileFault → Stage
-stage_begun (Ok sizes) = Arcs sizes.0 sizes.1 0
+stage_begun (Ok sizes) = Graph sizes.0 sizes.1 0
 stage_begun (Err fault) = Failed fault
 
 -- One arc more has come, which was due and is in range.
 pub record ArcComes (nodes arcs come : ℕ) (new : Stage) (arc : ArcLine) : Type 0 where
   pub due : come < arcs
   pub in_range : IsArc nodes arc
-  pub counted : new ≡ Arcs nodes arcs (come + 1)
+  pub counted : new ≡ Graph nodes arcs (come + 1)
 
 -- the stages before and behind an answer of `next_arc`
 abbrev pub Moves : Stage → Stage → Result (Option ArcLine) FileFault → Type 0
-Moves (Arcs nodes arcs come) new (Ok (Some arc)) = ArcComes nodes arcs come new arc
-Moves (Arcs nodes arcs come) new (Ok None) = (come ≡ arcs) × (new ≡ Whole)
-Moves (Arcs nodes arcs come) new (Err fault) = new ≡ Failed fault
+Moves (Graph nodes arcs come) new (Ok (Some arc)) = ArcComes nodes arcs come new arc
+Moves (Graph nodes arcs come) new (Ok None) = (come ≡ arcs) × (new ≡ Whole)
+Moves (Graph nodes arcs come) new (Err fault) = new ≡ Failed fault
 Moves Whole new (Ok None) = new ≡ Whole
 Moves (Failed fault) new (Err again) = (again ≡ fault) × (new ≡ Failed fault)
 Moves old new other = ⊥
@@ -151,7 +151,7 @@ file_failed other = false
 
 -- the same of a call at a stage, of which only those that read can fail
 abbrev pub failed_at : {T : Type 0} → Stage → Result T FileFault → Bool
-failed_at (Arcs nodes arcs come) result = file_failed result
+failed_at (Graph nodes arcs come) result = file_failed result
 failed_at other result = false
 
 -- at most so many bytes were taken from a source, which still tells what is left where it told it before
@@ -166,37 +166,37 @@ IsFirstFault limits bytes Read = ⊤
 IsFirstFault limits bytes OutOfMemory = ⊤
 
 -- A file is answered only for its text, and a fault only where it is the first.
-abbrev pub IsSound : FileLimits → List ℕ → Result Contents FileFault → Type 0
+abbrev pub IsSound : FileLimits → List ℕ → Result ArcFile FileFault → Type 0
 IsSound limits bytes (Ok file) = IsGr limits bytes file.nodes file.arcs
 IsSound limits bytes (Err fault) = IsFirstFault limits bytes fault
 
 -- A whole file was taken, which is that of the text where the text is known.
-pub record TakesFile (limits : FileLimits) (text : Option (List ℕ)) (HasTaken : ℕ → Contents → Type 0) : Type 0 where
-  pub file : Contents
+pub record TakesFile (limits : FileLimits) (text : Option (List ℕ)) (HasTaken : ℕ → ArcFile → Type 0) : Type 0 where
+  pub file : ArcFile
   pub taken : HasTaken (length file.arcs) file
   pub is_gr : IfSome text (λ bytes. IsGr limits bytes file.nodes file.arcs)
 
 -- A whole file was taken, or the fault is the text's.
-abbrev pub ReadsInto : {T : Type 0} → FileLimits → Option (List ℕ) → (ℕ → Contents → Type 0) → Result T FileFault
+abbrev pub ReadsInto : {T : Type 0} → FileLimits → Option (List ℕ) → (ℕ → ArcFile → Type 0) → Result T FileFault
     → Type 0
 ReadsInto limits text HasTaken (Ok done) = TakesFile limits text HasTaken
 ReadsInto limits text HasTaken (Err fault) = IfSome text (λ bytes. IsFirstFault limits bytes fault)
 
 -- this file is answered, unless the source fails or memory runs out
-abbrev pub Gives : ℕ → List ArcLine → Result Contents FileFault → Type 0
+abbrev pub Gives : ℕ → List ArcLine → Result ArcFile FileFault → Type 0
 Gives nodes arcs (Ok file) = file ≡ record { nodes = nodes; arcs = arcs }
 Gives nodes arcs (Err (Line kind line)) = ⊥
 Gives nodes arcs (Err Read) = ⊤
 Gives nodes arcs (Err OutOfMemory) = ⊤
 
 -- this fault is answered, unless the source fails or memory runs out
-abbrev pub Refuses : LineKind → ℕ → Result Contents FileFault → Type 0
+abbrev pub Refuses : LineKind → ℕ → Result ArcFile FileFault → Type 0
 Refuses kind line (Ok file) = ⊥
 Refuses kind line (Err (Line other at)) = (other ≡ kind) × (at ≡ line)
 Refuses kind line (Err Read) = ⊤
 Refuses kind line (Err OutOfMemory) = ⊤
 
 -- Each weight file is answered, and so is the first fault of each other text.
-pub record IsComplete (limits : FileLimits) (bytes : List ℕ) (result : Result Contents FileFault) : Type 0 where
+pub record IsComplete (limits : FileLimits) (bytes : List ℕ) (result : Result ArcFile FileFault) : Type 0 where
   pub accepts : (nodes : ℕ) (arcs : List ArcLine) → IsGr limits bytes nodes arcs → Gives nodes arcs result
   pub refuses : (kind : LineKind) (line : ℕ) → GrFault limits bytes kind line → Refuses kind line result

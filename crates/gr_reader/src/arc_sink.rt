@@ -1,6 +1,6 @@
 //! What a file's arcs are handed to as they come.
 ghost use Rattle.std.specs.Prelude.{◌≡◌, ℕ, None, Some, IsSome, OnOk};
-ghost use Rattle.arc_graph.specs.Files.{Contents, empty_file, with_arc};
+ghost use Rattle.arc_graph.specs.Files.{ArcFile, empty_file, with_arc};
 ghost use Rattle.gr_reader.specs.Reader.{AreSizes};
 ghost use Rattle.gr_reader.specs.Sinks.{IsDue, JoinerIsReady, JoinerHasTaken, OneHasTaken};
 
@@ -14,7 +14,7 @@ pub trait ArcSink {
     ghost is_ready: { Self → Type 0 };
 
     /// Since the first state a file was begun that is to have so many arcs, and in the second this of it has come.
-    ghost has_taken: { Self → Self → ℕ → Contents → Type 0 };
+    ghost has_taken: { Self → Self → ℕ → ArcFile → Type 0 };
 
     /// Begins a file, which is to have this many nodes and arcs. After an error the sink is only dropped.
     fn begin(&mut self, nodes: u32, arcs: u32) -> Result<(), OutOfMemory>
@@ -25,7 +25,7 @@ pub trait ArcSink {
     /// Takes the next arc of the file that was begun last. After an error the sink is only dropped.
     fn take(&mut self, arc: ArcLine) -> Result<(), OutOfMemory>
         requires { IsDue has_taken self.old arc }
-        ensures { (before : Self) (arcs : ℕ) (file : Contents) → has_taken before self.old arcs file
+        ensures { (before : Self) (arcs : ℕ) (file : ArcFile) → has_taken before self.old arcs file
             → OnOk result (has_taken before self.new arcs (with_arc file arc)) };
 }
 

@@ -33,7 +33,7 @@ enum Stage {
     /// The problem line wasn't asked for.
     Unread,
     /// The problem line was read, and so many of its arcs have come.
-    Arcs { nodes: u32, arcs: u32, come: u32 },
+    Graph { nodes: u32, arcs: u32, come: u32 },
     /// All arcs have come, and the file has ended.
     Whole,
     /// The file has this fault, or it couldn't be read.
@@ -88,7 +88,7 @@ impl GrLines {
     {
         let answer = read_sizes(&mut self.lines, source);
         self.stage = match answer {
-            Ok((nodes, arcs)) => Stage::Arcs {
+            Ok((nodes, arcs)) => Stage::Graph {
                 nodes,
                 arcs,
                 come: 0,
@@ -122,13 +122,13 @@ impl GrLines {
     {
         let (nodes, arcs, come) = match self.stage {
             Stage::Unread => unreachable!(),
-            Stage::Arcs { nodes, arcs, come } => (nodes, arcs, come),
+            Stage::Graph { nodes, arcs, come } => (nodes, arcs, come),
             Stage::Whole => return Ok(None),
             Stage::Failed(fault) => return Err(fault),
         };
         let answer = read_arc(&mut self.lines, source, nodes, arcs, come);
         self.stage = match answer {
-            Ok(Some(_)) => Stage::Arcs {
+            Ok(Some(_)) => Stage::Graph {
                 nodes,
                 arcs,
                 come: come + 1,

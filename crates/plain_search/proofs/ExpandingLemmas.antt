@@ -12,7 +12,7 @@ use Rattle.road_network.specs.Network.{IsNetwork, IsNode}
 use Rattle.road_network.specs.Walks.{Arrives, IsSumOf}
 use Rattle.road_network.proofs.SumLaws.{sum_of_none, sum_of_more, small_by}
 use Rattle.road_network.proofs.WalkLaws.{length_of_arrival, node_of_arrival, leads_by_vector}
-use Rattle.arc_graph.specs.Graph.{Arcs, States, relaxed, ComesOf}
+use Rattle.arc_graph.specs.Graph.{Graph, Weights, relaxed, ComesOf}
 use Rattle.arc_graph.proofs.RelaxLaws.{network_of, label_in, label_of}
 use Rattle.plain_search.specs.declared.query.Query.{Query}
 use Rattle.plain_search.specs.Query.{IsPosed}
@@ -42,7 +42,7 @@ pub record IsExpanding (task : Task) (permanent : List Spot) (x : Spot) (waiting
   pub later : All (λ e. ¬ LexLess x.cost e.cost) (permanent ++ x ∷ [])
   pub small : IsSumOf (length permanent) x.cost
 
-module _ (g : Arcs) (w : States) (query : Query) (posed : IsPosed g w query) where
+module _ (g : Graph) (w : Weights) (query : Query) (posed : IsPosed g w query) where
   abbrev task : Task
   task = task_of g w query
 

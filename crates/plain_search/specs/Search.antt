@@ -7,7 +7,7 @@ use Rattle.list_laws.specs.Without.{IsWithout}
 use Rattle.road_network.specs.Network.{Network, Leads}
 use Rattle.road_network.specs.Walks.{Arrives, IsSumOf}
 use Rattle.road_network.specs.Answers.{IsRelevant}
-use Rattle.arc_graph.specs.Graph.{Arcs, States, network}
+use Rattle.arc_graph.specs.Graph.{Graph, Weights, network}
 use Rattle.plain_search.specs.declared.query.Query.{Query}
 
 -- what is sought: the best costs of a node within a limit, from another
@@ -18,7 +18,7 @@ pub record Task : Type 0 where
   pub limit : List (Option ℕ)
 
 -- the task of a query
-abbrev pub task_of : Arcs → States → Query → Task
+abbrev pub task_of : Graph → Weights → Query → Task
 task_of g w query = record { net = network g w; from = query.from.0; to = query.to.0; limit = query.limit }
 
 -- the pair of a node and a cost is relevant to the task

@@ -12,8 +12,8 @@ use Rattle.road_network.specs.Network.{Network}
 use Rattle.arc_graph.specs.declared.join.JoinFault.{JoinFault}
 use Rattle.arc_graph.specs.declared.join.JoinFault.TheVariants as join
 use Rattle.arc_graph.specs.Agreement.{HasFault}
-use Rattle.arc_graph.specs.Files.{Contents}
-use Rattle.arc_graph.specs.Joining.{Joining}
+use Rattle.arc_graph.specs.Files.{ArcFile}
+use Rattle.arc_graph.specs.Joiner.{Joiner}
 use Rattle.arc_graph.specs.StandsFor.{StandsFor}
 use Rattle.gr_reader.specs.Reader.{TakesFile}
 use Rattle.gr_reader.specs.Sinks.{JoinerHasTaken}
@@ -32,14 +32,14 @@ tells (Some file_of) name left Holds opens holds =
     record { bytes = opens.0; found = opens.1; holds = rw opens.2 at holds }
 
 -- the joiner has taken the file that was opened
-pub takes_named : (files : Option FileMap) (name : List ℕ) (left : Option (List ℕ)) (before now : Joining) → Opens files name left
+pub takes_named : (files : Option FileMap) (name : List ℕ) (left : Option (List ℕ)) (before now : Joiner) → Opens files name left
     → TakesFile weight_limits left (JoinerHasTaken before now) → TakesNamed files name before now
 takes_named files name left before now opens takes =
     record { contents = takes.file; says = tells files name left _ opens takes.is_gr; taken = takes.taken }
 
 -- The joiner stands for the files of these names.
-pub record HasRead (files : Option FileMap) (names : List (List ℕ)) (joiner : Joining) : Type 0 where
-  pub contents : List Contents
+pub record HasRead (files : Option FileMap) (names : List (List ℕ)) (joiner : Joiner) : Type 0 where
+  pub contents : List ArcFile
   pub read : AllZip (Says files) names contents
   pub stands : StandsFor joiner contents
 
@@ -54,12 +54,12 @@ module _ {N : Type 0} (text : N → List ℕ) (items : List N) (i : ℕ) (d : N)
   pub next_of : (P : List ℕ → Type 0) → All P (map text items) → P (text (get_or items i d))
   next_of P all = subst P next (all i [] within_texts)
 
-  module _ (files told : Option FileMap) (same : told ≡ files) (joiner : Joining) (has : HasRead files (take i (map text items)) joiner) where
+  module _ (files told : Option FileMap) (same : told ≡ files) (joiner : Joiner) (has : HasRead files (take i (map text items)) joiner) where
     one_name_more : take (i + 1) (map text items) ≡ take i (map text items) ++ text (get_or items i d) ∷ []
     one_name_more = take_more (map text items) i [] within_texts ∙ ap (λ name. take i (map text items) ++ name ∷ []) next
 
     -- one file more was read
-    pub reads_more : (more : Joining) → TakesNamed told (text (get_or items i d)) joiner more → HasRead files (take (i + 1) (map text items)) more
+    pub reads_more : (more : Joiner) → TakesNamed told (text (get_or items i d)) joiner more → HasRead files (take (i + 1) (map text items)) more
     reads_more more one =
         let says = rw same at one.says in
         rw one_name_more (record {
@@ -84,12 +84,12 @@ module _ {N : Type 0} (text : N → List ℕ) (items : List N) (i : ℕ) (d : N)
     }) (rw same at stop)
 
 -- all files were read
-pub has_all : {N : Type 0} (text : N → List ℕ) (items : List N) (i : ℕ) (files : Option FileMap) (joiner : Joining) → length items ≤ i
+pub has_all : {N : Type 0} (text : N → List ℕ) (items : List N) (i : ℕ) (files : Option FileMap) (joiner : Joiner) → length items ≤ i
     → HasRead files (take i (map text items)) joiner → HasRead files (map text items) joiner
 has_all text items i files joiner past has = rw (take_all i (map text items) (omega (arith, length-map items text))) at has
 
 -- all files were read, but the joining says no network
-pub not_joined : (files : Option FileMap) (names : List (List ℕ)) (joiner : Joining) (has : HasRead files names joiner) (fault : JoinFault)
+pub not_joined : (files : Option FileMap) (names : List (List ℕ)) (joiner : Joiner) (has : HasRead files names joiner) (fault : JoinFault)
     → (fault ≢ join.OutOfMemory → HasFault has.contents fault) → FilesStop files names (outcome_of (stop_of fault))
 not_joined files names joiner has (join.Sizes file) is =
     disagree (record { contents = has.contents; read = has.read; fault_is = is (λ e. cc) })

@@ -6,7 +6,7 @@ use Rattle.route_io.specs.Files.{FileMap}
 use Rattle.road_network.specs.Network.{Network}
 use Rattle.arc_graph.specs.declared.join.JoinFault.{JoinFault}
 use Rattle.arc_graph.specs.declared.join.JoinFault.TheVariants as join
-use Rattle.arc_graph.specs.Files.{Contents}
+use Rattle.arc_graph.specs.Files.{ArcFile}
 use Rattle.arc_graph.specs.Agreement.{Agree, HasFault, joined}
 use Rattle.line_text.specs.Reading.{max_line}
 use Rattle.gr_reader.specs.Grammar.{IsGr, GrFault}
@@ -35,7 +35,7 @@ abbrev pub Tells : Option FileMap → List ℕ → (List ℕ → Type 0) → Typ
 Tells files name Holds = IfSome files (λ file_of. HasFile file_of name Holds)
 
 -- the file of this name says this
-abbrev pub Says : Option FileMap → List ℕ → Contents → Type 0
+abbrev pub Says : Option FileMap → List ℕ → ArcFile → Type 0
 Says files name contents = Tells files name (λ bytes. IsGr weight_limits bytes contents.nodes contents.arcs)
 
 -- the first fault of the file of this name
@@ -57,7 +57,7 @@ pub record ComesAfterRead (files : Option FileMap) (names : List (List ℕ)) (na
   pub before : List (List ℕ)
   pub after : List (List ℕ)
   pub place : names ≡ before ++ name ∷ after
-  pub contents : List Contents
+  pub contents : List ArcFile
   pub read : AllZip (Says files) before contents
 
 -- the fault of the joining that it is
@@ -68,13 +68,13 @@ join_fault (ZeroArc arc) = join.ZeroArc arc
 
 -- All files were read, but they don't agree.
 pub record Disagree (files : Option FileMap) (names : List (List ℕ)) (way : Disagreement) : Type 0 where
-  pub contents : List Contents
+  pub contents : List ArcFile
   pub read : AllZip (Says files) names contents
   pub fault_is : HasFault contents (join_fault way)
 
 -- All files were read, and they say this network together.
 pub record ReadAs (files : Option FileMap) (names : List (List ℕ)) (net : Network) : Type 0 where
-  pub contents : List Contents
+  pub contents : List ArcFile
   pub read : AllZip (Says files) names contents
   pub agree : Agree contents
   pub network : net ≡ joined contents

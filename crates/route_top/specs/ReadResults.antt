@@ -3,9 +3,9 @@ use Rattle.std.specs.Prelude.{ℕ, List, Option, Result, Ok, Err, length}
 use Rattle.route_io.specs.Files.{FileMap}
 use Rattle.arc_graph.specs.declared.graph.Graph.{Graph}
 use Rattle.arc_graph.specs.declared.weights.Weights.{Weights}
-use Rattle.arc_graph.specs.Files.{Contents}
+use Rattle.arc_graph.specs.Files.{ArcFile}
 use Rattle.arc_graph.specs.Graph.{network}
-use Rattle.arc_graph.specs.Joining.{Joining}
+use Rattle.arc_graph.specs.Joiner.{Joiner}
 use Rattle.gr_reader.specs.Sinks.{JoinerHasTaken}
 use Rattle.route_top.specs.declared.stop.Stop.{Stop}
 use Rattle.route_top.specs.FilesRead.{Says, ReadAs, FileStop, FilesStop}
@@ -17,12 +17,12 @@ NetworkRead files names (Ok r) = ReadAs files names (network r.0 r.1)
 NetworkRead files names (Err stop) = FilesStop files names (outcome_of stop)
 
 -- The joiner has taken one file more, which is that of this name.
-pub record TakesNamed (files : Option FileMap) (name : List ℕ) (before now : Joining) : Type 0 where
-  pub contents : Contents
+pub record TakesNamed (files : Option FileMap) (name : List ℕ) (before now : Joiner) : Type 0 where
+  pub contents : ArcFile
   pub says : Says files name contents
   pub taken : JoinerHasTaken before now (length contents.arcs) contents
 
 -- the joiner has taken the file of this name, or why it hasn't
-abbrev pub FileRead : {T : Type 0} → Option FileMap → List ℕ → Joining → Joining → Result T Stop → Type 0
+abbrev pub FileRead : {T : Type 0} → Option FileMap → List ℕ → Joiner → Joiner → Result T Stop → Type 0
 FileRead files name before now (Ok value) = TakesNamed files name before now
 FileRead files name before now (Err stop) = FileStop files name (outcome_of stop)

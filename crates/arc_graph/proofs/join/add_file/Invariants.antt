@@ -1,5 +1,5 @@
 use Rattle.std.proofs.Common.{◌≡◌, ◌+◌, ◌++◌, ◌∷◌, List, [], length, take}
-use Rattle.arc_graph.specs.Files.{Contents}
+use Rattle.arc_graph.specs.Files.{ArcFile}
 use Rattle.arc_graph.specs.StandsFor.{StandsFor}
 use Rattle.arc_graph.proofs.join.add_file.Given as goal
 
@@ -10,6 +10,6 @@ invariant-loop-arc l = record {
   nodes : l.joiner.due_nodes ≡ l.file.nodes;
   arcs : l.joiner.due_arcs ≡ length l.arcs;
   come : l.joiner.come ≡ l.arc-index;
-  stands : (files : List Contents) → StandsFor l.fn.joiner files
+  stands : (files : List ArcFile) → StandsFor l.fn.joiner files
       → StandsFor l.joiner (files ++ record { nodes = l.file.nodes; arcs = take l.arc-index l.arcs } ∷ []);
 }

@@ -4,13 +4,13 @@ use Rattle.std.specs.Prelude.{All}
 use Rattle.std.proofs.lemmas.List.Elements.{All-get_or, All-set}
 use Rattle.std.proofs.lemmas.List.{length-set}
 use Rattle.arc_graph.specs.declared.join.OtherEnds.{OtherEnds}
-use Rattle.arc_graph.specs.Joining.{Joining, IsJoining}
+use Rattle.arc_graph.specs.Joiner.{Joiner, IsJoiner}
 use Rattle.arc_graph.specs.Stored.{IsStoredState}
 use Rattle.arc_graph.proofs.Places.{stored_after_set}
 
 -- one arc more has come, whose weight is stored
-pub joining_after_arc : (j : Joining) (vectors : List (List ℕ)) (told : Option OtherEnds) → 2 ≤ j.begun → j.come < j.due_arcs → length vectors ≡ length j.ends
-    → All (IsStoredState j.begun) vectors → IsJoining j → IsJoining (record j { vectors = vectors; come = j.come + 1; other_ends = told })
+pub joining_after_arc : (j : Joiner) (vectors : List (List ℕ)) (told : Option OtherEnds) → 2 ≤ j.begun → j.come < j.due_arcs → length vectors ≡ length j.ends
+    → All (IsStoredState j.begun) vectors → IsJoiner j → IsJoiner (record j { vectors = vectors; come = j.come + 1; other_ends = told })
 joining_after_arc j vectors told later due matched stored kept = record {
   files = kept.files;
   come = omega arith;
@@ -27,9 +27,9 @@ joining_after_arc j vectors told later due matched stored kept = record {
 }
 
 -- its weight is written at its place
-pub joining_after_weight : (j : Joining) (places : List ℕ) (x : ℕ) (told : Option OtherEnds) → 2 ≤ j.begun → j.come < j.due_arcs → j.come < length j.ends
-    → x < 2 ^ 32 → places ≡ get_or j.vectors j.come places → IsJoining j
-    → IsJoining (record j { vectors = set j.vectors j.come (set places (j.begun - 1) x); come = j.come + 1; other_ends = told })
+pub joining_after_weight : (j : Joiner) (places : List ℕ) (x : ℕ) (told : Option OtherEnds) → 2 ≤ j.begun → j.come < j.due_arcs → j.come < length j.ends
+    → x < 2 ^ 32 → places ≡ get_or j.vectors j.come places → IsJoiner j
+    → IsJoiner (record j { vectors = set j.vectors j.come (set places (j.begun - 1) x); come = j.come + 1; other_ends = told })
 joining_after_weight j places x told later due there small at kept =
     let Stored : List ℕ → Type 0 = IsStoredState j.begun in
     let stored : Stored places = subst Stored (sym at) (All-get_or Stored j.vectors j.come places (omega (arith, kept.matched)) kept.stored) in

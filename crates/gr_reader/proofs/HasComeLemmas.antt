@@ -15,7 +15,7 @@ use Rattle.gr_reader.specs.declared.gr_lines.Stage.{Stage}
 use Rattle.gr_reader.specs.declared.gr_lines.Stage.TheVariants.{Arcs, Whole}
 use Rattle.gr_reader.specs.Table.{Sizes, said}
 use Rattle.gr_reader.specs.Rest.{Told, read_rest, at_start}
-use Rattle.gr_reader.specs.Reader.{GrLines, unread, told_of, Moves, ArcComes, WhereArcs, BeginTells, SizesTold, ArcTells, FaultTold, IsFirstFault, TakesFile}
+use Rattle.gr_reader.specs.Reader.{GrLines, unread, told_of, Moves, WhereArcs, BeginTells, SizesTold, ArcTells, FaultTold, IsFirstFault, TakesFile}
 use Rattle.gr_reader.proofs.GrFaultLemmas.{fault_is_first}
 use Rattle.gr_reader.proofs.LawsLemmas.{read_is_file}
 use Rattle.gr_reader.proofs.StepsLemmas.{IfSome_through}
@@ -85,12 +85,12 @@ module _ (limits : FileLimits) (start : SourceState) where
         → WhereArcs old.stage (λ nodes arcs come. ArcTells (said nodes arcs) come old.lines new.lines now after (Ok (Some arc)))
         → ((arcs : ℕ) (file : Contents) → HasTaken arcs file → HasMore arcs (with_arc file arc)) → HasCome limits new start after HasMore
     has_come-more arc HasMore moves tells takes =
-        let comes : ArcComes come.file.nodes come.arcs (length come.file.arcs) new.stage arc = rw come.at at moves in
+        let next : new.stage ≡ Arcs come.file.nodes come.arcs (length come.file.arcs + 1) = (rw come.at at moves).1 in
         let count = length_push come.file.arcs arc in
         record {
           file = with_arc come.file arc;
           arcs = come.arcs;
-          at = comes.counted ∙ ap (Arcs come.file.nodes come.arcs) (sym count);
+          at = next ∙ ap (Arcs come.file.nodes come.arcs) (sym count);
           most = come.most;
           taken = takes come.arcs come.file come.taken;
           told = IfSome_through start.left (rest_of old.lines now) _ come.told (rw come.at at tells)

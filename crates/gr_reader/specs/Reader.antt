@@ -62,17 +62,21 @@ abbrev pub stage_begun : Result (ℕ × ℕ) FileFault → Stage
 stage_begun (Ok sizes) = Arcs sizes.0 sizes.1 0
 stage_begun (Err fault) = Failed fault
 
--- One arc more has come, which was due and is in range.
-pub record ArcComes (nodes arcs come : ℕ) (new : Stage) (arc : ArcLine) : Type 0 where
-  pub due : come < arcs
-  pub in_range : IsArc nodes arc
-  pub counted : new ≡ Arcs nodes arcs (come + 1)
+-- An arc is answered that was due and is in range, or none where all have come.
+abbrev pub IsNext : ℕ → ℕ → ℕ → Result (Option ArcLine) FileFault → Type 0
+IsNext nodes arcs come (Ok (Some arc)) = (come < arcs) × IsArc nodes arc
+IsNext nodes arcs come (Ok None) = come ≡ arcs
+IsNext nodes arcs come (Err fault) = ⊤
+
+-- the stage behind an answer of `next_arc`, where so many arcs have come
+abbrev pub stage_next : ℕ → ℕ → ℕ → Result (Option ArcLine) FileFault → Stage
+stage_next nodes arcs come (Ok (Some arc)) = Arcs nodes arcs (come + 1)
+stage_next nodes arcs come (Ok None) = Whole
+stage_next nodes arcs come (Err fault) = Failed fault
 
 -- the stages before and behind an answer of `next_arc`
 abbrev pub Moves : Stage → Stage → Result (Option ArcLine) FileFault → Type 0
-Moves (Arcs nodes arcs come) new (Ok (Some arc)) = ArcComes nodes arcs come new arc
-Moves (Arcs nodes arcs come) new (Ok None) = (come ≡ arcs) × (new ≡ Whole)
-Moves (Arcs nodes arcs come) new (Err fault) = new ≡ Failed fault
+Moves (Arcs nodes arcs come) new result = IsNext nodes arcs come result × (new ≡ stage_next nodes arcs come result)
 Moves Whole new (Ok None) = new ≡ Whole
 Moves (Failed fault) new (Err again) = (again ≡ fault) × (new ≡ Failed fault)
 Moves old new other = ⊥

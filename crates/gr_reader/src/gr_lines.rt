@@ -7,7 +7,8 @@ ghost use Rattle.line_text.specs.Reading.{max_line};
 ghost use Rattle.gr_reader.specs.Grammar.{IsArc, form_of_arc};
 ghost use Rattle.gr_reader.specs.Steps.{FormTells, IsAccepted, range_kind};
 ghost use Rattle.gr_reader.specs.Table.{form_kind, in_range, said};
-ghost use Rattle.gr_reader.specs.Reader.{ArcTells, AreSizes, BeginTells, IsEnded, Moves, TakesBytes, WhereArcs};
+ghost use Rattle.gr_reader.specs.Reader.{ArcTells, AreSizes, BeginTells, IsEnded, IsNext, IsStage, Moves, TakesBytes};
+ghost use Rattle.gr_reader.specs.Reader.{WhereArcs};
 ghost use Rattle.gr_reader.specs.Reader.{file_failed, failed_at, stage_begun, unread};
 
 use crate::fault::{FileFault, FileLimits, LineKind};
@@ -176,8 +177,7 @@ fn read_arc<S: Source>(
     come: u32,
 ) -> Result<Option<ArcLine>, FileFault>
     requires fits { lines.old.limits.total ≤ 2 ^ 63 }
-    requires goes_on { lines.old.fault ≡ None }
-    requires nodes { nodes ≤ max_nodes }
+    requires at_stage { IsStage lines.old (Stage.Arcs nodes arcs come) }
 
     // Where the source tells its bytes, the answer is that of the file's text, and no byte is lost.
     ensures tells { ArcTells (said nodes arcs) come
@@ -186,9 +186,7 @@ fn read_arc<S: Source>(
 
     // What holds over every source.
     ensures goes_on { OnOk result (lines.new.fault ≡ None) }
-    ensures in_range { IfOk result (λ found. IfSome found (IsArc nodes)) }
-    ensures some_due { IfOk result (λ found. OnSome found (come < arcs)) }
-    ensures none_due { result ≡ Ok None → arcs ≤ come }
+    ensures next { IsNext nodes arcs come result }
     ensures takes_no_memory { result ≢ Err FileFault.OutOfMemory }
 
     // The source's failures alone make a failed read.

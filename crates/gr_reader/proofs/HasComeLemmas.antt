@@ -12,10 +12,10 @@ use Rattle.gr_reader.specs.declared.fault.FileFault.{FileFault}
 use Rattle.gr_reader.specs.declared.fault.FileFault.TheVariants.{Line, Read, OutOfMemory}
 use Rattle.gr_reader.specs.declared.fault.FileLimits.{FileLimits}
 use Rattle.gr_reader.specs.declared.gr_lines.Stage.{Stage}
-use Rattle.gr_reader.specs.declared.gr_lines.Stage.TheVariants.{Graph, Whole}
+use Rattle.gr_reader.specs.declared.gr_lines.Stage.TheVariants.{Arcs, Whole}
 use Rattle.gr_reader.specs.Table.{Sizes, said}
 use Rattle.gr_reader.specs.Rest.{Told, read_rest, at_start}
-use Rattle.gr_reader.specs.Reader.{GrLines, unread, told_of, Moves, ArcComes, WhereArcs, BeginTells, SizesTold, ArcTells, FaultTold, IsFirstFault, TakesFile}
+use Rattle.gr_reader.specs.Reader.{GrLines, unread, told_of, Moves, WhereArcs, BeginTells, SizesTold, ArcTells, FaultTold, IsFirstFault, TakesFile}
 use Rattle.gr_reader.proofs.GrFaultLemmas.{fault_is_first}
 use Rattle.gr_reader.proofs.LawsLemmas.{read_is_file}
 use Rattle.gr_reader.proofs.StepsLemmas.{IfSome_through}
@@ -28,7 +28,7 @@ pub record Collects (arcs : List ArcLine) (whole later : Told) : Type 0 where
 pub record HasCome (limits : FileLimits) (lines : GrLines) (start now : SourceState) (HasTaken : ℕ → ArcFile → Type 0) : Type 0 where
   pub file : ArcFile
   pub arcs : ℕ
-  pub at : lines.stage ≡ Graph file.nodes arcs (length file.arcs)
+  pub at : lines.stage ≡ Arcs file.nodes arcs (length file.arcs)
   pub most : arcs ≤ max_arcs
   pub taken : HasTaken arcs file
   pub told : IfSome start.left (λ bytes. IsSomeAnd (rest_of lines.lines now)
@@ -36,7 +36,7 @@ pub record HasCome (limits : FileLimits) (lines : GrLines) (start now : SourceSt
 
 -- how many arcs are still to come
 abbrev pub arcs_left : Stage → ℕ
-arcs_left (Graph nodes arcs come) = arcs - come
+arcs_left (Arcs nodes arcs come) = arcs - come
 arcs_left other = 0
 
 -- what is told of the rest before the first line is told of the text
@@ -64,7 +64,7 @@ module _ (limits : FileLimits) (start : SourceState) where
       (λ bytes told. first_fault limits bytes [] _ None fault (record { parts = refl }) told)
 
   -- no arc has come yet
-  pub has_come-none : (new : GrLines) (now : SourceState) (nodes arcs : ℕ) (HasTaken : ℕ → ArcFile → Type 0) → new.stage ≡ Graph nodes arcs 0
+  pub has_come-none : (new : GrLines) (now : SourceState) (nodes arcs : ℕ) (HasTaken : ℕ → ArcFile → Type 0) → new.stage ≡ Arcs nodes arcs 0
       → arcs ≤ max_arcs → BeginTells (unread limits).lines new.lines start now (Ok (nodes, arcs)) → HasTaken arcs (empty_file nodes)
       → HasCome limits new start now HasTaken
   has_come-none new now nodes arcs HasTaken at most tells taken =
@@ -85,12 +85,12 @@ module _ (limits : FileLimits) (start : SourceState) where
         → WhereArcs old.stage (λ nodes arcs come. ArcTells (said nodes arcs) come old.lines new.lines now after (Ok (Some arc)))
         → ((arcs : ℕ) (file : ArcFile) → HasTaken arcs file → HasMore arcs (with_arc file arc)) → HasCome limits new start after HasMore
     has_come-more arc HasMore moves tells takes =
-        let comes : ArcComes come.file.nodes come.arcs (length come.file.arcs) new.stage arc = rw come.at at moves in
+        let next : new.stage ≡ Arcs come.file.nodes come.arcs (length come.file.arcs + 1) = (rw come.at at moves).1 in
         let count = length_push come.file.arcs arc in
         record {
           file = with_arc come.file arc;
           arcs = come.arcs;
-          at = comes.counted ∙ ap (Graph come.file.nodes come.arcs) (sym count);
+          at = next ∙ ap (Arcs come.file.nodes come.arcs) (sym count);
           most = come.most;
           taken = takes come.arcs come.file come.taken;
           told = IfSome_through start.left (rest_of old.lines now) _ come.told (rw come.at at tells)

@@ -12,7 +12,7 @@ use Rattle.gr_reader.specs.declared.fault.FileFault.TheVariants.{Line, Read, Out
 use Rattle.gr_reader.specs.declared.fault.FileLimits.{FileLimits}
 use Rattle.gr_reader.specs.declared.fault.LineKind.{LineKind}
 use Rattle.gr_reader.specs.declared.gr_lines.Stage.{Stage}
-use Rattle.gr_reader.specs.declared.gr_lines.Stage.TheVariants.{Unread, Graph, Whole, Failed}
+use Rattle.gr_reader.specs.declared.gr_lines.Stage.TheVariants.{Unread, Arcs, Whole, Failed}
 use Rattle.gr_reader.specs.Table.{Sizes, State, said, line_limits}
 use Rattle.gr_reader.specs.Rest.{Fault, Told, read_rest, with_line}
 use Rattle.gr_reader.specs.Grammar.{IsArc, IsGr, GrFault, form_of_arc}
@@ -35,7 +35,7 @@ pub record AreSizes (nodes arcs : ℕ) : Type 0 where
 -- what every reader keeps at a stage: at most all arcs have come, and the lines go on until the end
 abbrev pub IsStage : Lines → Stage → Type 0
 IsStage lines Unread = lines.fault ≡ None
-IsStage lines (Graph nodes arcs come) = AreSizes nodes arcs × (come ≤ arcs) × (lines.fault ≡ None)
+IsStage lines (Arcs nodes arcs come) = AreSizes nodes arcs × (come ≤ arcs) × (lines.fault ≡ None)
 IsStage lines Whole = ⊤
 IsStage lines (Failed fault) = fault ≢ OutOfMemory
 
@@ -48,31 +48,35 @@ pub record IsReader (lines : Lines) (stage : Stage) : Type 0 where
 -- there is an answer that each call gives again
 abbrev pub IsEnded : Stage → Type 0
 IsEnded Unread = ⊥
-IsEnded (Graph nodes arcs come) = ⊥
+IsEnded (Arcs nodes arcs come) = ⊥
 IsEnded Whole = ⊤
 IsEnded (Failed fault) = ⊤
 
 -- this holds where the problem line was read, and it said so many nodes and arcs, of which some have come
 abbrev pub WhereArcs : Stage → (ℕ → ℕ → ℕ → Type 0) → Type 0
-WhereArcs (Graph nodes arcs come) P = P nodes arcs come
+WhereArcs (Arcs nodes arcs come) P = P nodes arcs come
 WhereArcs other P = ⊤
 
 -- the stage behind an answer of `begin`
 abbrev pub stage_begun : Result (ℕ × ℕ) FileFault → Stage
-stage_begun (Ok sizes) = Graph sizes.0 sizes.1 0
+stage_begun (Ok sizes) = Arcs sizes.0 sizes.1 0
 stage_begun (Err fault) = Failed fault
 
--- One arc more has come, which was due and is in range.
-pub record ArcComes (nodes arcs come : ℕ) (new : Stage) (arc : ArcLine) : Type 0 where
-  pub due : come < arcs
-  pub in_range : IsArc nodes arc
-  pub counted : new ≡ Graph nodes arcs (come + 1)
+-- An arc is answered that was due and is in range, or none where all have come.
+abbrev pub IsNext : ℕ → ℕ → ℕ → Result (Option ArcLine) FileFault → Type 0
+IsNext nodes arcs come (Ok (Some arc)) = (come < arcs) × IsArc nodes arc
+IsNext nodes arcs come (Ok None) = come ≡ arcs
+IsNext nodes arcs come (Err fault) = ⊤
+
+-- the stage behind an answer of `next_arc`, where so many arcs have come
+abbrev pub stage_next : ℕ → ℕ → ℕ → Result (Option ArcLine) FileFault → Stage
+stage_next nodes arcs come (Ok (Some arc)) = Arcs nodes arcs (come + 1)
+stage_next nodes arcs come (Ok None) = Whole
+stage_next nodes arcs come (Err fault) = Failed fault
 
 -- the stages before and behind an answer of `next_arc`
 abbrev pub Moves : Stage → Stage → Result (Option ArcLine) FileFault → Type 0
-Moves (Graph nodes arcs come) new (Ok (Some arc)) = ArcComes nodes arcs come new arc
-Moves (Graph nodes arcs come) new (Ok None) = (come ≡ arcs) × (new ≡ Whole)
-Moves (Graph nodes arcs come) new (Err fault) = new ≡ Failed fault
+Moves (Arcs nodes arcs come) new result = IsNext nodes arcs come result × (new ≡ stage_next nodes arcs come result)
 Moves Whole new (Ok None) = new ≡ Whole
 Moves (Failed fault) new (Err again) = (again ≡ fault) × (new ≡ Failed fault)
 Moves old new other = ⊥
@@ -151,7 +155,7 @@ file_failed other = false
 
 -- the same of a call at a stage, of which only those that read can fail
 abbrev pub failed_at : {T : Type 0} → Stage → Result T FileFault → Bool
-failed_at (Graph nodes arcs come) result = file_failed result
+failed_at (Arcs nodes arcs come) result = file_failed result
 failed_at other result = false
 
 -- at most so many bytes were taken from a source, which still tells what is left where it told it before

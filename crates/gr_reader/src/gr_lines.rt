@@ -7,7 +7,8 @@ ghost use Rattle.line_text.specs.Reading.{max_line};
 ghost use Rattle.gr_reader.specs.Grammar.{IsArc, form_of_arc};
 ghost use Rattle.gr_reader.specs.Steps.{FormTells, IsAccepted, range_kind};
 ghost use Rattle.gr_reader.specs.Table.{form_kind, in_range, said};
-ghost use Rattle.gr_reader.specs.Reader.{ArcTells, AreSizes, BeginTells, IsEnded, Moves, TakesBytes, WhereArcs};
+ghost use Rattle.gr_reader.specs.Reader.{ArcTells, AreSizes, BeginTells, IsEnded, IsNext, IsStage, Moves, TakesBytes};
+ghost use Rattle.gr_reader.specs.Reader.{WhereArcs};
 ghost use Rattle.gr_reader.specs.Reader.{file_failed, failed_at, stage_begun, unread};
 
 use crate::fault::{FileFault, FileLimits, LineKind};
@@ -33,7 +34,7 @@ enum Stage {
     /// The problem line wasn't asked for.
     Unread,
     /// The problem line was read, and so many of its arcs have come.
-    Graph { nodes: u32, arcs: u32, come: u32 },
+    Arcs { nodes: u32, arcs: u32, come: u32 },
     /// All arcs have come, and the file has ended.
     Whole,
     /// The file has this fault, or it couldn't be read.
@@ -88,7 +89,7 @@ impl GrLines {
     {
         let answer = read_sizes(&mut self.lines, source);
         self.stage = match answer {
-            Ok((nodes, arcs)) => Stage::Graph {
+            Ok((nodes, arcs)) => Stage::Arcs {
                 nodes,
                 arcs,
                 come: 0,
@@ -122,13 +123,13 @@ impl GrLines {
     {
         let (nodes, arcs, come) = match self.stage {
             Stage::Unread => unreachable!(),
-            Stage::Graph { nodes, arcs, come } => (nodes, arcs, come),
+            Stage::Arcs { nodes, arcs, come } => (nodes, arcs, come),
             Stage::Whole => return Ok(None),
             Stage::Failed(fault) => return Err(fault),
         };
         let answer = read_arc(&mut self.lines, source, nodes, arcs, come);
         self.stage = match answer {
-            Ok(Some(_)) => Stage::Graph {
+            Ok(Some(_)) => Stage::Arcs {
                 nodes,
                 arcs,
                 come: come + 1,
@@ -176,8 +177,7 @@ fn read_arc<S: Source>(
     come: u32,
 ) -> Result<Option<ArcLine>, FileFault>
     requires fits { lines.old.limits.total ≤ 2 ^ 63 }
-    requires goes_on { lines.old.fault ≡ None }
-    requires nodes { nodes ≤ max_nodes }
+    requires at_stage { IsStage lines.old (Stage.Arcs nodes arcs come) }
 
     // Where the source tells its bytes, the answer is that of the file's text, and no byte is lost.
     ensures tells { ArcTells (said nodes arcs) come
@@ -186,9 +186,7 @@ fn read_arc<S: Source>(
 
     // What holds over every source.
     ensures goes_on { OnOk result (lines.new.fault ≡ None) }
-    ensures in_range { IfOk result (λ found. IfSome found (IsArc nodes)) }
-    ensures some_due { IfOk result (λ found. OnSome found (come < arcs)) }
-    ensures none_due { result ≡ Ok None → arcs ≤ come }
+    ensures next { IsNext nodes arcs come result }
     ensures takes_no_memory { result ≢ Err FileFault.OutOfMemory }
 
     // The source's failures alone make a failed read.

@@ -1,10 +1,10 @@
 -- What `retain` leaves of a list that is seen through a map.
-use Rattle.std.proofs.Common.{◌≡◌, Bool, true, false, not, ◌↔◌, IsTrue, List, [], ◌∷◌, length, map, inl, inr, refl, sym, subst, arith}
+use Rattle.std.proofs.Common.{◌≡◌, Bool, true, false, not, ◌↔◌, IsTrue, List, [], ◌∷◌, length, map, refl, sym, subst, arith, rules}
 use Rattle.std.specs.Prelude.{MatchBool, Contains}
 use Rattle.std.specs.List.{items_where_true}
 use Rattle.std.specs.List.Retain.{IsFiltered, ReturnsInTurn}
 use Rattle.std.proofs.lemmas.Bool.{false≢true}
-use Rattle.list_laws.proofs.Members.{in_none, in_front, in_rest, cases_in}
+use Rattle.list_laws.proofs.Members.{in_none, in_either}
 
 -- the opposite of a test of P tells where P fails
 pub fails_by_not : (P : Type 0) (b r : Bool) → b ≡ not r → IsTrue r ↔ P → MatchBool b (¬ P) P
@@ -24,23 +24,16 @@ module _ {X Y F : Type 0} (f : X → Y) (R : F → X → Bool → F → Type 0) 
   left_more : (b : Bool) (x : X) (xs : List X) (bs : List Bool) → MatchBool b (¬ P (f x)) (P (f x)) → IsLeft xs (items_where_true bs xs)
       → IsLeft (x ∷ xs) (items_where_true (b ∷ bs) (x ∷ xs))
   left_more true x xs bs fails rest y =
-      let ys = map f (items_where_true bs xs) in (
-        λ h. elim (cases_in (f x) ys y h) [
-          | inl first ↦ (in_front (f x) (map f xs) y first, λ holds. fails (subst P first holds))
-          | inr more ↦ let old = (rest y).0 more in (in_rest (f x) (map f xs) y old.0, old.1)
-        ],
-        λ h. elim (cases_in (f x) (map f xs) y h.0) [
-          | inl first ↦ in_front (f x) ys y first
-          | inr more ↦ in_rest (f x) ys y ((rest y).1 (more, h.1))
-        ],
-      )
-  left_more false x xs bs holds rest y = (
-    λ h. let old = (rest y).0 h in (in_rest (f x) (map f xs) y old.0, old.1),
-    λ h. elim (cases_in (f x) (map f xs) y h.0) [
-      | inl first ↦ absurd (h.1 (subst P (sym first) holds))
-      | inr more ↦ (rest y).1 (more, h.1)
-    ],
-  )
+      let was = in_either (f x) (map f xs) y in
+      let is = in_either (f x) (map f (items_where_true bs xs)) y in
+      let there = rest y in
+      let fails_here : y ≡ f x → ¬ P y = λ same. subst (λ z. ¬ P z) (sym same) fails in
+      search rules
+  left_more false x xs bs holds rest y =
+      let was = in_either (f x) (map f xs) y in
+      let there = rest y in
+      let holds_here : y ≡ f x → P y = λ same. subst P (sym same) holds in
+      search rules
 
   left_in_turn : (s : F) → Tells s → (xs : List X) (bs : List Bool) (last : F) → length bs ≡ length xs → ReturnsInTurn R s bs xs last
       → IsLeft xs (items_where_true bs xs)

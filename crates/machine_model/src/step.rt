@@ -1,7 +1,7 @@
 ghost use Rattle.std.specs.Prelude.{◌≡◌, ◌≢◌, ◌⊎◌, OnOk, Contains};
 ghost use Rattle.event_machine.specs.Machine.{settled, waiting, Beats, LeadsOn};
 ghost use Rattle.event_machine.specs.Events.{May, Happens, MayTake, Takes, MayDrop, Drops, Relaxes, Merges};
-ghost use Rattle.machine_model.specs.Views.{label_of, place_of, state_of, task_of, event_of, HasRoom, FitsEvent};
+ghost use Rattle.machine_model.specs.Views.{label_of, place_of, state_of, task_of, event_of, LeavesRoom, FitsEvent};
 ghost use Rattle.machine_model.specs.Changes.{Changes};
 
 use crate::labels::{add, replace, take_out_beaten, take_out_once};
@@ -50,7 +50,7 @@ impl State {
     fn relax(&mut self, task: &Task, label: &Label, arc: ArcNo) -> Result<(), OutOfMemory>
         requires there { Contains (state_of self.old).unrelaxed (label_of label.now, arc.0) }
         requires leads_on { LeadsOn (task_of task.now).network label.now.node.0 arc.0 }
-        requires room { HasRoom task.now.graph.criteria (label_of label.now) }
+        requires room { LeavesRoom task.now.graph.criteria (label_of label.now) }
         ensures { OnOk result (Relaxes (task_of task.now)
             (state_of self.old) (label_of label.now) arc.0 (state_of self.new)) }
     {

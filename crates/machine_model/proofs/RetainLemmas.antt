@@ -12,9 +12,9 @@ fails_by_not P b true is test = rw is (test.0 refl)
 fails_by_not P b false is test = rw is (λ p. absurd (false≢true (test.1 p)))
 
 module _ {X Y F : Type 0} (f : X → Y) (R : F → X → Bool → F → Type 0) (P : Y → Type 0) where
-  -- the test says of each element whether P fails, and stays as it is
-  abbrev pub Tells : F → Type 0
-  Tells s = (x : X) (b : Bool) (s' : F) → R s x b s' → MatchBool b (¬ P (f x)) (P (f x)) × (s' ≡ s)
+  -- the test spares the elements of which P fails, and stays as it is
+  abbrev pub Spares : F → Type 0
+  Spares s = (x : X) (b : Bool) (s' : F) → R s x b s' → MatchBool b (¬ P (f x)) (P (f x)) × (s' ≡ s)
 
   -- just those are left of which P fails
   abbrev pub IsLeft : List X → List X → Type 0
@@ -35,7 +35,7 @@ module _ {X Y F : Type 0} (f : X → Y) (R : F → X → Bool → F → Type 0) 
       let holds_here : y ≡ f x → P y = λ same. subst P (sym same) holds in
       search rules
 
-  left_in_turn : (s : F) → Tells s → (xs : List X) (bs : List Bool) (last : F) → length bs ≡ length xs → ReturnsInTurn R s bs xs last
+  left_in_turn : (s : F) → Spares s → (xs : List X) (bs : List Bool) (last : F) → length bs ≡ length xs → ReturnsInTurn R s bs xs last
       → IsLeft xs (items_where_true bs xs)
   left_in_turn s tells [] [] last long turns y = (λ h. absurd (in_none y h), λ h. h.0)
   left_in_turn s tells [] (b ∷ bs) last long turns y = absurd (omega arith)
@@ -45,6 +45,6 @@ module _ {X Y F : Type 0} (f : X → Y) (R : F → X → Bool → F → Type 0) 
       left_more b x xs bs told.0 (left_in_turn s tells xs bs last (omega arith) (subst (λ t. ReturnsInTurn R t bs xs last) told.1 turns.2)) y
 
   -- what `retain` leaves
-  pub left_by_retain : (s : F) (before after : List X) → Tells s → IsFiltered R s before after → IsLeft before after
+  pub left_by_retain : (s : F) (before after : List X) → Spares s → IsFiltered R s before after → IsLeft before after
   left_by_retain s before after tells filtered =
       subst (IsLeft before) (sym filtered.4) (left_in_turn s tells before filtered.0 filtered.1 filtered.2 filtered.3)

@@ -1,5 +1,5 @@
 use Rattle.std.proofs.Common.{rules, refl}
-use Rattle.machine_model.proofs.ChangesLemmas.{changes_by_lists}
+use Rattle.machine_model.proofs.EntriesLemmas.{changes_by_lists}
 use Rattle.machine_model.proofs.state.State.put.Goals as goal
 
 pub returns : goal.returns

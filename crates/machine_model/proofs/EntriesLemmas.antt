@@ -3,7 +3,7 @@ use Rattle.std.proofs.Common.{◌≡◌, ◌↔◌, ◌⊎◌, ℕ, List}
 use Rattle.std.specs.Prelude.{Contains}
 use Rattle.event_machine.specs.Machine.{Label, SearchState, Place, settled, dropped, waiting, entries_at}
 use Rattle.event_machine.specs.Events.{SameEntries, Becomes}
-use Rattle.machine_model.specs.Changes.{Changes}
+use Rattle.machine_model.specs.Entries.{ChangesEntries}
 
 -- the entries stay where only the arcs and the candidates change
 pub same_entries : (s : SearchState) (us : List (Label × ℕ)) (cs : List Label) → SameEntries (record s { unrelaxed = us; candidates = cs }) s
@@ -24,7 +24,7 @@ module _ (before : SearchState) (Stays : Place → Label → Type 0) (n : Label)
   BecomesAt p = (y : Label) → Contains (entries_at after p) y ↔ ((Contains (entries_at before p) y × Stays p y) ⊎ ((p ≡ to) × (y ≡ n)))
 
   pub changes_by_lists : BecomesAt settled → BecomesAt dropped → BecomesAt waiting → after.unrelaxed ≡ before.unrelaxed
-      → after.candidates ≡ before.candidates → Changes before Stays n to after
+      → after.candidates ≡ before.candidates → ChangesEntries before Stays n to after
   changes_by_lists in_settled in_dropped in_waiting arcs candidates = record { entries = each; unrelaxed = arcs; candidates = candidates } where
     each : Becomes before Stays n to after
     each settled = in_settled

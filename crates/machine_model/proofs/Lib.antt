@@ -3,5 +3,5 @@ pub mod RetainLemmas
 pub mod PushLemmas
 pub mod TakingLemmas
 pub mod ArcsLemmas
-pub mod ChangesLemmas
+pub mod EntriesLemmas
 pub mod MergeLemmas

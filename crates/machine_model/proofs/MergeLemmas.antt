@@ -4,15 +4,15 @@ use Rattle.std.specs.Prelude.{Contains, IsPermutation}
 use Rattle.list_laws.specs.Sets.{SameMembers}
 use Rattle.event_machine.specs.Machine.{Label, IsSamePair, SearchState, Place, entries_at}
 use Rattle.event_machine.specs.Events.{Merges, IsMerged, keeps, lowers}
-use Rattle.machine_model.specs.Changes.{Changes}
-use Rattle.machine_model.proofs.ChangesLemmas.{same_entries, becomes_from}
+use Rattle.machine_model.specs.Entries.{ChangesEntries}
+use Rattle.machine_model.proofs.EntriesLemmas.{same_entries, becomes_from}
 
 module _ (before : SearchState) (x : Label) (left : List Label) (taken : IsPermutation before.candidates (x ∷ left)) where
   -- the candidate has left, and nothing else is done yet
   abbrev pub begun : SearchState
   begun = record before { candidates = left }
 
-  merges : (Stays : Place → Label → Type 0) (n : Label) (to : Place) (after : SearchState) → Changes begun Stays n to after → IsMerged before x after
+  merges : (Stays : Place → Label → Type 0) (n : Label) (to : Place) (after : SearchState) → ChangesEntries begun Stays n to after → IsMerged before x after
       → Merges before x after
   merges Stays n to after changes merged = record {
     candidates = subst (λ cs. IsPermutation before.candidates (x ∷ cs)) (sym changes.candidates) taken;
@@ -28,7 +28,7 @@ module _ (before : SearchState) (x : Label) (left : List Label) (taken : IsPermu
       entries = keeps (record { entry = e; is_entry = (p, there); same = same; lesser = lesser; entries = same_entries before before.unrelaxed left });
     }
 
-    pub merges_by_lowering : (after : SearchState) → x.arc < e.arc → Changes begun (λ _ y. y ≢ e) x p after → Merges before x after
+    pub merges_by_lowering : (after : SearchState) → x.arc < e.arc → ChangesEntries begun (λ _ y. y ≢ e) x p after → Merges before x after
     merges_by_lowering after greater changes =
         merges (λ _ y. y ≢ e) x p after changes (lowers (record {
           place = p;

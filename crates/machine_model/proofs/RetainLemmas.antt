@@ -1,10 +1,10 @@
 -- What `retain` leaves of a list that is seen through a map.
-use Rattle.std.proofs.Common.{◌≡◌, Bool, true, false, not, ◌↔◌, IsTrue, List, [], ◌∷◌, length, map, inl, inr, refl, sym, subst, arith}
+use Rattle.std.proofs.Common.{◌≡◌, Bool, true, false, not, ◌↔◌, IsTrue, List, [], ◌∷◌, length, map, refl, sym, subst, arith, rules}
 use Rattle.std.specs.Prelude.{MatchBool, Contains}
 use Rattle.std.specs.List.{items_where_true}
 use Rattle.std.specs.List.Retain.{IsFiltered, ReturnsInTurn}
 use Rattle.std.proofs.lemmas.Bool.{false≢true}
-use Rattle.list_laws.proofs.Members.{in_none, in_front, in_rest, cases_in}
+use Rattle.list_laws.proofs.Members.{in_none, in_either}
 
 -- the opposite of a test of P tells where P fails
 pub fails_by_not : (P : Type 0) (b r : Bool) → b ≡ not r → IsTrue r ↔ P → MatchBool b (¬ P) P
@@ -12,9 +12,9 @@ fails_by_not P b true is test = rw is (test.0 refl)
 fails_by_not P b false is test = rw is (λ p. absurd (false≢true (test.1 p)))
 
 module _ {X Y F : Type 0} (f : X → Y) (R : F → X → Bool → F → Type 0) (P : Y → Type 0) where
-  -- the test says of each element whether P fails, and stays as it is
-  abbrev pub Tells : F → Type 0
-  Tells s = (x : X) (b : Bool) (s' : F) → R s x b s' → MatchBool b (¬ P (f x)) (P (f x)) × (s' ≡ s)
+  -- the test spares the elements of which P fails, and stays as it is
+  abbrev pub Spares : F → Type 0
+  Spares s = (x : X) (b : Bool) (s' : F) → R s x b s' → MatchBool b (¬ P (f x)) (P (f x)) × (s' ≡ s)
 
   -- just those are left of which P fails
   abbrev pub IsLeft : List X → List X → Type 0
@@ -24,25 +24,18 @@ module _ {X Y F : Type 0} (f : X → Y) (R : F → X → Bool → F → Type 0) 
   left_more : (b : Bool) (x : X) (xs : List X) (bs : List Bool) → MatchBool b (¬ P (f x)) (P (f x)) → IsLeft xs (items_where_true bs xs)
       → IsLeft (x ∷ xs) (items_where_true (b ∷ bs) (x ∷ xs))
   left_more true x xs bs fails rest y =
-      let ys = map f (items_where_true bs xs) in (
-        λ h. elim (cases_in (f x) ys y h) [
-          | inl first ↦ (in_front (f x) (map f xs) y first, λ holds. fails (subst P first holds))
-          | inr more ↦ let old = (rest y).0 more in (in_rest (f x) (map f xs) y old.0, old.1)
-        ],
-        λ h. elim (cases_in (f x) (map f xs) y h.0) [
-          | inl first ↦ in_front (f x) ys y first
-          | inr more ↦ in_rest (f x) ys y ((rest y).1 (more, h.1))
-        ],
-      )
-  left_more false x xs bs holds rest y = (
-    λ h. let old = (rest y).0 h in (in_rest (f x) (map f xs) y old.0, old.1),
-    λ h. elim (cases_in (f x) (map f xs) y h.0) [
-      | inl first ↦ absurd (h.1 (subst P (sym first) holds))
-      | inr more ↦ (rest y).1 (more, h.1)
-    ],
-  )
+      let was = in_either (f x) (map f xs) y in
+      let is = in_either (f x) (map f (items_where_true bs xs)) y in
+      let there = rest y in
+      let fails_here : y ≡ f x → ¬ P y = λ same. subst (λ z. ¬ P z) (sym same) fails in
+      search rules
+  left_more false x xs bs holds rest y =
+      let was = in_either (f x) (map f xs) y in
+      let there = rest y in
+      let holds_here : y ≡ f x → P y = λ same. subst P (sym same) holds in
+      search rules
 
-  left_in_turn : (s : F) → Tells s → (xs : List X) (bs : List Bool) (last : F) → length bs ≡ length xs → ReturnsInTurn R s bs xs last
+  left_in_turn : (s : F) → Spares s → (xs : List X) (bs : List Bool) (last : F) → length bs ≡ length xs → ReturnsInTurn R s bs xs last
       → IsLeft xs (items_where_true bs xs)
   left_in_turn s tells [] [] last long turns y = (λ h. absurd (in_none y h), λ h. h.0)
   left_in_turn s tells [] (b ∷ bs) last long turns y = absurd (omega arith)
@@ -52,6 +45,6 @@ module _ {X Y F : Type 0} (f : X → Y) (R : F → X → Bool → F → Type 0) 
       left_more b x xs bs told.0 (left_in_turn s tells xs bs last (omega arith) (subst (λ t. ReturnsInTurn R t bs xs last) told.1 turns.2)) y
 
   -- what `retain` leaves
-  pub left_by_retain : (s : F) (before after : List X) → Tells s → IsFiltered R s before after → IsLeft before after
+  pub left_by_retain : (s : F) (before after : List X) → Spares s → IsFiltered R s before after → IsLeft before after
   left_by_retain s before after tells filtered =
       subst (IsLeft before) (sym filtered.4) (left_in_turn s tells before filtered.0 filtered.1 filtered.2 filtered.3)

@@ -1,3 +1,3 @@
 pub mod Views
 pub mod Taking
-pub mod Changes
+pub mod Entries

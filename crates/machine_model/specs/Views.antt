@@ -53,11 +53,11 @@ event_of (Relax l k) = relax (label_of l) k.0
 event_of (Merge x) = merge (label_of x)
 
 -- a weight can be added to the cost of the label: it has a component for each criterion, and each is below 2^63
-pub record HasRoom (criteria : ℕ) (l : Label) : Type 0 where
+pub record LeavesRoom (criteria : ℕ) (l : Label) : Type 0 where
   pub whole : length l.cost ≡ criteria
   pub small : All (λ x. x < 2 ^ 63) l.cost
 
 -- where the event relaxes an arc, it can be done
 abbrev pub FitsEvent : ℕ → Event → Type 0
-FitsEvent criteria (relax l k) = HasRoom criteria l
+FitsEvent criteria (relax l k) = LeavesRoom criteria l
 FitsEvent criteria _ = Unit {0}

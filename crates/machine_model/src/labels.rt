@@ -1,4 +1,5 @@
-ghost use Rattle.std.specs.Prelude.{◌≡◌, ◌≢◌, ◌↔◌, ◌⊎◌, ◌∷◌, IsTrue, IfSome, IfNone, OnOk, All, Any, Contains, IsPermutation};
+ghost use Rattle.std.specs.Prelude.{◌≡◌, ◌≢◌, ◌↔◌, ◌⊎◌, ◌∷◌, IsTrue, IfSome, IfNone, OnOk};
+ghost use Rattle.std.specs.Prelude.{All, Any, Contains, IsPermutation};
 ghost use Rattle.cost_vector.specs.Costs.{Dominates};
 ghost use Rattle.event_machine.specs.Machine.{IsSamePair, Beats};
 ghost use Rattle.list_laws.specs.Sets.{Loses};

@@ -1,8 +1,8 @@
 ghost use Rattle.std.specs.Prelude.{◌≡◌, ◌≢◌, ◌⊎◌, OnOk, Contains};
 ghost use Rattle.event_machine.specs.Machine.{settled, waiting, Beats, LeadsOn};
 ghost use Rattle.event_machine.specs.Events.{May, Happens, MayTake, Takes, MayDrop, Drops, Relaxes, Merges};
-ghost use Rattle.machine_model.specs.Views.{label_of, place_of, state_of, task_of, event_of, HasRoom, FitsEvent};
-ghost use Rattle.machine_model.specs.Changes.{Changes};
+ghost use Rattle.machine_model.specs.Views.{label_of, place_of, state_of, task_of, event_of, LeavesRoom, FitsEvent};
+ghost use Rattle.machine_model.specs.Entries.{ChangesEntries};
 
 use crate::labels::{add, replace, take_out_beaten, take_out_once};
 use crate::pairs::{add_arcs, take_out_pair};
@@ -50,7 +50,7 @@ impl State {
     fn relax(&mut self, task: &Task, label: &Label, arc: ArcNo) -> Result<(), OutOfMemory>
         requires there { Contains (state_of self.old).unrelaxed (label_of label.now, arc.0) }
         requires leads_on { LeadsOn (task_of task.now).network label.now.node.0 arc.0 }
-        requires room { HasRoom task.now.graph.criteria (label_of label.now) }
+        requires room { LeavesRoom task.now.graph.criteria (label_of label.now) }
         ensures { OnOk result (Relaxes (task_of task.now)
             (state_of self.old) (label_of label.now) arc.0 (state_of self.new)) }
     {
@@ -78,7 +78,7 @@ impl State {
 
     /// Takes an entry out, wherever it stands, and puts a label at a place.
     fn put(&mut self, entry: &Label, label: &Label, to: Place) -> Result<(), OutOfMemory>
-        ensures { OnOk result (Changes (state_of self.old) (λ _ y. y ≢ label_of entry.now)
+        ensures { OnOk result (ChangesEntries (state_of self.old) (λ _ y. y ≢ label_of entry.now)
             (label_of label.now) (place_of to) (state_of self.new)) }
     {
         replace(&mut self.settled, entry, label, to == Place::Settled)?;
@@ -89,7 +89,7 @@ impl State {
 
     /// Lets a label wait in place of those that it beats.
     fn enter(&mut self, label: &Label) -> Result<(), OutOfMemory>
-        ensures { OnOk result (Changes (state_of self.old)
+        ensures { OnOk result (ChangesEntries (state_of self.old)
             (λ place y. (place ≡ settled) ⊎ (¬ Beats (label_of label.now) y))
             (label_of label.now) waiting (state_of self.new)) }
     {

@@ -18,7 +18,7 @@ impl Task {
     ghost use Rattle.std.specs.Prelude.{◌≡◌, ◌≤◌, ◌↔◌, length, IsTrue};
     ghost use Rattle.cost_vector.specs.Costs.{Within};
     ghost use Rattle.event_machine.specs.Machine.{LeadsOn, Follows};
-    ghost use Rattle.machine_model.specs.Views.{label_of, task_of, HasRoom};
+    ghost use Rattle.machine_model.specs.Views.{label_of, task_of, LeavesRoom};
 
     /// Whether the arc leads on from the node, and is passable.
     pub(crate) fn leads_on(&self, node: NodeNo, arc: ArcNo) -> bool
@@ -40,7 +40,7 @@ impl Task {
     /// What the label gives along an arc that leads on.
     pub(crate) fn along(&self, label: &Label, arc: ArcNo) -> Label
         requires leads_on { LeadsOn (task_of self.now).network label.now.node.0 arc.0 }
-        requires room { HasRoom self.now.graph.criteria (label_of label.now) }
+        requires room { LeavesRoom self.now.graph.criteria (label_of label.now) }
         ensures follows { Follows
             (task_of self.now).network (label_of label.now) (label_of result) }
         ensures arc { result.arc ≡ arc }

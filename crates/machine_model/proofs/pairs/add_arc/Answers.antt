@@ -1,4 +1,4 @@
-use Rattle.std.proofs.Common.{[], ◌∷◌, map, refl, inl, inr}
+use Rattle.std.proofs.Common.{rules, [], ◌∷◌, map}
 use Rattle.std.proofs.lemmas.List.{map-append}
 use Rattle.cost_vector.specs.declared.label.ArcNo.{ArcNo}
 use Rattle.cost_vector.specs.declared.label.Label.{Label as StoredLabel}
@@ -10,8 +10,4 @@ pub returns-in_ok-push : goal.returns-in_ok-push
 returns-in_ok-push c =
     let before = c.args.pairs.now.items in
     let pair : StoredLabel × ArcNo = (c.args.label.now, c.args.arc) in
-    rw (c.in_ok-push.ensures.items, map-append pair_of before (pair ∷ [])) (λ p.
-    let gains = in_push (map pair_of before) (pair_of pair) p in (
-      λ h. elim (gains.0 h) [ inl old ↦ inl old | inr new ↦ inr (new, c.if-leads_on.ensures.0 refl) ],
-      elim [ inl old ↦ gains.1 (inl old) | inr new ↦ gains.1 (inr new.0) ],
-    ))
+    rw (c.in_ok-push.ensures.items, map-append pair_of before (pair ∷ [])) (λ p. let pushed = in_push (map pair_of before) (pair_of pair) p in search rules)

@@ -1,10 +1,8 @@
-use Rattle.std.proofs.Common.{refl, inl, inr}
-use Rattle.machine_model.proofs.ChangesLemmas.{changes_by_entering}
+use Rattle.std.proofs.Common.{rules, refl}
+use Rattle.machine_model.proofs.EntriesLemmas.{changes_by_lists}
 use Rattle.machine_model.proofs.state.State.enter.Goals as goal
 
 pub returns : goal.returns
 returns c =
-    changes_by_entering _ _ _ refl c.take_out_beaten.ensures (λ y. (
-      λ h. elim ((c.in_ok-add.ensures y).0 h) [ inl old ↦ inl ((c.take_out_beaten-2.ensures y).0 old) | inr new ↦ inr new ],
-      elim [ inl old ↦ (c.in_ok-add.ensures y).1 (inl ((c.take_out_beaten-2.ensures y).1 old)) | inr new ↦ (c.in_ok-add.ensures y).1 (inr new) ],
-    )) refl refl
+    changes_by_lists _ _ _ _ _ (λ y. search rules) (λ y. let h = c.take_out_beaten.ensures y in search rules)
+    (λ y. let out = c.take_out_beaten-2.ensures y in let in' = c.in_ok-add.ensures y in search rules) refl refl

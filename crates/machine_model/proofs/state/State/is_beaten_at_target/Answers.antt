@@ -8,7 +8,5 @@ use Rattle.machine_model.proofs.state.State.is_beaten_at_target.Goals as goal
 pub returns : goal.returns
 returns c =
     let Beaten : Label → Type 0 = λ y. (y.node ≡ c.args.task.now.target.0) × Dominates y.cost c.args.cost.now in
-    let is = any_through label_of Beaten c.args.self.now.settled.items c.any.result (search rules) in (
-      λ h. let by = is.0 h in record { by = by.1; settled = (by.0, by.2, by.3); node = by.4.0; dominates = by.4.1 },
-      λ b. is.1 (b.settled.0, b.by, b.settled.1, b.settled.2, (b.node, b.dominates)),
-    )
+    let is = any_through label_of Beaten c.args.self.now.settled.items c.any.result (search rules) in
+    search rules

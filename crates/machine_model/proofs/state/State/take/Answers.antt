@@ -2,7 +2,7 @@ use Rattle.std.proofs.Common.{◌≢◌, map}
 use Rattle.std.proofs.lemmas.List.Sorted.{IsPermutation-refl}
 use Rattle.event_machine.specs.Machine.{settled}
 use Rattle.machine_model.specs.Views.{label_of, labels_of, pair_of, state_of}
-use Rattle.machine_model.proofs.ChangesLemmas.{becomes_from}
+use Rattle.machine_model.proofs.EntriesLemmas.{becomes_from}
 use Rattle.machine_model.proofs.state.State.take.Goals as goal
 
 pub returns : goal.returns

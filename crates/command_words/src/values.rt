@@ -7,8 +7,8 @@ ghost use Rattle.command_words.specs.Words.{asked_of, costs_asked, query_asked};
 use crate::apps::Name;
 use crate::numbers::{number_or, required_number};
 use crate::{
-    CheckWords, Command, CostsWords, DEFAULT_BUDGET, MAX_FILES, MAX_NODE, MIN_FILES,
-    Query, WordsFault,
+    CheckWords, Command, CostsWords, DEFAULT_BUDGET, MAX_FILES, MAX_NODE, MIN_FILES, Query,
+    WordsFault,
 };
 use clap::ArgMatches;
 use road_network::MAX_BUDGET;

@@ -1,5 +1,5 @@
 use Rattle.std.proofs.Common.{rules, ◌≡◌, ◌<◌, ◌∷◌, length, refl, sym}
-use Rattle.std.specs.Prelude.{All, MatchOption, slice_index_or}
+use Rattle.std.specs.Prelude.{slice_index_or}
 use Rattle.std.proofs.lemmas.List.Sorted.{IsPermutation-map, IsPermutation-remove}
 use Rattle.std.specs.List.{remove}
 use Rattle.machine_model.specs.Views.{label_of}
@@ -8,10 +8,8 @@ use Rattle.machine_model.proofs.labels.take_out_once.Goals as goal
 
 pub unwrap-place-requires : goal.unwrap-place-requires
 unwrap-place-requires c =
-    let labels = c.args.labels.now.items in
-    let label = c.args.label.now in
-    let is : MatchOption c.position.result (All (λ y. ¬ (y ≡ label)) labels) (λ i. i < length labels) = search rules in
-    found c.position.result labels label (λ i. i < length labels) (in_before label_of stored (λ x. refl) labels label c.requires) is
+    found c.position.result c.args.labels.now.items c.args.label.now (λ i. i < length c.args.labels.now.items)
+    (in_before label_of stored (λ x. refl) c.args.labels.now.items c.args.label.now c.requires) (search rules)
 
 pub returns : goal.returns
 returns c =

@@ -6,9 +6,8 @@ use Rattle.machine_model.proofs.pairs.add_arcs.Goals as goal
 
 pub loop-place-init : goal.loop-place-init
 loop-place-init c =
-    let net = (task_of c.args.task.now).network in
-    let node = c.args.label.now.node.0 in
-    arcs_at_first (label_of c.args.label.now) (LeadsOn net node) (map pair_of c.args.pairs.now.items) (counted net node)
+    arcs_at_first (label_of c.args.label.now) (LeadsOn (task_of c.args.task.now).network c.args.label.now.node.0) (map pair_of c.args.pairs.now.items)
+    (counted (task_of c.args.task.now).network c.args.label.now.node.0)
 
 pub loop-place-preserved : goal.loop-place-preserved
 loop-place-preserved c =
@@ -17,7 +16,6 @@ loop-place-preserved c =
 
 pub returns : goal.returns
 returns c =
-    let net = (task_of c.args.task.now).network in
-    let node = c.args.label.now.node.0 in
-    arcs_done (label_of c.args.label.now) (LeadsOn net node) (map pair_of c.args.pairs.now.items)
-    c.loop-place.place (map pair_of c.loop-place.pairs.items) (λ k on. let last = within net node k on in omega arith) c.loop-place.invariant
+    arcs_done (label_of c.args.label.now) (LeadsOn (task_of c.args.task.now).network c.args.label.now.node.0) (map pair_of c.args.pairs.now.items)
+    c.loop-place.place (map pair_of c.loop-place.pairs.items)
+    (λ k on. let last = within (task_of c.args.task.now).network c.args.label.now.node.0 k on in omega arith) c.loop-place.invariant

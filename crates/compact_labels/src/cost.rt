@@ -70,8 +70,8 @@ impl<const D: usize> CompactCost<D> {
         ensures greatest { (c : List ℕ) → AtMost c self.now.0 → AtMost c other.now.0 → AtMost c result.0 }
     {
         let mut least = *self;
-        for (component, x) in least.0.iter_mut().zip(&other.0) {
-            *component = (*component).min(*x);
+        for (i, component) in least.0.iter_mut().enumerate() {
+            *component = (*component).min(other.0[i]);
         }
         least
     }

@@ -32,7 +32,7 @@ module _ {A B : Type 0} {f : A} {g : B} {n m : ℕ} {xs xs' : List A} {ys ys' : 
 
 module _ {A B : Type 0} (R : A → B → Type 0) where
   -- a test of each pair decides the fact of all pairs
-  AllZip-decides : (test : A × B → Bool) → ((x : A) (y : B) → Decides (test (x, y)) (R x y)) → (xs : List A) (ys : List B)
+  pub AllZip-decides : (test : A × B → Bool) → ((x : A) (y : B) → Decides (test (x, y)) (R x y)) → (xs : List A) (ys : List B)
       → length xs ≡ length ys → Decides (list_all test (zip xs ys)) (AllZip R xs ys)
   AllZip-decides test each [] [] e = (λ _. tt, λ _. refl)
   AllZip-decides test each [] (y ∷ ys) e = absurd (omega arith)

@@ -1,0 +1,4 @@
+pub mod ApartLemmas
+pub mod StaysLemmas
+pub mod MergedLemmas
+pub mod GrowsLemmas

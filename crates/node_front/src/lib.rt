@@ -1,0 +1,6 @@
+//! The Pareto fronts of all nodes that a search reaches: labels that arrive one by one, and candidates that are merged.
+#![tactic(auto)]
+
+mod merge;
+
+pub use merge::arrive;

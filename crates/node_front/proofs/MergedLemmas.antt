@@ -1,6 +1,6 @@
 -- What one label more makes of a front.
 use Rattle.std.proofs.Common.{◌≡◌, ◌≢◌, ◌⊎◌, ◌↔◌, ℕ, ◌<◌, ◌≤◌, List, [], ◌∷◌, ◌++◌, inl, inr, refl, sym, ap, subst, ◌∙◌, arith}
-use Rattle.std.specs.Prelude.{Contains}
+use Rattle.std.specs.Prelude.{Contains, Result, Ok, Err, IfOk, OnErr}
 use Rattle.std.proofs.lemmas.List.Elements.{Contains-append_left, Contains-append_right}
 use Rattle.cost_vector.specs.Costs.{AtMost, Dominates}
 use Rattle.cost_vector.proofs.Vectors.{AtMost-Dominates, Dominates-irrefl, cases_same}
@@ -8,10 +8,11 @@ use Rattle.list_laws.specs.Sets.{SameMembers}
 use Rattle.list_laws.proofs.Members.{in_one, in_first, in_front, cases_push}
 use Rattle.list_laws.proofs.OnceLaws.{in_append}
 use Rattle.pareto_front.specs.Fronts.{Entry, Front, entries, HasCost, IsCovered, IsDominated, SparesSettled}
-use Rattle.pareto_front.specs.Calls.{Enters, Relabels}
+use Rattle.pareto_front.specs.Calls.{Enters, Relabels, Settles}
 use Rattle.pareto_front.specs.Merging.{Stays, IsMerged, IsAdded, IsRemoved}
 use Rattle.node_front.specs.Apart.{AreApart}
 use Rattle.node_front.proofs.ApartLemmas.{same_entry, AtMost-same, has_append, has_cost_of, apart_not_dominated}
+use Rattle.node_front.proofs.StaysLemmas.{apart_of_stays}
 
 -- what one entry dominates
 by_one : (e : Entry) (c : List ℕ) → IsDominated (e ∷ []) c ↔ Dominates e.cost c
@@ -210,3 +211,21 @@ module _ (before : Front) (e : Entry) (apart : AreApart (entries before)) where
       entered_entries x = parts (in_append after.settled after.unsettled x) (in_append before.settled before.unsettled x) (enters.settled x) (enters.unsettled x) (spares x) where
         parts : {A S U E T V N Q : Type 0} → (A ↔ (S ⊎ U)) → (E ↔ (T ⊎ V)) → (S ↔ T) → (U ↔ ((V × (¬ N)) ⊎ Q)) → (T → ¬ N) → (A ↔ ((E × (¬ N)) ⊎ Q))
         parts a e s u spared = grind arith
+
+-- the entries are apart afterwards
+pub merged_apart : (before after : Front) (candidates : List Entry) → IsMerged before candidates after → AreApart (entries after)
+merged_apart before after candidates merged = apart_of_stays (entries before ++ candidates) (entries after) (λ x. (merged.entries x).0)
+
+pub merged_or_same_apart : {X E : Type 0} (r : Result X E) (before after : Front) (candidates : List Entry)
+    → IfOk r (λ _. IsMerged before candidates after) → OnErr r (after ≡ before) → AreApart (entries before) → AreApart (entries after)
+merged_or_same_apart (Ok x) before after candidates merged same apart = merged_apart before after candidates merged
+merged_or_same_apart (Err x) before after candidates merged same apart = subst (λ (f : Front). AreApart (entries f)) (sym same) apart
+
+-- settling changes no entry
+pub settled_apart : (before after : Front) (c : List ℕ) → Settles before c after → AreApart (entries before) → AreApart (entries after)
+settled_apart before after c settles apart x y x_in y_in = apart x y (old x x_in) (old y y_in) where
+  old : (z : Entry) → Contains (entries after) z → Contains (entries before) z
+  old z there = elim ((in_append after.settled after.unsettled z).0 there) [
+    | inl settled ↦ (in_append before.settled before.unsettled z).1 (elim ((settles.settled z).0 settled) [ inl was ↦ inl was | inr new ↦ inr new.0 ])
+    | inr unsettled ↦ (in_append before.settled before.unsettled z).1 (inr ((settles.unsettled z).0 unsettled).0)
+  ]

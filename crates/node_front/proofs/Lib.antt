@@ -3,3 +3,8 @@ pub mod StaysLemmas
 pub mod MergedLemmas
 pub mod GrowsLemmas
 pub mod PlacedLemmas
+pub mod NeedlessLemmas
+pub mod SurvivorsLemmas
+pub mod RemovedLemmas
+pub mod MergingLemmas
+pub mod DeltaLemmas

@@ -6,7 +6,7 @@ ghost use Rattle.road_network.specs.Limits.{max_nodes};
 ghost use Rattle.road_network.specs.Network.{IsNode};
 ghost use Rattle.node_front.specs.NodeFronts.{IsPlaced, SameElsewhere, front_at, fronts_by, spares_by};
 
-use crate::merge;
+use crate::merging;
 use compact_labels::{CompactLabel, CompactSpot};
 use cost_vector::{NodeNo, OutOfMemory};
 use pareto_front::ParetoFront;
@@ -91,7 +91,7 @@ impl<const D: usize, F: ParetoFront<D> + Drop> Fronts<D, F> {
             (front_at self.new label.now.node.0 ≡ front_at self.old label.now.node.0) }
     {
         let place = reach::<D, F>(&mut self.places, &mut self.fronts, self.alloc, label.node)?;
-        merge::arrive(&mut self.fronts[place], label, removed)
+        merging::arrive(&mut self.fronts[place], label, removed)
     }
 
     /// Settles the entry of this spot.

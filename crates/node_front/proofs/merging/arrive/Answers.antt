@@ -7,7 +7,7 @@ use Rattle.cost_vector.specs.Costs.{Dominates}
 use Rattle.node_front.proofs.ApartLemmas.{apart_of_front, AtMost-same}
 use Rattle.node_front.proofs.MergedLemmas.{covered_merges, covered_removes_none, relabelled_merges, uncovered_added, uncovered_removes, entered_merges}
 use Rattle.node_front.proofs.GrowsLemmas.{grows_by_none, grows_as}
-use Rattle.node_front.proofs.merge.arrive.Goals as goal
+use Rattle.node_front.proofs.merging.arrive.Goals as goal
 
 pub returns-in-Dominated-clause-merged : goal.returns-in-Dominated-clause-merged
 returns-in-Dominated-clause-merged g c =

@@ -8,3 +8,5 @@ pub mod SurvivorsLemmas
 pub mod RemovedLemmas
 pub mod MergingLemmas
 pub mod DeltaLemmas
+pub mod MergeLaws
+pub mod RoundLemmas

@@ -229,3 +229,27 @@ settled_apart before after c settles apart x y x_in y_in = apart x y (old x x_in
     | inl settled ↦ (in_append before.settled before.unsettled z).1 (elim ((settles.settled z).0 settled) [ inl was ↦ inl was | inr new ↦ inr new.0 ])
     | inr unsettled ↦ (in_append before.settled before.unsettled z).1 (inr ((settles.unsettled z).0 unsettled).0)
   ]
+
+-- where an entry has got another arc, the entries stay apart
+pub relabelled_apart : (before after : Front) (e : Entry) → Relabels before e after → AreApart (entries before) → AreApart (entries after)
+relabelled_apart before after e relabels apart x y x_in y_in below =
+    elim (old x x_in) [
+      | inl x_old ↦ elim (old y y_in) [
+        | inl y_old ↦ apart x y x_old.0 y_old.0 below
+        | inr y_new ↦
+            let is = apart x (record { cost = e.cost; arc = y_new.0.arc }) x_old.0 y_new.0.contains (subst (λ (w : Entry). AtMost x.cost w.cost) y_new.1 below) in
+            absurd (x_old.1 (ap (λ (w : Entry). w.cost) is))
+      ]
+      | inr x_new ↦ elim (old y y_in) [
+        | inl y_old ↦
+            let is = apart (record { cost = e.cost; arc = x_new.0.arc }) y x_new.0.contains y_old.0 (subst (λ (w : Entry). AtMost w.cost y.cost) x_new.1 below) in
+            absurd (y_old.1 (sym (ap (λ (w : Entry). w.cost) is)))
+        | inr y_new ↦ x_new.1 ∙ sym y_new.1
+      ]
+    ] where
+      old : (z : Entry) → Contains (entries after) z → (Contains (entries before) z × (z.cost ≢ e.cost)) ⊎ (HasCost (entries before) e.cost × (z ≡ e))
+      old z there = parts (in_append after.settled after.unsettled z) (in_append before.settled before.unsettled z) (relabels.settled z) (relabels.unsettled z)
+          (has_append before.settled before.unsettled e.cost) there where
+            parts : {A S U E T V N H K L Q : Type 0} → (A ↔ (S ⊎ U)) → (E ↔ (T ⊎ V)) → (S ↔ ((T × N) ⊎ (H × Q))) → (U ↔ ((V × N) ⊎ (K × Q))) → (L ↔ (H ⊎ K))
+                → A → ((E × N) ⊎ (L × Q))
+            parts a e s u l has = grind arith

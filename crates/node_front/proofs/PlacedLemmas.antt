@@ -3,7 +3,7 @@ use Rattle.std.proofs.Common.{◌≡◌, ◌≢◌, ◌⊎◌, ℕ, zero, suc, �
 use Rattle.std.specs.Prelude.{All, Contains}
 use Rattle.std.specs.List.{range_with_len}
 use Rattle.std.proofs.lemmas.Bool.{cases_lt}
-use Rattle.std.proofs.lemmas.List.{length-map, map_push, map-set, length-set, length_push, get_or-map, get_or-set_same, get_or-set_other, get_or-replicate, length-replicate, get_or_past, get_or_push, get_or_append_left, get_or_default, ext_get_or}
+use Rattle.std.proofs.lemmas.List.{length-map, map_push, map-set, set-get_or, set_past, length-set, length_push, get_or-map, get_or-set_same, get_or-set_other, get_or-replicate, length-replicate, get_or_past, get_or_push, get_or_append_left, get_or_default, ext_get_or}
 use Rattle.std.proofs.lemmas.List.Elements.{All-weaker, All-push, All-set}
 use Rattle.std.proofs.lemmas.List.FromFn.{length-range_with_len}
 use Rattle.list_laws.proofs.Members.{in_none}
@@ -15,7 +15,7 @@ use Rattle.node_front.specs.Apart.{AreApart}
 use Rattle.node_front.specs.NodeFronts.{Fronts, SameElsewhere, front_at, fronts_by, spares_by, room_at, IsPlaced}
 
 -- two numbers are the same or not
-cases_number : (m n : ℕ) → (m ≡ n) ⊎ (m ≢ n)
+pub cases_number : (m n : ℕ) → (m ≡ n) ⊎ (m ≢ n)
 cases_number m n = elim (cases_lt m n) [
   | inl less ↦ inr (λ e. omega arith)
   | inr not_less ↦ elim (cases_lt n m) [ inl above ↦ inr (λ e. omega arith) | inr not_above ↦ inl (omega arith) ]
@@ -290,3 +290,50 @@ none_reached {X} state n places xs ys x zeros none pushed empty v =
     let fronts : map state ys ≡ empty_front ∷ [] = ap (map state) (pushed ∙ ap (λ (zs : List X). zs ++ x ∷ []) none) ∙ ap (λ (f : Front). f ∷ []) empty in
     subst₂ (λ ps fs. get_or (fronts_by ps fs) v empty_front ≡ empty_front) (sym zeros) (sym fronts)
     (front_by (replicate {A = ℕ} n 0) (empty_front ∷ []) refl v ∙ ap (λ k. get_or (empty_front ∷ []) k empty_front) (no_place n v))
+
+-- ---- room
+
+room_there : (spares : List ℕ) (k : ℕ) → k ≢ 0 → room_at spares k ≡ get_or spares k 0
+room_there spares zero some = absurd (some refl)
+room_there spares (suc k) some = refl
+
+room_elsewhere : (spares : List ℕ) (k j r : ℕ) → j ≢ k → room_at (set spares k r) j ≡ room_at spares j
+room_elsewhere spares k zero r other = refl
+room_elsewhere spares k (suc j) r other = get_or-set_other spares k (suc j) r 0 other
+
+-- a node whose front has room was reached
+pub room_place : (places spares : List ℕ) (v : ℕ) → 1 ≤ get_or (spares_by places spares) v 0 → get_or places v 0 ≢ 0
+room_place places spares v room none = omega (arith, room, spare_by places spares v, ap (room_at spares) none)
+
+module _ {X : Type 0} (state : X → Front) (spare : X → ℕ) (places : List ℕ) (xs : List X) (placed : IsPlaced places (map state xs))
+    (v k : ℕ) (at : k ≡ get_or places v 0) (some : k ≢ 0) where
+  begun_at : k < length xs
+  begun_at = omega (arith, at, place_begun places (map state xs) placed v, length-map xs state)
+
+  -- for how many more the front at the place of a node has room
+  pub spare_there : (x : X) → x ≡ get_or xs k x → get_or (spares_by places (map spare xs)) v 0 ≡ spare x
+  spare_there x read =
+      spare_by places (map spare xs) v ∙ ap (room_at (map spare xs)) (sym at) ∙ room_there (map spare xs) k some
+      ∙ get_or-map spare xs k x 0 begun_at ∙ ap spare (sym read)
+
+  pub spare_changed : (x : X) → get_or (spares_by places (map spare (set xs k x))) v 0 ≡ spare x
+  spare_changed x =
+      spare_by places (map spare (set xs k x)) v ∙ ap (room_at (map spare (set xs k x))) (sym at) ∙ room_there (map spare (set xs k x)) k some
+      ∙ get_or-map spare (set xs k x) k x 0 (omega (arith, begun_at, length-set xs k x))
+      ∙ ap spare (get_or-set_same xs k x x begun_at)
+
+  pub spare_elsewhere : (x : X) (w : ℕ) → w ≢ v → get_or (spares_by places (map spare (set xs k x))) w 0 ≡ get_or (spares_by places (map spare xs)) w 0
+  spare_elsewhere x w other =
+      let apart : get_or places w 0 ≢ k = λ e. other (placed.own w v (e ∙ at) (λ zero. some (sym e ∙ zero))) in
+      spare_by places (map spare (set xs k x)) w ∙ ap (λ ss. room_at ss (get_or places w 0)) (map-set spare xs k x)
+      ∙ room_elsewhere (map spare xs) k (get_or places w 0) (spare x) apart ∙ sym (spare_by places (map spare xs) w)
+
+-- something in the place of another that says the same changes no front
+pub same_state_fronts : {X : Type 0} (state : X → Front) (places : List ℕ) (xs : List X) (k : ℕ) (old new : X) → old ≡ get_or xs k old → state new ≡ state old
+    → fronts_by places (map state (set xs k new)) ≡ fronts_by places (map state xs)
+same_state_fronts state places xs k old new read same = ap (fronts_by places) (map-set state xs k new ∙ again) where
+  again : set (map state xs) k (state new) ≡ map state xs
+  again = elim (cases_lt k (length xs)) [
+    | inl within ↦ ap (set (map state xs) k) (same ∙ ap state read ∙ sym (get_or-map state xs k old empty_front within)) ∙ set-get_or (map state xs) k empty_front
+    | inr past ↦ set_past (map state xs) k (state new) (omega (arith, past, length-map xs state))
+  ]

@@ -39,12 +39,12 @@ told_dominated list c = elim (told_some (λ (e : Entry). Dominates e.cost c) (λ
 
 -- ---- two lists, one behind the other
 
-pairs_front : {X : Type 0} (R : X → X → Type 0) (xs ys : List X) → AllPairs R (xs ++ ys) → AllPairs R xs
+pub pairs_front : {X : Type 0} (R : X → X → Type 0) (xs ys : List X) → AllPairs R (xs ++ ys) → AllPairs R xs
 pairs_front R [] ys pairs = pairs_none R
 pairs_front R (x ∷ xs) ys pairs = pairs_cons R x xs (λ y there. pair_with_first R x (xs ++ ys) pairs y ((in_append xs ys y).1 (inl there)))
     (pairs_front R xs ys (pairs_rest R x (xs ++ ys) pairs))
 
-pairs_across : {X : Type 0} (R : X → X → Type 0) (xs ys : List X) → AllPairs R (xs ++ ys) → (x y : X) → Contains xs x → Contains ys y → R x y
+pub pairs_across : {X : Type 0} (R : X → X → Type 0) (xs ys : List X) → AllPairs R (xs ++ ys) → (x y : X) → Contains xs x → Contains ys y → R x y
 pairs_across R [] ys pairs x y x_in y_in = absurd (in_none x x_in)
 pairs_across R (z ∷ zs) ys pairs x y x_in y_in = elim (cases_in z zs x x_in) [
   | inl first ↦ subst (λ w. R w y) (sym first) (pair_with_first R z (zs ++ ys) pairs y ((in_append zs ys y).1 (inr y_in)))

@@ -24,6 +24,11 @@ pub record SameElsewhere (v : ℕ) (before after : Fronts) : Type 0 where
   pub nodes : after.nodes ≡ before.nodes
   pub others : (w : ℕ) → w ≢ v → front_at after w ≡ front_at before w
 
+-- all fronts have stayed
+pub record SameFronts (before after : Fronts) : Type 0 where
+  pub nodes : after.nodes ≡ before.nodes
+  pub fronts : after.fronts ≡ before.fronts
+
 -- ---- how they are kept: of each node the place of its front among those that were begun, or 0
 
 -- at place 0 stands a front that has no room

@@ -1,12 +1,14 @@
-ghost use Rattle.std.specs.Prelude.{◌≡◌, ◌≢◌, ◌↔◌, ℕ, ◌≤◌, ◌+◌, ◌<◌, [], ◌∷◌, map, length, slice_index, IsTrue, IfOk, OnOk, OnErr};
-ghost use Rattle.pareto_front.specs.Calls.{GrowsBy, Settles, entry_of};
-ghost use Rattle.pareto_front.specs.Fronts.{HasCost, SparesSettled, empty_front, entries};
+ghost use Rattle.std.specs.Prelude.{◌≡◌, ◌≢◌, ◌↔◌, ℕ, ◌≤◌, ◌+◌, ◌<◌, List, [], ◌∷◌, map, length, slice_index, IsTrue, IfOk, OnOk, OnErr, All, AllPairs};
+ghost use Rattle.cost_vector.specs.Costs.{max_criteria};
+ghost use Rattle.node_front.specs.Deltas.{Appends, AreDeltas, AreSomeDeltas, HasRoom, MergesAll};
+ghost use Rattle.pareto_front.specs.Calls.{Enters, GrowsBy, Relabels, Settles, entry_of};
+ghost use Rattle.pareto_front.specs.Fronts.{HasCost, IsCovered, SparesSettled, empty_front, entries};
 ghost use Rattle.pareto_front.specs.Merging.{IsMerged, IsAdded, IsRemoved};
 ghost use Rattle.road_network.specs.Limits.{max_nodes};
 ghost use Rattle.road_network.specs.Network.{IsNode};
-ghost use Rattle.node_front.specs.NodeFronts.{IsPlaced, SameElsewhere, front_at, fronts_by, spares_by};
+ghost use Rattle.node_front.specs.NodeFronts.{IsPlaced, SameElsewhere, SameFronts, front_at, spare_at, fronts_by, spares_by};
 
-use crate::merging;
+use crate::{Deltas, merging};
 use compact_labels::{CompactLabel, CompactSpot};
 use cost_vector::{NodeNo, OutOfMemory};
 use pareto_front::ParetoFront;
@@ -103,6 +105,98 @@ impl<const D: usize, F: ParetoFront<D> + Drop> Fronts<D, F> {
     {
         let place = self.places[spot.node.0 as usize] as usize;
         self.fronts[place].settle(&spot.cost);
+    }
+
+    /// Appends what the candidates, which are all of one node, make of its front.
+    pub fn merge(
+        &self,
+        node: NodeNo,
+        candidates: &[CompactLabel<D>],
+        deltas: &mut Deltas<D>,
+    ) -> Result<(), OutOfMemory>
+        requires criteria { D ≤ max_criteria }
+        requires node { IsNode self.now.nodes node.0 }
+        requires some { 0 < length candidates.now }
+        requires at_node { All (λ l. l.node.0 ≡ node.0) candidates.now }
+        requires spares { All (λ l. SparesSettled (front_at self.now node.0) l.cost.0) candidates.now }
+        ensures { IfOk result (λ _. Appends node.0 (front_at self.now node.0)
+            (map entry_of candidates.now) deltas.old deltas.new) }
+    {
+        merging::merge(self.front(node), node, candidates, deltas)
+    }
+
+    /// Makes the room that `apply` needs, and begins the fronts of nodes that are newly reached.
+    pub fn reserve(&mut self, deltas: &Deltas<D>) -> Result<(), OutOfMemory>
+        requires criteria { D ≤ max_criteria }
+        requires nodes { All (λ l. IsNode self.old.nodes l.node.0) deltas.now.added }
+        requires ascending { AllPairs (λ l m. l.node.0 ≤ m.node.0) deltas.now.added }
+        ensures same { SameFronts self.old self.new }
+        ensures room { OnOk result (HasRoom self.new deltas.now.added) }
+    {
+        let mut last = NodeNo(0);
+        let mut count = 0;
+        for label in deltas.added() {
+            count = if label.node == last { count + 1 } else { 1 };
+            last = label.node;
+            self.reserve_at(label.node, count)?;
+        }
+        Ok(())
+    }
+
+    /// Makes room for so many entries more in the front of a node.
+    fn reserve_at(&mut self, node: NodeNo, more: usize) -> Result<(), OutOfMemory>
+        requires { IsNode self.old.nodes node.0 }
+        ensures same { SameFronts self.old self.new }
+        ensures room { OnOk result (more ≤ spare_at self.new node.0) }
+        ensures others { (v : ℕ) → v ≢ node.0 → spare_at self.old v ≤ spare_at self.new v }
+    {
+        let place = reach::<D, F>(&mut self.places, &mut self.fronts, self.alloc, node)?;
+        self.fronts[place].reserve(more)
+    }
+
+    /// Makes of the fronts what the candidates of these deltas make of them.
+    pub fn apply(&mut self, deltas: &Deltas<D>)
+        requires criteria { D ≤ max_criteria }
+        requires deltas { AreSomeDeltas self.old deltas.now }
+        requires room { HasRoom self.old deltas.now.added }
+        ensures nodes { self.new.nodes ≡ self.old.nodes }
+        ensures merged { (candidates : List (CompactLabel D))
+            → AreDeltas self.old candidates deltas.now → MergesAll self.old candidates self.new }
+    {
+        let _begun = &self.fronts;
+        for label in deltas.added() {
+            self.enter(label);
+        }
+        for label in deltas.lowered() {
+            self.relabel(label);
+        }
+    }
+
+    /// Puts in a new entry.
+    fn enter(&mut self, label: &CompactLabel<D>)
+        requires room { 1 ≤ spare_at self.old label.now.node.0 }
+        requires new { ¬ IsCovered (entries (front_at self.old label.now.node.0)) label.now.cost.0 }
+        requires spares { SparesSettled (front_at self.old label.now.node.0) label.now.cost.0 }
+        ensures elsewhere { SameElsewhere label.now.node.0 self.old self.new }
+        ensures others { (v : ℕ) → v ≢ label.now.node.0 → spare_at self.new v ≡ spare_at self.old v }
+        ensures entered { Enters (front_at self.old label.now.node.0) (entry_of label.now)
+            (front_at self.new label.now.node.0) }
+        ensures room_left { spare_at self.old label.now.node.0
+            ≤ spare_at self.new label.now.node.0 + 1 }
+    {
+        let place = self.places[label.node.0 as usize] as usize;
+        self.fronts[place].enter(&label.cost, label.arc);
+    }
+
+    /// Gives the entry of the label's cost its arc.
+    fn relabel(&mut self, label: &CompactLabel<D>)
+        requires { HasCost (entries (front_at self.old label.now.node.0)) label.now.cost.0 }
+        ensures elsewhere { SameElsewhere label.now.node.0 self.old self.new }
+        ensures relabelled { Relabels (front_at self.old label.now.node.0) (entry_of label.now)
+            (front_at self.new label.now.node.0) }
+    {
+        let place = self.places[label.node.0 as usize] as usize;
+        self.fronts[place].relabel(&label.cost, label.arc);
     }
 }
 

@@ -150,7 +150,7 @@ module _ (before : Front) (candidates : List Entry) (delta : Delta) (is : IsDelt
         arc = has.arc;
         old = has.contains;
         lesser = lesser has (stays.least (record { cost = x.cost; arc = has.arc })
-          ((in_append (entries before) candidates (record { cost = x.cost; arc = has.arc })).1 (inl has.contains)) refl) not_old;
+            ((in_append (entries before) candidates (record { cost = x.cost; arc = has.arc })).1 (inl has.contains)) refl) not_old;
       }))
     ]))
   ] where
@@ -235,7 +235,7 @@ module _ (before : Front) (candidates : List Entry) (delta : Delta) (is : IsDelt
         let low = (is.lowered.exact e).0 there in
         let x : Entry = record { cost = e.cost; arc = low.arc } in
         let none : ¬ IsDominated (entries before ++ xs) e.cost = λ h.
-            low.stays.nondominated (record { by = h.by; contains = mid_known h.by h.contains; dominates = h.dominates }) in
+        low.stays.nondominated (record { by = h.by; contains = mid_known h.by h.contains; dominates = h.dominates }) in
         let (b, stays, same) = stays_of_cost (entries before ++ xs) x ((in_append (entries before) xs x).1 (inl low.old)) none in
         (b, (merged.entries b).1 stays, same, low.stays.least b (mid_known b stays.contains) same)
 

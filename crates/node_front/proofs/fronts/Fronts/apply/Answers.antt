@@ -56,7 +56,7 @@ loop-label-2-init g c =
     let apart = λ (v : ℕ). subst (λ (f : Fronts). AreApart (entries (front_at f v))) c.self.view_is
     (front_apart c.self.inside.places.items (map g.F.ParetoFront.state c.self.inside.fronts.items) c.self.invariant v) in
     let past : length d.added ≤ c.loop-label.label-index =
-        subst (λ (ls : List (CompactLabel g.row.D)). length ls ≤ c.loop-label.label-index) c.added-label-items.ensures c.loop-label-test.false in
+    subst (λ (ls : List (CompactLabel g.row.D)). length ls ≤ c.loop-label.label-index) c.added-label-items.ensures c.loop-label-test.false in
     lowering_none c.args.self.now d apart c.loop-label.label-index c.loop-label.self (take_all c.loop-label.label-index d.added past) c.loop-label.invariant
 
 pub relabel-requires : goal.relabel-requires
@@ -94,6 +94,6 @@ returns-clause-merged g c candidates are =
     let apart = λ (v : ℕ). subst (λ (f : Fronts). AreApart (entries (front_at f v))) c.self.view_is
     (front_apart c.self.inside.places.items (map g.F.ParetoFront.state c.self.inside.fronts.items) c.self.invariant v) in
     let past : length d.lowered ≤ c.loop-label-2.label-index =
-        subst (λ (ls : List (CompactLabel g.row.D)). length ls ≤ c.loop-label-2.label-index) c.lowered-label-items.ensures c.loop-label-2-test.false in
+    subst (λ (ls : List (CompactLabel g.row.D)). length ls ≤ c.loop-label-2.label-index) c.lowered-label-items.ensures c.loop-label-2-test.false in
     lowering_all c.args.self.now d apart candidates are c.loop-label-2.label-index c.loop-label-2.self (take_all c.loop-label-2.label-index d.lowered past)
     c.loop-label-2.invariant

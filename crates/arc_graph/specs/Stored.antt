@@ -1,5 +1,5 @@
 -- How the states of the arcs lie in memory: four places each, all 0 for a shut arc.
-use Rattle.std.specs.Prelude.{◌≡◌, ℕ, ◌^◌, ◌<◌, ◌≤◌, Bool, List, Option, Some, None, length, map, take, replicate, slice_index, All}
+use Rattle.std.specs.Prelude.{◌≡◌, ℕ, ◌^◌, ◌<◌, ◌≤◌, Bool, List, ◌++◌, Option, Some, None, length, map, take, replicate, slice_index, All}
 use Rattle.std.specs.Prelude.{nat_eq, if◌then◌else◌}
 use Rattle.std.specs.Cmp.Lexicographic.{pointwise}
 use Rattle.cost_vector.specs.Costs.{max_criteria, min_criteria}
@@ -12,6 +12,11 @@ is_zero places = pointwise nat_eq places (replicate 4 0)
 -- the state that four places say
 abbrev pub state_in : ℕ → List ℕ → Option (List ℕ)
 state_in criteria places = if is_zero places then None else Some (take criteria places)
+
+-- the four places of a state: a vector's weights and 0 past them, or only 0 where it is shut
+abbrev pub places_of : Option (List ℕ) → List ℕ
+places_of None = replicate 4 0
+places_of (Some w) = take 4 (w ++ replicate 4 0)
 
 -- the states of all arcs
 abbrev pub states_of : ℕ → List (List ℕ) → List (Option (List ℕ))

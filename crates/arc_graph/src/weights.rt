@@ -1,7 +1,9 @@
 ghost use Rattle.std.specs.Prelude.{◌≡◌, ◌≤◌, ◌<◌, ◌-◌, ◌^◌, length, IfOk, IfSome, All};
 ghost use Rattle.road_network.specs.Network.{IsVector};
 ghost use Rattle.arc_graph.specs.Graph.{AreWeights, arc_state};
-ghost use Rattle.arc_graph.specs.Stored.{AreStoredStates, is_zero, states_of};
+ghost use Rattle.arc_graph.specs.History.{with_change};
+ghost use Rattle.arc_graph.specs.Pages.{CopiesPage, page_of, pages_of};
+ghost use Rattle.arc_graph.specs.Stored.{AreStoredStates, is_zero, places_of, states_of};
 
 use cost_vector::{ArcNo, OutOfMemory, Weight};
 use std::alloc::Global;
@@ -9,6 +11,9 @@ use std::marker::Model;
 
 /// The weights of one arc, in the order of the criteria; all are 0 where the arc is shut.
 pub(crate) type Places = [u32; 4];
+
+/// How many arcs stand on a page of `Weights`; the last page may have fewer.
+const PAGE_SIZE: usize = 4096;
 
 /// For each arc its vector, or that it is shut. A vector is never all zero, so four zeros stand for a shut arc.
 #[derive(Debug, Drop)]
@@ -66,6 +71,43 @@ impl Weights {
         Some(Weight::of_numbers(&places[..self.criteria]))
     }
 
+    /// Gives an arc another vector, or shuts it where there is none.
+    pub fn set(&mut self, a: ArcNo, w: Option<Weight>)
+        requires counted { 1 ≤ a.0 }
+        requires there { a.0 ≤ length self.old.states }
+        requires vector { IfSome w (IsVector self.old.criteria) }
+        ensures { self.new ≡ with_change self.old (record { arc = a; weight = w }) }
+    {
+        self.vectors[a.0 as usize - 1] = places_of(w);
+    }
+
+    /// How many pages there are: 4,096 arcs stand on each but the last, which may have fewer.
+    pub fn pages(&self) -> usize
+        ensures { result ≡ pages_of (length self.now.states) }
+    {
+        self.vectors.len().div_ceil(PAGE_SIZE)
+    }
+
+    /// The page that an arc stands on, from 0.
+    pub fn page_of(a: ArcNo) -> usize
+        requires counted { 1 ≤ a.0 }
+        ensures { result ≡ page_of a.0 }
+    {
+        (a.0 as usize - 1) / PAGE_SIZE
+    }
+
+    /// Takes over the states of the arcs of one page from other weights of the same arcs.
+    pub fn copy_page(&mut self, other: &Weights, page: usize)
+        requires criteria { other.now.criteria ≡ self.old.criteria }
+        requires arcs { length other.now.states ≡ length self.old.states }
+        requires there { page < pages_of (length self.old.states) }
+        ensures { CopiesPage page other.now self.old self.new }
+    {
+        let start = page * PAGE_SIZE;
+        let end = (start + PAGE_SIZE).min(self.vectors.len());
+        self.vectors[start..end].copy_from_slice(&other.vectors[start..end]);
+    }
+
     /// The same weights again, in memory of their own.
     pub fn try_copy(&self) -> Result<Weights, OutOfMemory>
         ensures { IfOk result (λ copy. copy ≡ self.now) }
@@ -76,6 +118,19 @@ impl Weights {
             vectors: Vec::from_slice(self.alloc, &self.vectors)?,
         })
     }
+}
+
+/// A state as it lies in memory.
+fn places_of(w: Option<Weight>) -> Places
+    ensures { result ≡ places_of w }
+{
+    let mut places = [0; 4];
+    if let Some(weight) = w {
+        for (i, place) in places.iter_mut().enumerate().take(weight.count()) {
+            *place = weight.component(i);
+        }
+    }
+    places
 }
 
 /// Whether all four weights are 0, as those of a shut arc are.

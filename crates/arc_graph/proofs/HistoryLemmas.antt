@@ -1,7 +1,7 @@
 -- Histories and their epochs: one entry more, the front of a history, and what the epochs keep.
-use Rattle.std.proofs.Common.{◌≡◌, ℕ, zero, suc, ◌+◌, ◌-◌, ◌≤◌, ◌<◌, ◌^◌, Bool, true, false, List, [], ◌∷◌, ◌++◌, Some, None, IfSome, length, take, drop, refl, arith, ap, sym, subst, ◌∙◌}
-use Rattle.std.specs.Prelude.{fold, slice_get, slice_range, All}
-use Rattle.std.proofs.Math.Seq.{take-add, take_at}
+use Rattle.std.proofs.Common.{◌≡◌, ℕ, ◌+◌, ◌-◌, ◌≤◌, ◌<◌, ◌^◌, List, [], ◌∷◌, ◌++◌, IfSome, length, take, refl, arith, ap, sym, subst, ◌∙◌}
+use Rattle.std.specs.Prelude.{fold, slice_range, All}
+use Rattle.std.proofs.Math.Seq.{take-add}
 use Rattle.std.proofs.lemmas.List.{append-nil, length-append, take-append-le, take_all, length-set}
 use Rattle.std.proofs.lemmas.List.Sums.{fold-append}
 use Rattle.std.proofs.lemmas.List.Elements.{All-head, All-tail, All-take, All-set, filter_map-append}
@@ -96,14 +96,14 @@ epoch_criteria base h k = kept_by_epochs (λ w. w.criteria ≡ base.criteria) (�
 pub epoch_arcs : (base : Weights) (h : History) (k : ℕ) → length (epoch_after base h k).states ≡ length base.states
 epoch_arcs base h k =
     kept_by_epochs (λ w. length w.states ≡ length base.states) (λ c. Unit {0}) base h k
-      (λ w c any same. length-set w.states (c.arc.0 - 1) c.weight ∙ same) (any_changes h) refl
+    (λ w c any same. length-set w.states (c.arc.0 - 1) c.weight ∙ same) (any_changes h) refl
 
 -- what holds of each state of before, and of what the changes give, holds of each state
 kept_by_states : {arcs d : ℕ} (P : List ℕ → Type 0) (base : Weights) (h : History) (k : ℕ) → ((c : Change) → IsChange arcs d c → IfSome c.weight P)
     → All (All (IsChange arcs d)) (sets_of h) → All (λ s. IfSome s P) base.states → All (λ s. IfSome s P) (epoch_after base h k).states
 kept_by_states {arcs} {d} P base h k gives =
     kept_by_epochs (λ w. All (λ s. IfSome s P) w.states) (IsChange arcs d) base h k
-      (λ w c is all. All-set (λ s. IfSome s P) w.states (c.arc.0 - 1) c.weight (gives c is) all)
+    (λ w c is all. All-set (λ s. IfSome s P) w.states (c.arc.0 - 1) c.weight (gives c is) all)
 
 -- the epochs are weights
 pub epoch_weights : (base : Weights) (h : History) (k : ℕ) → AreWeights base → IsHistory (length base.states) base.criteria h
@@ -120,7 +120,7 @@ epoch_weights base h k weights history = record {
 pub page_left_by_set : (page : ℕ) (w : Weights) (cs : List Change) → LeavesPage page cs → AgreeOnPage page (with_changes w cs) w
 page_left_by_set page w cs away =
     kept_by_fold with_change (λ v. AgreeOnPage page v w) (λ c. ¬ IsOnPage page c.arc.0) cs w
-      (λ v c off agree k on. page_left page v c off k on ∙ agree k on) away (λ k on. refl)
+    (λ v c off agree k on. page_left page v c off k on ∙ agree k on) away (λ k on. refl)
 
 -- and one of which several sets have none
 pub page_left_by_sets : (page : ℕ) (base : Weights) (h : History) (i k : ℕ) → i ≤ k → LeavePage page h i k
@@ -128,5 +128,5 @@ pub page_left_by_sets : (page : ℕ) (base : Weights) (h : History) (i k : ℕ) 
 page_left_by_sets page base h i k upto away =
     let from = epoch_after base h i in
     let left = kept_by_fold with_changes (λ v. AgreeOnPage page v from) (LeavesPage page) (slice_range (sets_of h) i k) from
-          (λ v cs off agree n on. page_left_by_set page v cs off n on ∙ agree n on) away (λ n on. refl) in
+    (λ v cs off agree n on. page_left_by_set page v cs off n on ∙ agree n on) away (λ n on. refl) in
     λ n on. sym (subst (λ v. AgreeOnPage page v from) (sym (epoch_from base h i k upto)) left n on)

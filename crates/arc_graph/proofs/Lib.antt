@@ -15,3 +15,4 @@ pub mod RelaxLaws
 pub mod PageLemmas
 pub mod HistoryLemmas
 pub mod OperatorLemmas
+pub mod WithPageLemmas

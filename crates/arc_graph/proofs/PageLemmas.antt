@@ -1,8 +1,7 @@
 -- Weights by their pages: which page an arc stands on, weights that agree on pages, and what a change leaves of a page.
-use Rattle.std.proofs.Common.{◌≡◌, ◌≢◌, ℕ, ◌-◌, ◌/◌, ◌+◌, ◌≤◌, ◌<◌, List, [], ◌∷◌, zero, suc, Option, Some, None, length, get_or, set, arith, ap, ap₂, sym, ◌∙◌, refl}
-use Rattle.std.specs.Prelude.{slice_get, All}
+use Rattle.std.proofs.Common.{◌≡◌, ◌≢◌, ℕ, ◌-◌, ◌/◌, ◌+◌, ◌≤◌, ◌<◌, List, [], ◌∷◌, zero, suc, Option, None, length, set, arith, ap, ap₂, sym, ◌∙◌, refl}
+use Rattle.std.specs.Prelude.{slice_get}
 use Rattle.std.specs.Option.{unwrap_or}
-use Rattle.std.proofs.lemmas.Bool.{cases_eq}
 use Rattle.std.proofs.lemmas.Option.{unwrap_or-slice_get}
 use Rattle.std.proofs.lemmas.List.{ext_get_or}
 use Rattle.arc_graph.specs.declared.change.Change.{Change}
@@ -24,9 +23,9 @@ pub same_by_pages : (v w : Weights) → v.criteria ≡ w.criteria → length v.s
     → ((page : ℕ) → page < pages_of (length v.states) → AgreeOnPage page v w) → v ≡ w
 same_by_pages v w criteria arcs each =
     let states : v.states ≡ w.states = same_by_get v.states w.states None arcs (λ i within.
-        let counted : i + 1 - 1 ≡ i = omega arith in
-        let agree = each (page_of (i + 1)) (page_there (length v.states) (i + 1) (omega arith) (omega arith)) (i + 1) refl in
-        ap (slice_get v.states) (sym counted) ∙ agree ∙ ap (slice_get w.states) counted) in
+    let counted : i + 1 - 1 ≡ i = omega arith in
+    let agree = each (page_of (i + 1)) (page_there (length v.states) (i + 1) (omega arith) (omega arith)) (i + 1) refl in
+    ap (slice_get v.states) (sym counted) ∙ agree ∙ ap (slice_get w.states) counted) in
     ap₂ (λ (d : ℕ) (s : List (Option (List ℕ))). record { criteria = d; states = s }) criteria states
 
 get_set_other : {X : Type 0} (xs : List X) (i j : ℕ) (y : X) → j ≢ i → slice_get (set xs i y) j ≡ slice_get xs j

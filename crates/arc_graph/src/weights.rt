@@ -1,8 +1,8 @@
-ghost use Rattle.std.specs.Prelude.{◌≡◌, ℕ, ◌≤◌, ◌<◌, ◌-◌, ◌^◌, length, take, IfOk, IfSome, All};
+ghost use Rattle.std.specs.Prelude.{◌≡◌, ℕ, ◌≤◌, ◌<◌, ◌-◌, ◌*◌, ◌^◌, length, take, IfOk, IfSome, All};
 ghost use Rattle.road_network.specs.Network.{IsVector};
 ghost use Rattle.arc_graph.specs.Graph.{AreWeights, arc_state};
 ghost use Rattle.arc_graph.specs.History.{with_change};
-ghost use Rattle.arc_graph.specs.Pages.{CopiesPage, page_of, pages_of};
+ghost use Rattle.arc_graph.specs.Pages.{CopiesPage, page_of, page_size, pages_of, with_page};
 ghost use Rattle.arc_graph.specs.Stored.{AreStoredStates, IsStoredAs, IsStoredState, is_zero, states_of};
 
 use cost_vector::{ArcNo, OutOfMemory, Weight};
@@ -106,9 +106,7 @@ impl Weights {
         requires there { page < pages_of (length self.old.states) }
         ensures { CopiesPage page other.now self.old self.new }
     {
-        let start = page * PAGE_SIZE;
-        let end = (start + PAGE_SIZE).min(self.vectors.len());
-        self.vectors[start..end].copy_from_slice(&other.vectors[start..end]);
+        copy_page_of(&other.vectors, &mut self.vectors, page);
     }
 
     /// The same weights again, in memory of their own.
@@ -121,6 +119,17 @@ impl Weights {
             vectors: Vec::from_slice(self.alloc, &self.vectors)?,
         })
     }
+}
+
+/// Takes over the elements of one page.
+fn copy_page_of(from: &[Places], to: &mut [Places], page: usize)
+    requires same { length from.now ≡ length to.old }
+    requires there { page * page_size < length to.old }
+    ensures { to.new ≡ with_page page from.now to.old }
+{
+    let start = page * PAGE_SIZE;
+    let end = to.len().min(start + PAGE_SIZE);
+    to[start..end].copy_from_slice(&from[start..end]);
 }
 
 /// A state as it lies in memory.

@@ -1,4 +1,4 @@
-use Rattle.std.proofs.Common.{◌≡◌, length, take}
+use Rattle.std.proofs.Common.{◌≡◌, take}
 use Rattle.arc_graph.specs.Stored.{IsStoredState}
 use Rattle.arc_graph.proofs.weights.places_of_vector.Given as goal
 

@@ -11,6 +11,6 @@ returns c =
     let d = c.self.inside.criteria in
     let vector = subst (λ v. IfSome c.args.w (IsVector v)) (sym (ap (λ (v : Weights). v.criteria) c.self.view_is)) c.requires.vector in
     ap (λ (s : List (Option (List ℕ))). record { criteria = d; states = s })
-      (map-set (state_in d) c.self.inside.vectors.items (c.args.a.0 - 1) c.places_of.result
-       ∙ ap (set (states_of d c.self.inside.vectors.items) (c.args.a.0 - 1)) (c.places_of.ensures d vector).state_is)
+    (map-set (state_in d) c.self.inside.vectors.items (c.args.a.0 - 1) c.places_of.result
+    ∙ ap (set (states_of d c.self.inside.vectors.items) (c.args.a.0 - 1)) (c.places_of.ensures d vector).state_is)
     ∙ ap (λ v. with_change v (record { arc = c.args.a; weight = c.args.w })) c.self.view_is

@@ -35,21 +35,13 @@ module _ {X : Type 0} (page : ℕ) (xs ys : List X) (there : page * 4096 < lengt
   pub length-with_page : length (with_page page ys xs) ≡ length xs
   length-with_page = search (rules, places)
 
-  get_inside : (i : ℕ) (d : X) → i < length xs → page * 4096 ≤ i → i < page * 4096 + 4096 → get_or (with_page page ys xs) i d ≡ get_or ys i d
-  get_inside i d within behind below = search (rules, places)
-
-  get_below : (i : ℕ) (d : X) → i < page * 4096 → get_or (with_page page ys xs) i d ≡ get_or xs i d
-  get_below i d before = search (rules, places)
-
-  get_above : (i : ℕ) (d : X) → page * 4096 + 4096 ≤ i → get_or (with_page page ys xs) i d ≡ get_or xs i d
-  get_above i d behind = search (rules, places)
-
   -- what holds of the elements of both lists
   all_with_page : (P : X → Type 0) → All P xs → All P ys → All P (with_page page ys xs)
   all_with_page P all each = search (All-append, All-take, All-drop)
 
 -- places that have the same
-same_get : {X : Type 0} (xs ys : List X) (i : ℕ) (d : X) → length xs ≡ length ys → (i < length xs → get_or xs i d ≡ get_or ys i d) → slice_get xs i ≡ slice_get ys i
+same_get : {X : Type 0} (xs ys : List X) (i : ℕ) (d : X) → length xs ≡ length ys
+    → (i < length xs → get_or xs i d ≡ get_or ys i d) → slice_get xs i ≡ slice_get ys i
 same_get xs ys i d same each = elim (cases_lt i (length xs)) [
   | inl within ↦ slice_get-get_or xs i d within ∙ ap Some (each within) ∙ sym (slice_get-get_or ys i d (omega arith))
   | inr past ↦ slice_get_past xs i past ∙ sym (slice_get_past ys i (omega arith))
@@ -72,13 +64,16 @@ module _ (page : ℕ) (xs ys : List (List ℕ)) (there : page * 4096 < length xs
   long = length-with_page page xs ys there same
 
   get_copied : (k : ℕ) → IsOnPage page k → slice_get (with_page page ys xs) (k - 1) ≡ slice_get ys (k - 1)
-  get_copied k on = same_get (with_page page ys xs) ys (k - 1) [] (long ∙ sym same)
-      (λ within. get_inside page xs ys there same (k - 1) [] (omega (arith, long)) (omega arith) (omega arith))
+  get_copied k on = same_get (with_page page ys xs) ys (k - 1) [] (long ∙ sym same) (λ within.
+      let begins : page * 4096 ≤ k - 1 = omega arith in
+      let ends : k - 1 < page * 4096 + 4096 = omega arith in
+      let there : k - 1 < length xs = omega (arith, long) in
+      search (rules, places))
 
   get_kept : (other k : ℕ) → other ≢ page → IsOnPage other k → slice_get (with_page page ys xs) (k - 1) ≡ slice_get xs (k - 1)
   get_kept other k apart on = same_get (with_page page ys xs) xs (k - 1) [] long (λ within. elim (cases_lt (k - 1) (page * 4096)) [
-    | inl before ↦ get_below page xs ys there same (k - 1) [] before
-    | inr behind ↦ get_above page xs ys there same (k - 1) [] (omega arith)
+    | inl before ↦ search (rules, places)
+    | inr behind ↦ let past : page * 4096 + 4096 ≤ k - 1 = omega arith in search (rules, places)
   ])
 
   -- where both are stored, so is what they give together

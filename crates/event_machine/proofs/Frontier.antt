@@ -3,13 +3,14 @@ use Rattle.std.proofs.Common.{◌≡◌, ℕ, List, [], ◌∷◌, length, repli
 use Rattle.std.specs.Prelude.{Contains}
 use Rattle.cost_vector.specs.Costs.{AtMost, Dominates, plus}
 use Rattle.cost_vector.proofs.Vectors.{AtMost-refl, AtMost-trans, AtMost-plus, AtMost-Dominates, Dominates-plus, Dominates-trans}
-use Rattle.cost_vector.proofs.Vectors.{Within-AtMost, cases_same}
+use Rattle.cost_vector.proofs.Vectors.{Within-AtMost, plus_cancel, cases_same}
 use Rattle.road_network.specs.Network.{Leads}
 use Rattle.road_network.specs.Walks.{IsWalk}
 use Rattle.road_network.specs.Best.{IsBest}
 use Rattle.road_network.specs.Answers.{IsRelevant}
 use Rattle.road_network.proofs.WalkLaws.{leads_by_vector, length_of_arrival, arrives_by_walk, walk_by_arrival}
 use Rattle.road_network.proofs.BestLaws.{grows_along}
+use Rattle.road_network.proofs.Reached.{leads_alike}
 use Rattle.event_machine.specs.Machine.{Task, IsTask, Label, SearchState, settled, dropped, waiting, IsEntry, IsActive, waits}
 use Rattle.event_machine.specs.Machine.{is_candidate, has_arc, HasSettled, Follows}
 use Rattle.event_machine.specs.Events.{MayTake}
@@ -53,6 +54,19 @@ module _ (task : Task) (is : IsTask task) where
     grown_from_settled e x there f =
         let way = sound.walked e (inl (settled, there)) in
         less_before x.arc way.arcs x.node x.cost (record { at = e.node; by = f.by; before = e.cost; walk = way.walk; leads = f.leads; cost = f.cost })
+
+    -- the cost of an entry has a place for each criterion
+    length_of_entry : (e : Label) → IsEntry s e → length e.cost ≡ task.network.criteria
+    length_of_entry e entry = let way = sound.walked e (inl entry) in length_of_walk way.arcs e.node e.cost way.walk
+
+    -- a label follows along its arc from one entry alone
+    pub follows_once : (d e x : Label) → IsEntry s d → IsEntry s e → Follows task.network d x → Follows task.network e x → d ≡ e
+    follows_once d e x entry entry_too f g =
+        let alike = leads_alike task.network x.arc d.node x.node e.node x.node f.by g.by f.leads g.leads in
+        let long = sym (leads_by_vector task.network is.network x.arc e.node x.node g.by g.leads).whole in
+        let sums : plus d.cost g.by ≡ plus e.cost g.by = ap (plus d.cost) (sym alike.1) ∙ sym f.cost ∙ g.cost in
+        let cost = plus_cancel d.cost e.cost g.by (length_of_entry d entry ∙ long) (length_of_entry e entry_too ∙ long) sums in
+        sound.apart.alone d e entry entry_too alike.0 (subst (AtMost d.cost) cost (AtMost-refl d.cost))
 
     -- ---- the frontier
 
@@ -157,7 +171,7 @@ module _ (task : Task) (is : IsTask task) where
               | inr other ↦
                   let way = sound.walked e (inl (settled, below.settled)) in
                   let whole = (leads_by_vector task.network is.network k walk.at l.node walk.by walk.leads).whole in
-                  let long = length_of_walk way.arcs e.node e.cost way.walk ∙ sym whole in
+                  let long = length_of_entry e (settled, below.settled) ∙ sym whole in
                   let shorter = Dominates-plus e.cost walk.before walk.by long (record { at_most = below.at_most; differs = other }) in
                   let leads = subst (λ u. Leads task.network k u walk.by l.node) (sym below.node) walk.leads in
                   let on : Comes task (k ∷ way.arcs) l.node (plus e.cost walk.by) =

@@ -1,9 +1,10 @@
 -- Each state is sound to which events lead.
-use Rattle.std.proofs.Common.{◌≡◌, List, [], ◌∷◌, ◌⊎◌, inl, inr, refl, sym, subst, ◌∙◌}
+use Rattle.std.proofs.Common.{◌≡◌, ◌≢◌, List, [], ◌∷◌, ◌⊎◌, inl, inr, refl, sym, subst, ◌∙◌}
 use Rattle.std.specs.Prelude.{Contains}
 use Rattle.cost_vector.specs.Costs.{Dominates, Within}
 use Rattle.cost_vector.proofs.Vectors.{AtMost-Dominates}
 use Rattle.list_laws.proofs.Members.{in_none, in_first, in_one}
+use Rattle.list_laws.proofs.Pairs.{pairs_none}
 use Rattle.event_machine.specs.Machine.{Task, IsTask, Label, IsSamePair, SearchState, start_label, start_state, Place, settled, dropped}
 use Rattle.event_machine.specs.Machine.{waiting, entries_at, IsActive, waits, is_candidate, has_arc, IsBeatenAtTarget, Follows}
 use Rattle.event_machine.specs.Events.{Event, take, drop, relax, merge, Happens, Runs, IsReached}
@@ -80,6 +81,7 @@ module _ (task : Task) (is : IsTask task) where
       founded = founded_after;
       paired = λ e k there. let pair = changes.paired e k there in (pair.1, pair.2);
       apart = changes.entries.apart;
+      fresh = changes.fresh;
       started = covered_after (start_label task) sound.started;
       expanded = expanded_after;
       useless = useless_after;
@@ -92,18 +94,18 @@ module _ (task : Task) (is : IsTask task) where
   -- ---- event by event, and run by run
 
   pub changes_of : (a b : SearchState) (event : Event) → IsSound task a → Happens task a event b → Changes task a b
-  changes_of a b (take l) sound h = take_changes task a b sound l h
-  changes_of a b (drop l) sound h = drop_changes task a b sound l h
-  changes_of a b (relax l k) sound h = relax_changes task a b sound l k h
-  changes_of a b (merge x) sound h = merge_changes task a b sound x h
+  changes_of a b (take l) sound h = take_changes task is a b sound l h
+  changes_of a b (drop l) sound h = drop_changes task is a b sound l h
+  changes_of a b (relax l k) sound h = relax_changes task is a b sound l k h
+  changes_of a b (merge x) sound h = merge_changes task is a b sound x h
 
   pub sound_after : (a b : SearchState) (event : Event) → IsSound task a → Happens task a event b → IsSound task b
   sound_after a b event sound h = sound_by_changes a b sound (changes_of a b event sound h)
 
   pub sound_by_run : (a b : SearchState) (events : List Event) → IsSound task a → Runs task a events b → IsSound task b
-  sound_by_run a b [] sound same = sound_by_changes a b sound (same_changes task a b sound same)
+  sound_by_run a b [] sound same = sound_by_changes a b sound (same_changes task is a b sound same)
   sound_by_run a b (event ∷ rest) sound run =
-      let sound_too = sound_by_changes a run.from sound (same_changes task a run.from sound run.same) in
+      let sound_too = sound_by_changes a run.from sound (same_changes task is a run.from sound run.same) in
       sound_by_run run.next b rest (sound_after run.from run.next event sound_too run.step) run.rest
 
   -- ---- from the start
@@ -125,6 +127,7 @@ module _ (task : Task) (is : IsTask task) where
       alone = λ y z y_in z_in node below. known_at_start y (inl y_in) ∙ sym (known_at_start z (inl z_in));
       placed = λ p q y here there. (at_start_alone p y here).0 ∙ sym (at_start_alone q y there).0;
     };
+    fresh = record { once = pairs_none ◌≢◌; apart = λ e x there. absurd (in_none x there) };
     started = covered_by_itself (start_state task) (start_label task) (waiting, in_first (start_label task) []);
     expanded = λ e x there. absurd (in_none e there);
     useless = λ y there. absurd (in_none y there);

@@ -1,9 +1,10 @@
 -- What each state keeps to which events lead.
 use Rattle.std.proofs.Common.{◌≡◌, ◌≢◌, ℕ, List, ◌∷◌, ◌≤◌, ◌⊎◌, inl, inr, refl, sym, ap, ap₂, subst, ◌∙◌, arith}
-use Rattle.std.specs.Prelude.{slice_index, Contains}
+use Rattle.std.specs.Prelude.{slice_index, AllPairs, Contains}
 use Rattle.std.proofs.lemmas.Bool.{cases_eq}
 use Rattle.cost_vector.specs.Costs.{AtMost, Dominates, Within}
 use Rattle.cost_vector.proofs.Vectors.{AtMost-refl, Dominates-trans, cases_same, cases_Dominates}
+use Rattle.road_network.specs.Network.{Network}
 use Rattle.road_network.specs.Walks.{Arrives}
 use Rattle.road_network.specs.Answers.{IsRelevant}
 use Rattle.event_machine.specs.Machine.{Task, Label, IsSamePair, Beats, SearchState, start_label, Place, entries_at, IsEntry, IsActive}
@@ -113,6 +114,11 @@ pub record AreApart (s : SearchState) : Type 0 where
   pub alone : (y z : Label) → IsEntry s y → IsEntry s z → y.node ≡ z.node → AtMost y.cost z.cost → y ≡ z
   pub placed : (p q : Place) (y : Label) → Contains (entries_at s p) y → Contains (entries_at s q) y → p ≡ q
 
+-- each candidate stands once, and no arc that is still to be relaxed gives it again
+pub record IsFresh (net : Network) (s : SearchState) : Type 0 where
+  pub once : AllPairs ◌≢◌ s.candidates
+  pub apart : (e x : Label) → Contains s.candidates x → Contains s.unrelaxed (e, x.arc) → ¬ Follows net e x
+
 -- no walk of the label's cost ends by a lesser arc
 abbrev pub IsLeastArc : Task → Label → Type 0
 IsLeastArc task l = (k : ℕ) (before : List ℕ) → Comes task (k ∷ before) l.node l.cost → l.arc ≤ k
@@ -123,6 +129,7 @@ pub record IsSound (task : Task) (s : SearchState) : Type 0 where
   pub founded : (y : Label) → IsKnown s y → IsFounded task s y
   pub paired : (e : Label) (k : ℕ) → Contains s.unrelaxed (e, k) → Contains s.settled e × LeadsOn task.network e.node k
   pub apart : AreApart s
+  pub fresh : IsFresh task.network s
   pub started : IsCovered s (start_label task)
   pub expanded : (e x : Label) → Contains s.settled e → Follows task.network e x → IsArrival task.network s x ⊎ IsCovered s x
   pub useless : (y : Label) → Contains s.dropped y → (¬ Within task.limit y.cost) ⊎ IsBeatenAtTarget task s y.cost

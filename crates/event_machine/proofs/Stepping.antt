@@ -1,15 +1,19 @@
 -- What each event changes.
-use Rattle.std.proofs.Common.{◌≡◌, ◌≢◌, ℕ, ◌∷◌, ◌⊎◌, ◌↔◌, inl, inr, refl, sym, ap, subst, ◌∙◌}
-use Rattle.std.specs.Prelude.{Contains}
-use Rattle.std.proofs.lemmas.List.Sorted.{IsPermutation-sym}
+use Rattle.std.proofs.Common.{◌≡◌, ◌≢◌, ℕ, ◌∷◌, ◌⊎◌, ◌↔◌, inl, inr, refl, sym, ap, ap₂, subst, ◌∙◌, arith}
+use Rattle.std.specs.Prelude.{AllPairs, Contains, IsPermutation}
+use Rattle.std.proofs.lemmas.List.Sorted.{Contains-permutation, IsPermutation-sym}
 use Rattle.cost_vector.specs.Costs.{Within, plus}
 use Rattle.road_network.specs.Network.{Network, Leads}
 use Rattle.road_network.proofs.Reached.{leads_alike}
-use Rattle.event_machine.specs.Machine.{Task, Label, SearchState, settled, dropped, IsActive, waits, has_arc, IsBeatenAtTarget, LeadsOn, Follows}
+use Rattle.event_machine.specs.Machine.{Task, IsTask, Label, SearchState, settled, dropped, waiting, IsActive, waits, has_arc, IsBeatenAtTarget}
+use Rattle.event_machine.specs.Machine.{LeadsOn, Follows}
 use Rattle.event_machine.specs.Events.{MayTake, Takes, Drops, Relaxes, Merges, IsSame}
 use Rattle.event_machine.specs.Orders.{IsArrival, came, comes}
+use Rattle.list_laws.proofs.Pairs.{pairs_cons, pairs_rest}
 use Rattle.list_laws.proofs.SetLaws.{same_by_permutation, gains_by_permutation}
-use Rattle.event_machine.proofs.Sound.{IsSound, IsCovered, label_by_parts, cases_pair}
+use Rattle.list_laws.proofs.OnceLaws.{once_in_any_order}
+use Rattle.event_machine.proofs.Sound.{IsSound, IsFresh, at_start, follows, IsCovered, label_by_parts, cases_pair}
+use Rattle.event_machine.proofs.Frontier.{follows_once}
 use Rattle.event_machine.proofs.Changing.{EntriesChange, entries_stay, entries_become, room_to_move, entries_by_merge, covered_by_merge}
 use Rattle.event_machine.proofs.Changing.{place_before_merge, settled_before_merge}
 
@@ -33,6 +37,7 @@ pub record Changes (task : Task) (a b : SearchState) : Type 0 where
   pub paired : (e : Label) (k : ℕ) → Contains b.unrelaxed (e, k) → IsActive a e × Contains b.settled e × LeadsOn task.network e.node k
   pub candidates : (y : Label) → Contains b.candidates y → Contains a.candidates y ⊎ IsGiven task a y
   pub arrivals : (y : Label) → IsArrival task.network a y → IsArrival task.network b y ⊎ IsCovered b y
+  pub fresh : IsFresh task.network b
 
 -- one label follows from another along one arc
 pub follows_alike : (net : Network) (e x y : Label) → Follows net e x → Follows net e y → x.arc ≡ y.arc → x ≡ y
@@ -74,7 +79,25 @@ arrivals_by_relax task a b l k h x = (
 pub candidates_by_merge : (a b : SearchState) (x : Label) → Merges a x b → (y : Label) → Contains a.candidates y ↔ (Contains b.candidates y ⊎ (y ≡ x))
 candidates_by_merge a b x h = gains_by_permutation x b.candidates a.candidates (IsPermutation-sym a.candidates (x ∷ b.candidates) h.candidates)
 
-module _ (task : Task) (a b : SearchState) (sound : IsSound task a) where
+module _ (task : Task) (is : IsTask task) (a b : SearchState) (sound : IsSound task a) where
+  -- candidates that stay are fresh where none of them follows along an arc that is to be relaxed
+  fresh_still : IsPermutation a.candidates b.candidates
+      → ((e x : Label) → Contains a.candidates x → Contains b.unrelaxed (e, x.arc) → ¬ Follows task.network e x) → IsFresh task.network b
+  fresh_still moved apart = record {
+    once = once_in_any_order a.candidates b.candidates moved sound.fresh.once;
+    apart = λ e x there. apart e x (Contains-permutation b.candidates a.candidates x (IsPermutation-sym a.candidates b.candidates moved) there);
+  }
+
+  -- what waits has given no candidate
+  gives_later : (l x : Label) → Contains a.waiting l → Contains a.candidates x → ¬ Follows task.network l x
+  gives_later l x it_waits there f = elim (sound.founded x (inr there)) [
+    | at_start e ↦ omega (arith, f.leads.counted, ap (λ (m : Label). m.arc) e)
+    | follows d d_settled g ↦
+        let same : d ≡ l = follows_once task is a sound d l x (settled, d_settled) (waiting, it_waits) g f in
+        let wrong : settled ≡ waiting = sound.apart.placed settled waiting l (subst (Contains a.settled) same d_settled) it_waits in
+        absurd cc
+  ]
+
   -- a pair that was to be relaxed before
   still_paired : EntriesChange a b → (e : Label) (k : ℕ) → Contains a.unrelaxed (e, k) → IsActive a e × Contains b.settled e × LeadsOn task.network e.node k
   still_paired entries e k there = let pair = sound.paired e k there in (has_arc k there, entries.kept e pair.0, pair.1)
@@ -96,6 +119,10 @@ module _ (task : Task) (a b : SearchState) (sound : IsSound task a) where
       | came here ↦ inl (came ((same_by_permutation a.candidates b.candidates h.candidates x).1 here))
       | comes e here f ↦ inl (comes e ((h.unrelaxed (e, x.arc)).1 (inl here)) f)
     ];
+    fresh = fresh_still h.candidates (λ e x there pair. elim ((h.unrelaxed (e, x.arc)).0 pair) [
+      | inl old ↦ sound.fresh.apart e x there old
+      | inr (is_l, _) ↦ gives_later e x (subst (Contains a.waiting) (sym is_l) h.may.waits) there
+    ]);
   } where
     entries : EntriesChange a b
     entries = entries_become a b sound.apart (λ _ y. y ≢ l) l settled h.entries (room_to_move a b sound.apart l h.may.waits)
@@ -116,6 +143,7 @@ module _ (task : Task) (a b : SearchState) (sound : IsSound task a) where
         paired = λ e k here. still_paired entries e k ((h.unrelaxed (e, k)).0 here);
         candidates = λ y here. inl ((candidates y).0 here);
         arrivals = λ x. elim [ came here ↦ inl (came ((candidates x).1 here)) | comes e here f ↦ inl (comes e ((h.unrelaxed (e, x.arc)).1 here) f) ];
+        fresh = fresh_still h.candidates (λ e x there pair. sound.fresh.apart e x there ((h.unrelaxed (e, x.arc)).0 pair));
       }
 
   pub relax_changes : (l : Label) (k : ℕ) → Relaxes task a l k b → Changes task a b
@@ -126,9 +154,27 @@ module _ (task : Task) (a b : SearchState) (sound : IsSound task a) where
     paired = λ e j here. still_paired (entries_stay a b sound.apart h.entries) e j ((h.unrelaxed (e, j)).0 here).0;
     candidates = λ y here. elim ((gains y).0 here) [ inl old ↦ inl old | inr e ↦ inr (subst (IsGiven task a) (sym e) given) ];
     arrivals = λ y arrival. inl ((arrivals_by_relax task a b l k h y).0 arrival);
+    fresh = record { once = once; apart = apart };
   } where
     gains : (y : Label) → Contains b.candidates y ↔ (Contains a.candidates y ⊎ (y ≡ h.candidate))
     gains = gains_by_permutation h.candidate a.candidates b.candidates h.candidates
+
+    pair_given : Contains a.unrelaxed (l, h.candidate.arc)
+    pair_given = subst (λ j. Contains a.unrelaxed (l, j)) (sym h.arc) h.may
+
+    once : AllPairs ◌≢◌ b.candidates
+    once = once_in_any_order (h.candidate ∷ a.candidates) b.candidates h.candidates (pairs_cons ◌≢◌ h.candidate a.candidates
+        (λ y there e. sound.fresh.apart l h.candidate (subst (Contains a.candidates) (sym e) there) pair_given h.follows) sound.fresh.once)
+
+    apart : (e x : Label) → Contains b.candidates x → Contains b.unrelaxed (e, x.arc) → ¬ Follows task.network e x
+    apart e x there pair f = elim ((gains x).0 there) [
+      | inl old ↦ sound.fresh.apart e x old ((h.unrelaxed (e, x.arc)).0 pair).0 f
+      | inr new ↦
+          let was = (h.unrelaxed (e, x.arc)).0 pair in
+          let same = follows_once task is a sound e l x (settled, (sound.paired e x.arc was.0).0) (settled, (sound.paired l k h.may).0) f
+          (subst (Follows task.network l) (sym new) h.follows) in
+          was.1 (ap₂ (λ (m : Label) (j : ℕ). (m, j)) same (ap (λ (m : Label). m.arc) new ∙ h.arc))
+    ]
 
     given : IsGiven task a h.candidate
     given = record { from = l; settled = (sound.paired l k h.may).0; active = has_arc k h.may; follows = h.follows }
@@ -147,6 +193,10 @@ module _ (task : Task) (a b : SearchState) (sound : IsSound task a) where
       | comes e there f ↦ inl (comes e ((h.unrelaxed (e, y.arc)).1 there) f)
       | came there ↦ elim ((gains y).0 there) [ inl here ↦ inl (came here) | inr e ↦ inr (subst (IsCovered b) (sym e) covered) ]
     ];
+    fresh = record {
+      once = pairs_rest ◌≢◌ x b.candidates (once_in_any_order a.candidates (x ∷ b.candidates) h.candidates sound.fresh.once);
+      apart = λ e y there pair. sound.fresh.apart e y ((gains y).1 (inl there)) ((h.unrelaxed (e, y.arc)).0 pair);
+    };
   } where
     gains : (y : Label) → Contains a.candidates y ↔ (Contains b.candidates y ⊎ (y ≡ x))
     gains = candidates_by_merge a b x h
@@ -171,4 +221,6 @@ module _ (task : Task) (a b : SearchState) (sound : IsSound task a) where
         paired = λ e k here. still_paired entries e k ((h.unrelaxed (e, k)).0 here);
         candidates = λ y here. inl ((candidates y).0 here);
         arrivals = λ y. elim [ came here ↦ inl (came ((candidates y).1 here)) | comes e there f ↦ inl (comes e ((h.unrelaxed (e, y.arc)).1 there) f) ];
+        fresh = fresh_still (IsPermutation-sym b.candidates a.candidates h.candidates)
+            (λ e x there pair. sound.fresh.apart e x there ((h.unrelaxed (e, x.arc)).0 pair));
       }

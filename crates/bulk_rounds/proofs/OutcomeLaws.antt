@@ -1,20 +1,19 @@
 -- Relaxes and merges lose nothing that survives, and keep its place; at the end all survivors are entries.
-use Rattle.std.proofs.Common.{◌≡◌, ◌≢◌, ◌↔◌, ◌⊎◌, ◌≤◌, List, [], ◌∷◌, inl, inr, refl, sym, subst, ◌∙◌, arith}
+use Rattle.std.proofs.Common.{◌≡◌, ◌≢◌, ◌↔◌, ◌⊎◌, ◌≤◌, [], inl, inr, refl, sym, subst, ◌∙◌, arith}
 use Rattle.std.specs.Prelude.{Contains, IsPermutation}
 use Rattle.std.proofs.lemmas.List.Sorted.{Contains-permutation, IsPermutation-refl}
 use Rattle.cost_vector.specs.Costs.{AtMost, Dominates}
 use Rattle.cost_vector.proofs.Vectors.{AtMost-refl, AtMost-trans, AtMost-antisymm}
 use Rattle.road_network.specs.Network.{Network}
-use Rattle.list_laws.proofs.Members.{in_front, in_rest}
 use Rattle.event_machine.specs.Machine.{Task, IsTask, Label, IsSamePair, Beats, SearchState, Place, settled, dropped, waiting, entries_at, IsEntry}
-use Rattle.event_machine.specs.Events.{Event, take, drop, relax, merge, SameEntries, IsSame, IsMerged, keeps, lowers, discards, enters, Merges, Happens, Runs}
-use Rattle.event_machine.specs.Orders.{IsArrival, came, comes, Survives, HasPair, IsOutcome}
+use Rattle.event_machine.specs.Events.{Event, take, drop, relax, merge, SameEntries, IsSame, IsMerged, keeps, lowers, discards, enters, Merges, Happens}
+use Rattle.event_machine.specs.Orders.{IsArrival, came, comes, IsToDo, Survives, HasPair, IsOutcome}
 use Rattle.list_laws.proofs.SetLaws.{none_of_empty}
 use Rattle.event_machine.proofs.Sound.{IsSound, AreApart, Covers, better, as_good, IsCovered, covers_through, covered_by_itself, node_of_cover, cost_of_cover}
 use Rattle.event_machine.proofs.Sound.{cases_label, label_by_parts, same_pair, pair_back}
 use Rattle.event_machine.proofs.Changing.{place_before_merge}
-use Rattle.event_machine.proofs.Stepping.{Changes, arrivals_by_relax, candidates_by_merge, same_changes}
-use Rattle.event_machine.proofs.Keeping.{changes_of, sound_after, sound_by_run}
+use Rattle.event_machine.proofs.Stepping.{Changes, arrivals_by_relax, arrivals_by_merge, candidates_by_merge}
+use Rattle.event_machine.proofs.Keeping.{changes_of}
 use Rattle.list_laws.proofs.OnceLaws.{same_by}
 
 -- ---- what is kept
@@ -30,12 +29,12 @@ abbrev IsUnbeaten : Network → SearchState → Label → Type 0
 IsUnbeaten net s y = (z : Label) → IsPresent net s z → ¬ Beats z y
 
 -- what is met at a is met at b, nothing is new at b, and what is unbeaten keeps its place
-record KeepsOutcome (net : Network) (a b : SearchState) : Type 0 where
+pub record KeepsOutcome (net : Network) (a b : SearchState) : Type 0 where
   pub met : (y : Label) → IsMet net a y → IsMet net b y
   pub back : (y : Label) → IsPresent net b y → IsPresent net a y
   pub places : (p : Place) → p ≢ waiting → (y : Label) → IsUnbeaten net a y → HasPair (entries_at a p) y ↔ HasPair (entries_at b p) y
 
-keeps_through : (net : Network) (a b c : SearchState) → KeepsOutcome net a b → KeepsOutcome net b c → KeepsOutcome net a c
+pub keeps_through : (net : Network) (a b c : SearchState) → KeepsOutcome net a b → KeepsOutcome net b c → KeepsOutcome net a c
 keeps_through net a b c first second = record {
   met = λ y h. second.met y (first.met y h);
   back = λ y h. first.back y (second.back y h);
@@ -62,7 +61,7 @@ module _ (task : Task) (a b : SearchState) (changes : Changes task a b) (arrival
     places = places;
   }
 
-  same_keeps : SameEntries b a → KeepsOutcome task.network a b
+  pub same_keeps : SameEntries b a → KeepsOutcome task.network a b
   same_keeps same = keeps_outcome (λ p other y unbeaten. (
     λ h. record { label = h.label; member = (same p h.label).1 h.member; same = h.same },
     λ h. record { label = h.label; member = (same p h.label).0 h.member; same = h.same },
@@ -76,10 +75,6 @@ arrival_alike net a b same y (comes e there f) = comes e ((same.unrelaxed (e, y.
 module _ (task : Task) (is : IsTask task) (a b : SearchState) (sound : IsSound task a) (x : Label) (h : Merges a x b) where
   mine : Contains a.candidates x
   mine = (candidates_by_merge a b x h x).1 (inr refl)
-
-  arrival_before_merge : (y : Label) → IsArrival task.network b y → IsArrival task.network a y
-  arrival_before_merge y (came here) = came ((candidates_by_merge a b x h y).1 (inl here))
-  arrival_before_merge y (comes e there f) = comes e ((h.unrelaxed (e, y.arc)).0 there) f
 
   pair_through : (l m n : Label) → IsSamePair l m → IsSamePair m n → IsSamePair l n
   pair_through l m n first second = record { node = first.node ∙ second.node; cost = first.cost ∙ second.cost }
@@ -106,7 +101,7 @@ module _ (task : Task) (is : IsTask task) (a b : SearchState) (sound : IsSound t
     ]
 
   merge_keeps : KeepsOutcome task.network a b
-  merge_keeps = keeps_outcome task a b (changes_of task is a b (merge x) sound h) arrival_before_merge (λ p other y unbeaten. (
+  merge_keeps = keeps_outcome task a b (changes_of task is a b (merge x) sound h) (λ y arrival. ((arrivals_by_merge task is a b sound x h y).0 arrival).0) (λ p other y unbeaten. (
     λ was. place_after_merge p y unbeaten was h.entries,
     λ now. elim (place_before_merge task a b sound x mine h.entries p now.label now.member) [
       | inl was ↦ record { label = was.label; member = was.member; same = pair_through was.label now.label y was.same now.same }
@@ -165,7 +160,7 @@ module _ (net : Network) (a b : SearchState) (kept : KeepsOutcome net a b) (apar
         subst (Contains (entries_at b p)) (apart.alone h.label y (p, h.member) (survivor_enters y survives) h.same.node below) h.member,
   )
 
-  outcome_at_end : IsOutcome net a b
+  pub outcome_at_end : IsOutcome net a b
   outcome_at_end = record {
     settled = at_place settled (λ e. absurd cc);
     dropped = at_place dropped (λ e. absurd cc);
@@ -186,36 +181,14 @@ module _ (net : Network) (a b : SearchState) (kept : KeepsOutcome net a b) (apar
     waits y unsettled undropped (dropped, here) = absurd (undropped ((at_place dropped (λ e. absurd cc) y).0 here).1)
     waits y unsettled undropped (waiting, here) = here
 
--- ---- runs
-
-module _ (task : Task) (is : IsTask task) where
-  event_keeps : (a b : SearchState) (event : Event) → IsSound task a → Happens task a event b → ((l : Label) → event ≢ take l) → ((l : Label) → event ≢ drop l)
-      → KeepsOutcome task.network a b
-  event_keeps a b (take l) sound h no_take no_drop = absurd (no_take l refl)
-  event_keeps a b (drop l) sound h no_take no_drop = absurd (no_drop l refl)
-  event_keeps a b (merge x) sound h no_take no_drop = merge_keeps task is a b sound x h
-  event_keeps a b (relax l k) sound h no_take no_drop =
-      same_keeps task a b (changes_of task is a b (relax l k) sound h) (λ y. (arrivals_by_relax task a b l k h y).1) h.entries
-
-  run_keeps : (a b : SearchState) (events : List Event) → IsSound task a → Runs task a events b
-      → ((l : Label) → ¬ Contains events (take l)) → ((l : Label) → ¬ Contains events (drop l)) → KeepsOutcome task.network a b
-  run_keeps a b [] sound run no_take no_drop = same_keeps task a b (same_changes task a b sound run) (arrival_alike task.network b a run) run.entries
-  run_keeps a b (event ∷ rest) sound run no_take no_drop =
-      let c = run.from in
-      let sound_too = sound_by_run task is a c [] sound run.same in
-      let same = same_keeps task a c (same_changes task a c sound run.same) (arrival_alike task.network c a run.same) run.same.entries in
-      let first = event_keeps c run.next event sound_too run.step
-      (λ l e. no_take l (in_front event rest (take l) (sym e))) (λ l e. no_drop l (in_front event rest (drop l) (sym e))) in
-      keeps_through task.network a c b same (keeps_through task.network c run.next b first
-      (run_keeps run.next b rest (sound_after task is c run.next event sound_too run.step) run.rest
-      (λ l h. no_take l (in_rest event rest (take l) h)) (λ l h. no_drop l (in_rest event rest (drop l) h))))
-
-  -- each run of relaxes and merges that leaves none of them leads to the outcome
-  pub outcome_of_run : (a b : SearchState) (events : List Event) → IsSound task a → Runs task a events b
-      → ((l : Label) → ¬ Contains events (take l)) → ((l : Label) → ¬ Contains events (drop l)) → b.unrelaxed ≡ [] → b.candidates ≡ []
-      → IsOutcome task.network a b
-  outcome_of_run a b events sound run no_take no_drop no_arc no_candidate =
-      outcome_at_end task.network a b (run_keeps a b events sound run no_take no_drop) (sound_by_run task is a b events sound run).apart no_arc no_candidate
+-- an event that is to do keeps it
+pub event_keeps : (task : Task) (is : IsTask task) (a b : SearchState) (event : Event) → IsSound task a → IsToDo task.network a event
+    → Happens task a event b → KeepsOutcome task.network a b
+event_keeps task is a b (take l) sound due h = absurd due
+event_keeps task is a b (drop l) sound due h = absurd due
+event_keeps task is a b (merge x) sound due h = merge_keeps task is a b sound x h
+event_keeps task is a b (relax l k) sound due h =
+    same_keeps task a b (changes_of task is a b (relax l k) sound h) (λ y. (arrivals_by_relax task a b l k h y).1) h.entries
 
 -- the outcome is one state
 pub one_outcome : (net : Network) (s a b : SearchState) → IsOutcome net s a → IsOutcome net s b → IsSame a b

@@ -76,8 +76,8 @@ module _ (task : Task) (is : IsTask task) where
       let begins = (begins_is_begun task is s sound between begun).1 is_begun in
       let there = reached_by_begins s begun reached begins in
       let sound_begun = sound_if_reached task is begun there in
-      let (after, outcome) = some_outcome task is begun sound_begun is_begun.candidates in
-      let finishes = (finishes_is_outcome task is begun sound_begun is_begun.candidates after).1 outcome in
+      let (after, outcome) = some_outcome task is begun sound_begun in
+      let finishes = (finishes_is_outcome task is begun sound_begun after).1 outcome in
       (after, record { between = between; begun = begun; begins = begins; finishes = finishes })
 
   module _ (s t : SearchState) (reached : IsReached task s) (round : Round task s t) where
@@ -88,7 +88,7 @@ module _ (task : Task) (is : IsTask task) where
     begun_of = (begins_is_begun task is s (sound_if_reached task is s reached) round.between round.begun).0 round.begins
 
     pub outcome_of : IsOutcome task.network round.begun t
-    outcome_of = (finishes_is_outcome task is round.begun (sound_if_reached task is round.begun reached_begun) begun_of.candidates t).0 round.finishes
+    outcome_of = (finishes_is_outcome task is round.begun (sound_if_reached task is round.begun reached_begun) t).0 round.finishes
 
     pub between_after : IsBetweenRounds t
     between_after = record { unrelaxed = outcome_of.unrelaxed; candidates = outcome_of.candidates }
@@ -112,7 +112,7 @@ module _ (task : Task) (is : IsTask task) where
       let there = reached_by_begins s first.begun reached first.begins in
       let that = finishes_from_same first.begun second.begun b same second.finishes in
       one_outcome task.network first.begun a b (outcome_of s a reached first)
-      ((finishes_is_outcome task is first.begun (sound_if_reached task is first.begun there) (begun_of s a reached first).candidates b).0 that)
+      ((finishes_is_outcome task is first.begun (sound_if_reached task is first.begun there) b).0 that)
 
   -- ---- a counted round
 

@@ -9,10 +9,10 @@ use Rattle.event_machine.specs.Machine.{Task, IsTask, Label, SearchState, settle
 use Rattle.event_machine.specs.Machine.{LeadsOn, Follows}
 use Rattle.event_machine.specs.Events.{MayTake, Takes, Drops, Relaxes, Merges, IsSame}
 use Rattle.event_machine.specs.Orders.{IsArrival, came, comes}
-use Rattle.list_laws.proofs.Pairs.{pairs_cons, pairs_rest}
+use Rattle.list_laws.proofs.Pairs.{pairs_cons, pairs_rest, pair_with_first}
 use Rattle.list_laws.proofs.SetLaws.{same_by_permutation, gains_by_permutation}
 use Rattle.list_laws.proofs.OnceLaws.{once_in_any_order}
-use Rattle.event_machine.proofs.Sound.{IsSound, IsFresh, at_start, follows, IsCovered, label_by_parts, cases_pair}
+use Rattle.event_machine.proofs.Sound.{IsSound, IsFresh, at_start, follows, IsCovered, label_by_parts, cases_label, cases_pair}
 use Rattle.event_machine.proofs.Frontier.{follows_once}
 use Rattle.event_machine.proofs.Changing.{EntriesChange, entries_stay, entries_become, room_to_move, entries_by_merge, covered_by_merge}
 use Rattle.event_machine.proofs.Changing.{place_before_merge, settled_before_merge}
@@ -80,6 +80,27 @@ pub candidates_by_merge : (a b : SearchState) (x : Label) → Merges a x b → (
 candidates_by_merge a b x h = gains_by_permutation x b.candidates a.candidates (IsPermutation-sym a.candidates (x ∷ b.candidates) h.candidates)
 
 module _ (task : Task) (is : IsTask task) (a b : SearchState) (sound : IsSound task a) where
+  -- what arrives besides the candidate that is merged stays
+  pub arrivals_by_merge : (x : Label) → Merges a x b → (y : Label) → IsArrival task.network b y ↔ (IsArrival task.network a y × (y ≢ x))
+  arrivals_by_merge x h y = (
+    elim [
+      | came here ↦ (came ((gains y).1 (inl here)), λ e. pair_with_first ◌≢◌ x b.candidates once y here (sym e))
+      | comes e there f ↦
+          let old = (h.unrelaxed (e, y.arc)).0 there in
+          (comes e old f, λ same. sound.fresh.apart e y ((gains y).1 (inr same)) old f)
+    ],
+    λ (arrival, other). stays other arrival,
+  ) where
+    gains : (z : Label) → Contains a.candidates z ↔ (Contains b.candidates z ⊎ (z ≡ x))
+    gains = candidates_by_merge a b x h
+
+    once : AllPairs ◌≢◌ (x ∷ b.candidates)
+    once = once_in_any_order a.candidates (x ∷ b.candidates) h.candidates sound.fresh.once
+
+    stays : y ≢ x → IsArrival task.network a y → IsArrival task.network b y
+    stays other (comes e there f) = comes e ((h.unrelaxed (e, y.arc)).1 there) f
+    stays other (came there) = elim ((gains y).0 there) [ inl here ↦ came here | inr e ↦ absurd (other e) ]
+
   -- candidates that stay are fresh where none of them follows along an arc that is to be relaxed
   fresh_still : IsPermutation a.candidates b.candidates
       → ((e x : Label) → Contains a.candidates x → Contains b.unrelaxed (e, x.arc) → ¬ Follows task.network e x) → IsFresh task.network b
@@ -189,9 +210,9 @@ module _ (task : Task) (is : IsTask task) (a b : SearchState) (sound : IsSound t
     ];
     paired = λ e k here. still_paired entries e k ((h.unrelaxed (e, k)).0 here);
     candidates = λ y here. inl ((gains y).1 (inl here));
-    arrivals = λ y. elim [
-      | comes e there f ↦ inl (comes e ((h.unrelaxed (e, y.arc)).1 there) f)
-      | came there ↦ elim ((gains y).0 there) [ inl here ↦ inl (came here) | inr e ↦ inr (subst (IsCovered b) (sym e) covered) ]
+    arrivals = λ y arrival. elim (cases_label y x) [
+      | inl e ↦ inr (subst (IsCovered b) (sym e) (covered_by_merge task a b sound x mine h.entries))
+      | inr other ↦ inl ((arrivals_by_merge x h y).1 (arrival, other))
     ];
     fresh = record {
       once = pairs_rest ◌≢◌ x b.candidates (once_in_any_order a.candidates (x ∷ b.candidates) h.candidates sound.fresh.once);
@@ -203,9 +224,6 @@ module _ (task : Task) (is : IsTask task) (a b : SearchState) (sound : IsSound t
 
     mine : Contains a.candidates x
     mine = (gains x).1 (inr refl)
-
-    covered : IsCovered b x
-    covered = covered_by_merge task a b sound x mine h.entries
 
     entries : EntriesChange a b
     entries = entries_by_merge task a b sound x mine h.entries

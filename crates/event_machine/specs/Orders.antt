@@ -1,10 +1,10 @@
 -- In which orders the events of a round may happen, and the one state to which all of these lead.
-use Rattle.std.specs.Prelude.{◌≡◌, ◌≢◌, ℕ, ◌≤◌, ◌⊎◌, ◌↔◌, List, [], AllPairs, Contains, IsPermutation}
+use Rattle.std.specs.Prelude.{◌≡◌, ℕ, ◌≤◌, ◌⊎◌, ◌↔◌, List, [], AllPairs, Contains, IsPermutation}
 use Rattle.cost_vector.specs.Costs.{Dominates}
 use Rattle.road_network.specs.Network.{Network}
-use Rattle.list_laws.specs.Sets.{SameMembers}
+use Rattle.list_laws.specs.Sets.{SameMembers, ListsOnce}
 use Rattle.event_machine.specs.Machine.{Task, Label, IsSamePair, Beats, SearchState, IsEntry, LeadsOn, Follows}
-use Rattle.event_machine.specs.Events.{Event, take, drop, relax, merge, MayDrop}
+use Rattle.event_machine.specs.Events.{Event, relax, merge, MayDrop}
 
 -- ---- the first half of a round
 
@@ -47,13 +47,15 @@ abbrev pub MergesResult : Network → Event → Event → Type 0
 MergesResult net (merge x) (relax e k) = (x.arc ≡ k) × Follows net e x
 MergesResult net _ _ = ⊥
 
+-- the event is still to happen in the round: it relaxes a pair that is to be relaxed, or merges what arrives
+abbrev pub IsToDo : Network → SearchState → Event → Type 0
+IsToDo net s (relax l k) = Contains s.unrelaxed (l, k)
+IsToDo net s (merge x) = IsArrival net s x
+IsToDo net s _ = ⊥
+
 -- The events relax each pair once and merge each arrival once, after it was relaxed, in any order; and they do no more.
 pub record Completes (net : Network) (s : SearchState) (events : List Event) : Type 0 where
-  pub relaxes : (l : Label) (k : ℕ) → Contains events (relax l k) ↔ Contains s.unrelaxed (l, k)
-  pub merges : (x : Label) → Contains events (merge x) ↔ IsArrival net s x
-  pub takes : (l : Label) → ¬ Contains events (take l)
-  pub drops : (l : Label) → ¬ Contains events (drop l)
-  pub once : AllPairs ◌≢◌ events
+  pub all : ListsOnce (IsToDo net s) events
   pub in_order : AllPairs (λ a b. ¬ MergesResult net a b) events
 
 -- y survives: of the entries and arrivals of its node none dominates it, and it has the least arc of those of its cost

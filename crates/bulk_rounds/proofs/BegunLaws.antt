@@ -16,7 +16,8 @@ use Rattle.event_machine.specs.Orders.{Stays, DropsAll, IsNext, IsBegun}
 use Rattle.list_laws.proofs.SetLaws.{none_of_empty}
 use Rattle.event_machine.proofs.Running.{same_itself, runs_on, runs_apart, runs_to_same}
 use Rattle.event_machine.proofs.Sound.{IsSound, cases_label}
-use Rattle.event_machine.proofs.Keeping.{changes_of, sound_after}
+use Rattle.event_machine.proofs.Keeping.{sound_after}
+use Rattle.event_machine.proofs.Stepping.{changes_of}
 use Rattle.list_laws.proofs.OnceLaws.{IsTold, told_as, told_not, told_both, told_either, told_some, told_in}
 use Rattle.list_laws.proofs.OnceLaws.{in_cons, empty_if_none, same_by, once_as, list_all}
 use Rattle.bulk_rounds.proofs.HappensLaws.{drop_happens, take_happens}
@@ -149,7 +150,7 @@ module _ (task : Task) (is : IsTask task) (s : SearchState) (sound : IsSound tas
           | inr h ↦ inr (record { by = h.by; settled = i.1 h.by h.settled; node = h.node; dominates = h.dominates })
         ];
       }) in
-      let kept = (changes_of task is m next (drop l) i.0 step).entries.kept in
+      let kept = (changes_of task is m next i.0 (drop l) step).entries.kept in
       (next, step, (sound_after task is m next (drop l) i.0 step, λ y old. kept y (i.1 y old))))
       s ls lists.once (sound, λ y old. old) (λ l there. let may = (lists.exact l).0 there in (may, may.waits))
 

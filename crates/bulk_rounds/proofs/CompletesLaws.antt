@@ -1,6 +1,7 @@
 -- Lists that complete a round are runs to its outcome, in whatever order; so are those that relax all and then merge all.
 use Rattle.std.proofs.Common.{◌≡◌, ◌≢◌, ◌↔◌, ◌⊎◌, ℕ, List, [], ◌∷◌, ◌++◌, map, inl, inr, refl, sym, ap, ap₂, subst, arith}
 use Rattle.std.specs.Prelude.{Contains}
+use Rattle.std.proofs.lemmas.List.Sorted.{IsPermutation-sym}
 use Rattle.list_laws.proofs.Members.{in_none, in_first, cases_in}
 use Rattle.list_laws.proofs.Pairs.{pairs_rest, pair_with_first}
 use Rattle.list_laws.specs.Sets.{ListsOnce}
@@ -12,12 +13,12 @@ use Rattle.event_machine.specs.Orders.{IsArrival, came, comes, MergesResult, IsT
 use Rattle.list_laws.proofs.SetLaws.{same_by_permutation}
 use Rattle.event_machine.proofs.Running.{same_itself, same_back, runs_on, runs_apart, run_exists, runs_to_end}
 use Rattle.event_machine.proofs.Sound.{IsSound, cases_pair}
-use Rattle.event_machine.proofs.Stepping.{arrivals_by_relax, arrivals_by_merge, same_changes}
-use Rattle.event_machine.proofs.Keeping.{sound_after, sound_by_run}
+use Rattle.event_machine.proofs.Stepping.{arrival_on, arrivals_by_relax, arrivals_by_merge, same_changes}
+use Rattle.event_machine.proofs.Keeping.{sound_after, same_is_sound}
 use Rattle.list_laws.proofs.OnceLaws.{told_in, list_all, in_cons, in_append, empty_if_none, once_as, pairs_append}
 use Rattle.list_laws.proofs.OnceLaws.{pairs_of_members, lists_in_any_order, lists_permute, lists_images}
 use Rattle.bulk_rounds.proofs.HappensLaws.{relax_happens, merge_happens}
-use Rattle.bulk_rounds.proofs.OutcomeLaws.{arrival_alike, KeepsOutcome, keeps_through, same_keeps, event_keeps, outcome_at_end, one_outcome}
+use Rattle.bulk_rounds.proofs.OutcomeLaws.{KeepsOutcome, keeps_through, same_keeps, event_keeps, outcome_at_end, one_outcome}
 
 -- ---- lists of all that is so, each once
 
@@ -44,9 +45,13 @@ module _ {X : Type 0} where
 -- ---- what is to do
 
 module _ (task : Task) (is : IsTask task) where
+  arrival_alike : (a b : SearchState) → IsSame a b → (x : Label) → IsArrival task.network a x → IsArrival task.network b x
+  arrival_alike a b same =
+      arrival_on task.network a b (λ x. (same_by_permutation b.candidates a.candidates (IsPermutation-sym a.candidates b.candidates same.candidates) x).0) (λ p. (same.unrelaxed p).0)
+
   to_do_alike : (a b : SearchState) → IsSame b a → (event : Event) → IsToDo task.network a event ↔ IsToDo task.network b event
   to_do_alike a b same (relax l k) = ((same.unrelaxed (l, k)).1, (same.unrelaxed (l, k)).0)
-  to_do_alike a b same (merge x) = (arrival_alike task.network a b (same_back b a same) x, arrival_alike task.network b a same x)
+  to_do_alike a b same (merge x) = (arrival_alike a b (same_back b a same) x, arrival_alike b a same x)
   to_do_alike a b same _ = (λ h. h, λ h. h)
 
   -- an event leaves all else to do
@@ -80,13 +85,13 @@ module _ (task : Task) (is : IsTask task) where
   module _ (s : SearchState) where
     left_alike : (events : List Event) (a b : SearchState) → IsSame b a → IsLeft s events a → IsLeft s events b
     left_alike events a b same left = record {
-      sound = sound_by_run task is a b [] left.sound same;
+      sound = same_is_sound task is a b same left.sound;
       completes = record {
         all = once_as (IsToDo task.network a) (IsToDo task.network b) events (to_do_alike a b same) left.completes.all;
         in_order = left.completes.in_order;
       };
       kept = keeps_through task.network s a b left.kept
-          (same_keeps task a b (same_changes task is a b left.sound same) (arrival_alike task.network b a same) same.entries);
+          (same_keeps task is a b left.sound (same_changes task is a b left.sound same) (arrival_alike b a same) same.entries);
     }
 
     left_on : (event : Event) (rest : List Event) (a b : SearchState) → IsLeft s (event ∷ rest) a → Happens task a event b → IsLeft s rest b
@@ -208,17 +213,17 @@ module _ (task : Task) (is : IsTask task) where
         | comes e there f ↦ absurd (in_none (e, x.arc) ((pairs.exact (e, x.arc)).1 there))
       ],
     );
-    once = (sound_by_run task is s b [] sound run).fresh.once;
+    once = (same_is_sound task is s b run sound).fresh.once;
   }
   arrivals_when_relaxed (p ∷ ps) s b sound pairs run =
-      let from_sound = sound_by_run task is s run.from [] sound run.same in
+      let from_sound = same_is_sound task is s run.from run.same sound in
       let rest = arrivals_when_relaxed ps run.next b (sound_after task is run.from run.next (relaxing p) from_sound run.step)
       (rest_once (Contains run.from.unrelaxed) (Contains run.next.unrelaxed) p ps run.step.unrelaxed
       (once_as (Contains s.unrelaxed) (Contains run.from.unrelaxed) (p ∷ ps) (λ q. ((run.same.unrelaxed q).1, (run.same.unrelaxed q).0)) pairs)) run.rest in
       once_as (IsArrival task.network run.next) (IsArrival task.network s) b.candidates (λ x.
       let relaxed = arrivals_by_relax task run.from run.next p.0 p.1 run.step x in (
-        λ h. arrival_alike task.network run.from s run.same x (relaxed.1 h),
-        λ h. relaxed.0 (arrival_alike task.network s run.from (same_back run.from s run.same) x h),
+        λ h. arrival_alike task is run.from s run.same x (relaxed.1 h),
+        λ h. relaxed.0 (arrival_alike task is s run.from (same_back run.from s run.same) x h),
       )) rest
 
   relaxes_exist : (ps : List (Label × ℕ)) (s : SearchState) → IsSound task s → ListsOnce (Contains s.unrelaxed) ps

@@ -203,12 +203,12 @@ module _ (task : Task) (is : IsTask task) (budget : ℕ) where
 
   heavier : (k : ℕ) (s t : SearchState) → IsReached task s → Round task s t → Weighs k s → Weighs (k + 1) t
   heavier k s t reached round weighs y there =
-      let outcome = (outcome_of task is s t reached round).waiting y in
+      let outcome = (outcome_of task is s t reached round).entries waiting y in
       let begun = begun_of task is s t reached round in
       let survives = outcome.0 there in
       elim survives.0.present [
-        | inl (settled, here) ↦ absurd (survives.1 (record { label = y; member = here; same = same_pair y y refl }))
-        | inl (dropped, here) ↦ absurd (survives.2 (record { label = y; member = here; same = same_pair y y refl }))
+        | inl (settled, here) ↦ absurd (survives.1.0 (record { label = y; member = here; same = same_pair y y refl }))
+        | inl (dropped, here) ↦ absurd (survives.1.1 (record { label = y; member = here; same = same_pair y y refl }))
         | inl (waiting, here) ↦
             let (stays, not_next) = (begun.waiting y).0 here in
             elim (cases_lt k (sum y.cost)) [

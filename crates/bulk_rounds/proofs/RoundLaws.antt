@@ -1,5 +1,5 @@
 -- Rounds: each state between rounds has one, all its rounds lead to one state, and a counted round settles some label.
-use Rattle.std.proofs.Common.{◌<◌, ◌≤◌, ◌⊎◌, ◌↔◌, List, [], ◌∷◌, ◌++◌, map, sum, inl, inr, subst, arith}
+use Rattle.std.proofs.Common.{◌<◌, ◌≤◌, ◌⊎◌, ◌↔◌, List, ◌++◌, map, sum, inl, inr, subst, arith}
 use Rattle.std.specs.Prelude.{Contains}
 use Rattle.cost_vector.proofs.Vectors.{sum-Dominates}
 use Rattle.list_laws.proofs.Members.{in_none, each_in}
@@ -10,12 +10,13 @@ use Rattle.event_machine.specs.Events.{Event, drop, take, merge, IsSame, Runs, I
 use Rattle.event_machine.specs.Rounds.{IsBetweenRounds, Begins, Finishes, Round, CountedRound, relaxing}
 use Rattle.event_machine.specs.Orders.{Stays, IsNext, IsBegun, IsOutcome}
 use Rattle.event_machine.proofs.Sound.{IsSound}
-use Rattle.event_machine.proofs.Running.{same_back, runs_on, runs_from_same}
+use Rattle.event_machine.proofs.Running.{same_back, runs_on, runs_from_same, along_run}
 use Rattle.list_laws.proofs.OnceLaws.{once_as}
 use Rattle.bulk_rounds.proofs.BegunLaws.{drops_in_any_order, some_begun, begins_is_begun, one_begun}
 use Rattle.bulk_rounds.proofs.CompletesLaws.{some_outcome, finishes_is_outcome}
 use Rattle.bulk_rounds.proofs.OutcomeLaws.{one_outcome}
-use Rattle.event_machine.proofs.Keeping.{changes_of, sound_after, sound_by_run, sound_if_reached}
+use Rattle.event_machine.proofs.Keeping.{sound_after, same_is_sound, sound_if_reached}
+use Rattle.event_machine.proofs.Stepping.{changes_of}
 
 module _ (task : Task) (is : IsTask task) where
   -- ---- what a round leads to is reached, and keeps what is settled
@@ -27,11 +28,10 @@ module _ (task : Task) (is : IsTask task) where
   }
 
   kept_by_run : (s t : SearchState) (events : List Event) (l : Label) → IsSound task s → Runs task s events t → Contains s.settled l → Contains t.settled l
-  kept_by_run s t [] l sound same there = (same.entries settled l).1 there
-  kept_by_run s t (event ∷ rest) l sound run there =
-      let from = sound_by_run task is s run.from [] sound run.same in
-      kept_by_run run.next t rest l (sound_after task is run.from run.next event from run.step) run.rest
-      ((changes_of task is run.from run.next event from run.step).entries.kept l ((run.same.entries settled l).1 there))
+  kept_by_run s t events l sound run there = (along_run task (λ _ m. IsSound task m × Contains m.settled l)
+      (λ _ a b same (sound, there). (same_is_sound task is a b same sound, (same.entries settled l).1 there))
+      (λ event _ a b (sound, there) step. (sound_after task is a b event sound step, (changes_of task is a b sound event step).entries.kept l there))
+      events s t (sound, there) run).1
 
   reached_by_begins : (s t : SearchState) → IsReached task s → Begins task s t → IsReached task t
   reached_by_begins s t reached h =

@@ -3,7 +3,8 @@ use Rattle.std.specs.Prelude.{◌≡◌, ℕ, ◌≤◌, ◌⊎◌, ◌↔◌, L
 use Rattle.cost_vector.specs.Costs.{Dominates}
 use Rattle.road_network.specs.Network.{Network}
 use Rattle.list_laws.specs.Sets.{SameMembers, ListsOnce}
-use Rattle.event_machine.specs.Machine.{Task, Label, IsSamePair, Beats, SearchState, IsEntry, LeadsOn, Follows}
+use Rattle.event_machine.specs.Machine.{Task, Label, IsSamePair, Beats, SearchState, Place, settled, dropped, waiting, entries_at, IsEntry}
+use Rattle.event_machine.specs.Machine.{LeadsOn, Follows}
 use Rattle.event_machine.specs.Events.{Event, relax, merge, MayDrop}
 
 -- ---- the first half of a round
@@ -70,12 +71,15 @@ pub record HasPair (labels : List Label) (y : Label) : Type 0 where
   pub member : Contains labels label
   pub same : IsSamePair label y
 
+-- y belongs there: where an entry of its node and cost was settled or dropped, and among the waiting if none was
+abbrev pub Belongs : SearchState → Label → Place → Type 0
+Belongs before y settled = HasPair before.settled y
+Belongs before y dropped = HasPair before.dropped y
+Belongs before y waiting = (¬ HasPair before.settled y) × (¬ HasPair before.dropped y)
+
 -- What each such order leads to: the labels that survive, settled or dropped exactly where an entry of the node and
 -- cost was so before, and waiting elsewhere.
 pub record IsOutcome (net : Network) (before after : SearchState) : Type 0 where
-  pub settled : (y : Label) → Contains after.settled y ↔ (Survives net before y × HasPair before.settled y)
-  pub dropped : (y : Label) → Contains after.dropped y ↔ (Survives net before y × HasPair before.dropped y)
-  pub waiting : (y : Label) → Contains after.waiting y
-      ↔ (Survives net before y × (¬ HasPair before.settled y) × (¬ HasPair before.dropped y))
+  pub entries : (place : Place) (y : Label) → Contains (entries_at after place) y ↔ (Survives net before y × Belongs before y place)
   pub unrelaxed : after.unrelaxed ≡ []
   pub candidates : after.candidates ≡ []

@@ -1,5 +1,5 @@
 -- Rounds: each state between rounds has one, all its rounds lead to one state, and a counted round settles some label.
-use Rattle.std.proofs.Common.{◌<◌, ◌≤◌, ◌⊎◌, ◌↔◌, List, ◌++◌, map, sum, inl, inr, subst, arith}
+use Rattle.std.proofs.Common.{◌<◌, ◌≤◌, ◌⊎◌, ◌↔◌, List, ◌++◌, map, sum, inl, inr, refl, subst, arith}
 use Rattle.std.specs.Prelude.{Contains}
 use Rattle.cost_vector.proofs.Vectors.{sum-Dominates}
 use Rattle.list_laws.proofs.Members.{in_none, each_in}
@@ -12,7 +12,7 @@ use Rattle.event_machine.specs.Orders.{Stays, IsNext, IsBegun, IsOutcome}
 use Rattle.event_machine.proofs.Sound.{IsSound}
 use Rattle.event_machine.proofs.Running.{same_back, runs_on, runs_from_same, along_run}
 use Rattle.list_laws.proofs.OnceLaws.{once_as}
-use Rattle.bulk_rounds.proofs.BegunLaws.{drops_in_any_order, some_begun, begins_is_begun, one_begun}
+use Rattle.bulk_rounds.proofs.BegunLaws.{all_drops, left_waiting, some_begun, begins_is_begun, one_begun}
 use Rattle.bulk_rounds.proofs.CompletesLaws.{some_outcome, finishes_is_outcome}
 use Rattle.bulk_rounds.proofs.OutcomeLaws.{one_outcome}
 use Rattle.event_machine.proofs.Keeping.{sound_after, same_is_sound, sound_if_reached}
@@ -67,7 +67,8 @@ module _ (task : Task) (is : IsTask task) where
 
   -- what is left after the drops
   pub left_after_drops : (s b : SearchState) → IsReached task s → (h : Begins task s b) → (y : Label) → Contains h.left.waiting y ↔ Stays task s y
-  left_after_drops s b reached h = ((drops_in_any_order task is s (sound_if_reached task is s reached) h.left h.drops h.each_drop).0 h.dropping).waiting
+  left_after_drops s b reached h =
+      left_waiting task s h.left (((all_drops task is s (sound_if_reached task is s reached) h.drops h.each_drop).1 h.left).0 h.dropping)
 
   pub some_round : (s : SearchState) → IsReached task s → IsBetweenRounds s → (t : SearchState) × Round task s t
   some_round s reached between =
@@ -99,12 +100,18 @@ module _ (task : Task) (is : IsTask task) where
     -- what is taken is settled at the end, and was not at the start
     pub taken_is_new : (y : Label) → IsNext task s y → Contains t.settled y × (¬ Contains s.settled y)
     taken_is_new y next = (
-      kept_by_finishes round.begun t y reached_begun round.finishes ((begun_of.settled y).1 (inr next)),
+      kept_by_finishes round.begun t y reached_begun round.finishes ((begun_of.entries settled y).1 (inr (inr (refl, next)))),
       λ there. let same = (sound_if_reached task is s reached).apart.placed settled waiting y there next.stays.waits in cc,
     )
 
     pub kept_by_round : (y : Label) → Contains s.settled y → Contains t.settled y
-    kept_by_round y there = kept_by_finishes round.begun t y reached_begun round.finishes ((begun_of.settled y).1 (inl there))
+    kept_by_round y there = kept_by_finishes round.begun t y reached_begun round.finishes ((begun_of.entries settled y).1 (inl (
+      there,
+      (λ may. not_waiting may.waits),
+      (λ next. not_waiting next.stays.waits),
+    ))) where
+      not_waiting : ¬ Contains s.waiting y
+      not_waiting it_waits = let same = (sound_if_reached task is s reached).apart.placed settled waiting y there it_waits in cc
 
   pub one_end : (s a b : SearchState) → IsReached task s → Round task s a → Round task s b → IsSame a b
   one_end s a b reached first second =

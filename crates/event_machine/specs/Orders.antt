@@ -2,7 +2,7 @@
 use Rattle.std.specs.Prelude.{◌≡◌, ℕ, ◌≤◌, ◌⊎◌, ◌↔◌, List, [], AllPairs, Contains, IsPermutation}
 use Rattle.cost_vector.specs.Costs.{Dominates}
 use Rattle.road_network.specs.Network.{Network}
-use Rattle.list_laws.specs.Sets.{SameMembers, ListsOnce}
+use Rattle.list_laws.specs.Sets.{ListsOnce}
 use Rattle.event_machine.specs.Machine.{Task, Label, IsSamePair, Beats, SearchState, Place, settled, dropped, waiting, entries_at, IsEntry}
 use Rattle.event_machine.specs.Machine.{LeadsOn, Follows}
 use Rattle.event_machine.specs.Events.{Event, relax, merge, MayDrop}
@@ -14,24 +14,29 @@ pub record Stays (task : Task) (s : SearchState) (y : Label) : Type 0 where
   pub waits : Contains s.waiting y
   pub kept : ¬ MayDrop task s y
 
--- what each order of the drops leads to: each label that may be dropped is dropped, and nothing else changes
-pub record DropsAll (task : Task) (before after : SearchState) : Type 0 where
-  pub settled : SameMembers after.settled before.settled
-  pub dropped : (y : Label) → Contains after.dropped y ↔ (Contains before.dropped y ⊎ MayDrop task before y)
-  pub waiting : (y : Label) → Contains after.waiting y ↔ Stays task before y
-  pub unrelaxed : SameMembers after.unrelaxed before.unrelaxed
+-- The labels that Chosen holds of come to stand at the place `to`, and open those of their pairs that Opens holds of;
+-- all else stays.
+pub record Moves (Chosen : Label → Type 0) (to : Place) (Opens : Label × ℕ → Type 0) (before after : SearchState) : Type 0 where
+  pub entries : (place : Place) (y : Label) → Contains (entries_at after place) y
+      ↔ ((Contains (entries_at before place) y × (¬ Chosen y)) ⊎ ((place ≡ to) × Chosen y))
+  pub unrelaxed : (p : Label × ℕ) → Contains after.unrelaxed p ↔ (Contains before.unrelaxed p ⊎ (Chosen p.0 × Opens p))
   pub candidates : IsPermutation before.candidates after.candidates
+
+-- what each order of the drops leads to: each label that may be dropped is dropped, and nothing else changes
+abbrev pub DropsAll : Task → SearchState → SearchState → Type 0
+DropsAll task before after = Moves (MayDrop task before) dropped (λ _. ⊥) before after
 
 -- y is taken next: it stays after the drops, and no label that stays dominates it
 pub record IsNext (task : Task) (s : SearchState) (y : Label) : Type 0 where
   pub stays : Stays task s y
   pub none_better : (z : Label) → Stays task s z → ¬ Dominates z.cost y.cost
 
--- what each order of the drops, and then each order of the takes, leads to from a state between rounds
+-- What each order of the drops, and then each order of the takes, leads to from a state between rounds: those labels are
+-- dropped and settled, and all others stay.
 pub record IsBegun (task : Task) (before after : SearchState) : Type 0 where
-  pub settled : (y : Label) → Contains after.settled y ↔ (Contains before.settled y ⊎ IsNext task before y)
-  pub dropped : (y : Label) → Contains after.dropped y ↔ (Contains before.dropped y ⊎ MayDrop task before y)
-  pub waiting : (y : Label) → Contains after.waiting y ↔ (Stays task before y × (¬ IsNext task before y))
+  pub entries : (place : Place) (y : Label) → Contains (entries_at after place) y
+      ↔ ((Contains (entries_at before place) y × (¬ MayDrop task before y) × (¬ IsNext task before y))
+      ⊎ (((place ≡ dropped) × MayDrop task before y) ⊎ ((place ≡ settled) × IsNext task before y)))
   pub unrelaxed : (p : Label × ℕ) → Contains after.unrelaxed p
       ↔ (IsNext task before p.0 × LeadsOn task.network p.0.node p.1)
   pub candidates : after.candidates ≡ []

@@ -5,5 +5,4 @@ pub mod LineLemmas
 pub mod MarkLemmas
 pub mod NumeralLemmas
 pub mod PlaceLemmas
-pub mod RangeLemmas
-pub mod RestLemmas
+pub mod FillsLemmas

@@ -1,13 +1,13 @@
 -- A text and its first field.
-use Rattle.std.proofs.Common.{◌≡◌, ℕ, ◌+◌, ◌<◌, ◌≤◌, Bool, true, false, not, cond, List, [], ◌∷◌, ◌++◌, length, take, drop, get_or, refl, sym, ap, ◌∙◌, arith}
-use Rattle.std.proofs.Common.{filter, ⊎_elim, one-add, add-zero, ltb, Some, None}
+use Rattle.std.proofs.Common.{◌≡◌, ℕ, ◌+◌, ◌<◌, ◌≤◌, Bool, true, false, cond, List, [], ◌∷◌, ◌++◌, length, take, drop, refl, sym, ap, ◌∙◌, arith}
+use Rattle.std.proofs.Common.{filter, ⊎_elim, ltb, Some, None}
 use Rattle.std.specs.List.{slice_split, position_or_len, All, AllPass}
 use Rattle.std.specs.Option.{unwrap_or}
-use Rattle.std.proofs.lemmas.Bool.{cases_eq, cases_lt, false≢true, not-false}
+use Rattle.std.proofs.lemmas.Bool.{cases_lt, not-false}
 use Rattle.std.proofs.lemmas.Bool.Decides.{nat_tests}
-use Rattle.std.proofs.lemmas.List.{drop_more, take_all, drop_all, take-append-drop, length-take, length-drop, get_or-drop, get_or-take, nil_from_length}
-use Rattle.std.proofs.lemmas.List.Elements.{All-from_get_or}
-use Rattle.std.proofs.lemmas.List.Splits.{slice_split_first, slice_split_none, slice_split-cons_yes}
+use Rattle.std.proofs.lemmas.List.{append-nil, drop_more, drop_all, take-append-drop, length-take, get_or-take, nil_from_length}
+use Rattle.std.proofs.lemmas.List.Elements.{All-from_get_or, All-head, All-tail, All-weaker}
+use Rattle.std.proofs.lemmas.List.Splits.{slice_split_at, slice_split_none, slice_split-cons_yes}
 use Rattle.std.proofs.lemmas.List.Sums.{fails_before_first, passes_at_first}
 use Rattle.line_text.specs.Fields.{is_blank, is_filled, has_byte, fields_of, BeginsBlank, FirstField}
 
@@ -16,109 +16,77 @@ pub place_or_len : (n len : ℕ) → n ≤ len → unwrap_or (cond (ltb n len) (
 place_or_len n len within = grind (arith, nat_tests)
 
 -- a blank in front of a text counts for nothing
-pub fields_of-blank : (byte : ℕ) (text : List ℕ) → is_blank byte ≡ true → fields_of (byte ∷ text) ≡ fields_of text
+fields_of-blank : (byte : ℕ) (text : List ℕ) → is_blank byte ≡ true → fields_of (byte ∷ text) ≡ fields_of text
 fields_of-blank byte text blank = ap (filter has_byte) (slice_split-cons_yes is_blank byte text blank)
 
--- how many blanks a text begins with
-abbrev blanks_of : List ℕ → ℕ
-blanks_of text = position_or_len is_filled text
+pub fields_of-blanks : (blanks text : List ℕ) → AllPass is_blank blanks → fields_of (blanks ++ text) ≡ fields_of text
+fields_of-blanks [] text all = refl
+fields_of-blanks (byte ∷ blanks) text all =
+    fields_of-blank byte (blanks ++ text) (All-head (λ b. is_blank b ≡ true) byte blanks all)
+    ∙ fields_of-blanks blanks text (All-tail (λ b. is_blank b ≡ true) byte blanks all)
 
-blanks_of-cons : (byte : ℕ) (text : List ℕ) (blank : Bool) → is_blank byte ≡ blank → blanks_of (byte ∷ text) ≡ cond blank (1 + blanks_of text) 0
-blanks_of-cons byte text true e = ap (λ b. cond (not (not b)) (1 + blanks_of text) 0) e
-blanks_of-cons byte text false e = ap (λ b. cond (not (not b)) (1 + blanks_of text) 0) e
+-- bytes other than blanks, up to the end or a blank, are a field
+module _ (field : List ℕ) (some : 0 < length field) (none_blank : All (λ byte. is_blank byte ≡ false) field) where
+  keeps : (parts : List (List ℕ)) → filter has_byte (field ∷ parts) ≡ field ∷ filter has_byte parts
+  keeps parts =
+      let e : has_byte field ≡ true = grind (arith, nat_tests) in
+      ap (λ b. cond b (field ∷ filter has_byte parts) (filter has_byte parts)) e
 
-fields_of-drop_step : (byte : ℕ) (text : List ℕ) → fields_of (drop (blanks_of text) text) ≡ fields_of text → (blank : Bool)
-    → is_blank byte ≡ blank → fields_of (drop (blanks_of (byte ∷ text)) (byte ∷ text)) ≡ fields_of (byte ∷ text)
-fields_of-drop_step byte text later true e =
-    ap (λ n. fields_of (drop n (byte ∷ text))) (blanks_of-cons byte text true e ∙ one-add _) ∙ later ∙ sym (fields_of-blank byte text e)
-fields_of-drop_step byte text later false e =
-    ap (λ n. fields_of (drop n (byte ∷ text))) (blanks_of-cons byte text false e)
+  fields_of-field : (rest : List ℕ) → BeginsBlank rest → fields_of (field ++ rest) ≡ field ∷ fields_of rest
+  fields_of-field [] begins = ap fields_of (append-nil field) ∙ ap (filter has_byte) (slice_split_none is_blank field none_blank) ∙ keeps []
+  fields_of-field (blank ∷ rest) begins =
+      ap (filter has_byte) (slice_split_at is_blank field blank rest none_blank begins) ∙ keeps (slice_split is_blank rest)
+      ∙ ap (λ fields. field ∷ fields) (sym (fields_of-blank blank rest begins))
 
-pub fields_of-drop_blanks : (text : List ℕ) → fields_of (drop (position_or_len is_filled text) text) ≡ fields_of text
-fields_of-drop_blanks [] = refl
-fields_of-drop_blanks (byte ∷ text) =
-    fields_of-drop_step byte text (fields_of-drop_blanks text) (is_blank byte) refl
+-- what stands before the first byte of a kind, and from there on
+module _ (p : ℕ → Bool) (text : List ℕ) where
+  none_before : All (λ byte. p byte ≡ false) (take (position_or_len p text) text)
+  none_before =
+      All-from_get_or (λ byte. p byte ≡ false) _ 0 (λ i lt.
+      let before : i < position_or_len p text = omega (arith, length-take (position_or_len p text) text) in
+      ap p (get_or-take _ text i 0 before) ∙ fails_before_first p text i 0 before)
 
-filter-filled : (bytes : List ℕ) (parts : List (List ℕ)) → 0 < length bytes → filter has_byte (bytes ∷ parts) ≡ bytes ∷ filter has_byte parts
-filter-filled bytes parts some =
-    let e : has_byte bytes ≡ true = grind (arith, nat_tests) in
-    ap (λ b. cond b (bytes ∷ filter has_byte parts) (filter has_byte parts)) e
-
--- A text begins with no blank: its first field is what stands before its first blank.
-module _ (text : List ℕ) (some : 0 < length text) (filled : is_filled (get_or text 0 0) ≡ true) where
-  starts_blank : position_or_len is_blank text ≡ 0 → is_blank (get_or text 0 0) ≡ true
-  starts_blank none =
-      let within : position_or_len is_blank text < length text = omega arith in
-      sym (ap (λ n. is_blank (get_or text n 0)) none) ∙ passes_at_first is_blank text 0 within
-
-  pub first_filled : 0 < position_or_len is_blank text
-  first_filled =
-      ⊎_elim
-      (λ none. absurd (false≢true (sym (ap not (starts_blank none)) ∙ filled)))
-      (λ more. omega arith)
-      (cases_eq (position_or_len is_blank text) 0)
-
-  ends_at_blank : position_or_len is_blank text < length text
-      → fields_of text ≡ take (position_or_len is_blank text) text ∷ fields_of (drop (position_or_len is_blank text) text)
-  ends_at_blank lt =
-      let n : ℕ = position_or_len is_blank text in
-      let filled_part : 0 < length (take n text) = rw length-take (omega (arith, first_filled)) in
-      let rest_is : fields_of (drop n text) ≡ fields_of (drop (n + 1) text) =
-      ap fields_of (drop_more text n 0 lt) ∙ fields_of-blank (get_or text n 0) (drop (n + 1) text) (passes_at_first is_blank text 0 lt) in
-      ap (filter has_byte) (slice_split_first is_blank text 0 lt)
-      ∙ filter-filled (take n text) (slice_split is_blank (drop (n + 1) text)) filled_part ∙ ap (λ fields. take n text ∷ fields) (sym rest_is)
-
-  ends_at_end : length text ≤ position_or_len is_blank text
-      → fields_of text ≡ take (position_or_len is_blank text) text ∷ fields_of (drop (position_or_len is_blank text) text)
-  ends_at_end le =
-      let n : ℕ = position_or_len is_blank text in
-      let none : All (λ byte. is_blank byte ≡ false) text =
-      All-from_get_or (λ byte. is_blank byte ≡ false) text 0 (λ i lt. fails_before_first is_blank text i 0 (omega arith)) in
-      ap (filter has_byte) (slice_split_none is_blank text none) ∙ filter-filled text [] some ∙ rw (take_all n text le, drop_all n text le) refl
-
-  pub fields_of-first : fields_of text ≡ take (position_or_len is_blank text) text ∷ fields_of (drop (position_or_len is_blank text) text)
-  fields_of-first = ⊎_elim ends_at_blank ends_at_end (cases_lt (position_or_len is_blank text) (length text))
-
-blank_from_filled : (byte : ℕ) → is_filled byte ≡ false → is_blank byte ≡ true
-blank_from_filled byte e = not-false (is_blank byte) e
-
--- what stands from the first blank on is nothing, or begins with it
-begins_blank : (text : List ℕ) → BeginsBlank (drop (position_or_len is_blank text) text)
-begins_blank text =
-    ⊎_elim
-    (λ lt. rw (drop_more text (position_or_len is_blank text) 0 lt) (passes_at_first is_blank text 0 lt))
-    (λ le. rw (drop_all (position_or_len is_blank text) text le) tt)
-    (cases_lt (position_or_len is_blank text) (length text))
+  from_first : (P : List ℕ → Type 0) → P [] → ((byte : ℕ) (more : List ℕ) → p byte ≡ true → P (byte ∷ more)) → P (drop (position_or_len p text) text)
+  from_first P none some =
+      ⊎_elim (λ lt. rw (drop_more text (position_or_len p text) 0 lt) (some _ _ (passes_at_first p text 0 lt)))
+      (λ le. rw (drop_all (position_or_len p text) text le) none)
+      (cases_lt (position_or_len p text) (length text))
 
 -- Of a text this stands behind its blanks.
 module _ (text filled : List ℕ) (e : filled ≡ drop (position_or_len is_filled text) text) where
+  abbrev blanks : List ℕ
+  blanks = take (position_or_len is_filled text) text
+
+  only_blanks : AllPass is_blank blanks
+  only_blanks =
+      All-weaker (λ byte. is_filled byte ≡ false) (λ byte. is_blank byte ≡ true) (λ byte. not-false (is_blank byte)) blanks (none_before is_filled text)
+
+  parts : text ≡ blanks ++ filled
+  parts = sym (take-append-drop (position_or_len is_filled text) text) ∙ ap (λ bytes. blanks ++ bytes) (sym e)
+
+  no_blanks : fields_of text ≡ fields_of filled
+  no_blanks = ap fields_of parts ∙ fields_of-blanks blanks filled only_blanks
+
   pub no_field : length filled ≡ 0 → fields_of text ≡ []
-  no_field none = sym (fields_of-drop_blanks text) ∙ ap fields_of (sym e ∙ nil_from_length filled none)
+  no_field none = no_blanks ∙ ap fields_of (nil_from_length filled none)
 
-  some_blanks : 0 < length filled → position_or_len is_filled text < length text
-  some_blanks some = omega (arith, ap length e, length-drop (position_or_len is_filled text) text)
-
-  starts_filled : 0 < length filled → is_filled (get_or filled 0 0) ≡ true
-  starts_filled some =
-      ap is_filled (ap (λ rest. get_or rest 0 0) e ∙ get_or-drop (position_or_len is_filled text) text 0 0
-      ∙ ap (λ n. get_or text n 0) (add-zero _)) ∙ passes_at_first is_filled text 0 (some_blanks some)
-
-  blanks_are_blank : AllPass is_blank (take (position_or_len is_filled text) text)
-  blanks_are_blank =
-      All-from_get_or (λ byte. is_blank byte ≡ true) _ 0 (λ i lt.
-      let before : i < position_or_len is_filled text = omega (arith, length-take (position_or_len is_filled text) text) in
-      ap is_blank (get_or-take _ text i 0 before) ∙ blank_from_filled (get_or text i 0) (fails_before_first is_filled text i 0 before))
+  first_filled : 0 < length filled → 0 < position_or_len is_blank filled
+  first_filled =
+      rw e (from_first is_filled text (λ bytes. 0 < length bytes → 0 < position_or_len is_blank bytes) (λ some. absurd (omega arith))
+      (λ byte more is some. rw is (omega arith)))
 
   pub first_field : (size : ℕ) (field rest : List ℕ) → 0 < length filled → size ≡ position_or_len is_blank filled
       → field ≡ take size filled → rest ≡ drop size filled → FirstField text field rest
   first_field size field rest some sized front back =
-      let first = starts_filled some in
-      let parts : filled ≡ field ++ rest = sym (take-append-drop size filled) ∙ rw (front, back) refl in
+      let long : 0 < length field = omega (arith, first_filled some, ap length front, length-take size filled) in
+      let whole : filled ≡ field ++ rest = sym (take-append-drop size filled) ∙ rw (front, back) refl in
+      let ends : BeginsBlank rest = rw (back, sized) (from_first is_blank filled BeginsBlank tt (λ byte more is. is)) in
+      let none_blank : All (λ byte. is_blank byte ≡ false) field = rw (front, sized) (none_before is_blank filled) in
       record {
-        blanks = take (position_or_len is_filled text) text;
-        parts = sym (take-append-drop (position_or_len is_filled text) text) ∙ rw (← parts, e) refl;
-        only_blanks = blanks_are_blank;
-        filled = omega (arith, first_filled filled some first, ap length front, length-take size filled);
-        ends = rw (back, sized) (begins_blank filled);
-        fields = sym (fields_of-drop_blanks text) ∙ ap fields_of (sym e) ∙ fields_of-first filled some first ∙ rw (front, back, sized) refl;
+        blanks = blanks;
+        parts = parts ∙ ap (λ bytes. blanks ++ bytes) whole;
+        only_blanks = only_blanks;
+        filled = long;
+        ends = ends;
+        fields = no_blanks ∙ ap fields_of whole ∙ fields_of-field field long none_blank rest ends;
       }

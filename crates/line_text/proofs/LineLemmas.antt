@@ -3,7 +3,7 @@ use Rattle.std.proofs.Common.{◌≡◌, ℕ, suc, ◌+◌, ◌-◌, ◌<◌, �
 use Rattle.std.proofs.Common.{◌∙◌, arith, one-add, length-append, eqb}
 use Rattle.std.specs.List.{onto_first}
 use Rattle.std.proofs.lemmas.Bool.Decides.{nat_tests}
-use Rattle.std.proofs.lemmas.List.{append-nil, length-take, take-append-le, drop-append-le}
+use Rattle.std.proofs.lemmas.List.{append-nil, take-append-drop, length-take, take-append-le, drop-append-le}
 use Rattle.std.proofs.lemmas.List.Folds.{prefix_len-append}
 use Rattle.std.proofs.lemmas.List.Sums.{prefix_len-le-length}
 use Rattle.line_text.specs.Lines.{is_lf, first_lf, raw_line, after_line, line_size, without_cr, lines_of}
@@ -47,6 +47,15 @@ module _ (held more : List ℕ) where
         size = omega (arith, ap length raw, length-append held more, length-raw_line held);
         behind = ap (λ n. drop (n + 1) (held ++ more)) same ∙ drop-append-le (first_lf held + 1) held more (omega arith);
       }
+
+-- where no LF stands before a place, the first one is the first from there on
+pub first_lf-behind : (bytes : List ℕ) (searched : ℕ) → searched ≤ first_lf bytes → first_lf bytes ≡ searched + first_lf (drop searched bytes)
+first_lf-behind bytes searched none =
+    let front = take searched bytes in
+    let size : length front ≡ searched = omega (arith, length-take searched bytes, first_lf-le bytes) in
+    let within = first_lf-le front in
+    let parted = ap first_lf (sym (take-append-drop searched bytes)) ∙ first_lf-append front (drop searched bytes) in
+    grind (arith, nat_tests)
 
 -- what the lines of a text with one byte more in front are, by whether that ends a line
 lines_of-step : (byte : ℕ) (text : List ℕ) → onto_first byte (lines_of text) ≡ (byte ∷ raw_line text) ∷ lines_of (after_line text) → (ends : Bool)

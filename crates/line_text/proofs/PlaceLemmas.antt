@@ -1,5 +1,5 @@
 -- Where the fields of a text stand.
-use Rattle.std.proofs.Common.{◌≡◌, ℕ, ◌+◌, ◌-◌, ◌<◌, Bool, true, false, cond, List, [], ◌∷◌, ◌++◌, length, take, drop, slice_range, refl, sym, ap, ◌∙◌, arith, filter}
+use Rattle.std.proofs.Common.{◌≡◌, ℕ, ◌+◌, ◌-◌, ◌<◌, Bool, true, false, cond, List, [], ◌∷◌, ◌++◌, length, take, drop, slice_range, sym, ap, ◌∙◌, arith, filter}
 use Rattle.std.proofs.Common.{append_assoc, length-append}
 use Rattle.std.specs.List.{slice_split, onto_first, AllPass}
 use Rattle.std.proofs.Math.Seq.{take-append_seam, drop-append_seam, drop-append-add}
@@ -80,8 +80,14 @@ module _ (text rest field after : List ℕ) (i : ℕ) (behind : BehindFields tex
       record {
         front = front;
         parts = parts;
-        count = omega (arith, behind.count, ap length fields, ap length fields_are, length-append (fields_of front) (fields_of after),
-            length-append (fields_of behind.front) (field ∷ fields_of after));
+        count = omega (
+          arith,
+          behind.count,
+          ap length fields,
+          ap length fields_are,
+          length-append (fields_of front) (fields_of after),
+          length-append (fields_of behind.front) (field ∷ fields_of after),
+        );
         fields = fields;
       }
 

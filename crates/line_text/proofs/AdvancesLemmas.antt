@@ -1,6 +1,5 @@
 -- The next line, step by step.
-use Rattle.std.proofs.Common.{◌≡◌, ℕ, ◌+◌, ◌<◌, ◌≤◌, Bool, true, false, List, [], ◌++◌, Option, Some, None, IfSome, IsSomeAnd, IsTrue, Result, Ok, Err, length}
-use Rattle.std.proofs.Common.{refl, sym, ap, subst, ◌∙◌, arith, append_assoc, length-append}
+use Rattle.std.proofs.Common.{◌≡◌, ℕ, ◌+◌, ◌<◌, ◌≤◌, Bool, true, false, List, [], ◌++◌, Option, Some, None, IfSome, IsSomeAnd, IsTrue, Result, Ok, Err, length, refl, sym, ap, subst, ◌∙◌, arith, append_assoc, length-append}
 use Rattle.std.proofs.lemmas.List.{length-drop}
 use Rattle.std.specs.Io.KnownBytes.{Keeps, Consumes, IsAtEnd, prepend_known}
 use Rattle.route_io.specs.declared.fault.Failed.{Failed}
@@ -8,11 +7,10 @@ use Rattle.route_io.specs.Sources.{SourceState}
 use Rattle.line_text.specs.declared.limits.LineFault.{LineFault}
 use Rattle.line_text.specs.declared.limits.LineFault.TheVariants.{TooLong, Total, Read, OutOfMemory}
 use Rattle.line_text.specs.Lines.{first_lf, raw_line, after_line, line_size, without_cr}
-use Rattle.line_text.specs.Marks.{first_fault, line_answer, answer_of}
+use Rattle.line_text.specs.Marks.{first_fault, line_answer}
 use Rattle.line_text.specs.Pieces.{past_line, Fills, TakesWhole, LacksLf, Breaks}
-use Rattle.line_text.specs.Reading.{Lines, rest_of, Counts, CountsLine, CountsNone, Tells, Advances}
-use Rattle.line_text.proofs.LineLemmas.{BeginsAlike, begins_alike, begins_alike-nil, first_lf-le, first_lf-part, length-raw_line, length-without_cr, lines_of-first}
-use Rattle.line_text.proofs.MarkLemmas.{answer_of-some, never_read, never_memory, first_fault-alike, first_fault-broken}
+use Rattle.line_text.specs.Reading.{Lines, rest_of, Counts, CountsLine, CountsNone, Stays, Tells, Advances}
+use Rattle.line_text.proofs.LineLemmas.{BeginsAlike, begins_alike, begins_alike-nil, first_lf-le, first_lf-part, length-raw_line, length-without_cr, lines_of-first, answer_of-some, never_read, never_memory, first_fault-alike, first_fault-broken}
 
 -- Bytes were taken from a source behind those that were held, and there is no current line.
 pub record Holds (old now : Lines) (before after : SourceState) : Type 0 where
@@ -34,34 +32,33 @@ told None left held P kept each = tt
 told (Some text) None held P kept each = absurd kept
 told (Some text) (Some more) held P kept each = subst (λ bytes. P bytes (Some more)) kept (each more refl)
 
--- These bytes are held behind `old`, and there is no current line.
-module _ (old : Lines) (held : List ℕ) (before after : SourceState) (kept : Keeps (rest_of old before) (prepend_known held after.left)) where
-  abbrev now : Lines
-  now = record old { held = held; text = [] }
+module _ (old now new : Lines) (before after : SourceState) (holds : Holds old now before after) where
+  abbrev held : List ℕ
+  held = now.held
+
+  -- the same reader by its parts
+  abbrev same : Lines
+  same = record old { held = held; text = [] }
 
   -- a step that loses no byte, as its answer says
-  advances_by : (new : Lines) (result : Result Bool LineFault) → new.limits ≡ old.limits → Counts old new result → (result ≡ Err OutOfMemory → ⊥)
-      → ((more : List ℕ) → after.left ≡ Some more → Tells old new (held ++ more) (Some (new.held ++ more)) result
-      × (new.passed + length (new.held ++ more) ≡ old.passed + length (held ++ more))) → Advances old new before after result
-  advances_by new result limits counts memory each = record {
+  advances_by : (next : Lines) (result : Result Bool LineFault) → next.limits ≡ old.limits → Counts old next result → (result ≡ Err OutOfMemory → ⊥)
+      → ((more : List ℕ) → after.left ≡ Some more → Tells old next (held ++ more) (Some (next.held ++ more)) result
+      × (next.passed + length (next.held ++ more) ≡ old.passed + length (held ++ more))) → Advances old next before after result
+  advances_by next result limits counts memory each = record {
     limits = limits;
     counts = counts;
-    lines = told (rest_of old before) after.left held (λ rest left. Tells old new rest (prepend_known new.held left) result) kept
-        (λ more left. (each more left).0);
-    loses_none = told (rest_of old before) after.left held
-        (λ rest left. IsSomeAnd (prepend_known new.held left) (λ more. new.passed + length more ≡ old.passed + length rest)) kept
-        (λ more left. (each more left).1);
+    lines = told _ _ held (λ rest left. Tells old next rest (prepend_known next.held left) result) holds.rest (λ more left. (each more left).0);
+    loses_none = told _ _ held (λ rest left. IsSomeAnd (prepend_known next.held left) (λ more. next.passed + length more ≡ old.passed + length rest))
+        holds.rest (λ more left. (each more left).1);
     takes_no_memory = memory;
   }
 
-  advances_same : (result : Result Bool LineFault) → Counts old now result → (result ≡ Err OutOfMemory → ⊥)
-      → ((more : List ℕ) → after.left ≡ Some more → Tells old now (held ++ more) (Some (held ++ more)) result) → Advances old now before after result
-  advances_same result counts memory tells = advances_by now result refl counts memory (λ more left. (tells more left, refl))
+  advances_same : (result : Result Bool LineFault) → (CountsNone old same → Counts old same result) → (result ≡ Err OutOfMemory → ⊥)
+      → ((more : List ℕ) → after.left ≡ Some more → Tells old same (held ++ more) (Some (held ++ more)) result) → Advances old same before after result
+  advances_same result counts memory tells =
+      advances_by same result refl (counts (record { text = refl; number = refl; passed = refl })) memory (λ more left. (tells more left, refl))
 
-  counts_none : CountsNone old now
-  counts_none = record { text = refl; number = refl; passed = refl }
-
-  counts_line : 0 < length held → CountsLine old (past_line now)
+  counts_line : 0 < length held → CountsLine old (past_line same)
   counts_line some =
       let text = length-without_cr (raw_line held) in
       let raw = length-raw_line held in
@@ -69,9 +66,9 @@ module _ (old : Lines) (held : List ℕ) (before after : SourceState) (kept : Ke
       record { number = refl; more = omega arith; holds_text = omega arith; at_most = omega arith }
 
   advances_past : 0 < length held → first_fault old.limits old.passed held ≡ None
-      → ((more : List ℕ) → after.left ≡ Some more → BeginsAlike held more) → Advances old (past_line now) before after (Ok true)
+      → ((more : List ℕ) → after.left ≡ Some more → BeginsAlike held more) → Advances old (past_line same) before after (Ok true)
   advances_past some within alike =
-      advances_by (past_line now) (Ok true) refl (counts_line some) (λ same. cc) (λ more left.
+      advances_by (past_line same) (Ok true) refl (counts_line some) (λ e. cc) (λ more left.
       let line = alike more left in
       let long : 0 < length (held ++ more) = omega (arith, length-append held more) in (
         record {
@@ -85,48 +82,39 @@ module _ (old : Lines) (held : List ℕ) (before after : SourceState) (kept : Ke
         omega (arith, length-raw_line held, first_lf-le held, length-drop (first_lf held + 1) held, length-append (after_line held) more, length-append held more),
       ))
 
-  advances_none : held ≡ [] → IsAtEnd after.left → Advances old now before after (Ok false)
-  advances_none none end = advances_same (Ok false) counts_none (λ same. cc) (λ more left.
-      let nothing : more ≡ [] = subst IsAtEnd left end in
-      record { answer = rw (none, nothing) refl; left = refl })
-
-  broken : (fault : LineFault) → 0 < length held → first_fault old.limits old.passed held ≡ Some fault → (more : List ℕ)
-      → answer_of old.limits old.passed (held ++ more) ≡ Err fault
-  broken fault some e more =
-      answer_of-some old.limits old.passed (held ++ more) (omega (arith, length-append held more))
-      ∙ ap line_answer (first_fault-broken old.limits old.passed held more fault e)
-
-  advances_fault : (fault : LineFault) → 0 < length held → first_fault old.limits old.passed held ≡ Some fault → Advances old now before after (Err fault)
-  advances_fault TooLong some e =
-      advances_same (Err TooLong) counts_none (λ same. cc) (λ more left. record { answer = broken TooLong some e more; left = refl })
-  advances_fault Total some e =
-      advances_same (Err Total) counts_none (λ same. cc) (λ more left. record { answer = broken Total some e more; left = refl })
-  advances_fault Read some e = absurd (never_read old.limits old.passed (length (raw_line held)) (line_size held) e)
-  advances_fault OutOfMemory some e = absurd (never_memory old.limits old.passed (length (raw_line held)) (line_size held) e)
-
-module _ (old now new : Lines) (before after : SourceState) (holds : Holds old now before after) where
   -- the first line that is held becomes current
   pub advances_whole : TakesWhole now new → Advances old new before after (Ok true)
   advances_whole taken =
       let step = rw holds.stays at taken in
-      rw step.taken (advances_past old now.held before after holds.rest (omega (arith, taken.whole)) step.within
-      (λ more left. begins_alike now.held more taken.whole))
+      rw step.taken (advances_past (omega (arith, taken.whole)) step.within (λ more left. begins_alike held more taken.whole))
+
+  broken : (fault : LineFault) → Breaks same new fault → (more : List ℕ) → Stays old (held ++ more) (Some (held ++ more)) (Err fault)
+  broken fault breaks more = record {
+    answer = answer_of-some old.limits old.passed (held ++ more) (omega (arith, breaks.some, length-append held more))
+        ∙ ap line_answer (first_fault-broken old.limits old.passed held more fault breaks.broken);
+    left = refl;
+  }
+
+  advances_fault : (fault : LineFault) → Breaks same new fault → Advances old same before after (Err fault)
+  advances_fault TooLong breaks = advances_same (Err TooLong) (λ none. none) (λ e. cc) (λ more left. broken TooLong breaks more)
+  advances_fault Total breaks = advances_same (Err Total) (λ none. none) (λ e. cc) (λ more left. broken Total breaks more)
+  advances_fault Read breaks = absurd (never_read old.limits old.passed (length (raw_line held)) (line_size held) breaks.broken)
+  advances_fault OutOfMemory breaks = absurd (never_memory old.limits old.passed (length (raw_line held)) (line_size held) breaks.broken)
 
   pub advances_broken : (fault : LineFault) → Breaks now new fault → Advances old new before after (Err fault)
-  advances_broken fault breaks =
-      let step = rw holds.stays at breaks in
-      rw step.same (advances_fault old now.held before after holds.rest fault step.some step.broken)
+  advances_broken fault breaks = let step = rw holds.stays at breaks in rw step.same (advances_fault fault step)
 
   -- the last line, which has no LF, becomes current at the end of input, if there is a byte of it
-  pub advances_end : (some : Bool) → (IsTrue some → (0 < length now.held) × (new ≡ past_line now)) → (some ≡ false → (now.held ≡ []) × (new ≡ now))
-      → first_fault now.limits now.passed now.held ≡ None → IsAtEnd after.left → Advances old new before after (Ok some)
+  pub advances_end : (some : Bool) → (IsTrue some → (0 < length held) × (new ≡ past_line now)) → (some ≡ false → (held ≡ []) × (new ≡ now))
+      → first_fault now.limits now.passed held ≡ None → IsAtEnd after.left → Advances old new before after (Ok some)
   advances_end true whole none within end =
       let last = whole refl in
-      rw (last.1, holds.stays) (advances_past old now.held before after holds.rest last.0 (rw holds.stays at within)
-      (λ more left. let nothing : more ≡ [] = subst IsAtEnd left end in rw nothing (begins_alike-nil now.held)))
+      rw (last.1, holds.stays) (advances_past last.0 (rw holds.stays at within) (λ more left.
+      let nothing : more ≡ [] = subst IsAtEnd left end in rw nothing (begins_alike-nil held)))
   advances_end false whole none within end =
       let last = none refl in
-      rw (last.1, holds.stays) (advances_none old now.held before after holds.rest last.0 end)
+      rw (last.1, holds.stays) (advances_same (Ok false) (λ none. none) (λ e. cc) (λ more left.
+      let nothing : more ≡ [] = subst IsAtEnd left end in record { answer = rw (last.0, nothing) refl; left = refl }))
 
 -- a read behind the bytes that are held, which have no LF
 module _ (now mid next : Lines) (lacks : LacksLf now mid) (stays : next ≡ record mid { held = next.held }) (after later : SourceState)

@@ -1,7 +1,5 @@
 pub mod AdvancesLemmas
 pub mod FieldLemmas
 pub mod LineLemmas
-pub mod MarkLemmas
 pub mod NumeralLemmas
-pub mod PlaceLemmas
 pub mod FillsLemmas

@@ -1,12 +1,16 @@
--- The first line of a text.
-use Rattle.std.proofs.Common.{◌≡◌, ℕ, suc, ◌+◌, ◌-◌, ◌<◌, ◌≤◌, Bool, true, false, not, cond, List, [], ◌∷◌, ◌++◌, length, take, drop, get_or, refl, sym, ap}
-use Rattle.std.proofs.Common.{◌∙◌, arith, one-add, length-append, eqb}
+-- The first line of a text, and its fault.
+use Rattle.std.proofs.Common.{◌≡◌, ℕ, suc, ◌+◌, ◌-◌, ◌<◌, ◌≤◌, Bool, true, false, not, cond, List, [], ◌∷◌, ◌++◌, length, take, drop, get_or, refl, sym, ap, ◌∙◌, arith, one-add, length-append, eqb, Some, ⊎_elim}
 use Rattle.std.specs.List.{onto_first}
 use Rattle.std.proofs.lemmas.Bool.Decides.{nat_tests}
 use Rattle.std.proofs.lemmas.List.{append-nil, take-append-drop, length-take, take-append-le, drop-append-le}
 use Rattle.std.proofs.lemmas.List.Folds.{prefix_len-append}
 use Rattle.std.proofs.lemmas.List.Sums.{prefix_len-le-length}
+use Rattle.std.proofs.lemmas.Bool.{cases_lt}
 use Rattle.line_text.specs.Lines.{is_lf, first_lf, raw_line, after_line, line_size, without_cr, lines_of}
+use Rattle.line_text.specs.declared.limits.LineFault.{LineFault}
+use Rattle.line_text.specs.declared.limits.LineFault.TheVariants.{Read, OutOfMemory}
+use Rattle.line_text.specs.declared.limits.LineLimits.{LineLimits}
+use Rattle.line_text.specs.Marks.{line_fault, first_fault, line_answer, answer_of}
 
 pub first_lf-le : (text : List ℕ) → first_lf text ≤ length text
 first_lf-le text = prefix_len-le-length (λ byte. not (is_lf byte)) text
@@ -79,3 +83,40 @@ length-without_cr line = by_last (eqb (get_or line (length line - 1) 0) 13) wher
   by_last : (cr : Bool) → let text = cond cr (take (length line - 1) line) line in (length text ≤ length line) × (length line ≤ length text + 1)
   by_last true = let short = length-take (length line - 1) line in (omega (arith, short), omega (arith, short))
   by_last false = (omega arith, omega arith)
+
+-- ---- the limits of a line of which more and more is known
+
+pub answer_of-some : (limits : LineLimits) (passed : ℕ) (text : List ℕ) → 0 < length text
+    → answer_of limits passed text ≡ line_answer (first_fault limits passed text)
+answer_of-some limits passed [] some = absurd (omega arith)
+answer_of-some limits passed (byte ∷ text) some = refl
+
+-- the marks make no other fault
+pub never_read : (limits : LineLimits) (passed raw size : ℕ) → line_fault limits passed raw size ≡ Some Read → ⊥
+never_read limits passed raw size e = grind (arith, nat_tests)
+
+pub never_memory : (limits : LineLimits) (passed raw size : ℕ) → line_fault limits passed raw size ≡ Some OutOfMemory → ⊥
+never_memory limits passed raw size e = grind (arith, nat_tests)
+
+-- a fault that stands while a line without an LF is known stays when all of it is known
+fault_stays : (limits : LineLimits) (passed known all raw size : ℕ) (fault : LineFault) → all ≡ known → known ≤ raw → raw ≤ size
+    → line_fault limits passed known all ≡ Some fault → line_fault limits passed raw size ≡ Some fault
+fault_stays limits passed known all raw size fault part more within e = grind (arith, nat_tests)
+
+module _ (limits : LineLimits) (passed : ℕ) (held more : List ℕ) where
+  pub first_fault-alike : BeginsAlike held more → first_fault limits passed (held ++ more) ≡ first_fault limits passed held
+  first_fault-alike alike =
+      ap (λ raw. line_fault limits passed (length raw) (line_size (held ++ more))) alike.raw
+      ∙ ap (line_fault limits passed (length (raw_line held))) alike.size
+
+  pub first_fault-broken : (fault : LineFault) → first_fault limits passed held ≡ Some fault → first_fault limits passed (held ++ more) ≡ Some fault
+  first_fault-broken fault e =
+      ⊎_elim (λ whole. first_fault-alike (begins_alike held more whole) ∙ e)
+      (λ part.
+      let raw = length-raw_line held in
+      let line = length-raw_line (held ++ more) in
+      let within = first_lf-le held in
+      let later = first_lf-part held more (omega arith) in
+      fault_stays limits passed (length (raw_line held)) (line_size held) (length (raw_line (held ++ more))) (line_size (held ++ more)) fault
+      (omega arith) (omega arith) (omega (arith, first_lf-le (held ++ more))) e)
+      (cases_lt (first_lf held) (length held))

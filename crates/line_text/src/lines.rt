@@ -144,8 +144,10 @@ impl Lines {
         self.drop_text();
         let mut searched = 0;
         loop {
-            if self.take_line(searched)? {
-                return Ok(true);
+            match self.take_line(searched) {
+                Ok(true) => return Ok(true),
+                Ok(false) => {}
+                Err(fault) => return Err(fault),
             }
             searched = self.held().len();
             match self.refill(source) {

@@ -33,84 +33,81 @@ told (Some text) None held P kept each = absurd kept
 told (Some text) (Some more) held P kept each = subst (λ bytes. P bytes (Some more)) kept (each more refl)
 
 module _ (old now new : Lines) (before after : SourceState) (holds : Holds old now before after) where
-  abbrev held : List ℕ
-  held = now.held
-
   -- the same reader by its parts
   abbrev same : Lines
-  same = record old { held = held; text = [] }
+  same = record old { held = now.held; text = [] }
 
   -- a step that loses no byte, as its answer says
   advances_by : (next : Lines) (result : Result Bool LineFault) → next.limits ≡ old.limits → Counts old next result → (result ≡ Err OutOfMemory → ⊥)
-      → ((more : List ℕ) → after.left ≡ Some more → Tells old next (held ++ more) (Some (next.held ++ more)) result
-      × (next.passed + length (next.held ++ more) ≡ old.passed + length (held ++ more))) → Advances old next before after result
+      → ((more : List ℕ) → after.left ≡ Some more → Tells old next (now.held ++ more) (Some (next.held ++ more)) result
+      × (next.passed + length (next.held ++ more) ≡ old.passed + length (now.held ++ more))) → Advances old next before after result
   advances_by next result limits counts memory each = record {
     limits = limits;
     counts = counts;
-    lines = told _ _ held (λ rest left. Tells old next rest (prepend_known next.held left) result) holds.rest (λ more left. (each more left).0);
-    loses_none = told _ _ held (λ rest left. IsSomeAnd (prepend_known next.held left) (λ more. next.passed + length more ≡ old.passed + length rest))
+    lines = told _ _ now.held (λ rest left. Tells old next rest (prepend_known next.held left) result) holds.rest (λ more left. (each more left).0);
+    loses_none = told _ _ now.held (λ rest left. IsSomeAnd (prepend_known next.held left) (λ more. next.passed + length more ≡ old.passed + length rest))
         holds.rest (λ more left. (each more left).1);
     takes_no_memory = memory;
   }
 
   advances_same : (result : Result Bool LineFault) → (CountsNone old same → Counts old same result) → (result ≡ Err OutOfMemory → ⊥)
-      → ((more : List ℕ) → after.left ≡ Some more → Tells old same (held ++ more) (Some (held ++ more)) result) → Advances old same before after result
+      → ((more : List ℕ) → after.left ≡ Some more → Tells old same (now.held ++ more) (Some (now.held ++ more)) result) → Advances old same before after result
   advances_same result counts memory tells =
       advances_by same result refl (counts (record { text = refl; number = refl; passed = refl })) memory (λ more left. (tells more left, refl))
 
-  counts_line : 0 < length held → CountsLine old (past_line same)
+  counts_line : 0 < length now.held → CountsLine old (past_line same)
   counts_line some =
-      let text = length-without_cr (raw_line held) in
-      let raw = length-raw_line held in
-      let within = first_lf-le held in
+      let text = length-without_cr (raw_line now.held) in
+      let raw = length-raw_line now.held in
+      let within = first_lf-le now.held in
       record { number = refl; more = omega arith; holds_text = omega arith; at_most = omega arith }
 
-  advances_past : 0 < length held → first_fault old.limits old.passed held ≡ None
-      → ((more : List ℕ) → after.left ≡ Some more → BeginsAlike held more) → Advances old (past_line same) before after (Ok true)
+  advances_past : 0 < length now.held → first_fault old.limits old.passed now.held ≡ None
+      → ((more : List ℕ) → after.left ≡ Some more → BeginsAlike now.held more) → Advances old (past_line same) before after (Ok true)
   advances_past some within alike =
       advances_by (past_line same) (Ok true) refl (counts_line some) (λ e. cc) (λ more left.
       let line = alike more left in
-      let long : 0 < length (held ++ more) = omega (arith, length-append held more) in (
+      let long : 0 < length (now.held ++ more) = omega (arith, length-append now.held more) in (
         record {
-          answer = answer_of-some old.limits old.passed (held ++ more) long
-              ∙ ap line_answer (first_fault-alike old.limits old.passed held more line ∙ within);
+          answer = answer_of-some old.limits old.passed (now.held ++ more) long
+              ∙ ap line_answer (first_fault-alike old.limits old.passed now.held more line ∙ within);
           text = ap without_cr (sym line.raw);
           passed = ap (λ size. old.passed + size) (sym line.size);
           left = ap Some (sym line.behind);
-          lines = lines_of-first (held ++ more) long;
+          lines = lines_of-first (now.held ++ more) long;
         },
-        omega (arith, length-raw_line held, first_lf-le held, length-drop (first_lf held + 1) held, length-append (after_line held) more, length-append held more),
+        omega (arith, length-raw_line now.held, first_lf-le now.held, length-drop {A = ℕ}, length-append {A = ℕ}),
       ))
 
   -- the first line that is held becomes current
   pub advances_whole : TakesWhole now new → Advances old new before after (Ok true)
   advances_whole taken =
       let step = rw holds.stays at taken in
-      rw step.taken (advances_past (omega (arith, taken.whole)) step.within (λ more left. begins_alike held more taken.whole))
+      rw step.taken (advances_past (omega (arith, taken.whole)) step.within (λ more left. begins_alike now.held more taken.whole))
 
-  broken : (fault : LineFault) → Breaks same new fault → (more : List ℕ) → Stays old (held ++ more) (Some (held ++ more)) (Err fault)
+  broken : (fault : LineFault) → Breaks same new fault → (more : List ℕ) → Stays old (now.held ++ more) (Some (now.held ++ more)) (Err fault)
   broken fault breaks more = record {
-    answer = answer_of-some old.limits old.passed (held ++ more) (omega (arith, breaks.some, length-append held more))
-        ∙ ap line_answer (first_fault-broken old.limits old.passed held more fault breaks.broken);
+    answer = answer_of-some old.limits old.passed (now.held ++ more) (omega (arith, breaks.some, length-append now.held more))
+        ∙ ap line_answer (first_fault-broken old.limits old.passed now.held more fault breaks.broken);
     left = refl;
   }
 
   advances_fault : (fault : LineFault) → Breaks same new fault → Advances old same before after (Err fault)
   advances_fault TooLong breaks = advances_same (Err TooLong) (λ none. none) (λ e. cc) (λ more left. broken TooLong breaks more)
   advances_fault Total breaks = advances_same (Err Total) (λ none. none) (λ e. cc) (λ more left. broken Total breaks more)
-  advances_fault Read breaks = absurd (never_read old.limits old.passed (length (raw_line held)) (line_size held) breaks.broken)
-  advances_fault OutOfMemory breaks = absurd (never_memory old.limits old.passed (length (raw_line held)) (line_size held) breaks.broken)
+  advances_fault Read breaks = absurd (never_read old.limits old.passed (length (raw_line now.held)) (line_size now.held) breaks.broken)
+  advances_fault OutOfMemory breaks = absurd (never_memory old.limits old.passed (length (raw_line now.held)) (line_size now.held) breaks.broken)
 
   pub advances_broken : (fault : LineFault) → Breaks now new fault → Advances old new before after (Err fault)
   advances_broken fault breaks = let step = rw holds.stays at breaks in rw step.same (advances_fault fault step)
 
   -- the last line, which has no LF, becomes current at the end of input, if there is a byte of it
-  pub advances_end : (some : Bool) → (IsTrue some → (0 < length held) × (new ≡ past_line now)) → (some ≡ false → (held ≡ []) × (new ≡ now))
-      → first_fault now.limits now.passed held ≡ None → IsAtEnd after.left → Advances old new before after (Ok some)
+  pub advances_end : (some : Bool) → (IsTrue some → (0 < length now.held) × (new ≡ past_line now)) → (some ≡ false → (now.held ≡ []) × (new ≡ now))
+      → first_fault now.limits now.passed now.held ≡ None → IsAtEnd after.left → Advances old new before after (Ok some)
   advances_end true whole none within end =
       let last = whole refl in
       rw (last.1, holds.stays) (advances_past last.0 (rw holds.stays at within) (λ more left.
-      let nothing : more ≡ [] = subst IsAtEnd left end in rw nothing (begins_alike-nil held)))
+      let nothing : more ≡ [] = subst IsAtEnd left end in rw nothing (begins_alike-nil now.held)))
   advances_end false whole none within end =
       let last = none refl in
       rw (last.1, holds.stays) (advances_same (Ok false) (λ none. none) (λ e. cc) (λ more left.
@@ -127,9 +124,6 @@ module _ (now mid next : Lines) (lacks : LacksLf now mid) (stays : next ≡ reco
         stays = stays ∙ ap with_held holds.stays;
         rest = rw fills.grown (rest_grown (rest_of old before) after.left later.left mid.held fills.more holds.rest fills.taken);
       }
-
-  pub searched_within : length mid.held ≤ length next.held
-  searched_within = omega (arith, ap length fills.grown, length-append mid.held fills.more)
 
   pub searched_none : length mid.held ≤ first_lf next.held
   searched_none = rw fills.grown (first_lf-part mid.held fills.more lacks.part)

@@ -11,14 +11,6 @@ use Rattle.route_io.specs.Sources.{SourceState, Reads}
 use Rattle.line_text.specs.declared.lines.Span.{Span}
 use Rattle.line_text.specs.Pieces.{Fills, IsIn, Took, part_of}
 
--- what the number of bytes that were read says of them
-took : (old bytes new : List ℕ) (n : ℕ) (left : Option (List ℕ)) → new ≡ old ++ take n bytes → n ≤ length bytes → (n ≡ 0 → IsAtEnd left)
-    → Took old new left (Ok (nat_lt 0 n))
-took old bytes new zero left grown within end = (grown ∙ append-nil old, end refl)
-took old bytes new (suc n) left grown within end =
-    subst (λ some. Took old new left (Ok some)) (sym (lt-ltb 0 (suc n) (omega arith)))
-    (omega (arith, ap length grown, length-append old (take (suc n) bytes), length-take (suc n) bytes))
-
 -- The part was moved within the buffer, and then what stands before its end stayed.
 module _ (moved new was : List ℕ) (held : Span) (kept : part_of moved held ≡ was) (place : IsIn (length moved) held)
     (front : take held.end new ≡ take held.end moved) where
@@ -28,6 +20,14 @@ module _ (moved new was : List ℕ) (held : Span) (kept : part_of moved held ≡
       ∙ ap (drop held.start) (take-add held.end n new ∙ ap (λ xs. xs ++ take n (drop held.end new)) front)
       ∙ drop-append-le held.start (take held.end moved) (take n (drop held.end new)) (omega (arith, length-take held.end moved))
       ∙ ap (λ xs. xs ++ take n (drop held.end new)) (sym (between_is moved held.start held.end) ∙ kept)
+
+  -- what the number of bytes that were read says of them
+  took : (n : ℕ) (left : Option (List ℕ)) → n ≤ length (drop held.end new) → (n ≡ 0 → IsAtEnd left)
+      → Took was (slice_range new held.start (held.end + n)) left (Ok (nat_lt 0 n))
+  took zero left within end = (grown (held.end + 0) 0 refl ∙ append-nil was, end refl)
+  took (suc n) left within end =
+      subst (λ some. Took was (slice_range new held.start (held.end + suc n)) left (Ok some)) (sym (lt-ltb 0 (suc n) (omega arith)))
+      (omega (arith, ap length (grown _ (suc n) refl), length-append was (take (suc n) (drop held.end new)), length-take (suc n) (drop held.end new)))
 
   pub fills_none : (before after : SourceState) (e : Failed) → Reads before after (Err e) (drop held.end new)
       → Fills was (part_of new held) before after (Err e)
@@ -45,6 +45,6 @@ module _ (moved new was : List ℕ) (held : Span) (kept : part_of moved held ≡
     more = take n (drop held.end new);
     grown = grown (held.end + n) n refl;
     taken = reads.bytes.0;
-    answer = took was (drop held.end new) _ n after.left (grown (held.end + n) n refl) reads.within.0 (λ none. reads.bytes.1 none (omega (arith, length-drop held.end new)));
+    answer = took n after.left reads.within.0 (λ none. reads.bytes.1 none (omega (arith, length-drop held.end new)));
     source = reads.source;
   }

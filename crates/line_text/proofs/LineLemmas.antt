@@ -15,6 +15,9 @@ use Rattle.line_text.specs.Marks.{line_fault, first_fault, line_answer, answer_o
 pub first_lf-le : (text : List ℕ) → first_lf text ≤ length text
 first_lf-le text = prefix_len-le-length (λ byte. not (is_lf byte)) text
 
+-- the place of an LF is within the text
+pub ruleset lf_places = first_lf-le
+
 -- the first line is as long as the place of its LF says
 pub length-raw_line : (text : List ℕ) → length (raw_line text) ≡ first_lf text
 length-raw_line text = length-take (first_lf text) text ∙ omega (arith, first_lf-le text)

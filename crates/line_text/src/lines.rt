@@ -174,8 +174,7 @@ impl Lines {
 
     /// Takes the first line that is held, if its LF is held. It isn't among the first `searched` bytes.
     fn take_line(&mut self, searched: usize) -> Result<bool, LineFault>
-        requires within { searched ≤ length self.old.held }
-        requires none { searched ≤ first_lf self.old.held }
+        requires { searched ≤ first_lf self.old.held }
         ensures { TakesHeld self.old self.new result }
     {
         let Some(raw) = find_lf(self.held(), searched) else {
@@ -269,9 +268,9 @@ impl Lines {
 }
 
 /// Where the first LF stands. It isn't among the first `searched` bytes.
+#[tactic(auto, using(crate::proofs::LineLemmas::lf_places))]
 fn find_lf(bytes: &[u8], searched: usize) -> Option<usize>
-    requires within { searched ≤ length bytes.now }
-    requires none { searched ≤ first_lf bytes.now }
+    requires { searched ≤ first_lf bytes.now }
     ensures { MatchOption result (first_lf bytes.now ≡ length bytes.now)
         (λ at. (first_lf bytes.now ≡ at) × (at < length bytes.now)) }
 {

@@ -18,12 +18,11 @@ place_is bytes searched at none within nowhere here =
 pub returns-in-Some : goal.returns-in-Some
 returns-in-Some c =
     let found = rw take_rest at c.in-Some.ensures in (
-      place_is c.args.bytes.now c.args.searched c.in-Some.at c.requires.none (omega (arith, found.0.high)) found.0.before (λ _. found.1),
+      place_is c.args.bytes.now c.args.searched c.in-Some.at c.requires (omega (arith, found.0.high)) found.0.before (λ _. found.1),
       omega (arith, found.0.high, length-drop c.args.searched c.args.bytes.now),
     )
 
 pub returns-in-None : goal.returns-in-None
 returns-in-None c =
-    let size = length-drop c.args.searched c.args.bytes.now in
-    place_is c.args.bytes.now c.args.searched _ c.requires.none (omega arith) (rw take_rest at c.in-None.ensures) (λ past. absurd (omega arith))
-    ∙ omega (arith, first_lf-le c.args.bytes.now)
+    place_is c.args.bytes.now c.args.searched _ c.requires (omega arith) (rw take_rest at c.in-None.ensures) (λ past. absurd (omega arith))
+    ∙ omega (arith, length-drop c.args.searched c.args.bytes.now, first_lf-le c.args.bytes.now)

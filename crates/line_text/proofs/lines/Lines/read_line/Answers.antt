@@ -1,5 +1,5 @@
 use Rattle.route_io.proofs.ReadsLemmas.{ReadsFrom-then}
-use Rattle.line_text.proofs.AdvancesLemmas.{advances_broken, advances_whole, advances_end, holds_more, searched_within, searched_none}
+use Rattle.line_text.proofs.AdvancesLemmas.{advances_broken, advances_whole, advances_end, holds_more, searched_none}
 use Rattle.line_text.proofs.lines.Lines.read_line.Goals as goal
 
 pub returns-in-Ok-true-clause-advances : goal.returns-in-Ok-true-clause-advances
@@ -14,7 +14,6 @@ loop-fault-preserved g c =
     let lacks = rw c.in-Ok-false.field-0-test at c.in-Ok-false.ensures in
     record {
       holds = holds_more _ _ _ lacks c.refill.ensures.stays _ _ _ c.refill.ensures.reads _ _ c.loop-fault.invariant.holds;
-      within = rw c.held-searched.ensures (searched_within _ _ _ lacks c.refill.ensures.stays _ _ _ c.refill.ensures.reads);
       none = rw c.held-searched.ensures (searched_none _ _ _ lacks c.refill.ensures.stays _ _ _ c.refill.ensures.reads);
       source = ReadsFrom-then _ _ _ _ c.loop-fault.invariant.source c.in-Ok-true-refill.ensures.reads.source;
     }

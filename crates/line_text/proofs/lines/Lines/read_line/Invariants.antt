@@ -8,7 +8,6 @@ use Rattle.line_text.proofs.lines.Lines.read_line.Given as goal
 abbrev pub invariant-loop-fault : goal.invariant-loop-fault
 invariant-loop-fault g l = record {
   holds : Holds l.fn.self l.self (g.S.Source.state l.fn.source) (g.S.Source.state l.source);
-  within : l.searched ≤ length l.self.held;
   none : l.searched ≤ first_lf l.self.held;
   source : ReadsFrom (g.S.Source.state l.fn.source) (g.S.Source.state l.source) false;
 }

@@ -1,18 +1,18 @@
 -- What a search has found says of all walks: each is pruned by a permanent spot, or goes on from a waiting one, or is
 -- beyond the limit. So the least waiting spot is relevant, and where none waits, the permanent spots are all that is.
-use Rattle.std.proofs.Common.{◌≡◌, ◌≢◌, ℕ, List, [], ◌∷◌, ◌⊎◌, inl, inr, refl, sym, subst, ◌∙◌}
+use Rattle.std.proofs.Common.{◌≡◌, ◌≢◌, ℕ, List, [], ◌∷◌, ◌⊎◌, inl, inr, refl, sym, ap, subst, ◌∙◌}
+use Rattle.std.specs.Prelude.{Contains}
 use Rattle.cost_vector.specs.declared.label.Spot.{Spot}
 use Rattle.cost_vector.specs.Costs.{AtMost, Dominates, LexLess, plus, Within}
 use Rattle.cost_vector.proofs.Vectors.{AtMost-refl, AtMost-trans, AtMost-antisymm, AtMost-plus, AtMost-plus_self, AtMost-Dominates, LexLess_from_Dominates, LexLess-irrefl, LexLess-trans, cases_LexLess, Within-AtMost, cases_same}
-use Rattle.std.specs.Prelude.{Contains}
 use Rattle.list_laws.proofs.LeastMember.{decided_by_cases, has_least}
 use Rattle.list_laws.proofs.Members.{in_none, each_in, found_in}
 use Rattle.road_network.specs.Network.{IsNetwork, Leads}
 use Rattle.road_network.specs.Walks.{Arrives, IsWalk}
 use Rattle.road_network.specs.Best.{IsBest}
 use Rattle.road_network.proofs.WalkLaws.{arrives_by_walk, walk_by_arrival, length_of_arrival, leads_by_vector}
-use Rattle.plain_search.specs.Search.{Task, IsRelevantTo, spot_at, Prunes, IsPruned, IsCovered, IsLeastOf, IsExpanded, MayWait, IsSearch}
-use Rattle.plain_search.proofs.PrunesLemmas.{pruned_by, pruned_on}
+use Rattle.plain_search.specs.Search.{Task, IsRelevantTo, spot_at, Prunes, IsPruned, IsCovered, IsLeastOf, IsExpanded, MayWait, IsBefore, IsSearch}
+use Rattle.plain_search.proofs.PrunesLemmas.{Prunes-refl, pruned_by, pruned_on}
 
 -- where some spot waits, one of them is the least
 pub least_spot : (spots : List Spot) → spots ≢ [] → (x : Spot) × IsLeastOf spots x
@@ -22,75 +22,80 @@ least_spot = has_least (λ y z. LexLess y.cost z.cost) (λ y. LexLess-irrefl y.c
 -- and it may wait
 pub least_may_wait : (task : Task) (permanent waiting : List Spot) (x : Spot) → IsSearch task permanent waiting → IsLeastOf waiting x
     → MayWait task permanent x
-least_may_wait task permanent waiting x search least = each_in (MayWait task permanent) waiting search.spots.may_wait x least.there
+least_may_wait task permanent waiting x search least = each_in (MayWait task permanent) waiting search.may_wait x least.there
+
+-- what may wait comes behind the permanent spots
+pub before_where_fresh : (task : Task) (permanent : List Spot) (x : Spot) → MayWait task permanent x → (e : Spot) → Contains permanent e → IsBefore e x
+before_where_fresh task permanent x may e there = elim (cases_LexLess e.cost x.cost) [
+  | inl less ↦ inl less
+  | inr (inl same) ↦ inr (same, λ at. may.fresh (pruned_by task.to permanent e x there
+      (record { at_most = subst (AtMost e.cost) same (AtMost-refl e.cost); place = inl at })))
+  | inr (inr less) ↦ absurd (each_in (λ y. ¬ LexLess x.cost y.cost) permanent may.later e there less)
+]
 
 module _ (task : Task) (net : IsNetwork task.net) (permanent waiting : List Spot) (search : IsSearch task permanent waiting) where
-  -- a waiting spot of at most this cost
-  record Waits (c : List ℕ) : Type 0 where
-    pub spot : Spot
-    pub there : Contains waiting spot
-    pub at_most : AtMost spot.cost c
+  -- a spot of at most this cost waits, or the cost is beyond the limit
+  abbrev IsAhead : List ℕ → Type 0
+  IsAhead c = ((y : Spot) × Contains waiting y × AtMost y.cost c) ⊎ (¬ Within task.limit c)
 
-  -- nothing further is to be sought at the spot, or beyond a spot that waits
+  -- nothing further is to be sought at the spot, or it lies ahead
   abbrev IsForeseen : Spot → Type 0
-  IsForeseen x = IsPruned task.to permanent x ⊎ (Waits x.cost ⊎ (¬ Within task.limit x.cost))
+  IsForeseen x = IsPruned task.to permanent x ⊎ IsAhead x.cost
 
-  foreseen_where_covered : (x : Spot) → IsCovered task.to task.limit permanent waiting x → IsForeseen x
-  foreseen_where_covered x (inl pruned) = inl pruned
-  foreseen_where_covered x (inr (inl waits)) =
-      let by = found_in (λ e. Prunes task.to e x) waiting waits in inr (inl (record { spot = by.0; there = by.1; at_most = by.2.at_most }))
-  foreseen_where_covered x (inr (inr beyond)) = inr (inr beyond)
+  ahead_above : (c d : List ℕ) → AtMost c d → IsAhead c → IsAhead d
+  ahead_above c d below (inl waits) = inl (waits.0, waits.1, AtMost-trans waits.0.cost c d waits.2 below)
+  ahead_above c d below (inr beyond) = inr (λ within. beyond (Within-AtMost task.limit c d below within))
 
-  -- a spot that waits, or is beyond the limit, is so at every greater cost
-  foreseen_above : (c d : List ℕ) → AtMost c d → Waits c ⊎ (¬ Within task.limit c) → Waits d ⊎ (¬ Within task.limit d)
-  foreseen_above c d below (inl waits) = inl (record { spot = waits.spot; there = waits.there; at_most = AtMost-trans waits.spot.cost c d waits.at_most below })
-  foreseen_above c d below (inr beyond) = inr (λ within. beyond (Within-AtMost task.limit c d below within))
-
-  -- so is what a foreseen spot prunes
-  foreseen_on : (x y : Spot) → Prunes task.to x y → IsForeseen x → IsForeseen y
-  foreseen_on x y prunes (inl pruned) = inl (pruned_on task.to permanent x y pruned prunes)
-  foreseen_on x y prunes (inr rest) = inr (foreseen_above x.cost y.cost prunes.at_most rest)
+  -- what a covered spot prunes is foreseen
+  foreseen_on : (x y : Spot) → IsCovered task.to task.limit permanent waiting x → Prunes task.to x y → IsForeseen y
+  foreseen_on x y (inl pruned) prunes = inl (pruned_on task.to permanent x y pruned prunes)
+  foreseen_on x y (inr (inr beyond)) prunes = inr (ahead_above x.cost y.cost prunes.at_most (inr beyond))
+  foreseen_on x y (inr (inl waits)) prunes =
+      let by = found_in (λ e. Prunes task.to e x) waiting waits in inr (ahead_above x.cost y.cost prunes.at_most (inl (by.0, by.1, by.2.at_most)))
 
   -- a permanent spot prunes what stands before an arc
   foreseen_along : (k u v : ℕ) (b w : List ℕ) (e : Spot) → AtMost b (plus b w) → Leads task.net k u w v → Contains permanent e → Prunes task.to e (spot_at u b)
       → IsForeseen (spot_at v (plus b w))
   foreseen_along k u v b w e grows arc there prunes = elim prunes.place [
     | inl same ↦
-        let next = each_in (IsExpanded task permanent waiting) permanent search.expanded e there k v w (subst (λ n. Leads task.net k n w v) (sym same) arc) in
-        let further : Prunes task.to (spot_at v (plus e.cost w)) (spot_at v (plus b w)) =
-        record { at_most = AtMost-plus e.cost b w w prunes.at_most (AtMost-refl w); place = inl refl } in
-        foreseen_on (spot_at v (plus e.cost w)) (spot_at v (plus b w)) further (foreseen_where_covered (spot_at v (plus e.cost w)) next)
+        foreseen_on (spot_at v (plus e.cost w)) (spot_at v (plus b w))
+        (each_in (IsExpanded task permanent waiting) permanent search.expanded e there k v w (subst (λ n. Leads task.net k n w v) (sym same) arc))
+        (record { at_most = AtMost-plus e.cost b w w prunes.at_most (AtMost-refl w); place = inl refl })
     | inr target ↦
         let differs : e.cost ≢ plus b w = λ same. target.1 (AtMost-antisymm e.cost b prunes.at_most (subst (AtMost b) (sym same) grows)) in
-        inl (pruned_by task.to permanent (spot_at v (plus b w)) e there
+        inl (pruned_by task.to permanent e (spot_at v (plus b w)) there
         (record { at_most = AtMost-trans e.cost b (plus b w) prunes.at_most grows; place = inr (target.0, differs) }))
   ]
 
   -- every walk is foreseen
   foreseen : (q : List ℕ) (v : ℕ) (c : List ℕ) → Arrives task.net task.from q v c → IsForeseen (spot_at v c)
-  foreseen [] v c walk =
-      subst (λ n. IsForeseen (spot_at n c)) walk.1
-      (subst (λ z. IsForeseen (spot_at task.from z)) (sym walk.2) (foreseen_where_covered _ search.started))
+  foreseen [] v c walk = rw (walk.2, ← walk.1) (foreseen_on _ _ search.started (Prunes-refl task.to _))
   foreseen (k ∷ before) v c walk =
       let b = walk.before in
       let w = walk.by in
       let long = length_of_arrival task.net net before task.from walk.at b walk.walk ∙ sym (leads_by_vector task.net net k walk.at v w walk.leads).whole in
       let grows : AtMost b (plus b w) = AtMost-plus_self b w long in
-      subst (λ z. IsForeseen (spot_at v z)) (sym walk.cost) (elim (foreseen before walk.at b walk.walk) [
+      rw walk.cost (elim (foreseen before walk.at b walk.walk) [
         | inl pruned ↦ let by = found_in (λ e. Prunes task.to e (spot_at walk.at b)) permanent pruned in
             foreseen_along k walk.at v b w by.0 grows walk.leads by.1 by.2
-        | inr rest ↦ inr (foreseen_above b (plus b w) grows rest)
+        | inr ahead ↦ inr (ahead_above b (plus b w) grows ahead)
       ])
 
-  -- no walk has a spot that prunes the least waiting one by a smaller cost
-  none_better : (x : Spot) → IsLeastOf waiting x → (q : List ℕ) (v : ℕ) (b : List ℕ) → Arrives task.net task.from q v b
-      → Dominates b x.cost → Prunes task.to (spot_at v b) x → ⊥
-  none_better x least q v b walk better prunes = elim (foreseen q v b walk) [
-    | inl pruned ↦ (least_may_wait task permanent waiting x search least).fresh (pruned_on task.to permanent (spot_at v b) x pruned prunes)
-    | inr (inl waits) ↦ each_in (λ y. ¬ LexLess y.cost x.cost) waiting least.none_below waits.spot waits.there
-        (LexLess_from_Dominates waits.spot.cost x.cost (AtMost-Dominates waits.spot.cost b x.cost waits.at_most better))
-    | inr (inr beyond) ↦ beyond (Within-AtMost task.limit b x.cost better.at_most (least_may_wait task permanent waiting x search least).within)
-  ]
+  -- the same of a walk read from its first arc on
+  foreseen_walk : (p : List ℕ) (v : ℕ) (c : List ℕ) → IsWalk task.net task.from p v c → IsForeseen (spot_at v c)
+  foreseen_walk p v c walk = foreseen _ v c (arrives_by_walk task.net net p task.from v c walk)
+
+  -- no walk leads to a spot that prunes the least waiting one by a smaller cost
+  none_better : (x : Spot) → IsLeastOf waiting x → (p : List ℕ) (v : ℕ) (b : List ℕ) → IsWalk task.net task.from p v b
+      → Dominates b x.cost → (v ≡ x.node.0) ⊎ ((v ≡ task.to) × (b ≢ x.cost)) → ⊥
+  none_better x least p v b walk better place =
+      let may = least_may_wait task permanent waiting x search least in
+      elim (foreseen_walk p v b walk) [
+        | inl pruned ↦ may.fresh (pruned_on task.to permanent (spot_at v b) x pruned (record { at_most = better.at_most; place = place }))
+        | inr (inl waits) ↦ each_in (λ y. ¬ LexLess y.cost x.cost) waiting least.none_below waits.0 waits.1
+            (LexLess_from_Dominates waits.0.cost x.cost (AtMost-Dominates waits.0.cost b x.cost waits.2 better))
+        | inr (inr beyond) ↦ beyond (Within-AtMost task.limit b x.cost better.at_most may.within)
+      ]
 
   -- the least waiting spot is a relevant pair
   pub least_is_relevant : (x : Spot) → IsLeastOf waiting x → IsRelevantTo task x.node.0 x.cost
@@ -98,36 +103,32 @@ module _ (task : Task) (net : IsNetwork task.net) (permanent waiting : List Spot
       let may = least_may_wait task permanent waiting x search least in record {
         best = record {
           reached = (_, walk_by_arrival task.net net may.walk.0 task.from x.node.0 x.cost may.walk.1);
-          nondominated = λ p b other better. none_better x least _ x.node.0 b (arrives_by_walk task.net net p task.from x.node.0 b other) better
-              (record { at_most = better.at_most; place = inl refl });
+          nondominated = λ p b other better. none_better x least p x.node.0 b other better (inl refl);
         };
         within = may.within;
-        undominated = λ b best better. none_better x least _ task.to b (arrives_by_walk task.net net best.reached.0 task.from task.to b best.reached.1) better
-            (record { at_most = better.at_most; place = inr (refl, better.differs) });
+        undominated = λ b best better. none_better x least best.reached.0 task.to b best.reached.1 better (inr (refl, better.differs));
       }
 
   -- a relevant pair that a permanent spot prunes is that spot
-  same_where_pruned : (v : ℕ) (c : List ℕ) → IsRelevantTo task v c → (e : Spot) → Contains permanent e → Prunes task.to e (spot_at v c)
-      → Contains permanent (spot_at v c)
+  same_where_pruned : (v : ℕ) (c : List ℕ) → IsRelevantTo task v c → (e : Spot) → Contains permanent e → Prunes task.to e (spot_at v c) → e ≡ spot_at v c
   same_where_pruned v c pair e there prunes =
-      let found = each_in (λ y. IsRelevantTo task y.node.0 y.cost) permanent search.spots.relevant e there in
+      let found = each_in (λ y. IsRelevantTo task y.node.0 y.cost) permanent search.relevant e there in
+      let less = λ (differs : e.cost ≢ c). let by : Dominates e.cost c = record { at_most = prunes.at_most; differs = differs } in by in
       elim prunes.place [
-        | inr target ↦ absurd (pair.undominated e.cost
-            (subst (λ n. IsBest task.net task.from n e.cost) target.0 found.best) (record { at_most = prunes.at_most; differs = target.1 }))
+        | inr target ↦ absurd (pair.undominated e.cost (subst (λ n. IsBest task.net task.from n e.cost) target.0 found.best) (less target.1))
         | inl same ↦ elim (cases_same e.cost c) [
+          | inl equal ↦ ap (λ n. spot_at n e.cost) same ∙ ap (spot_at v) equal
           | inr differs ↦ absurd (pair.best.nondominated found.best.reached.0 e.cost
-              (subst (λ n. IsWalk task.net task.from found.best.reached.0 n e.cost) same found.best.reached.1)
-              (record { at_most = prunes.at_most; differs = differs }))
-          | inl equal ↦ subst (λ n. Contains permanent (spot_at n c)) same (subst (λ z. Contains permanent (spot_at e.node.0 z)) equal there)
+              (subst (λ n. IsWalk task.net task.from found.best.reached.0 n e.cost) same found.best.reached.1) (less differs))
         ]
       ]
 
   -- where none waits, each relevant pair is permanent
   pub all_found : waiting ≡ [] → (v : ℕ) (c : List ℕ) → IsRelevantTo task v c → Contains permanent (spot_at v c)
-  all_found done v c pair =
-      let walk = pair.best.reached in
-      elim (foreseen _ v c (arrives_by_walk task.net net walk.0 task.from v c walk.1)) [
-        | inl pruned ↦ let by = found_in (λ e. Prunes task.to e (spot_at v c)) permanent pruned in same_where_pruned v c pair by.0 by.1 by.2
-        | inr (inl waits) ↦ absurd (in_none waits.spot (subst (λ spots. Contains spots waits.spot) done waits.there))
-        | inr (inr beyond) ↦ absurd (beyond pair.within)
-      ]
+  all_found done v c pair = elim (foreseen_walk pair.best.reached.0 v c pair.best.reached.1) [
+    | inr (inl waits) ↦ absurd (in_none waits.0 (subst (λ spots. Contains spots waits.0) done waits.1))
+    | inr (inr beyond) ↦ absurd (beyond pair.within)
+    | inl pruned ↦
+        let by = found_in (λ e. Prunes task.to e (spot_at v c)) permanent pruned in
+        subst (Contains permanent) (same_where_pruned v c pair by.0 by.1 by.2) by.1
+  ]

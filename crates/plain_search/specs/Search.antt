@@ -1,5 +1,6 @@
 -- What a search keeps of the spots that it has come to: the permanent ones, in that order, and the waiting ones.
 use Rattle.std.specs.Prelude.{◌≡◌, ◌≢◌, ℕ, ◌⊎◌, ◌==◌, List, Option, length, map, filter, replicate, All, AllPairs, Any, Contains}
+use Rattle.cost_vector.specs.declared.label.Label.{Label}
 use Rattle.cost_vector.specs.declared.label.Spot.{Spot}
 use Rattle.cost_vector.specs.Costs.{AtMost, plus, Within, LexLess}
 use Rattle.list_laws.specs.Least.{IsLeastMember}
@@ -29,6 +30,10 @@ IsRelevantTo task v c = IsRelevant task.net task.from task.to task.limit v c
 abbrev pub spot_at : ℕ → List ℕ → Spot
 spot_at v c = record { node = record { 0 = v }; cost = c }
 
+-- the node and the cost of a label
+abbrev pub spot_of : Label → Spot
+spot_of l = record { node = l.node; cost = l.cost }
+
 -- the costs of a node among spots
 abbrev pub costs_at : ℕ → List Spot → List (List ℕ)
 costs_at node spots = map (λ (x : Spot). x.cost) (filter (λ (x : Spot). x.node.0 == node) spots)
@@ -50,11 +55,15 @@ IsCovered to limit permanent waiting x = IsPruned to permanent x ⊎ (IsPruned t
 abbrev pub TakesOut : ℕ → Spot → List Spot → List Spot → Type 0
 TakesOut to x before after = IsWithout (λ y. Prunes to x y) before after
 
--- spot x joins the waiting ones in place of those that it prunes, unless it is covered already
-pub record Adds (to : ℕ) (limit : List (Option ℕ)) (permanent before : List Spot) (x : Spot) (after : List Spot) : Type 0 where
-  pub old_or_new : All (λ y. Contains before y ⊎ ((y ≡ x) × Within limit x.cost × (¬ IsPruned to permanent x))) after
-  pub kept : All (λ y. IsPruned to after y) before
-  pub added : IsCovered to limit permanent after x
+-- y waited before, or is one of those added, within the limit and not needless
+abbrev pub IsOldOrNew : ℕ → List (Option ℕ) → List Spot → List Spot → List Spot → Spot → Type 0
+IsOldOrNew to limit permanent before added y = Contains before y ⊎ (Contains added y × Within limit y.cost × (¬ IsPruned to permanent y))
+
+-- the spots join the waiting ones in place of those that they prune, but for those that are covered
+pub record Adds (to : ℕ) (limit : List (Option ℕ)) (permanent before added after : List Spot) : Type 0 where
+  pub old_or_new : All (IsOldOrNew to limit permanent before added) after
+  pub kept : All (IsPruned to after) before
+  pub covered : All (IsCovered to limit permanent after) added
 
 -- x stands in the list, and no cost there is lexicographically less
 abbrev pub IsLeastOf : List Spot → Spot → Type 0
@@ -74,16 +83,16 @@ pub record MayWait (task : Task) (permanent : List Spot) (x : Spot) : Type 0 whe
   pub later : All (λ e. ¬ LexLess x.cost e.cost) permanent
   pub small : IsSumOf (length permanent) x.cost
 
--- the permanent spots are relevant pairs, each once, in ascending lexicographic order, of costs as small as those that wait
-pub record AreSpots (task : Task) (permanent waiting : List Spot) : Type 0 where
+-- the cost of a is less, or it is the same at another node
+abbrev pub IsBefore : Spot → Spot → Type 0
+IsBefore a b = LexLess a.cost b.cost ⊎ ((a.cost ≡ b.cost) × (a.node.0 ≢ b.node.0))
+
+-- The permanent spots are relevant pairs, each once, in ascending lexicographic order, of costs as small as those that
+-- wait. The start is covered, and so is all that leads on from them.
+pub record IsSearch (task : Task) (permanent waiting : List Spot) : Type 0 where
   pub relevant : All (λ e. IsRelevantTo task e.node.0 e.cost) permanent
-  pub distinct : AllPairs ◌≢◌ permanent
-  pub ascending : AllPairs (λ a b. ¬ LexLess b.cost a.cost) permanent
+  pub ascending : AllPairs IsBefore permanent
   pub small : All (λ e. IsSumOf (length permanent) e.cost) permanent
   pub may_wait : All (MayWait task permanent) waiting
-
--- besides, the start is covered, and so is all that leads on from the permanent spots
-pub record IsSearch (task : Task) (permanent waiting : List Spot) : Type 0 where
-  pub spots : AreSpots task permanent waiting
   pub started : IsCovered task.to task.limit permanent waiting (spot_at task.from (replicate task.net.criteria 0))
   pub expanded : All (IsExpanded task permanent waiting) permanent

@@ -1,4 +1,3 @@
 pub mod PrunesLemmas
-pub mod RelevantLemmas
+pub mod SearchLemmas
 pub mod StepLemmas
-pub mod AnswerLemmas

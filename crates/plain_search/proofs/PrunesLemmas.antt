@@ -1,32 +1,29 @@
 -- Laws of pruning: along chains of spots, in lists of them, and what stays covered when spots become permanent or are
 -- added.
-use Rattle.std.proofs.Common.{◌≡◌, ◌≢◌, ℕ, ◌⊎◌, Option, List, [], ◌∷◌, ◌++◌, inl, inr, sym, subst, ap, ◌∙◌, refl}
+use Rattle.std.proofs.Common.{ℕ, ◌⊎◌, Option, List, [], ◌∷◌, ◌++◌, inl, inr, ◌∙◌, refl}
 use Rattle.std.specs.Prelude.{All, Contains}
-use Rattle.std.proofs.lemmas.List.{take_more, map_push}
 use Rattle.std.proofs.lemmas.List.Elements.{All-nil, All-cons, All-push, All-append, All-weaker, Contains-push, Contains-append_left, Contains-append_right}
 use Rattle.cost_vector.specs.declared.label.Spot.{Spot}
 use Rattle.cost_vector.specs.Costs.{AtMost, Within}
-use Rattle.cost_vector.proofs.Vectors.{AtMost-refl, AtMost-trans, AtMost-antisymm, cases_Within}
+use Rattle.cost_vector.proofs.Vectors.{AtMost-refl, AtMost-trans, AtMost-Dominates, Dominates-AtMost, cases_Within}
 use Rattle.list_laws.proofs.Members.{each_in, all_from_in, any_in, any_from, found_in, in_first}
 use Rattle.plain_search.specs.Search.{Prunes, IsPruned, IsCovered, IsOldOrNew, TakesOut, Adds}
 
 module _ (to : ℕ) where
   -- each spot prunes itself
   pub Prunes-refl : (x : Spot) → Prunes to x x
-  Prunes-refl x = record { at_most = AtMost-refl x.cost; place = inl refl }
+  Prunes-refl x = inl (refl, AtMost-refl x.cost)
+
+  -- its cost is no greater
+  pub Prunes-AtMost : (x y : Spot) → Prunes to x y → AtMost x.cost y.cost
+  Prunes-AtMost x y (inl here) = here.1
+  Prunes-AtMost x y (inr target) = target.1.at_most
 
   -- what a spot prunes prunes no more than the spot does
   pub Prunes-trans : (x y z : Spot) → Prunes to x y → Prunes to y z → Prunes to x z
-  Prunes-trans x y z h k = record {
-    at_most = AtMost-trans x.cost y.cost z.cost h.at_most k.at_most;
-    place = elim h.place [
-      | inr target ↦ inr (target.0, λ same. target.1 (AtMost-antisymm x.cost y.cost h.at_most (subst (AtMost y.cost) (sym same) k.at_most)))
-      | inl there ↦ elim k.place [
-        | inl further ↦ inl (there ∙ further)
-        | inr target ↦ inr (there ∙ target.0, λ same. target.1 (AtMost-antisymm y.cost z.cost k.at_most (subst (λ c. AtMost c y.cost) same h.at_most)))
-      ]
-    ];
-  }
+  Prunes-trans x y z (inr target) next = inr (target.0, Dominates-AtMost x.cost y.cost z.cost target.1 (Prunes-AtMost y z next))
+  Prunes-trans x y z (inl here) (inl there) = inl (here.0 ∙ there.0, AtMost-trans x.cost y.cost z.cost here.1 there.1)
+  Prunes-trans x y z (inl here) (inr target) = inr (here.0 ∙ target.0, AtMost-Dominates x.cost y.cost z.cost here.1 target.1)
 
   -- a member of the list that prunes the spot
   pub pruned_by : (spots : List Spot) (e x : Spot) → Contains spots e → Prunes to e x → IsPruned to spots x

@@ -1,10 +1,10 @@
 -- What a search keeps: as it begins, and when the least waiting spot becomes permanent and those one arc further are added.
-use Rattle.std.proofs.Common.{◌≡◌, ◌≢◌, ℕ, ◌+◌, ◌<◌, List, [], ◌∷◌, ◌++◌, length, map, replicate, inl, inr, refl, sym, ap, subst, ◌∙◌, arith, length-append}
+use Rattle.std.proofs.Common.{◌≡◌, ◌+◌, ◌<◌, List, [], ◌∷◌, ◌++◌, length, map, replicate, inl, inr, refl, sym, subst, ◌∙◌, arith, length-append}
 use Rattle.std.specs.Prelude.{All, Contains}
 use Rattle.std.proofs.lemmas.List.Elements.{All-nil, All-cons, All-push, All-weaker}
 use Rattle.cost_vector.specs.declared.label.Spot.{Spot}
 use Rattle.cost_vector.specs.declared.label.Label.{Label}
-use Rattle.cost_vector.specs.Costs.{Dominates, LexLess, Within, plus}
+use Rattle.cost_vector.specs.Costs.{LexLess, Within, plus}
 use Rattle.cost_vector.proofs.Vectors.{LexLess-irrefl, LexLess-trans, LexLess_from_Dominates}
 use Rattle.list_laws.proofs.Members.{each_in, all_from_in, found_in, in_none, in_first, in_map, of_map, cases_any_push}
 use Rattle.list_laws.proofs.Pairs.{pairs_none, pairs_push}
@@ -20,7 +20,7 @@ use Rattle.plain_search.specs.declared.query.Query.{Query}
 use Rattle.plain_search.specs.Query.{IsPosed}
 use Rattle.plain_search.specs.Search.{Task, IsRelevantTo, task_of, spot_at, spot_of, Prunes, IsPruned, IsCovered, IsExpanded, IsOldOrNew, TakesOut, Adds, IsLeastOf, MayWait, IsBefore, IsSearch}
 use Rattle.plain_search.proofs.PrunesLemmas.{Prunes-refl, pruned_by, covered_after_settle, covered_after_add}
-use Rattle.plain_search.proofs.RelevantLemmas.{least_may_wait, least_is_relevant, before_where_fresh}
+use Rattle.plain_search.proofs.SearchLemmas.{least_may_wait, least_is_relevant, before_where_fresh}
 
 module _ (g : Graph) (w : Weights) (query : Query) (posed : IsPosed g w query) where
   abbrev task : Task
@@ -41,7 +41,7 @@ module _ (g : Graph) (w : Weights) (query : Query) (posed : IsPosed g w query) w
         small = sum_of_none g.criteria;
       } in
       record {
-        relevant = All-nil (λ e. IsRelevantTo task e.node.0 e.cost);
+        relevant = All-nil (IsRelevantTo task);
         ascending = pairs_none IsBefore;
         small = All-nil (λ e. IsSumOf 0 e.cost);
         may_wait = All-cons (MayWait task []) start [] may (All-nil (MayWait task []));
@@ -132,10 +132,9 @@ module _ (g : Graph) (w : Weights) (query : Query) (posed : IsPosed g w query) w
       -- the search goes on
       pub search_goes_on : IsSearch task permanent' after
       search_goes_on =
-          let Relevant : Spot → Type 0 = λ e. IsRelevantTo task e.node.0 e.cost in
           let Small : Spot → Type 0 = λ e. IsSumOf (length permanent') e.cost in
           record {
-            relevant = All-push Relevant permanent x search.relevant (least_is_relevant task net permanent before search x least);
+            relevant = All-push (IsRelevantTo task) permanent x search.relevant (least_is_relevant task net permanent before search x least);
             ascending = pairs_push IsBefore permanent x search.ascending (before_where_fresh task permanent x may);
             small = All-push Small permanent x (All-weaker (λ e. IsSumOf (length permanent) e.cost) Small more permanent search.small) (more x may.small);
             may_wait = All-weaker (IsOldOrNew task.to task.limit permanent' rest (map spot_of labels)) (MayWait task permanent') waits after adds.old_or_new;

@@ -2,7 +2,7 @@
 use Rattle.std.specs.Prelude.{◌≡◌, ◌≢◌, ℕ, ◌⊎◌, ◌==◌, List, Option, length, map, filter, replicate, All, AllPairs, Any, Contains}
 use Rattle.cost_vector.specs.declared.label.Label.{Label}
 use Rattle.cost_vector.specs.declared.label.Spot.{Spot}
-use Rattle.cost_vector.specs.Costs.{AtMost, plus, Within, LexLess}
+use Rattle.cost_vector.specs.Costs.{AtMost, Dominates, plus, Within, LexLess}
 use Rattle.list_laws.specs.Least.{IsLeastMember}
 use Rattle.list_laws.specs.Without.{IsWithout}
 use Rattle.road_network.specs.Network.{Network, Leads}
@@ -22,9 +22,9 @@ pub record Task : Type 0 where
 abbrev pub task_of : Graph → Weights → Query → Task
 task_of g w query = record { net = network g w; from = query.from.0; to = query.to.0; limit = query.limit }
 
--- the pair of a node and a cost is relevant to the task
-abbrev pub IsRelevantTo : Task → ℕ → List ℕ → Type 0
-IsRelevantTo task v c = IsRelevant task.net task.from task.to task.limit v c
+-- the pair of the spot's node and its cost is relevant to the task
+abbrev pub IsRelevantTo : Task → Spot → Type 0
+IsRelevantTo task x = IsRelevant task.net task.from task.to task.limit x.node.0 x.cost
 
 -- a node, reached at a cost
 abbrev pub spot_at : ℕ → List ℕ → Spot
@@ -38,10 +38,9 @@ spot_of l = record { node = l.node; cost = l.cost }
 abbrev pub costs_at : ℕ → List Spot → List (List ℕ)
 costs_at node spots = map (λ (x : Spot). x.cost) (filter (λ (x : Spot). x.node.0 == node) spots)
 
--- Spot e makes spot x needless: its cost is at most that of x, at the same node, or it is a smaller cost of the target.
-pub record Prunes (to : ℕ) (e x : Spot) : Type 0 where
-  pub at_most : AtMost e.cost x.cost
-  pub place : (e.node.0 ≡ x.node.0) ⊎ ((e.node.0 ≡ to) × (e.cost ≢ x.cost))
+-- spot e makes spot x needless: at the same node its cost is at most that of x, or at the target it dominates it
+abbrev pub Prunes : ℕ → Spot → Spot → Type 0
+Prunes to e x = ((e.node.0 ≡ x.node.0) × AtMost e.cost x.cost) ⊎ ((e.node.0 ≡ to) × Dominates e.cost x.cost)
 
 -- some spot of the list does
 abbrev pub IsPruned : ℕ → List Spot → Spot → Type 0
@@ -90,7 +89,7 @@ IsBefore a b = LexLess a.cost b.cost ⊎ ((a.cost ≡ b.cost) × (a.node.0 ≢ b
 -- The permanent spots are relevant pairs, each once, in ascending lexicographic order, of costs as small as those that
 -- wait. The start is covered, and so is all that leads on from them.
 pub record IsSearch (task : Task) (permanent waiting : List Spot) : Type 0 where
-  pub relevant : All (λ e. IsRelevantTo task e.node.0 e.cost) permanent
+  pub relevant : All (IsRelevantTo task) permanent
   pub ascending : AllPairs IsBefore permanent
   pub small : All (λ e. IsSumOf (length permanent) e.cost) permanent
   pub may_wait : All (MayWait task permanent) waiting

@@ -154,14 +154,14 @@ impl Search {
     }
 }
 
-/// Whether an entry makes a spot needless: its cost is at most the spot's, at the same node, or it is a smaller cost of
-/// the target.
+/// Whether an entry makes a spot needless: at the same node its cost is at most the spot's, or at the target it
+/// dominates the spot's.
 fn prunes(to: NodeNo, entry: &Spot, spot: &Spot) -> bool
     ensures { IsTrue result ↔ Prunes to.0 entry.now spot.now }
 {
     entry.cost.count() == spot.cost.count()
-        && entry.cost.at_most(&spot.cost)
-        && (entry.node == spot.node || entry.node == to && entry.cost != spot.cost)
+        && (entry.node == spot.node && entry.cost.at_most(&spot.cost)
+            || entry.node == to && entry.cost.dominates(&spot.cost))
 }
 
 /// Whether one of the entries prunes a spot.

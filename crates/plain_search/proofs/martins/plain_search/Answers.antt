@@ -4,7 +4,7 @@ use Rattle.arc_graph.proofs.RelaxLaws.{network_of}
 use Rattle.plain_search.specs.Query.{IsPosed}
 use Rattle.plain_search.specs.Search.{task_of}
 use Rattle.plain_search.proofs.StepLemmas.{search_begins}
-use Rattle.plain_search.proofs.AnswerLemmas.{answer, passed}
+use Rattle.plain_search.proofs.SearchLemmas.{answer, passed}
 use Rattle.plain_search.proofs.martins.plain_search.Goals as goal
 
 pub run-requires-clause-search : goal.run-requires-clause-search

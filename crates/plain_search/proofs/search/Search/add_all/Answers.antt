@@ -1,14 +1,11 @@
-use Rattle.std.proofs.Common.{◌≡◌, [], take, refl, arith, ◌∙◌}
-use Rattle.std.proofs.lemmas.List.{take_all, take_more, map_push}
+use Rattle.std.proofs.Common.{[], refl, ◌∙◌}
+use Rattle.std.proofs.lemmas.List.{take_more, map_push}
 use Rattle.std.proofs.lemmas.List.Elements.{All-nil}
 use Rattle.plain_search.proofs.PrunesLemmas.{adds_aside, adds_then}
 use Rattle.plain_search.proofs.search.Search.add_all.Goals as goal
 
 pub loop-label-init : goal.loop-label-init
 loop-label-init c = record { permanent = refl; adds = adds_aside _ _ _ _ [] (All-nil _) }
-
-pub add-requires : goal.add-requires
-add-requires c = rw c.label-item.is (c.requires c.loop-label.label-index c.label-item.result c.loop-label-test.true)
 
 pub loop-label-preserved : goal.loop-label-preserved
 loop-label-preserved c = record {
@@ -18,8 +15,3 @@ loop-label-preserved c = record {
       rw (take_more _ c.loop-label.label-index c.label-item.result within, ← c.label-item.is, map_push)
       (adds_then _ _ _ _ _ _ _ _ c.loop-label.invariant.adds (rw c.loop-label.invariant.permanent at c.in_ok-add.ensures.waiting));
 }
-
-pub returns-clause-waiting : goal.returns-clause-waiting
-returns-clause-waiting c =
-    let all : take c.loop-label.label-index c.args.labels.now ≡ c.args.labels.now = take_all _ _ (omega arith) in
-    rw all at c.loop-label.invariant.adds

@@ -1,5 +1,4 @@
--- Laws of pruning: along chains of spots, in lists of them, and what stays covered when spots become permanent or are
--- added.
+-- Laws of pruning: along chains of spots and in lists of them, and what stays covered as the lists change.
 use Rattle.std.proofs.Common.{ℕ, ◌⊎◌, Option, List, [], ◌∷◌, ◌++◌, inl, inr, ◌∙◌, refl}
 use Rattle.std.specs.Prelude.{All, Contains}
 use Rattle.std.proofs.lemmas.List.Elements.{All-nil, All-cons, All-push, All-append, All-weaker, Contains-push, Contains-append_left, Contains-append_right}
@@ -83,7 +82,8 @@ module _ (to : ℕ) (limit : List (Option ℕ)) (permanent : List Spot) where
     ]) after second.old_or_new;
     kept = All-weaker (IsPruned to mid) (IsPruned to after) (pruned_after_add mid ys after second) before first.kept;
     covered = All-append (IsCovered to limit permanent after) xs ys
-        (All-weaker (IsCovered to limit permanent mid) (IsCovered to limit permanent after) (covered_after_add mid ys after second) xs first.covered) second.covered;
+        (All-weaker (IsCovered to limit permanent mid) (IsCovered to limit permanent after) (covered_after_add mid ys after second) xs first.covered)
+        second.covered;
   }
 
   -- spots that are covered are left aside
@@ -105,9 +105,10 @@ module _ (to : ℕ) (limit : List (Option ℕ)) (permanent : List Spot) where
       record {
         old_or_new = All-push OldOrNew rest x (All-weaker (Contains before) OldOrNew (λ y there. inl there) rest out.old)
             (inr (in_first x [], within, λ pruned. uncovered (inl pruned)));
-        kept = all_from_in (IsPruned to after) before (λ y there. elim (pruned_still to before rest x y out (pruned_by to before y y there (Prunes-refl to y))) [
-          | inl gone ↦ by_x y gone
-          | inr still ↦ pruned_by_part to rest (x ∷ []) y still
-        ]);
+        kept = all_from_in (IsPruned to after) before (λ y there.
+            elim (pruned_still to before rest x y out (pruned_by to before y y there (Prunes-refl to y))) [
+              | inl gone ↦ by_x y gone
+              | inr still ↦ pruned_by_part to rest (x ∷ []) y still
+            ]);
         covered = All-cons (IsCovered to limit permanent after) x [] (inr (inl (by_x x (Prunes-refl to x)))) (All-nil (IsCovered to limit permanent after));
       }

@@ -1,6 +1,7 @@
--- What a search has found says of all walks: each is pruned by a permanent spot, or goes on from a waiting one, or is
--- beyond the limit. So the least waiting spot is relevant, and where none waits, the permanent spots are all that is, and
--- those of the target are the answer.
+-- What a search has found: the relevant pairs, the answer, and that the budget is passed.
+--
+-- Each walk is pruned by a permanent spot, or goes on from a waiting one, or is beyond the limit. So the least waiting spot
+-- is relevant, and where none waits, the permanent spots are all that is.
 use Rattle.std.proofs.Common.{◌≡◌, ◌≢◌, ℕ, ◌+◌, ◌≤◌, Bool, List, [], ◌∷◌, ◌++◌, ◌⊎◌, length, map, inl, inr, refl, sym, ap, subst, ◌∙◌, arith, eq-eqb, length-append}
 use Rattle.std.specs.Prelude.{nat_eq, filter, All, AllPairs, Contains}
 use Rattle.std.proofs.lemmas.Bool.{eqb-true}
@@ -206,6 +207,8 @@ module _ (task : Task) (net : IsNetwork task.net) (permanent waiting : List Spot
       record {
         pairs = map pair_of all;
         more = length-map all pair_of ∙ length-append permanent (x ∷ []) ∙ ap (λ n. n + 1) full;
-        distinct = pairs_map IsBefore ◌≢◌ pair_of differ_where_before all (pairs_push IsBefore permanent x search.ascending (before_where_fresh task permanent x may));
-        relevant = All-map (λ q. IsRelevantTo task (spot_at q.0 q.1)) pair_of all (All-push (IsRelevantTo task) permanent x search.relevant (least_is_relevant x least.1));
+        distinct = pairs_map IsBefore ◌≢◌ pair_of differ_where_before all
+            (pairs_push IsBefore permanent x search.ascending (before_where_fresh task permanent x may));
+        relevant = All-map (λ q. IsRelevantTo task (spot_at q.0 q.1)) pair_of all
+            (All-push (IsRelevantTo task) permanent x search.relevant (least_is_relevant x least.1));
       }

@@ -53,6 +53,9 @@ module _ (g : Graph) (w : Weights) (query : Query) (posed : IsPosed g w query) w
     may : MayWait task permanent x
     may = least_may_wait task permanent before x search least
 
+    long : length x.cost ≡ g.criteria
+    long = length_of_arrival task.net net may.walk.0 task.from x.node.0 x.cost may.walk.1
+
     abbrev labels : List Label
     labels = relaxed g w x.node.0 x.cost
 
@@ -62,10 +65,11 @@ module _ (g : Graph) (w : Weights) (query : Query) (posed : IsPosed g w query) w
       pub criteria : length x.cost ≡ g.criteria
       pub fits : SumsFit g w x.node.0 x.cost
 
+    -- and that it has this
     pub relaxes : length permanent < max_budget → Relaxes
     relaxes room = record {
       node = node_of_arrival task.net net may.walk.0 task.from x.node.0 x.cost may.walk.1;
-      criteria = length_of_arrival task.net net may.walk.0 task.from x.node.0 x.cost may.walk.1;
+      criteria = long;
       fits = sums_fit g w x.node.0 x.cost posed.states (sum_below (length permanent) x.cost (omega arith) may.small);
     }
 
@@ -90,22 +94,24 @@ module _ (g : Graph) (w : Weights) (query : Query) (posed : IsPosed g w query) w
     more : (e : Spot) → IsSumOf (length permanent) e.cost → IsSumOf (length permanent') e.cost
     more e = sum_of_most (length permanent) (length permanent') e.cost (omega (arith, longer))
 
-    label_may_wait : (l : Label) → Contains labels l → Within task.limit l.cost → (¬ IsPruned task.to permanent' (spot_of l)) → MayWait task permanent' (spot_of l)
+    label_may_wait : (l : Label) → Contains labels l → Within task.limit l.cost → (¬ IsPruned task.to permanent' (spot_of l))
+        → MayWait task permanent' (spot_of l)
     label_may_wait l there within fresh =
         let comes = label_of g w x.node.0 x.cost l there in
         let grows : LexLess x.cost l.cost = rw comes.cost (LexLess_from_Dominates x.cost (plus x.cost comes.by)
-        (grows_along task.net net l.arc.0 x.node.0 l.node.0 comes.by x.cost comes.leads (length_of_arrival task.net net may.walk.0 task.from x.node.0 x.cost may.walk.1))) in
+        (grows_along task.net net l.arc.0 x.node.0 l.node.0 comes.by x.cost comes.leads long)) in
         let weights = small_by task.net posed.states.small l.arc.0 x.node.0 l.node.0 comes.by comes.leads in
         record {
           walk = (l.arc.0 ∷ may.walk.0, arrives l there);
           within = within;
           fresh = fresh;
-          later = All-weaker (λ e. ¬ LexLess x.cost e.cost) (λ e. ¬ LexLess l.cost e.cost) (λ e later less. later (LexLess-trans x.cost l.cost e.cost grows less))
-              permanent' (All-push (λ e. ¬ LexLess x.cost e.cost) permanent x may.later (LexLess-irrefl x.cost));
+          later = All-weaker (λ e. ¬ LexLess x.cost e.cost) (λ e. ¬ LexLess l.cost e.cost)
+              (λ e later less. later (LexLess-trans x.cost l.cost e.cost grows less)) permanent' (All-push (λ e. ¬ LexLess x.cost e.cost) permanent x may.later (LexLess-irrefl x.cost));
           small = rw (longer, comes.cost) (sum_of_more (length permanent) x.cost comes.by may.small weights);
         }
 
-    module _ (rest after : List Spot) (out : TakesOut task.to x before rest) (adds : Adds task.to task.limit permanent' rest (map spot_of labels) after) where
+    module _ (rest after : List Spot) (out : TakesOut task.to x before rest)
+        (adds : Adds task.to task.limit permanent' rest (map spot_of labels) after) where
       covered_on : (y : Spot) → IsCovered task.to task.limit permanent before y → IsCovered task.to task.limit permanent' after y
       covered_on y covered =
           covered_after_add task.to task.limit permanent' rest (map spot_of labels) after adds y

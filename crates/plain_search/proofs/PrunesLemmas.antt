@@ -110,5 +110,6 @@ module _ (to : ℕ) (limit : List (Option ℕ)) (permanent : List Spot) where
               | inl gone ↦ by_x y gone
               | inr still ↦ pruned_by_part to rest (x ∷ []) y still
             ]);
-        covered = All-cons (IsCovered to limit permanent after) x [] (inr (inl (by_x x (Prunes-refl to x)))) (All-nil (IsCovered to limit permanent after));
+        covered = All-cons (IsCovered to limit permanent after) x [] (inr (inl (by_x x (Prunes-refl to x))))
+            (All-nil (IsCovered to limit permanent after));
       }

@@ -6,19 +6,20 @@ use Rattle.std.proofs.Common.{◌≡◌, ◌≢◌, ℕ, ◌+◌, ◌≤◌, Boo
 use Rattle.std.specs.Prelude.{nat_eq, filter, All, AllPairs, Contains}
 use Rattle.std.proofs.lemmas.Bool.{eqb-true}
 use Rattle.std.proofs.lemmas.List.{length-map}
-use Rattle.std.proofs.lemmas.List.Elements.{All-map, All-push, All-filter, All-weaker, filter_passes}
+use Rattle.std.proofs.lemmas.List.Elements.{All-map, All-push, filter_passes}
 use Rattle.std.proofs.lemmas.List.Kept.{AllPairs-filter}
 use Rattle.cost_vector.specs.declared.label.Spot.{Spot}
 use Rattle.cost_vector.specs.Costs.{AtMost, Dominates, LexLess, plus, Within}
-use Rattle.cost_vector.proofs.Vectors.{AtMost-refl, AtMost-trans, AtMost-plus, AtMost-plus_self, AtMost-Dominates, Dominates-AtMost, LexLess_from_Dominates, LexLess-irrefl, LexLess-trans, cases_LexLess, Within-AtMost, cases_same}
+use Rattle.cost_vector.proofs.Vectors.{AtMost-refl, AtMost-trans, AtMost-plus, AtMost-Dominates, Dominates-AtMost, LexLess_from_Dominates, LexLess-irrefl, LexLess-trans, cases_LexLess, Within-AtMost, cases_same}
 use Rattle.list_laws.proofs.LeastMember.{decided_by_cases, has_least}
-use Rattle.list_laws.proofs.Members.{in_none, each_in, found_in, in_map, of_map, in_filter, of_filter}
+use Rattle.list_laws.proofs.Members.{in_none, each_in, all_from_in, found_in, in_map, of_map, in_filter, of_filter}
 use Rattle.list_laws.proofs.Pairs.{pairs_map, pairs_push, pigeonhole}
 use Rattle.road_network.specs.Network.{IsNetwork, Leads}
 use Rattle.road_network.specs.Walks.{Arrives, IsWalk, IsSumOf}
 use Rattle.road_network.specs.Answers.{AreBestCosts, Passes}
+use Rattle.road_network.proofs.BestLaws.{grows_along}
 use Rattle.road_network.proofs.SumLaws.{sum_of_most}
-use Rattle.road_network.proofs.WalkLaws.{arrives_by_walk, walk_by_arrival, length_of_arrival, leads_by_vector}
+use Rattle.road_network.proofs.WalkLaws.{arrives_by_walk, walk_by_arrival, length_of_arrival}
 use Rattle.plain_search.specs.Search.{Task, IsRelevantTo, spot_at, costs_at, Prunes, IsPruned, IsCovered, IsLeastOf, IsExpanded, MayWait, IsBefore, IsSearch}
 use Rattle.plain_search.proofs.PrunesLemmas.{Prunes-refl, Prunes-trans, Prunes-AtMost, pruned_by, pruned_on}
 
@@ -118,8 +119,7 @@ module _ (task : Task) (net : IsNetwork task.net) (permanent waiting : List Spot
   foreseen (k ∷ before) v c walk =
       let b = walk.before in
       let w = walk.by in
-      let long = length_of_arrival task.net net before task.from walk.at b walk.walk ∙ sym (leads_by_vector task.net net k walk.at v w walk.leads).whole in
-      let grows : AtMost b (plus b w) = AtMost-plus_self b w long in
+      let grows = (grows_along task.net net k walk.at v w b walk.leads (length_of_arrival task.net net before task.from walk.at b walk.walk)).at_most in
       rw walk.cost (elim (foreseen before walk.at b walk.walk) [
         | inl pruned ↦ let by = found_in (λ e. Prunes task.to e (spot_at walk.at b)) permanent pruned in
             foreseen_along k walk.at v b w by.0 grows walk.leads by.1 by.2
@@ -188,9 +188,8 @@ module _ (task : Task) (net : IsNetwork task.net) (permanent waiting : List Spot
             (in_filter (is_at task.to) permanent (spot_at task.to c) (all_found done (spot_at task.to c) pair) (eq-eqb task.to task.to refl)),
       );
     };
-    small = All-map (IsSumOf budget) cost_of (filter (is_at task.to) permanent) (All-filter (is_at task.to) (λ e. IsSumOf budget e.cost) permanent
-        (All-weaker (λ e. IsSumOf (length permanent) e.cost) (λ e. IsSumOf budget e.cost)
-        (λ e. sum_of_most (length permanent) budget e.cost few) permanent search.small));
+    small = all_from_in (IsSumOf budget) (costs_at task.to permanent) (λ c h. sum_of_most (length permanent) budget c few
+        (each_in (λ e. IsSumOf (length permanent) e.cost) permanent search.small (spot_at task.to c) (of_costs task.to permanent c h)));
     in_budget = λ passes.
         let most = pigeonhole passes.pairs (map pair_of permanent) passes.distinct (λ p there. in_map pair_of permanent (spot_at p.0 p.1)
         (all_found done (spot_at p.0 p.1) (each_in (λ q. IsRelevantTo task (spot_at q.0 q.1)) passes.pairs passes.relevant p there))) in

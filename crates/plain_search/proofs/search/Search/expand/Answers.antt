@@ -15,7 +15,6 @@ add_all-requires c =
 pub returns-clause-search : goal.returns-clause-search
 returns-clause-search c =
     let r = c.requires in
-    on_ok_weaker c.add_all.result
-    (λ adds. rw (c.add_all.ensures.permanent, c.in_ok-settle.ensures.permanent) (search_goes_on _ _ _ r.posed _ _ _ r.search r.least _ _ c.in_ok-settle.ensures.waiting
-    (rw (c.in_ok-settle.ensures.permanent, c.deref.ensures.value, c.in_ok-labels.ensures) at adds)))
-    c.add_all.ensures.waiting
+    on_ok_weaker c.add_all.result (λ adds. rw (c.add_all.ensures.permanent, c.in_ok-settle.ensures.permanent)
+    (search_goes_on _ _ _ r.posed _ _ _ r.search r.least _ _ c.in_ok-settle.ensures.waiting
+    (rw (c.in_ok-settle.ensures.permanent, c.deref.ensures.value, c.in_ok-labels.ensures) at adds))) c.add_all.ensures.waiting

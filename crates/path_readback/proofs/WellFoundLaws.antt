@@ -1,21 +1,21 @@
 -- Where all relevant pairs are settled, the answer is well found; and its walks go through settled labels alone.
-use Rattle.std.proofs.Common.{◌≡◌, ◌≢◌, ℕ, ◌+◌, ◌<◌, List, [], ◌∷◌, ◌++◌, Option, length, reverse, ◌↔◌, inl, inr, refl, sym, ap, subst, ◌∙◌, arith}
+use Rattle.std.proofs.Common.{◌≡◌, ◌≢◌, ℕ, ◌+◌, ◌<◌, ◌≤◌, List, [], ◌∷◌, ◌++◌, Option, length, reverse, ◌↔◌, inl, inr, sym, ap, subst, ◌∙◌, arith}
 use Rattle.std.specs.Prelude.{AllPairs, Contains}
-use Rattle.cost_vector.specs.Costs.{AtMost, Dominates, plus, Within}
+use Rattle.cost_vector.specs.Costs.{AtMost, Dominates, Within}
 use Rattle.cost_vector.proofs.Vectors.{AtMost-plus_self, Dominates-AtMost, Dominates-irrefl, Dominates-trans, Within-AtMost}
 use Rattle.std.proofs.lemmas.List.{length-reverse, reverse-reverse, reverse-append, append-nil, append_assoc}
 use Rattle.list_laws.proofs.Members.{in_none, cases_in}
 use Rattle.list_laws.proofs.Pairs.{pairs_none, pairs_cons, pigeonhole}
 use Rattle.road_network.specs.Network.{Network, IsNetwork}
 use Rattle.road_network.specs.Walks.{IsWalk, Arrives}
-use Rattle.road_network.specs.Best.{IsBest, IsBackwardLeast}
+use Rattle.road_network.specs.Best.{IsBest}
 use Rattle.road_network.specs.Answers.{IsRelevant}
 use Rattle.road_network.proofs.WalkLaws.{length_of_walk, length_of_arrival, parts_of_walk, arrives_by_walk, walk_by_arrival}
 use Rattle.road_network.proofs.BestLaws.{first_part_is_best, grows_along}
 use Rattle.road_network.proofs.FiniteLaws.{best_is_short}
 use Rattle.road_network.proofs.BackwardLaws.{one_end}
 use Rattle.event_machine.specs.Machine.{Label}
-use Rattle.path_readback.specs.Found.{Found, HasSettled, IsFound, longest_in}
+use Rattle.path_readback.specs.Found.{Found, IsFound, longest_in}
 use Rattle.path_readback.specs.WellFound.{HasAllRelevant, HasLeast, IsWellFound}
 
 -- an arc more in the front is one less behind it
@@ -33,13 +33,14 @@ module _ (net : Network) (limit : List (Option ℕ)) (f : Found) (is : IsNetwork
         record { arc = here.arc; settled = here.settled; least = all.least (record { node = v; cost = c; arc = here.arc }) here.settled }
 
     costs_are_best : (c : List ℕ) → Contains f.costs c ↔ (IsBest net f.start f.target c × Within limit c)
-    costs_are_best c =
-        ( λ there. let relevant = (all.relevant f.target c).0 ((found.costs c).0 there) in (relevant.best, relevant.within),
-          λ both. (found.costs c).1 ((all.relevant f.target c).1 (record {
-            best = both.0;
-            within = both.1;
-            undominated = λ b best. both.0.nondominated best.reached.0 b best.reached.1;
-          })) )
+    costs_are_best c = (
+      λ there. let relevant = (all.relevant f.target c).0 ((found.costs c).0 there) in (relevant.best, relevant.within),
+      λ both. (found.costs c).1 ((all.relevant f.target c).1 (record {
+        best = both.0;
+        within = both.1;
+        undominated = λ b best. both.0.nondominated best.reached.0 b best.reached.1;
+      })),
+    )
 
     -- a walk of an answer's cost goes through relevant pairs
     relevant_on_the_way : (p q : List ℕ) (v : ℕ) (b c : List ℕ) → IsWalk net f.start (p ++ q) f.target c → Contains f.costs c
@@ -114,8 +115,15 @@ module _ (net : Network) (limit : List (Option ℕ)) (f : Found) (is : IsNetwork
         }) in
         omega (arith, rest)
 
-    pub bounded_walk : length p < length f.settled
+    bounded_walk : length p < length f.settled
     bounded_walk =
         let all = fronts_are_settled (reverse p) [] f.target c [] (append-nil (reverse (reverse p)) ∙ reverse-reverse p) (arrives_by_walk net is p f.start f.target c walk)
         (pairs_none ◌≢◌) (λ x none. absurd (in_none x none)) in
         omega (arith, all, length-reverse p)
+
+    -- and so has each walk of an answer's cost, since it goes through no node twice
+    pub is_within_longest : f.nodes ≡ net.nodes → length p ≤ longest_in f
+    is_within_longest nodes =
+        let settled = bounded_walk in
+        let short = best_is_short net is p f.start f.target c walk ((well.costs c).0 there).0 in
+        omega (arith, settled, short, nodes)

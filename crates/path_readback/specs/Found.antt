@@ -1,5 +1,5 @@
 -- What a search has found.
-use Rattle.std.specs.Prelude.{◌≡◌, ℕ, ◌-◌, ◌≤◌, ◌↔◌, List, length, All, AllPairs, Contains, min}
+use Rattle.std.specs.Prelude.{ℕ, ◌-◌, ◌≤◌, ◌↔◌, List, length, AllPairs, Contains, min}
 use Rattle.cost_vector.specs.Costs.{LexLess, min_criteria, max_criteria}
 use Rattle.road_network.specs.Limits.{max_nodes}
 use Rattle.road_network.specs.Network.{IsNode}

@@ -1,5 +1,5 @@
 -- When what was found has the whole answer to a query within a limit, so that its walks can be read back from it.
-use Rattle.std.specs.Prelude.{◌≡◌, ℕ, ◌↔◌, List, ◌++◌, Option, Contains}
+use Rattle.std.specs.Prelude.{ℕ, ◌↔◌, List, ◌++◌, Option, Contains}
 use Rattle.cost_vector.specs.Costs.{Within}
 use Rattle.road_network.specs.Network.{Network}
 use Rattle.road_network.specs.Walks.{IsWalk}

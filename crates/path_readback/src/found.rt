@@ -27,7 +27,8 @@ pub trait Found {
     /// The cost of the target at the place `i`, from 0, in ascending lexicographic order.
     fn cost(&self, i: usize) -> Cost
         requires { i < length (state self.now).costs }
-        ensures { slice_get (state self.now).costs i ≡ Some result };
+        ensures found { IsFound (state self.now) }
+        ensures value { slice_get (state self.now).costs i ≡ Some result };
 
     /// The arc of the settled label of this node and this cost, if there is one.
     fn arc(&self, node: NodeNo, cost: &Cost) -> Option<ArcNo>

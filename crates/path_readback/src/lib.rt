@@ -5,9 +5,9 @@
 #![tactic(auto)]
 
 mod found;
+mod readback;
 mod room;
 
-
 pub use found::{Found, found_with_all_relevant_is_well_found};
+pub use readback::walk;
 pub use room::Room;
-

@@ -1,5 +1,6 @@
 -- The fronts of all nodes, and how they are kept.
 use Rattle.std.specs.Prelude.{◌≡◌, ◌≢◌, ℕ, zero, suc, ◌+◌, ◌<◌, ◌≤◌, List, length, map, slice_index, slice_index_or, All, Contains}
+use Rattle.cost_vector.specs.Costs.{min_criteria, max_criteria}
 use Rattle.road_network.specs.Limits.{max_nodes}
 use Rattle.pareto_front.specs.Fronts.{Front, empty_front, entries}
 use Rattle.node_front.specs.Apart.{AreApart}
@@ -54,3 +55,9 @@ pub record IsPlaced (places : List ℕ) (states : List Front) : Type 0 where
   pub used : (k : ℕ) → 0 < k → k < length states → Contains places k
   pub first : slice_index_or states 0 empty_front ≡ empty_front
   pub apart : All (λ f. AreApart (entries f)) states
+
+-- the same, in 2 to 4 criteria
+pub record IsKept (d : ℕ) (places : List ℕ) (states : List Front) : Type 0 where
+  pub two : min_criteria ≤ d
+  pub four : d ≤ max_criteria
+  pub placed : IsPlaced places states

@@ -1,12 +1,12 @@
 ghost use Rattle.std.specs.Prelude.{◌≡◌, ◌≢◌, ◌↔◌, ℕ, ◌≤◌, ◌+◌, ◌<◌, List, [], ◌∷◌, map, length, slice_index, IsTrue, IfOk, OnOk, OnErr, All, AllPairs};
-ghost use Rattle.cost_vector.specs.Costs.{max_criteria};
+ghost use Rattle.cost_vector.specs.Costs.{max_criteria, min_criteria};
 ghost use Rattle.node_front.specs.Deltas.{Appends, AreDeltas, AreSomeDeltas, HasRoom, MergesAll};
 ghost use Rattle.pareto_front.specs.Calls.{Enters, GrowsBy, Relabels, Settles, entry_of};
 ghost use Rattle.pareto_front.specs.Fronts.{HasCost, IsCovered, SparesSettled, empty_front, entries};
 ghost use Rattle.pareto_front.specs.Merging.{IsMerged, IsAdded, IsRemoved};
 ghost use Rattle.road_network.specs.Limits.{max_nodes};
 ghost use Rattle.road_network.specs.Network.{IsNode};
-ghost use Rattle.node_front.specs.NodeFronts.{IsPlaced, SameElsewhere, SameFronts, front_at, spare_at, fronts_by, spares_by};
+ghost use Rattle.node_front.specs.NodeFronts.{IsKept, SameElsewhere, SameFronts, front_at, spare_at, fronts_by, spares_by};
 
 use crate::{Deltas, merging};
 use compact_labels::{CompactLabel, CompactSpot};
@@ -27,7 +27,7 @@ pub struct Fronts<const D: usize, F: ParetoFront<D>> {
 
 impl<const D: usize, F: ParetoFront<D>> Model for Fronts<D, F> {
     ghost use Rattle.std.specs.Prelude.{◌-◌, length, map};
-    ghost use Rattle.node_front.specs.NodeFronts.{Fronts, IsPlaced, fronts_by, spares_by};
+    ghost use Rattle.node_front.specs.NodeFronts.{Fronts, IsKept, fronts_by, spares_by};
 
     ghost Value = { Fronts };
 
@@ -37,13 +37,15 @@ impl<const D: usize, F: ParetoFront<D>> Model for Fronts<D, F> {
       spares = spares_by f.places.items (map F.spare f.fronts.items);
     } };
 
-    ghost invariant = { λ f. IsPlaced f.places.items (map F.state f.fronts.items) };
+    ghost invariant = { λ f. IsKept D f.places.items (map F.state f.fronts.items) };
 }
 
 impl<const D: usize, F: ParetoFront<D> + Drop> Fronts<D, F> {
     /// The fronts of so many nodes, all without entries.
     pub fn new(alloc: Global, nodes: u32) -> Result<Fronts<D, F>, OutOfMemory>
-        requires { nodes ≤ max_nodes }
+        requires two { min_criteria ≤ D }
+        requires four { D ≤ max_criteria }
+        requires nodes { nodes ≤ max_nodes }
         ensures nodes { IfOk result (λ f. f.nodes ≡ nodes) }
         ensures empty { IfOk result (λ f. (v : ℕ) → front_at f v ≡ empty_front) }
     {
@@ -114,7 +116,6 @@ impl<const D: usize, F: ParetoFront<D> + Drop> Fronts<D, F> {
         candidates: &[CompactLabel<D>],
         deltas: &mut Deltas<D>,
     ) -> Result<(), OutOfMemory>
-        requires criteria { D ≤ max_criteria }
         requires node { IsNode self.now.nodes node.0 }
         requires some { 0 < length candidates.now }
         requires at_node { All (λ l. l.node.0 ≡ node.0) candidates.now }
@@ -122,17 +123,18 @@ impl<const D: usize, F: ParetoFront<D> + Drop> Fronts<D, F> {
         ensures { IfOk result (λ _. Appends node.0 (front_at self.now node.0)
             (map entry_of candidates.now) deltas.old deltas.new) }
     {
+        let _kept = &self.places;
         merging::merge(self.front(node), node, candidates, deltas)
     }
 
     /// Makes the room that `apply` needs, and begins the fronts of nodes that are newly reached.
     pub fn reserve(&mut self, deltas: &Deltas<D>) -> Result<(), OutOfMemory>
-        requires criteria { D ≤ max_criteria }
         requires nodes { All (λ l. IsNode self.old.nodes l.node.0) deltas.now.added }
         requires ascending { AllPairs (λ l m. l.node.0 ≤ m.node.0) deltas.now.added }
         ensures same { SameFronts self.old self.new }
         ensures room { OnOk result (HasRoom self.new deltas.now.added) }
     {
+        let _kept = &self.places;
         let mut last = NodeNo(0);
         let mut count = 0;
         for label in deltas.added() {
@@ -156,14 +158,13 @@ impl<const D: usize, F: ParetoFront<D> + Drop> Fronts<D, F> {
 
     /// Makes of the fronts what the candidates of these deltas make of them.
     pub fn apply(&mut self, deltas: &Deltas<D>)
-        requires criteria { D ≤ max_criteria }
         requires deltas { AreSomeDeltas self.old deltas.now }
         requires room { HasRoom self.old deltas.now.added }
         ensures nodes { self.new.nodes ≡ self.old.nodes }
         ensures merged { (candidates : List (CompactLabel D))
             → AreDeltas self.old candidates deltas.now → MergesAll self.old candidates self.new }
     {
-        let _begun = &self.fronts;
+        let _kept = &self.places;
         for label in deltas.added() {
             self.enter(label);
         }
@@ -207,10 +208,10 @@ fn reach<const D: usize, F: ParetoFront<D> + Drop>(
     alloc: Global,
     node: NodeNo,
 ) -> Result<usize, OutOfMemory>
-    requires placed { IsPlaced places.old.items (map F.state fronts.old.items) }
+    requires kept { IsKept D places.old.items (map F.state fronts.old.items) }
     requires node { 0 < node.0 }
     requires within { node.0 < length places.old.items }
-    ensures placed { IsPlaced places.new.items (map F.state fronts.new.items) }
+    ensures kept { IsKept D places.new.items (map F.state fronts.new.items) }
     ensures same { fronts_by places.new.items (map F.state fronts.new.items)
         ≡ fronts_by places.old.items (map F.state fronts.old.items) }
     ensures spares { (v : ℕ) → slice_index (spares_by places.old.items (map F.spare fronts.old.items)) v

@@ -12,7 +12,7 @@ use Rattle.node_front.proofs.fronts.Fronts.arrive.Goals as goal
 pub arrive-requires : goal.arrive-requires
 arrive-requires g c =
     let state = g.F.ParetoFront.state in
-    let here = front_before state c.args.self.now c.args.self.now c.reach.new.places.items c.reach.new.fronts.items c.in_ok-place.ensures.placed
+    let here = front_before state c.args.self.now c.args.self.now c.reach.new.places.items c.reach.new.fronts.items c.in_ok-place.ensures.kept.placed
     c.args.label.now.node.0 c.in_ok-place.place c.in_ok-place.ensures.place
     (ap (λ (f : Fronts). f.fronts) (sym c.self.view_is) ∙ sym c.in_ok-place.ensures.same) refl
     c.index_mut.result.now c.index_mut.ensures.value in
@@ -22,13 +22,14 @@ pub invariant_of-self-2 : goal.invariant_of-self-2
 invariant_of-self-2 g c =
     let state = g.F.ParetoFront.state in
     let v = c.args.label.now.node.0 in
-    let there = state_there state c.reach.new.places.items c.reach.new.fronts.items c.in_ok-place.ensures.placed v c.in_ok-place.place
+    let there = state_there state c.reach.new.places.items c.reach.new.fronts.items c.in_ok-place.ensures.kept.placed v c.in_ok-place.place
     c.in_ok-place.ensures.place c.index_mut.result.now c.index_mut.ensures.value in
-    let apart = front_apart c.reach.new.places.items (map state c.reach.new.fronts.items) c.in_ok-place.ensures.placed v in
-    placed_changed g.F.ParetoFront.state c.reach.new.places.items c.reach.new.fronts.items c.in_ok-place.ensures.placed
+    let apart = front_apart c.reach.new.places.items (map state c.reach.new.fronts.items) c.in_ok-place.ensures.kept.placed v in
+    let after = placed_changed g.F.ParetoFront.state c.reach.new.places.items c.reach.new.fronts.items c.in_ok-place.ensures.kept.placed
     c.args.label.now.node.0 c.in_ok-place.place c.in_ok-place.ensures.place c.in_ok-place.ensures.reached c.arrive.new.front
     (merged_or_same_apart c.arrive.result (state c.index_mut.result.now) (state c.arrive.new.front) (entry_of c.args.label.now ∷ [])
-    c.arrive.ensures.merged c.arrive.ensures.unchanged (subst (λ (f : Front). AreApart (entries f)) there apart))
+    c.arrive.ensures.merged c.arrive.ensures.unchanged (subst (λ (f : Front). AreApart (entries f)) there apart)) in
+    record { two = c.self.invariant.two; four = c.self.invariant.four; placed = after }
 
 pub returns : goal.returns
 returns g c =
@@ -37,7 +38,7 @@ returns g c =
     let e = entry_of c.args.label.now in
     let places = c.reach.new.places.items in
     let fronts = c.reach.new.fronts.items in
-    let placed = c.in_ok-place.ensures.placed in
+    let placed = c.in_ok-place.ensures.kept.placed in
     let at = c.in_ok-place.ensures.place in
     let some = c.in_ok-place.ensures.reached in
     let was : c.args.self.now.fronts ≡ fronts_by places (map state fronts) =

@@ -14,7 +14,7 @@ enter-requires g c =
     let v = c.args.label.now.node.0 in
     let places = c.self.inside.places.items in
     let fronts = c.self.inside.fronts.items in
-    let placed = c.self.invariant in
+    let placed = c.self.invariant.placed in
     let some = room_place places (map g.F.ParetoFront.spare fronts) v (subst (λ (f : Fronts). 1 ≤ spare_at f v) (sym c.self.view_is) c.requires.room) in
     let at = place_read places (map state fronts) placed v c.index.result.now some c.index.ensures in
     let was : c.args.self.now.fronts ≡ fronts_by places (map state fronts) = ap (λ (f : Fronts). f.fronts) (sym c.self.view_is) in
@@ -40,7 +40,7 @@ invariant_of-self g c =
     let v = c.args.label.now.node.0 in
     let places = c.self.inside.places.items in
     let fronts = c.self.inside.fronts.items in
-    let placed = c.self.invariant in
+    let placed = c.self.invariant.placed in
     let some = room_place places (map g.F.ParetoFront.spare fronts) v (subst (λ (f : Fronts). 1 ≤ spare_at f v) (sym c.self.view_is) c.requires.room) in
     let at = place_read places (map state fronts) placed v c.index.result.now some c.index.ensures in
     let was : c.args.self.now.fronts ≡ fronts_by places (map state fronts) = ap (λ (f : Fronts). f.fronts) (sym c.self.view_is) in
@@ -52,8 +52,9 @@ invariant_of-self g c =
     let merged = entered_merges (state c.index_mut.result.now) e apart
     (subst (λ (f : Front). ¬ IsCovered (entries f) e.cost) before c.requires.new)
     (subst (λ (f : Front). SparesSettled f e.cost) before c.requires.spares) (state c.enter.new.self) c.enter.ensures.entered in
-    placed_changed state places fronts placed v c.index.result.now at (λ zero. some (sym at ∙ zero)) c.enter.new.self
-    (merged_apart (state c.index_mut.result.now) (state c.enter.new.self) (e ∷ []) merged)
+    let after = placed_changed state places fronts placed v c.index.result.now at (λ zero. some (sym at ∙ zero)) c.enter.new.self
+    (merged_apart (state c.index_mut.result.now) (state c.enter.new.self) (e ∷ []) merged) in
+    record { two = c.self.invariant.two; four = c.self.invariant.four; placed = after }
 
 pub returns : goal.returns
 returns g c =
@@ -61,7 +62,7 @@ returns g c =
     let v = c.args.label.now.node.0 in
     let places = c.self.inside.places.items in
     let fronts = c.self.inside.fronts.items in
-    let placed = c.self.invariant in
+    let placed = c.self.invariant.placed in
     let some = room_place places (map g.F.ParetoFront.spare fronts) v (subst (λ (f : Fronts). 1 ≤ spare_at f v) (sym c.self.view_is) c.requires.room) in
     let at = place_read places (map state fronts) placed v c.index.result.now some c.index.ensures in
     let was : c.args.self.now.fronts ≡ fronts_by places (map state fronts) = ap (λ (f : Fronts). f.fronts) (sym c.self.view_is) in

@@ -14,14 +14,15 @@ invariant_of-self g c =
     let v = c.args.label.now.node.0 in
     let places = c.self.inside.places.items in
     let fronts = c.self.inside.fronts.items in
-    let placed = c.self.invariant in
+    let placed = c.self.invariant.placed in
     let has = subst (λ (f : Fronts). HasCost (entries (front_at f v)) c.args.label.now.cost.0) (sym c.self.view_is) c.requires in
     let some = has_place places (map state fronts) placed v c.args.label.now.cost.0 has in
     let at = place_read places (map state fronts) placed v c.index.result.now some c.index.ensures in
     let there = state_there state places fronts placed v c.index.result.now at c.index_mut.result.now c.index_mut.ensures.value in
     let apart = subst (λ (f : Front). AreApart (entries f)) there (front_apart places (map state fronts) placed v) in
-    placed_changed state places fronts placed v c.index.result.now at (λ zero. some (sym at ∙ zero)) c.relabel.new.self
-    (relabelled_apart (state c.index_mut.result.now) (state c.relabel.new.self) (entry_of c.args.label.now) c.relabel.ensures.relabelled apart)
+    let after = placed_changed state places fronts placed v c.index.result.now at (λ zero. some (sym at ∙ zero)) c.relabel.new.self
+    (relabelled_apart (state c.index_mut.result.now) (state c.relabel.new.self) (entry_of c.args.label.now) c.relabel.ensures.relabelled apart) in
+    record { two = c.self.invariant.two; four = c.self.invariant.four; placed = after }
 
 pub returns : goal.returns
 returns g c =
@@ -29,7 +30,7 @@ returns g c =
     let v = c.args.label.now.node.0 in
     let places = c.self.inside.places.items in
     let fronts = c.self.inside.fronts.items in
-    let placed = c.self.invariant in
+    let placed = c.self.invariant.placed in
     let has = subst (λ (f : Fronts). HasCost (entries (front_at f v)) c.args.label.now.cost.0) (sym c.self.view_is) c.requires in
     let some = has_place places (map state fronts) placed v c.args.label.now.cost.0 has in
     let at = place_read places (map state fronts) placed v c.index.result.now some c.index.ensures in

@@ -17,11 +17,12 @@ invariant_of-self-2 g c =
     let v = c.args.node.0 in
     let places = c.reach.new.places.items in
     let fronts = c.reach.new.fronts.items in
-    let placed = c.in_ok-place.ensures.placed in
+    let placed = c.in_ok-place.ensures.kept.placed in
     let k = c.in_ok-place.place in
     let there = state_there state places fronts placed v k c.in_ok-place.ensures.place c.index_mut.result.now c.index_mut.ensures.value in
     let apart = subst (λ (f : Front). AreApart (entries f)) (there ∙ sym c.reserve.ensures.same) (front_apart places (map state fronts) placed v) in
-    placed_changed state places fronts placed v k c.in_ok-place.ensures.place c.in_ok-place.ensures.reached c.reserve.new.self apart
+    let after = placed_changed state places fronts placed v k c.in_ok-place.ensures.place c.in_ok-place.ensures.reached c.reserve.new.self apart in
+    record { two = c.self.invariant.two; four = c.self.invariant.four; placed = after }
 
 pub returns : goal.returns
 returns g c =
@@ -30,7 +31,7 @@ returns g c =
     let v = c.args.node.0 in
     let places = c.reach.new.places.items in
     let fronts = c.reach.new.fronts.items in
-    let placed = c.in_ok-place.ensures.placed in
+    let placed = c.in_ok-place.ensures.kept.placed in
     let k = c.in_ok-place.place in
     let at = c.in_ok-place.ensures.place in
     let some = c.in_ok-place.ensures.reached in

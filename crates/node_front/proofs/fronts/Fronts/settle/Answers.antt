@@ -13,14 +13,15 @@ invariant_of-self g c =
     let v = c.args.spot.now.node.0 in
     let places = c.self.inside.places.items in
     let fronts = c.self.inside.fronts.items in
-    let placed = c.self.invariant in
+    let placed = c.self.invariant.placed in
     let has = subst (λ (f : Fronts). HasCost (entries (front_at f v)) c.args.spot.now.cost.0) (sym c.self.view_is) c.requires in
     let some = has_place places (map state fronts) placed v c.args.spot.now.cost.0 has in
     let at = place_read places (map state fronts) placed v c.index.result.now some c.index.ensures in
     let there = state_there state places fronts placed v c.index.result.now at c.index_mut.result.now c.index_mut.ensures.value in
     let apart = subst (λ (f : Front). AreApart (entries f)) there (front_apart places (map state fronts) placed v) in
-    placed_changed state places fronts placed v c.index.result.now at (λ zero. some (sym at ∙ zero)) c.settle.new.self
-    (settled_apart (state c.index_mut.result.now) (state c.settle.new.self) c.args.spot.now.cost.0 c.settle.ensures.settled apart)
+    let after = placed_changed state places fronts placed v c.index.result.now at (λ zero. some (sym at ∙ zero)) c.settle.new.self
+    (settled_apart (state c.index_mut.result.now) (state c.settle.new.self) c.args.spot.now.cost.0 c.settle.ensures.settled apart) in
+    record { two = c.self.invariant.two; four = c.self.invariant.four; placed = after }
 
 pub returns : goal.returns
 returns g c =
@@ -28,7 +29,7 @@ returns g c =
     let v = c.args.spot.now.node.0 in
     let places = c.self.inside.places.items in
     let fronts = c.self.inside.fronts.items in
-    let placed = c.self.invariant in
+    let placed = c.self.invariant.placed in
     let has = subst (λ (f : Fronts). HasCost (entries (front_at f v)) c.args.spot.now.cost.0) (sym c.self.view_is) c.requires in
     let some = has_place places (map state fronts) placed v c.args.spot.now.cost.0 has in
     let at = place_read places (map state fronts) placed v c.index.result.now some c.index.ensures in

@@ -51,7 +51,7 @@ pairs_across R (z ∷ zs) ys pairs x y x_in y_in = elim (cases_in z zs x x_in) [
   | inr later ↦ pairs_across R zs ys (pairs_rest R z (zs ++ ys) pairs) x y later y_in
 ]
 
-pairs_unmap : {X Y : Type 0} (R : Y → Y → Type 0) (f : X → Y) (xs : List X) → AllPairs R (map f xs) → AllPairs (λ x z. R (f x) (f z)) xs
+pub pairs_unmap : {X Y : Type 0} (R : Y → Y → Type 0) (f : X → Y) (xs : List X) → AllPairs R (map f xs) → AllPairs (λ x z. R (f x) (f z)) xs
 pairs_unmap R f [] pairs = pairs_none (λ x z. R (f x) (f z))
 pairs_unmap R f (x ∷ xs) pairs = pairs_cons (λ y z. R (f y) (f z)) x xs (λ z there. pair_with_first R (f x) (map f xs) pairs (f z) (in_map f xs z there))
     (pairs_unmap R f xs (pairs_rest R (f x) (map f xs) pairs))

@@ -1,10 +1,8 @@
 -- What was gathered of the candidates of a node gives the delta of its front.
-use Rattle.std.proofs.Common.{◌≡◌, ◌≢◌, ◌⊎◌, ◌↔◌, ℕ, ◌<◌, ◌≤◌, Bool, true, false, not, List, [], ◌∷◌, ◌++◌, map, inl, inr, refl, sym, ap, subst, ◌∙◌, arith}
+use Rattle.std.proofs.Common.{◌≡◌, ◌≢◌, ◌↔◌, ℕ, Bool, true, not, List, [], ◌∷◌, ◌++◌, map, inl, inr, refl, sym, ap, subst, ◌∙◌, arith}
 use Rattle.std.specs.Prelude.{All, AllPairs, Contains, filter, Result, Ok, Err, IfOk}
 use Rattle.std.proofs.lemmas.Bool.{cases_Bool, cases_lt, false≢true}
-use Rattle.std.proofs.lemmas.List.Elements.{All-head, All-tail, All-filter}
 use Rattle.std.proofs.lemmas.List.Kept.{AllPairs-filter}
-use Rattle.cost_vector.specs.Costs.{Dominates}
 use Rattle.cost_vector.proofs.Vectors.{AtMost-Dominates}
 use Rattle.list_laws.specs.Sets.{ListsOnce}
 use Rattle.list_laws.proofs.Members.{in_first, in_rest, in_filter, of_filter, of_map, each_in, all_from_in}
@@ -14,7 +12,7 @@ use Rattle.compact_labels.specs.declared.label.CompactLabel.{CompactLabel}
 use Rattle.compact_labels.specs.declared.label.CompactSpot.{CompactSpot}
 use Rattle.pareto_front.specs.Calls.{GrowsBy, entry_of}
 use Rattle.pareto_front.specs.Fronts.{Entry, Front, HasCost, IsDominated, SparesSettled, entries}
-use Rattle.pareto_front.specs.Merging.{Stays, Delta, IsDelta, IsAdded, IsRemoved, IsLowered}
+use Rattle.pareto_front.specs.Merging.{IsAdded, IsRemoved, IsLowered}
 use Rattle.node_front.specs.Apart.{AreApart}
 use Rattle.node_front.specs.Deltas.{Deltas, Appends, label_of, spot_of}
 use Rattle.node_front.specs.declared.merging.Survivor.{Survivor}

@@ -2,23 +2,22 @@
 use Rattle.std.proofs.Common.{◌≡◌, ◌≢◌, ◌⊎◌, ◌↔◌, ℕ, zero, suc, ◌-◌, ◌^◌, min, take, Bool, true, nat_eq, ◌+◌, ◌<◌, ◌≤◌, List, [], ◌∷◌, ◌++◌, Some, None, Option, length, map, get_or, inl, inr, refl, sym, ap, subst, ◌∙◌, arith, option_map}
 use Rattle.std.specs.Prelude.{AllPairs, Contains, slice_get}
 use Rattle.std.specs.Cmp.Lexicographic.{pointwise, bytes_decides}
-use Rattle.std.proofs.lemmas.List.{length-append, length-map, length_push, take_more}
+use Rattle.std.proofs.lemmas.List.{length-append, length-map, take_more}
 use Rattle.std.proofs.lemmas.List.Elements.{All-nil}
 use Rattle.std.proofs.lemmas.Option.{slice_get-map, slice_get-get_or}
-use Rattle.cost_vector.specs.Costs.{AtMost, LexLess, min_criteria, max_criteria}
+use Rattle.cost_vector.specs.Costs.{LexLess, min_criteria, max_criteria}
 use Rattle.cost_vector.specs.declared.label.ArcNo.{ArcNo}
 use Rattle.cost_vector.proofs.Vectors.{LexLess-irrefl}
-use Rattle.list_laws.specs.Sets.{SameMembers}
 use Rattle.list_laws.proofs.Members.{in_none, cases_in, in_map, of_map}
 use Rattle.list_laws.proofs.Pairs.{pairs_none, pairs_rest, pair_with_first, pairs_map}
 use Rattle.list_laws.proofs.OnceLaws.{in_append, pairs_append}
 use Rattle.event_machine.specs.Machine.{Label, IsSamePair}
-use Rattle.path_readback.specs.Found.{Found, HasSettled, IsFound}
+use Rattle.path_readback.specs.Found.{HasSettled, IsFound}
 use Rattle.road_network.specs.Limits.{max_nodes}
 use Rattle.road_network.specs.Network.{IsNode}
 use Rattle.pareto_front.specs.declared.front.FrontEntry.{FrontEntry}
 use Rattle.pareto_front.specs.Calls.{ListsSettled, told_entry}
-use Rattle.pareto_front.specs.Fronts.{AreIncomparable, Entry, Front, IsFront, empty_front, entries}
+use Rattle.pareto_front.specs.Fronts.{AreIncomparable, Entry, Front, IsFront, empty_front}
 use Rattle.node_front.specs.FoundFronts.{counted_labels, found_in, labels_of, settled_from}
 use Rattle.node_front.specs.NodeFronts.{Fronts, SameElsewhere, front_at}
 use Rattle.node_front.proofs.ApartLemmas.{AtMost-same}

@@ -1,18 +1,18 @@
 -- The fronts of all nodes, while the deltas of a round are applied label by label.
-use Rattle.std.proofs.Common.{◌≡◌, ◌≢◌, ◌⊎◌, ◌↔◌, ℕ, ◌+◌, ◌<◌, ◌≤◌, Bool, true, false, cond, nat_eq, List, [], ◌∷◌, ◌++◌, length, map, get_or, take, drop, inl, inr, refl, sym, ap, subst, ◌∙◌, arith, append_assoc, take-append-drop, length-take, length-drop}
+use Rattle.std.proofs.Common.{◌≡◌, ◌≢◌, ◌⊎◌, ℕ, ◌+◌, ◌<◌, ◌≤◌, Bool, true, false, cond, nat_eq, List, [], ◌∷◌, ◌++◌, length, map, get_or, take, drop, inl, inr, refl, sym, ap, subst, ◌∙◌, arith, append_assoc, take-append-drop, length-take, length-drop}
 use Rattle.std.specs.Prelude.{All, AllPairs, Contains, filter}
 use Rattle.std.proofs.lemmas.Bool.{cases_Bool, false≢true}
 use Rattle.std.proofs.lemmas.Bool.Decides.{nat_tests}
 use Rattle.std.proofs.lemmas.List.{take_more, drop_more, get_or-drop, get_or_default, length-append, map-append, append-nil}
 use Rattle.std.proofs.lemmas.List.Elements.{filter-append, All-nil, All-push}
-use Rattle.list_laws.proofs.Members.{in_first, in_map, of_map, in_filter, of_filter, each_in, all_from_in}
+use Rattle.list_laws.proofs.Members.{in_first, of_map, of_filter, each_in, all_from_in}
 use Rattle.list_laws.proofs.OnceLaws.{in_append, empty_if_none}
 use Rattle.compact_labels.specs.declared.label.CompactLabel.{CompactLabel}
 use Rattle.pareto_front.specs.Calls.{Enters, Relabels, entry_of}
 use Rattle.pareto_front.specs.Fronts.{Entry, Front, HasCost, IsCovered, SparesSettled, entries}
-use Rattle.pareto_front.specs.Merging.{IsDelta, IsMerged}
+use Rattle.pareto_front.specs.Merging.{IsMerged}
 use Rattle.node_front.specs.Apart.{AreApart}
-use Rattle.node_front.specs.Deltas.{Deltas, AreDeltas, AreSomeDeltas, HasRoom, MergesAll, delta_at, entries_at}
+use Rattle.node_front.specs.Deltas.{Deltas, AreDeltas, HasRoom, MergesAll, delta_at, entries_at}
 use Rattle.node_front.specs.NodeFronts.{Fronts, SameElsewhere, SameFronts, front_at, spare_at}
 use Rattle.node_front.proofs.ApartLemmas.{has_cost_of}
 use Rattle.node_front.proofs.PlacedLemmas.{cases_number}

@@ -1,4 +1,4 @@
-use Rattle.std.proofs.Common.{◌≡◌, ◌≤◌, ℕ, map, length, subst, sym, ap, ◌∙◌, arith}
+use Rattle.std.proofs.Common.{◌≤◌, map, subst, arith}
 use Rattle.std.proofs.lemmas.List.{length-map}
 use Rattle.pareto_front.specs.Calls.{told_entry}
 use Rattle.node_front.proofs.FoundLemmas.{settled_in_fronts, is_found, counted_all}

@@ -1,6 +1,5 @@
-use Rattle.std.proofs.Common.{◌≡◌, ◌↔◌, ◌<◌, ◌≤◌, Some, List, length, map, get_or, sym, ap, subst, ◌∙◌, refl, arith}
+use Rattle.std.proofs.Common.{◌≡◌, ◌↔◌, Some, map, sym, ap, subst, ◌∙◌, arith}
 use Rattle.std.specs.Prelude.{Contains}
-use Rattle.cost_vector.specs.declared.label.ArcNo.{ArcNo}
 use Rattle.pareto_front.specs.Fronts.{Front}
 use Rattle.node_front.specs.NodeFronts.{Fronts, front_at}
 use Rattle.node_front.proofs.PlacedLemmas.{state_there, place_within}

@@ -1,11 +1,9 @@
-use Rattle.std.proofs.Common.{◌≡◌, ◌≢◌, ℕ, ◌+◌, ◌-◌, ◌<◌, ◌≤◌, List, length, map, get_or, take, inl, inr, sym, ap, subst, subst₂, refl, ◌∙◌, arith}
+use Rattle.std.proofs.Common.{◌≡◌, ℕ, ◌≤◌, List, length, map, get_or, inl, inr, sym, ap, subst, refl, ◌∙◌, arith}
 use Rattle.std.proofs.lemmas.List.{length-map, take_all, get_or_past}
 use Rattle.std.proofs.lemmas.Bool.{cases_lt}
-use Rattle.pareto_front.specs.Calls.{ListsSettled}
-use Rattle.pareto_front.specs.Fronts.{Entry, Front, IsFront, empty_front, entries}
-use Rattle.node_front.specs.Apart.{AreApart}
+use Rattle.pareto_front.specs.Fronts.{IsFront, empty_front}
 use Rattle.road_network.specs.Limits.{max_nodes}
-use Rattle.node_front.specs.NodeFronts.{Fronts, front_at, fronts_by}
+use Rattle.node_front.specs.NodeFronts.{Fronts, front_at}
 use Rattle.node_front.proofs.PlacedLemmas.{state_there, cases_number}
 use Rattle.node_front.specs.FoundFronts.{counted_labels, settled_from}
 use Rattle.node_front.proofs.FoundLemmas.{counted_more, empty_is_front}

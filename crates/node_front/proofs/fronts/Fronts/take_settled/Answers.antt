@@ -1,12 +1,9 @@
-use Rattle.std.proofs.Common.{◌≡◌, ◌≢◌, ℕ, ◌+◌, ◌-◌, ◌<◌, ◌≤◌, List, length, map, get_or, take, inl, inr, sym, ap, subst, subst₂, refl, ◌∙◌, arith}
-use Rattle.std.proofs.lemmas.List.{length-map, take_all}
-use Rattle.std.proofs.lemmas.Bool.{cases_lt}
+use Rattle.std.proofs.Common.{◌≡◌, ◌<◌, length, map, sym, ap, subst, refl, ◌∙◌, arith}
 use Rattle.pareto_front.specs.Calls.{ListsSettled}
-use Rattle.pareto_front.specs.Fronts.{Entry, Front, IsFront, empty_front, entries}
-use Rattle.node_front.specs.Apart.{AreApart}
-use Rattle.node_front.specs.NodeFronts.{Fronts, front_at, fronts_by}
+use Rattle.pareto_front.specs.Fronts.{Front}
+use Rattle.node_front.specs.NodeFronts.{Fronts, fronts_by}
 use Rattle.node_front.proofs.ApartLemmas.{empty_apart}
-use Rattle.node_front.proofs.PlacedLemmas.{place_within, state_there, front_before, changed_there, same_elsewhere, placed_changed}
+use Rattle.node_front.proofs.PlacedLemmas.{place_within, front_before, changed_there, same_elsewhere, placed_changed}
 use Rattle.node_front.proofs.fronts.Fronts.take_settled.Goals as goal
 
 pub invariant_of-self : goal.invariant_of-self

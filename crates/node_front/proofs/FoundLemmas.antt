@@ -18,7 +18,7 @@ use Rattle.road_network.specs.Network.{IsNode}
 use Rattle.pareto_front.specs.declared.front.FrontEntry.{FrontEntry}
 use Rattle.pareto_front.specs.Calls.{ListsSettled, told_entry}
 use Rattle.pareto_front.specs.Fronts.{AreIncomparable, Entry, Front, IsFront, empty_front}
-use Rattle.node_front.specs.FoundFronts.{counted_labels, found_in, labels_of, settled_from}
+use Rattle.node_front.specs.FoundFronts.{counted_labels, found_in, labels_told, settled_from}
 use Rattle.node_front.specs.NodeFronts.{Fronts, SameElsewhere, front_at}
 use Rattle.node_front.proofs.ApartLemmas.{AtMost-same}
 use Rattle.node_front.proofs.PlacedLemmas.{cases_number}
@@ -32,13 +32,13 @@ label v e = record { node = v; cost = e.cost; arc = e.arc }
 -- one more front at the end
 pub settled_push : (n : ℕ) (fs : List Front) (f : Front) → length (settled_from n (fs ++ f ∷ [])) ≡ length (settled_from n fs) + length f.settled
 settled_push n [] f =
-    let one = length-append (labels_of n f.settled) [] in
+    let one = length-append (labels_told n f.settled) [] in
     let long = length-map f.settled (λ (e : Entry). let l : Label = record { node = n; cost = e.cost; arc = e.arc } in l) in
     omega (arith, one, long)
 settled_push n (g ∷ fs) f =
     let rest = settled_push (n + 1) fs f in
-    let whole = length-append (labels_of n g.settled) (settled_from (n + 1) (fs ++ f ∷ [])) in
-    let before = length-append (labels_of n g.settled) (settled_from (n + 1) fs) in
+    let whole = length-append (labels_told n g.settled) (settled_from (n + 1) (fs ++ f ∷ [])) in
+    let before = length-append (labels_told n g.settled) (settled_from (n + 1) fs) in
     omega (arith, rest, whole, before)
 
 -- the labels counted so far, and those of one front more
@@ -52,13 +52,13 @@ counted_more fs i f count n more within at counted is_n is_more =
     omega (arith, whole, last, counted, is_n, is_more)
 
 -- a label is that of an entry of its node
-in_labels : (n : ℕ) (es : List Entry) (v : ℕ) (e : Entry) → Contains (labels_of n es) (record { node = v; cost = e.cost; arc = e.arc }) ↔ ((v ≡ n) × Contains es e)
+in_labels : (n : ℕ) (es : List Entry) (v : ℕ) (e : Entry) → Contains (labels_told n es) (record { node = v; cost = e.cost; arc = e.arc }) ↔ ((v ≡ n) × Contains es e)
 in_labels n es v e = (
   λ there.
       let (x, x_in, is) = of_map (λ (y : Entry). let l : Label = record { node = n; cost = y.cost; arc = y.arc } in l) es
       (record { node = v; cost = e.cost; arc = e.arc }) there in
       (ap (λ (l : Label). l.node) is, subst (Contains es) (sym (ap (λ (l : Label). let y : Entry = record { cost = l.cost; arc = l.arc } in y) is)) x_in),
-  λ h. subst (λ u. Contains (labels_of n es) (record { node = u; cost = e.cost; arc = e.arc })) (sym h.0)
+  λ h. subst (λ u. Contains (labels_told n es) (record { node = u; cost = e.cost; arc = e.arc })) (sym h.0)
       (in_map (λ (y : Entry). let l : Label = record { node = n; cost = y.cost; arc = y.arc } in l) es e h.1),
 )
 
@@ -66,7 +66,7 @@ pub in_settled : (n : ℕ) (fs : List Front) (v : ℕ) (e : Entry) → Contains 
     ↔ ((k : ℕ) × (v ≡ n + k) × Contains (get_or fs k empty_front).settled e)
 in_settled n [] v e = (λ there. absurd (in_none (record { node = v; cost = e.cost; arc = e.arc }) there), λ h. absurd (in_none e h.2))
 in_settled n (f ∷ fs) v e = (
-  λ there. elim ((in_append (labels_of n f.settled) (settled_from (n + 1) fs) (record { node = v; cost = e.cost; arc = e.arc })).0 there) [
+  λ there. elim ((in_append (labels_told n f.settled) (settled_from (n + 1) fs) (record { node = v; cost = e.cost; arc = e.arc })).0 there) [
     | inl here ↦ let (at, e_in) = (in_labels n f.settled v e).0 here in (zero, omega (arith, at), e_in)
     | inr later ↦ let (k, at, e_in) = (in_settled (n + 1) fs v e).0 later in (suc k, omega (arith, at), e_in)
   ],
@@ -76,19 +76,19 @@ in_settled n (f ∷ fs) v e = (
       → Contains (settled_from (n + 1) fs) (record { node = v; cost = e.cost; arc = e.arc }))
       → (k : ℕ) × (v ≡ n + k) × Contains (get_or (f ∷ fs) k empty_front).settled e
       → Contains (settled_from n (f ∷ fs)) (record { node = v; cost = e.cost; arc = e.arc })
-  back later (zero, at, e_in) = (in_append (labels_of n f.settled) (settled_from (n + 1) fs) (record { node = v; cost = e.cost; arc = e.arc })).1
+  back later (zero, at, e_in) = (in_append (labels_told n f.settled) (settled_from (n + 1) fs) (record { node = v; cost = e.cost; arc = e.arc })).1
       (inl ((in_labels n f.settled v e).1 (omega (arith, at), e_in)))
-  back later (suc k, at, e_in) = (in_append (labels_of n f.settled) (settled_from (n + 1) fs) (record { node = v; cost = e.cost; arc = e.arc })).1
+  back later (suc k, at, e_in) = (in_append (labels_told n f.settled) (settled_from (n + 1) fs) (record { node = v; cost = e.cost; arc = e.arc })).1
       (inr (later k (omega (arith, at)) e_in))
 
 -- no two labels of different costs are of one pair
-labels_once : (n : ℕ) (es : List Entry) → AllPairs (λ a b. a.cost ≢ b.cost) es → AllPairs (λ l m. ¬ IsSamePair l m) (labels_of n es)
+labels_once : (n : ℕ) (es : List Entry) → AllPairs (λ a b. a.cost ≢ b.cost) es → AllPairs (λ l m. ¬ IsSamePair l m) (labels_told n es)
 labels_once n es differ = pairs_map (λ a b. a.cost ≢ b.cost) (λ l m. ¬ IsSamePair l m)
     (λ (e : Entry). let l : Label = record { node = n; cost = e.cost; arc = e.arc } in l) (λ a b other same. other same.cost) es differ
 
 settled_once : (d n : ℕ) (fs : List Front) → ((k : ℕ) → IsFront d (get_or fs k empty_front)) → AllPairs (λ l m. ¬ IsSamePair l m) (settled_from n fs)
 settled_once d n [] fronts = pairs_none (λ l m. ¬ IsSamePair l m)
-settled_once d n (f ∷ fs) fronts = pairs_append (λ l m. ¬ IsSamePair l m) (labels_of n f.settled) (settled_from (n + 1) fs)
+settled_once d n (f ∷ fs) fronts = pairs_append (λ l m. ¬ IsSamePair l m) (labels_told n f.settled) (settled_from (n + 1) fs)
     (labels_once n f.settled differ) (settled_once d (n + 1) fs (λ k. fronts (suc k))) (λ l m l_in m_in same.
     let (at, l_there) = (in_labels n f.settled l.node (record { cost = l.cost; arc = l.arc })).0 l_in in
     let (k, later, m_there) = (in_settled (n + 1) fs m.node (record { cost = m.cost; arc = m.arc })).0 m_in in
@@ -166,7 +166,7 @@ told_costs (x ∷ xs) = ap (λ (cs : List (List ℕ)). x.cost.0 ∷ cs) (told_co
 module _ (d start target : ℕ) (es : List Entry) (f : Fronts) (taken : front_at f target ≡ empty_front) where
   pub found_at_target : (e : Entry) → Contains (found_in d start target es f).settled (record { node = target; cost = e.cost; arc = e.arc }) ↔ Contains es e
   found_at_target e = (
-    λ there. elim ((in_append (labels_of target es) (settled_from 0 f.fronts) (label target e)).0 there) [
+    λ there. elim ((in_append (labels_told target es) (settled_from 0 f.fronts) (label target e)).0 there) [
       | inl here ↦ ((in_labels target es target e).0 here).1
       | inr later ↦
           let (k, at, e_in) = (in_settled 0 f.fronts target e).0 later in
@@ -174,20 +174,20 @@ module _ (d start target : ℕ) (es : List Entry) (f : Fronts) (taken : front_at
           let there_too = subst (λ u. Contains (front_at f u).settled e) is e_in in
           absurd (in_none e (subst (λ (g : Front). Contains g.settled e) taken there_too))
     ],
-    λ there. (in_append (labels_of target es) (settled_from 0 f.fronts) (label target e)).1 (inl ((in_labels target es target e).1 (refl, there))),
+    λ there. (in_append (labels_told target es) (settled_from 0 f.fronts) (label target e)).1 (inl ((in_labels target es target e).1 (refl, there))),
   )
 
   pub found_elsewhere : (v : ℕ) → v ≢ target → (e : Entry)
       → Contains (found_in d start target es f).settled (record { node = v; cost = e.cost; arc = e.arc }) ↔ Contains (front_at f v).settled e
   found_elsewhere v other e = (
-    λ there. elim ((in_append (labels_of target es) (settled_from 0 f.fronts) (label v e)).0 there) [
+    λ there. elim ((in_append (labels_told target es) (settled_from 0 f.fronts) (label v e)).0 there) [
       | inl here ↦ absurd (other ((in_labels target es v e).0 here).0)
       | inr later ↦
           let (k, at, e_in) = (in_settled 0 f.fronts v e).0 later in
           let is : k ≡ v = omega (arith, at) in
           subst (λ u. Contains (front_at f u).settled e) is e_in
     ],
-    λ there. (in_append (labels_of target es) (settled_from 0 f.fronts) (label v e)).1
+    λ there. (in_append (labels_told target es) (settled_from 0 f.fronts) (label v e)).1
         (inr ((in_settled 0 f.fronts v e).1 (v, omega arith, there))),
   )
 
@@ -195,7 +195,7 @@ module _ (d start target : ℕ) (es : List Entry) (f : Fronts) (taken : front_at
   pub counted_all : (count more : ℕ) → count ≡ counted_labels (length (settled_from 0 f.fronts)) → more ≡ min (count + length es) (2 ^ 64 - 1)
       → more ≡ counted_labels (length (found_in d start target es f).settled)
   counted_all count more counted is_more =
-      let whole = length-append (labels_of target es) (settled_from 0 f.fronts) in
+      let whole = length-append (labels_told target es) (settled_from 0 f.fronts) in
       let here = length-map es (λ (e : Entry). let l : Label = record { node = target; cost = e.cost; arc = e.arc } in l) in
       omega (arith, whole, here, counted, is_more)
 
@@ -210,7 +210,7 @@ module _ (d start target : ℕ) (before after : Fronts) (list : List (FrontEntry
       → Contains (found_in d start target (map (told_entry {D = d}) list) after).settled (record { node = v; cost = e.cost; arc = e.arc })
       ↔ Contains (front_at before v).settled e
   settled_in_fronts v e = (
-    λ there. elim ((in_append (labels_of target (map (told_entry {D = d}) list)) (settled_from 0 after.fronts) (label v e)).0 there) [
+    λ there. elim ((in_append (labels_told target (map (told_entry {D = d}) list)) (settled_from 0 after.fronts) (label v e)).0 there) [
       | inl here ↦
           let (at, e_in) = (in_labels target (map (told_entry {D = d}) list) v e).0 here in
           subst (λ u. Contains (front_at before u).settled e) (sym at) ((lists.exact e).0 e_in)
@@ -222,7 +222,7 @@ module _ (d start target : ℕ) (before after : Fronts) (list : List (FrontEntry
             | inr other ↦ subst (λ (f : Front). Contains f.settled e) (elsewhere.others v other) there_too
           ]
     ],
-    λ there. (in_append (labels_of target (map (told_entry {D = d}) list)) (settled_from 0 after.fronts) (label v e)).1 (elim (cases_number v target) [
+    λ there. (in_append (labels_told target (map (told_entry {D = d}) list)) (settled_from 0 after.fronts) (label v e)).1 (elim (cases_number v target) [
       | inl same ↦ inl ((in_labels target (map (told_entry {D = d}) list) v e).1
           (same, (lists.exact e).1 (subst (λ u. Contains (front_at before u).settled e) same there)))
       | inr other ↦ inr ((in_settled 0 after.fronts v e).1
@@ -238,7 +238,7 @@ module _ (d start target : ℕ) (before after : Fronts) (list : List (FrontEntry
     nodes = subst (λ n. n ≤ max_nodes) (sym elsewhere.nodes) few;
     start = subst (λ n. IsNode n start) (sym elsewhere.nodes) start_in;
     target = subst (λ n. IsNode n target) (sym elsewhere.nodes) target_in;
-    once = pairs_append (λ l m. ¬ IsSamePair l m) (labels_of target (map (told_entry {D = d}) list)) (settled_from 0 after.fronts)
+    once = pairs_append (λ l m. ¬ IsSamePair l m) (labels_told target (map (told_entry {D = d}) list)) (settled_from 0 after.fronts)
         (labels_once target (map (told_entry {D = d}) list) listed_differ) (settled_once d 0 after.fronts fronts) (λ l m l_in m_in same.
         let (at, l_there) = (in_labels target (map (told_entry {D = d}) list) l.node (record { cost = l.cost; arc = l.arc })).0 l_in in
         let (k, m_at, m_there) = (in_settled 0 after.fronts m.node (record { cost = m.cost; arc = m.arc })).0 m_in in
@@ -262,12 +262,12 @@ module _ (d start target : ℕ) (before after : Fronts) (list : List (FrontEntry
           let (e, e_in, is) = of_map (λ (x : Entry). x.cost) (map (told_entry {D = d}) list) c there in
           subst (HasSettled (found_in d start target (map (told_entry {D = d}) list) after) target) (sym is) (record {
             arc = e.arc;
-            settled = (in_append (labels_of target (map (told_entry {D = d}) list)) (settled_from 0 after.fronts) (label target e)).1
+            settled = (in_append (labels_told target (map (told_entry {D = d}) list)) (settled_from 0 after.fronts) (label target e)).1
                 (inl ((in_labels target (map (told_entry {D = d}) list) target e).1 (refl, e_in)));
           }),
       λ has.
           let e : Entry = record { cost = c; arc = has.arc } in
-          elim ((in_append (labels_of target (map (told_entry {D = d}) list)) (settled_from 0 after.fronts) (label target e)).0 has.settled) [
+          elim ((in_append (labels_told target (map (told_entry {D = d}) list)) (settled_from 0 after.fronts) (label target e)).0 has.settled) [
             | inl here ↦ in_map (λ (x : Entry). x.cost) (map (told_entry {D = d}) list) e ((in_labels target (map (told_entry {D = d}) list) target e).0 here).1
             | inr later ↦
                 let (k, at, e_in) = (in_settled 0 after.fronts target e).0 later in

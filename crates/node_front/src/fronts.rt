@@ -1,6 +1,6 @@
 ghost use Rattle.std.specs.Prelude.{◌≡◌, ◌≢◌, ◌↔◌, ℕ, ◌≤◌, ◌+◌, ◌<◌, List, [], ◌∷◌, map, length, slice_index, IsTrue, IfOk, OnOk, OnErr, All, AllPairs, Contains, Some};
 ghost use Rattle.cost_vector.specs.Costs.{max_criteria, min_criteria};
-ghost use Rattle.node_front.specs.Deltas.{Appends, AreDeltas, AreSomeDeltas, HasRoom, MergesAll};
+ghost use Rattle.node_front.specs.Deltas.{AppendsDelta, AreDeltas, AreSomeDeltas, HasRoom, MergesAll};
 ghost use Rattle.pareto_front.specs.Calls.{Enters, GrowsBy, ListsSettled, Relabels, Settles, entry_of};
 ghost use Rattle.pareto_front.specs.Fronts.{HasCost, IsCovered, IsFront, SparesSettled, empty_front, entries};
 ghost use Rattle.pareto_front.specs.Merging.{IsMerged, IsAdded, IsRemoved};
@@ -111,7 +111,7 @@ impl<const D: usize, F: ParetoFront<D> + Drop> Fronts<D, F> {
         self.fronts[place].settle(&spot.cost);
     }
 
-    /// Appends what the candidates, which are all of one node, make of its front.
+    /// AppendsDelta what the candidates, which are all of one node, make of its front.
     pub fn merge(
         &self,
         node: NodeNo,
@@ -122,7 +122,7 @@ impl<const D: usize, F: ParetoFront<D> + Drop> Fronts<D, F> {
         requires some { 0 < length candidates.now }
         requires at_node { All (λ l. l.node.0 ≡ node.0) candidates.now }
         requires spares { All (λ l. SparesSettled (front_at self.now node.0) l.cost.0) candidates.now }
-        ensures { IfOk result (λ _. Appends node.0 (front_at self.now node.0)
+        ensures { IfOk result (λ _. AppendsDelta node.0 (front_at self.now node.0)
             (map entry_of candidates.now) deltas.old deltas.new) }
     {
         let _kept = &self.places;

@@ -41,8 +41,10 @@ spots_again {D} v (s ∷ ss) at =
     ap (λ u. let t : CompactSpot D = spot_told u s.cost.0 in t ∷ ss) (at s (in_first s ss))
     ∙ ap (λ (ts : List (CompactSpot D)). spot_told v s.cost.0 ∷ ts) (spots_again v ss (λ t there. at t (in_rest s ss t there)))
 
-module _ {D : ℕ} (front : Front) (v : ℕ) (candidates : List (CompactLabel D)) (survivors : List (Survivor D)) (gathering : IsGathering front candidates survivors)
-    (marks : All (IsMarked v front) survivors) (apart : AreApart (entries front)) (spares : All (λ (l : CompactLabel D). SparesSettled front l.cost.0) candidates) where
+module _ {D : ℕ} (front : Front) (v : ℕ) (candidates : List (CompactLabel D)) (survivors : List (Survivor D)) (gathering : IsGathering front
+    candidates survivors)
+    (marks : All (IsMarked v front) survivors) (apart : AreApart (entries front)) (spares : All (λ (l : CompactLabel D). SparesSettled front
+    l.cost.0) candidates) where
   news_of : (s : Survivor D) → Contains survivors s → IsNews front (map entry_of candidates) (entry_of s.label)
   news_of s there = (gathering.news.exact (entry_of s.label)).0 (in_told survivors s there)
 
@@ -87,7 +89,11 @@ module _ {D : ℕ} (front : Front) (v : ℕ) (candidates : List (CompactLabel D)
       λ there. let (s, s_in, new, is) = told_where (λ (t : Survivor D). t.is_new) e there in
           subst (IsAdded front (map entry_of candidates)) (sym is) (record { stays = (news_of s s_in).stays; new = (mark_of s s_in).is_new.0 new }),
       λ added.
-          let news : IsNews front (map entry_of candidates) e = record { stays = added.stays; not_old = λ old. added.new (has_cost_of (entries front) e old) } in
+          let news : IsNews front (map entry_of candidates) e = record {
+            stays = added.stays;
+            not_old = λ old. added.new (has_cost_of (entries front)
+                e old);
+          } in
           let (s, s_in, is) = of_told survivors e ((gathering.news.exact e).1 news) in
           let new = (mark_of s s_in).is_new.1 (subst (λ (x : Entry). ¬ HasCost (entries front) x.cost) is added.new) in
           subst (Contains (told (filter (λ (t : Survivor D). t.is_new) survivors))) (sym is)
@@ -156,7 +162,8 @@ module _ {D : ℕ} (front : Front) (v : ℕ) (candidates : List (CompactLabel D)
         let less = AtMost-Dominates b.cost e.cost c below removed.dominated.dominates in (
           elim ((has_append front.settled front.unsettled c).0 removed.old) [
             | inr unsettled ↦ unsettled
-            | inl settled ↦ absurd (candidate_spares e removed.dominated.contains (record { cost = c; arc = settled.arc }) settled.contains removed.dominated.dominates)
+            | inl settled ↦ absurd (candidate_spares e removed.dominated.contains (record { cost = c; arc = settled.arc }) settled.contains
+                removed.dominated.dominates)
           ],
           elim (told_entry_in (entries front) b) [
             | inl old ↦ absurd (apart_not_dominated (entries front) apart b (record { cost = c; arc = removed.old.arc }) old removed.old.contains less)
@@ -200,8 +207,10 @@ module _ {D : ℕ} (front : Front) (v : ℕ) (candidates : List (CompactLabel D)
   appended_at was before after first second is_was is_first is_second grows added lowered =
       subst (λ (d : Deltas D). AppendsDelta v front (map entry_of candidates) d after) is_was (appended_is_delta was after
       (subst (λ (ss : List (Survivor D)). GrowsBy v (λ c. HasCost front.unsettled c × IsDominated (told ss) c) was.removed after.removed) is_first grows)
-      (subst (λ (ss : List (Survivor D)). after.added ≡ was.added ++ map (λ (s : Survivor D). s.label) (filter (λ (s : Survivor D). s.is_new) ss)) is_second added)
-      (subst (λ (ss : List (Survivor D)). after.lowered ≡ was.lowered ++ map (λ (s : Survivor D). s.label) (filter (λ (s : Survivor D). not s.is_new) ss)) is_second lowered))
+      (subst (λ (ss : List (Survivor D)). after.added ≡ was.added ++ map (λ (s : Survivor D). s.label) (filter (λ (s : Survivor D). s.is_new) ss))
+      is_second added)
+      (subst (λ (ss : List (Survivor D)). after.lowered ≡ was.lowered ++ map (λ (s : Survivor D). s.label) (filter (λ (s : Survivor D). not s.is_new)
+      ss)) is_second lowered))
 
 -- what follows where both hold at an Ok
 pub if_ok_both : {X E A B C : Type 0} (r : Result X E) → IfOk r (λ _. A) → IfOk r (λ _. B) → (A → B → C) → IfOk r (λ _. C)

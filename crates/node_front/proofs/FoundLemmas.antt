@@ -52,7 +52,8 @@ counted_more fs i f count n more within at counted is_n is_more =
     omega (arith, whole, last, counted, is_n, is_more)
 
 -- a label is that of an entry of its node
-in_labels : (n : ℕ) (es : List Entry) (v : ℕ) (e : Entry) → Contains (labels_told n es) (record { node = v; cost = e.cost; arc = e.arc }) ↔ ((v ≡ n) × Contains es e)
+in_labels : (n : ℕ) (es : List Entry) (v : ℕ) (e : Entry)
+    → Contains (labels_told n es) (record { node = v; cost = e.cost; arc = e.arc }) ↔ ((v ≡ n) × Contains es e)
 in_labels n es v e = (
   λ there.
       let (x, x_in, is) = of_map (λ (y : Entry). let l : Label = record { node = n; cost = y.cost; arc = y.arc } in l) es
@@ -117,7 +118,8 @@ pairs_cases R (z ∷ zs) pairs x y x_in y_in = elim (cases_in z zs x x_in) [
 module _ {D : ℕ} (list : List (FrontEntry D)) (ascending : AllPairs LexLess (map (λ (e : FrontEntry D). e.cost.0) list)) where
   one_of_cost : (x y : FrontEntry D) → Contains list x → Contains list y → x.cost.0 ≡ y.cost.0 → x ≡ y
   one_of_cost x y x_in y_in same =
-      elim (pairs_cases (λ (a b : FrontEntry D). LexLess a.cost.0 b.cost.0) list (pairs_unmap LexLess (λ (e : FrontEntry D). e.cost.0) list ascending) x y x_in y_in) [
+      elim (pairs_cases (λ (a b : FrontEntry D). LexLess a.cost.0 b.cost.0) list (pairs_unmap LexLess (λ (e : FrontEntry D). e.cost.0) list
+      ascending) x y x_in y_in) [
         | inl is ↦ is
         | inr (inl less) ↦ absurd (LexLess-irrefl x.cost.0 (subst (LexLess x.cost.0) (sym same) less))
         | inr (inr less) ↦ absurd (LexLess-irrefl y.cost.0 (subst (LexLess y.cost.0) same less))
@@ -139,7 +141,8 @@ module _ {D : ℕ} (list : List (FrontEntry D)) (ascending : AllPairs LexLess (m
   )
 
 -- where no entry has the cost, there is no arc
-pub arc_missing : {D : ℕ} (list : List (FrontEntry D)) (c : List ℕ) → ((k : ℕ) (d : FrontEntry D) → k < length list → (get_or list k d).cost.0 ≢ c) → (arc : ArcNo)
+pub arc_missing : {D : ℕ} (list : List (FrontEntry D)) (c : List ℕ) → ((k : ℕ) (d : FrontEntry D) → k < length list → (get_or list k d).cost.0 ≢ c)
+    → (arc : ArcNo)
     → (None ≡ Some arc) ↔ Contains (map (told_entry {D = D}) list) (record { cost = c; arc = arc.0 })
 arc_missing {D} list c none arc = (
   λ is. absurd cc,
@@ -243,7 +246,8 @@ module _ (d start target : ℕ) (before after : Fronts) (list : List (FrontEntry
         let (at, l_there) = (in_labels target (map (told_entry {D = d}) list) l.node (record { cost = l.cost; arc = l.arc })).0 l_in in
         let (k, m_at, m_there) = (in_settled 0 after.fronts m.node (record { cost = m.cost; arc = m.arc })).0 m_in in
         let is : k ≡ target = omega (arith, at, m_at, same.node) in
-        none_taken (record { cost = m.cost; arc = m.arc }) (subst (λ u. Contains (front_at after u).settled (record { cost = m.cost; arc = m.arc })) is m_there));
+        none_taken (record { cost = m.cost; arc = m.arc }) (subst (λ u. Contains (front_at after u).settled (record { cost = m.cost; arc = m.arc }))
+        is m_there));
     ascending = subst (AllPairs LexLess) (sym costs_again) lists.ascending;
     costs = costs_settled;
   } where

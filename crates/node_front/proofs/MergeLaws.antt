@@ -196,7 +196,8 @@ module _ (before : Front) (candidates : List Entry) (delta : Delta) (is : IsDelt
 
   -- ---- step by step
 
-  module _ (xs : List Entry) (mid : Front) (sub : (x : Entry) → Contains xs x → Contains (delta.added ++ delta.lowered) x) (merged : IsMerged before xs mid) (e : Entry) where
+  module _ (xs : List Entry) (mid : Front) (sub : (x : Entry) → Contains xs x
+      → Contains (delta.added ++ delta.lowered) x) (merged : IsMerged before xs mid) (e : Entry) where
     mid_known : (x : Entry) → Contains (entries before ++ xs) x → Contains (entries before ++ candidates) x
     mid_known x there = (in_append (entries before) candidates x).1 (elim ((in_append (entries before) xs x).0 there) [
       | inl old ↦ inl old

@@ -68,7 +68,14 @@ module _ (before : Front) (e : Entry) (apart : AreApart (entries before)) where
           λ stays. elim (cases_push (entries before) e x stays.contains) [ inl old ↦ old | inr new ↦ same_as_old b there below no_more x new stays ],
         );
         settled = λ c. (
-          λ h. (h, λ by. none (record { cost = c; arc = h.arc }) (Contains-append_left before.settled before.unsettled (record { cost = c; arc = h.arc }) h.contains) ((by_one e c).0 by)),
+          λ h. (
+            h,
+            λ by. none (record { cost = c; arc = h.arc }) (Contains-append_left before.settled before.unsettled (record {
+              cost = c;
+              arc =
+                  h.arc;
+            }) h.contains) ((by_one e c).0 by),
+          ),
           λ h. h.0,
         );
       } where
@@ -106,7 +113,8 @@ module _ (before : Front) (e : Entry) (apart : AreApart (entries before)) where
   module _ (after : Front) (arc : ℕ) (there : Contains (entries before) (record { cost = e.cost; arc = arc })) (no_more : e.arc ≤ arc)
       (relabels : Relabels before e after) where
     relabelled_entries : (x : Entry) → Contains (entries after) x ↔ ((Contains (entries before) x × (x.cost ≢ e.cost)) ⊎ (x ≡ e))
-    relabelled_entries x = parts (in_append after.settled after.unsettled x) (in_append before.settled before.unsettled x) (relabels.settled x) (relabels.unsettled x)
+    relabelled_entries x = parts (in_append after.settled after.unsettled x) (in_append before.settled before.unsettled x) (relabels.settled x)
+        (relabels.unsettled x)
         (has_append before.settled before.unsettled e.cost) (record { arc = arc; contains = there }) where
           parts : {A S U E T V N H K L Q : Type 0} → (A ↔ (S ⊎ U)) → (E ↔ (T ⊎ V)) → (S ↔ ((T × N) ⊎ (H × Q))) → (U ↔ ((V × N) ⊎ (K × Q))) → (L ↔ (H ⊎ K)) → L
               → (A ↔ ((E × N) ⊎ Q))
@@ -207,9 +215,10 @@ module _ (before : Front) (e : Entry) (apart : AreApart (entries before)) where
       );
     } where
       entered_entries : (x : Entry) → Contains (entries after) x ↔ ((Contains (entries before) x × (¬ Dominates e.cost x.cost)) ⊎ (x ≡ e))
-      entered_entries x = parts (in_append after.settled after.unsettled x) (in_append before.settled before.unsettled x) (enters.settled x) (enters.unsettled x) (spares x) where
-        parts : {A S U E T V N Q : Type 0} → (A ↔ (S ⊎ U)) → (E ↔ (T ⊎ V)) → (S ↔ T) → (U ↔ ((V × (¬ N)) ⊎ Q)) → (T → ¬ N) → (A ↔ ((E × (¬ N)) ⊎ Q))
-        parts a e s u spared = grind arith
+      entered_entries x = parts (in_append after.settled after.unsettled x) (in_append before.settled before.unsettled x) (enters.settled x)
+          (enters.unsettled x) (spares x) where
+            parts : {A S U E T V N Q : Type 0} → (A ↔ (S ⊎ U)) → (E ↔ (T ⊎ V)) → (S ↔ T) → (U ↔ ((V × (¬ N)) ⊎ Q)) → (T → ¬ N) → (A ↔ ((E × (¬ N)) ⊎ Q))
+            parts a e s u spared = grind arith
 
 -- the entries are apart afterwards
 pub merged_apart : (before after : Front) (candidates : List Entry) → IsMerged before candidates after → AreApart (entries after)
@@ -236,12 +245,14 @@ relabelled_apart before after e relabels apart x y x_in y_in below =
       | inl x_old ↦ elim (old y y_in) [
         | inl y_old ↦ apart x y x_old.0 y_old.0 below
         | inr y_new ↦
-            let is = apart x (record { cost = e.cost; arc = y_new.0.arc }) x_old.0 y_new.0.contains (subst (λ (w : Entry). AtMost x.cost w.cost) y_new.1 below) in
+            let is = apart x (record { cost = e.cost; arc = y_new.0.arc }) x_old.0 y_new.0.contains (subst (λ (w : Entry). AtMost x.cost w.cost)
+            y_new.1 below) in
             absurd (x_old.1 (ap (λ (w : Entry). w.cost) is))
       ]
       | inr x_new ↦ elim (old y y_in) [
         | inl y_old ↦
-            let is = apart (record { cost = e.cost; arc = x_new.0.arc }) y x_new.0.contains y_old.0 (subst (λ (w : Entry). AtMost w.cost y.cost) x_new.1 below) in
+            let is = apart (record { cost = e.cost; arc = x_new.0.arc }) y x_new.0.contains y_old.0 (subst (λ (w : Entry). AtMost w.cost y.cost)
+            x_new.1 below) in
             absurd (y_old.1 (sym (ap (λ (w : Entry). w.cost) is)))
         | inr y_new ↦ x_new.1 ∙ sym y_new.1
       ]

@@ -58,7 +58,8 @@ module _ {D : ℕ} (front : Front) (candidates : List (CompactLabel D)) (survivo
     nodes_before v nodes =
         let all = subst (λ (ls : List (CompactLabel D)). All (λ (l : CompactLabel D). l.node.0 ≡ v) ls) is_more nodes in (
           all_from_in (λ (l : CompactLabel D). l.node.0 ≡ v) candidates
-              (λ l there. each_in (λ (m : CompactLabel D). m.node.0 ≡ v) (candidates ++ label ∷ []) all l (Contains-append_left candidates (label ∷ []) l there)),
+              (λ l there. each_in (λ (m : CompactLabel D). m.node.0 ≡ v) (candidates ++ label ∷ []) all l (Contains-append_left candidates (label ∷
+              []) l there)),
           each_in (λ (m : CompactLabel D). m.node.0 ≡ v) (candidates ++ label ∷ []) all label
               (Contains-append_right candidates (label ∷ []) label (in_first label [])),
         )
@@ -91,7 +92,8 @@ module _ {D : ℕ} (front : Front) (candidates : List (CompactLabel D)) (survivo
       };
       marked = λ v nodes.
           let (before, at) = nodes_before v nodes in
-          all_from_in (IsMarked v front) after (λ s there. elim (cases_push survivors new s (each_in (Contains (survivors ++ new ∷ [])) after members s there)) [
+          all_from_in (IsMarked v front) after (λ s there. elim (cases_push survivors new s (each_in (Contains (survivors ++ new ∷ [])) after members
+          s there)) [
             | inl old ↦ each_in (IsMarked v front) survivors (gathering.marked v before) s old
             | inr last ↦ subst (IsMarked v front) (sym last) (subst (λ u. IsMarked u front new) at marked)
           ]);

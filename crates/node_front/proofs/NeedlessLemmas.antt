@@ -92,7 +92,12 @@ module _ (known : List Entry) (e : Entry) where
     is_old stays new =
         let b_in = Contains-append_left known (e ∷ []) b among.contains in
         elim among.needless [
-          | inl less ↦ absurd (stays.nondominated (record { by = b; contains = b_in; dominates = subst (λ (w : Entry). Dominates b.cost w.cost) (sym new) less }))
+          | inl less ↦ absurd (stays.nondominated (record {
+            by = b;
+            contains = b_in;
+            dominates = subst (λ (w : Entry). Dominates b.cost w.cost) (sym
+                new) less;
+          }))
           | inr equal ↦
               let costs = equal.0 ∙ ap (λ (w : Entry). w.cost) (sym new) in
               let least = stays.least b b_in costs in
@@ -182,7 +187,10 @@ module _ (before : Front) (candidates : List Entry) (e : Entry) where
           y = among.by
 
           by_less : (b : Entry) → Stays (entries before ++ candidates) b → AtMost b.cost y.cost → (b.cost ≡ e.cost) ⊎ (b.cost ≢ e.cost) → IsNeedless e b
-          by_less b stays below (inr other) = inl (record { at_most = AtMost-trans b.cost y.cost e.cost below (needless_at_most e y among.needless); differs = other })
+          by_less b stays below (inr other) = inl (record {
+            at_most = AtMost-trans b.cost y.cost e.cost below (needless_at_most e y among.needless);
+            differs = other;
+          })
           by_less b stays below (inl same) = elim among.needless [
             | inl less ↦ absurd (Dominates-irrefl e.cost (subst (λ c. Dominates c e.cost) same (AtMost-Dominates b.cost y.cost e.cost below less)))
             | inr equal ↦ let least = stays.least y among.contains (equal.0 ∙ sym same) in inr (same, omega (arith, least, equal.1))
@@ -209,7 +217,12 @@ module _ (before : Front) (candidates : List Entry) (e : Entry) where
           let none : ¬ IsNeedlessAmong list e = λ among.
           let b_in = Contains-append_left list (e ∷ []) among.by among.contains in
           elim among.needless [
-            | inl less ↦ stays.nondominated (record { by = among.by; contains = b_in; dominates = subst (λ (w : Entry). Dominates among.by.cost w.cost) (sym new) less })
+            | inl less ↦ stays.nondominated (record {
+              by = among.by;
+              contains = b_in;
+              dominates = subst (λ (w : Entry). Dominates among.by.cost
+                  w.cost) (sym new) less;
+            })
             | inr equal ↦
                 let costs = equal.0 ∙ ap (λ (w : Entry). w.cost) (sym new) in
                 let least = stays.least among.by b_in costs in

@@ -139,12 +139,14 @@ module _ (places : List ℕ) (states : List Front) (placed : IsPlaced places sta
       | inl a_new ↦ elim (cases_number b v) [
         | inl b_new ↦ a_new ∙ sym b_new
         | inr b_old ↦
-            let at_a : get_or (set places v (length states)) a 0 ≡ length states = subst (λ w. get_or (set places v (length states)) w 0 ≡ length states) (sym a_new) new_place in
+            let at_a : get_or (set places v (length states)) a 0 ≡ length states = subst (λ w. get_or (set places v (length states)) w 0 ≡ length
+            states) (sym a_new) new_place in
             absurd (omega (arith, same, at_a, old_place b b_old, place_begun b))
       ]
       | inr a_old ↦ elim (cases_number b v) [
         | inl b_new ↦
-            let at_b : get_or (set places v (length states)) b 0 ≡ length states = subst (λ w. get_or (set places v (length states)) w 0 ≡ length states) (sym b_new) new_place in
+            let at_b : get_or (set places v (length states)) b 0 ≡ length states = subst (λ w. get_or (set places v (length states)) w 0 ≡ length
+            states) (sym b_new) new_place in
             absurd (omega (arith, same, at_b, old_place a a_old, place_begun a))
         | inr b_old ↦ placed.own a b (sym (old_place a a_old) ∙ same ∙ old_place b b_old) (λ zero. some (old_place a a_old ∙ zero))
       ]
@@ -189,7 +191,8 @@ module _ (places : List ℕ) (states : List Front) (placed : IsPlaced places sta
           at : (w : ℕ) → get_or (states ++ state ∷ []) (get_or (set places v (length states)) w 0) empty_front ≡ get_or states (get_or places w 0) empty_front
           at w = elim (cases_number w v) [
             | inl new ↦
-                subst (λ u. get_or (states ++ state ∷ []) (get_or (set places v (length states)) u 0) empty_front ≡ get_or states (get_or places u 0) empty_front)
+                subst (λ u. get_or (states ++ state ∷ []) (get_or (set places v (length states)) u 0) empty_front ≡ get_or states (get_or places u 0)
+                empty_front)
                 (sym new)
                 (ap (λ k. get_or (states ++ state ∷ []) k empty_front) new_place ∙ get_or_push states state empty_front (length states) refl ∙ empty
                 ∙ sym placed.first ∙ ap (λ k. get_or states k empty_front) (sym unreached))
@@ -334,6 +337,7 @@ pub same_state_fronts : {X : Type 0} (state : X → Front) (places : List ℕ) (
 same_state_fronts state places xs k old new read same = ap (fronts_by places) (map-set state xs k new ∙ again) where
   again : set (map state xs) k (state new) ≡ map state xs
   again = elim (cases_lt k (length xs)) [
-    | inl within ↦ ap (set (map state xs) k) (same ∙ ap state read ∙ sym (get_or-map state xs k old empty_front within)) ∙ set-get_or (map state xs) k empty_front
+    | inl within ↦ ap (set (map state xs) k) (same ∙ ap state read ∙ sym (get_or-map state xs k old empty_front within)) ∙ set-get_or (map state xs)
+        k empty_front
     | inr past ↦ set_past (map state xs) k (state new) (omega (arith, past, length-map xs state))
   ]

@@ -164,20 +164,21 @@ module _ {D : ℕ} (v : ℕ) (P Q R : List ℕ → Type 0) (before after found n
 
 module _ {D : ℕ} (front : Front) (survivors more : List (Survivor D)) (s : Survivor D) (is_more : more ≡ survivors ++ s ∷ []) where
   dominated_more : (c : List ℕ) → IsDominated (told more) c ↔ (IsDominated (told survivors) c ⊎ Dominates s.label.cost.0 c)
-  dominated_more c = subst (λ l. IsDominated l c ↔ (IsDominated (told survivors) c ⊎ Dominates s.label.cost.0 c)) (sym (ap told is_more ∙ told_push survivors s)) (
-    λ h. elim (cases_push (told survivors) (entry_of s.label) h.by h.contains) [
-      | inl old ↦ inl (record { by = h.by; contains = old; dominates = h.dominates })
-      | inr new ↦ inr (subst (λ (e : Entry). Dominates e.cost c) new h.dominates)
-    ],
-    elim [
-      | inl h ↦ record { by = h.by; contains = (in_append (told survivors) (entry_of s.label ∷ []) h.by).1 (inl h.contains); dominates = h.dominates }
-      | inr less ↦ record {
-        by = entry_of s.label;
-        contains = (in_append (told survivors) (entry_of s.label ∷ []) (entry_of s.label)).1 (inr (in_first (entry_of s.label) []));
-        dominates = less;
-      }
-    ],
-  )
+  dominated_more c = subst (λ l. IsDominated l c ↔ (IsDominated (told survivors) c ⊎ Dominates s.label.cost.0 c)) (sym (ap told is_more ∙ told_push
+      survivors s)) (
+        λ h. elim (cases_push (told survivors) (entry_of s.label) h.by h.contains) [
+          | inl old ↦ inl (record { by = h.by; contains = old; dominates = h.dominates })
+          | inr new ↦ inr (subst (λ (e : Entry). Dominates e.cost c) new h.dominates)
+        ],
+        elim [
+          | inl h ↦ record { by = h.by; contains = (in_append (told survivors) (entry_of s.label ∷ []) h.by).1 (inl h.contains); dominates = h.dominates }
+          | inr less ↦ record {
+            by = entry_of s.label;
+            contains = (in_append (told survivors) (entry_of s.label ∷ []) (entry_of s.label)).1 (inr (in_first (entry_of s.label) []));
+            dominates = less;
+          }
+        ],
+      )
 
   -- what one survivor more removes is what it dominates and none of the others does
   pub removed_more : (c : List ℕ)
@@ -200,5 +201,6 @@ module _ {D : ℕ} (front : Front) (survivors more : List (Survivor D)) (s : Sur
       | inr none ↦ false≢true (sym not_new ∙ marked.is_new.1 none)
       | inl old ↦
           let at = (has_append front.settled front.unsettled c).1 (inr has) in
-          apart_not_dominated (entries front) apart (record { cost = s.label.cost.0; arc = old.arc }) (record { cost = c; arc = at.arc }) old.contains at.contains less
+          apart_not_dominated (entries front) apart (record { cost = s.label.cost.0; arc = old.arc }) (record { cost = c; arc = at.arc })
+          old.contains at.contains less
     ]

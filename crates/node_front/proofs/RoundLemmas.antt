@@ -9,8 +9,9 @@ use Rattle.list_laws.proofs.Members.{in_first, of_map, of_filter, each_in, all_f
 use Rattle.list_laws.proofs.OnceLaws.{in_append, empty_if_none}
 use Rattle.compact_labels.specs.declared.label.CompactLabel.{CompactLabel}
 use Rattle.pareto_front.specs.Calls.{Enters, Relabels, entry_of}
-use Rattle.pareto_front.specs.Fronts.{Entry, Front, HasCost, IsCovered, SparesSettled, entries}
-use Rattle.pareto_front.specs.Merging.{IsMerged}
+use Rattle.pareto_front.specs.Fronts.{Entry, Front, HasCost, IsCovered, SparesSettled, empty_front, entries}
+use Rattle.road_network.specs.Network.{IsNode}
+use Rattle.pareto_front.specs.Merging.{IsDelta, IsMerged}
 use Rattle.node_front.specs.Apart.{AreApart}
 use Rattle.node_front.specs.Deltas.{Deltas, AreDeltas, HasRoom, MergesAll, delta_at, told_at}
 use Rattle.node_front.specs.NodeFronts.{Fronts, SameElsewhere, SameFronts, front_at, spare_at}
@@ -172,7 +173,8 @@ module _ {D : ℕ} (before : Fronts) (d : Deltas D) (apart : (v : ℕ) → AreAp
           let spares = each_in (λ (k : CompactLabel D). SparesSettled (front_at before k.node.0) k.cost.0) candidates are.spares m m_in in
           step_spares (front_at before v) (told_at v candidates) (delta_at v d) (are.exact v) (apart v) (told_at v (take i d.added)) (front_at now v) arrived
           (entering.merged v) (entry_of l) there
-          (subst (λ u. SparesSettled (front_at before u) l.cost.0) m_at (subst (λ (x : Entry). SparesSettled (front_at before m.node.0) x.cost) (sym is) spares))
+          (subst (λ u. SparesSettled (front_at before u) l.cost.0) m_at (subst (λ (x : Entry). SparesSettled (front_at before m.node.0) x.cost) (sym
+          is) spares))
 
       pub entering_more : (after : Fronts) → SameElsewhere l.node.0 now after → ((v : ℕ) → v ≢ l.node.0 → spare_at after v ≡ spare_at now v)
           → Enters (front_at now l.node.0) (entry_of l) (front_at after l.node.0) → spare_at now l.node.0 ≤ spare_at after l.node.0 + 1
@@ -198,7 +200,8 @@ module _ {D : ℕ} (before : Fronts) (d : Deltas D) (apart : (v : ℕ) → AreAp
         kept v other = ap (told_at v) more ∙ at_push_other v (take i d.added) l (λ e. other (sym e))
 
     -- the next lowered label
-    module _ (i : ℕ) (now : Fronts) (lowering : IsLowering before d i now) (l : CompactLabel D) (more : take (i + 1) d.lowered ≡ take i d.lowered ++ l ∷ []) where
+    module _ (i : ℕ) (now : Fronts) (lowering : IsLowering before d i now) (l : CompactLabel D) (more : take (i + 1) d.lowered ≡ take i d.lowered ++
+        l ∷ []) where
       came : (v : ℕ) (x : Entry) → Contains (told_at v d.added ++ told_at v (take i d.lowered)) x → Contains (told_at v d.added ++ told_at v d.lowered) x
       came v x there = (in_append (told_at v d.added) (told_at v d.lowered) x).1
           (elim ((in_append (told_at v d.added) (told_at v (take i d.lowered)) x).0 there) [
@@ -317,4 +320,18 @@ module _ {D : ℕ} (before : Fronts) (added : List (CompactLabel D)) where
           let pair = ascending i ((i + 1) + k) d (omega arith) far in
           let first = ap (λ (m : CompactLabel D). m.node.0) (read ∙ get_or_default added i l d within) in
           omega (arith, pair, first, ap (λ (m : CompactLabel D). m.node.0) at);
+    }
+
+-- ---- how deltas come about
+
+-- the same fronts have the same deltas
+pub deltas_of_same : {D : ℕ} (before after : Fronts) (candidates : List (CompactLabel D)) (d : Deltas D) → SameFronts before after
+    → AreDeltas before candidates d → AreDeltas after candidates d
+deltas_of_same {D} before after candidates d same are =
+    let front = λ (v : ℕ). ap (λ (fs : List Front). get_or fs v empty_front) (sym same.fronts) in record {
+      nodes = subst (λ n. All (λ (l : CompactLabel D). IsNode n l.node.0) candidates) (sym same.nodes) are.nodes;
+      spares = subst (λ (fs : List Front). All (λ (l : CompactLabel D). SparesSettled (get_or fs l.node.0 empty_front) l.cost.0) candidates)
+          (sym same.fronts) are.spares;
+      exact = λ v. subst (λ (f : Front). IsDelta f (told_at v candidates) (delta_at v d)) (front v) (are.exact v);
+      ascending = are.ascending;
     }

@@ -52,7 +52,12 @@ module _ {D : ℕ} where
         → AreSurvivors (Stays (told old ++ entry_of survivor.label ∷ [])) old
     survive_same any =
         let (by, there, needless) = found_in (λ (other : Survivor D). IsNeedless (entry_of survivor.label) (entry_of other.label)) old any in
-        let among : IsNeedlessAmong (told old) (entry_of survivor.label) = record { by = entry_of by.label; contains = in_told old by there; needless = needless } in
+        let among : IsNeedlessAmong (told old) (entry_of survivor.label) = record {
+          by = entry_of by.label;
+          contains = in_told old by there;
+          needless
+              = needless;
+        } in
         record {
           exact = λ x. both (survive.exact x) (needless_stays (told old) (entry_of survivor.label) among x);
           one_a_cost = survive.one_a_cost;

@@ -121,7 +121,8 @@ impl<const D: usize, F: ParetoFront<D> + Drop> Fronts<D, F> {
         requires node { IsNode self.now.nodes node.0 }
         requires some { 0 < length candidates.now }
         requires at_node { All (λ l. l.node.0 ≡ node.0) candidates.now }
-        requires spares { All (λ l. SparesSettled (front_at self.now node.0) l.cost.0) candidates.now }
+        requires spares { All (λ l. SparesSettled (front_at self.now node.0) l.cost.0)
+            candidates.now }
         ensures { IfOk result (λ _. AppendsDelta node.0 (front_at self.now node.0)
             (map entry_of candidates.now) deltas.old deltas.new) }
     {
@@ -181,7 +182,8 @@ impl<const D: usize, F: ParetoFront<D> + Drop> Fronts<D, F> {
         requires new { ¬ IsCovered (entries (front_at self.old label.now.node.0)) label.now.cost.0 }
         requires spares { SparesSettled (front_at self.old label.now.node.0) label.now.cost.0 }
         ensures elsewhere { SameElsewhere label.now.node.0 self.old self.new }
-        ensures others { (v : ℕ) → v ≢ label.now.node.0 → spare_at self.new v ≡ spare_at self.old v }
+        ensures others { (v : ℕ) → v ≢ label.now.node.0
+            → spare_at self.new v ≡ spare_at self.old v }
         ensures entered { Enters (front_at self.old label.now.node.0) (entry_of label.now)
             (front_at self.new label.now.node.0) }
         ensures room_left { spare_at self.old label.now.node.0
@@ -256,7 +258,8 @@ fn reach<const D: usize, F: ParetoFront<D> + Drop>(
     ensures kept { IsKept D places.new.items (map F.state fronts.new.items) }
     ensures same { fronts_by places.new.items (map F.state fronts.new.items)
         ≡ fronts_by places.old.items (map F.state fronts.old.items) }
-    ensures spares { (v : ℕ) → slice_index (spares_by places.old.items (map F.spare fronts.old.items)) v
+    ensures spares { (v : ℕ)
+        → slice_index (spares_by places.old.items (map F.spare fronts.old.items)) v
         ≤ slice_index (spares_by places.new.items (map F.spare fronts.new.items)) v }
     ensures place { IfOk result (λ k. k ≡ slice_index places.new.items node.0) }
     ensures reached { IfOk result (λ k. k ≢ 0) }

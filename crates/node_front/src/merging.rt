@@ -25,7 +25,8 @@ pub fn arrive<const D: usize, F: ParetoFront<D>>(
     ensures added { IfOk result (λ added. IsTrue added ↔ IsAdded
         (F.state front.old) (entry_of label.now ∷ []) (entry_of label.now)) }
     ensures removed { IfOk result (λ _. GrowsBy label.now.node.0
-        (IsRemoved (F.state front.old) (entry_of label.now ∷ [])) removed.old.items removed.new.items) }
+        (IsRemoved (F.state front.old) (entry_of label.now ∷ []))
+        removed.old.items removed.new.items) }
     ensures unchanged { OnErr result (F.state front.new ≡ F.state front.old) }
 {
     match front.compare(&label.cost) {
@@ -68,8 +69,8 @@ pub fn merge<const D: usize, F: ParetoFront<D>>(
     requires some { 0 < length candidates.now }
     requires node { All (λ l. l.node.0 ≡ node.0) candidates.now }
     requires spares { All (λ l. SparesSettled (F.state front.now) l.cost.0) candidates.now }
-    ensures { IfOk result (λ _. AppendsDelta node.0 (F.state front.now) (map entry_of candidates.now)
-        deltas.old deltas.new) }
+    ensures { IfOk result (λ _. AppendsDelta node.0 (F.state front.now)
+        (map entry_of candidates.now) deltas.old deltas.new) }
 {
     deltas.survivors.clear();
     gather(front, candidates, &mut deltas.survivors)?;
@@ -139,7 +140,8 @@ fn survive<const D: usize>(
 ) -> Result<(), OutOfMemory>
     requires { AreSurvivors (Stays (told survivors.old.items)) survivors.old.items }
     ensures survive { IfOk result (λ _. AreSurvivors
-        (Stays (told survivors.old.items ++ entry_of survivor.now.label ∷ [])) survivors.new.items) }
+        (Stays (told survivors.old.items ++ entry_of survivor.now.label ∷ []))
+        survivors.new.items) }
     ensures members { IfOk result (λ _. All
         (Contains (survivors.old.items ++ survivor.now ∷ [])) survivors.new.items) }
 {
@@ -158,7 +160,8 @@ fn any_makes_needless<const D: usize>(survivors: &[Survivor<D>], label: &Compact
 {
     survivors.iter().any(
         |other| -> bool
-            ensures { IsTrue result ↔ IsNeedless (entry_of label.entry.now) (entry_of other.now.label) }
+            ensures { IsTrue result
+                ↔ IsNeedless (entry_of label.entry.now) (entry_of other.now.label) }
         { is_needless(label, &other.label) },
     )
 }
@@ -172,7 +175,8 @@ fn drop_needless<const D: usize>(survivors: &mut Vec<Survivor<D>>, beside: &Comp
 {
     survivors.retain(
         |other| -> bool
-            ensures { MatchBool result (¬ IsNeedless (entry_of other.now.label) (entry_of beside.entry.now))
+            ensures { MatchBool result
+                (¬ IsNeedless (entry_of other.now.label) (entry_of beside.entry.now))
                 (IsNeedless (entry_of other.now.label) (entry_of beside.entry.now)) }
         { !is_needless(&other.label, beside) },
     );

@@ -12,7 +12,8 @@ overflow_cast-next g c =
 
 pub returns-clause-kept : goal.returns-clause-kept
 returns-clause-kept g c =
-    let after = placed_more g.F.ParetoFront.state g.F.ParetoFront.spare c.args.places.now.items c.args.fronts.now.items c.push.new.self.items c.new.result c.args.node.0
+    let after = placed_more g.F.ParetoFront.state g.F.ParetoFront.spare c.args.places.now.items c.args.fronts.now.items c.push.new.self.items
+    c.new.result c.args.node.0
     c.len-next.result c.requires.kept.placed c.requires.node c.requires.within (search rules) c.new.ensures c.in_ok-push.ensures.items (search rules) in
     record { two = c.requires.kept.two; four = c.requires.kept.four; placed = after }
 

@@ -46,7 +46,8 @@ loop-label-preserved g c =
     let apart = λ (v : ℕ). subst (λ (f : Fronts). AreApart (entries (front_at f v))) c.self.view_is
     (front_apart c.self.inside.places.items (map g.F.ParetoFront.state c.self.inside.fronts.items) c.self.invariant.placed v) in
     let l = c.label-item.result in
-    let more = next_taken c.added-label-items.result.now d.added c.loop-label.label-index l c.added-label-items.ensures c.loop-label-test.true c.label-item.is in
+    let more = next_taken c.added-label-items.result.now d.added c.loop-label.label-index l c.added-label-items.ensures c.loop-label-test.true
+    c.label-item.is in
     entering_more before d apart c.requires.deltas.candidates c.requires.deltas.deltas c.loop-label.label-index c.loop-label.self c.loop-label.invariant l more
     c.enter.new.self c.enter.ensures.elsewhere c.enter.ensures.others c.enter.ensures.entered c.enter.ensures.room_left
 

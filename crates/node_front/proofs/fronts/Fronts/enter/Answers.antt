@@ -77,7 +77,8 @@ returns g c =
     record {
       elsewhere = same_elsewhere state c.args.self.now _ places fronts placed v k at was (ap (λ (f : Fronts). f.nodes) c.self.view_is)
           begun c.enter.new.self refl;
-      others = λ w other. spare_elsewhere state spare places fronts placed v k at begun c.enter.new.self w other ∙ ap (λ (f : Fronts). spare_at f w) c.self.view_is;
+      others = λ w other. spare_elsewhere state spare places fronts placed v k at begun c.enter.new.self w other ∙ ap (λ (f : Fronts). spare_at f w)
+          c.self.view_is;
       entered = subst₂ (λ (b a : Front). Enters b (entry_of c.args.label.now) a) (sym before) (sym after) c.enter.ensures.entered;
       room_left = subst₂ (λ b a. b ≤ a + 1) (sym room_before) (sym (spare_changed state spare places fronts placed v k at begun c.enter.new.self))
           c.enter.ensures.room_left;

@@ -40,7 +40,13 @@ returns g c =
     let fronts = c.self.inside.fronts.items in
     let long : length c.args.self.now.fronts ≡ length places =
     ap (λ (f : Fronts). length f.fronts) (sym c.self.view_is) ∙ length-map places (λ k. get_or (map state fronts) k empty_front) in
-    let past : length c.args.self.now.fronts ≤ c.loop-place.place-index = omega (arith, long, c.loop-place-test.false, ap length c.deref-place-items.ensures.value) in
+    let past : length c.args.self.now.fronts ≤ c.loop-place.place-index = omega (
+      arith,
+      long,
+      c.loop-place-test.false,
+      ap length
+          c.deref-place-items.ensures.value,
+    ) in
     let few : c.args.self.now.nodes ≤ max_nodes = omega (arith, ap (λ (f : Fronts). f.nodes) c.self.view_is, c.self.invariant.placed.few) in
     record {
       nodes = few;

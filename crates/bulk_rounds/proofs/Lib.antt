@@ -4,5 +4,3 @@ pub mod CompletesLaws
 pub mod BegunLaws
 pub mod PieceLaws
 pub mod RoundLaws
-pub mod CountingLaws
-pub mod BudgetLaws

@@ -8,7 +8,7 @@ use Rattle.event_machine.specs.Machine.{IsActive, waits, is_candidate}
 use Rattle.event_machine.specs.Events.{SameEntries, Becomes, Enters, IsMerged, keeps, lowers, discards, enters}
 use Rattle.event_machine.specs.Orders.{HasPair}
 use Rattle.event_machine.specs.Laws.{IsKnown}
-use Rattle.event_machine.proofs.Sound.{Covers, covers_beaten, covers_pair, IsCovered, covered_by_itself}
+use Rattle.event_machine.proofs.Sound.{Covers, covers_beaten, covers_pair, below_pair, IsCovered, covered_by_itself}
 use Rattle.event_machine.proofs.Sound.{AreApart, IsSound, cases_label, cases_beats, cases_below, same_pair, pair_back}
 
 -- no settled label goes, each entry was known and can be stood for later, and they stay apart
@@ -41,31 +41,28 @@ module _ (a b : SearchState) (apart : AreApart a) where
   }
 
   module _ (Stays : Place → Label → Type 0) (n : Label) (to : Place) (becomes : Becomes a Stays n to b) (room : HasRoom a Stays n) where
-    -- an entry that stays isn't n
-    is_other : (p : Place) (y : Label) → Contains (entries_at a p) y → Stays p y → y ≢ n
-    is_other p y there stays e =
-        let pair = same_pair y n e in
-        room.clear p y there stays (sym pair.node) (inr (subst (AtMost y.cost) pair.cost (AtMost-refl y.cost)))
+    -- an entry that stays can't be compared with n
+    is_other : (p : Place) (y m : Label) → Contains (entries_at a p) y → Stays p y → m ≡ n → m.node ≡ y.node → ¬ (AtMost m.cost y.cost ⊎ AtMost y.cost m.cost)
+    is_other p y m there stays e = subst (λ (z : Label). z.node ≡ y.node → ¬ (AtMost z.cost y.cost ⊎ AtMost y.cost z.cost)) (sym e) (room.clear p y there stays)
 
     apart_after : AreApart b
     apart_after = record {
       alone = λ y z (p, y_in) (q, z_in) node below. elim ((becomes p y).0 y_in) [
         | inl old ↦ elim ((becomes q z).0 z_in) [
           | inl old_too ↦ apart.alone y z (p, old.0) (q, old_too.0) node below
-          | inr (_, e) ↦
-              let pair = same_pair z n e in
-              absurd (room.clear p y old.0 old.1 (sym (node ∙ pair.node)) (inr (subst (AtMost y.cost) pair.cost below)))
+          | inr (_, e) ↦ absurd (is_other p y z old.0 old.1 e (sym node) (inr below))
         ]
-        | inr (_, e) ↦ elim ((becomes q z).0 z_in) [
-          | inl old ↦
-              let pair = same_pair y n e in
-              absurd (room.clear q z old.0 old.1 (sym pair.node ∙ node) (inl (subst (λ c. AtMost c z.cost) pair.cost below)))
-          | inr (_, f) ↦ e ∙ sym f
-        ]
+        | inr (_, e) ↦ elim ((becomes q z).0 z_in) [ inl old ↦ absurd (is_other q z y old.0 old.1 e node (inl below)) | inr (_, f) ↦ e ∙ sym f ]
       ];
       placed = λ p q y here there. elim ((becomes p y).0 here) [
-        | inl old ↦ elim ((becomes q y).0 there) [ inl old_too ↦ apart.placed p q y old.0 old_too.0 | inr (_, e) ↦ absurd (is_other p y old.0 old.1 e) ]
-        | inr (is_to, e) ↦ elim ((becomes q y).0 there) [ inl old ↦ absurd (is_other q y old.0 old.1 e) | inr (is_to_too, _) ↦ is_to ∙ sym is_to_too ]
+        | inl old ↦ elim ((becomes q y).0 there) [
+          | inl old_too ↦ apart.placed p q y old.0 old_too.0
+          | inr (_, e) ↦ absurd (is_other p y y old.0 old.1 e refl (inl (AtMost-refl y.cost)))
+        ]
+        | inr (is_to, e) ↦ elim ((becomes q y).0 there) [
+          | inl old ↦ absurd (is_other q y y old.0 old.1 e refl (inl (AtMost-refl y.cost)))
+          | inr (is_to_too, _) ↦ is_to ∙ sym is_to_too
+        ]
       ];
     }
 
@@ -172,7 +169,6 @@ module _ (task : Task) (a b : SearchState) (sound : IsSound task a) (x : Label) 
     | inl e ↦ elim ((entries_by_merge merged).known y (settled, here)) [
       | inr arrived ↦ absurd (sound.unequalled e.label y e.member arrived (pair_back e.label y e.same))
       | inl entry ↦
-          let below = subst (AtMost e.label.cost) e.same.cost (AtMost-refl e.label.cost) in
-          subst (Contains a.settled) (sound.apart.alone e.label y (settled, e.member) entry e.same.node below) e.member
+          subst (Contains a.settled) (sound.apart.alone e.label y (settled, e.member) entry e.same.node (below_pair e.label y e.same)) e.member
     ]
   ]

@@ -9,7 +9,7 @@ use Rattle.road_network.specs.Network.{Leads}
 use Rattle.road_network.specs.Walks.{Arrives, IsWalk}
 use Rattle.road_network.specs.Best.{IsBest, IsBackwardLeast}
 use Rattle.road_network.specs.Answers.{IsRelevant}
-use Rattle.road_network.proofs.WalkLaws.{leads_by_vector, length_of_arrival, length_of_walk, arrives_by_walk, ends_by_last}
+use Rattle.road_network.proofs.WalkLaws.{leads_by_vector, length_of_arrival, length_of_walk, walk_on, arrives_by_walk, ends_by_last}
 use Rattle.road_network.proofs.BestLaws.{grows_along, best_before}
 use Rattle.road_network.proofs.BackwardLaws.{none_at_zero, with_last_arc}
 use Rattle.road_network.proofs.Reached.{leads_alike}
@@ -18,7 +18,7 @@ use Rattle.event_machine.specs.Machine.{HasSettled, IsBeatenAtTarget, Follows}
 use Rattle.event_machine.specs.Events.{MayTake}
 use Rattle.event_machine.specs.Orders.{IsArrival, came, comes}
 use Rattle.event_machine.specs.Rounds.{NoneStays}
-use Rattle.event_machine.specs.Laws.{HasLeastArc}
+use Rattle.event_machine.specs.Laws.{HasLeastArc, IsKnown}
 use Rattle.list_laws.proofs.SetLaws.{none_of_empty}
 use Rattle.event_machine.proofs.Sound.{IsCovered, IsSound, at_start, follows}
 
@@ -36,9 +36,19 @@ pub record HasPendingBelow (s : SearchState) (c : List ℕ) : Type 0 where
   pub at_most : AtMost label.cost c
 
 module _ (task : Task) (is : IsTask task) (s : SearchState) (sound : IsSound task s) where
+  -- each label has a walk of its cost
+  walked : (y : Label) → IsKnown s y → (p : List ℕ) × IsWalk task.network task.start p y.node y.cost
+  walked y known = elim (sound.founded y known) [
+    | at_start e ↦ subst (λ (m : Label). (p : List ℕ) × IsWalk task.network task.start p m.node m.cost) (sym e) ([], (is.start, refl, refl))
+    | follows e there f ↦
+        let from = sound.least e there in
+        let on = walk_on task.network is.network from.walk task.start e.node y.node y.arc e.cost f.by from.least.walk f.leads in
+        (from.walk ++ y.arc ∷ [], subst (IsWalk task.network task.start (from.walk ++ y.arc ∷ []) y.node) (sym f.cost) on)
+  ]
+
   -- the cost of an entry has a place for each criterion
   length_of_entry : (e : Label) → IsEntry s e → length e.cost ≡ task.network.criteria
-  length_of_entry e entry = let (p, walk) = sound.walked e (inl entry) in length_of_walk task.network is.network p task.start e.node e.cost walk
+  length_of_entry e entry = let (p, walk) = walked e (inl entry) in length_of_walk task.network is.network p task.start e.node e.cost walk
 
   -- what follows a settled label costs more
   pub grown_from_settled : (e x : Label) → Contains s.settled e → Follows task.network e x → Dominates e.cost x.cost
@@ -110,7 +120,7 @@ module _ (task : Task) (is : IsTask task) (s : SearchState) (sound : IsSound tas
   settled_at_best v c best e = elim (cases_same e.label.cost c) [
     | inl same ↦ record { label = e.label; settled = e.settled; node = e.node; cost = same }
     | inr other ↦
-        let (p, walk) = sound.walked e.label (inl (settled, e.settled)) in
+        let (p, walk) = walked e.label (inl (settled, e.settled)) in
         absurd (best.nondominated p e.label.cost (subst (λ u. IsWalk task.network task.start p u e.label.cost) e.node walk)
         (record { at_most = e.at_most; differs = other }))
   ]
@@ -141,7 +151,7 @@ module _ (task : Task) (is : IsTask task) (s : SearchState) (sound : IsSound tas
 
     taken_is_best : IsBest task.network task.start l.node l.cost
     taken_is_best = record {
-      reached = sound.walked l (inl (waiting, may.waits));
+      reached = walked l (inl (waiting, may.waits));
       nondominated = λ p b walk less.
           let below = nothing_below p l.node b walk less in
           let dominates = AtMost-Dominates below.label.cost b l.cost below.at_most less in

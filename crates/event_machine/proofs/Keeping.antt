@@ -26,13 +26,6 @@ module _ (task : Task) (is : IsTask task) where
       | inr here ↦ elim (changes.candidates y here) [ inl old ↦ inl (inr old) | inr given ↦ inr given ]
     ]
 
-    walk_of_given : (y : Label) → IsGiven task a y → (p : List ℕ) × IsWalk task.network task.start p y.node y.cost
-    walk_of_given y given =
-        let (p, walk) = sound.walked given.from (inl (settled, given.settled)) in
-        let f = given.follows in
-        let on = walk_on task.network is.network p task.start given.from.node y.node y.arc given.from.cost f.by walk f.leads in
-        (p ++ y.arc ∷ [], subst (IsWalk task.network task.start (p ++ y.arc ∷ []) y.node) (sym f.cost) on)
-
     founded_after : (y : Label) → IsKnown b y → IsFounded task b y
     founded_after y known = elim (known_before y known) [
       | inr given ↦ follows given.from (changes.entries.kept given.from given.settled) given.follows
@@ -80,7 +73,6 @@ module _ (task : Task) (is : IsTask task) where
 
     sound_by_changes : IsSound task b
     sound_by_changes = record {
-      walked = λ y known. elim (known_before y known) [ inl old ↦ sound.walked y old | inr given ↦ walk_of_given y given ];
       founded = founded_after;
       paired = λ e k there. let pair = changes.paired e k there in (pair.1, pair.2);
       apart = changes.entries.apart;
@@ -117,8 +109,6 @@ module _ (task : Task) (is : IsTask task) where
 
   pub sound_at_start : IsSound task (start_state task)
   sound_at_start = record {
-    walked = λ y known. subst (λ (m : Label). (p : List ℕ) × IsWalk task.network task.start p m.node m.cost) (sym (known_at_start y known))
-        ([], (is.start, refl, refl));
     founded = λ y known. at_start (known_at_start y known);
     paired = λ e k there. absurd (in_none (e, k) there);
     apart = record {

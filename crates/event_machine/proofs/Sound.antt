@@ -105,7 +105,6 @@ pub record IsFresh (net : Network) (s : SearchState) : Type 0 where
 
 -- all that each state keeps to which events lead
 pub record IsSound (task : Task) (s : SearchState) : Type 0 where
-  pub walked : (y : Label) → IsKnown s y → (p : List ℕ) × IsWalk task.network task.start p y.node y.cost
   pub founded : (y : Label) → IsKnown s y → IsFounded task s y
   pub paired : (e : Label) (k : ℕ) → Contains s.unrelaxed (e, k) → Contains s.settled e × LeadsOn task.network e.node k
   pub apart : AreApart s

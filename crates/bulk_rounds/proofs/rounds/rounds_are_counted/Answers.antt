@@ -1,4 +1,4 @@
-use Rattle.bulk_rounds.proofs.CountingLaws.{some_number, one_number, bounded, round_after_all, at_most_all, more_to_come}
+use Rattle.bulk_rounds.proofs.RoundLaws.{some_number, one_number, bounded, round_after_all, at_most_all, more_to_come}
 use Rattle.bulk_rounds.proofs.rounds.rounds_are_counted.Goals as goal
 
 pub returns-clause-some_number : goal.returns-clause-some_number

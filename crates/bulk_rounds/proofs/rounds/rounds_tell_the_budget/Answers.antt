@@ -1,4 +1,4 @@
-use Rattle.bulk_rounds.proofs.BudgetLaws.{passes_where_more, within_where_none_stays}
+use Rattle.bulk_rounds.proofs.RoundLaws.{passes_where_more, within_where_none_stays}
 use Rattle.bulk_rounds.proofs.rounds.rounds_tell_the_budget.Goals as goal
 
 pub returns-clause-passes : goal.returns-clause-passes

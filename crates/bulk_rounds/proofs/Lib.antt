@@ -1,5 +1,4 @@
 pub mod HappensLaws
-pub mod OutcomeLaws
 pub mod CompletesLaws
 pub mod BegunLaws
 pub mod PieceLaws

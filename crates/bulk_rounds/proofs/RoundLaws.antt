@@ -12,7 +12,7 @@ use Rattle.list_laws.specs.Sets.{HasMoreThan}
 use Rattle.list_laws.proofs.Members.{in_none, cases_in, in_map, each_in}
 use Rattle.list_laws.proofs.Pairs.{pairs_none, pairs_cons, pairs_rest, pair_with_first, pairs_map, pigeonhole}
 use Rattle.list_laws.proofs.SetLaws.{none_of_empty, same_by_permutation, more_by_list}
-use Rattle.list_laws.proofs.OnceLaws.{IsTold, told_as, told_both, told_some, told_in, list_all, once_as, empty_if_none}
+use Rattle.list_laws.proofs.OnceLaws.{IsTold, told_both, told_some, told_in, list_all, once_as, empty_if_none}
 use Rattle.road_network.specs.Answers.{IsRelevant, Passes}
 use Rattle.road_network.proofs.BestLaws.{start_is_relevant}
 use Rattle.event_machine.specs.Machine.{Task, IsTask, Label, IsSamePair, SearchState, HasSettled, start_state, settled, dropped, waiting}
@@ -26,7 +26,7 @@ use Rattle.event_machine.proofs.Stepping.{changes_of}
 use Rattle.event_machine.proofs.Keeping.{sound_after, same_is_sound, sound_if_reached, settled_once}
 use Rattle.bulk_rounds.proofs.BegunLaws.{told_may_drop, told_stays, all_drops, left_waiting, some_begun, begins_is_begun, one_begun}
 use Rattle.bulk_rounds.proofs.CompletesLaws.{some_outcome, finishes_is_outcome}
-use Rattle.bulk_rounds.proofs.OutcomeLaws.{one_outcome}
+use Rattle.bulk_rounds.proofs.CompletesLaws.{one_outcome}
 
 module _ (task : Task) (is : IsTask task) where
   -- ---- a round is a run

@@ -1,11 +1,9 @@
 -- Each state is sound to which events lead.
-use Rattle.std.proofs.Common.{◌≡◌, ◌≢◌, ◌↔◌, ℕ, List, [], ◌∷◌, ◌++◌, ◌⊎◌, inl, inr, refl, sym, subst, ◌∙◌}
+use Rattle.std.proofs.Common.{◌≡◌, ◌≢◌, ◌↔◌, ℕ, List, [], ◌⊎◌, inl, inr, refl, sym, subst, ◌∙◌}
 use Rattle.std.specs.Prelude.{Contains}
 use Rattle.cost_vector.specs.Costs.{AtMost, Dominates, Within}
 use Rattle.cost_vector.proofs.Vectors.{AtMost-Dominates}
-use Rattle.road_network.specs.Walks.{IsWalk}
 use Rattle.road_network.specs.Answers.{IsRelevant}
-use Rattle.road_network.proofs.WalkLaws.{walk_on}
 use Rattle.list_laws.proofs.SetLaws.{none_of_empty}
 use Rattle.list_laws.proofs.Members.{in_none, in_first, in_one}
 use Rattle.list_laws.proofs.Pairs.{pairs_none}

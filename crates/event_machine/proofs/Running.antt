@@ -1,9 +1,7 @@
 -- Runs: which states are the same, that runs go on from and to same states, and that runs follow one another.
-use Rattle.std.proofs.Common.{ℕ, List, [], ◌∷◌, ◌++◌, ◌↔◌, inl, inr, arith}
-use Rattle.std.proofs.lemmas.List.Sorted.{Contains-permutation, IsPermutation-refl, IsPermutation-sym, IsPermutation-trans}
-use Rattle.list_laws.specs.Sets.{SameMembers}
-use Rattle.event_machine.specs.Machine.{Task, Label, SearchState, settled, waiting, IsEntry, IsActive, waits}
-use Rattle.event_machine.specs.Machine.{is_candidate, has_arc, IsBeatenAtTarget}
+use Rattle.std.proofs.Common.{List, [], ◌∷◌, ◌++◌, ◌↔◌, inl, inr, arith}
+use Rattle.std.proofs.lemmas.List.Sorted.{IsPermutation-refl, IsPermutation-sym, IsPermutation-trans}
+use Rattle.event_machine.specs.Machine.{Task, Label, SearchState, settled, waiting}
 use Rattle.event_machine.specs.Events.{Event, IsSame, MayDrop, Happens, Runs}
 
 -- ---- same states

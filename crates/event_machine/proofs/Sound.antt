@@ -5,7 +5,6 @@ use Rattle.std.proofs.lemmas.Bool.{cases_eq}
 use Rattle.cost_vector.specs.Costs.{AtMost, Dominates, Within}
 use Rattle.cost_vector.proofs.Vectors.{AtMost-refl, AtMost-trans, AtMost-antisymm, cases_same, cases_Dominates}
 use Rattle.road_network.specs.Network.{Network}
-use Rattle.road_network.specs.Walks.{IsWalk}
 use Rattle.road_network.specs.Answers.{IsRelevant}
 use Rattle.list_laws.proofs.OnceLaws.{IsTold, told_as, told_both}
 use Rattle.event_machine.specs.Machine.{Task, Label, IsSamePair, Beats, SearchState, start_label, Place, entries_at, IsEntry, IsActive}

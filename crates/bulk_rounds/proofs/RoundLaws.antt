@@ -199,34 +199,25 @@ module _ (task : Task) (is : IsTask task) (budget : ℕ) where
   abbrev Stops : SearchState → Type 0
   Stops s = HasMoreThan budget s.settled ⊎ NoneStays task s
 
-  -- n counted rounds lead from the state to one at which the search stops
-  record RoundsFrom (s : SearchState) (n : ℕ) : Type 0 where
-    pub last : SearchState
-    pub rounds : GoRounds task budget n s last
-    pub stops : Stops last
-
-  stops_here : (s : SearchState) → Stops s → (n : ℕ) × RoundsFrom s n
-  stops_here s stops = (0, record { last = s; rounds = same_itself s; stops = stops })
-
   -- each round settles one more label than were seen, so no more rounds than the budget and one are left
   rounds_from : (left : ℕ) (s : SearchState) → IsReached task s → IsBetweenRounds s → (seen : List Label) → AllPairs ◌≢◌ seen
-      → ((y : Label) → Contains seen y → Contains s.settled y) → length seen + left ≡ budget + 1 → (n : ℕ) × RoundsFrom s n
-  rounds_from zero s reached between seen once each full = stops_here s (inl (more_by_list budget s.settled seen once each (omega (arith, full))))
+      → ((y : Label) → Contains seen y → Contains s.settled y) → length seen + left ≡ budget + 1
+      → (n : ℕ) × (last : SearchState) × GoRounds task budget n s last × Stops last
+  rounds_from zero s reached between seen once each full = (0, s, same_itself s, inl (more_by_list budget s.settled seen once each (omega (arith, full))))
   rounds_from (suc left) s reached between seen once each full = elim (cases_more budget s.settled) [
-    | inl more ↦ stops_here s (inl more)
+    | inl more ↦ (0, s, same_itself s, inl more)
     | inr few ↦ elim (cases_stays task s) [
-      | inr none ↦ stops_here s (inr none)
+      | inr none ↦ (0, s, same_itself s, inr none)
       | inl (l, stays) ↦
           let (after, round) = some_round task is s reached between in
           let counts = counted task is s after reached round l stays in
           let (new, there, was_not) = settles task is s after reached counts in
           let kept = λ (y : Label) (old : Contains seen y). kept_on task is s after y reached (leads_by_round task is s after round) (each y old) in
-          let (n, rest) = rounds_from left after (reached_by_round task is s after reached round) (between_after task is s after reached round) (new ∷ seen)
-          (pairs_cons ◌≢◌ new seen (λ y old same. was_not (subst (Contains s.settled) (sym same) (each y old))) once)
+          let (n, last, rounds, stops) = rounds_from left after (reached_by_round task is s after reached round) (between_after task is s after reached round)
+          (new ∷ seen) (pairs_cons ◌≢◌ new seen (λ y old same. was_not (subst (Contains s.settled) (sym same) (each y old))) once)
           (λ y here. elim (cases_in new seen y here) [ inl same ↦ subst (Contains after.settled) (sym same) there | inr old ↦ kept y old ])
           (omega (arith, full)) in
-          let rounds : GoRounds task budget (suc n) s rest.last = record { within = few; next = after; round = counts; rest = rest.rounds } in
-          (suc n, record { last = rest.last; rounds = rounds; stops = rest.stops })
+          (suc n, last, record { within = few; next = after; round = counts; rest = rounds }, stops)
     ]
   ]
 
@@ -238,9 +229,9 @@ module _ (task : Task) (is : IsTask task) (budget : ℕ) where
 
   pub some_number : (n : ℕ) × Rounds task budget n
   some_number =
-      let (n, found) = rounds_from (budget + 1) (start_state task) reached_at_start start_between [] (pairs_none ◌≢◌)
+      let (n, last, rounds, stops) = rounds_from (budget + 1) (start_state task) reached_at_start start_between [] (pairs_none ◌≢◌)
       (λ y there. absurd (in_none y there)) (omega arith) in
-      (n, record { last = found.last; rounds = found.rounds; stops = found.stops })
+      (n, record { last = last; rounds = rounds; stops = stops })
 
   -- ---- and no other
 
@@ -387,13 +378,6 @@ pair_of l = (l.node, l.cost)
 same_by_pair : (x y : Label) → pair_of x ≡ pair_of y → IsSamePair x y
 same_by_pair x y same = record { node = ap (λ (p : ℕ × List ℕ). p.0) same; cost = ap (λ (p : ℕ × List ℕ). p.1) same }
 
--- where what f gives is without repeats, so is the list
-distinct_before : {X Y : Type 0} (f : X → Y) (xs : List X) → AllPairs ◌≢◌ (map f xs) → AllPairs ◌≢◌ xs
-distinct_before f [] distinct = pairs_none ◌≢◌
-distinct_before f (x ∷ xs) distinct =
-    pairs_cons ◌≢◌ x xs (λ y there same. pair_with_first ◌≢◌ (f x) (map f xs) distinct (f y) (in_map f xs y there) (ap f same))
-    (distinct_before f xs (pairs_rest ◌≢◌ (f x) (map f xs) distinct))
-
 module _ (task : Task) (is : IsTask task) (s : SearchState) (reached : IsReached task s) where
   abbrev IsRelevantPair : ℕ × List ℕ → Type 0
   IsRelevantPair p = IsRelevant task.network task.start task.target task.limit p.0 p.1
@@ -412,24 +396,12 @@ module _ (task : Task) (is : IsTask task) (s : SearchState) (reached : IsReached
             (All-weaker (Contains s.settled) (λ l. IsRelevantPair (pair_of l)) (λ l there. sound.relevant l there) more.members more.each);
       }
 
-  -- the settled labels of pairs
-  labels_of : (pairs : List (ℕ × List ℕ)) → All (λ p. HasSettled s p.0 p.1) pairs → (ls : List Label) × (map pair_of ls ≡ pairs) × All (Contains s.settled) ls
-  labels_of [] each = ([], refl, All-nil (Contains s.settled))
-  labels_of (p ∷ ps) each =
-      let first = All-head (λ q. HasSettled s q.0 q.1) p ps each in
-      let rest = labels_of ps (All-tail (λ q. HasSettled s q.0 q.1) p ps each) in
-      let same : pair_of first.label ≡ p = ap₂ (λ v c. (v, c)) first.node first.cost in
-      (first.label ∷ rest.0, ap₂ (λ q qs. q ∷ qs) same rest.1, All-cons (Contains s.settled) first.label rest.0 first.settled rest.2)
-
   pub within_where_none_stays : (budget : ℕ) → IsBetweenRounds s → NoneStays task s → ¬ HasMoreThan budget s.settled
       → ¬ Passes task.network task.start task.target task.limit budget
   within_where_none_stays budget between none few passes =
       let all = all_settled task is s (sound_if_reached task is s reached) between.candidates between.unrelaxed none in
-      let labels = labels_of passes.pairs
-      (All-weaker IsRelevantPair (λ p. HasSettled s p.0 p.1) (λ p relevant. all p.0 p.1 relevant) passes.pairs passes.relevant) in
-      few (record {
-        members = labels.0;
-        more = sym (length-map labels.0 pair_of) ∙ ap length labels.1 ∙ passes.more;
-        distinct = distinct_before pair_of labels.0 (subst (AllPairs ◌≢◌) (sym labels.1) passes.distinct);
-        each = labels.2;
-      })
+      let (ls, lists) = list_all cases_label (Contains s.settled) (told_in cases_label s.settled) s.settled (λ l there. there) in
+      let most = pigeonhole passes.pairs (map pair_of ls) passes.distinct (λ p there.
+      let h = all p.0 p.1 (each_in IsRelevantPair passes.pairs passes.relevant p there) in
+      subst (Contains (map pair_of ls)) (ap₂ (λ v c. (v, c)) h.node h.cost) (in_map pair_of ls h.label ((lists.exact h.label).1 h.settled))) in
+      few (more_by_list budget s.settled ls lists.once (λ l there. (lists.exact l).0 there) (omega (arith, most, length-map ls pair_of, passes.more)))

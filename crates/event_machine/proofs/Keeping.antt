@@ -10,24 +10,25 @@ use Rattle.list_laws.proofs.Pairs.{pairs_none}
 use Rattle.event_machine.specs.Machine.{Task, IsTask, Label, IsSamePair, SearchState, start_label, start_state, Place, settled, dropped}
 use Rattle.event_machine.specs.Machine.{waiting, entries_at, IsEntry, IsActive, waits, is_candidate, has_arc, HasSettled, IsBeatenAtTarget, Follows}
 use Rattle.event_machine.specs.Events.{Event, Happens, IsSame, Runs, IsReached}
+use Rattle.event_machine.specs.Orders.{came, comes}
 use Rattle.event_machine.specs.Laws.{IsKnown}
 use Rattle.event_machine.proofs.Sound.{IsSound, IsFounded, at_start, follows, IsCovered, IsMet, covers_through, covered_by_itself, below_pair}
 use Rattle.event_machine.proofs.Running.{along_run}
-use Rattle.event_machine.proofs.Stepping.{Changes, IsGiven, same_changes, changes_of}
+use Rattle.event_machine.proofs.Stepping.{Changes, same_changes, changes_of}
 use Rattle.event_machine.proofs.Frontier.{grown_from_settled, taken_is_relevant, taken_is_least, all_settled}
 
 module _ (task : Task) (is : IsTask task) where
   module _ (a b : SearchState) (sound : IsSound task a) (changes : Changes task a b) where
-    known_before : (y : Label) → IsKnown b y → IsKnown a y ⊎ IsGiven task a y
-    known_before y = elim [
-      | inl entry ↦ inl (changes.entries.known y entry)
-      | inr here ↦ elim (changes.candidates y here) [ inl old ↦ inl (inr old) | inr given ↦ inr given ]
-    ]
+    founded_still : (y : Label) → IsKnown a y → IsFounded task b y
+    founded_still y old = elim (sound.founded y old) [ at_start e ↦ at_start e | follows e there f ↦ follows e (changes.entries.kept e there) f ]
 
     founded_after : (y : Label) → IsKnown b y → IsFounded task b y
-    founded_after y known = elim (known_before y known) [
-      | inr given ↦ follows given.from (changes.entries.kept given.from given.settled) given.follows
-      | inl old ↦ elim (sound.founded y old) [ at_start e ↦ at_start e | follows e there f ↦ follows e (changes.entries.kept e there) f ]
+    founded_after y = elim [
+      | inl entry ↦ founded_still y (changes.entries.known y entry)
+      | inr here ↦ elim (changes.candidates y here) [
+        | came old ↦ founded_still y (inr old)
+        | comes e there f ↦ follows e (changes.entries.kept e (sound.paired e y.arc there).0) f
+      ]
     ]
 
     -- no label from which the search went on dominates a settled one
@@ -38,17 +39,17 @@ module _ (task : Task) (is : IsTask task) where
     no_better_than l there y (waits here) less = no_better l y there (changes.entries.active y here) less
     no_better_than l there y (has_arc k here) less = no_better l y there (changes.paired y k here).0 less
     no_better_than l there y (is_candidate here) less = elim (changes.candidates y here) [
-      | inl old ↦ no_better l y there (is_candidate old) less
-      | inr given ↦ no_better l given.from there given.active
-          (AtMost-Dominates given.from.cost y.cost l.cost (grown_from_settled task is a sound given.from y given.settled given.follows).at_most less)
+      | came old ↦ no_better l y there (is_candidate old) less
+      | comes e pair f ↦
+          let grown = grown_from_settled task is a sound e y (sound.paired e y.arc pair).0 f in
+          no_better l e there (has_arc y.arc pair) (AtMost-Dominates e.cost y.cost l.cost grown.at_most less)
     ]
 
     no_equal : (l x : Label) → Contains b.settled l → Contains b.candidates x → ¬ IsSamePair x l
     no_equal l x there here pair = elim (changes.candidates x here) [
-      | inr given ↦
-          let less = grown_from_settled task is a sound given.from x given.settled given.follows in
-          no_better l given.from there given.active (subst (Dominates given.from.cost) pair.cost less)
-      | inl old ↦ elim (changes.settled l there) [ inl before ↦ sound.unequalled l x before old pair | inr taken ↦ taken.may.alone x old pair ]
+      | comes e arc f ↦
+          no_better l e there (has_arc x.arc arc) (subst (Dominates e.cost) pair.cost (grown_from_settled task is a sound e x (sound.paired e x.arc arc).0 f))
+      | came old ↦ elim (changes.settled l there) [ inl before ↦ sound.unequalled l x before old pair | inr taken ↦ taken.may.alone x old pair ]
     ]
 
     covered_after : (x : Label) → IsCovered a x → IsCovered b x

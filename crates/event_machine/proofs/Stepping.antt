@@ -18,13 +18,6 @@ use Rattle.event_machine.proofs.Frontier.{follows_once}
 use Rattle.event_machine.proofs.Changing.{EntriesChange, entries_stay, entries_become, room_to_move, entries_by_merge, covered_by_merge}
 use Rattle.event_machine.proofs.Changing.{place_before_merge, settled_before_merge}
 
--- y is a new candidate: some settled label with an arc to be relaxed gives it
-pub record IsGiven (task : Task) (s : SearchState) (y : Label) : Type 0 where
-  pub from : Label
-  pub settled : Contains s.settled from
-  pub active : IsActive s from
-  pub follows : Follows task.network from y
-
 -- y is settled by the event, and what it gives arrives
 pub record IsTaken (task : Task) (a b : SearchState) (y : Label) : Type 0 where
   pub may : MayTake task a y
@@ -36,7 +29,7 @@ pub record Changes (task : Task) (a b : SearchState) : Type 0 where
   pub settled : (y : Label) → Contains b.settled y → Contains a.settled y ⊎ IsTaken task a b y
   pub useless : (y : Label) → Contains b.dropped y → (¬ Within task.limit y.cost) ⊎ IsBeatenAtTarget task a y.cost
   pub paired : (e : Label) (k : ℕ) → Contains b.unrelaxed (e, k) → IsActive a e × Contains b.settled e × LeadsOn task.network e.node k
-  pub candidates : (y : Label) → Contains b.candidates y → Contains a.candidates y ⊎ IsGiven task a y
+  pub candidates : (y : Label) → Contains b.candidates y → IsArrival task.network a y
   pub arrivals : (y : Label) → IsArrival task.network a y → IsMet task.network b y
   pub fresh : IsFresh task.network b
 
@@ -120,8 +113,8 @@ module _ (task : Task) (is : IsTask task) (a b : SearchState) (sound : IsSound t
 
   -- the candidates stay
   module _ (moved : IsPermutation a.candidates b.candidates) where
-    candidates_stay : (y : Label) → Contains b.candidates y → Contains a.candidates y ⊎ IsGiven task a y
-    candidates_stay y here = inl ((same_by_permutation a.candidates b.candidates moved y).0 here)
+    candidates_stay : (y : Label) → Contains b.candidates y → IsArrival task.network a y
+    candidates_stay y here = came ((same_by_permutation a.candidates b.candidates moved y).0 here)
 
     arrivals_stay : ((p : Label × ℕ) → Contains a.unrelaxed p → Contains b.unrelaxed p) → (y : Label) → IsArrival task.network a y → IsMet task.network b y
     arrivals_stay pairs y arrival = inl (arrival_on task.network a b (λ x. (same_by_permutation a.candidates b.candidates moved x).1) pairs y arrival)
@@ -190,7 +183,7 @@ module _ (task : Task) (is : IsTask task) (a b : SearchState) (sound : IsSound t
     settled = λ y here. inl ((h.entries settled y).0 here);
     useless = λ y here. sound.useless y ((h.entries dropped y).0 here);
     paired = λ e j here. still_paired (entries_stay a b sound.apart h.entries) e j ((h.unrelaxed (e, j)).0 here).0;
-    candidates = λ y here. elim ((gains y).0 here) [ inl old ↦ inl old | inr e ↦ inr (subst (IsGiven task a) (sym e) given) ];
+    candidates = λ y here. (arrivals_by_relax task a b l k h y).1 (came here);
     arrivals = λ y arrival. inl ((arrivals_by_relax task a b l k h y).0 arrival);
     fresh = record { once = once; apart = apart };
   } where
@@ -214,9 +207,6 @@ module _ (task : Task) (is : IsTask task) (a b : SearchState) (sound : IsSound t
           was.1 (ap₂ (λ (m : Label) (j : ℕ). (m, j)) same (ap (λ (m : Label). m.arc) new ∙ h.arc))
     ]
 
-    given : IsGiven task a h.candidate
-    given = record { from = l; settled = (sound.paired l k h.may).0; active = has_arc k h.may; follows = h.follows }
-
   merge_changes : (x : Label) → Merges a x b → Changes task a b
   merge_changes x h = record {
     entries = entries;
@@ -226,7 +216,7 @@ module _ (task : Task) (is : IsTask task) (a b : SearchState) (sound : IsSound t
       | inr (wrong, _) ↦ absurd cc
     ];
     paired = λ e k here. still_paired entries e k ((h.unrelaxed (e, k)).0 here);
-    candidates = λ y here. inl ((gains y).1 (inl here));
+    candidates = λ y here. came ((gains y).1 (inl here));
     arrivals = λ y arrival. elim (cases_label y x) [
       | inl e ↦ inr (subst (IsCovered b) (sym e) (covered_by_merge task a b sound x mine h.entries))
       | inr other ↦ inl ((arrivals_by_merge x h y).1 (arrival, other))

@@ -2,7 +2,7 @@
 use Rattle.std.proofs.Common.{◌≡◌, ◌≢◌, ◌↔◌, ◌⊎◌, ℕ, List, [], ◌∷◌, ◌++◌, map, inl, inr, sym, subst, ◌∙◌, arith}
 use Rattle.std.specs.Prelude.{AllPairs, Contains, IsPermutation}
 use Rattle.std.proofs.lemmas.Bool.{cases_eq}
-use Rattle.std.proofs.lemmas.List.Sorted.{Contains-permutation, IsPermutation-refl, IsPermutation-sym, IsPermutation-trans}
+use Rattle.std.proofs.lemmas.List.Sorted.{IsPermutation-refl, IsPermutation-sym, IsPermutation-trans}
 use Rattle.cost_vector.specs.Costs.{Dominates, Within}
 use Rattle.cost_vector.proofs.Vectors.{cases_Dominates, cases_Within}
 use Rattle.list_laws.proofs.Members.{in_none, in_first, in_rest}
@@ -16,8 +16,6 @@ use Rattle.event_machine.specs.Orders.{Stays, Moves, DropsAll, IsNext, IsBegun}
 use Rattle.list_laws.proofs.SetLaws.{none_of_empty, same_by_permutation}
 use Rattle.event_machine.proofs.Running.{same_itself, runs_on, runs_apart, runs_to_same}
 use Rattle.event_machine.proofs.Sound.{IsSound, cases_label}
-use Rattle.event_machine.proofs.Keeping.{sound_after}
-use Rattle.event_machine.proofs.Stepping.{changes_of}
 use Rattle.list_laws.proofs.OnceLaws.{IsTold, told_as, told_not, told_both, told_either, told_some, told_in}
 use Rattle.list_laws.proofs.OnceLaws.{in_cons, empty_if_none, same_by, once_as, list_all}
 use Rattle.bulk_rounds.proofs.HappensLaws.{drop_happens, take_happens}
@@ -62,30 +60,32 @@ module _ (to : Place) (Opens : Label × ℕ → Type 0) where
         moved_on s run.next b (λ y. y ≡ l) (Contains ls) P (λ y. let e = lists.exact y in let c = in_cons l ls y in grind arith)
         (λ y e more. pair_with_first ◌≢◌ l ls lists.once y more (sym e)) first (moved_by_run ls (Contains ls) run.next b rest run.rest)
 
-    -- there is such a run, where each event may happen while I stands
-    module _ (I : SearchState → Type 0) (P : Label → Type 0)
-        (step : (m : SearchState) (l : Label) → I m → P l → Contains m.waiting l → (next : SearchState) × Happens task m (event l) next × I next) where
-      run_exists : (ls : List Label) (m : SearchState) → AllPairs ◌≢◌ ls → I m → ((l : Label) → Contains ls l → P l × Contains m.waiting l)
-          → (b : SearchState) × Runs task m (map event ls) b
-      run_exists [] m distinct i each = (m, same_itself m)
-      run_exists (l ∷ ls) m distinct i each =
-          let here = each l (in_first l ls) in
-          let (next, happens, i_next) = step m l i here.0 here.1 in
-          let (b, run) = run_exists ls next (pairs_rest ◌≢◌ l ls distinct) i_next (λ y h.
-          let later = each y (in_rest l ls y h) in
-          (later.0, ((moves m l next happens).entries waiting y).1 (inl (later.1, λ e. pair_with_first ◌≢◌ l ls distinct y h (sym e))))) in
+    -- each order of them leads to one state, where each may happen after others
+    module _ (P : Label → Type 0) (s : SearchState) (it_waits : (l : Label) → P l → Contains s.waiting l)
+        (may : (L : Label → Type 0) (m : SearchState) (l : Label) → ((y : Label) → L y → P y) → Moves L to Opens s m → P l → Contains m.waiting l
+        → (next : SearchState) × Happens task m (event l) next) where
+      run_exists : (ls : List Label) (L : Label → Type 0) (m : SearchState) → AllPairs ◌≢◌ ls → ((y : Label) → L y → P y) → Moves L to Opens s m
+          → ((l : Label) → Contains ls l → P l × (¬ L l)) → (b : SearchState) × Runs task m (map event ls) b
+      run_exists [] L m distinct within moved each = (m, same_itself m)
+      run_exists (l ∷ ls) L m distinct within moved each =
+          let (chosen, new) = each l (in_first l ls) in
+          let (next, happens) = may L m l within moved chosen ((moved.entries waiting l).1 (inl (it_waits l chosen, new))) in
+          let M : Label → Type 0 = λ y. L y ⊎ (y ≡ l) in
+          let on = moved_on s m next L (λ y. y ≡ l) M (λ y. (λ h. h, λ h. h)) (λ y old e. new (subst L e old)) moved (moves m l next happens) in
+          let (b, run) = run_exists ls M next (pairs_rest ◌≢◌ l ls distinct) (λ y. elim [ inl old ↦ within y old | inr e ↦ subst P (sym e) chosen ]) on
+          (λ y h. (
+            (each y (in_rest l ls y h)).0,
+            elim [ inl old ↦ (each y (in_rest l ls y h)).1 old | inr e ↦ pair_with_first ◌≢◌ l ls distinct y h (sym e) ],
+          )) in
           (b, record { from = m; same = same_itself m; next = next; step = happens; rest = run })
 
-      -- each order of them leads to one state
-      pub moves_all : (s : SearchState) → I s → ((l : Label) → P l → Contains s.waiting l) → (ls : List Label) → ListsOnce P ls
+      pub moves_all : (ls : List Label) → ListsOnce P ls
           → ((b : SearchState) × Runs task s (map event ls) b) × ((b : SearchState) → Runs task s (map event ls) b ↔ Moves P to Opens s b)
-      moves_all s i each ls lists =
-          let (c, run) = run_exists ls s lists.once i (λ l there. let p = (lists.exact l).0 there in (p, each l p)) in (
+      moves_all ls lists =
+          let none = none_moved s s (λ y. ⊥) (λ y wrong. wrong) (same_itself s) in
+          let (c, run) = run_exists ls (λ y. ⊥) s lists.once (λ y wrong. absurd wrong) none (λ l there. ((lists.exact l).0 there, λ wrong. wrong)) in (
             (c, run),
-            λ b. (
-              moved_by_run ls P s b lists,
-              λ moved. runs_to_same task s c b (map event ls) run (one_moved s b c P moved (moved_by_run ls P s c lists run)),
-            ),
+            λ b. (moved_by_run ls P s b lists, λ moved. runs_to_same task s c b (map event ls) run (one_moved s b c P moved (moved_by_run ls P s c lists run))),
           )
 
 drop_moves : (task : Task) (s : SearchState) (l : Label) (next : SearchState) → Drops task s l next → Moves (λ y. y ≡ l) dropped (λ _. ⊥) s next
@@ -140,26 +140,19 @@ module _ (task : Task) (s : SearchState) where
 
 -- ---- all drops
 
-module _ (task : Task) (is : IsTask task) (s : SearchState) (sound : IsSound task s) where
-  -- a label may still be dropped where all that was settled stays so
-  drop_step : (m : SearchState) (l : Label) → IsSound task m × ((y : Label) → Contains s.settled y → Contains m.settled y) → MayDrop task s l
-      → Contains m.waiting l → (next : SearchState) × Drops task m l next × (IsSound task next × ((y : Label) → Contains s.settled y → Contains next.settled y))
-  drop_step m l (sound_m, kept) may there =
-      let (next, step) = drop_happens task m l (record {
-        waits = there;
-        useless = elim may.useless [
-          | inl beyond ↦ inl beyond
-          | inr h ↦ inr (record { by = h.by; settled = kept h.by h.settled; node = h.node; dominates = h.dominates })
-        ];
-      }) in
-      let entries = (changes_of task is m next sound_m (drop l) step).entries in
-      (next, step, (sound_after task is m next (drop l) sound_m step, λ y old. entries.kept y (kept y old)))
-
-  -- each order of the drops leads to one state
-  pub all_drops : (ls : List Label) → ListsOnce (MayDrop task s) ls
-      → ((b : SearchState) × Runs task s (map (λ l. drop l) ls) b) × ((b : SearchState) → Runs task s (map (λ l. drop l) ls) b ↔ DropsAll task s b)
-  all_drops = moves_all dropped (λ _. ⊥) task (λ l. drop l) (drop_moves task) (λ m. IsSound task m × ((y : Label) → Contains s.settled y → Contains m.settled y))
-      (MayDrop task s) drop_step s (sound, λ y old. old) (λ l may. may.waits)
+-- each order of the drops leads to one state
+pub all_drops : (task : Task) (s : SearchState) → IsSound task s → (ls : List Label) → ListsOnce (MayDrop task s) ls
+    → ((b : SearchState) × Runs task s (map (λ l. drop l) ls) b) × ((b : SearchState) → Runs task s (map (λ l. drop l) ls) b ↔ DropsAll task s b)
+all_drops task s sound = moves_all dropped (λ _. ⊥) task (λ l. drop l) (drop_moves task) (MayDrop task s) s (λ l may. may.waits)
+    (λ L m l within moved may there. drop_happens task m l (record {
+      waits = there;
+      useless = elim may.useless [
+        | inl beyond ↦ inl beyond
+        | inr h ↦
+            let stays : ¬ L h.by = λ gone. let same = sound.apart.placed settled waiting h.by h.settled (within h.by gone).waits in cc in
+            inr (record { by = h.by; settled = (moved.entries settled h.by).1 (inl (h.settled, stays)); node = h.node; dominates = h.dominates })
+      ];
+    }))
 
 -- what waits after the drops
 pub left_waiting : (task : Task) (s left : SearchState) → DropsAll task s left → (y : Label) → Contains left.waiting y ↔ Stays task s y
@@ -167,42 +160,6 @@ left_waiting task s left all y = (
   λ here. elim ((all.entries waiting y).0 here) [ inl old ↦ record { waits = old.0; kept = old.1 } | inr (wrong, _) ↦ absurd cc ],
   λ stays. (all.entries waiting y).1 (inl (stays.waits, stays.kept)),
 )
-
--- ---- all takes
-
--- what has been taken stayed after the drops, and what waits does
-record IsTaking (task : Task) (s m : SearchState) : Type 0 where
-  pub settled : (y : Label) → Contains m.settled y → Contains s.settled y ⊎ Stays task s y
-  pub waiting : (y : Label) → Contains m.waiting y → Stays task s y
-  pub pairs : (e : Label) (k : ℕ) → Contains m.unrelaxed (e, k) → Stays task s e
-  pub candidates : (x : Label) → ¬ Contains m.candidates x
-
-module _ (task : Task) (s m : SearchState) (taking : IsTaking task s m) (l : Label) (next : IsNext task s l) where
-  may_take : Contains m.waiting l → MayTake task m l
-  may_take there = record {
-    waits = there;
-    within = elim (cases_Within task.limit l.cost) [ inl within ↦ within | inr beyond ↦ absurd (useful (inl beyond)) ];
-    undominated = λ y. elim [
-      | waits h ↦ next.none_better y (taking.waiting y h)
-      | is_candidate h ↦ absurd (taking.candidates y h)
-      | has_arc k h ↦ next.none_better y (taking.pairs y k h)
-    ];
-    unbeaten = λ h. elim (taking.settled h.by h.settled) [
-      | inr stays ↦ next.none_better h.by stays h.dominates
-      | inl old ↦ useful (inr (record { by = h.by; settled = old; node = h.node; dominates = h.dominates }))
-    ];
-    alone = λ x h. absurd (taking.candidates x h);
-  } where
-    useful : ¬ ((¬ Within task.limit l.cost) ⊎ IsBeatenAtTarget task s l.cost)
-    useful useless = next.stays.kept (record { waits = next.stays.waits; useless = useless })
-
-  taking_on : (n : SearchState) → Takes task m l n → IsTaking task s n
-  taking_on n step = record {
-    settled = λ y h. elim ((step.entries settled y).0 h) [ inl old ↦ taking.settled y old.0 | inr (_, e) ↦ inr (subst (Stays task s) (sym e) next.stays) ];
-    waiting = λ y h. elim ((step.entries waiting y).0 h) [ inl old ↦ taking.waiting y old.0 | inr (wrong, _) ↦ absurd cc ];
-    pairs = λ e k h. elim ((step.unrelaxed (e, k)).0 h) [ inl old ↦ taking.pairs e k old | inr (same, _) ↦ subst (Stays task s) (sym same) next.stays ];
-    candidates = λ x h. taking.candidates x (Contains-permutation n.candidates m.candidates x (IsPermutation-sym m.candidates n.candidates step.candidates) h);
-  }
 
 -- ---- both
 
@@ -236,17 +193,34 @@ module _ (task : Task) (is : IsTask task) (s : SearchState) (sound : IsSound tas
       opened : {B S L : Type 0} → (B ↔ (S ⊎ L)) → ¬ S → (B ↔ L)
       opened f none = grind arith
 
+    may_take : (L : Label → Type 0) (m : SearchState) (l : Label) → ((y : Label) → L y → IsNext task s y) → Moves L settled (OpensArcs task) left m
+        → IsNext task s l → Contains m.waiting l → MayTake task m l
+    may_take L m l within moved next there = record {
+      waits = there;
+      within = elim (cases_Within task.limit l.cost) [ inl within ↦ within | inr beyond ↦ absurd (useful (inl beyond)) ];
+      undominated = λ y. elim [
+        | waits h ↦ elim ((moved.entries waiting y).0 h) [ inl old ↦ next.none_better y ((left_waiting task s left all y).0 old.0) | inr (wrong, _) ↦ absurd cc ]
+        | is_candidate h ↦ absurd (no_candidate m moved.candidates y h)
+        | has_arc k h ↦ elim ((moved.unrelaxed (y, k)).0 h) [ inl old ↦ absurd (none_opened (y, k) old) | inr gone ↦ next.none_better y (within y gone.0).stays ]
+      ];
+      unbeaten = λ h. elim ((moved.entries settled h.by).0 h.settled) [
+        | inr (_, gone) ↦ next.none_better h.by (within h.by gone).stays h.dominates
+        | inl old ↦ elim ((all.entries settled h.by).0 old.0) [
+          | inl older ↦ useful (inr (record { by = h.by; settled = older.0; node = h.node; dominates = h.dominates }))
+          | inr (wrong, _) ↦ absurd cc
+        ]
+      ];
+      alone = λ x h. absurd (no_candidate m moved.candidates x h);
+    } where
+      useful : ¬ ((¬ Within task.limit l.cost) ⊎ IsBeatenAtTarget task s l.cost)
+      useful useless = next.stays.kept (record { waits = next.stays.waits; useless = useless })
+
     -- each order of the takes leads to one state
     all_takes : (ls : List Label) → ListsOnce (IsNext task s) ls → ((b : SearchState) × Runs task left (map (λ l. take l) ls) b)
         × ((b : SearchState) → Runs task left (map (λ l. take l) ls) b ↔ Moves (IsNext task s) settled (OpensArcs task) left b)
-    all_takes = moves_all settled (OpensArcs task) task (λ l. take l) (take_moves task) (IsTaking task s) (IsNext task s)
-        (λ m l taking next there. let (n, step) = take_happens task m l (may_take task s m taking l next there) in (n, step, taking_on task s m taking l next n step))
-        left (record {
-          settled = λ y h. elim ((all.entries settled y).0 h) [ inl old ↦ inl old.0 | inr (wrong, _) ↦ absurd cc ];
-          waiting = λ y. (left_waiting task s left all y).0;
-          pairs = λ e k h. absurd (none_opened (e, k) h);
-          candidates = no_candidate left (IsPermutation-refl left.candidates);
-        }) (λ l next. (left_waiting task s left all l).1 next.stays)
+    all_takes = moves_all settled (OpensArcs task) task (λ l. take l) (take_moves task) (IsNext task s) left
+        (λ l next. (left_waiting task s left all l).1 next.stays)
+        (λ L m l within moved next there. take_happens task m l (may_take L m l within moved next there))
 
     undominated_is_next : (y : Label) → IsUndominated left.waiting y ↔ IsNext task s y
     undominated_is_next y = let waiting = left_waiting task s left all in (
@@ -261,12 +235,12 @@ module _ (task : Task) (is : IsTask task) (s : SearchState) (sound : IsSound tas
     begun_by_run : (b : SearchState) → Runs task s halves b → IsBegun task s b
     begun_by_run b run =
         let (left, first, second) = runs_apart task s b (map (λ l. drop l) drops) (map (λ l. take l) takes) run in
-        let all = ((all_drops task is s sound drops each_drop).1 left).0 first in
+        let all = ((all_drops task s sound drops each_drop).1 left).0 first in
         begun_by_moves left all b (((all_takes left all takes each_take).1 b).0 second)
 
     begun_run : (b : SearchState) × Runs task s halves b
     begun_run =
-        let ((left, first), order) = all_drops task is s sound drops each_drop in
+        let ((left, first), order) = all_drops task s sound drops each_drop in
         let ((b, second), _) = all_takes left ((order left).0 first) takes each_take in
         (b, runs_on task s left b (map (λ l. drop l) drops) (map (λ l. take l) takes) first second)
 
@@ -289,7 +263,7 @@ module _ (task : Task) (is : IsTask task) (s : SearchState) (sound : IsSound tas
   pub begins_is_begun : (b : SearchState) → Begins task s b ↔ IsBegun task s b
   begins_is_begun b = (
     λ h.
-        let all = ((all_drops task is s sound h.drops h.each_drop).1 h.left).0 h.dropping in
+        let all = ((all_drops task s sound h.drops h.each_drop).1 h.left).0 h.dropping in
         let next = once_as (IsUndominated h.left.waiting) (IsNext task s) h.takes (undominated_is_next h.left all) h.each_take in
         begun_by_moves h.left all b (((all_takes h.left all h.takes next).1 b).0 h.taking),
     λ begun.
@@ -297,7 +271,7 @@ module _ (task : Task) (is : IsTask task) (s : SearchState) (sound : IsSound tas
         let (takes, each_take) = some_takes task s in
         let run = (begun_in_any_order drops takes each_drop each_take b).1 begun in
         let (left, first, second) = runs_apart task s b (map (λ l. drop l) drops) (map (λ l. take l) takes) run in
-        let same = undominated_is_next left (((all_drops task is s sound drops each_drop).1 left).0 first) in
+        let same = undominated_is_next left (((all_drops task s sound drops each_drop).1 left).0 first) in
         let undominated = once_as (IsNext task s) (IsUndominated left.waiting) takes (λ y. ((same y).1, (same y).0)) each_take in
         record { drops = drops; each_drop = each_drop; left = left; dropping = first; takes = takes; each_take = undominated; taking = second },
   )

@@ -2,20 +2,20 @@
 -- counted rounds, each makes what waits heavier, and how many labels are settled says whether the query passes its budget.
 use Rattle.std.proofs.Common.{◌≡◌, ◌≢◌, ℕ, zero, suc, ◌+◌, ◌<◌, ◌≤◌, ◌⊎◌, ◌↔◌, List, [], ◌∷◌, ◌++◌, length, map, replicate, sum}
 use Rattle.std.proofs.Common.{inl, inr, refl, sym, ap, ap₂, subst, ◌∙◌, arith}
-use Rattle.std.specs.Prelude.{All, AllPairs, Contains}
+use Rattle.std.specs.Prelude.{AllPairs, Contains}
 use Rattle.std.proofs.lemmas.Bool.{cases_lt}
 use Rattle.std.proofs.lemmas.List.{length-map}
-use Rattle.std.proofs.lemmas.List.Elements.{All-nil, All-cons, All-head, All-tail, All-map, All-weaker}
+use Rattle.std.proofs.lemmas.List.Elements.{All-map, All-weaker}
 use Rattle.cost_vector.specs.Costs.{Dominates}
 use Rattle.cost_vector.proofs.Vectors.{sum-Dominates}
 use Rattle.list_laws.specs.Sets.{HasMoreThan}
 use Rattle.list_laws.proofs.Members.{in_none, cases_in, in_map, each_in}
-use Rattle.list_laws.proofs.Pairs.{pairs_none, pairs_cons, pairs_rest, pair_with_first, pairs_map, pigeonhole}
+use Rattle.list_laws.proofs.Pairs.{pairs_none, pairs_cons, pairs_map, pigeonhole}
 use Rattle.list_laws.proofs.SetLaws.{none_of_empty, same_by_permutation, more_by_list}
 use Rattle.list_laws.proofs.OnceLaws.{IsTold, told_both, told_some, told_in, list_all, once_as, empty_if_none}
 use Rattle.road_network.specs.Answers.{IsRelevant, Passes}
 use Rattle.road_network.proofs.BestLaws.{start_is_relevant}
-use Rattle.event_machine.specs.Machine.{Task, IsTask, Label, IsSamePair, SearchState, HasSettled, start_state, settled, dropped, waiting}
+use Rattle.event_machine.specs.Machine.{Task, IsTask, Label, IsSamePair, SearchState, start_state, settled, dropped, waiting}
 use Rattle.event_machine.specs.Events.{Event, drop, take, merge, IsSame, MayDrop, Runs, IsReached}
 use Rattle.event_machine.specs.Rounds.{IsBetweenRounds, Begins, Finishes, Round, CountedRound, GoRounds, NoneStays, Rounds, relaxing}
 use Rattle.event_machine.specs.Orders.{Stays, IsNext, IsBegun, IsOutcome, came, comes}
@@ -94,7 +94,7 @@ module _ (task : Task) (is : IsTask task) where
   -- what is left after the drops
   left_after_drops : (s b : SearchState) → IsReached task s → (h : Begins task s b) → (y : Label) → Contains h.left.waiting y ↔ Stays task s y
   left_after_drops s b reached h =
-      left_waiting task s h.left (((all_drops task is s (sound_if_reached task is s reached) h.drops h.each_drop).1 h.left).0 h.dropping)
+      left_waiting task s h.left (((all_drops task s (sound_if_reached task is s reached) h.drops h.each_drop).1 h.left).0 h.dropping)
 
   pub some_round : (s : SearchState) → IsReached task s → IsBetweenRounds s → (t : SearchState) × Round task s t
   some_round s reached between =

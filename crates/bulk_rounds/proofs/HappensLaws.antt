@@ -1,5 +1,5 @@
 -- Each event that may happen leads to some state.
-use Rattle.std.proofs.Common.{◌≡◌, ◌≢◌, ℕ, ◌+◌, ◌-◌, ◌<◌, ◌≤◌, ◌⊎◌, ◌↔◌, List, ◌∷◌, ◌++◌, length, map, Option, Some}
+use Rattle.std.proofs.Common.{◌≡◌, ◌≢◌, ℕ, ◌+◌, ◌-◌, ◌<◌, ◌≤◌, ◌⊎◌, ◌↔◌, List, [], ◌∷◌, ◌++◌, length, map, Option, Some}
 use Rattle.std.proofs.Common.{inl, inr, refl, sym, ap, subst, ◌∙◌, arith}
 use Rattle.std.specs.Prelude.{slice_get, Contains}
 use Rattle.std.specs.List.{range_with_len}
@@ -23,25 +23,19 @@ told_place dropped dropped = inl refl
 told_place waiting waiting = inl refl
 told_place _ _ = inr (λ e. absurd cc)
 
-in_entries : (s : SearchState) (y : Label) → Contains (s.settled ++ (s.dropped ++ s.waiting)) y ↔ IsEntry s y
-in_entries s y = (
-  λ h. elim (Contains-append_cases s.settled (s.dropped ++ s.waiting) y h) [
-    | inl here ↦ (settled, here)
-    | inr other ↦ elim (Contains-append_cases s.dropped s.waiting y other) [ inl here ↦ (dropped, here) | inr here ↦ (waiting, here) ]
-  ],
-  λ (p, here). at p here,
-) where
-  at : (p : Place) → Contains (entries_at s p) y → Contains (s.settled ++ (s.dropped ++ s.waiting)) y
-  at settled here = Contains-append_left s.settled (s.dropped ++ s.waiting) y here
-  at dropped here = Contains-append_right s.settled (s.dropped ++ s.waiting) y (Contains-append_left s.dropped s.waiting y here)
-  at waiting here = Contains-append_right s.settled (s.dropped ++ s.waiting) y (Contains-append_right s.dropped s.waiting y here)
+listed : (p : Place) → Contains (settled ∷ dropped ∷ waiting ∷ []) p
+listed settled = (0, omega arith, refl)
+listed dropped = (1, omega arith, refl)
+listed waiting = (2, omega arith, refl)
 
 -- whether P holds of an entry
 told_entry : (P : Label → Type 0) → ((y : Label) → IsTold (P y)) → (s : SearchState) → ((y : Label) × IsEntry s y × P y) ⊎ ((y : Label) → IsEntry s y → ¬ P y)
-told_entry P told s = elim (told_some P told (s.settled ++ (s.dropped ++ s.waiting))) [
-  | inl (y, there, holds) ↦ inl (y, (in_entries s y).0 there, holds)
-  | inr none ↦ inr (λ y entry. none y ((in_entries s y).1 entry))
-]
+told_entry P told s = elim (told_some (λ p. (y : Label) × Contains (entries_at s p) y × P y)
+    (λ p. elim (told_some P told (entries_at s p)) [ inl found ↦ inl found | inr none ↦ inr (λ (y, here, holds). none y here holds) ])
+    (settled ∷ dropped ∷ waiting ∷ [])) [
+      | inl (p, _, (y, here, holds)) ↦ inl (y, (p, here), holds)
+      | inr none ↦ inr (λ y (p, here) holds. none p (listed p) (y, here, holds))
+    ]
 
 told_leads : (net : Network) (u k : ℕ) → IsTold (LeadsOn net u k)
 told_leads net u k = by (slice_get net.ends (k - 1)) refl (slice_get net.states (k - 1)) refl (cases_lt 0 k) where

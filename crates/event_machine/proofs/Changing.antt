@@ -9,7 +9,7 @@ use Rattle.event_machine.specs.Events.{SameEntries, Becomes, Enters, IsMerged, k
 use Rattle.event_machine.specs.Orders.{HasPair}
 use Rattle.event_machine.specs.Laws.{IsKnown}
 use Rattle.event_machine.proofs.Sound.{Covers, covers_beaten, covers_pair, below_pair, IsCovered, covered_by_itself}
-use Rattle.event_machine.proofs.Sound.{AreApart, IsSound, cases_label, cases_beats, cases_below, same_pair, pair_back}
+use Rattle.event_machine.proofs.Sound.{AreApart, apart_by, IsSound, cases_label, cases_beats, cases_below, same_pair, pair_back}
 
 -- no settled label goes, each entry was known and can be stood for later, and they stay apart
 pub record EntriesChange (a b : SearchState) : Type 0 where
@@ -46,25 +46,18 @@ module _ (a b : SearchState) (apart : AreApart a) where
     is_other p y m there stays e = subst (λ (z : Label). z.node ≡ y.node → ¬ (AtMost z.cost y.cost ⊎ AtMost y.cost z.cost)) (sym e) (room.clear p y there stays)
 
     apart_after : AreApart b
-    apart_after = record {
-      alone = λ y z (p, y_in) (q, z_in) node below. elim ((becomes p y).0 y_in) [
-        | inl old ↦ elim ((becomes q z).0 z_in) [
-          | inl old_too ↦ apart.alone y z (p, old.0) (q, old_too.0) node below
-          | inr (_, e) ↦ absurd (is_other p y z old.0 old.1 e (sym node) (inr below))
-        ]
-        | inr (_, e) ↦ elim ((becomes q z).0 z_in) [ inl old ↦ absurd (is_other q z y old.0 old.1 e node (inl below)) | inr (_, f) ↦ e ∙ sym f ]
-      ];
-      placed = λ p q y here there. elim ((becomes p y).0 here) [
-        | inl old ↦ elim ((becomes q y).0 there) [
-          | inl old_too ↦ apart.placed p q y old.0 old_too.0
-          | inr (_, e) ↦ absurd (is_other p y y old.0 old.1 e refl (inl (AtMost-refl y.cost)))
-        ]
-        | inr (is_to, e) ↦ elim ((becomes q y).0 there) [
-          | inl old ↦ absurd (is_other q y y old.0 old.1 e refl (inl (AtMost-refl y.cost)))
-          | inr (is_to_too, _) ↦ is_to ∙ sym is_to_too
-        ]
-      ];
-    }
+    apart_after = apart_by b (λ p q y z y_in z_in node below. elim ((becomes p y).0 y_in) [
+      | inl old ↦ elim ((becomes q z).0 z_in) [
+        | inl old_too ↦
+            let same = apart.alone y z (p, old.0) (q, old_too.0) node below in
+            (apart.placed p q y old.0 (subst (Contains (entries_at a q)) (sym same) old_too.0), same)
+        | inr (_, e) ↦ absurd (is_other p y z old.0 old.1 e (sym node) (inr below))
+      ]
+      | inr (to_p, e) ↦ elim ((becomes q z).0 z_in) [
+        | inl old ↦ absurd (is_other q z y old.0 old.1 e node (inl below))
+        | inr (to_q, f) ↦ (to_p ∙ sym to_q, e ∙ sym f)
+      ]
+    ])
 
     -- n comes, and others may go
     pub entries_become : EntriesChange a b

@@ -12,7 +12,7 @@ use Rattle.event_machine.specs.Machine.{waiting, entries_at, IsEntry, IsActive, 
 use Rattle.event_machine.specs.Events.{Event, Happens, IsSame, Runs, IsReached}
 use Rattle.event_machine.specs.Orders.{came, comes}
 use Rattle.event_machine.specs.Laws.{IsKnown}
-use Rattle.event_machine.proofs.Sound.{IsSound, IsFounded, at_start, follows, IsCovered, IsMet, covers_through, covered_by_itself, below_pair}
+use Rattle.event_machine.proofs.Sound.{IsSound, apart_by, IsFounded, at_start, follows, IsCovered, IsMet, covers_through, covered_by_itself, below_pair}
 use Rattle.event_machine.proofs.Running.{along_run}
 use Rattle.event_machine.proofs.Stepping.{Changes, same_changes, changes_of}
 use Rattle.event_machine.proofs.Frontier.{grown_from_settled, taken_is_relevant, taken_is_least, all_settled}
@@ -110,10 +110,8 @@ module _ (task : Task) (is : IsTask task) where
   sound_at_start = record {
     founded = λ y known. at_start (known_at_start y known);
     paired = λ e k there. absurd (in_none (e, k) there);
-    apart = record {
-      alone = λ y z y_in z_in node below. known_at_start y (inl y_in) ∙ sym (known_at_start z (inl z_in));
-      placed = λ p q y here there. (at_start_alone p y here).0 ∙ sym (at_start_alone q y there).0;
-    };
+    apart = apart_by (start_state task) (λ p q y z y_in z_in node below.
+        ((at_start_alone p y y_in).0 ∙ sym (at_start_alone q z z_in).0, (at_start_alone p y y_in).1 ∙ sym (at_start_alone q z z_in).1));
     fresh = record { once = pairs_none ◌≢◌; apart = λ e x there. absurd (in_none x there) };
     started = covered_by_itself (start_state task) (start_label task) (waiting, in_first (start_label task) []);
     expanded = λ e x there. absurd (in_none e there);

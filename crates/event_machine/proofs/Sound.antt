@@ -97,6 +97,13 @@ pub record AreApart (s : SearchState) : Type 0 where
   pub alone : (y z : Label) → IsEntry s y → IsEntry s z → y.node ≡ z.node → AtMost y.cost z.cost → y ≡ z
   pub placed : (p q : Place) (y : Label) → Contains (entries_at s p) y → Contains (entries_at s q) y → p ≡ q
 
+pub apart_by : (s : SearchState) → ((p q : Place) (y z : Label) → Contains (entries_at s p) y → Contains (entries_at s q) z
+    → y.node ≡ z.node → AtMost y.cost z.cost → (p ≡ q) × (y ≡ z)) → AreApart s
+apart_by s both = record {
+  alone = λ y z (p, y_in) (q, z_in) node below. (both p q y z y_in z_in node below).1;
+  placed = λ p q y here there. (both p q y y here there refl (AtMost-refl y.cost)).0;
+}
+
 -- each candidate stands once, and no arc that is still to be relaxed gives it again
 pub record IsFresh (net : Network) (s : SearchState) : Type 0 where
   pub once : AllPairs ◌≢◌ s.candidates

@@ -18,11 +18,11 @@ use Rattle.event_machine.specs.Orders.{IsArrival, came, comes, IsToDo, Survives,
 use Rattle.event_machine.specs.Rounds.{relaxing, Finishes}
 use Rattle.event_machine.proofs.Sound.{IsSound, AreApart, Covers, IsCovered, IsMet, covered_by_itself, below_pair, cases_label, label_by_parts, same_pair}
 use Rattle.event_machine.proofs.Sound.{pair_back, cases_pair}
-use Rattle.event_machine.proofs.Changing.{place_before_merge}
+use Rattle.event_machine.proofs.Stepping.{place_before_merge}
 use Rattle.event_machine.proofs.Stepping.{Changes, changes_of, arrivals_by_relax, arrivals_by_merge, candidates_by_merge, arrival_on, same_changes}
 use Rattle.event_machine.proofs.Keeping.{met_after, sound_after, same_is_sound}
 use Rattle.event_machine.proofs.Running.{same_itself, same_back, runs_on, runs_apart, run_exists, runs_to_end}
-use Rattle.bulk_rounds.proofs.HappensLaws.{relax_happens, merge_happens}
+use Rattle.bulk_rounds.proofs.BegunLaws.{relax_happens, merge_happens}
 
 -- ---- what is kept
 

@@ -14,7 +14,7 @@ use Rattle.list_laws.proofs.Pairs.{pairs_rest, pair_with_first}
 use Rattle.road_network.specs.Network.{Network}
 use Rattle.event_machine.specs.Machine.{Task, IsTask, Label, IsSamePair, Beats, SearchState, Place, settled, dropped, waiting, entries_at, IsEntry}
 use Rattle.event_machine.specs.Events.{Event, take, drop, relax, merge, SameEntries, IsSame, IsMerged, keeps, lowers, discards, enters, Merges, Happens, Runs}
-use Rattle.event_machine.specs.Orders.{IsArrival, came, comes, IsToDo, Survives, HasPair, Belongs, IsOutcome, MergesResult, Completes}
+use Rattle.event_machine.specs.Orders.{IsArrival, IsToDo, Survives, HasPair, Belongs, IsOutcome, MergesResult, Completes}
 use Rattle.event_machine.specs.Rounds.{relaxing, Finishes}
 use Rattle.event_machine.proofs.Sound.{IsSound, AreApart, Covers, IsCovered, IsMet, covered_by_itself, below_pair, cases_label, label_by_parts, same_pair}
 use Rattle.event_machine.proofs.Sound.{pair_back, cases_pair}
@@ -62,7 +62,7 @@ module _ (task : Task) (is : IsTask task) (a b : SearchState) (sound : IsSound t
     met = met_after task is a b sound changes;
     back = λ y. elim [
       | inr arrival ↦ inr (arrivals y arrival)
-      | inl entry ↦ elim (changes.entries.known y entry) [ inl old ↦ inl old | inr candidate ↦ inr (came candidate) ]
+      | inl entry ↦ elim (changes.entries.known y entry) [ inl old ↦ inl old | inr candidate ↦ inr (inl candidate) ]
     ];
     places = places;
   }
@@ -79,7 +79,7 @@ module _ (task : Task) (is : IsTask task) (a b : SearchState) (sound : IsSound t
   place_after (discards k) p y unbeaten was = pair_on _ _ (λ z. (k.entries p z).1) y was
   place_after (enters k) p y unbeaten was =
       let safe = λ (beats : Beats x was.label).
-      unbeaten x (inr (came mine)) (record { node = beats.node ∙ was.same.node; cost = subst (Dominates x.cost) was.same.cost beats.cost }) in
+      unbeaten x (inr (inl mine)) (record { node = beats.node ∙ was.same.node; cost = subst (Dominates x.cost) was.same.cost beats.cost }) in
       record { label = was.label; member = (k.entries p was.label).1 (inl (was.member, inr safe)); same = was.same }
   place_after (lowers k) p y unbeaten was = elim (cases_label was.label k.entry) [
     | inr other ↦ record { label = was.label; member = (k.entries p was.label).1 (inl (was.member, other)); same = was.same }
@@ -116,8 +116,8 @@ module _ (net : Network) (a b : SearchState) (kept : KeepsOutcome net a b) (apar
   covered y present = by (kept.met y (elim present [ inl entry ↦ inr (covered_by_itself a y entry) | inr arrival ↦ inl arrival ])) where
     by : IsMet net b y → IsCovered b y
     by (inr h) = h
-    by (inl (came there)) = absurd (none_of_empty b.candidates no_candidate y there)
-    by (inl (comes e there f)) = absurd (none_of_empty b.unrelaxed no_arc (e, y.arc) there)
+    by (inl (inl there)) = absurd (none_of_empty b.candidates no_candidate y there)
+    by (inl (inr (e, there, f))) = absurd (none_of_empty b.unrelaxed no_arc (e, y.arc) there)
 
   -- an entry can stand for all before that isn't worse
   covers_back : (y z : Label) → IsEntry b y → IsPresent net a z → z.node ≡ y.node → AtMost z.cost y.cost → Covers y z
@@ -278,8 +278,8 @@ module _ (task : Task) (is : IsTask task) where
     first_happens (relax l k) rest a left =
         let pair = (left.completes.all.exact (relax l k)).0 (in_first (relax l k) rest) in relax_happens task a l k pair (left.sound.paired l k pair).1
     first_happens (merge x) rest a left = elim ((left.completes.all.exact (merge x)).0 (in_first (merge x) rest)) [
-      | came there ↦ merge_happens a x there
-      | comes e there f ↦ elim (cases_in (merge x) rest (relax e x.arc) ((left.completes.all.exact (relax e x.arc)).1 there)) [
+      | inl there ↦ merge_happens a x there
+      | inr (e, there, f) ↦ elim (cases_in (merge x) rest (relax e x.arc) ((left.completes.all.exact (relax e x.arc)).1 there)) [
         | inl wrong ↦ absurd cc
         | inr later ↦
             absurd (pair_with_first (λ a b. ¬ MergesResult task.network a b) (merge x) rest left.completes.in_order (relax e x.arc) later (refl, f))
@@ -290,7 +290,7 @@ module _ (task : Task) (is : IsTask task) where
     outcome_if_none_left b left =
         let none = λ (event : Event) (due : IsToDo task.network b event). in_none event ((left.completes.all.exact event).1 due) in
         outcome_at_end task.network s b left.kept left.sound.apart (empty_if_none b.unrelaxed (λ p there. none (relaxing p) there))
-        (empty_if_none b.candidates (λ x there. none (merge x) (came there)))
+        (empty_if_none b.candidates (λ x there. none (merge x) (inl there)))
 
     module _ (sound : IsSound task s) (events : List Event) (completes : Completes task.network s events) where
       none_yet : IsLeft s events s
@@ -372,10 +372,10 @@ module _ (task : Task) (is : IsTask task) where
       → Runs task s (map relaxing ps) b → ListsOnce (IsArrival task.network s) b.candidates
   arrivals_when_relaxed [] s b sound pairs run = record {
     exact = λ x. (
-      λ here. came ((same_by_permutation b.candidates s.candidates run.candidates x).1 here),
+      λ here. inl ((same_by_permutation b.candidates s.candidates run.candidates x).1 here),
       elim [
-        | came there ↦ (same_by_permutation b.candidates s.candidates run.candidates x).0 there
-        | comes e there f ↦ absurd (in_none (e, x.arc) ((pairs.exact (e, x.arc)).1 there))
+        | inl there ↦ (same_by_permutation b.candidates s.candidates run.candidates x).0 there
+        | inr (e, there, f) ↦ absurd (in_none (e, x.arc) ((pairs.exact (e, x.arc)).1 there))
       ],
     );
     once = (same_is_sound task is s b run sound).fresh.once;

@@ -18,7 +18,7 @@ use Rattle.road_network.proofs.BestLaws.{start_is_relevant}
 use Rattle.event_machine.specs.Machine.{Task, IsTask, Label, IsSamePair, SearchState, start_state, settled, dropped, waiting}
 use Rattle.event_machine.specs.Events.{Event, drop, take, merge, IsSame, MayDrop, Runs, IsReached}
 use Rattle.event_machine.specs.Rounds.{IsBetweenRounds, Begins, Finishes, Round, CountedRound, GoRounds, NoneStays, Rounds, relaxing}
-use Rattle.event_machine.specs.Orders.{Stays, IsNext, IsBegun, IsOutcome, came, comes}
+use Rattle.event_machine.specs.Orders.{Stays, IsNext, IsBegun, IsOutcome}
 use Rattle.event_machine.proofs.Sound.{IsSound, cases_label, same_pair}
 use Rattle.event_machine.proofs.Running.{same_itself, same_back, same_through, drop_alike, runs_on, runs_from_same, along_run}
 use Rattle.event_machine.proofs.Frontier.{grown_from_settled, all_settled}
@@ -337,8 +337,8 @@ module _ (task : Task) (is : IsTask task) (budget : ℕ) where
           | inl (settled, here) ↦ absurd (unsettled (record { label = y; member = here; same = same_pair y y refl }))
           | inl (dropped, here) ↦ absurd (undropped (record { label = y; member = here; same = same_pair y y refl }))
           | inl (waiting, here) ↦ heavier_left y here
-          | inr (came here) ↦ absurd (none_of_empty round.begun.candidates begun.candidates y here)
-          | inr (comes e here follows) ↦
+          | inr (inl here) ↦ absurd (none_of_empty round.begun.candidates begun.candidates y here)
+          | inr (inr (e, here, follows)) ↦
               let next = ((begun.unrelaxed (e, y.arc)).0 here).0 in
               let sound = sound_if_reached task is round.begun (reached_begun task is s t reached round) in
               let less = grown_from_settled task is round.begun sound e y ((begun.entries settled e).1 (inr (inr (refl, next)))) follows in

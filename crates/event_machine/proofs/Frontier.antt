@@ -23,7 +23,7 @@ use Rattle.road_network.proofs.SumLaws.{sum_of_none, sum_of_more, sum_of_most, s
 use Rattle.event_machine.specs.Machine.{Task, IsTask, Label, SearchState, settled, dropped, waiting, IsEntry, IsActive, waits, is_candidate, has_arc}
 use Rattle.event_machine.specs.Machine.{HasSettled, IsBeatenAtTarget, Follows, start_label}
 use Rattle.event_machine.specs.Events.{MayTake}
-use Rattle.event_machine.specs.Orders.{IsArrival, came, comes}
+use Rattle.event_machine.specs.Orders.{IsArrival}
 use Rattle.event_machine.specs.Rounds.{NoneStays}
 use Rattle.event_machine.specs.Laws.{HasLeastArc, IsKnown}
 use Rattle.event_machine.proofs.Sound.{IsCovered, IsSound, at_start, follows}
@@ -83,8 +83,8 @@ module _ (task : Task) (is : IsTask task) (s : SearchState) (sound : IsSound tas
     at (waiting, here) = inr (record { label = by.entry; pending = inl (waits here); at_most = less })
 
   arrival_below : (x : Label) (c : List ℕ) → AtMost x.cost c → IsArrival task.network s x → HasPendingBelow s c
-  arrival_below x c below (came here) = record { label = x; pending = inl (is_candidate here); at_most = below }
-  arrival_below x c below (comes e there f) =
+  arrival_below x c below (inl here) = record { label = x; pending = inl (is_candidate here); at_most = below }
+  arrival_below x c below (inr (e, there, f)) =
       let less = grown_from_settled e x (sound.paired e x.arc there).0 f in
       record { label = e; pending = inl (has_arc x.arc there); at_most = AtMost-trans e.cost x.cost c less.at_most below }
 
@@ -188,8 +188,8 @@ module _ (task : Task) (is : IsTask task) (s : SearchState) (sound : IsSound tas
         let leads = subst (λ u. Leads task.network k u walk.by l.node) (sym e.node) walk.leads in
         let f : Follows task.network e.label x = record { by = walk.by; leads = leads; cost = walk.cost ∙ ap (λ b. plus b walk.by) (sym e.cost) } in
         elim (sound.expanded e.label x e.settled f) [
-          | inl (came there) ↦ absurd (may.alone x there (record { node = refl; cost = refl }))
-          | inl (comes d there g) ↦ absurd (may.undominated d (has_arc k there) (grown_from_settled d x (sound.paired d k there).0 g))
+          | inl (inl there) ↦ absurd (may.alone x there (record { node = refl; cost = refl }))
+          | inl (inr (d, there, g)) ↦ absurd (may.undominated d (has_arc k there) (grown_from_settled d x (sound.paired d k there).0 g))
           | inr by ↦
               let same = alone_there by.entry by.is_entry by.covers.node by.covers.cost in
               subst (λ (m : Label). m.arc ≤ k) same (by.covers.arc (ap (λ (m : Label). m.cost) same))

@@ -10,7 +10,6 @@ use Rattle.list_laws.proofs.Pairs.{pairs_none}
 use Rattle.event_machine.specs.Machine.{Task, IsTask, Label, IsSamePair, SearchState, start_label, start_state, Place, settled, dropped}
 use Rattle.event_machine.specs.Machine.{waiting, entries_at, IsEntry, IsActive, waits, is_candidate, has_arc, HasSettled, IsBeatenAtTarget, Follows}
 use Rattle.event_machine.specs.Events.{Event, Happens, IsSame, Runs, IsReached}
-use Rattle.event_machine.specs.Orders.{came, comes}
 use Rattle.event_machine.specs.Laws.{IsKnown}
 use Rattle.event_machine.proofs.Sound.{IsSound, apart_by, IsFounded, at_start, follows, IsCovered, IsMet, covers_through, covered_by_itself, below_pair}
 use Rattle.event_machine.proofs.Running.{along_run}
@@ -26,8 +25,8 @@ module _ (task : Task) (is : IsTask task) where
     founded_after y = elim [
       | inl entry ↦ founded_still y (changes.entries.known y entry)
       | inr here ↦ elim (changes.candidates y here) [
-        | came old ↦ founded_still y (inr old)
-        | comes e there f ↦ follows e (changes.entries.kept e (sound.paired e y.arc there).0) f
+        | inl old ↦ founded_still y (inr old)
+        | inr (e, there, f) ↦ follows e (changes.entries.kept e (sound.paired e y.arc there).0) f
       ]
     ]
 
@@ -39,17 +38,17 @@ module _ (task : Task) (is : IsTask task) where
     no_better_than l there y (waits here) less = no_better l y there (changes.entries.active y here) less
     no_better_than l there y (has_arc k here) less = no_better l y there (changes.paired y k here).0 less
     no_better_than l there y (is_candidate here) less = elim (changes.candidates y here) [
-      | came old ↦ no_better l y there (is_candidate old) less
-      | comes e pair f ↦
+      | inl old ↦ no_better l y there (is_candidate old) less
+      | inr (e, pair, f) ↦
           let grown = grown_from_settled task is a sound e y (sound.paired e y.arc pair).0 f in
           no_better l e there (has_arc y.arc pair) (AtMost-Dominates e.cost y.cost l.cost grown.at_most less)
     ]
 
     no_equal : (l x : Label) → Contains b.settled l → Contains b.candidates x → ¬ IsSamePair x l
     no_equal l x there here pair = elim (changes.candidates x here) [
-      | comes e arc f ↦
+      | inr (e, arc, f) ↦
           no_better l e there (has_arc x.arc arc) (subst (Dominates e.cost) pair.cost (grown_from_settled task is a sound e x (sound.paired e x.arc arc).0 f))
-      | came old ↦ elim (changes.settled l there) [ inl before ↦ sound.unequalled l x before old pair | inr taken ↦ taken.may.alone x old pair ]
+      | inl old ↦ elim (changes.settled l there) [ inl before ↦ sound.unequalled l x before old pair | inr taken ↦ taken.may.alone x old pair ]
     ]
 
     covered_after : (x : Label) → IsCovered a x → IsCovered b x
@@ -112,7 +111,7 @@ module _ (task : Task) (is : IsTask task) where
     paired = λ e k there. absurd (in_none (e, k) there);
     apart = apart_by (start_state task) (λ p q y z y_in z_in node below.
         ((at_start_alone p y y_in).0 ∙ sym (at_start_alone q z z_in).0, (at_start_alone p y y_in).1 ∙ sym (at_start_alone q z z_in).1));
-    fresh = record { once = pairs_none ◌≢◌; apart = λ e x there. absurd (in_none x there) };
+    fresh = record { once = pairs_none ◌≢◌; apart = λ x there. absurd (in_none x there) };
     started = covered_by_itself (start_state task) (start_label task) (waiting, in_first (start_label task) []);
     expanded = λ e x there. absurd (in_none e there);
     useless = λ y there. absurd (in_none y there);

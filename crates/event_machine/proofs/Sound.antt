@@ -9,7 +9,7 @@ use Rattle.road_network.specs.Answers.{IsRelevant}
 use Rattle.list_laws.proofs.OnceLaws.{IsTold, told_as, told_both}
 use Rattle.event_machine.specs.Machine.{Task, Label, IsSamePair, Beats, SearchState, start_label, Place, entries_at, IsEntry, IsActive}
 use Rattle.event_machine.specs.Machine.{IsBeatenAtTarget, LeadsOn, Follows}
-use Rattle.event_machine.specs.Orders.{IsArrival}
+use Rattle.event_machine.specs.Orders.{IsGiven, IsArrival}
 use Rattle.event_machine.specs.Laws.{IsKnown, HasLeastArc}
 
 -- ---- what can be told of labels
@@ -107,7 +107,7 @@ apart_by s both = record {
 -- each candidate stands once, and no arc that is still to be relaxed gives it again
 pub record IsFresh (net : Network) (s : SearchState) : Type 0 where
   pub once : AllPairs ◌≢◌ s.candidates
-  pub apart : (e x : Label) → Contains s.candidates x → Contains s.unrelaxed (e, x.arc) → ¬ Follows net e x
+  pub apart : (x : Label) → Contains s.candidates x → ¬ IsGiven net s x
 
 -- all that each state keeps to which events lead
 pub record IsSound (task : Task) (s : SearchState) : Type 0 where

@@ -13,7 +13,7 @@ use Rattle.event_machine.specs.Machine.{Task, Label, IsSamePair, Beats, SearchSt
 use Rattle.event_machine.specs.Machine.{is_candidate, IsTask, dropped, has_arc, IsBeatenAtTarget, LeadsOn, Follows}
 use Rattle.event_machine.specs.Events.{SameEntries, Becomes, Enters, IsMerged, keeps, lowers, discards, enters, Event, take, drop, relax, merge, MayTake, Takes}
 use Rattle.event_machine.specs.Events.{Drops, Relaxes, Merges, Happens, IsSame}
-use Rattle.event_machine.specs.Orders.{HasPair, IsArrival, came, comes}
+use Rattle.event_machine.specs.Orders.{HasPair, IsGiven, IsArrival}
 use Rattle.event_machine.specs.Laws.{IsKnown}
 use Rattle.event_machine.proofs.Sound.{Covers, covers_beaten, covers_pair, below_pair, IsCovered, covered_by_itself, AreApart, apart_by, IsSound, cases_label}
 use Rattle.event_machine.proofs.Sound.{cases_beats, cases_below, same_pair, pair_back, IsFresh, IsMet, at_start, follows, label_by_parts, cases_pair}
@@ -196,36 +196,38 @@ follows_alike net e x y f g arc =
     let alike = leads_alike net x.arc e.node x.node e.node y.node f.by g.by f.leads that in
     label_by_parts x y (record { node = alike.2; cost = f.cost ∙ ap (plus e.cost) alike.1 ∙ sym g.cost }) arc
 
--- what arrives still does where no candidate and no arc that is to be relaxed goes
+-- what is given or arrives still is or does where no candidate and no arc that is to be relaxed goes
+given_on : (net : Network) (a b : SearchState) → ((p : Label × ℕ) → Contains a.unrelaxed p → Contains b.unrelaxed p) → (x : Label)
+    → IsGiven net a x → IsGiven net b x
+given_on net a b pairs x (e, there, f) = (e, pairs (e, x.arc) there, f)
+
 pub arrival_on : (net : Network) (a b : SearchState) → ((x : Label) → Contains a.candidates x → Contains b.candidates x)
     → ((p : Label × ℕ) → Contains a.unrelaxed p → Contains b.unrelaxed p) → (x : Label) → IsArrival net a x → IsArrival net b x
-arrival_on net a b candidates pairs x (came there) = came (candidates x there)
-arrival_on net a b candidates pairs x (comes e there f) = comes e (pairs (e, x.arc) there) f
+arrival_on net a b candidates pairs x = elim [ inl there ↦ inl (candidates x there) | inr given ↦ inr (given_on net a b pairs x given) ]
 
--- what arrives stays the same where an arc is relaxed
-pub arrivals_by_relax : (task : Task) (a b : SearchState) (l : Label) (k : ℕ) → Relaxes task a l k b → (x : Label)
-    → IsArrival task.network a x ↔ IsArrival task.network b x
-arrivals_by_relax task a b l k h x = (
-  elim [
-    | came there ↦ came ((gains x).1 (inl there))
-    | comes e there f ↦ elim (cases_pair (e, x.arc) (l, k)) [
-      | inr other ↦ comes e ((h.unrelaxed (e, x.arc)).1 (there, other)) f
+-- an arc is relaxed: what it gave comes to the candidates, and so what arrives stays the same
+module _ (task : Task) (a b : SearchState) (l : Label) (k : ℕ) (h : Relaxes task a l k b) (x : Label) where
+  candidates_by_relax : Contains b.candidates x ↔ (Contains a.candidates x ⊎ (x ≡ h.candidate))
+  candidates_by_relax = gains_by_permutation h.candidate a.candidates b.candidates h.candidates x
+
+  given_by_relax : IsGiven task.network a x ↔ (IsGiven task.network b x ⊎ (x ≡ h.candidate))
+  given_by_relax = (
+    λ (e, there, f). elim (cases_pair (e, x.arc) (l, k)) [
+      | inr other ↦ inl (e, (h.unrelaxed (e, x.arc)).1 (there, other), f)
       | inl same ↦
           let from : Follows task.network l x = subst (λ (m : Label). Follows task.network m x) (ap (λ (p : Label × ℕ). p.0) same) f in
-          let arc : x.arc ≡ h.candidate.arc = ap (λ (p : Label × ℕ). p.1) same ∙ sym h.arc in
-          came ((gains x).1 (inr (follows_alike task.network l x h.candidate from h.follows arc)))
-    ]
-  ],
-  elim [
-    | comes e here f ↦ comes e ((h.unrelaxed (e, x.arc)).0 here).0 f
-    | came here ↦ elim ((gains x).0 here) [
-      | inl old ↦ came old
-      | inr e ↦ subst (IsArrival task.network a) (sym e) (comes l (subst (λ j. Contains a.unrelaxed (l, j)) (sym h.arc) h.may) h.follows)
-    ]
-  ],
-) where
-  gains : (y : Label) → Contains b.candidates y ↔ (Contains a.candidates y ⊎ (y ≡ h.candidate))
-  gains = gains_by_permutation h.candidate a.candidates b.candidates h.candidates
+          inr (follows_alike task.network l x h.candidate from h.follows (ap (λ (p : Label × ℕ). p.1) same ∙ sym h.arc))
+    ],
+    elim [
+      | inl (e, here, f) ↦ (e, ((h.unrelaxed (e, x.arc)).0 here).0, f)
+      | inr e ↦ subst (IsGiven task.network a) (sym e) (l, subst (λ j. Contains a.unrelaxed (l, j)) (sym h.arc) h.may, h.follows)
+    ],
+  )
+
+  pub arrivals_by_relax : IsArrival task.network a x ↔ IsArrival task.network b x
+  arrivals_by_relax = both candidates_by_relax given_by_relax where
+    both : {A B E G H : Type 0} → (B ↔ (A ⊎ E)) → (G ↔ (H ⊎ E)) → ((A ⊎ G) ↔ (B ⊎ H))
+    both f g = grind arith
 
 -- what is merged leaves the candidates
 pub candidates_by_merge : (a b : SearchState) (x : Label) → Merges a x b → (y : Label) → Contains a.candidates y ↔ (Contains b.candidates y ⊎ (y ≡ x))
@@ -234,24 +236,13 @@ candidates_by_merge a b x h = gains_by_permutation x b.candidates a.candidates (
 module _ (task : Task) (is : IsTask task) (a b : SearchState) (sound : IsSound task a) where
   -- what arrives besides the candidate that is merged stays
   pub arrivals_by_merge : (x : Label) → Merges a x b → (y : Label) → IsArrival task.network b y ↔ (IsArrival task.network a y × (y ≢ x))
-  arrivals_by_merge x h y = (
-    elim [
-      | came here ↦ (came ((gains y).1 (inl here)), λ e. pair_with_first ◌≢◌ x b.candidates once y here (sym e))
-      | comes e there f ↦
-          let old = (h.unrelaxed (e, y.arc)).0 there in
-          (comes e old f, λ same. sound.fresh.apart e y ((gains y).1 (inr same)) old f)
-    ],
-    λ (arrival, other). stays other arrival,
-  ) where
-    gains : (z : Label) → Contains a.candidates z ↔ (Contains b.candidates z ⊎ (z ≡ x))
-    gains = candidates_by_merge a b x h
-
-    once : AllPairs ◌≢◌ (x ∷ b.candidates)
-    once = once_in_any_order a.candidates (x ∷ b.candidates) h.candidates sound.fresh.once
-
-    stays : y ≢ x → IsArrival task.network a y → IsArrival task.network b y
-    stays other (comes e there f) = comes e ((h.unrelaxed (e, y.arc)).1 there) f
-    stays other (came there) = elim ((gains y).0 there) [ inl here ↦ came here | inr e ↦ absurd (other e) ]
+  arrivals_by_merge x h y =
+      let gains = candidates_by_merge a b x h in
+      let once = once_in_any_order a.candidates (x ∷ b.candidates) h.candidates sound.fresh.once in
+      both (gains y) (λ here e. pair_with_first ◌≢◌ x b.candidates once y here (sym e)) (given_on task.network a b (λ p. (h.unrelaxed p).1) y)
+      (given_on task.network b a (λ p. (h.unrelaxed p).0) y) (λ e. sound.fresh.apart y ((gains y).1 (inr e))) where
+        both : {A B E G H : Type 0} → (A ↔ (B ⊎ E)) → (B → ¬ E) → (G → H) → (H → G) → (E → ¬ G) → ((B ⊎ H) ↔ ((A ⊎ G) × (¬ E)))
+        both f g to from apart = grind arith
 
   -- what waits has given no candidate
   gives_later : (l x : Label) → Contains a.waiting l → Contains a.candidates x → ¬ Follows task.network l x
@@ -270,15 +261,15 @@ module _ (task : Task) (is : IsTask task) (a b : SearchState) (sound : IsSound t
   -- the candidates stay
   module _ (moved : IsPermutation a.candidates b.candidates) where
     candidates_stay : (y : Label) → Contains b.candidates y → IsArrival task.network a y
-    candidates_stay y here = came ((same_by_permutation a.candidates b.candidates moved y).0 here)
+    candidates_stay y here = inl ((same_by_permutation a.candidates b.candidates moved y).0 here)
 
     arrivals_stay : ((p : Label × ℕ) → Contains a.unrelaxed p → Contains b.unrelaxed p) → (y : Label) → IsArrival task.network a y → IsMet task.network b y
     arrivals_stay pairs y arrival = inl (arrival_on task.network a b (λ x. (same_by_permutation a.candidates b.candidates moved x).1) pairs y arrival)
 
-    fresh_still : ((e x : Label) → Contains a.candidates x → Contains b.unrelaxed (e, x.arc) → ¬ Follows task.network e x) → IsFresh task.network b
+    fresh_still : ((x : Label) → Contains a.candidates x → ¬ IsGiven task.network b x) → IsFresh task.network b
     fresh_still apart = record {
       once = once_in_any_order a.candidates b.candidates moved sound.fresh.once;
-      apart = λ e x here. apart e x ((same_by_permutation a.candidates b.candidates moved x).0 here);
+      apart = λ x here. apart x ((same_by_permutation a.candidates b.candidates moved x).0 here);
     }
 
     -- and so do the pairs
@@ -291,7 +282,7 @@ module _ (task : Task) (is : IsTask task) (a b : SearchState) (sound : IsSound t
       paired = λ e k here. still_paired entries e k ((pairs (e, k)).0 here);
       candidates = candidates_stay;
       arrivals = arrivals_stay (λ p. (pairs p).1);
-      fresh = fresh_still (λ e x there pair. sound.fresh.apart e x there ((pairs (e, x.arc)).0 pair));
+      fresh = fresh_still (λ x there given. sound.fresh.apart x there (given_on task.network b a (λ p. (pairs p).0) x given));
     }
 
   -- ---- event by event
@@ -308,16 +299,16 @@ module _ (task : Task) (is : IsTask task) (a b : SearchState) (sound : IsSound t
     ];
     candidates = candidates_stay h.candidates;
     arrivals = arrivals_stay h.candidates (λ p old. (h.unrelaxed p).1 (inl old));
-    fresh = fresh_still h.candidates (λ e x there pair. elim ((h.unrelaxed (e, x.arc)).0 pair) [
-      | inl old ↦ sound.fresh.apart e x there old
-      | inr (is_l, _) ↦ gives_later e x (subst (Contains a.waiting) (sym is_l) h.may.waits) there
+    fresh = fresh_still h.candidates (λ x there (e, pair, f). elim ((h.unrelaxed (e, x.arc)).0 pair) [
+      | inl old ↦ sound.fresh.apart x there (e, old, f)
+      | inr (is_l, _) ↦ gives_later e x (subst (Contains a.waiting) (sym is_l) h.may.waits) there f
     ]);
   } where
     entries : EntriesChange a b
     entries = entries_become a b sound.apart (λ _ y. y ≢ l) l settled h.entries (room_to_move a b sound.apart l h.may.waits)
 
     taken : IsTaken task a b l
-    taken = record { may = h.may; opens = λ x f. comes l ((h.unrelaxed (l, x.arc)).1 (inr (refl, record { by = f.by; to = x.node; leads = f.leads }))) f }
+    taken = record { may = h.may; opens = λ x f. inr (l, (h.unrelaxed (l, x.arc)).1 (inr (refl, record { by = f.by; to = x.node; leads = f.leads })), f) }
 
   drop_changes : (l : Label) → Drops task a l b → Changes task a b
   drop_changes l h = quiet_changes h.candidates h.unrelaxed
@@ -339,28 +330,25 @@ module _ (task : Task) (is : IsTask task) (a b : SearchState) (sound : IsSound t
     settled = λ y here. inl ((h.entries settled y).0 here);
     useless = λ y here. sound.useless y ((h.entries dropped y).0 here);
     paired = λ e j here. still_paired (entries_stay a b sound.apart h.entries) e j ((h.unrelaxed (e, j)).0 here).0;
-    candidates = λ y here. (arrivals_by_relax task a b l k h y).1 (came here);
+    candidates = λ y here. (arrivals_by_relax task a b l k h y).1 (inl here);
     arrivals = λ y arrival. inl ((arrivals_by_relax task a b l k h y).0 arrival);
     fresh = record { once = once; apart = apart };
   } where
-    gains : (y : Label) → Contains b.candidates y ↔ (Contains a.candidates y ⊎ (y ≡ h.candidate))
-    gains = gains_by_permutation h.candidate a.candidates b.candidates h.candidates
-
-    pair_given : Contains a.unrelaxed (l, h.candidate.arc)
-    pair_given = subst (λ j. Contains a.unrelaxed (l, j)) (sym h.arc) h.may
-
     once : AllPairs ◌≢◌ b.candidates
     once = once_in_any_order (h.candidate ∷ a.candidates) b.candidates h.candidates (pairs_cons ◌≢◌ h.candidate a.candidates
-        (λ y there e. sound.fresh.apart l h.candidate (subst (Contains a.candidates) (sym e) there) pair_given h.follows) sound.fresh.once)
+        (λ y there e. sound.fresh.apart y there ((given_by_relax task a b l k h y).1 (inr (sym e)))) sound.fresh.once)
 
-    apart : (e x : Label) → Contains b.candidates x → Contains b.unrelaxed (e, x.arc) → ¬ Follows task.network e x
-    apart e x there pair f = elim ((gains x).0 there) [
-      | inl old ↦ sound.fresh.apart e x old ((h.unrelaxed (e, x.arc)).0 pair).0 f
-      | inr new ↦
-          let was = (h.unrelaxed (e, x.arc)).0 pair in
-          let same = follows_once task is a sound e l x (settled, (sound.paired e x.arc was.0).0) (settled, (sound.paired l k h.may).0) f
-          (subst (Follows task.network l) (sym new) h.follows) in
-          was.1 (ap₂ (λ (m : Label) (j : ℕ). (m, j)) same (ap (λ (m : Label). m.arc) new ∙ h.arc))
+    not_again : ¬ IsGiven task.network b h.candidate
+    not_again (e, here, f) =
+        let was = (h.unrelaxed (e, h.candidate.arc)).0 here in
+        let from : IsEntry a l = (settled, (sound.paired l k h.may).0) in
+        let same = follows_once task is a sound e l h.candidate (settled, (sound.paired e h.candidate.arc was.0).0) from f h.follows in
+        was.1 (ap₂ (λ (m : Label) (j : ℕ). (m, j)) same h.arc)
+
+    apart : (x : Label) → Contains b.candidates x → ¬ IsGiven task.network b x
+    apart x there given = elim ((candidates_by_relax task a b l k h x).0 there) [
+      | inl old ↦ sound.fresh.apart x old ((given_by_relax task a b l k h x).1 (inl given))
+      | inr e ↦ not_again (subst (IsGiven task.network b) e given)
     ]
 
   merge_changes : (x : Label) → Merges a x b → Changes task a b
@@ -372,14 +360,14 @@ module _ (task : Task) (is : IsTask task) (a b : SearchState) (sound : IsSound t
       | inr (wrong, _) ↦ absurd cc
     ];
     paired = λ e k here. still_paired entries e k ((h.unrelaxed (e, k)).0 here);
-    candidates = λ y here. came ((gains y).1 (inl here));
+    candidates = λ y here. inl ((gains y).1 (inl here));
     arrivals = λ y arrival. elim (cases_label y x) [
       | inl e ↦ inr (subst (IsCovered b) (sym e) (covered_by_merge task a b sound x mine h.entries))
       | inr other ↦ inl ((arrivals_by_merge x h y).1 (arrival, other))
     ];
     fresh = record {
       once = pairs_rest ◌≢◌ x b.candidates (once_in_any_order a.candidates (x ∷ b.candidates) h.candidates sound.fresh.once);
-      apart = λ e y there pair. sound.fresh.apart e y ((gains y).1 (inl there)) ((h.unrelaxed (e, y.arc)).0 pair);
+      apart = λ y there given. sound.fresh.apart y ((gains y).1 (inl there)) (given_on task.network b a (λ p. (h.unrelaxed p).0) y given);
     };
   } where
     gains : (y : Label) → Contains a.candidates y ↔ (Contains b.candidates y ⊎ (y ≡ x))

@@ -43,10 +43,13 @@ pub record IsBegun (task : Task) (before after : SearchState) : Type 0 where
 
 -- ---- the second half
 
+-- an arc that is still to be relaxed gives x
+abbrev pub IsGiven : Network → SearchState → Label → Type 0
+IsGiven net s x = (e : Label) × Contains s.unrelaxed (e, x.arc) × Follows net e x
+
 -- x arrives: it is a candidate, or an arc that is still to be relaxed gives it
-pub data IsArrival (net : Network) (s : SearchState) (x : Label) : Type 0 where
-  came : Contains s.candidates x → IsArrival net s x
-  comes : (e : Label) → Contains s.unrelaxed (e, x.arc) → Follows net e x → IsArrival net s x
+abbrev pub IsArrival : Network → SearchState → Label → Type 0
+IsArrival net s x = Contains s.candidates x ⊎ IsGiven net s x
 
 -- the first event merges what the second relaxes
 abbrev pub MergesResult : Network → Event → Event → Type 0

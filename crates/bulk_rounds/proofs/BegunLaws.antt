@@ -23,7 +23,7 @@ use Rattle.event_machine.specs.Events.{IsSame, Happens, Runs}
 use Rattle.event_machine.specs.Rounds.{IsBetweenRounds, IsUndominated, Begins}
 use Rattle.event_machine.specs.Orders.{Stays, Moves, DropsAll, IsNext, IsBegun}
 use Rattle.event_machine.proofs.Sound.{cases_label, cases_pair, cases_beats, told_pair, IsSound}
-use Rattle.event_machine.proofs.Running.{same_itself, runs_on, runs_apart, runs_to_same}
+use Rattle.event_machine.proofs.Running.{useless_on, same_itself, runs_on, runs_apart, runs_to_same}
 
 -- ---- what is told
 
@@ -275,15 +275,11 @@ module _ (task : Task) (s : SearchState) where
 pub all_drops : (task : Task) (s : SearchState) → IsSound task s → (ls : List Label) → ListsOnce (MayDrop task s) ls
     → ((b : SearchState) × Runs task s (map (λ l. drop l) ls) b) × ((b : SearchState) → Runs task s (map (λ l. drop l) ls) b ↔ DropsAll task s b)
 all_drops task s sound = moves_all dropped (λ _. ⊥) task (λ l. drop l) (drop_moves task) (MayDrop task s) s (λ l may. may.waits)
-    (λ L m l within moved may there. drop_happens task m l (record {
-      waits = there;
-      useless = elim may.useless [
-        | inl beyond ↦ inl beyond
-        | inr h ↦
-            let stays : ¬ L h.by = λ gone. let same = sound.apart.placed settled waiting h.by h.settled (within h.by gone).waits in cc in
-            inr (record { by = h.by; settled = (moved.entries settled h.by).1 (inl (h.settled, stays)); node = h.node; dominates = h.dominates })
-      ];
-    }))
+    (λ L m l within moved may there.
+    let stays : (y : Label) → Contains s.settled y → ¬ L y =
+    λ y old gone. let same = sound.apart.placed settled waiting y old (within y gone).waits in cc in
+    let useless = useless_on task s m (λ y old. (moved.entries settled y).1 (inl (old, stays y old))) l.cost may.useless in
+    drop_happens task m l (record { waits = there; useless = useless }))
 
 -- what waits after the drops
 pub left_waiting : (task : Task) (s left : SearchState) → DropsAll task s left → (y : Label) → Contains left.waiting y ↔ Stays task s y

@@ -1,8 +1,8 @@
 -- Relaxes and merges lose nothing that survives, and keep its place; at the end all survivors are entries. So lists that complete a round are runs to
 -- its outcome, in whatever order, and so are those that relax all and then merge all.
 use Rattle.std.proofs.Common.{◌≡◌, ◌≢◌, ◌↔◌, ◌⊎◌, List, [], inl, inr, refl, sym, subst, ◌∙◌, arith, ℕ, ◌∷◌, ◌++◌, map, ap, ap₂}
-use Rattle.std.specs.Prelude.{Contains, IsPermutation}
-use Rattle.std.proofs.lemmas.List.Sorted.{IsPermutation-refl, IsPermutation-sym}
+use Rattle.std.specs.Prelude.{AllPairs, Contains, IsPermutation}
+use Rattle.std.proofs.lemmas.List.Sorted.{IsPermutation-refl}
 use Rattle.cost_vector.specs.Costs.{AtMost, Dominates}
 use Rattle.cost_vector.proofs.Vectors.{AtMost-trans, AtMost-antisymm, cases_same}
 use Rattle.list_laws.specs.Sets.{ListsOnce}
@@ -113,11 +113,11 @@ event_keeps task is a b (relax l k) sound due h =
 module _ (net : Network) (a b : SearchState) (kept : KeepsOutcome net a b) (apart : AreApart b)
     (no_arc : b.unrelaxed ≡ []) (no_candidate : b.candidates ≡ []) where
   covered : (y : Label) → IsPresent net a y → IsCovered b y
-  covered y present = by (kept.met y (elim present [ inl entry ↦ inr (covered_by_itself a y entry) | inr arrival ↦ inl arrival ])) where
-    by : IsMet net b y → IsCovered b y
-    by (inr h) = h
-    by (inl (inl there)) = absurd (none_of_empty b.candidates no_candidate y there)
-    by (inl (inr (e, there, f))) = absurd (none_of_empty b.unrelaxed no_arc (e, y.arc) there)
+  covered y present = elim (kept.met y (elim present [ inl entry ↦ inr (covered_by_itself a y entry) | inr arrival ↦ inl arrival ])) [
+    | inr h ↦ h
+    | inl (inl there) ↦ absurd (none_of_empty b.candidates no_candidate y there)
+    | inl (inr (e, there, f)) ↦ absurd (none_of_empty b.unrelaxed no_arc (e, y.arc) there)
+  ]
 
   -- an entry can stand for all before that isn't worse
   covers_back : (y z : Label) → IsEntry b y → IsPresent net a z → z.node ≡ y.node → AtMost z.cost y.cost → Covers y z
@@ -212,7 +212,7 @@ module _ {X : Type 0} where
 module _ (task : Task) (is : IsTask task) where
   arrival_alike : (a b : SearchState) → IsSame a b → (x : Label) → IsArrival task.network a x → IsArrival task.network b x
   arrival_alike a b same =
-      arrival_on task.network a b (λ x. (same_by_permutation b.candidates a.candidates (IsPermutation-sym a.candidates b.candidates same.candidates) x).0) (λ p. (same.unrelaxed p).0)
+      arrival_on task.network a b (λ x. (same_by_permutation a.candidates b.candidates same.candidates x).1) (λ p. (same.unrelaxed p).0)
 
   to_do_alike : (a b : SearchState) → IsSame b a → (event : Event) → IsToDo task.network a event ↔ IsToDo task.network b event
   to_do_alike a b same (relax l k) = ((same.unrelaxed (l, k)).1, (same.unrelaxed (l, k)).0)
@@ -244,51 +244,47 @@ module _ (task : Task) (is : IsTask task) where
   -- the events complete what the state s leads to
   record IsLeft (s : SearchState) (events : List Event) (m : SearchState) : Type 0 where
     pub sound : IsSound task m
-    pub completes : Completes task.network m events
+    pub all : ListsOnce (IsToDo task.network m) events
+    pub in_order : AllPairs (λ a b. ¬ MergesResult task.network a b) events
     pub kept : KeepsOutcome task.network s m
 
   module _ (s : SearchState) where
     left_alike : (events : List Event) (a b : SearchState) → IsSame b a → IsLeft s events a → IsLeft s events b
     left_alike events a b same left = record {
       sound = same_is_sound task is a b same left.sound;
-      completes = record {
-        all = once_as (IsToDo task.network a) (IsToDo task.network b) events (to_do_alike a b same) left.completes.all;
-        in_order = left.completes.in_order;
-      };
+      all = once_as (IsToDo task.network a) (IsToDo task.network b) events (to_do_alike a b same) left.all;
+      in_order = left.in_order;
       kept = keeps_through task.network s a b left.kept
           (same_keeps task is a b left.sound (same_changes task is a b left.sound same) (arrival_alike b a same) same.entries);
     }
 
     left_on : (event : Event) (rest : List Event) (a b : SearchState) → IsLeft s (event ∷ rest) a → Happens task a event b → IsLeft s rest b
     left_on event rest a b left h =
-        let all = left.completes.all in
-        let due = (all.exact event).0 (in_first event rest) in
+        let due = (left.all.exact event).0 (in_first event rest) in
         record {
           sound = sound_after task is a b event left.sound h;
-          completes = record {
-            all = rest_once (IsToDo task.network a) (IsToDo task.network b) event rest (to_do_after a b left.sound event due h) all;
-            in_order = pairs_rest (λ a b. ¬ MergesResult task.network a b) event rest left.completes.in_order;
-          };
+          all = rest_once (IsToDo task.network a) (IsToDo task.network b) event rest (to_do_after a b left.sound event due h) left.all;
+          in_order = pairs_rest (λ a b. ¬ MergesResult task.network a b) event rest left.in_order;
           kept = keeps_through task.network s a b left.kept (event_keeps task is a b event left.sound due h);
         }
 
     first_happens : (event : Event) (rest : List Event) (a : SearchState) → IsLeft s (event ∷ rest) a → (b : SearchState) × Happens task a event b
-    first_happens (take l) rest a left = absurd ((left.completes.all.exact (take l)).0 (in_first (take l) rest))
-    first_happens (drop l) rest a left = absurd ((left.completes.all.exact (drop l)).0 (in_first (drop l) rest))
+    first_happens (take l) rest a left = absurd ((left.all.exact (take l)).0 (in_first (take l) rest))
+    first_happens (drop l) rest a left = absurd ((left.all.exact (drop l)).0 (in_first (drop l) rest))
     first_happens (relax l k) rest a left =
-        let pair = (left.completes.all.exact (relax l k)).0 (in_first (relax l k) rest) in relax_happens task a l k pair (left.sound.paired l k pair).1
-    first_happens (merge x) rest a left = elim ((left.completes.all.exact (merge x)).0 (in_first (merge x) rest)) [
+        let pair = (left.all.exact (relax l k)).0 (in_first (relax l k) rest) in relax_happens task a l k pair (left.sound.paired l k pair).1
+    first_happens (merge x) rest a left = elim ((left.all.exact (merge x)).0 (in_first (merge x) rest)) [
       | inl there ↦ merge_happens a x there
-      | inr (e, there, f) ↦ elim (cases_in (merge x) rest (relax e x.arc) ((left.completes.all.exact (relax e x.arc)).1 there)) [
+      | inr (e, there, f) ↦ elim (cases_in (merge x) rest (relax e x.arc) ((left.all.exact (relax e x.arc)).1 there)) [
         | inl wrong ↦ absurd cc
         | inr later ↦
-            absurd (pair_with_first (λ a b. ¬ MergesResult task.network a b) (merge x) rest left.completes.in_order (relax e x.arc) later (refl, f))
+            absurd (pair_with_first (λ a b. ¬ MergesResult task.network a b) (merge x) rest left.in_order (relax e x.arc) later (refl, f))
       ]
     ]
 
     outcome_if_none_left : (b : SearchState) → IsLeft s [] b → IsOutcome task.network s b
     outcome_if_none_left b left =
-        let none = λ (event : Event) (due : IsToDo task.network b event). in_none event ((left.completes.all.exact event).1 due) in
+        let none = λ (event : Event) (due : IsToDo task.network b event). in_none event ((left.all.exact event).1 due) in
         outcome_at_end task.network s b left.kept left.sound.apart (empty_if_none b.unrelaxed (λ p there. none (relaxing p) there))
         (empty_if_none b.candidates (λ x there. none (merge x) (inl there)))
 
@@ -296,7 +292,8 @@ module _ (task : Task) (is : IsTask task) where
       none_yet : IsLeft s events s
       none_yet = record {
         sound = sound;
-        completes = completes;
+        all = completes.all;
+        in_order = completes.in_order;
         kept = record { met = λ y h. h; back = λ y h. h; places = λ p other y unbeaten. (λ h. h, λ h. h) };
       }
 

@@ -1,18 +1,18 @@
 -- Each state is sound to which events lead.
-use Rattle.std.proofs.Common.{◌≡◌, ◌≢◌, ◌↔◌, ℕ, List, [], ◌⊎◌, inl, inr, refl, sym, subst, ◌∙◌}
+use Rattle.std.proofs.Common.{◌≡◌, ◌≢◌, ◌↔◌, ℕ, List, [], inl, inr, refl, sym, subst, ◌∙◌}
 use Rattle.std.specs.Prelude.{Contains}
-use Rattle.cost_vector.specs.Costs.{AtMost, Dominates, Within}
+use Rattle.cost_vector.specs.Costs.{AtMost, Dominates}
 use Rattle.cost_vector.proofs.Vectors.{AtMost-Dominates}
 use Rattle.road_network.specs.Answers.{IsRelevant}
 use Rattle.list_laws.proofs.SetLaws.{none_of_empty}
 use Rattle.list_laws.proofs.Members.{in_none, in_first, in_one}
 use Rattle.list_laws.proofs.Pairs.{pairs_none}
 use Rattle.event_machine.specs.Machine.{Task, IsTask, Label, IsSamePair, SearchState, start_label, start_state, Place, settled, dropped}
-use Rattle.event_machine.specs.Machine.{waiting, entries_at, IsEntry, IsActive, waits, is_candidate, has_arc, HasSettled, IsBeatenAtTarget, Follows}
+use Rattle.event_machine.specs.Machine.{waiting, entries_at, IsEntry, IsActive, waits, is_candidate, has_arc, HasSettled, Follows}
 use Rattle.event_machine.specs.Events.{Event, Happens, IsSame, Runs, IsReached}
 use Rattle.event_machine.specs.Laws.{IsKnown}
 use Rattle.event_machine.proofs.Sound.{IsSound, apart_by, IsFounded, at_start, follows, IsCovered, IsMet, covers_through, covered_by_itself, below_pair}
-use Rattle.event_machine.proofs.Running.{along_run}
+use Rattle.event_machine.proofs.Running.{useless_on, along_run}
 use Rattle.event_machine.proofs.Stepping.{Changes, same_changes, changes_of}
 use Rattle.event_machine.proofs.Frontier.{grown_from_settled, taken_is_relevant, taken_is_least, all_settled}
 
@@ -63,12 +63,6 @@ module _ (task : Task) (is : IsTask task) where
     expanded_after : (e x : Label) → Contains b.settled e → Follows task.network e x → IsMet task.network b x
     expanded_after e x there f = elim (changes.settled e there) [ inr taken ↦ inl (taken.opens x f) | inl old ↦ met_after x (sound.expanded e x old f) ]
 
-    useless_after : (y : Label) → Contains b.dropped y → (¬ Within task.limit y.cost) ⊎ IsBeatenAtTarget task b y.cost
-    useless_after y there = elim (changes.useless y there) [
-      | inl beyond ↦ inl beyond
-      | inr h ↦ inr (record { by = h.by; settled = changes.entries.kept h.by h.settled; node = h.node; dominates = h.dominates })
-    ]
-
     sound_by_changes : IsSound task b
     sound_by_changes = record {
       founded = founded_after;
@@ -77,7 +71,7 @@ module _ (task : Task) (is : IsTask task) where
       fresh = changes.fresh;
       started = covered_after (start_label task) sound.started;
       expanded = expanded_after;
-      useless = useless_after;
+      useless = λ y there. useless_on task a b changes.entries.kept y.cost (changes.useless y there);
       undominated = λ l y there. no_better_than l there y;
       unequalled = no_equal;
       relevant = λ l there. elim (changes.settled l there) [ inl old ↦ sound.relevant l old | inr taken ↦ taken_is_relevant task is a sound l taken.may ];

@@ -1,7 +1,9 @@
 -- Runs: which states are the same, that runs go on from and to same states, and that runs follow one another.
-use Rattle.std.proofs.Common.{List, [], ◌∷◌, ◌++◌, ◌↔◌, inl, inr, arith}
+use Rattle.std.proofs.Common.{ℕ, ◌⊎◌, List, [], ◌∷◌, ◌++◌, ◌↔◌, inl, inr, arith}
 use Rattle.std.proofs.lemmas.List.Sorted.{IsPermutation-refl, IsPermutation-sym, IsPermutation-trans}
-use Rattle.event_machine.specs.Machine.{Task, Label, SearchState, settled, waiting}
+use Rattle.event_machine.specs.Machine.{Task, Label, SearchState, settled, waiting, IsBeatenAtTarget}
+use Rattle.std.specs.Prelude.{Contains}
+use Rattle.cost_vector.specs.Costs.{Within}
 use Rattle.event_machine.specs.Events.{Event, IsSame, MayDrop, Happens, Runs}
 
 -- ---- same states
@@ -28,15 +30,18 @@ same_through a b c first second = record {
   candidates = IsPermutation-trans a.candidates b.candidates c.candidates first.candidates second.candidates;
 }
 
+-- what is beyond the limit or beaten at the target stays so where no settled label goes
+pub useless_on : (task : Task) (a b : SearchState) → ((y : Label) → Contains a.settled y → Contains b.settled y) → (c : List ℕ)
+    → (¬ Within task.limit c) ⊎ IsBeatenAtTarget task a c → (¬ Within task.limit c) ⊎ IsBeatenAtTarget task b c
+useless_on task a b kept c = elim [
+  | inl beyond ↦ inl beyond
+  | inr h ↦ inr (record { by = h.by; settled = kept h.by h.settled; node = h.node; dominates = h.dominates })
+]
+
 -- what may be dropped in one of two same states may be dropped in the other
 pub drop_alike : (task : Task) (a b : SearchState) → IsSame a b → (l : Label) → MayDrop task a l → MayDrop task b l
-drop_alike task a b same l h = record {
-  waits = (same.entries waiting l).0 h.waits;
-  useless = elim h.useless [
-    | inl beyond ↦ inl beyond
-    | inr u ↦ inr (record { by = u.by; settled = (same.entries settled u.by).0 u.settled; node = u.node; dominates = u.dominates })
-  ];
-}
+drop_alike task a b same l h =
+    record { waits = (same.entries waiting l).0 h.waits; useless = useless_on task a b (λ y. (same.entries settled y).0) l.cost h.useless }
 
 -- ---- runs
 

@@ -211,8 +211,7 @@ module _ {X : Type 0} where
 
 module _ (task : Task) (is : IsTask task) where
   arrival_alike : (a b : SearchState) → IsSame a b → (x : Label) → IsArrival task.network a x → IsArrival task.network b x
-  arrival_alike a b same =
-      arrival_on task.network a b (λ x. (same_by_permutation a.candidates b.candidates same.candidates x).1) (λ p. (same.unrelaxed p).0)
+  arrival_alike a b same = arrival_on task.network a b (λ x. (same_by_permutation a.candidates b.candidates same.candidates x).1) (λ p. (same.unrelaxed p).0)
 
   to_do_alike : (a b : SearchState) → IsSame b a → (event : Event) → IsToDo task.network a event ↔ IsToDo task.network b event
   to_do_alike a b same (relax l k) = ((same.unrelaxed (l, k)).1, (same.unrelaxed (l, k)).0)
@@ -228,8 +227,7 @@ module _ (task : Task) (is : IsTask task) where
   )
   to_do_after a b sound (relax l k) due h (merge x) =
       let arrivals = arrivals_by_relax task a b l k h x in (λ here. (arrivals.1 here, λ same. absurd cc), λ there. arrivals.0 there.0)
-  to_do_after a b sound (merge x) due h (relax m j) =
-      (λ pair. ((h.unrelaxed (m, j)).0 pair, λ same. absurd cc), λ there. (h.unrelaxed (m, j)).1 there.0)
+  to_do_after a b sound (merge x) due h (relax m j) = (λ pair. ((h.unrelaxed (m, j)).0 pair, λ same. absurd cc), λ there. (h.unrelaxed (m, j)).1 there.0)
   to_do_after a b sound (merge x) due h (merge y) = let arrivals = arrivals_by_merge task is a b sound x h y in (
     λ here. ((arrivals.0 here).0, λ same. (arrivals.0 here).1 cc),
     λ (there, other). arrivals.1 (there, λ e. other (ap (λ (z : Label). merge z) e)),
@@ -277,8 +275,7 @@ module _ (task : Task) (is : IsTask task) where
       | inl there ↦ merge_happens a x there
       | inr (e, there, f) ↦ elim (cases_in (merge x) rest (relax e x.arc) ((left.all.exact (relax e x.arc)).1 there)) [
         | inl wrong ↦ absurd cc
-        | inr later ↦
-            absurd (pair_with_first (λ a b. ¬ MergesResult task.network a b) (merge x) rest left.in_order (relax e x.arc) later (refl, f))
+        | inr later ↦ absurd (pair_with_first (λ a b. ¬ MergesResult task.network a b) (merge x) rest left.in_order (relax e x.arc) later (refl, f))
       ]
     ]
 

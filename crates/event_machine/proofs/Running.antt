@@ -10,11 +10,7 @@ use Rattle.event_machine.specs.Events.{Event, IsSame, MayDrop, Happens, Runs}
 
 -- to be the same is an equivalence
 pub same_itself : (s : SearchState) → IsSame s s
-same_itself s = record {
-  entries = λ p y. (λ h. h, λ h. h);
-  unrelaxed = λ p. (λ h. h, λ h. h);
-  candidates = IsPermutation-refl s.candidates;
-}
+same_itself s = record { entries = λ p y. (λ h. h, λ h. h); unrelaxed = λ p. (λ h. h, λ h. h); candidates = IsPermutation-refl s.candidates }
 
 pub same_back : (a b : SearchState) → IsSame a b → IsSame b a
 same_back a b same = record {

@@ -169,8 +169,7 @@ module _ (task : Task) (a b : SearchState) (sound : IsSound task a) (x : Label) 
     | inr (wrong, _) ↦ absurd cc
     | inl e ↦ elim ((entries_by_merge merged).known y (settled, here)) [
       | inr arrived ↦ absurd (sound.unequalled e.label y e.member arrived (pair_back e.label y e.same))
-      | inl entry ↦
-          subst (Contains a.settled) (sound.apart.alone e.label y (settled, e.member) entry e.same.node (below_pair e.label y e.same)) e.member
+      | inl entry ↦ subst (Contains a.settled) (sound.apart.alone e.label y (settled, e.member) entry e.same.node (below_pair e.label y e.same)) e.member
     ]
   ]
 

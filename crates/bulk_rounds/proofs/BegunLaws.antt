@@ -255,12 +255,19 @@ module _ (task : Task) (s : SearchState) where
   told_stays l = told_as (λ h. record { waits = h.0; kept = h.1 }) (λ h. (h.waits, h.kept))
       (told_both (told_in cases_label s.waiting l) (told_not (told_may_drop l)))
 
+  -- whether what stays dominates a label
+  pub cases_better : (l : Label) → ((z : Label) × Contains s.waiting z × (Stays task s z × Dominates z.cost l.cost))
+      ⊎ ((z : Label) → Contains s.waiting z → ¬ (Stays task s z × Dominates z.cost l.cost))
+  cases_better l = told_some (λ (z : Label). Stays task s z × Dominates z.cost l.cost) (λ z. told_both (told_stays z) (cases_Dominates z.cost l.cost)) s.waiting
+
   told_next : (l : Label) → IsTold (IsNext task s l)
-  told_next l = told_as (λ h. record { stays = h.0; none_better = h.1 }) (λ h. (h.stays, h.none_better)) (told_both (told_stays l)
-      (elim (told_some (λ (z : Label). Stays task s z × Dominates z.cost l.cost) (λ z. told_both (told_stays z) (cases_Dominates z.cost l.cost)) s.waiting) [
-        | inl (z, there, h) ↦ inr (λ none. none z h.0 h.1)
-        | inr none ↦ inl (λ z stays less. none z stays.waits (stays, less))
-      ]))
+  told_next l = elim (told_stays l) [
+    | inr goes ↦ inr (λ h. goes h.stays)
+    | inl stays ↦ elim (cases_better l) [
+      | inl (z, there, h) ↦ inr (λ next. next.none_better z h.0 h.1)
+      | inr none ↦ inl (record { stays = stays; none_better = λ z too better. none z too.waits (too, better) })
+    ]
+  ]
 
   -- all labels that may be dropped, and all that are next
   pub some_drops : (ls : List Label) × ListsOnce (MayDrop task s) ls

@@ -6,13 +6,12 @@ use Rattle.std.specs.Prelude.{AllPairs, Contains}
 use Rattle.std.proofs.lemmas.Bool.{cases_lt}
 use Rattle.std.proofs.lemmas.List.{length-map}
 use Rattle.std.proofs.lemmas.List.Elements.{All-map, All-weaker}
-use Rattle.cost_vector.specs.Costs.{Dominates}
 use Rattle.cost_vector.proofs.Vectors.{sum-Dominates}
 use Rattle.list_laws.specs.Sets.{HasMoreThan}
 use Rattle.list_laws.proofs.Members.{in_none, cases_in, in_map, each_in}
 use Rattle.list_laws.proofs.Pairs.{pairs_none, pairs_cons, pairs_map, pigeonhole}
 use Rattle.list_laws.proofs.SetLaws.{none_of_empty, same_by_permutation, more_by_list}
-use Rattle.list_laws.proofs.OnceLaws.{IsTold, told_both, told_some, told_in, list_all, once_as, empty_if_none}
+use Rattle.list_laws.proofs.OnceLaws.{IsTold, told_some, told_in, list_all, once_as, empty_if_none}
 use Rattle.road_network.specs.Answers.{IsRelevant, Passes}
 use Rattle.road_network.proofs.BestLaws.{start_is_relevant}
 use Rattle.event_machine.specs.Machine.{Task, IsTask, Label, IsSamePair, SearchState, start_state, settled, dropped, waiting}
@@ -24,7 +23,7 @@ use Rattle.event_machine.proofs.Running.{same_itself, same_back, same_through, d
 use Rattle.event_machine.proofs.Frontier.{grown_from_settled, all_settled}
 use Rattle.event_machine.proofs.Stepping.{changes_of}
 use Rattle.event_machine.proofs.Keeping.{sound_after, same_is_sound, sound_if_reached, settled_once}
-use Rattle.bulk_rounds.proofs.BegunLaws.{told_may_drop, told_stays, all_drops, left_waiting, some_begun, begins_is_begun, one_begun}
+use Rattle.bulk_rounds.proofs.BegunLaws.{told_may_drop, told_stays, cases_better, all_drops, left_waiting, some_begun, begins_is_begun, one_begun}
 use Rattle.bulk_rounds.proofs.CompletesLaws.{some_outcome, finishes_is_outcome}
 use Rattle.bulk_rounds.proofs.CompletesLaws.{one_outcome}
 
@@ -137,37 +136,20 @@ module _ (task : Task) (is : IsTask task) where
 
   -- ---- a counted round
 
-  -- of what stays after the drops some label has the least sum, and is taken
-  record HasLightest (s : SearchState) : Type 0 where
-    pub label : Label
-    pub next : IsNext task s label
-    pub lightest : (z : Label) → Stays task s z → sum label.cost ≤ sum z.cost
+  -- of what stays after the drops none dominates some label, which is taken
+  next_from : (n : ℕ) (s : SearchState) (l : Label) → Stays task s l → sum l.cost < n → (x : Label) × IsNext task s x
+  next_from zero s l stays below = absurd (omega arith)
+  next_from (suc n) s l stays below = elim (cases_better task s l) [
+    | inl (z, _, better) ↦ next_from n s z better.0 (omega (arith, below, sum-Dominates z.cost l.cost better.1))
+    | inr none ↦ (l, record { stays = stays; none_better = λ z too better. none z too.waits (too, better) })
+  ]
 
-  told_lighter : (x y : Label) → IsTold (sum x.cost < sum y.cost)
-  told_lighter x y = elim (cases_lt (sum x.cost) (sum y.cost)) [ inl below ↦ inl below | inr above ↦ inr (λ below. omega (arith, below, above)) ]
-
-  lightest_from : (n : ℕ) (s : SearchState) (l : Label) → Stays task s l → sum l.cost < n → HasLightest s
-  lightest_from zero s l stays below = absurd (omega arith)
-  lightest_from (suc n) s l stays below = elim (told_some (λ (z : Label). Stays task s z × (sum z.cost < sum l.cost))
-      (λ z. told_both (told_stays task s z) (told_lighter z l)) s.waiting) [
-        | inl (z, _, lighter) ↦ lightest_from n s z lighter.0 (omega (arith, lighter.1))
-        | inr none ↦
-            let lightest : (z : Label) → Stays task s z → sum l.cost ≤ sum z.cost =
-            λ z too. elim (told_lighter z l) [ inl less ↦ absurd (none z too.waits (too, less)) | inr most ↦ omega (arith, most) ] in
-            let none_better : (z : Label) → Stays task s z → ¬ Dominates z.cost l.cost =
-            λ z too better. let less = sum-Dominates z.cost l.cost better in omega (arith, less, lightest z too) in
-            record { label = l; next = record { stays = stays; none_better = none_better }; lightest = lightest }
-      ]
-
-  has_lightest : (s t : SearchState) → IsReached task s → CountedRound task s t → HasLightest s
-  has_lightest s t reached h =
-      lightest_from (suc (sum h.label.cost)) s h.label ((left_after_drops s h.round.begun reached h.round.begins h.label).0 h.waits) (omega arith)
+  some_next : (s t : SearchState) → IsReached task s → CountedRound task s t → (x : Label) × IsNext task s x
+  some_next s t reached h =
+      next_from (suc (sum h.label.cost)) s h.label ((left_after_drops s h.round.begun reached h.round.begins h.label).0 h.waits) (omega arith)
 
   pub settles : (s t : SearchState) → IsReached task s → CountedRound task s t → (l : Label) × Contains t.settled l × (¬ Contains s.settled l)
-  settles s t reached h =
-      let lightest = has_lightest s t reached h in
-      let new = taken_is_new s t reached h.round lightest.label lightest.next in
-      (lightest.label, new.0, new.1)
+  settles s t reached h = let (l, next) = some_next s t reached h in let new = taken_is_new s t reached h.round l next in (l, new.0, new.1)
 
 -- ---- more than so many labels
 
@@ -351,10 +333,10 @@ module _ (task : Task) (is : IsTask task) (budget : ℕ) where
   heavy_end : (n k : ℕ) (a b : SearchState) → IsReached task a → Weighs k a → GoRounds task budget (suc n) a b
       → (l : Label) × IsRelevantLabel l × (k + n ≤ sum l.cost)
   heavy_end zero k a b reached weighs go =
-      let first = has_lightest task is a go.next reached go.round in
-      let there = (taken_is_new task is a go.next reached go.round.round first.label first.next).0 in
+      let (l, next) = some_next task is a go.next reached go.round in
+      let there = (taken_is_new task is a go.next reached go.round.round l next).0 in
       let sound = sound_if_reached task is go.next (reached_by_round task is a go.next reached go.round.round) in
-      (first.label, sound.relevant first.label there, omega (arith, weighs first.label first.next.stays.waits))
+      (l, sound.relevant l there, omega (arith, weighs l next.stays.waits))
   heavy_end (suc n) k a b reached weighs go =
       let next = reached_by_round task is a go.next reached go.round.round in
       let rest = heavy_end n (k + 1) go.next b next (heavier k a go.next reached go.round.round weighs) go.rest in

@@ -5,7 +5,7 @@ use Rattle.std.specs.Prelude.{slice_index, Contains, AllPairs}
 use Rattle.std.proofs.lemmas.List.{reverse-append}
 use Rattle.std.proofs.lemmas.Bool.{cases_lt}
 use Rattle.cost_vector.specs.Costs.{AtMost, Dominates, Within, plus}
-use Rattle.cost_vector.proofs.Vectors.{AtMost-refl, AtMost-trans, AtMost-plus, AtMost-Dominates, Dominates-AtMost, Dominates-trans, Within-AtMost, plus_cancel}
+use Rattle.cost_vector.proofs.Vectors.{AtMost-refl, AtMost-trans, AtMost-plus, AtMost-Dominates, Dominates-AtMost, Within-AtMost, plus_cancel}
 use Rattle.cost_vector.proofs.Vectors.{cases_same, sum-Dominates}
 use Rattle.list_laws.specs.Sets.{HasMoreThan}
 use Rattle.list_laws.proofs.SetLaws.{none_of_empty, more_by_list}
@@ -121,6 +121,13 @@ module _ (task : Task) (is : IsTask task) (s : SearchState) (sound : IsSound tas
   frontier : (p : List ℕ) (v : ℕ) (c : List ℕ) → IsWalk task.network task.start p v c → HasSettledBelow s v c ⊎ HasPendingBelow s c
   frontier p v c walk = arriving_below (reverse p) v c (arrives_by_walk task.network is.network p task.start v c walk)
 
+  -- what costs at most as much as a cost within the limit that is unbeaten at the target is so too
+  not_useless : (b c : List ℕ) → AtMost b c → Within task.limit c → ¬ IsBeatenAtTarget task s c → ¬ ((¬ Within task.limit b) ⊎ IsBeatenAtTarget task s b)
+  not_useless b c below within unbeaten = elim [
+    | inl beyond ↦ beyond (Within-AtMost task.limit b c below within)
+    | inr h ↦ unbeaten (record { by = h.by; settled = h.settled; node = h.node; dominates = Dominates-AtMost h.by.cost b c h.dominates below })
+  ]
+
   -- a best cost is that of a settled label, if one costs at most as much
   settled_at_best : (v : ℕ) (c : List ℕ) → IsBest task.network task.start v c → HasSettledBelow s v c → HasSettled s v c
   settled_at_best v c best e = elim (cases_same e.label.cost c) [
@@ -142,12 +149,7 @@ module _ (task : Task) (is : IsTask task) (s : SearchState) (sound : IsSound tas
           let dominates = AtMost-Dominates y.label.cost b l.cost y.at_most less in
           elim y.pending [
             | inl active ↦ absurd (may.undominated y.label active dominates)
-            | inr there ↦ elim (sound.useless y.label there) [
-              | inl beyond ↦ absurd (beyond (Within-AtMost task.limit y.label.cost l.cost dominates.at_most may.within))
-              | inr h ↦
-                  let too = Dominates-trans h.by.cost y.label.cost l.cost h.dominates dominates in
-                  absurd (may.unbeaten (record { by = h.by; settled = h.settled; node = h.node; dominates = too }))
-            ]
+            | inr there ↦ absurd (not_useless y.label.cost l.cost dominates.at_most may.within may.unbeaten (sound.useless y.label there))
           ]
     ]
 
@@ -218,27 +220,19 @@ module _ (task : Task) (is : IsTask task) (s : SearchState) (sound : IsSound tas
 
   -- ---- all relevant pairs
 
-  -- what is useless to go on from costs no less than a relevant pair
-  not_useless : (v : ℕ) (c b : List ℕ) → IsRelevant task.network task.start task.target task.limit v c → AtMost b c
-      → ¬ ((¬ Within task.limit b) ⊎ IsBeatenAtTarget task s b)
-  not_useless v c b relevant below = elim [
-    | inl beyond ↦ beyond (Within-AtMost task.limit b c below relevant.within)
-    | inr h ↦
-        let best = subst (λ t. IsBest task.network task.start t h.by.cost) h.node (sound.relevant h.by h.settled).best in
-        relevant.undominated h.by.cost best (Dominates-AtMost h.by.cost b c h.dominates below)
-  ]
-
   -- where all that waits may be dropped, and nothing else is to be done, each relevant pair is settled
   pub all_settled : s.candidates ≡ [] → s.unrelaxed ≡ [] → NoneStays task s
       → (v : ℕ) (c : List ℕ) → IsRelevant task.network task.start task.target task.limit v c → HasSettled s v c
   all_settled no_candidate no_arc none v c relevant = elim (frontier relevant.best.reached.0 v c relevant.best.reached.1) [
     | inl e ↦ settled_at_best v c relevant.best e
-    | inr y ↦ absurd (not_useless v c y.label.cost relevant y.at_most (elim y.pending [
-      | inl (waits here) ↦ (none y.label here).useless
-      | inl (is_candidate here) ↦ absurd (none_of_empty s.candidates no_candidate y.label here)
-      | inl (has_arc k here) ↦ absurd (none_of_empty s.unrelaxed no_arc (y.label, k) here)
-      | inr there ↦ sound.useless y.label there
-    ]))
+    | inr y ↦ absurd (not_useless y.label.cost c y.at_most relevant.within
+        (λ h. relevant.undominated h.by.cost (subst (λ t. IsBest task.network task.start t h.by.cost) h.node (sound.relevant h.by h.settled).best) h.dominates)
+        (elim y.pending [
+          | inl (waits here) ↦ (none y.label here).useless
+          | inl (is_candidate here) ↦ absurd (none_of_empty s.candidates no_candidate y.label here)
+          | inl (has_arc k here) ↦ absurd (none_of_empty s.unrelaxed no_arc (y.label, k) here)
+          | inr there ↦ sound.useless y.label there
+        ]))
   ]
 
 -- the settled labels on the walk to l, itself included, are different ones, and l's cost is a sum of as many weights as others are there

@@ -38,14 +38,13 @@ listed settled = (0, omega arith, refl)
 listed dropped = (1, omega arith, refl)
 listed waiting = (2, omega arith, refl)
 
--- whether P holds of an entry
-told_entry : (P : Label → Type 0) → ((y : Label) → IsTold (P y)) → (s : SearchState) → ((y : Label) × IsEntry s y × P y) ⊎ ((y : Label) → IsEntry s y → ¬ P y)
-told_entry P told s = elim (told_some (λ p. (y : Label) × Contains (entries_at s p) y × P y)
-    (λ p. elim (told_some P told (entries_at s p)) [ inl found ↦ inl found | inr none ↦ inr (λ (y, here, holds). none y here holds) ])
-    (settled ∷ dropped ∷ waiting ∷ [])) [
-      | inl (p, _, (y, here, holds)) ↦ inl (y, (p, here), holds)
-      | inr none ↦ inr (λ y (p, here) holds. none p (listed p) (y, here, holds))
-    ]
+-- whether P holds of a member, and of an entry
+told_member : {X : Type 0} (P : X → Type 0) → ((x : X) → IsTold (P x)) → (xs : List X) → IsTold ((x : X) × Contains xs x × P x)
+told_member P told xs = elim (told_some P told xs) [ inl found ↦ inl found | inr none ↦ inr (λ (x, here, holds). none x here holds) ]
+
+told_entry : (P : Label → Type 0) → ((y : Label) → IsTold (P y)) → (s : SearchState) → IsTold ((y : Label) × IsEntry s y × P y)
+told_entry P told s = told_as (λ (p, _, (y, here, holds)). (y, (p, here), holds)) (λ (y, (p, here), holds). (p, listed p, (y, here, holds)))
+    (told_member (λ p. (y : Label) × Contains (entries_at s p) y × P y) (λ p. told_member P told (entries_at s p)) (settled ∷ dropped ∷ waiting ∷ []))
 
 told_leads : (net : Network) (u k : ℕ) → IsTold (LeadsOn net u k)
 told_leads net u k = by (slice_get net.ends (k - 1)) refl (slice_get net.states (k - 1)) refl (cases_lt 0 k) where
@@ -143,11 +142,11 @@ module _ (s : SearchState) (x : Label) (there : Contains s.candidates x) where
           merged b.0 (lowers (record { place = place; entry = e; is_entry = here; same = pair; greater = greater; entries = b.1 }))
     ]
     | inr new ↦ elim (told_entry (λ y. Beats y x) (λ y. cases_beats y x) s) [
-      | inl (e, entry, beats) ↦ merged s (discards (record { new = new; entry = e; is_entry = entry; beats = beats; entries = λ p y. (λ h. h, λ h. h) }))
+      | inl (e, entry, beats) ↦ merged s (discards (record { new = λ y there pair. new (y, there, pair); entry = e; is_entry = entry; beats = beats; entries = λ p y. (λ h. h, λ h. h) }))
       | inr unbeaten ↦
           let b = made s (λ p y. (p ≡ settled) ⊎ (¬ Beats x y)) (λ p y. told_either (told_place p settled) (told_not (cases_beats x y))) x waiting
           s.unrelaxed (taken_out s.candidates x there).0 in
-          merged b.0 (enters (record { new = new; unbeaten = unbeaten; entries = b.1 }))
+          merged b.0 (enters (record { new = λ y there pair. new (y, there, pair); unbeaten = λ y there beats. unbeaten (y, there, beats); entries = b.1 }))
     ]
   ]
 
@@ -239,11 +238,8 @@ take_moves task s l next h = record {
 
 module _ (task : Task) (s : SearchState) where
   told_beaten : (c : List ℕ) → IsTold (IsBeatenAtTarget task s c)
-  told_beaten c = elim (told_some (λ (l : Label). (l.node ≡ task.target) × Dominates l.cost c)
-      (λ l. told_both (cases_eq l.node task.target) (cases_Dominates l.cost c)) s.settled) [
-        | inl (l, there, h) ↦ inl (record { by = l; settled = there; node = h.0; dominates = h.1 })
-        | inr none ↦ inr (λ h. none h.by h.settled (h.node, h.dominates))
-      ]
+  told_beaten c = told_as (λ h. record { by = h.0; settled = h.1; node = h.2.0; dominates = h.2.1 }) (λ h. (h.by, h.settled, (h.node, h.dominates)))
+      (told_member (λ (l : Label). (l.node ≡ task.target) × Dominates l.cost c) (λ l. told_both (cases_eq l.node task.target) (cases_Dominates l.cost c)) s.settled)
 
   -- whether a label may be dropped
   pub told_may_drop : (l : Label) → IsTold (MayDrop task s l)
@@ -256,18 +252,13 @@ module _ (task : Task) (s : SearchState) where
       (told_both (told_in cases_label s.waiting l) (told_not (told_may_drop l)))
 
   -- whether what stays dominates a label
-  pub cases_better : (l : Label) → ((z : Label) × Contains s.waiting z × (Stays task s z × Dominates z.cost l.cost))
-      ⊎ ((z : Label) → Contains s.waiting z → ¬ (Stays task s z × Dominates z.cost l.cost))
-  cases_better l = told_some (λ (z : Label). Stays task s z × Dominates z.cost l.cost) (λ z. told_both (told_stays z) (cases_Dominates z.cost l.cost)) s.waiting
+  pub told_better : (l : Label) → IsTold ((z : Label) × Contains s.waiting z × (Stays task s z × Dominates z.cost l.cost))
+  told_better l =
+      told_member (λ (z : Label). Stays task s z × Dominates z.cost l.cost) (λ z. told_both (told_stays z) (cases_Dominates z.cost l.cost)) s.waiting
 
   told_next : (l : Label) → IsTold (IsNext task s l)
-  told_next l = elim (told_stays l) [
-    | inr goes ↦ inr (λ h. goes h.stays)
-    | inl stays ↦ elim (cases_better l) [
-      | inl (z, there, h) ↦ inr (λ next. next.none_better z h.0 h.1)
-      | inr none ↦ inl (record { stays = stays; none_better = λ z too better. none z too.waits (too, better) })
-    ]
-  ]
+  told_next l = told_as (λ h. record { stays = h.0; none_better = λ z too better. h.1 (z, too.waits, (too, better)) })
+      (λ h. (h.stays, λ (z, _, better). h.none_better z better.0 better.1)) (told_both (told_stays l) (told_not (told_better l)))
 
   -- all labels that may be dropped, and all that are next
   pub some_drops : (ls : List Label) × ListsOnce (MayDrop task s) ls

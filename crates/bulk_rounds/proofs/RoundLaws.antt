@@ -23,7 +23,7 @@ use Rattle.event_machine.proofs.Running.{same_itself, same_back, same_through, d
 use Rattle.event_machine.proofs.Frontier.{grown_from_settled, all_settled}
 use Rattle.event_machine.proofs.Stepping.{changes_of}
 use Rattle.event_machine.proofs.Keeping.{sound_after, same_is_sound, sound_if_reached, settled_once}
-use Rattle.bulk_rounds.proofs.BegunLaws.{told_may_drop, told_stays, cases_better, all_drops, left_waiting, some_begun, begins_is_begun, one_begun}
+use Rattle.bulk_rounds.proofs.BegunLaws.{told_may_drop, told_stays, told_better, all_drops, left_waiting, some_begun, begins_is_begun, one_begun}
 use Rattle.bulk_rounds.proofs.CompletesLaws.{some_outcome, finishes_is_outcome}
 use Rattle.bulk_rounds.proofs.CompletesLaws.{one_outcome}
 
@@ -139,9 +139,9 @@ module _ (task : Task) (is : IsTask task) where
   -- of what stays after the drops none dominates some label, which is taken
   next_from : (n : ℕ) (s : SearchState) (l : Label) → Stays task s l → sum l.cost < n → (x : Label) × IsNext task s x
   next_from zero s l stays below = absurd (omega arith)
-  next_from (suc n) s l stays below = elim (cases_better task s l) [
+  next_from (suc n) s l stays below = elim (told_better task s l) [
     | inl (z, _, better) ↦ next_from n s z better.0 (omega (arith, below, sum-Dominates z.cost l.cost better.1))
-    | inr none ↦ (l, record { stays = stays; none_better = λ z too better. none z too.waits (too, better) })
+    | inr none ↦ (l, record { stays = stays; none_better = λ z too better. none (z, too.waits, (too, better)) })
   ]
 
   some_next : (s t : SearchState) → IsReached task s → CountedRound task s t → (x : Label) × IsNext task s x

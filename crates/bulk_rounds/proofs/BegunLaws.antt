@@ -141,13 +141,15 @@ module _ (s : SearchState) (x : Label) (there : Contains s.candidates x) where
           let b = made s (λ _ y. y ≢ e) (λ _ y. told_not (cases_label y e)) x place s.unrelaxed (taken_out s.candidates x there).0 in
           merged b.0 (lowers (record { place = place; entry = e; is_entry = here; same = pair; greater = greater; entries = b.1 }))
     ]
-    | inr new ↦ elim (told_entry (λ y. Beats y x) (λ y. cases_beats y x) s) [
-      | inl (e, entry, beats) ↦ merged s (discards (record { new = λ y there pair. new (y, there, pair); entry = e; is_entry = entry; beats = beats; entries = λ p y. (λ h. h, λ h. h) }))
-      | inr unbeaten ↦
-          let b = made s (λ p y. (p ≡ settled) ⊎ (¬ Beats x y)) (λ p y. told_either (told_place p settled) (told_not (cases_beats x y))) x waiting
-          s.unrelaxed (taken_out s.candidates x there).0 in
-          merged b.0 (enters (record { new = λ y there pair. new (y, there, pair); unbeaten = λ y there beats. unbeaten (y, there, beats); entries = b.1 }))
-    ]
+    | inr none ↦
+        let new = λ (y : Label) (h : IsEntry s y) (pair : IsSamePair y x). none (y, h, pair) in
+        elim (told_entry (λ y. Beats y x) (λ y. cases_beats y x) s) [
+          | inl (e, entry, beats) ↦ merged s (discards (record { new = new; entry = e; is_entry = entry; beats = beats; entries = λ p y. (λ h. h, λ h. h) }))
+          | inr unbeaten ↦
+              let b = made s (λ p y. (p ≡ settled) ⊎ (¬ Beats x y)) (λ p y. told_either (told_place p settled) (told_not (cases_beats x y))) x waiting
+              s.unrelaxed (taken_out s.candidates x there).0 in
+              merged b.0 (enters (record { new = new; unbeaten = λ y h beats. unbeaten (y, h, beats); entries = b.1 }))
+        ]
   ]
 
 -- ---- labels that move to one place
@@ -239,7 +241,8 @@ take_moves task s l next h = record {
 module _ (task : Task) (s : SearchState) where
   told_beaten : (c : List ℕ) → IsTold (IsBeatenAtTarget task s c)
   told_beaten c = told_as (λ h. record { by = h.0; settled = h.1; node = h.2.0; dominates = h.2.1 }) (λ h. (h.by, h.settled, (h.node, h.dominates)))
-      (told_member (λ (l : Label). (l.node ≡ task.target) × Dominates l.cost c) (λ l. told_both (cases_eq l.node task.target) (cases_Dominates l.cost c)) s.settled)
+      (told_member (λ (l : Label). (l.node ≡ task.target) × Dominates l.cost c)
+      (λ l. told_both (cases_eq l.node task.target) (cases_Dominates l.cost c)) s.settled)
 
   -- whether a label may be dropped
   pub told_may_drop : (l : Label) → IsTold (MayDrop task s l)
@@ -324,9 +327,9 @@ module _ (task : Task) (is : IsTask task) (s : SearchState) (sound : IsSound tas
       waits = there;
       within = elim (cases_Within task.limit l.cost) [ inl within ↦ within | inr beyond ↦ absurd (useful (inl beyond)) ];
       undominated = λ y. elim [
-        | waits h ↦ elim ((moved.entries waiting y).0 h) [ inl old ↦ next.none_better y ((left_waiting task s left all y).0 old.0) | inr (wrong, _) ↦ absurd cc ]
+        | waits h ↦ elim ((moved.entries waiting y).0 h) [ inl old ↦ next.none_better y ((stays y).0 old.0) | inr (wrong, _) ↦ absurd cc ]
         | is_candidate h ↦ absurd (no_candidate m moved.candidates y h)
-        | has_arc k h ↦ elim ((moved.unrelaxed (y, k)).0 h) [ inl old ↦ absurd (none_opened (y, k) old) | inr gone ↦ next.none_better y (within y gone.0).stays ]
+        | has_arc k h ↦ elim ((moved.unrelaxed (y, k)).0 h) [ inl old ↦ absurd (none_opened (y, k) old) | inr h ↦ next.none_better y (within y h.0).stays ]
       ];
       unbeaten = λ h. elim ((moved.entries settled h.by).0 h.settled) [
         | inr (_, gone) ↦ next.none_better h.by (within h.by gone).stays h.dominates
@@ -337,6 +340,9 @@ module _ (task : Task) (is : IsTask task) (s : SearchState) (sound : IsSound tas
       ];
       alone = λ x h. absurd (no_candidate m moved.candidates x h);
     } where
+      stays : (y : Label) → Contains left.waiting y ↔ Stays task s y
+      stays = left_waiting task s left all
+
       useful : ¬ ((¬ Within task.limit l.cost) ⊎ IsBeatenAtTarget task s l.cost)
       useful useless = next.stays.kept (record { waits = next.stays.waits; useless = useless })
 

@@ -429,7 +429,8 @@ module _ (task : Task) (is : IsTask task) where
           let first = map relaxing ps in
           let second = map (λ x. merge x) xs in
           let completes = relaxes_then_merges task.network s ps xs pairs arrivals in
-          let (b, relaxed, merged) = runs_apart task s after first second ((completes_to_outcome task is s sound (first ++ second) completes after).1 outcome) in
+          let run = (completes_to_outcome task is s sound (first ++ second) completes after).1 outcome in
+          let (b, relaxed, merged) = runs_apart task s after first second run in
           let all = lists_permute (IsArrival task.network s) b.candidates xs (arrivals_when_relaxed ps s b sound pairs relaxed) arrivals in
           record { relaxes = ps; each_relax = pairs; relaxed = b; relaxing_all = relaxed; merges = xs; each_merge = all; merging_all = merged },
     )

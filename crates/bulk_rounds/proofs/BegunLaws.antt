@@ -264,11 +264,11 @@ module _ (task : Task) (s : SearchState) where
       (λ h. (h.stays, λ (z, _, better). h.none_better z better.0 better.1)) (told_both (told_stays l) (told_not (told_better l)))
 
   -- all labels that may be dropped, and all that are next
-  pub some_drops : (ls : List Label) × ListsOnce (MayDrop task s) ls
-  some_drops = list_all cases_label (MayDrop task s) told_may_drop s.waiting (λ l h. h.waits)
-
-  pub some_takes : (ls : List Label) × ListsOnce (IsNext task s) ls
-  some_takes = list_all cases_label (IsNext task s) told_next s.waiting (λ l h. h.stays.waits)
+  some_lists : (drops takes : List Label) × ListsOnce (MayDrop task s) drops × ListsOnce (IsNext task s) takes
+  some_lists =
+      let (drops, each_drop) = list_all cases_label (MayDrop task s) told_may_drop s.waiting (λ l h. h.waits) in
+      let (takes, each_take) = list_all cases_label (IsNext task s) told_next s.waiting (λ l h. h.stays.waits) in
+      (drops, takes, each_drop, each_take)
 
 -- ---- all drops
 
@@ -385,8 +385,7 @@ module _ (task : Task) (is : IsTask task) (s : SearchState) (sound : IsSound tas
   -- there is such a state
   pub some_begun : (b : SearchState) × IsBegun task s b
   some_begun =
-      let (drops, each_drop) = some_drops task s in
-      let (takes, each_take) = some_takes task s in
+      let (drops, takes, each_drop, each_take) = some_lists task s in
       let (b, run) = begun_run drops takes each_drop each_take in
       (b, begun_by_run drops takes each_drop each_take b run)
 
@@ -398,8 +397,7 @@ module _ (task : Task) (is : IsTask task) (s : SearchState) (sound : IsSound tas
         let next = once_as (IsUndominated h.left.waiting) (IsNext task s) h.takes (undominated_is_next h.left all) h.each_take in
         begun_by_moves h.left all b (((all_takes h.left all h.takes next).1 b).0 h.taking),
     λ begun.
-        let (drops, each_drop) = some_drops task s in
-        let (takes, each_take) = some_takes task s in
+        let (drops, takes, each_drop, each_take) = some_lists task s in
         let run = (begun_in_any_order drops takes each_drop each_take b).1 begun in
         let (left, first, second) = runs_apart task s b (map (λ l. drop l) drops) (map (λ l. take l) takes) run in
         let same = undominated_is_next left (((all_drops task s sound drops each_drop).1 left).0 first) in

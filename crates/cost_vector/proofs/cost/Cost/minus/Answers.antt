@@ -9,11 +9,5 @@ invariant_of-result c =
 
 pub returns-clause-difference : goal.returns-clause-difference
 returns-clause-difference c =
-    rw (
-      c.from.ensures,
-      c.from-2.ensures,
-      c.from-3.ensures,
-      c.from-4.ensures,
-      view-each ◌-◌ refl
-          c.self.invariant c.w.invariant c.self.view_is c.w.view_is c.requires,
-    ) (plus-minus c.args.self.now c.args.w.now (search rules))
+    let view = view-each ◌-◌ refl c.self.invariant c.w.invariant c.self.view_is c.w.view_is c.requires in
+    rw (c.from.ensures, c.from-2.ensures, c.from-3.ensures, c.from-4.ensures, view) (plus-minus c.args.self.now c.args.w.now (search rules))

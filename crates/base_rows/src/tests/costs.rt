@@ -1,17 +1,20 @@
 use cost_vector::{ArcNo, Cost, Label, Limit, NodeNo, Spot, Weight};
 use std::test::Fail;
 
+/// Two costs, and whether the first dominates the second.
+const DOMINANCE: &[([u64; 2], [u64; 2], bool)] = &[
+    ([4, 2], [4, 6], true),
+    ([4, 6], [4, 2], false),
+    ([4, 2], [4, 2], false),
+    ([2, 8], [4, 2], false),
+    ([4, 2], [2, 8], false),
+];
+
 #[test]
 fn dominance_needs_one_smaller_component_and_no_greater(rt: HostRuntime) {
-    for (a, b, dominates) in [
-        ([4, 2], [4, 6], true),
-        ([4, 6], [4, 2], false),
-        ([4, 2], [4, 2], false),
-        ([2, 8], [4, 2], false),
-        ([4, 2], [2, 8], false),
-    ] {
-        let (a, b) = (Cost::of_numbers(&a), Cost::of_numbers(&b));
-        assert_eq!(rt; a.dominates(&b), dominates, "{a:?} and {b:?}");
+    for (a, b, dominates) in DOMINANCE {
+        let (a, b) = (Cost::of_numbers(a), Cost::of_numbers(b));
+        assert_eq!(rt; a.dominates(&b), *dominates, "{a:?} and {b:?}");
     }
 }
 

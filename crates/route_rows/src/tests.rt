@@ -115,6 +115,23 @@ fn failing(alloc: Global, call: u64) -> Result<MemorySink, AllocError> {
     Ok(MemorySink::new(alloc, u64::MAX, vec![in alloc; call]?))
 }
 
+fn assert_out(rt: &impl Abort, got: &[u8], wanted: &Wanted, number: usize) {
+    assert_eq!(rt; got, wanted.out, "out of {:?} at {number}", wanted.words);
+}
+
+fn assert_err(rt: &impl Abort, got: &[u8], wanted: &Wanted, number: usize) {
+    assert_eq!(rt; got, wanted.err, "err of {:?} at {number}", wanted.words);
+}
+
+fn assert_status(rt: &impl Abort, got: u8, wanted: &Wanted, number: usize) {
+    assert_eq!(rt;
+        got,
+        wanted.status,
+        "status of {:?} at {number}",
+        wanted.words
+    );
+}
+
 /// The run ends as is wanted. The number tells it from other runs of the same words.
 fn assert_run(
     rt: &impl Abort,
@@ -123,19 +140,10 @@ fn assert_run(
     number: usize,
     outside: &mut Outside,
 ) -> Result<(), AllocError> {
-    let words = wanted.words;
-    let status = outside.run(alloc, words)?;
-    assert_eq!(rt;
-        outside.out.sent(),
-        wanted.out,
-        "out of {words:?} at {number}"
-    );
-    assert_eq!(rt;
-        outside.err.sent(),
-        wanted.err,
-        "err of {words:?} at {number}"
-    );
-    assert_eq!(rt; status, wanted.status, "status of {words:?} at {number}");
+    let status = outside.run(alloc, wanted.words)?;
+    assert_out(rt, outside.out.sent(), wanted, number);
+    assert_err(rt, outside.err.sent(), wanted, number);
+    assert_status(rt, status, wanted, number);
     Ok(())
 }
 
@@ -223,12 +231,17 @@ fn cut_files_are_told(rt: HostRuntime) -> Result<(), Fail> {
     Ok(())
 }
 
+/// An arc with the greatest weight.
+fn put_arc(text: &mut String, tail: u32, head: u32) -> Result<(), AllocError> {
+    write!(text, "a {tail} {head} 4294967295\n")?;
+    Ok(())
+}
+
 /// A path of 1,001 nodes, each of its arcs with the greatest weight.
 fn greatest_path(alloc: Global) -> Result<String, AllocError> {
-    let mut text = format!(in alloc; "p sp 1001 1000\n")?;
-    for tail in 1..1001u32 {
-        let line = format!(in alloc; "a {tail} {} 4294967295\n", tail + 1)?;
-        text.push_str(&line)?;
+    let mut text = String::from_str(alloc, "p sp 1001 1000\n")?;
+    for head in 2..1002 {
+        put_arc(&mut text, head - 1, head)?;
     }
     Ok(text)
 }

@@ -4,6 +4,7 @@ use super::lines::{left_in, pieces};
 use arc_graph::{ArcFile, Joiner};
 use gr_reader::{FileFault, FileLimits, GrLines, read_gr, read_into};
 use std::alloc::{AllocError, Global};
+use std::process::Abort;
 use std::test::Fail;
 
 /// The nodes and the arcs of a file.
@@ -41,6 +42,25 @@ fn shown_in_pieces(
         Ok(file) => shown_file(alloc, &file),
         Err(fault) => shown_fault(alloc, fault),
     }
+}
+
+/// This is shown of a text, in whatever pieces it comes.
+fn assert_shown(
+    rt: &impl Abort,
+    alloc: Global,
+    text: &str,
+    limits: FileLimits,
+    wanted: &str,
+) -> Result<(), AllocError>
+    requires some { 1 ≤ limits.line }
+    requires line { limits.line ≤ 65536 }
+    requires file { limits.file ≤ 2 ^ 63 }
+{
+    for length in [1, 1000] {
+        let got = shown_in_pieces(alloc, text.as_bytes(), length, limits)?;
+        assert_eq!(rt; got.as_str(), wanted, "{text:?} in pieces of {length}");
+    }
+    Ok(())
 }
 
 const WIDE: FileLimits = FileLimits {
@@ -92,10 +112,7 @@ const FORMS: &[(&str, &str)] = &[
 #[test]
 fn forms_and_faults(rt: HostRuntime) -> Result<(), Fail> {
     for (text, wanted) in FORMS {
-        for length in [1, 1000] {
-            let got = shown_in_pieces(rt.alloc(), text.as_bytes(), length, WIDE)?;
-            assert_eq!(rt; got.as_str(), *wanted, "{text:?}");
-        }
+        assert_shown(&rt, rt.alloc(), text, WIDE, wanted)?;
     }
     Ok(())
 }
@@ -118,10 +135,7 @@ fn limits_come_before_forms(rt: HostRuntime) -> Result<(), Fail> {
             line: 8,
             file: u64::from(*file),
         };
-        for length in [1, 1000] {
-            let got = shown_in_pieces(rt.alloc(), text.as_bytes(), length, limits)?;
-            assert_eq!(rt; got.as_str(), *wanted, "{text:?}");
-        }
+        assert_shown(&rt, rt.alloc(), text, limits, wanted)?;
     }
     Ok(())
 }

@@ -1,12 +1,7 @@
 use command_words::{Command, CostsWords, WordsFault, read_words};
 use std::alloc::{AllocError, Global};
+use std::process::Abort;
 use std::test::Fail;
-
-/// What `costs` and the words of the line ask for, as text.
-fn costs(alloc: Global, line: &str) -> Result<String, AllocError> {
-    let line = format!(in alloc; "costs {line}")?;
-    read(alloc, &line)
-}
 
 /// What the words of the line ask for, as text.
 fn read(alloc: Global, line: &str) -> Result<String, AllocError> {
@@ -30,6 +25,19 @@ fn shown(alloc: Global, command: &Command) -> Result<String, AllocError> {
 fn shown_costs(alloc: Global, costs: &CostsWords) -> Result<String, AllocError> {
     let (from, to, budget) = (costs.query.from, costs.query.to, costs.query.budget);
     format!(in alloc; "{from} {to} {budget} {:?}", costs.files)
+}
+
+/// The words of the line ask for this.
+fn assert_read(rt: &impl Abort, alloc: Global, line: &str, asked: &str) -> Result<(), AllocError> {
+    let got = read(alloc, line)?;
+    assert_eq!(rt; got.as_str(), asked, "{line}");
+    Ok(())
+}
+
+/// `costs` and the words of the line ask for this.
+fn assert_costs(rt: &impl Abort, alloc: Global, line: &str, asked: &str) -> Result<(), AllocError> {
+    let line = format!(in alloc; "costs {line}")?;
+    assert_read(rt, alloc, &line, asked)
 }
 
 /// Words behind `costs`, and what they ask for.
@@ -60,7 +68,7 @@ const ASKED_COSTS: &[(&str, &str)] = &[
 #[test]
 fn reads_the_words_of_costs(rt: HostRuntime) -> Result<(), Fail> {
     for (line, asked) in ASKED_COSTS {
-        assert_eq!(rt; costs(rt.alloc(), line)?.as_str(), *asked, "{line}");
+        assert_costs(&rt, rt.alloc(), line, asked)?;
     }
     Ok(())
 }
@@ -76,7 +84,7 @@ const ASKED_CHECK: &[(&str, &str)] = &[
 #[test]
 fn reads_the_words_of_check(rt: HostRuntime) -> Result<(), Fail> {
     for (line, asked) in ASKED_CHECK {
-        assert_eq!(rt; read(rt.alloc(), line)?.as_str(), *asked, "{line}");
+        assert_read(&rt, rt.alloc(), line, asked)?;
     }
     Ok(())
 }
@@ -116,7 +124,7 @@ const REFUSED: &str = "the words are those of no command";
 #[test]
 fn refuses_other_words_of_costs(rt: HostRuntime) -> Result<(), Fail> {
     for line in OTHER_COSTS {
-        assert_eq!(rt; costs(rt.alloc(), line)?.as_str(), REFUSED, "{line}");
+        assert_costs(&rt, rt.alloc(), line, REFUSED)?;
     }
     Ok(())
 }
@@ -124,7 +132,7 @@ fn refuses_other_words_of_costs(rt: HostRuntime) -> Result<(), Fail> {
 #[test]
 fn refuses_other_words(rt: HostRuntime) -> Result<(), Fail> {
     for line in OTHERS {
-        assert_eq!(rt; read(rt.alloc(), line)?.as_str(), REFUSED, "{line}");
+        assert_read(&rt, rt.alloc(), line, REFUSED)?;
     }
     Ok(())
 }

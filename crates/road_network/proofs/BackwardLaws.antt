@@ -35,7 +35,8 @@ one_end net (k ∷ rest) s u v b c walk other =
     (end.0, walk.cost ∙ ap₂ plus alike.1 end.1 ∙ sym other.cost)
 
 -- the last arc of a backward-least walk is the least last arc of all walks of its cost
-pub last_arc_is_least : (net : Network) (p q : List ℕ) (s v k j : ℕ) (c : List ℕ) → IsBackwardLeast net s v c (p ++ k ∷ []) → IsWalk net s (q ++ j ∷ []) v c → k ≤ j
+pub last_arc_is_least : (net : Network) (p q : List ℕ) (s v k j : ℕ) (c : List ℕ) → IsBackwardLeast net s v c (p ++ k ∷ [])
+    → IsWalk net s (q ++ j ∷ []) v c → k ≤ j
 last_arc_is_least net p q s v k j c this other = elim (cases_eq j k) [
   | inl same ↦ omega arith
   | inr differs ↦

@@ -10,7 +10,7 @@ use Rattle.cost_vector.specs.Costs.{plus, Dominates, Within}
 use Rattle.cost_vector.proofs.Vectors.{cases_Dominates, cases_Within}
 use Rattle.list_laws.specs.Sets.{ListsOnce}
 use Rattle.list_laws.proofs.Members.{in_rest, in_front, in_map, in_none, in_first}
-use Rattle.list_laws.proofs.OnceLaws.{IsTold, told_as, told_not, told_both, told_either, told_some, told_in, sift, list_all, taken_out, range_once, in_cons}
+use Rattle.list_laws.proofs.OnceLaws.{IsTold, told_as, told_not, told_both, told_either, told_member, told_in, sift, list_all, taken_out, range_once, in_cons}
 use Rattle.list_laws.proofs.OnceLaws.{empty_if_none, same_by, once_as}
 use Rattle.list_laws.proofs.Pairs.{pairs_rest, pair_with_first}
 use Rattle.list_laws.proofs.SetLaws.{none_of_empty, same_by_permutation}
@@ -38,10 +38,7 @@ listed settled = (0, omega arith, refl)
 listed dropped = (1, omega arith, refl)
 listed waiting = (2, omega arith, refl)
 
--- whether P holds of a member, and of an entry
-told_member : {X : Type 0} (P : X → Type 0) → ((x : X) → IsTold (P x)) → (xs : List X) → IsTold ((x : X) × Contains xs x × P x)
-told_member P told xs = elim (told_some P told xs) [ inl found ↦ inl found | inr none ↦ inr (λ (x, here, holds). none x here holds) ]
-
+-- whether P holds of an entry
 told_entry : (P : Label → Type 0) → ((y : Label) → IsTold (P y)) → (s : SearchState) → IsTold ((y : Label) × IsEntry s y × P y)
 told_entry P told s = told_as (λ (p, _, (y, here, holds)). (y, (p, here), holds)) (λ (y, (p, here), holds). (p, listed p, (y, here, holds)))
     (told_member (λ p. (y : Label) × Contains (entries_at s p) y × P y) (λ p. told_member P told (entries_at s p)) (settled ∷ dropped ∷ waiting ∷ []))

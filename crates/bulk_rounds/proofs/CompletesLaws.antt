@@ -7,7 +7,7 @@ use Rattle.cost_vector.specs.Costs.{AtMost, Dominates}
 use Rattle.cost_vector.proofs.Vectors.{AtMost-trans, AtMost-antisymm, cases_same}
 use Rattle.list_laws.specs.Sets.{ListsOnce}
 use Rattle.list_laws.proofs.SetLaws.{none_of_empty, same_by_permutation}
-use Rattle.list_laws.proofs.OnceLaws.{same_by, told_in, list_all, in_cons, in_append, empty_if_none, once_as, pairs_append, pairs_of_members}
+use Rattle.list_laws.proofs.OnceLaws.{same_by, members_once, rest_once, lists_append, empty_if_none, once_as, pairs_append, pairs_of_members}
 use Rattle.list_laws.proofs.OnceLaws.{lists_in_any_order, lists_permute, lists_images}
 use Rattle.list_laws.proofs.Members.{in_none, in_first, cases_in}
 use Rattle.list_laws.proofs.Pairs.{pairs_rest, pair_with_first}
@@ -184,28 +184,6 @@ one_outcome net s a b first second = record {
   unrelaxed = λ p. subst (λ ps. Contains a.unrelaxed p ↔ Contains ps p) (first.unrelaxed ∙ sym second.unrelaxed) (λ h. h, λ h. h);
   candidates = subst (IsPermutation a.candidates) (first.candidates ∙ sym second.candidates) (IsPermutation-refl a.candidates);
 }
-
--- ---- lists of all that is so, each once
-
-module _ {X : Type 0} where
-  -- what is left of such a list
-  rest_once : (P Q : X → Type 0) (x : X) (xs : List X) → ((y : X) → Q y ↔ (P y × (y ≢ x))) → ListsOnce P (x ∷ xs) → ListsOnce Q xs
-  rest_once P Q x xs left lists = record {
-    exact = λ y. others (in_cons x xs y) (lists.exact y) (λ h e. pair_with_first ◌≢◌ x xs lists.once y h (sym e)) (left y);
-    once = pairs_rest ◌≢◌ x xs lists.once;
-  } where
-    others : {W R E H L : Type 0} → (W ↔ (E ⊎ R)) → (W ↔ H) → (R → ¬ E) → (L ↔ (H × (¬ E))) → (R ↔ L)
-    others f g apart h = grind arith
-
-  -- two of them, one behind the other
-  pub lists_append : (P Q R : X → Type 0) (xs ys : List X) → ((x : X) → R x ↔ (P x ⊎ Q x)) → ((x : X) → P x → ¬ Q x)
-      → ListsOnce P xs → ListsOnce Q ys → ListsOnce R (xs ++ ys)
-  lists_append P Q R xs ys either apart first second = record {
-    exact = λ x. joined (in_append xs ys x) (either x) (first.exact x) (second.exact x);
-    once = pairs_append ◌≢◌ xs ys first.once second.once (λ x y h k e. apart y (subst P e ((first.exact x).0 h)) ((second.exact y).0 k));
-  } where
-    joined : {W A B C D H : Type 0} → (W ↔ (A ⊎ B)) → (H ↔ (C ⊎ D)) → (A ↔ C) → (B ↔ D) → (W ↔ H)
-    joined f g h k = grind arith
 
 -- ---- what is to do
 
@@ -401,7 +379,7 @@ module _ (task : Task) (is : IsTask task) where
     -- all pairs that are to be relaxed, and all that arrives
     some_work : (ps : List (Label × ℕ)) × (xs : List Label) × ListsOnce (Contains s.unrelaxed) ps × ListsOnce (IsArrival task.network s) xs
     some_work =
-        let (ps, pairs) = list_all cases_pair (Contains s.unrelaxed) (told_in cases_pair s.unrelaxed) s.unrelaxed (λ p h. h) in
+        let (ps, pairs) = members_once cases_pair s.unrelaxed in
         let (b, run) = relaxes_exist ps s sound pairs in
         (ps, b.candidates, pairs, arrivals_when_relaxed ps s b sound pairs run)
 

@@ -28,10 +28,7 @@ use Rattle.event_machine.proofs.Running.{useless_on, same_itself, runs_on, runs_
 -- ---- what is told
 
 told_place : (p q : Place) → IsTold (p ≡ q)
-told_place settled settled = inl refl
-told_place dropped dropped = inl refl
-told_place waiting waiting = inl refl
-told_place _ _ = inr (λ e. absurd cc)
+told_place p q = grind arith
 
 listed : (p : Place) → Contains (settled ∷ dropped ∷ waiting ∷ []) p
 listed settled = (0, omega arith, refl)
@@ -224,14 +221,8 @@ abbrev OpensArcs : Task → Label × ℕ → Type 0
 OpensArcs task p = LeadsOn task.network p.0.node p.1
 
 take_moves : (task : Task) (s : SearchState) (l : Label) (next : SearchState) → Takes task s l next → Moves (λ y. y ≡ l) settled (OpensArcs task) s next
-take_moves task s l next h = record {
-  entries = h.entries;
-  unrelaxed = λ p. opens (h.unrelaxed p) (λ e. subst (λ (m : Label). LeadsOn task.network m.node p.1) e)
-      (λ e. subst (λ (m : Label). LeadsOn task.network m.node p.1) (sym e));
-  candidates = h.candidates;
-} where
-  opens : {B S E O P : Type 0} → (B ↔ (S ⊎ (E × O))) → (E → P → O) → (E → O → P) → (B ↔ (S ⊎ (E × P)))
-  opens f to back = grind arith
+take_moves task s l next h =
+    record { entries = h.entries; unrelaxed = λ p. let u = h.unrelaxed p in grind arith; candidates = h.candidates }
 
 -- ---- what is told of a state
 

@@ -113,11 +113,7 @@ event_keeps task is a b (relax l k) sound due h =
 module _ (net : Network) (a b : SearchState) (kept : KeepsOutcome net a b) (apart : AreApart b)
     (no_arc : b.unrelaxed ≡ []) (no_candidate : b.candidates ≡ []) where
   covered : (y : Label) → IsPresent net a y → IsCovered b y
-  covered y present = elim (kept.met y (elim present [ inl entry ↦ inr (covered_by_itself a y entry) | inr arrival ↦ inl arrival ])) [
-    | inr h ↦ h
-    | inl (inl there) ↦ absurd (none_of_empty b.candidates no_candidate y there)
-    | inl (inr (e, there, f)) ↦ absurd (none_of_empty b.unrelaxed no_arc (e, y.arc) there)
-  ]
+  covered y present = grind (arith, covered_by_itself, none_of_empty)
 
   -- an entry can stand for all before that isn't worse
   covers_back : (y z : Label) → IsEntry b y → IsPresent net a z → z.node ≡ y.node → AtMost z.cost y.cost → Covers y z
@@ -265,12 +261,7 @@ module _ (task : Task) (is : IsTask task) where
 
     module _ (sound : IsSound task s) (events : List Event) (completes : Completes task.network s events) where
       none_yet : IsLeft s events s
-      none_yet = record {
-        sound = sound;
-        all = completes.all;
-        in_order = completes.in_order;
-        kept = record { met = λ y h. h; back = λ y h. h; places = λ p other y unbeaten. (λ h. h, λ h. h) };
-      }
+      none_yet = grind arith
 
       -- each list that completes is a run, and leads to the outcome
       pub completes_run : (after : SearchState) × Runs task s events after
@@ -294,18 +285,13 @@ IsMerging net s _ = ⊥
 
 module _ (net : Network) (s : SearchState) where
   either_half : (event : Event) → IsToDo net s event ↔ (IsRelaxing s event ⊎ IsMerging net s event)
-  either_half (relax l k) = (λ h. inl h, elim [ inl h ↦ h | inr wrong ↦ absurd wrong ])
-  either_half (merge x) = (λ h. inr h, elim [ inl wrong ↦ absurd wrong | inr h ↦ h ])
-  either_half _ = (λ wrong. absurd wrong, elim [ inl wrong ↦ absurd wrong | inr wrong ↦ absurd wrong ])
+  either_half event = grind arith
 
   not_both : (event : Event) → IsRelaxing s event → ¬ IsMerging net s event
-  not_both (relax l k) h wrong = wrong
-  not_both _ wrong h = wrong
+  not_both event = grind arith
 
   no_result : (a b : Event) → IsRelaxing s a ⊎ IsMerging net s b → ¬ MergesResult net a b
-  no_result (merge y) (relax l k) h result = elim h [ inl wrong ↦ wrong | inr wrong ↦ wrong ]
-  no_result (merge y) _ h wrong = wrong
-  no_result _ b h wrong = wrong
+  no_result a b = grind arith
 
   -- all relaxes in any order, and then all merges in any order
   pub completes_in_halves : (first second : List Event) → ListsOnce (IsRelaxing s) first → ListsOnce (IsMerging net s) second

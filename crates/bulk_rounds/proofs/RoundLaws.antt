@@ -48,8 +48,7 @@ module _ (task : Task) (is : IsTask task) where
 
   -- what it leads to is reached, and keeps what is settled
   reached_on : (s t : SearchState) → IsReached task s → LeadsTo s t → IsReached task t
-  reached_on s t reached leads =
-      record { events = reached.events ++ leads.0; run = runs_on task (start_state task) s t reached.events leads.0 reached.run leads.1 }
+  reached_on s t reached leads = grind (arith, runs_on)
 
   kept_on : (s t : SearchState) (l : Label) → IsReached task s → LeadsTo s t → Contains s.settled l → Contains t.settled l
   kept_on s t l reached (events, run) there = (along_run task (λ _ m. IsSound task m × Contains m.settled l)
@@ -260,9 +259,7 @@ module _ (task : Task) (is : IsTask task) (budget : ℕ) where
 
   pub round_after_all : (n : ℕ) (s t : SearchState) → GoRounds task budget n (start_state task) s → ¬ HasMoreThan budget s.settled → CountedRound task s t
       → GoRounds task budget (n + 1) (start_state task) t
-  round_after_all n s t go few round =
-      let one : suc n ≡ n + 1 = omega arith in
-      subst (λ m. GoRounds task budget m (start_state task) t) one (one_round_more n (start_state task) s t reached_at_start start_between go few round)
+  round_after_all n s t go few round = grind (arith, one_round_more, reached_at_start, start_between)
 
   -- where the search doesn't stop between rounds, more rounds come
   pub more_to_come : (k n : ℕ) (s : SearchState) (l : Label) → GoRounds task budget k (start_state task) s

@@ -190,10 +190,7 @@ pub record Changes (task : Task) (a b : SearchState) : Type 0 where
 
 -- one label follows from another along one arc
 pub follows_alike : (net : Network) (e x y : Label) → Follows net e x → Follows net e y → x.arc ≡ y.arc → x ≡ y
-follows_alike net e x y f g arc =
-    let that = subst (λ k. Leads net k e.node g.by y.node) (sym arc) g.leads in
-    let alike = leads_alike net x.arc e.node x.node e.node y.node f.by g.by f.leads that in
-    label_by_parts x y (record { node = alike.2; cost = f.cost ∙ ap (plus e.cost) alike.1 ∙ sym g.cost }) arc
+follows_alike net e x y f g arc = grind (arith, leads_alike, label_by_parts)
 
 -- what is given or arrives still is or does where no candidate and no arc that is to be relaxed goes
 given_on : (net : Network) (a b : SearchState) → ((p : Label × ℕ) → Contains a.unrelaxed p → Contains b.unrelaxed p) → (x : Label)

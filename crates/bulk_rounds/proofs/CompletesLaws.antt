@@ -183,6 +183,13 @@ one_outcome net s a b first second = record {
 
 -- ---- what is to do
 
+-- all but one, and all where that one is of another kind
+but_one : {A B E F : Type 0} → (B ↔ (A × (¬ E))) → (F → E) → (E → F) → (B ↔ (A × (¬ F)))
+but_one but to back = grind arith
+
+all_but : {A B F : Type 0} → (A ↔ B) → ¬ F → (B ↔ (A × (¬ F)))
+all_but same other = grind arith
+
 module _ (task : Task) (is : IsTask task) where
   arrival_alike : (a b : SearchState) → IsSame a b → (x : Label) → IsArrival task.network a x → IsArrival task.network b x
   arrival_alike a b same = arrival_on task.network a b (λ x. (same_by_permutation a.candidates b.candidates same.candidates x).1) (λ p. (same.unrelaxed p).0)
@@ -195,17 +202,10 @@ module _ (task : Task) (is : IsTask task) where
   -- an event leaves all else to do
   to_do_after : (a b : SearchState) → IsSound task a → (event : Event) → IsToDo task.network a event → Happens task a event b
       → (other : Event) → IsToDo task.network b other ↔ (IsToDo task.network a other × (other ≢ event))
-  to_do_after a b sound (relax l k) due h (relax m j) = (
-    λ here. let old = (h.unrelaxed (m, j)).0 here in (old.0, λ same. old.1 (cc)),
-    λ (there, other). (h.unrelaxed (m, j)).1 (there, λ same. other (ap relaxing same)),
-  )
-  to_do_after a b sound (relax l k) due h (merge x) =
-      let arrivals = arrivals_by_relax task a b l k h x in (λ here. (arrivals.1 here, λ same. absurd cc), λ there. arrivals.0 there.0)
-  to_do_after a b sound (merge x) due h (relax m j) = (λ pair. ((h.unrelaxed (m, j)).0 pair, λ same. absurd cc), λ there. (h.unrelaxed (m, j)).1 there.0)
-  to_do_after a b sound (merge x) due h (merge y) = let arrivals = arrivals_by_merge task is a b sound x h y in (
-    λ here. ((arrivals.0 here).0, λ same. (arrivals.0 here).1 cc),
-    λ (there, other). arrivals.1 (there, λ e. other (ap (λ (z : Label). merge z) e)),
-  )
+  to_do_after a b sound (relax l k) due h (relax m j) = but_one (h.unrelaxed (m, j)) (λ same. cc) (λ same. ap relaxing same)
+  to_do_after a b sound (relax l k) due h (merge x) = all_but (arrivals_by_relax task a b l k h x) (λ same. absurd cc)
+  to_do_after a b sound (merge x) due h (relax m j) = all_but ((h.unrelaxed (m, j)).1, (h.unrelaxed (m, j)).0) (λ same. absurd cc)
+  to_do_after a b sound (merge x) due h (merge y) = but_one (arrivals_by_merge task is a b sound x h y) (λ same. cc) (λ e. ap (λ (z : Label). merge z) e)
   to_do_after a b sound (take l) due h _ = absurd due
   to_do_after a b sound (drop l) due h _ = absurd due
   to_do_after a b sound _ due h (take l) = (λ wrong. absurd wrong, λ h. h.0)

@@ -280,17 +280,7 @@ module _ (task : Task) (is : IsTask task) (budget : ℕ) where
     begun = begun_of task is s t reached round
 
     heavier_left : (y : Label) → Contains round.begun.waiting y → k + 1 ≤ sum y.cost
-    heavier_left y here = elim ((begun.entries waiting y).0 here) [
-      | inl (it_waits, kept, not_next) ↦ elim (cases_lt k (sum y.cost)) [
-        | inl below ↦ omega (arith, below)
-        | inr above ↦ absurd (not_next (record {
-          stays = record { waits = it_waits; kept = kept };
-          none_better = λ z stays better. let less = sum-Dominates z.cost y.cost better in omega (arith, less, above, weighs z stays.waits);
-        }))
-      ]
-      | inr (inl (wrong, _)) ↦ absurd cc
-      | inr (inr (wrong, _)) ↦ absurd cc
-    ]
+    heavier_left y here = let was = (begun.entries waiting y).0 here in grind (arith, cases_lt, sum-Dominates)
 
     heavier : Weighs (k + 1) t
     heavier y there =

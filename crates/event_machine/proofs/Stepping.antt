@@ -96,10 +96,7 @@ module _ (a b : SearchState) (apart : AreApart a) where
       | inr other ↦ inl other
       | inl e ↦ inr (subst (Covers n) (sym e) (covers_pair n m (pair_back m n pair) less))
     ];
-    clear = λ p y y_in other node. elim [
-      | inl below ↦ other (sym (apart.alone m y entry (p, y_in) (pair.node ∙ node) (subst (λ c. AtMost c y.cost) (sym pair.cost) below)))
-      | inr above ↦ other (apart.alone y m (p, y_in) entry (sym (pair.node ∙ node)) (subst (AtMost y.cost) (sym pair.cost) above))
-    ];
+    clear = λ p y y_in other node. grind arith;
   }
 
   -- a waiting label has room among the others, wherever it stands
@@ -119,10 +116,7 @@ module _ (task : Task) (a b : SearchState) (sound : IsSound task a) (x : Label) 
       | inr above ↦ elim (cases_below y x (sym node) above) [ inl pair ↦ h.new y (p, there) pair | inr beats ↦ h.unbeaten y (p, there) beats ]
       | inl below ↦ elim (cases_below x y node below) [
         | inl pair ↦ h.new y (p, there) (pair_back x y pair)
-        | inr beats ↦ elim stays [
-          | inr unbeaten ↦ unbeaten beats
-          | inl is_settled ↦ sound.undominated y x (subst (λ q. Contains (entries_at a q) y) is_settled there) (is_candidate mine) beats.cost
-        ]
+        | inr beats ↦ grind arith
       ]
     ];
   }

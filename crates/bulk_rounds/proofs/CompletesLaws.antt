@@ -287,12 +287,6 @@ IsMerging net s (merge x) = IsArrival net s x
 IsMerging net s _ = ⊥
 
 module _ (net : Network) (s : SearchState) where
-  either_half : (event : Event) → IsToDo net s event ↔ (IsRelaxing s event ⊎ IsMerging net s event)
-  either_half event = grind arith
-
-  not_both : (event : Event) → IsRelaxing s event → ¬ IsMerging net s event
-  not_both event = grind arith
-
   no_result : (a b : Event) → IsRelaxing s a ⊎ IsMerging net s b → ¬ MergesResult net a b
   no_result a b = grind arith
 
@@ -300,7 +294,8 @@ module _ (net : Network) (s : SearchState) where
   pub completes_in_halves : (first second : List Event) → ListsOnce (IsRelaxing s) first → ListsOnce (IsMerging net s) second
       → Completes net s (first ++ second)
   completes_in_halves first second due due_next = record {
-    all = lists_append (IsRelaxing s) (IsMerging net s) (IsToDo net s) first second either_half not_both due due_next;
+    all = lists_append (IsRelaxing s) (IsMerging net s) (IsToDo net s) first second
+        (λ event. grind arith) (λ event. grind arith) due due_next;
     in_order = pairs_append (λ a b. ¬ MergesResult net a b) first second
         (pairs_of_members (λ a b. ¬ MergesResult net a b) first (λ a b h k. no_result a b (inl ((due.exact a).0 h))))
         (pairs_of_members (λ a b. ¬ MergesResult net a b) second (λ a b h k. no_result a b (inr ((due_next.exact b).0 k))))
@@ -332,13 +327,10 @@ module _ (task : Task) (is : IsTask task) where
   pub arrivals_when_relaxed : (ps : List (Label × ℕ)) (s b : SearchState) → IsSound task s → ListsOnce (Contains s.unrelaxed) ps
       → Runs task s (map relaxing ps) b → ListsOnce (IsArrival task.network s) b.candidates
   arrivals_when_relaxed [] s b sound pairs run = record {
-    exact = λ x. (
-      λ here. inl ((same_by_permutation b.candidates s.candidates run.candidates x).1 here),
-      elim [
-        | inl there ↦ (same_by_permutation b.candidates s.candidates run.candidates x).0 there
-        | inr (e, there, f) ↦ absurd (in_none (e, x.arc) ((pairs.exact (e, x.arc)).1 there))
-      ],
-    );
+    exact = λ x.
+        let moved = same_by_permutation b.candidates s.candidates run.candidates x in
+        let none = λ (e : Label) (there : Contains s.unrelaxed (e, x.arc)). in_none (e, x.arc) ((pairs.exact (e, x.arc)).1 there) in
+        (λ here. inl (moved.1 here), elim [ inl there ↦ moved.0 there | inr (e, there, _) ↦ absurd (none e there) ]);
     once = (same_is_sound task is s b run sound).fresh.once;
   }
   arrivals_when_relaxed (p ∷ ps) s b sound pairs run =

@@ -69,15 +69,10 @@ module _ (task : Task) (is : IsTask task) where
   }
 
   abbrev begins_from_same : (a b t : SearchState) → IsSame a b → Begins task b t → Begins task a t
-  begins_from_same a b t same h = record {
-    drops = h.drops;
-    each_drop = once_as (MayDrop task b) (MayDrop task a) h.drops (λ l. (drop_alike task b a (same_back a b same) l, drop_alike task a b same l)) h.each_drop;
-    left = h.left;
-    dropping = runs_from_same task a b h.left (map (λ l. drop l) h.drops) (same_back a b same) h.dropping;
-    takes = h.takes;
-    each_take = h.each_take;
-    taking = h.taking;
-  }
+  begins_from_same a b t same h =
+      let each = once_as (MayDrop task b) (MayDrop task a) h.drops (λ l. (drop_alike task b a (same_back a b same) l, drop_alike task a b same l)) h.each_drop in
+      let run = runs_from_same task a b h.left (map (λ l. drop l) h.drops) (same_back a b same) h.dropping in
+      record { drops = h.drops; each_drop = each; left = h.left; dropping = run; takes = h.takes; each_take = h.each_take; taking = h.taking }
 
   abbrev round_from_same : (a b t : SearchState) → IsSame a b → IsBetweenRounds a → Round task b t → Round task a t
   round_from_same a b t same between h =

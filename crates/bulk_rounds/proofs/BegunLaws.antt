@@ -106,7 +106,7 @@ module _ (task : Task) (s : SearchState) where
       let (rest, left) = sift cases_pair (λ p. p ≢ (l, k)) (λ p. told_not (cases_pair p (l, k))) s.unrelaxed in
       let x : Label = record { node = on.to; cost = plus l.cost on.by; arc = k } in
       let f : Follows task.network l x = record { by = on.by; leads = on.leads; cost = refl } in
-        let moved = IsPermutation-refl (x ∷ s.candidates) in (
+      let moved = IsPermutation-refl (x ∷ s.candidates) in (
         record s { unrelaxed = rest; candidates = x ∷ s.candidates },
         record { may = may; candidate = x; follows = f; arc = refl; entries = λ p y. (λ h. h, λ h. h); unrelaxed = left.exact; candidates = moved },
       )
@@ -214,8 +214,7 @@ abbrev OpensArcs : Task → Label × ℕ → Type 0
 OpensArcs task p = LeadsOn task.network p.0.node p.1
 
 take_moves : (task : Task) (s : SearchState) (l : Label) (next : SearchState) → Takes task s l next → Moves (λ y. y ≡ l) settled (OpensArcs task) s next
-take_moves task s l next h =
-    record { entries = h.entries; unrelaxed = λ p. let u = h.unrelaxed p in grind arith; candidates = h.candidates }
+take_moves task s l next h = record { entries = h.entries; unrelaxed = λ p. let u = h.unrelaxed p in grind arith; candidates = h.candidates }
 
 -- ---- what is told of a state
 

@@ -10,8 +10,8 @@ use Rattle.cost_vector.specs.Costs.{AtMost, Dominates}
 use Rattle.cost_vector.proofs.Vectors.{AtMost-trans, AtMost-antisymm, cases_same}
 use Rattle.list_laws.specs.Sets.{ListsOnce}
 use Rattle.list_laws.proofs.SetLaws.{none_of_empty, same_by_permutation}
-use Rattle.list_laws.proofs.OnceLaws.{same_by, members_once, rest_once, lists_append, empty_if_none, once_as, pairs_append, pairs_of_members}
-use Rattle.list_laws.proofs.OnceLaws.{lists_in_any_order, lists_permute, lists_images, in_append, once_apart, flat_in_any_order, range_once}
+use Rattle.list_laws.proofs.OnceLaws.{alike_back, alike_through, same_by, members_once, rest_once, lists_append, empty_if_none, once_as, pairs_append}
+use Rattle.list_laws.proofs.OnceLaws.{pairs_of_members, lists_in_any_order, lists_permute, lists_images, in_append, once_apart, flat_in_any_order, range_once}
 use Rattle.list_laws.proofs.Members.{in_none, in_first, cases_in}
 use Rattle.list_laws.proofs.Pairs.{pairs_rest, pair_with_first, pairs_none}
 use Rattle.road_network.specs.Network.{Network}
@@ -45,10 +45,7 @@ pub keeps_through : (net : Network) (a b c : SearchState) → KeepsOutcome net a
 keeps_through net a b c first second = record {
   met = λ y h. second.met y (first.met y h);
   back = λ y h. first.back y (second.back y h);
-  places = λ p other y unbeaten.
-      let before = first.places p other y unbeaten in
-      let after = second.places p other y (λ z there. unbeaten z (first.back z there)) in
-      (λ h. after.0 (before.0 h), λ h. before.1 (after.1 h));
+  places = λ p other y unbeaten. alike_through (first.places p other y unbeaten) (second.places p other y (λ z there. unbeaten z (first.back z there)));
 }
 
 pair_on : (xs ys : List Label) → ((z : Label) → Contains xs z → Contains ys z) → (y : Label) → HasPair xs y → HasPair ys y
@@ -194,12 +191,14 @@ all_but : {A B F : Type 0} → (A ↔ B) → ¬ F → (B ↔ (A × (¬ F)))
 all_but same other = grind arith
 
 module _ (task : Task) (is : IsTask task) where
-  arrival_alike : (a b : SearchState) → IsSame a b → (x : Label) → IsArrival task.network a x → IsArrival task.network b x
-  arrival_alike a b same = arrival_on task.network a b (λ x. (same_by_permutation a.candidates b.candidates same.candidates x).1) (λ p. (same.unrelaxed p).0)
+  arrival_alike : (a b : SearchState) → IsSame a b → (x : Label) → IsArrival task.network a x ↔ IsArrival task.network b x
+  arrival_alike a b same x = (on a b same, on b a (same_back a b same)) where
+    on : (a b : SearchState) → IsSame a b → IsArrival task.network a x → IsArrival task.network b x
+    on a b same = arrival_on task.network a b (λ y. (same_by_permutation a.candidates b.candidates same.candidates y).1) (λ p. (same.unrelaxed p).0) x
 
   to_do_alike : (a b : SearchState) → IsSame b a → (event : Event) → IsToDo task.network a event ↔ IsToDo task.network b event
-  to_do_alike a b same (relax l k) = ((same.unrelaxed (l, k)).1, (same.unrelaxed (l, k)).0)
-  to_do_alike a b same (merge x) = (arrival_alike a b (same_back b a same) x, arrival_alike b a same x)
+  to_do_alike a b same (relax l k) = alike_back (same.unrelaxed (l, k))
+  to_do_alike a b same (merge x) = alike_back (arrival_alike b a same x)
   to_do_alike a b same _ = (λ h. h, λ h. h)
 
   -- an event leaves all else to do
@@ -230,7 +229,7 @@ module _ (task : Task) (is : IsTask task) where
       all = once_as (IsToDo task.network a) (IsToDo task.network b) events (to_do_alike a b same) left.all;
       in_order = left.in_order;
       kept = keeps_through task.network s a b left.kept
-          (same_keeps task is a b left.sound (same_changes task is a b left.sound same) (arrival_alike b a same) same.entries);
+          (same_keeps task is a b left.sound (same_changes task is a b left.sound same) (λ x. (arrival_alike b a same x).0) same.entries);
     }
 
     left_on : (event : Event) (rest : List Event) (a b : SearchState) → IsLeft s (event ∷ rest) a → Happens task a event b → IsLeft s rest b
@@ -294,8 +293,7 @@ module _ (net : Network) (s : SearchState) where
   pub completes_in_halves : (first second : List Event) → ListsOnce (IsRelaxing s) first → ListsOnce (IsMerging net s) second
       → Completes net s (first ++ second)
   completes_in_halves first second due due_next = record {
-    all = lists_append (IsRelaxing s) (IsMerging net s) (IsToDo net s) first second
-        (λ event. grind arith) (λ event. grind arith) due due_next;
+    all = lists_append (IsRelaxing s) (IsMerging net s) (IsToDo net s) first second (λ event. grind arith) (λ event. grind arith) due due_next;
     in_order = pairs_append (λ a b. ¬ MergesResult net a b) first second
         (pairs_of_members (λ a b. ¬ MergesResult net a b) first (λ a b h k. no_result a b (inl ((due.exact a).0 h))))
         (pairs_of_members (λ a b. ¬ MergesResult net a b) second (λ a b h k. no_result a b (inr ((due_next.exact b).0 k))))
@@ -337,12 +335,9 @@ module _ (task : Task) (is : IsTask task) where
       let from_sound = same_is_sound task is s run.from run.same sound in
       let rest = arrivals_when_relaxed ps run.next b (sound_after task is run.from run.next (relaxing p) from_sound run.step)
       (rest_once (Contains run.from.unrelaxed) (Contains run.next.unrelaxed) p ps run.step.unrelaxed
-      (once_as (Contains s.unrelaxed) (Contains run.from.unrelaxed) (p ∷ ps) (λ q. ((run.same.unrelaxed q).1, (run.same.unrelaxed q).0)) pairs)) run.rest in
-      once_as (IsArrival task.network run.next) (IsArrival task.network s) b.candidates (λ x.
-      let relaxed = arrivals_by_relax task run.from run.next p.0 p.1 run.step x in (
-        λ h. arrival_alike task is run.from s run.same x (relaxed.1 h),
-        λ h. relaxed.0 (arrival_alike task is s run.from (same_back run.from s run.same) x h),
-      )) rest
+      (once_as (Contains s.unrelaxed) (Contains run.from.unrelaxed) (p ∷ ps) (λ q. alike_back (run.same.unrelaxed q)) pairs)) run.rest in
+      once_as (IsArrival task.network run.next) (IsArrival task.network s) b.candidates (λ x. alike_through
+      (alike_back (arrivals_by_relax task run.from run.next p.0 p.1 run.step x)) (arrival_alike task is run.from s run.same x)) rest
 
   relaxes_exist : (ps : List (Label × ℕ)) (s : SearchState) → IsSound task s → ListsOnce (Contains s.unrelaxed) ps
       → (b : SearchState) × Runs task s (map relaxing ps) b

@@ -70,9 +70,9 @@ module _ (task : Task) (is : IsTask task) where
 
   abbrev begins_from_same : (a b t : SearchState) → IsSame a b → Begins task b t → Begins task a t
   begins_from_same a b t same h =
-      let each = once_as (MayDrop task b) (MayDrop task a) h.drops (λ l. (drop_alike task b a (same_back a b same) l, drop_alike task a b same l)) h.each_drop in
+      let all = once_as (MayDrop task b) (MayDrop task a) h.drops (λ l. (drop_alike task b a (same_back a b same) l, drop_alike task a b same l)) h.each_drop in
       let run = runs_from_same task a b h.left (map (λ l. drop l) h.drops) (same_back a b same) h.dropping in
-      record { drops = h.drops; each_drop = each; left = h.left; dropping = run; takes = h.takes; each_take = h.each_take; taking = h.taking }
+      record { drops = h.drops; each_drop = all; left = h.left; dropping = run; takes = h.takes; each_take = h.each_take; taking = h.taking }
 
   abbrev round_from_same : (a b t : SearchState) → IsSame a b → IsBetweenRounds a → Round task b t → Round task a t
   round_from_same a b t same between h =
@@ -304,8 +304,7 @@ module _ (task : Task) (is : IsTask task) (budget : ℕ) where
       (rest.0, rest.1, omega (arith, rest.2))
 
   -- so many rounds take a label of no less a sum
-  pub bounded : (n : ℕ) → Rounds task budget n
-      → (v : ℕ) × (c : List ℕ) × IsRelevant task.network task.start task.target task.limit v c × (n ≤ sum c + 1)
+  pub bounded : (n : ℕ) → Rounds task budget n → (v : ℕ) × (c : List ℕ) × IsRelevant task.network task.start task.target task.limit v c × (n ≤ sum c + 1)
   bounded zero h =
       let start = start_is_relevant task.network task.start task.target task.limit is.start is.limit in
       (task.start, replicate task.network.criteria 0, start, omega arith)

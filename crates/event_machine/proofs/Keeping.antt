@@ -117,10 +117,7 @@ module _ (task : Task) (a b : SearchState) (sound : IsSound task a) (x : Label) 
     others_covered = λ p y there. elim (cases_beats x y) [ inl beats ↦ inr (covers_beaten x y beats) | inr unbeaten ↦ inl (inr unbeaten) ];
     clear = λ p y there stays node. elim [
       | inr above ↦ elim (cases_below y x (sym node) above) [ inl pair ↦ h.new y (p, there) pair | inr beats ↦ h.unbeaten y (p, there) beats ]
-      | inl below ↦ elim (cases_below x y node below) [
-        | inl pair ↦ h.new y (p, there) (pair_back x y pair)
-        | inr beats ↦ grind arith
-      ]
+      | inl below ↦ elim (cases_below x y node below) [ inl pair ↦ h.new y (p, there) (pair_back x y pair) | inr beats ↦ grind arith ]
     ];
   }
 

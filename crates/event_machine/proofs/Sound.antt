@@ -307,11 +307,7 @@ module _ (task : Task) (is : IsTask task) (s : SearchState) (sound : IsSound tas
 
     pub taken_is_least : HasLeastArc task.network task.start l
     taken_is_least = elim (sound.founded l (inl (waiting, may.waits))) [
-      | at_start e ↦ subst (HasLeastArc task.network task.start) (sym e) (record {
-        walk = [];
-        least = grind (arith, none_at_zero);
-        arc = refl;
-      })
+      | at_start e ↦ subst (HasLeastArc task.network task.start) (sym e) (record { walk = []; least = grind (arith, none_at_zero); arc = refl })
       | follows e there f ↦
           let from = sound.least e there in
           let least = with_last_arc task.network is.network from.walk task.start e.node l.node l.arc e.cost f.by from.least f.leads

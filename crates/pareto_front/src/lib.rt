@@ -3,5 +3,7 @@
 #![tactic(auto)]
 
 mod front;
+mod sorted;
 
 pub use front::{FrontEntry, ParetoFront, Standing};
+pub use sorted::SortedFront;

@@ -1,0 +1,4 @@
+pub mod Cuts
+pub mod Marks
+pub mod Neighbours
+pub mod Changes

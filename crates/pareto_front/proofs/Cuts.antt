@@ -4,7 +4,8 @@ use Rattle.std.specs.List.Sorted.{IsPartitionPoint, IsPartitionedBy, IsNonDecrea
 use Rattle.std.proofs.lemmas.Bool.{cases_lt, ltb-true, ltb-false, leb-true, leb-false}
 use Rattle.std.proofs.lemmas.Bool.Decides.{nat_tests}
 use Rattle.pareto_front.specs.declared.front.FrontEntry.{FrontEntry}
-use Rattle.pareto_front.specs.Sorted.{Descends, first, second}
+use Rattle.pareto_front.specs.Sorted.{Descends, first, second, IsBefore, AreAtLeast}
+use Rattle.pareto_front.proofs.Neighbours.{filler}
 
 -- the first components rise
 pub firsts_rise : (list : List (FrontEntry 2)) → Descends list → IsNonDecreasingBy (λ e. first e.cost.0) list
@@ -46,9 +47,24 @@ precedes_partitions t s list descends = λ i j d up within h. elim (cases_lt i j
       ])
 ]
 
-pub cut_preceding : (t s : ℕ) (list : List (FrontEntry 2)) (i : ℕ) → IsPartitionPoint (λ e. precedes t s e ≡ true) (λ e. precedes t s e ≡ false) list i
-    → IsPartitionPoint (λ e. (first e.cost.0 < t) ⊎ (s ≤ second e.cost.0)) (λ e. (t ≤ first e.cost.0) × (second e.cost.0 < s)) list i
-cut_preceding t s list i cut = (
-  λ k d up below. precedes_true t s (get_or list k d) (cut.0 k d up below),
-  λ k d up below. precedes_false t s (get_or list k d) (cut.1 k d up below),
-)
+pub at_least_between : (c : List ℕ) (list : List (FrontEntry 2)) (i j : ℕ) → i ≤ length list → j ≤ length list → IsBefore list c i
+    → IsPartitionPoint (λ e. precedes (first c) (second c) e ≡ true) (λ e. precedes (first c) (second c) e ≡ false) list j → AreAtLeast list c i j
+at_least_between c list i j within within_too before cut = record {
+  ascend = elim (cases_lt j i) [
+    | inr ascend ↦ ascend
+    | inl less ↦ let out = precedes_false (first c) (second c) (at j) (cut.1 j filler (omega arith) (omega arith)) in
+        absurd (omega (arith, before.0 j filler (omega arith) less, out.0))
+  ];
+  within = within_too;
+  before = before.0;
+  at_least = λ k d from to.
+      let out = before.1 k d from (omega arith) in
+      elim (precedes_true (first c) (second c) (get_or list k d) (cut.0 k d (omega arith) to)) [
+        | inl less ↦ absurd (omega (arith, out, less))
+        | inr above ↦ (out, above)
+      ];
+  after = λ k d from to. (precedes_false (first c) (second c) (get_or list k d) (cut.1 k d from to)).1;
+}
+  where
+    at : ℕ → FrontEntry 2
+    at k = get_or list k filler

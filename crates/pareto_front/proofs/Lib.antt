@@ -2,3 +2,4 @@ pub mod Cuts
 pub mod Marks
 pub mod Neighbours
 pub mod Changes
+pub mod Entering

@@ -53,6 +53,11 @@ read_at list k x within is = get_or_default list k filler x within ∙ sym is
 pub mark_at : (marks : List Bool) (k : ℕ) (b : Bool) → k < length marks → b ≡ get_or marks k b → get_or marks k false ≡ b
 mark_at marks k b within is = get_or_default marks k false b within ∙ sym is
 
+-- the entry at i has the cost c
+pub record IsAt (list : List (FrontEntry 2)) (c : List ℕ) (i : ℕ) : Type 0 where
+  pub within : i < length list
+  pub cost : cost_at list i ≡ c
+
 -- the entry at a place whose mark is b
 pub record Stands (b : Bool) (marks : List Bool) (list : List (FrontEntry 2)) (e : Entry) : Type 0 where
   pub place : ℕ
@@ -169,6 +174,13 @@ module _ {list : List (FrontEntry 2)} {marks : List Bool} {n : ℕ} (s : IsSorte
       let (k, within, is) = of_entries list marks s.marked h.by h.contains in
       (k, within, subst (λ (e : Entry). AtMost e.cost c) (sym is) h.at_most)
 
+  pub covers : (c : List ℕ) (k : ℕ) → k < length list → AtMost (cost_at list k) c → IsCovered (entries (front_of list marks)) c
+  covers c k within below = record {
+    by = told_entry (at list k);
+    contains = in_entries list marks s.marked k within;
+    at_most = below;
+  }
+
   -- the place of a cost
   pub cost_place : (c : List ℕ) → HasCost (entries (front_of list marks)) c → (k : ℕ) × (k < length list) × (cost_at list k ≡ c)
   cost_place c h =
@@ -183,6 +195,12 @@ module _ {list : List (FrontEntry 2)} {marks : List Bool} {n : ℕ} (s : IsSorte
       | inr (inl before) ↦ absurd (omega (arith, (falls i k before within).0, cut.1 i filler (omega arith) (omega arith), ap first is))
       | inr (inr after) ↦ absurd (omega (arith, cut.0 k filler (omega arith) after, ap first is))
     ]
+
+    pub is_at : HasCost (entries (front_of list marks)) c → IsAt list c i
+    is_at found =
+        let (k, within, is) = cost_place c found in
+        let same : k ≡ i = sym (stands_at k within is) in
+        record { within = omega (arith, within, same); cost = ap (cost_at list) (sym same) ∙ is }
 
     -- so does a settled one
     pub settled_at : (arc : ℕ) → Contains (front_of list marks).settled (record { cost = c; arc = arc })

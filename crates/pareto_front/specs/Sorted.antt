@@ -1,6 +1,6 @@
 -- How the front of a node under 2 criteria is laid out.
-use Rattle.std.specs.Prelude.{◌≡◌, ℕ, ◌<◌, ◌≤◌, ◌⊎◌, Bool, not, List, length, map, slice_index, All, AllPairs}
-use Rattle.std.specs.List.{items_where_true}
+use Rattle.std.specs.Prelude.{◌≡◌, ℕ, ◌<◌, ◌≤◌, Bool, not, List, length, map, slice_index, All, AllPairs}
+use Rattle.std.specs.List.{AllWithin, items_where_true}
 use Rattle.std.specs.List.Sorted.{IsPartitionPoint}
 use Rattle.pareto_front.specs.declared.front.FrontEntry.{FrontEntry}
 use Rattle.pareto_front.specs.Fronts.{Entry, Front}
@@ -39,7 +39,10 @@ IsBefore list c = IsPartitionPoint (λ e. first e.cost.0 < first c) (λ e. first
 abbrev pub IsUpTo : List (FrontEntry 2) → List ℕ → ℕ → Type 0
 IsUpTo list c = IsPartitionPoint (λ e. first e.cost.0 ≤ first c) (λ e. first c < first e.cost.0) list
 
--- as many entries have a lesser first component than c or are at least c in the second one, and the others neither
-abbrev pub IsPastDominated : List (FrontEntry 2) → List ℕ → ℕ → Type 0
-IsPastDominated list c = IsPartitionPoint (λ e. (first e.cost.0 < first c) ⊎ (second c ≤ second e.cost.0))
-    (λ e. (first c ≤ first e.cost.0) × (second e.cost.0 < second c)) list
+-- the entries from `start` to `end` are those that are at least c in both components
+pub record AreAtLeast (list : List (FrontEntry 2)) (c : List ℕ) (start end : ℕ) : Type 0 where
+  pub ascend : start ≤ end
+  pub within : end ≤ length list
+  pub before : AllWithin (λ e. first e.cost.0 < first c) list 0 start
+  pub at_least : AllWithin (λ e. (first c ≤ first e.cost.0) × (second c ≤ second e.cost.0)) list start end
+  pub after : AllWithin (λ e. second e.cost.0 < second c) list end (length list)

@@ -1,6 +1,6 @@
 ghost use Rattle.std.specs.Prelude.{◌≡◌, ◌<◌, ◌≤◌, ◌++◌, ◌∷◌, length, take, drop, vec_len, vec_capacity};
 ghost use Rattle.std.specs.List.{items_where_true};
-ghost use Rattle.pareto_front.specs.Sorted.{Descends, IsBefore, IsUpTo, IsPastDominated};
+ghost use Rattle.pareto_front.specs.Sorted.{Descends, IsBefore, IsUpTo, AreAtLeast};
 
 use crate::front::{FrontEntry, ParetoFront, Standing};
 use compact_labels::{CompactCost, CompactSpot};
@@ -81,8 +81,7 @@ impl ParetoFront<2> for SortedFront {
         by: &CompactSpot<2>,
         found: &mut Vec<CompactSpot<2>>,
     ) -> Result<(), OutOfMemory> {
-        let start = before(&self.entries, &by.cost);
-        let end = past_dominated(&self.entries, &by.cost);
+        let (start, end) = at_least(&self.entries, &by.cost);
         for entry in &self.entries[start..end] {
             if entry.cost != by.cost {
                 found.push(CompactSpot {
@@ -101,9 +100,8 @@ impl ParetoFront<2> for SortedFront {
     }
 
     fn enter(&mut self, cost: &CompactCost<2>, arc: ArcNo) {
-        let start = before(&self.entries, cost);
-        let end = past_dominated(&self.entries, cost);
-        let entry = FrontEntry { cost: *cost, arc };
+        let (start, end) = at_least(&self.entries, cost);
+        let entry = FrontEntry { cost: CompactCost(cost.0), arc };
         replace(&mut self.entries, start, end, entry);
         replace(&mut self.marks, start, end, false);
     }
@@ -146,13 +144,15 @@ fn up_to(entries: &[FrontEntry<2>], cost: &CompactCost<2>) -> usize
     entries.partition_point(|e| e.cost.0[0] <= cost.0[0])
 }
 
-/// Where the entries end that have a lesser first component or aren't less in the second one.
-fn past_dominated(entries: &[FrontEntry<2>], cost: &CompactCost<2>) -> usize
+/// Where the entries begin and end that are at least the cost in both components.
+fn at_least(entries: &[FrontEntry<2>], cost: &CompactCost<2>) -> (usize, usize)
     requires { Descends entries.now }
-    ensures within { result ≤ length entries.now }
-    ensures cut { IsPastDominated entries.now cost.now.0 result }
+    ensures { AreAtLeast entries.now cost.now.0 result.0 result.1 }
 {
-    entries.partition_point(|e| e.cost.0[0] < cost.0[0] || e.cost.0[1] >= cost.0[1])
+    let start = before(entries, cost);
+    let end =
+        entries.partition_point(|e| e.cost.0[0] < cost.0[0] || e.cost.0[1] >= cost.0[1]);
+    (start, end)
 }
 
 /// Puts the item in place of those from `start` to `end`.

@@ -1,5 +1,5 @@
 -- Where a sorted front is cut in two by a component of a cost.
-use Rattle.std.proofs.Common.{◌≡◌, ℕ, ◌+◌, ◌<◌, ◌≤◌, ◌⊎◌, Bool, true, false, List, length, get_or, inl, inr, refl, sym, arith, nat_lt, nat_le, cond}
+use Rattle.std.proofs.Common.{◌≡◌, ℕ, ◌<◌, ◌≤◌, ◌⊎◌, Bool, true, false, List, length, get_or, inl, inr, arith, nat_lt, nat_le, cond}
 use Rattle.std.specs.List.Sorted.{IsPartitionPoint, IsPartitionedBy, IsNonDecreasingBy}
 use Rattle.std.proofs.lemmas.Bool.{cases_lt, ltb-true, ltb-false, leb-true, leb-false}
 use Rattle.std.proofs.lemmas.Bool.Decides.{nat_tests}
@@ -47,7 +47,7 @@ precedes_partitions t s list descends = λ i j d up within h. elim (cases_lt i j
       ])
 ]
 
-pub at_least_between : (c : List ℕ) (list : List (FrontEntry 2)) (i j : ℕ) → i ≤ length list → j ≤ length list → IsBefore list c i
+pub at_least_between : (c : List ℕ) (list : List (FrontEntry 2)) (i j : ℕ) → i ≤ length list → j ≤ length list → IsBefore list (first c) i
     → IsPartitionPoint (λ e. precedes (first c) (second c) e ≡ true) (λ e. precedes (first c) (second c) e ≡ false) list j → AreAtLeast list c i j
 at_least_between c list i j within within_too before cut = record {
   ascend = elim (cases_lt j i) [

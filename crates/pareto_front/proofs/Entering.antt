@@ -1,9 +1,8 @@
 -- What a new entry makes of a sorted front, in place of the entries that it dominates.
-use Rattle.std.proofs.Common.{◌≡◌, ◌≢◌, ℕ, zero, suc, ◌+◌, ◌-◌, ◌<◌, ◌≤◌, ◌⊎◌, ◌↔◌, Bool, true, false, not, List, [], ◌∷◌, ◌++◌, length, map, take, drop, get_or, inl, inr, refl, sym, ap, subst, subst₂, ◌∙◌, arith, take-append-drop, append_assoc}
-use Rattle.std.specs.Prelude.{Contains}
+use Rattle.std.proofs.Common.{◌≡◌, ℕ, suc, ◌+◌, ◌-◌, ◌<◌, ◌≤◌, ◌⊎◌, ◌↔◌, Bool, true, false, List, [], ◌∷◌, ◌++◌, length, map, take, drop, get_or, inl, inr, refl, sym, ap, subst, subst₂, ◌∙◌, arith, take-append-drop, append_assoc}
 use Rattle.std.specs.List.{items_where_true}
 use Rattle.std.proofs.lemmas.Bool.{cases_lt, cases_order}
-use Rattle.std.proofs.lemmas.List.{get_or_default, get_or_append_left, get_or-append_right, get_or-take, get_or-drop, length-append, length-take, length-drop, take-take}
+use Rattle.std.proofs.lemmas.List.{get_or_append_left, get_or-append_right, get_or-take, get_or-drop, length-append, length-take, length-drop, take-take}
 use Rattle.cost_vector.specs.Costs.{AtMost, Dominates}
 use Rattle.cost_vector.proofs.Vectors.{AtMost-refl}
 use Rattle.list_laws.proofs.OnceLaws.{empty_if_none}
@@ -13,7 +12,7 @@ use Rattle.pareto_front.specs.Fronts.{Entry, entries, IsCovered, SparesSettled}
 use Rattle.pareto_front.specs.Calls.{told_entry, Enters}
 use Rattle.pareto_front.specs.Sorted.{IsSorted, first, second, front_of, AreAtLeast}
 use Rattle.pareto_front.proofs.Marks.{of_marked, marked-append}
-use Rattle.pareto_front.proofs.Neighbours.{filler, at, cost_at, Stands, in_settled, settled_stands, unsettled_stands, long_at, falls, covers, at_most_pair, first_at_most, second_at_most}
+use Rattle.pareto_front.proofs.Neighbours.{filler, at, cost_at, Stands, in_settled, unsettled_stands, long_at, falls, covers, at_most_pair, first_at_most, second_at_most}
 use Rattle.pareto_front.proofs.Changes.{sorted_by_places}
 
 -- ---- a list with one element in place of those from a to b

@@ -3,3 +3,5 @@ pub mod Marks
 pub mod Neighbours
 pub mod Changes
 pub mod Entering
+pub mod Finding
+pub mod Listing

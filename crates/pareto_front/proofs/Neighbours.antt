@@ -1,20 +1,19 @@
 -- A sorted front, read place by place.
-use Rattle.std.proofs.Common.{◌≡◌, ◌≢◌, ℕ, zero, suc, ◌+◌, ◌-◌, ◌<◌, ◌≤◌, ◌⊎◌, ◌↔◌, Bool, true, false, not, List, [], ◌∷◌, ◌++◌, length, map, get_or, All, inl, inr, refl, sym, ap, subst, subst₂, ◌∙◌, arith}
+use Rattle.std.proofs.Common.{◌≡◌, ◌≢◌, ℕ, zero, suc, ◌-◌, ◌<◌, ◌≤◌, ◌↔◌, Bool, true, false, not, List, [], length, map, get_or, inl, inr, refl, sym, ap, subst, subst₂, ◌∙◌, arith}
 use Rattle.std.specs.Prelude.{AllPairs, Contains}
 use Rattle.std.specs.List.{items_where_true}
 use Rattle.std.proofs.lemmas.Bool.{cases_lt, cases_order, false≢true}
-use Rattle.std.proofs.lemmas.List.{get_or_default, get_or-map, length-map, map-append}
+use Rattle.std.proofs.lemmas.List.{get_or_default}
 use Rattle.std.proofs.lemmas.List.Elements.{AllZip-get_or, Contains-append_left, Contains-append_right, Contains-append_cases}
-use Rattle.cost_vector.specs.Costs.{AtMost, Dominates}
-use Rattle.cost_vector.proofs.Vectors.{AtMost-refl, AtMost-antisymm}
+use Rattle.cost_vector.specs.Costs.{AtMost}
 use Rattle.list_laws.proofs.Members.{in_map, of_map, all_from_in}
 use Rattle.list_laws.proofs.Pairs.{pairs_map}
 use Rattle.list_laws.proofs.OnceLaws.{pairs_append}
 use Rattle.compact_labels.proofs.Components.{AtMost_from_places}
 use Rattle.pareto_front.specs.declared.front.FrontEntry.{FrontEntry}
-use Rattle.pareto_front.specs.Fronts.{Entry, Front, entries, HasCost, IsFront, IsCovered, AreIncomparable}
+use Rattle.pareto_front.specs.Fronts.{Entry, entries, HasCost, IsFront, IsCovered, AreIncomparable}
 use Rattle.pareto_front.specs.Calls.{told_entry}
-use Rattle.pareto_front.specs.Sorted.{IsSorted, Descends, first, second, front_of, IsBefore, IsUpTo}
+use Rattle.pareto_front.specs.Sorted.{IsSorted, first, second, front_of, IsBefore, IsUpTo}
 use Rattle.pareto_front.proofs.Marks.{IsMarked, of_marked, in_marked, of_unmarked, in_unmarked, pairs_marked}
 
 -- ---- costs of two components
@@ -36,7 +35,7 @@ second_at_most a b long h = AllZip-get_or ◌≤◌ a b 1 0 0 h (omega arith)
 -- ---- the entries of a list, place by place
 
 -- what is read past the end of a list
-pub filler : FrontEntry 2
+abbrev pub filler : FrontEntry 2
 filler = record { cost = record { 0 = [] }; arc = record { 0 = 0 } }
 
 -- the entry at k, and its cost
@@ -147,8 +146,8 @@ module _ {list : List (FrontEntry 2)} {marks : List Bool} {n : ℕ} (s : IsSorte
     two = omega arith;
     four = omega arith;
     components = all_from_in (λ e. length e.cost ≡ 2) (entries (front_of list marks)) (λ e h.
-    let (k, within, is) = of_entries list marks s.marked e h in
-    subst (λ (x : Entry). length x.cost ≡ 2) is (long_at k within));
+        let (k, within, is) = of_entries list marks s.marked e h in
+        subst (λ (x : Entry). length x.cost ≡ 2) is (long_at k within));
     incomparable = pairs_append AreIncomparable (front_of list marks).settled (front_of list marks).unsettled (images marks) (images (map not marks)) across;
   }
     where
@@ -187,7 +186,7 @@ module _ {list : List (FrontEntry 2)} {marks : List Bool} {n : ℕ} (s : IsSorte
       let (k, within, is) = of_entries list marks s.marked (record { cost = c; arc = h.arc }) h.contains in
       (k, within, ap (λ (e : Entry). e.cost) is)
 
-  module _ (c : List ℕ) (i : ℕ) (cut : IsBefore list c i) where
+  module _ (c : List ℕ) (i : ℕ) (cut : IsBefore list (first c) i) where
     -- an entry of the cost stands behind those with a lesser first component
     pub stands_at : (k : ℕ) → k < length list → cost_at list k ≡ c → i ≡ k
     stands_at k within is = elim (cases_order i k) [
@@ -211,7 +210,7 @@ module _ {list : List (FrontEntry 2)} {marks : List Bool} {n : ℕ} (s : IsSorte
         let e : there.place ≡ i = sym here in
         (omega (arith, there.within, e), ap (λ k. get_or marks k false) here ∙ there.mark, ap (λ k. told_entry (at list k)) here ∙ there.is)
 
-  module _ (c : List ℕ) (long : length c ≡ 2) (i : ℕ) (cut : IsUpTo list c i) where
+  module _ (c : List ℕ) (long : length c ≡ 2) (i : ℕ) (cut : IsUpTo list (first c) i) where
     uncovered : ((k : ℕ) → k < i → second c < second (cost_at list k)) → ¬ IsCovered (entries (front_of list marks)) c
     uncovered above h =
         let (k, within, below) = covered_at c h in

@@ -3,7 +3,7 @@ use Rattle.std.specs.Prelude.{◌≡◌, ℕ, ◌<◌, ◌≤◌, Bool, not, Lis
 use Rattle.std.specs.List.{AllWithin, items_where_true}
 use Rattle.std.specs.List.Sorted.{IsPartitionPoint}
 use Rattle.pareto_front.specs.declared.front.FrontEntry.{FrontEntry}
-use Rattle.pareto_front.specs.Fronts.{Entry, Front}
+use Rattle.pareto_front.specs.Fronts.{Front}
 use Rattle.pareto_front.specs.Calls.{told_entry}
 
 -- the two components of a cost
@@ -31,13 +31,13 @@ front_of list marks = record {
   unsettled = map told_entry (items_where_true (map not marks) list);
 }
 
--- as many entries have a lesser first component than c, and the others don't
-abbrev pub IsBefore : List (FrontEntry 2) → List ℕ → ℕ → Type 0
-IsBefore list c = IsPartitionPoint (λ e. first e.cost.0 < first c) (λ e. first c ≤ first e.cost.0) list
+-- as many entries have a first component below t, and the others don't
+abbrev pub IsBefore : List (FrontEntry 2) → ℕ → ℕ → Type 0
+IsBefore list t = IsPartitionPoint (λ e. first e.cost.0 < t) (λ e. t ≤ first e.cost.0) list
 
--- as many entries have a first component that is at most that of c, and the others don't
-abbrev pub IsUpTo : List (FrontEntry 2) → List ℕ → ℕ → Type 0
-IsUpTo list c = IsPartitionPoint (λ e. first e.cost.0 ≤ first c) (λ e. first c < first e.cost.0) list
+-- as many entries have a first component of at most t, and the others don't
+abbrev pub IsUpTo : List (FrontEntry 2) → ℕ → ℕ → Type 0
+IsUpTo list t = IsPartitionPoint (λ e. first e.cost.0 ≤ t) (λ e. t < first e.cost.0) list
 
 -- the entries from `start` to `end` are those that are at least c in both components
 pub record AreAtLeast (list : List (FrontEntry 2)) (c : List ℕ) (start end : ℕ) : Type 0 where

@@ -28,8 +28,8 @@ impl Model for SortedFront {
     ghost use Rattle.pareto_front.specs.Sorted.{IsSorted, front_of};
 
     ghost view = { λ f. (
-        front_of f.entries.items f.marks.items,
-        min (vec_capacity f.entries - vec_len f.entries) (vec_capacity f.marks - vec_len f.marks)
+      front_of f.entries.items f.marks.items,
+      min (vec_capacity f.entries - vec_len f.entries) (vec_capacity f.marks - vec_len f.marks),
     ) };
 
     ghost invariant = { λ f. IsSorted f.entries.items f.marks.items f.settled };
@@ -53,12 +53,13 @@ impl ParetoFront<2> for SortedFront {
     }
 
     fn compare(&self, cost: &CompactCost<2>) -> Standing {
-        let reach = up_to(&self.entries, cost);
+        let [first, second] = cost.0;
+        let reach = up_to(&self.entries, first);
         if reach == 0 {
             return Standing::New;
         }
         let nearest = self.entries[reach - 1];
-        if nearest.cost.0[1] > cost.0[1] {
+        if nearest.cost.0[1] > second {
             Standing::New
         } else if nearest.cost == *cost {
             Standing::Equal(nearest.arc)
@@ -68,7 +69,7 @@ impl ParetoFront<2> for SortedFront {
     }
 
     fn settled_arc(&self, cost: &CompactCost<2>) -> Option<ArcNo> {
-        let at = before(&self.entries, cost);
+        let at = before(&self.entries, cost.0[0]);
         if at < self.entries.len() && self.marks[at] && self.entries[at].cost == *cost {
             Some(self.entries[at].arc)
         } else {
@@ -101,18 +102,18 @@ impl ParetoFront<2> for SortedFront {
 
     fn enter(&mut self, cost: &CompactCost<2>, arc: ArcNo) {
         let (start, end) = at_least(&self.entries, cost);
-        let entry = FrontEntry { cost: CompactCost(cost.0), arc };
+        let entry = FrontEntry { cost: *cost, arc };
         replace(&mut self.entries, start, end, entry);
         replace(&mut self.marks, start, end, false);
     }
 
     fn relabel(&mut self, cost: &CompactCost<2>, arc: ArcNo) {
-        let at = before(&self.entries, cost);
+        let at = before(&self.entries, cost.0[0]);
         self.entries[at].arc = arc;
     }
 
     fn settle(&mut self, cost: &CompactCost<2>) {
-        let at = before(&self.entries, cost);
+        let at = before(&self.entries, cost.0[0]);
         if !self.marks[at] {
             self.marks[at] = true;
             self.settled += 1;
@@ -127,31 +128,32 @@ impl ParetoFront<2> for SortedFront {
 }
 
 /// How many entries have a lesser first component.
-fn before(entries: &[FrontEntry<2>], cost: &CompactCost<2>) -> usize
+fn before(entries: &[FrontEntry<2>], first: u64) -> usize
     requires { Descends entries.now }
     ensures within { result ≤ length entries.now }
-    ensures cut { IsBefore entries.now cost.now.0 result }
+    ensures cut { IsBefore entries.now first result }
 {
-    entries.partition_point(|e| e.cost.0[0] < cost.0[0])
+    entries.partition_point(|e| e.cost.0[0] < first)
 }
 
 /// How many entries have a first component that isn't greater.
-fn up_to(entries: &[FrontEntry<2>], cost: &CompactCost<2>) -> usize
+fn up_to(entries: &[FrontEntry<2>], first: u64) -> usize
     requires { Descends entries.now }
     ensures within { result ≤ length entries.now }
-    ensures cut { IsUpTo entries.now cost.now.0 result }
+    ensures cut { IsUpTo entries.now first result }
 {
-    entries.partition_point(|e| e.cost.0[0] <= cost.0[0])
+    entries.partition_point(|e| e.cost.0[0] <= first)
 }
 
 /// Where the entries begin and end that are at least the cost in both components.
 fn at_least(entries: &[FrontEntry<2>], cost: &CompactCost<2>) -> (usize, usize)
     requires { Descends entries.now }
-    ensures { AreAtLeast entries.now cost.now.0 result.0 result.1 }
+    ensures two { length cost.now.0 ≡ 2 }
+    ensures span { AreAtLeast entries.now cost.now.0 result.0 result.1 }
 {
-    let start = before(entries, cost);
-    let end =
-        entries.partition_point(|e| e.cost.0[0] < cost.0[0] || e.cost.0[1] >= cost.0[1]);
+    let [first, second] = cost.0;
+    let start = before(entries, first);
+    let end = entries.partition_point(|e| e.cost.0[0] < first || e.cost.0[1] >= second);
     (start, end)
 }
 

@@ -4,8 +4,8 @@ use Rattle.pareto_front.specs.Sorted.{first, second}
 use Rattle.pareto_front.proofs.Cuts.{precedes, precedes_partitions, at_least_between}
 use Rattle.pareto_front.proofs.sorted.at_least.Goals as goal
 
-pub returns : goal.returns
-returns c =
+pub returns-clause-span : goal.returns-clause-span
+returns-clause-span c =
     let list = c.args.entries.now in
     let cost = c.args.cost.now.0 in
     at_least_between cost list _ _ (omega arith) (omega arith) c.before-start.ensures.cut

@@ -8,7 +8,7 @@ use Rattle.pareto_front.proofs.sorted.before.Goals as goal
 pub returns-clause-cut : goal.returns-clause-cut
 returns-clause-cut c =
     let list = c.args.entries.now in
-    let t = first c.args.cost.now.0 in
+    let t = c.args.first in
     cut_below (λ (e : FrontEntry 2). first e.cost.0) t list _
     (IsPartitionPoint-from_clause (λ (e : FrontEntry 2). nat_lt (first e.cost.0) t) list _ c.partition_point.ensures.partitioned
     (IsPartitionedBy-ltb (λ (e : FrontEntry 2). first e.cost.0) list t (firsts_rise list c.requires)) (λ a r f k. search rules))

@@ -1,11 +1,9 @@
-use Rattle.std.proofs.Common.{◌≡◌, ◌-◌, ◌<◌, List, length, arith, sym, ap, subst, ℕ, ◌∙◌, true, false, Bool}
+use Rattle.std.proofs.Common.{◌≡◌, ◌-◌, arith, sym, ap, ◌∙◌, false}
 use Rattle.std.specs.Cmp.Lexicographic.{pointwise, bytes_decides}
 use Rattle.std.proofs.lemmas.Bool.{false≢true}
-use Rattle.cost_vector.specs.Costs.{AtMost}
 use Rattle.pareto_front.specs.declared.front.FrontEntry.{FrontEntry}
 use Rattle.pareto_front.specs.Calls.{told_entry}
-use Rattle.pareto_front.specs.Fronts.{Entry, entries}
-use Rattle.pareto_front.specs.Sorted.{first, second, IsUpTo, front_of}
+use Rattle.pareto_front.specs.Sorted.{first, IsUpTo}
 use Rattle.pareto_front.proofs.Neighbours.{at, cost_at, read_at, in_entries, is_front, uncovered_at_front, uncovered_by_nearest, nearest_at_most}
 use Rattle.pareto_front.proofs.sorted.SortedFrontParetoFront2.compare.Goals as goal
 
@@ -14,22 +12,22 @@ up_to-reach-requires c = rw c.deref.ensures.value c.self.invariant.descends
 
 pub returns-then-reach-eq0 : goal.returns-then-reach-eq0
 returns-then-reach-eq0 c =
-    let cut : IsUpTo c.self.inside.entries.items c.args.cost.now.0 c.up_to-reach.result = rw c.deref.ensures.value at c.up_to-reach.ensures.cut in
+    let cut : IsUpTo c.self.inside.entries.items (first c.args.cost.now.0) c.up_to-reach.result = rw c.deref.ensures.value at c.up_to-reach.ensures.cut in
     rw (← c.self.view_is) (record {
       front = is_front c.self.invariant;
       standing = uncovered_at_front c.self.invariant c.args.cost.now.0 (omega arith) c.up_to-reach.result cut c.if-reach-eq0.true;
     })
 
-pub returns-then-nearest-cost : goal.returns-then-nearest-cost
-returns-then-nearest-cost c =
+pub returns-then-nearest-second : goal.returns-then-nearest-second
+returns-then-nearest-second c =
     let list = c.self.inside.entries.items in
     let reach = c.up_to-reach.result in
-    let cut : IsUpTo list c.args.cost.now.0 reach = rw c.deref.ensures.value at c.up_to-reach.ensures.cut in
+    let cut : IsUpTo list (first c.args.cost.now.0) reach = rw c.deref.ensures.value at c.up_to-reach.ensures.cut in
     let nearest = read_at list (reach - 1) c.index.result.now (omega arith) c.index.ensures in
     rw (← c.self.view_is) (record {
       front = is_front c.self.invariant;
       standing = uncovered_by_nearest c.self.invariant c.args.cost.now.0 (omega arith) reach cut c.if-reach-eq0.false (omega arith)
-          (rw (nearest, cost_at) c.if-nearest-cost.true);
+          (rw (nearest, cost_at) c.if-nearest-second.true);
     })
 
 pub returns-then-eq : goal.returns-then-eq
@@ -49,10 +47,10 @@ pub returns-else-eq : goal.returns-else-eq
 returns-else-eq c =
     let list = c.self.inside.entries.items in
     let reach = c.up_to-reach.result in
-    let cut : IsUpTo list c.args.cost.now.0 reach = rw c.deref.ensures.value at c.up_to-reach.ensures.cut in
+    let cut : IsUpTo list (first c.args.cost.now.0) reach = rw c.deref.ensures.value at c.up_to-reach.ensures.cut in
     let nearest = read_at list (reach - 1) c.index.result.now (omega arith) c.index.ensures in
     let below = nearest_at_most c.self.invariant c.args.cost.now.0 (omega arith) reach cut c.if-reach-eq0.false (omega arith)
-    (rw (nearest, cost_at) c.if-nearest-cost.false) in
+    (rw (nearest, cost_at) c.if-nearest-second.false) in
     let other : pointwise _ c.index.result.now.cost.0 c.args.cost.now.0 ≡ false = sym c.if-eq.ensures in
     rw (← c.self.view_is) (record {
       front = is_front c.self.invariant;

@@ -1,5 +1,4 @@
-use Rattle.std.proofs.Common.{arith, refl}
-use Rattle.pareto_front.specs.declared.front.FrontEntry.{FrontEntry}
+use Rattle.std.proofs.Common.{refl}
 use Rattle.pareto_front.proofs.Entering.{sorted_entered, enters}
 use Rattle.pareto_front.proofs.sorted.SortedFrontParetoFront2.enter.Goals as goal
 
@@ -8,16 +7,16 @@ at_least-start-requires c = rw c.deref.ensures.value c.self.invariant.descends
 
 pub invariant_of-self : goal.invariant_of-self
 invariant_of-self c =
-    let span = rw c.deref.ensures.value at c.at_least-start.ensures in
+    let span = rw c.deref.ensures.value at c.at_least-start.ensures.span in
     let new = rw (← c.self.view_is) at c.requires.new in
     let spares = rw (← c.self.view_is) at c.requires.spares in
     rw (c.replace.ensures.items, c.replace-2.ensures.items)
-    (sorted_entered c.self.invariant (omega arith) span new spares (record { cost = c.args.cost.now; arc = c.args.arc }) refl)
+    (sorted_entered c.self.invariant c.at_least-start.ensures.two span new spares (record { cost = c.args.cost.now; arc = c.args.arc }) refl)
 
 pub returns-clause-entered : goal.returns-clause-entered
 returns-clause-entered c =
-    let span = rw c.deref.ensures.value at c.at_least-start.ensures in
+    let span = rw c.deref.ensures.value at c.at_least-start.ensures.span in
     let new = rw (← c.self.view_is) at c.requires.new in
     let spares = rw (← c.self.view_is) at c.requires.spares in
     rw (← c.self.view_is, c.replace.ensures.items, c.replace-2.ensures.items)
-    (enters c.self.invariant (omega arith) span new spares (record { cost = c.args.cost.now; arc = c.args.arc }) refl)
+    (enters c.self.invariant c.at_least-start.ensures.two span new spares (record { cost = c.args.cost.now; arc = c.args.arc }) refl)

@@ -1,4 +1,4 @@
-use Rattle.std.proofs.Common.{◌≡◌, ◌≤◌, true, false, get_or, length, arith, ap, sym, ◌∙◌}
+use Rattle.std.proofs.Common.{◌≡◌, false, get_or, arith, ◌∙◌}
 use Rattle.std.proofs.Math.Facts.{Fits-of_lt}
 use Rattle.pareto_front.proofs.Neighbours.{IsAt, is_at, mark_at}
 use Rattle.pareto_front.proofs.Marks.{length-marked_le}

@@ -101,7 +101,8 @@ module _ {list : List (FrontEntry 2)} {marks : List Bool} {n : ℕ} (s : IsSorte
       let k = a + j in
       let inside : k < length list = omega (arith, within, length-middle, span.within) in
       let same : at list k ≡ e = get_or_default list k filler e inside ∙ sym (middle_at j e within) ∙ is in
-      let other : cost_at list k ≢ c = λ q. not_both (pointwise nat_eq e.cost.0 c) kept.1 ((bytes_decides _ _).1 (ap (λ (x : FrontEntry 2). x.cost.0) (sym same) ∙ q)) in
+      let cost : e.cost.0 ≡ cost_at list k = ap (λ (x : FrontEntry 2). x.cost.0) (sym same) in
+      let other : cost_at list k ≢ c = λ q. not_both (pointwise nat_eq e.cost.0 c) kept.1 ((bytes_decides _ _).1 (cost ∙ q)) in
       let out = dominated_at k (omega arith) (omega (arith, within, length-middle)) other in
       subst (λ (x : FrontEntry 2). HasCost (front_of list marks).unsettled x.cost.0 × Dominates c x.cost.0) same (unsettled_at k inside out, out)
     where
@@ -150,8 +151,9 @@ module _ {list : List (FrontEntry 2)} {marks : List Bool} {n : ℕ} (s : IsSorte
       distinct : AllPairs (λ (x z : FrontEntry 2). x.cost.0 ≢ z.cost.0) middle
       distinct i j d up within same =
           let inside : a + j < length list = omega (arith, within, length-middle, span.within) in
-          let e = same_place s (a + i) (a + j) (omega (arith, inside, up)) inside (
-          ap (λ (x : FrontEntry 2). x.cost.0) (get_or_default list (a + i) filler d (omega (arith, inside, up)) ∙ sym (middle_at i d (omega (arith, up, within))))
-          ∙ same
-          ∙ ap (λ (x : FrontEntry 2). x.cost.0) (middle_at j d within ∙ get_or_default list (a + j) d filler inside)) in
-          omega (arith, e, up)
+          let inside_too : a + i < length list = omega (arith, inside, up) in
+          let first_read = get_or_default list (a + i) filler d inside_too ∙ sym (middle_at i d (omega (arith, up, within))) in
+          let second_read = middle_at j d within ∙ get_or_default list (a + j) d filler inside in
+          let same_costs : cost_at list (a + i) ≡ cost_at list (a + j) =
+          ap (λ (x : FrontEntry 2). x.cost.0) first_read ∙ same ∙ ap (λ (x : FrontEntry 2). x.cost.0) second_read in
+          omega (arith, same_place s (a + i) (a + j) inside_too inside same_costs, up)

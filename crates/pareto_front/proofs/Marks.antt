@@ -79,7 +79,8 @@ module _ {X : Type 0} where
   pairs_marked R [] xs pairs = pairs_none R
   pairs_marked R (b ∷ bs) [] pairs = pairs_none R
   pairs_marked R (true ∷ bs) (x ∷ xs) pairs =
-      pairs_cons R x (items_where_true bs xs) (λ y h. pair_with_first R x xs pairs y (member (of_marked bs xs y h))) (pairs_marked R bs xs (pairs_rest R x xs pairs))
+      pairs_cons R x (items_where_true bs xs) (λ y h. pair_with_first R x xs pairs y (member (of_marked bs xs y h)))
+      (pairs_marked R bs xs (pairs_rest R x xs pairs))
     where
       member : {b : Bool} {bs : List Bool} {xs : List X} {x : X} → IsMarked b bs xs x → Contains xs x
       member m = (m.place, m.within, m.is)

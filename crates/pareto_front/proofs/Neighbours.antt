@@ -232,4 +232,5 @@ module _ {list : List (FrontEntry 2)} {marks : List Bool} {n : ℕ} (s : IsSorte
       ])
 
       pub nearest_at_most : second (cost_at list (i - 1)) ≤ second c → AtMost (cost_at list (i - 1)) c
-      nearest_at_most below = at_most_pair (cost_at list (i - 1)) c (long_at (i - 1) (omega arith)) long (cut.0 (i - 1) filler (omega arith) (omega arith)) below
+      nearest_at_most below =
+          at_most_pair (cost_at list (i - 1)) c (long_at (i - 1) (omega arith)) long (cut.0 (i - 1) filler (omega arith) (omega arith)) below

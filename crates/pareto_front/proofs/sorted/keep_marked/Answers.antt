@@ -12,5 +12,6 @@ loop-i-preserved c =
     let within : i < length ys = omega arith in
     elim c.if-mark.branch [
       | then-mark w ↦ rw (w.entries-is, w.kept-is) (keeps_more c.loop-i.invariant w.index.result.now within w.index.ensures w.if-mark.true)
-      | else-mark w ↦ rw (w.entries-is, w.kept-is) (keeps_none c.loop-i.invariant (get_or ys i filler) within (get_or_default ys i filler (get_or ys i filler) within) w.if-mark.false)
+      | else-mark w ↦ rw (w.entries-is, w.kept-is)
+          (keeps_none c.loop-i.invariant (get_or ys i filler) within (get_or_default ys i filler (get_or ys i filler) within) w.if-mark.false)
     ]

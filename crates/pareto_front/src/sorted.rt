@@ -1,5 +1,5 @@
-ghost use Rattle.std.specs.Prelude.{◌≡◌, ◌<◌, ◌≤◌, ◌++◌, ◌∷◌, length, take, drop, vec_len, vec_capacity};
-ghost use Rattle.std.specs.List.{items_where_true};
+ghost use Rattle.std.specs.Prelude.{◌≡◌, ◌<◌, ◌≤◌, ◌++◌, ◌∷◌, length, take, drop, nat_le, slice_index, vec_len, vec_capacity};
+ghost use Rattle.std.specs.List.{items_where_true, prefix_len};
 ghost use Rattle.pareto_front.specs.Sorted.{Descends, IsBefore, IsUpTo, AreAtLeast};
 
 use crate::front::{FrontEntry, ParetoFront, Standing};
@@ -153,8 +153,16 @@ fn at_least(entries: &[FrontEntry<2>], cost: &CompactCost<2>) -> (usize, usize)
 {
     let [first, second] = cost.0;
     let start = before(entries, first);
-    let end = entries.partition_point(|e| e.cost.0[0] < first || e.cost.0[1] >= second);
-    (start, end)
+    (start, start + leading(&entries[start..], second))
+}
+
+/// How many entries come first that aren't less in the second component.
+fn leading(entries: &[FrontEntry<2>], second: u64) -> usize
+    ensures within { result ≤ length entries.now }
+    ensures count { result ≡ prefix_len (λ e. nat_le second (slice_index e.cost.0 1)) entries.now }
+{
+    let at_least = entries.iter().take_while(|e| e.cost.0[1] >= second);
+    at_least.count()
 }
 
 /// Puts the item in place of those from `start` to `end`.

@@ -43,7 +43,8 @@ at_least_leading c list i rest is descends within before = record {
       let stop = i + prefix_len p rest in
       let inside : stop < length list = omega (arith, from, to) in
       let there : stop - i ≡ prefix_len p rest = omega arith in
-      let less = leb-false _ _ (ap p (behind stop d (omega arith)) ∙ ap (λ j. p (get_or rest j d)) there ∙ prefix_len_stops p rest d (omega (arith, inside, long))) in
+      let stopped = prefix_len_stops p rest d (omega (arith, inside, long)) in
+      let less = leb-false _ _ (ap p (behind stop d (omega arith)) ∙ ap (λ j. p (get_or rest j d)) there ∙ stopped) in
       elim (cases_lt stop k) [
         | inl later ↦ omega (arith, less, (descends stop k d later to).1)
         | inr not_later ↦ let same : k ≡ stop = omega (arith, from, not_later) in rw same less

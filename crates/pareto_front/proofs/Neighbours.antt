@@ -1,9 +1,9 @@
 -- A sorted front, read place by place.
-use Rattle.std.proofs.Common.{◌≡◌, ◌≢◌, ℕ, zero, suc, ◌-◌, ◌<◌, ◌≤◌, ◌↔◌, Bool, true, false, not, List, [], length, map, get_or, inl, inr, refl, sym, ap, subst, subst₂, ◌∙◌, arith}
+use Rattle.std.proofs.Common.{◌≡◌, ◌≢◌, ℕ, zero, suc, ◌-◌, ◌<◌, ◌≤◌, ◌↔◌, Bool, true, false, not, List, [], length, map, take, get_or, inl, inr, refl, sym, ap, subst, subst₂, ◌∙◌, arith}
 use Rattle.std.specs.Prelude.{AllPairs, Contains}
 use Rattle.std.specs.List.{items_where_true}
 use Rattle.std.proofs.lemmas.Bool.{cases_lt, cases_order, false≢true}
-use Rattle.std.proofs.lemmas.List.{get_or_default}
+use Rattle.std.proofs.lemmas.List.{get_or_default, get_or-take, length-take}
 use Rattle.std.proofs.lemmas.List.Elements.{AllZip-get_or, Contains-append_left, Contains-append_right, Contains-append_cases}
 use Rattle.cost_vector.specs.Costs.{AtMost}
 use Rattle.list_laws.proofs.Members.{in_map, of_map, all_from_in}
@@ -51,6 +51,22 @@ read_at list k x within is = get_or_default list k filler x within ∙ sym is
 
 pub mark_at : (marks : List Bool) (k : ℕ) (b : Bool) → k < length marks → b ≡ get_or marks k b → get_or marks k false ≡ b
 mark_at marks k b within is = get_or_default marks k false b within ∙ sym is
+
+-- x is the last of the first i entries
+pub record IsNearest (list : List (FrontEntry 2)) (i : ℕ) (x : FrontEntry 2) : Type 0 where
+  pub some : i ≢ 0
+  pub within : i ≤ length list
+  pub is : at list (i - 1) ≡ x
+
+pub nearest_read : (list : List (FrontEntry 2)) (i : ℕ) (x : FrontEntry 2) → i ≤ length list → 0 < length (take i list)
+    → x ≡ get_or (take i list) (length (take i list) - 1) x → IsNearest list i x
+nearest_read list i x within some is =
+    let last : length (take i list) - 1 ≡ i - 1 = omega (arith, length-take i list, within) in record {
+      some = omega (arith, some, length-take i list);
+      within = within;
+      is = read_at list (i - 1) x (omega (arith, some, within, length-take i list))
+          (is ∙ ap (λ k. get_or (take i list) k x) last ∙ get_or-take i list (i - 1) x (omega (arith, some, length-take i list)));
+    }
 
 -- the entry at i has the cost c
 pub record IsAt (list : List (FrontEntry 2)) (c : List ℕ) (i : ℕ) : Type 0 where
@@ -223,14 +239,27 @@ module _ {list : List (FrontEntry 2)} {marks : List Bool} {n : ℕ} (s : IsSorte
     pub uncovered_at_front : i ≡ 0 → ¬ IsCovered (entries (front_of list marks)) c
     uncovered_at_front none = uncovered (λ k near. absurd (omega arith))
 
-    module _ (some : i ≢ 0) (within : i ≤ length list) where
-      -- the nearest of those that have decides
-      pub uncovered_by_nearest : second c < second (cost_at list (i - 1)) → ¬ IsCovered (entries (front_of list marks)) c
-      uncovered_by_nearest above = uncovered (λ k near. elim (cases_lt k (i - 1)) [
-        | inl before ↦ omega (arith, above, (falls k (i - 1) before (omega arith)).1)
-        | inr same ↦ let e : k ≡ i - 1 = omega arith in rw e above
-      ])
+    module _ {x : FrontEntry 2} (near : IsNearest list i x) where
+      same_cost : cost_at list (i - 1) ≡ x.cost.0
+      same_cost = ap (λ (e : FrontEntry 2). e.cost.0) near.is
 
-      pub nearest_at_most : second (cost_at list (i - 1)) ≤ second c → AtMost (cost_at list (i - 1)) c
+      -- the nearest of those that have decides
+      pub uncovered_by_nearest : second c < second x.cost.0 → ¬ IsCovered (entries (front_of list marks)) c
+      uncovered_by_nearest above =
+          let more : second c < second (cost_at list (i - 1)) = rw same_cost above in
+          uncovered (λ k low. elim (cases_lt k (i - 1)) [
+            | inl before ↦ omega (arith, more, (falls k (i - 1) before (omega (arith, near.some, near.within))).1)
+            | inr last ↦ let e : k ≡ i - 1 = omega (arith, low, last) in rw e more
+          ])
+
+      pub nearest_at_most : second x.cost.0 ≤ second c → AtMost x.cost.0 c
       nearest_at_most below =
-          at_most_pair (cost_at list (i - 1)) c (long_at (i - 1) (omega arith)) long (cut.0 (i - 1) filler (omega arith) (omega arith)) below
+          let some = near.some in
+          let within = near.within in
+          at_most_pair x.cost.0 c (ap length (sym same_cost) ∙ long_at (i - 1) (omega arith)) long
+          (subst (λ v. first v ≤ first c) same_cost (cut.0 (i - 1) filler (omega arith) (omega arith))) below
+
+  pub nearest_in : {i : ℕ} {x : FrontEntry 2} → IsNearest list i x → Contains (entries (front_of list marks)) (told_entry x)
+  nearest_in {i} near =
+      subst (λ (e : FrontEntry 2). Contains (entries (front_of list marks)) (told_entry e)) near.is
+      (in_entries list marks s.marked (i - 1) (omega (arith, near.some, near.within)))

@@ -55,16 +55,11 @@ impl ParetoFront<2> for SortedFront {
     fn compare(&self, cost: &CompactCost<2>) -> Standing {
         let [first, second] = cost.0;
         let reach = up_to(&self.entries, first);
-        if reach == 0 {
-            return Standing::New;
-        }
-        let nearest = self.entries[reach - 1];
-        if nearest.cost.0[1] > second {
-            Standing::New
-        } else if nearest.cost == *cost {
-            Standing::Equal(nearest.arc)
-        } else {
-            Standing::Dominated
+        match self.entries[..reach].last() {
+            Some(nearest) if nearest.cost.0[1] > second => Standing::New,
+            Some(nearest) if nearest.cost == *cost => Standing::Equal(nearest.arc),
+            Some(_) => Standing::Dominated,
+            None => Standing::New,
         }
     }
 

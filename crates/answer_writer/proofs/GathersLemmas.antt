@@ -47,6 +47,12 @@ pub Gathers-then : (old mid new : SinkState) (before between after a b : List �
 Gathers-then old mid new before between after a b (Ok done) first second = Holds-then old mid new before between a b first after second
 Gathers-then old mid new before between after a b (Err fault) first second = Holds-cut old mid new before between a b first fault second
 
+-- what the page held is sent at last
+pub Sends-held : (old mid new : SinkState) (text held : List ℕ) (result : Result (Unit {0}) WriteFault) → Holds old mid text held
+    → Sends mid new held result → Sends old new text result
+Sends-held old mid new text held result first last =
+    subst (λ t. Sends old new t result) (sym first.whole) (Sends-then old mid new first.front held result first.sent last)
+
 -- ---- the texts of a list's items, one by one
 
 module _ {X : Type 0} (text : X → List ℕ) (items : List X) (old new : SinkState) (before : List ℕ) where

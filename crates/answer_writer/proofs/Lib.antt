@@ -1,1 +1,2 @@
 pub mod GathersLemmas
+pub mod RouteLemmas

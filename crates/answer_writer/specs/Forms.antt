@@ -1,5 +1,5 @@
 -- In which form an answer is sent.
-use Rattle.std.specs.Prelude.{ℕ, List, Option, length, map}
+use Rattle.std.specs.Prelude.{ℕ, List, Option, map}
 use Rattle.cost_vector.specs.Costs.{no_limit}
 use Rattle.road_network.specs.Answers.{Route}
 use Rattle.answer_writer.specs.declared.form.Form.{Form}

@@ -1,6 +1,6 @@
 -- The replies to queries. Fields are separated by one space, numbers are decimal without leading zeros, and each line ends
 -- by LF.
-use Rattle.std.specs.Prelude.{ℕ, List, [], ◌∷◌, ◌++◌, Option, Some, None, length, map, codes, decimal}
+use Rattle.std.specs.Prelude.{ℕ, List, [], ◌∷◌, ◌++◌, Option, Some, None, length, codes, decimal}
 use Rattle.std.specs.List.{flat_map}
 use Rattle.cost_vector.specs.declared.label.ArcNo.{ArcNo}
 use Rattle.road_network.specs.Answers.{Route}

@@ -11,6 +11,7 @@ use std::marker::Model;
 const PAGE: usize = 4096;
 
 /// What is still to be sent of a text.
+#[derive(Drop)]
 pub(crate) struct Page {
     text: ArrayString<PAGE>,
 }

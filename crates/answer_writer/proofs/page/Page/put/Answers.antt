@@ -1,5 +1,4 @@
-use Rattle.std.proofs.Common.{refl, sym, subst}
-use Rattle.answer_writer.specs.Pages.{Gathers}
+use Rattle.std.proofs.Common.{sym}
 use Rattle.answer_writer.proofs.GathersLemmas.{Gathers-sent}
 use Rattle.answer_writer.proofs.page.Page.put.Goals as goal
 

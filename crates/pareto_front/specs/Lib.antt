@@ -1,3 +1,4 @@
 pub mod Fronts
 pub mod Merging
 pub mod Calls
+pub mod Blocks

@@ -2,6 +2,8 @@
 //! the least of the last arcs. What candidates make of a front is said by `specs/Merging.antt`.
 #![tactic(auto)]
 
+mod blocks;
 mod front;
 
+pub use blocks::BlockFront;
 pub use front::{FrontEntry, ParetoFront, Standing};

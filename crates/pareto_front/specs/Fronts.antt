@@ -1,6 +1,6 @@
 -- The Pareto front of a node (Martins 1984).
-use Rattle.std.specs.Prelude.{◌≡◌, ℕ, List, [], ◌++◌, length, All, AllPairs, Contains}
-use Rattle.cost_vector.specs.Costs.{AtMost, Dominates}
+use Rattle.std.specs.Prelude.{◌≡◌, ℕ, ◌≤◌, List, [], ◌++◌, length, All, AllPairs, Contains}
+use Rattle.cost_vector.specs.Costs.{AtMost, Dominates, min_criteria, max_criteria}
 
 -- Labels have reached the node at this cost, and this is the least of their last arcs, 0 for the start.
 pub record Entry : Type 0 where
@@ -42,8 +42,10 @@ pub record AreIncomparable (a b : Entry) : Type 0 where
   pub one_way : ¬ AtMost a.cost b.cost
   pub other_way : ¬ AtMost b.cost a.cost
 
--- each cost has d components, and no two entries have one cost, or costs of which one dominates the other
+-- each cost has d components, 2 to 4, and no two entries have one cost, or costs of which one dominates the other
 pub record IsFront (d : ℕ) (f : Front) : Type 0 where
+  pub two : min_criteria ≤ d
+  pub four : d ≤ max_criteria
   pub components : All (λ e. length e.cost ≡ d) (entries f)
   pub incomparable : AllPairs AreIncomparable (entries f)
 

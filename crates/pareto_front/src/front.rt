@@ -1,5 +1,5 @@
 ghost use Rattle.std.specs.Prelude.{◌≡◌, ℕ, ◌+◌, ◌≤◌, ◌↔◌, length, Contains, IfOk, OnOk, Some};
-ghost use Rattle.cost_vector.specs.Costs.{Dominates};
+ghost use Rattle.cost_vector.specs.Costs.{Dominates, max_criteria, min_criteria};
 ghost use Rattle.pareto_front.specs.Fronts.{Front, HasCost, IsCovered, IsFront, SparesSettled, empty_front, entries};
 ghost use Rattle.pareto_front.specs.Calls.{Enters, GrowsBy, ListsSettled, Relabels, Settles, StandsTo};
 
@@ -35,6 +35,8 @@ pub trait ParetoFront<const D: usize> {
 
     /// A front without entries.
     fn new(alloc: Global) -> Self
+        requires two { min_criteria ≤ D }
+        requires four { D ≤ max_criteria }
         ensures { state result ≡ empty_front };
 
     /// How many entries are settled.

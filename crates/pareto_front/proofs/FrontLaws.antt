@@ -1,0 +1,179 @@
+-- What a front is in whatever order its entries stand, and what becomes of it.
+use Rattle.std.proofs.Common.{◌≡◌, ◌≢◌, ℕ, ◌+◌, ◌<◌, ◌≤◌, ◌⊎◌, ◌↔◌, inl, inr, List, [], ◌∷◌, ◌++◌, length, map, get_or, set, refl, sym, ap, subst, ◌∙◌, arith, append_assoc}
+use Rattle.std.specs.Prelude.{All, AllPairs, Contains, IsPermutation}
+use Rattle.std.specs.List.{swap}
+use Rattle.std.proofs.lemmas.Bool.{cases_lt, cases_eq}
+use Rattle.std.proofs.lemmas.List.{get_or_default, length-set, get_or-set_same, get_or-set_other, get_or_append_left, get_or-append-add, length-append}
+use Rattle.std.proofs.lemmas.List.Edits.{swapped_from_swap, length-swap}
+use Rattle.std.proofs.lemmas.List.Elements.{All-append, All-push, All-set, Contains-append_left, Contains-append_right, Contains-append_cases, Contains-push, Contains-get_or}
+use Rattle.std.proofs.lemmas.List.Sorted.{All-permutation, IsPermutation-keeps, IsPermutation-append_right, IsPermutation-sym}
+use Rattle.cost_vector.specs.Costs.{AtMost, Dominates}
+use Rattle.cost_vector.proofs.Vectors.{AtMost-refl, AtMost-length, cases_same}
+use Rattle.list_laws.specs.Without.{IsWithout}
+use Rattle.list_laws.specs.Sets.{SameMembers}
+use Rattle.list_laws.proofs.Members.{in_none, in_first, in_rest, in_front, cases_in, each_in, all_from_in, cases_push}
+use Rattle.list_laws.proofs.Pairs.{pairs_first, pairs_rest, pair_with_first, pairs_push}
+use Rattle.list_laws.proofs.SetLaws.{same_by_permutation}
+use Rattle.pareto_front.specs.Fronts.{Entry, Front, entries, HasCost, IsCovered, AreIncomparable, IsFront, SparesSettled}
+use Rattle.pareto_front.specs.Calls.{Enters, GetsArc, Relabels, Settles}
+
+module _ {X : Type 0} (R : X → X → Type 0) (flip : (x y : X) → R x y → R y x) where
+  -- any two different places
+  pairs_apart : (xs : List X) → AllPairs R xs → (i j : ℕ) (d : X) → i ≢ j → i < length xs → j < length xs → R (get_or xs i d) (get_or xs j d)
+  pairs_apart xs pairs i j d apart i_within j_within = elim (cases_lt i j) [
+    | inl before ↦ pairs i j d before j_within
+    | inr behind ↦ flip (get_or xs j d) (get_or xs i d) (pairs j i d (omega arith) i_within)
+  ]
+
+  -- the place k where the element at the place i stood before those at a and b were exchanged
+  record StoodAt (a b i k : ℕ) : Type 0 where
+    at_one : i ≡ a → k ≡ b
+    at_other : i ≡ b → k ≡ a
+    elsewhere : i ≢ a → i ≢ b → k ≡ i
+
+  stood_apart : (a b i j k l : ℕ) → StoodAt a b i k → StoodAt a b j l → i ≢ j → k ≢ l
+  stood_apart a b i j k l first second apart same = elim (cases_eq i a) [
+    | inl i_a ↦ elim (cases_eq j b) [
+      | inl j_b ↦ omega (arith, first.at_one i_a, second.at_other j_b)
+      | inr not_b ↦ omega (arith, first.at_one i_a, second.elsewhere (λ j_a. apart (i_a ∙ sym j_a)) not_b)
+    ]
+    | inr not_a ↦ elim (cases_eq i b) [
+      | inl i_b ↦ elim (cases_eq j a) [
+        | inl j_a ↦ omega (arith, first.at_other i_b, second.at_one j_a)
+        | inr j_not_a ↦ omega (arith, first.at_other i_b, second.elsewhere j_not_a (λ j_b. apart (i_b ∙ sym j_b)))
+      ]
+      | inr not_b ↦ elim (cases_eq j a) [
+        | inl j_a ↦ omega (arith, first.elsewhere not_a not_b, second.at_one j_a)
+        | inr j_not_a ↦ elim (cases_eq j b) [
+          | inl j_b ↦ omega (arith, first.elsewhere not_a not_b, second.at_other j_b)
+          | inr j_not_b ↦ omega (arith, first.elsewhere not_a not_b, second.elsewhere j_not_a j_not_b)
+        ]
+      ]
+    ]
+  ]
+
+  stood : (xs : List X) (a b i : ℕ) (d : X) → a < length xs → b < length xs → i < length xs
+      → (k : ℕ) × (k < length xs) × (get_or (swap xs a b) i d ≡ get_or xs k d) × StoodAt a b i k
+  stood xs a b i d a_within b_within within =
+      let moved = swapped_from_swap xs (swap xs a b) a b d a_within b_within refl in
+      elim (cases_eq i a) [
+        | inl at_a ↦ (
+          b, b_within, ap (λ k. get_or (swap xs a b) k d) at_a ∙ moved.0,
+          record { at_one = λ _. refl; at_other = λ at_b. sym at_b ∙ at_a; elsewhere = λ not_a. absurd (not_a at_a) },
+        )
+        | inr not_a ↦ elim (cases_eq i b) [
+          | inl at_b ↦ (
+            a, a_within, ap (λ k. get_or (swap xs a b) k d) at_b ∙ moved.1,
+            record { at_one = λ at_a. absurd (not_a at_a); at_other = λ _. refl; elsewhere = λ _ not_b. absurd (not_b at_b) },
+          )
+          | inr not_b ↦ (
+            i, within, moved.2 i not_a not_b,
+            record { at_one = λ at_a. absurd (not_a at_a); at_other = λ at_b. absurd (not_b at_b); elsewhere = λ _ _. refl },
+          )
+        ]
+      ]
+
+  pairs_swap : (xs : List X) (a b : ℕ) → a < length xs → b < length xs → AllPairs R xs → AllPairs R (swap xs a b)
+  pairs_swap xs a b a_within b_within pairs = λ i j d before within.
+      let long = length-swap xs a b in
+      let one = stood xs a b i d a_within b_within (omega arith) in
+      let other = stood xs a b j d a_within b_within (omega arith) in
+      rw (one.2, other.2) (pairs_apart xs pairs one.0 other.0 d (stood_apart a b i j one.0 other.0 one.3 other.3 (omega arith)) one.1 other.1)
+
+  -- where it doesn't matter which comes first, neither does the order of the list
+  pub pairs_in_any_order : (xs ys : List X) → IsPermutation xs ys → AllPairs R xs → AllPairs R ys
+  pairs_in_any_order xs ys moved pairs =
+      IsPermutation-keeps xs (λ l. AllPairs R l) pairs (λ l i j i_within j_within before. pairs_swap l i j i_within j_within before) ys moved
+
+  -- any two members are one, or are so related
+  pub pairs_either : (xs : List X) → AllPairs R xs → (x y : X) → Contains xs x → Contains xs y → (x ≡ y) ⊎ R x y
+  pairs_either xs pairs x y h k =
+      let y_is : get_or xs k.0 x ≡ y = get_or_default xs k.0 x y k.1 ∙ k.2 in
+      elim (cases_eq h.0 k.0) [
+        | inl same ↦ inl (sym h.2 ∙ ap (λ i. get_or xs i x) same ∙ y_is)
+        | inr apart ↦ inr (subst (λ z. R z y) h.2 (subst (λ z. R (get_or xs h.0 x) z) y_is (pairs_apart xs pairs h.0 k.0 x apart h.1 k.1)))
+      ]
+
+-- a member of one list, and one of a list behind it
+pub pairs_across : {X : Type 0} (R : X → X → Type 0) (xs ys : List X) → AllPairs R (xs ++ ys) → (x y : X) → Contains xs x → Contains ys y → R x y
+pairs_across R xs ys pairs x y h k =
+    let j = length xs + k.0 in
+    let x_is : get_or (xs ++ ys) h.0 x ≡ x = get_or_append_left xs ys x h.0 h.1 ∙ h.2 in
+    let y_is : get_or (xs ++ ys) j x ≡ y = get_or-append-add xs ys k.0 x ∙ get_or_default ys k.0 x y k.1 ∙ k.2 in
+    subst (λ z. R z y) x_is (subst (λ z. R (get_or (xs ++ ys) h.0 x) z) y_is (pairs h.0 j x (omega (arith, h.1)) (omega (arith, k.1, length-append xs ys))))
+
+-- equal costs are at most one another
+pub at_most_same : (x y : Entry) → x.cost ≡ y.cost → AtMost x.cost y.cost
+at_most_same x y same = subst (λ c. AtMost x.cost c) same (AtMost-refl x.cost)
+
+flip_incomparable : (x y : Entry) → AreIncomparable x y → AreIncomparable y x
+flip_incomparable x y h = record { one_way = h.other_way; other_way = h.one_way }
+
+module _ {d : ℕ} {f : Front} (front : IsFront d f) where
+  -- no other entry is at most one
+  pub only_one : (x y : Entry) → Contains (entries f) x → Contains (entries f) y → AtMost x.cost y.cost → x ≡ y
+  only_one x y x_in y_in below = elim (pairs_either AreIncomparable flip_incomparable (entries f) front.incomparable x y x_in y_in) [
+    | inl same ↦ same
+    | inr apart ↦ absurd (apart.one_way below)
+  ]
+
+  -- an entry that is at most the cost of one has this cost
+  pub same_cost : (c : List ℕ) → HasCost (entries f) c → (x : Entry) → Contains (entries f) x → AtMost x.cost c → x.cost ≡ c
+  same_cost c there x x_in below = ap (λ (e : Entry). e.cost) (only_one x (record { cost = c; arc = there.arc }) x_in there.contains below)
+
+  -- the entries in another order
+  pub front_in_any_order : (g : Front) → IsPermutation (entries f) (entries g) → IsFront d g
+  front_in_any_order g moved = record {
+    two = front.two;
+    four = front.four;
+    components = All-permutation (λ (e : Entry). length e.cost ≡ d) (entries f) (entries g) moved front.components;
+    incomparable = pairs_in_any_order AreIncomparable flip_incomparable (entries f) (entries g) moved front.incomparable;
+  }
+
+-- ---- a front of which an entry is settled
+
+-- the entry x is taken from the unsettled ones, of which rest is left
+module _ {d : ℕ} (settled unsettled rest : List Entry) (x : Entry) (front : IsFront d (record { settled = settled; unsettled = unsettled }))
+  (out : IsPermutation unsettled (x ∷ rest)) where
+  moved : IsPermutation (settled ++ unsettled) ((settled ++ x ∷ []) ++ rest)
+  moved = subst (λ l. IsPermutation (settled ++ unsettled) l) (sym (append_assoc settled (x ∷ []) rest)) (IsPermutation-append_right settled unsettled (x ∷ rest) out)
+
+  pub settled_front : IsFront d (record { settled = settled ++ x ∷ []; unsettled = rest })
+  settled_front = front_in_any_order front (record { settled = settled ++ x ∷ []; unsettled = rest }) moved
+
+  pub settles : (c : List ℕ) → x.cost ≡ c → Settles (record { settled = settled; unsettled = unsettled }) c (record { settled = settled ++ x ∷ []; unsettled = rest })
+  settles c same = record {
+    settled = λ e. (
+      λ h. elim (cases_push settled x e h) [ inl old ↦ inl old | inr is ↦ inr (subst (λ z. Contains unsettled z × (z.cost ≡ c)) (sym is) (x_in, same)) ],
+      λ either. elim either [
+        | inl old ↦ Contains-append_left settled (x ∷ []) e old
+        | inr here ↦ subst (Contains (settled ++ x ∷ [])) (x_is e here.0 here.1) (Contains-push settled x)
+      ],
+    );
+    unsettled = λ e. (
+      λ h. ((same_by_permutation unsettled (x ∷ rest) out e).0 (in_rest x rest e h), λ e_is. other e h (e_is ∙ sym same)),
+      λ h. elim (cases_in x rest e ((same_by_permutation unsettled (x ∷ rest) out e).1 h.0)) [
+        | inl is ↦ absurd (h.1 (ap (λ (z : Entry). z.cost) is ∙ same))
+        | inr there ↦ there
+      ],
+    );
+  } where
+    x_in : Contains unsettled x
+    x_in = (same_by_permutation unsettled (x ∷ rest) out x).0 (in_first x rest)
+
+    x_is : (e : Entry) → Contains unsettled e → e.cost ≡ c → x ≡ e
+    x_is e h e_is = only_one front x e (Contains-append_right settled unsettled x x_in) (Contains-append_right settled unsettled e h)
+        (at_most_same x e (same ∙ sym e_is))
+
+    other : (e : Entry) → Contains rest e → e.cost ≢ x.cost
+    other e h e_is = (pairs_across AreIncomparable (settled ++ x ∷ []) rest settled_front.incomparable x e (Contains-push settled x) h).other_way
+        (at_most_same e x e_is)
+
+-- no unsettled entry has the cost
+pub settles_none : (f : Front) (c : List ℕ) → All (λ (e : Entry). ¬ AtMost e.cost c) f.unsettled → Settles f c f
+settles_none f c none = record {
+  settled = λ e. (λ h. inl h, λ either. elim either [ inl h ↦ h | inr here ↦ absurd (apart e here.0 here.1) ]);
+  unsettled = λ e. (λ h. (h, apart e h), λ h. h.0);
+} where
+  apart : (e : Entry) → Contains f.unsettled e → e.cost ≢ c
+  apart e h same = each_in (λ (x : Entry). ¬ AtMost x.cost c) f.unsettled none e h (subst (λ z. AtMost e.cost z) same (AtMost-refl e.cost))

@@ -1,0 +1,3 @@
+pub mod FrontLaws
+pub mod BlockLaws
+pub mod ToldLaws

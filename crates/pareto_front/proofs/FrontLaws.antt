@@ -13,6 +13,7 @@ use Rattle.list_laws.specs.Without.{IsWithout}
 use Rattle.list_laws.specs.Sets.{SameMembers}
 use Rattle.list_laws.proofs.Members.{in_none, in_first, in_rest, in_front, cases_in, each_in, all_from_in, cases_push}
 use Rattle.list_laws.proofs.Pairs.{pairs_first, pairs_rest, pair_with_first, pairs_push}
+use Rattle.list_laws.proofs.OnceLaws.{pairs_append}
 use Rattle.list_laws.proofs.SetLaws.{same_by_permutation}
 use Rattle.pareto_front.specs.Fronts.{Entry, Front, entries, HasCost, IsCovered, AreIncomparable, IsFront, SparesSettled}
 use Rattle.pareto_front.specs.Calls.{Enters, GetsArc, Relabels, Settles}
@@ -102,6 +103,17 @@ pairs_across R xs ys pairs x y h k =
     let y_is : get_or (xs ++ ys) j x ≡ y = get_or-append-add xs ys k.0 x ∙ get_or_default ys k.0 x y k.1 ∙ k.2 in
     subst (λ z. R z y) x_is (subst (λ z. R (get_or (xs ++ ys) h.0 x) z) y_is (pairs h.0 j x (omega (arith, h.1)) (omega (arith, k.1, length-append xs ys))))
 
+-- the first of two lists
+pairs_before : {X : Type 0} (R : X → X → Type 0) (xs ys : List X) → AllPairs R (xs ++ ys) → AllPairs R xs
+pairs_before R xs ys pairs = λ i j d before within.
+    subst (λ x. R x (get_or xs j d)) (get_or_append_left xs ys d i (omega (arith, before, within)))
+    (subst (λ y. R (get_or (xs ++ ys) i d) y) (get_or_append_left xs ys d j within) (pairs i j d before (omega (arith, within, length-append xs ys))))
+
+-- the second of two lists
+pub pairs_behind : {X : Type 0} (R : X → X → Type 0) (xs ys : List X) → AllPairs R (xs ++ ys) → AllPairs R ys
+pairs_behind R [] ys pairs = pairs
+pairs_behind R (x ∷ xs) ys pairs = pairs_behind R xs ys (pairs_rest R x (xs ++ ys) pairs)
+
 -- equal costs are at most one another
 pub at_most_same : (x y : Entry) → x.cost ≡ y.cost → AtMost x.cost y.cost
 at_most_same x y same = subst (λ c. AtMost x.cost c) same (AtMost-refl x.cost)
@@ -177,3 +189,69 @@ settles_none f c none = record {
 } where
   apart : (e : Entry) → Contains f.unsettled e → e.cost ≢ c
   apart e h same = each_in (λ (x : Entry). ¬ AtMost x.cost c) f.unsettled none e h (subst (λ z. AtMost e.cost z) same (AtMost-refl e.cost))
+
+-- ---- a front that an entry enters
+
+-- the new entry is at least no other and dominates no settled one; kept are the unsettled ones that it doesn't dominate
+module _ {d : ℕ} (settled unsettled kept : List Entry) (new : Entry) (front : IsFront d (record { settled = settled; unsettled = unsettled }))
+  (out : IsWithout (λ e. Dominates new.cost e.cost) unsettled kept) where
+  kept_old : (e : Entry) → Contains kept e → Contains unsettled e
+  kept_old e h = each_in (Contains unsettled) kept out.old e h
+
+  pub enters : Enters (record { settled = settled; unsettled = unsettled }) new (record { settled = settled; unsettled = kept ++ new ∷ [] })
+  enters = record {
+    settled = λ e. (λ h. h, λ h. h);
+    unsettled = λ e. (
+      λ h. elim (cases_push kept new e h) [
+        | inl old ↦ inl (kept_old e old, each_in (λ (x : Entry). ¬ Dominates new.cost x.cost) kept out.gone e old)
+        | inr is ↦ inr is
+      ],
+      λ either. elim either [
+        | inl old ↦ Contains-append_left kept (new ∷ []) e (stays e old.0 old.1)
+        | inr is ↦ subst (Contains (kept ++ new ∷ [])) (sym is) (Contains-push kept new)
+      ],
+    );
+  } where
+    stays : (e : Entry) → Contains unsettled e → ¬ Dominates new.cost e.cost → Contains kept e
+    stays e h spared = elim (each_in (λ (x : Entry). Dominates new.cost x.cost ⊎ Contains kept x) unsettled out.kept e h) [
+      | inl dominated ↦ absurd (spared dominated)
+      | inr there ↦ there
+    ]
+
+  module _ (apart : AllPairs AreIncomparable kept) (long : length new.cost ≡ d) (fresh : ¬ IsCovered (settled ++ unsettled) new.cost)
+    (spares : SparesSettled (record { settled = settled; unsettled = unsettled }) new.cost) where
+    beside : (e : Entry) → Contains (settled ++ unsettled) e → ¬ Dominates new.cost e.cost → AreIncomparable e new
+    beside e h spared = record {
+      one_way = λ below. fresh (record { by = e; contains = h; at_most = below });
+      other_way = λ above. elim (cases_same new.cost e.cost) [
+        | inl same ↦ fresh (record { by = e; contains = h; at_most = at_most_same e new (sym same) })
+        | inr differs ↦ spared (record { at_most = above; differs = differs })
+      ];
+    }
+
+    each_beside : (e : Entry) → Contains (settled ++ kept) e → AreIncomparable e new
+    each_beside e h = elim (Contains-append_cases settled kept e h) [
+      | inl near ↦ beside e (Contains-append_left settled unsettled e near) (spares e near)
+      | inr far ↦ beside e (Contains-append_right settled unsettled e (kept_old e far)) (each_in (λ (x : Entry). ¬ Dominates new.cost x.cost) kept out.gone e far)
+    ]
+
+    as_long : (e : Entry) → Contains (settled ++ (kept ++ new ∷ [])) e → length e.cost ≡ d
+    as_long e h = elim (Contains-append_cases settled (kept ++ new ∷ []) e h) [
+      | inl near ↦ each_in (λ (x : Entry). length x.cost ≡ d) (settled ++ unsettled) front.components e (Contains-append_left settled unsettled e near)
+      | inr far ↦ elim (cases_push kept new e far) [
+        | inl old ↦ each_in (λ (x : Entry). length x.cost ≡ d) (settled ++ unsettled) front.components e
+            (Contains-append_right settled unsettled e (kept_old e old))
+        | inr is ↦ rw is long
+      ]
+    ]
+
+    pub entered_front : IsFront d (record { settled = settled; unsettled = kept ++ new ∷ [] })
+    entered_front = record {
+      two = front.two;
+      four = front.four;
+      components = all_from_in (λ (e : Entry). length e.cost ≡ d) (settled ++ (kept ++ new ∷ [])) as_long;
+      incomparable = subst (AllPairs AreIncomparable) (append_assoc settled kept (new ∷ []))
+          (pairs_push AreIncomparable (settled ++ kept) new
+          (pairs_append AreIncomparable settled kept (pairs_before AreIncomparable settled unsettled front.incomparable) apart
+          (λ x y x_in y_in. pairs_across AreIncomparable settled unsettled front.incomparable x y x_in (kept_old y y_in))) each_beside);
+    }

@@ -101,3 +101,19 @@ module _ {D : ℕ} {settled : List (FrontEntry D)} {corners : List (CompactCost 
                 (AtMost-refl entry.cost.0)
           ];
     }
+
+  -- corners are about costs alone
+  pub corners_relabelled : (i : ℕ) (x : FrontEntry D) → ((d : FrontEntry D) → (get_or settled i d).cost ≡ x.cost) → HaveCorners (set settled i x) corners
+  corners_relabelled i x same = record {
+    count = omega (arith, have.count, length-set settled i x);
+    at_most = λ j e c inside.
+        let old : j < length settled = omega (arith, inside, length-set settled i x) in
+        elim (cases_eq j i) [
+          | inl here ↦
+              let below : AtMost (get_or corners (j / 16) c).0 (get_or settled j e).cost.0 = have.at_most j e c old in
+              let is : get_or (set settled i x) j e ≡ x = ap (λ k. get_or (set settled i x) k e) here ∙ get_or-set_same settled i x e (omega (arith, here, old)) in
+              let cost_is : (get_or settled j e).cost ≡ x.cost = ap (λ k. (get_or settled k e).cost) here ∙ same e in
+              rw is (subst (λ (y : CompactCost D). AtMost (get_or corners (j / 16) c).0 y.0) cost_is below)
+          | inr other ↦ rw (get_or-set_other settled i j x e other) (have.at_most j e c old)
+        ];
+  }

@@ -3,7 +3,7 @@ use Rattle.std.proofs.Common.{◌≡◌, ◌≢◌, ℕ, ◌+◌, ◌<◌, ◌�
 use Rattle.std.specs.Prelude.{All, AllPairs, Contains, IsPermutation}
 use Rattle.std.specs.List.{swap}
 use Rattle.std.proofs.lemmas.Bool.{cases_lt, cases_eq}
-use Rattle.std.proofs.lemmas.List.{get_or_default, length-set, get_or-set_same, get_or-set_other, get_or_append_left, get_or-append-add, length-append}
+use Rattle.std.proofs.lemmas.List.{get_or-map, map-set, map-append, set-get_or, length-map, get_or_default, length-set, get_or-set_same, get_or-set_other, get_or_append_left, get_or-append-add, length-append}
 use Rattle.std.proofs.lemmas.List.Edits.{swapped_from_swap, length-swap}
 use Rattle.std.proofs.lemmas.List.Elements.{All-append, All-push, All-set, Contains-append_left, Contains-append_right, Contains-append_cases, Contains-push, Contains-get_or}
 use Rattle.std.proofs.lemmas.List.Sorted.{All-permutation, IsPermutation-keeps, IsPermutation-append_right, IsPermutation-sym}
@@ -11,8 +11,8 @@ use Rattle.cost_vector.specs.Costs.{AtMost, Dominates}
 use Rattle.cost_vector.proofs.Vectors.{AtMost-refl, AtMost-length, cases_same}
 use Rattle.list_laws.specs.Without.{IsWithout}
 use Rattle.list_laws.specs.Sets.{SameMembers}
-use Rattle.list_laws.proofs.Members.{in_none, in_first, in_rest, in_front, cases_in, each_in, all_from_in, cases_push}
-use Rattle.list_laws.proofs.Pairs.{pairs_first, pairs_rest, pair_with_first, pairs_push}
+use Rattle.list_laws.proofs.Members.{in_none, in_first, in_rest, in_front, cases_in, each_in, all_from_in, cases_push, in_map, of_map}
+use Rattle.list_laws.proofs.Pairs.{pairs_rest, pairs_map}
 use Rattle.list_laws.proofs.OnceLaws.{pairs_append}
 use Rattle.list_laws.proofs.SetLaws.{same_by_permutation}
 use Rattle.pareto_front.specs.Fronts.{Entry, Front, entries, HasCost, IsCovered, AreIncomparable, IsFront, SparesSettled}
@@ -104,7 +104,7 @@ pairs_across R xs ys pairs x y h k =
     subst (λ z. R z y) x_is (subst (λ z. R (get_or (xs ++ ys) h.0 x) z) y_is (pairs h.0 j x (omega (arith, h.1)) (omega (arith, k.1, length-append xs ys))))
 
 -- the first of two lists
-pairs_before : {X : Type 0} (R : X → X → Type 0) (xs ys : List X) → AllPairs R (xs ++ ys) → AllPairs R xs
+pub pairs_before : {X : Type 0} (R : X → X → Type 0) (xs ys : List X) → AllPairs R (xs ++ ys) → AllPairs R xs
 pairs_before R xs ys pairs = λ i j d before within.
     subst (λ x. R x (get_or xs j d)) (get_or_append_left xs ys d i (omega (arith, before, within)))
     (subst (λ y. R (get_or (xs ++ ys) i d) y) (get_or_append_left xs ys d j within) (pairs i j d before (omega (arith, within, length-append xs ys))))
@@ -118,8 +118,21 @@ pairs_behind R (x ∷ xs) ys pairs = pairs_behind R xs ys (pairs_rest R x (xs ++
 pub at_most_same : (x y : Entry) → x.cost ≡ y.cost → AtMost x.cost y.cost
 at_most_same x y same = subst (λ c. AtMost x.cost c) same (AtMost-refl x.cost)
 
+-- what the images of any two are to one another
+pub pairs_of_map : {X Y : Type 0} (S : Y → Y → Type 0) (f : X → Y) (xs : List X) → AllPairs S (map f xs) → AllPairs (λ x y. S (f x) (f y)) xs
+pairs_of_map S f xs pairs = λ i j d before within.
+    subst (λ x. S x (f (get_or xs j d))) (get_or-map f xs i d (f d) (omega (arith, before, within)))
+    (subst (λ y. S (get_or (map f xs) i (f d)) y) (get_or-map f xs j d (f d) within) (pairs i j (f d) before (omega (arith, within, length-map xs f))))
+
 flip_incomparable : (x y : Entry) → AreIncomparable x y → AreIncomparable y x
 flip_incomparable x y h = record { one_way = h.other_way; other_way = h.one_way }
+
+pub pairs_apart_places : (xs : List Entry) → AllPairs AreIncomparable xs → (i j : ℕ) (d : Entry) → i ≢ j → i < length xs → j < length xs
+    → AreIncomparable (get_or xs i d) (get_or xs j d)
+pairs_apart_places = pairs_apart AreIncomparable flip_incomparable
+
+pub incomparable_in_any_order : (xs ys : List Entry) → IsPermutation xs ys → AllPairs AreIncomparable xs → AllPairs AreIncomparable ys
+incomparable_in_any_order = pairs_in_any_order AreIncomparable flip_incomparable
 
 module _ {d : ℕ} {f : Front} (front : IsFront d f) where
   -- no other entry is at most one
@@ -139,119 +152,33 @@ module _ {d : ℕ} {f : Front} (front : IsFront d f) where
     two = front.two;
     four = front.four;
     components = All-permutation (λ (e : Entry). length e.cost ≡ d) (entries f) (entries g) moved front.components;
-    incomparable = pairs_in_any_order AreIncomparable flip_incomparable (entries f) (entries g) moved front.incomparable;
+    incomparable = incomparable_in_any_order (entries f) (entries g) moved front.incomparable;
   }
 
--- ---- a front of which an entry is settled
+-- ---- costs alone
 
--- the entry x is taken from the unsettled ones, of which rest is left
-module _ {d : ℕ} (settled unsettled rest : List Entry) (x : Entry) (front : IsFront d (record { settled = settled; unsettled = unsettled }))
-  (out : IsPermutation unsettled (x ∷ rest)) where
-  moved : IsPermutation (settled ++ unsettled) ((settled ++ x ∷ []) ++ rest)
-  moved = subst (λ l. IsPermutation (settled ++ unsettled) l) (sym (append_assoc settled (x ∷ []) rest)) (IsPermutation-append_right settled unsettled (x ∷ rest) out)
+abbrev pub costs : List Entry → List (List ℕ)
+costs = map (λ e. e.cost)
 
-  pub settled_front : IsFront d (record { settled = settled ++ x ∷ []; unsettled = rest })
-  settled_front = front_in_any_order front (record { settled = settled ++ x ∷ []; unsettled = rest }) moved
+abbrev AreApart : List ℕ → List ℕ → Type 0
+AreApart a b = (¬ AtMost a b) × (¬ AtMost b a)
 
-  pub settles : (c : List ℕ) → x.cost ≡ c → Settles (record { settled = settled; unsettled = unsettled }) c (record { settled = settled ++ x ∷ []; unsettled = rest })
-  settles c same = record {
-    settled = λ e. (
-      λ h. elim (cases_push settled x e h) [ inl old ↦ inl old | inr is ↦ inr (subst (λ z. Contains unsettled z × (z.cost ≡ c)) (sym is) (x_in, same)) ],
-      λ either. elim either [
-        | inl old ↦ Contains-append_left settled (x ∷ []) e old
-        | inr here ↦ subst (Contains (settled ++ x ∷ [])) (x_is e here.0 here.1) (Contains-push settled x)
-      ],
-    );
-    unsettled = λ e. (
-      λ h. ((same_by_permutation unsettled (x ∷ rest) out e).0 (in_rest x rest e h), λ e_is. other e h (e_is ∙ sym same)),
-      λ h. elim (cases_in x rest e ((same_by_permutation unsettled (x ∷ rest) out e).1 h.0)) [
-        | inl is ↦ absurd (h.1 (ap (λ (z : Entry). z.cost) is ∙ same))
-        | inr there ↦ there
-      ],
-    );
-  } where
-    x_in : Contains unsettled x
-    x_in = (same_by_permutation unsettled (x ∷ rest) out x).0 (in_first x rest)
+-- a front with other arcs
+pub front_by_costs : {d : ℕ} (f g : Front) → costs (entries g) ≡ costs (entries f) → IsFront d f → IsFront d g
+front_by_costs {d} f g same front = record {
+  two = front.two;
+  four = front.four;
+  components = all_from_in (λ (e : Entry). length e.cost ≡ d) (entries g) (λ e h.
+      let told = of_map (λ (x : Entry). x.cost) (entries f) e.cost (subst (λ l. Contains l e.cost) same (in_map (λ (x : Entry). x.cost) (entries g) e h)) in
+      ap length told.2 ∙ each_in (λ (x : Entry). length x.cost ≡ d) (entries f) front.components told.0 told.1);
+  incomparable =
+      let apart = pairs_map AreIncomparable AreApart (λ (e : Entry). e.cost) (λ x z h. (h.one_way, h.other_way)) (entries f) front.incomparable in
+      let again = pairs_of_map AreApart (λ (e : Entry). e.cost) (entries g) (subst (AllPairs AreApart) (sym same) apart) in
+      λ i j d before within. let h = again i j d before within in record { one_way = h.0; other_way = h.1 };
+}
 
-    x_is : (e : Entry) → Contains unsettled e → e.cost ≡ c → x ≡ e
-    x_is e h e_is = only_one front x e (Contains-append_right settled unsettled x x_in) (Contains-append_right settled unsettled e h)
-        (at_most_same x e (same ∙ sym e_is))
-
-    other : (e : Entry) → Contains rest e → e.cost ≢ x.cost
-    other e h e_is = (pairs_across AreIncomparable (settled ++ x ∷ []) rest settled_front.incomparable x e (Contains-push settled x) h).other_way
-        (at_most_same e x e_is)
-
--- no unsettled entry has the cost
-pub settles_none : (f : Front) (c : List ℕ) → All (λ (e : Entry). ¬ AtMost e.cost c) f.unsettled → Settles f c f
-settles_none f c none = record {
-  settled = λ e. (λ h. inl h, λ either. elim either [ inl h ↦ h | inr here ↦ absurd (apart e here.0 here.1) ]);
-  unsettled = λ e. (λ h. (h, apart e h), λ h. h.0);
-} where
-  apart : (e : Entry) → Contains f.unsettled e → e.cost ≢ c
-  apart e h same = each_in (λ (x : Entry). ¬ AtMost x.cost c) f.unsettled none e h (subst (λ z. AtMost e.cost z) same (AtMost-refl e.cost))
-
--- ---- a front that an entry enters
-
--- the new entry is at least no other and dominates no settled one; kept are the unsettled ones that it doesn't dominate
-module _ {d : ℕ} (settled unsettled kept : List Entry) (new : Entry) (front : IsFront d (record { settled = settled; unsettled = unsettled }))
-  (out : IsWithout (λ e. Dominates new.cost e.cost) unsettled kept) where
-  kept_old : (e : Entry) → Contains kept e → Contains unsettled e
-  kept_old e h = each_in (Contains unsettled) kept out.old e h
-
-  pub enters : Enters (record { settled = settled; unsettled = unsettled }) new (record { settled = settled; unsettled = kept ++ new ∷ [] })
-  enters = record {
-    settled = λ e. (λ h. h, λ h. h);
-    unsettled = λ e. (
-      λ h. elim (cases_push kept new e h) [
-        | inl old ↦ inl (kept_old e old, each_in (λ (x : Entry). ¬ Dominates new.cost x.cost) kept out.gone e old)
-        | inr is ↦ inr is
-      ],
-      λ either. elim either [
-        | inl old ↦ Contains-append_left kept (new ∷ []) e (stays e old.0 old.1)
-        | inr is ↦ subst (Contains (kept ++ new ∷ [])) (sym is) (Contains-push kept new)
-      ],
-    );
-  } where
-    stays : (e : Entry) → Contains unsettled e → ¬ Dominates new.cost e.cost → Contains kept e
-    stays e h spared = elim (each_in (λ (x : Entry). Dominates new.cost x.cost ⊎ Contains kept x) unsettled out.kept e h) [
-      | inl dominated ↦ absurd (spared dominated)
-      | inr there ↦ there
-    ]
-
-  module _ (apart : AllPairs AreIncomparable kept) (long : length new.cost ≡ d) (fresh : ¬ IsCovered (settled ++ unsettled) new.cost)
-    (spares : SparesSettled (record { settled = settled; unsettled = unsettled }) new.cost) where
-    beside : (e : Entry) → Contains (settled ++ unsettled) e → ¬ Dominates new.cost e.cost → AreIncomparable e new
-    beside e h spared = record {
-      one_way = λ below. fresh (record { by = e; contains = h; at_most = below });
-      other_way = λ above. elim (cases_same new.cost e.cost) [
-        | inl same ↦ fresh (record { by = e; contains = h; at_most = at_most_same e new (sym same) })
-        | inr differs ↦ spared (record { at_most = above; differs = differs })
-      ];
-    }
-
-    each_beside : (e : Entry) → Contains (settled ++ kept) e → AreIncomparable e new
-    each_beside e h = elim (Contains-append_cases settled kept e h) [
-      | inl near ↦ beside e (Contains-append_left settled unsettled e near) (spares e near)
-      | inr far ↦ beside e (Contains-append_right settled unsettled e (kept_old e far)) (each_in (λ (x : Entry). ¬ Dominates new.cost x.cost) kept out.gone e far)
-    ]
-
-    as_long : (e : Entry) → Contains (settled ++ (kept ++ new ∷ [])) e → length e.cost ≡ d
-    as_long e h = elim (Contains-append_cases settled (kept ++ new ∷ []) e h) [
-      | inl near ↦ each_in (λ (x : Entry). length x.cost ≡ d) (settled ++ unsettled) front.components e (Contains-append_left settled unsettled e near)
-      | inr far ↦ elim (cases_push kept new e far) [
-        | inl old ↦ each_in (λ (x : Entry). length x.cost ≡ d) (settled ++ unsettled) front.components e
-            (Contains-append_right settled unsettled e (kept_old e old))
-        | inr is ↦ rw is long
-      ]
-    ]
-
-    pub entered_front : IsFront d (record { settled = settled; unsettled = kept ++ new ∷ [] })
-    entered_front = record {
-      two = front.two;
-      four = front.four;
-      components = all_from_in (λ (e : Entry). length e.cost ≡ d) (settled ++ (kept ++ new ∷ [])) as_long;
-      incomparable = subst (AllPairs AreIncomparable) (append_assoc settled kept (new ∷ []))
-          (pairs_push AreIncomparable (settled ++ kept) new
-          (pairs_append AreIncomparable settled kept (pairs_before AreIncomparable settled unsettled front.incomparable) apart
-          (λ x y x_in y_in. pairs_across AreIncomparable settled unsettled front.incomparable x y x_in (kept_old y y_in))) each_beside);
-    }
+-- an entry that is replaced by one of its cost
+pub costs-set : (xs : List Entry) (i : ℕ) (new : Entry) → i < length xs → (get_or xs i new).cost ≡ new.cost → costs (set xs i new) ≡ costs xs
+costs-set xs i new within same =
+    let there : get_or (costs xs) i new.cost ≡ new.cost = get_or-map (λ (e : Entry). e.cost) xs i new new.cost within ∙ same in
+    map-set (λ (e : Entry). e.cost) xs i new ∙ ap (λ c. set (costs xs) i c) (sym there) ∙ set-get_or (costs xs) i new.cost

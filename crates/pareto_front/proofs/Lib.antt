@@ -1,3 +1,4 @@
 pub mod FrontLaws
+pub mod FrontChanges
 pub mod BlockLaws
 pub mod ToldLaws

@@ -1,5 +1,5 @@
 -- What the calls of a front make of it.
-use Rattle.std.proofs.Common.{◌≡◌, ◌≢◌, ℕ, ◌+◌, ◌<◌, ◌⊎◌, ◌↔◌, inl, inr, List, [], ◌∷◌, ◌++◌, length, map, get_or, set, refl, sym, ap, subst, ◌∙◌, arith, append_assoc}
+use Rattle.std.proofs.Common.{◌≡◌, ◌≢◌, ℕ, ◌<◌, ◌⊎◌, inl, inr, List, [], ◌∷◌, ◌++◌, length, get_or, set, sym, ap, subst, ◌∙◌, arith, append_assoc}
 use Rattle.std.specs.Prelude.{All, AllPairs, Contains, IsPermutation}
 use Rattle.std.proofs.lemmas.Bool.{cases_eq}
 use Rattle.std.proofs.lemmas.List.{get_or_default, length-set, get_or-set_same, get_or-set_other, map-append}
@@ -12,7 +12,7 @@ use Rattle.list_laws.proofs.Members.{in_first, in_rest, cases_in, each_in, all_f
 use Rattle.list_laws.proofs.Pairs.{pairs_push}
 use Rattle.list_laws.proofs.OnceLaws.{pairs_append}
 use Rattle.list_laws.proofs.SetLaws.{same_by_permutation}
-use Rattle.pareto_front.specs.Fronts.{Entry, Front, entries, HasCost, IsCovered, AreIncomparable, IsFront, SparesSettled}
+use Rattle.pareto_front.specs.Fronts.{Entry, Front, HasCost, IsCovered, AreIncomparable, IsFront, SparesSettled}
 use Rattle.pareto_front.specs.Calls.{Enters, GetsArc, Relabels, Settles}
 use Rattle.pareto_front.proofs.FrontLaws.{pairs_apart_places, pairs_before, pairs_behind, pairs_across, at_most_same, only_one, front_in_any_order, front_by_costs, costs, costs-set}
 
@@ -20,7 +20,7 @@ use Rattle.pareto_front.proofs.FrontLaws.{pairs_apart_places, pairs_before, pair
 
 -- the entry x is taken from the unsettled ones, of which rest is left
 module _ {d : ℕ} (settled unsettled rest : List Entry) (x : Entry) (front : IsFront d (record { settled = settled; unsettled = unsettled }))
-  (out : IsPermutation unsettled (x ∷ rest)) where
+    (out : IsPermutation unsettled (x ∷ rest)) where
   moved : IsPermutation (settled ++ unsettled) ((settled ++ x ∷ []) ++ rest)
   moved = subst (λ l. IsPermutation (settled ++ unsettled) l) (sym (append_assoc settled (x ∷ []) rest)) (IsPermutation-append_right settled unsettled (x ∷ rest) out)
 
@@ -68,7 +68,7 @@ settles_none f c none = record {
 
 -- the new entry is at least no other and dominates no settled one; kept are the unsettled ones that it doesn't dominate
 module _ {d : ℕ} (settled unsettled kept : List Entry) (new : Entry) (front : IsFront d (record { settled = settled; unsettled = unsettled }))
-  (out : IsWithout (λ e. Dominates new.cost e.cost) unsettled kept) where
+    (out : IsWithout (λ e. Dominates new.cost e.cost) unsettled kept) where
   kept_old : (e : Entry) → Contains kept e → Contains unsettled e
   kept_old e h = each_in (Contains unsettled) kept out.old e h
 
@@ -93,7 +93,7 @@ module _ {d : ℕ} (settled unsettled kept : List Entry) (new : Entry) (front : 
     ]
 
   module _ (apart : AllPairs AreIncomparable kept) (long : length new.cost ≡ d) (fresh : ¬ IsCovered (settled ++ unsettled) new.cost)
-    (spares : SparesSettled (record { settled = settled; unsettled = unsettled }) new.cost) where
+      (spares : SparesSettled (record { settled = settled; unsettled = unsettled }) new.cost) where
     beside : (e : Entry) → Contains (settled ++ unsettled) e → ¬ Dominates new.cost e.cost → AreIncomparable e new
     beside e h spared = record {
       one_way = λ below. fresh (record { by = e; contains = h; at_most = below });

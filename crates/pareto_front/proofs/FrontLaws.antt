@@ -1,22 +1,16 @@
 -- What a front is in whatever order its entries stand, and what becomes of it.
-use Rattle.std.proofs.Common.{◌≡◌, ◌≢◌, ℕ, ◌+◌, ◌<◌, ◌≤◌, ◌⊎◌, ◌↔◌, inl, inr, List, [], ◌∷◌, ◌++◌, length, map, get_or, set, refl, sym, ap, subst, ◌∙◌, arith, append_assoc}
-use Rattle.std.specs.Prelude.{All, AllPairs, Contains, IsPermutation}
+use Rattle.std.proofs.Common.{◌≡◌, ◌≢◌, ℕ, ◌+◌, ◌<◌, ◌⊎◌, inl, inr, List, [], ◌∷◌, ◌++◌, length, map, get_or, set, refl, sym, ap, subst, ◌∙◌, arith}
+use Rattle.std.specs.Prelude.{AllPairs, Contains, IsPermutation}
 use Rattle.std.specs.List.{swap}
 use Rattle.std.proofs.lemmas.Bool.{cases_lt, cases_eq}
-use Rattle.std.proofs.lemmas.List.{get_or-map, map-set, map-append, set-get_or, length-map, get_or_default, length-set, get_or-set_same, get_or-set_other, get_or_append_left, get_or-append-add, length-append}
+use Rattle.std.proofs.lemmas.List.{get_or-map, map-set, set-get_or, length-map, get_or_default, get_or_append_left, get_or-append-add, length-append}
 use Rattle.std.proofs.lemmas.List.Edits.{swapped_from_swap, length-swap}
-use Rattle.std.proofs.lemmas.List.Elements.{All-append, All-push, All-set, Contains-append_left, Contains-append_right, Contains-append_cases, Contains-push, Contains-get_or}
-use Rattle.std.proofs.lemmas.List.Sorted.{All-permutation, IsPermutation-keeps, IsPermutation-append_right, IsPermutation-sym}
-use Rattle.cost_vector.specs.Costs.{AtMost, Dominates}
-use Rattle.cost_vector.proofs.Vectors.{AtMost-refl, AtMost-length, cases_same}
-use Rattle.list_laws.specs.Without.{IsWithout}
-use Rattle.list_laws.specs.Sets.{SameMembers}
-use Rattle.list_laws.proofs.Members.{in_none, in_first, in_rest, in_front, cases_in, each_in, all_from_in, cases_push, in_map, of_map}
+use Rattle.std.proofs.lemmas.List.Sorted.{All-permutation, IsPermutation-keeps}
+use Rattle.cost_vector.specs.Costs.{AtMost}
+use Rattle.cost_vector.proofs.Vectors.{AtMost-refl}
+use Rattle.list_laws.proofs.Members.{each_in, all_from_in, in_map, of_map}
 use Rattle.list_laws.proofs.Pairs.{pairs_rest, pairs_map}
-use Rattle.list_laws.proofs.OnceLaws.{pairs_append}
-use Rattle.list_laws.proofs.SetLaws.{same_by_permutation}
-use Rattle.pareto_front.specs.Fronts.{Entry, Front, entries, HasCost, IsCovered, AreIncomparable, IsFront, SparesSettled}
-use Rattle.pareto_front.specs.Calls.{Enters, GetsArc, Relabels, Settles}
+use Rattle.pareto_front.specs.Fronts.{Entry, Front, entries, HasCost, AreIncomparable, IsFront}
 
 module _ {X : Type 0} (R : X → X → Type 0) (flip : (x y : X) → R x y → R y x) where
   -- any two different places
@@ -59,16 +53,22 @@ module _ {X : Type 0} (R : X → X → Type 0) (flip : (x y : X) → R x y → R
       let moved = swapped_from_swap xs (swap xs a b) a b d a_within b_within refl in
       elim (cases_eq i a) [
         | inl at_a ↦ (
-          b, b_within, ap (λ k. get_or (swap xs a b) k d) at_a ∙ moved.0,
+          b,
+          b_within,
+          ap (λ k. get_or (swap xs a b) k d) at_a ∙ moved.0,
           record { at_one = λ _. refl; at_other = λ at_b. sym at_b ∙ at_a; elsewhere = λ not_a. absurd (not_a at_a) },
         )
         | inr not_a ↦ elim (cases_eq i b) [
           | inl at_b ↦ (
-            a, a_within, ap (λ k. get_or (swap xs a b) k d) at_b ∙ moved.1,
+            a,
+            a_within,
+            ap (λ k. get_or (swap xs a b) k d) at_b ∙ moved.1,
             record { at_one = λ at_a. absurd (not_a at_a); at_other = λ _. refl; elsewhere = λ _ not_b. absurd (not_b at_b) },
           )
           | inr not_b ↦ (
-            i, within, moved.2 i not_a not_b,
+            i,
+            within,
+            moved.2 i not_a not_b,
             record { at_one = λ at_a. absurd (not_a at_a); at_other = λ at_b. absurd (not_b at_b); elsewhere = λ _ _. refl },
           )
         ]

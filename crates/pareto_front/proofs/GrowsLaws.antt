@@ -1,6 +1,6 @@
 -- Lists to which the spots of a kind are added one by one.
 use Rattle.std.proofs.Common.{◌≡◌, ◌≢◌, ◌↔◌, ◌⊎◌, inl, inr, ℕ, ◌+◌, ◌<◌, ◌≤◌, List, [], ◌∷◌, ◌++◌, length, map, take, get_or, sym, ap, subst, ◌∙◌, append_assoc}
-use Rattle.std.specs.Prelude.{All, AllPairs, Contains}
+use Rattle.std.specs.Prelude.{AllPairs, Contains}
 use Rattle.std.proofs.lemmas.List.{append-nil, map_push, take_all, take_more, take-map}
 use Rattle.std.proofs.lemmas.List.Elements.{All-nil, All-push, Contains-append_left, Contains-push}
 use Rattle.cost_vector.specs.Costs.{Dominates}
@@ -12,7 +12,7 @@ use Rattle.list_laws.proofs.Pairs.{pairs_none, pairs_push, pairs_take}
 use Rattle.pareto_front.specs.declared.front.FrontEntry.{FrontEntry}
 use Rattle.pareto_front.specs.Fronts.{Entry, AreIncomparable, HasCost}
 use Rattle.pareto_front.specs.Calls.{GrowsBy, told_entry}
-use Rattle.pareto_front.proofs.FrontLaws.{pairs_across, at_most_same}
+use Rattle.pareto_front.proofs.FrontLaws.{pairs_across}
 
 -- one thing more is of a kind
 lists_more : {X : Type 0} (P Q : X → Type 0) (xs : List X) (y : X) → ListsOnce P xs → ¬ P y → ((x : X) → Q x ↔ (P x ⊎ (x ≡ y))) → ListsOnce Q (xs ++ y ∷ [])
@@ -70,18 +70,18 @@ module _ {D : ℕ} (list : List (FrontEntry D)) (i : ℕ) (x : FrontEntry D) (wi
   has_cost_more c = (
     λ h. elim (cases_push (map told_entry (take i list)) (told_entry x) (record { cost = c; arc = h.arc })
         (subst (λ l. Contains l (record { cost = c; arc = h.arc })) one_more h.contains)) [
-      | inl old ↦ inl (record { arc = h.arc; contains = old })
-      | inr last ↦ inr (ap (λ (e : Entry). e.cost) last)
-    ],
+          | inl old ↦ inl (record { arc = h.arc; contains = old })
+          | inr last ↦ inr (ap (λ (e : Entry). e.cost) last)
+        ],
     λ either. elim either [
       | inl old ↦ record {
-          arc = old.arc;
-          contains = rw one_more (Contains-append_left (map told_entry (take i list)) (told_entry x ∷ []) (record { cost = c; arc = old.arc }) old.contains);
-        }
+        arc = old.arc;
+        contains = rw one_more (Contains-append_left (map told_entry (take i list)) (told_entry x ∷ []) (record { cost = c; arc = old.arc }) old.contains);
+      }
       | inr last ↦ record {
-          arc = x.arc.0;
-          contains = rw (one_more, last) (Contains-push (map told_entry (take i list)) (told_entry x));
-        }
+        arc = x.arc.0;
+        contains = rw (one_more, last) (Contains-push (map told_entry (take i list)) (told_entry x));
+      }
     ],
   )
 
@@ -97,7 +97,7 @@ DominatedBefore by list i c = HasCost (map told_entry (take i list)) c × Domina
 
 -- one place on, at the entry x
 module _ {D : ℕ} (v : ℕ) (by : List ℕ) (list : List (FrontEntry D)) (i : ℕ) (x : FrontEntry D) (within : i < length list) (is : x ≡ get_or list i x)
-  (xs ys : List (CompactSpot D)) (grown : GrowsBy v (DominatedBefore by list i) xs ys) where
+    (xs ys : List (CompactSpot D)) (grown : GrowsBy v (DominatedBefore by list i) xs ys) where
   pub finds_more : AllPairs AreIncomparable (map told_entry list) → Dominates by x.cost.0 → (s : CompactSpot D) → s.node.0 ≡ v → s.cost.0 ≡ x.cost.0
       → GrowsBy v (DominatedBefore by list (i + 1)) xs (ys ++ s ∷ [])
   finds_more pairs dominated s there same =

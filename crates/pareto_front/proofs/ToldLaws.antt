@@ -66,7 +66,7 @@ uncovered_none settled unsettled c first second h =
     (record { by = record { cost = c; arc = h.arc }; contains = h.contains; at_most = AtMost-refl c })
 
 module _ {D : ℕ} (settled unsettled : List (FrontEntry D)) (front : IsFront D (front_of settled unsettled)) (i : ℕ) (x : FrontEntry D)
-  (within : i < length unsettled) (is : x ≡ get_or unsettled i x) where
+    (within : i < length unsettled) (is : x ≡ get_or unsettled i x) where
   out : IsPermutation (map told_entry unsettled) (told_entry x ∷ map told_entry (swap_remove unsettled i x))
   out = IsPermutation-map told_entry unsettled (x ∷ swap_remove unsettled i x) (IsPermutation-swap_remove unsettled i x within is)
 
@@ -88,7 +88,7 @@ with_arc x arc = record { cost = x.cost; arc = arc }
 
 -- an entry x gets another arc
 module _ {D : ℕ} (settled unsettled : List (FrontEntry D)) (front : IsFront D (front_of settled unsettled)) (c : List ℕ)
-  (there : HasCost (entries (front_of settled unsettled)) c) (arc : ArcNo) (i : ℕ) (x : FrontEntry D) (below : AtMost x.cost.0 c) where
+    (there : HasCost (entries (front_of settled unsettled)) c) (arc : ArcNo) (i : ℕ) (x : FrontEntry D) (below : AtMost x.cost.0 c) where
   told_with_arc : Contains (entries (front_of settled unsettled)) (told_entry x) → told_entry (with_arc x arc) ≡ record { cost = c; arc = arc.0 }
   told_with_arc h = ap (λ c'. record { cost = c'; arc = arc.0 }) (same_cost front c there (told_entry x) h below)
 
@@ -136,7 +136,7 @@ module _ {D : ℕ} (settled unsettled : List (FrontEntry D)) (front : IsFront D 
 
 -- the settled entries in another order, sorted by their costs
 module _ {D : ℕ} (settled unsettled : List (FrontEntry D)) (front : IsFront D (front_of settled unsettled)) (list : List (FrontEntry D))
-  (moved : IsPermutation settled list) (sorted : IsSortedBy (λ x y. is_lt (lex_cmp x.cost.0 y.cost.0)) list) where
+    (moved : IsPermutation settled list) (sorted : IsSortedBy (λ x y. is_lt (lex_cmp x.cost.0 y.cost.0)) list) where
   told_moved : IsPermutation (map told_entry settled) (map told_entry list)
   told_moved = IsPermutation-map told_entry settled list moved
 
@@ -163,7 +163,7 @@ module _ {D : ℕ} (settled unsettled : List (FrontEntry D)) (front : IsFront D 
 
 -- the settled entry that is at most a cost tells the arc of the settled entry of this cost
 module _ {D : ℕ} (settled unsettled : List (FrontEntry D)) (front : IsFront D (front_of settled unsettled)) (c : List ℕ) (i : ℕ) (x : FrontEntry D)
-  (within : i < length settled) (is : x ≡ get_or settled i x) (below : AtMost x.cost.0 c) where
+    (within : i < length settled) (is : x ≡ get_or settled i x) (below : AtMost x.cost.0 c) where
   only_this : (arc : ℕ) → Contains (map told_entry settled) (record { cost = c; arc = arc }) → told_entry x ≡ record { cost = c; arc = arc }
   only_this arc h = only_one front (told_entry x) (record { cost = c; arc = arc }) (told_settled settled unsettled i x within is)
       (Contains-append_left (map told_entry settled) (map told_entry unsettled) (record { cost = c; arc = arc }) h) below

@@ -14,7 +14,8 @@ use Rattle.list_laws.proofs.OnceLaws.{pairs_append}
 use Rattle.list_laws.proofs.SetLaws.{same_by_permutation}
 use Rattle.pareto_front.specs.Fronts.{Entry, Front, HasCost, IsCovered, AreIncomparable, IsFront, SparesSettled}
 use Rattle.pareto_front.specs.Calls.{Enters, GetsArc, Relabels, Settles}
-use Rattle.pareto_front.proofs.FrontLaws.{pairs_apart_places, pairs_before, pairs_behind, pairs_across, at_most_same, only_one, front_in_any_order, front_by_costs, costs, costs-set}
+use Rattle.pareto_front.proofs.FrontLaws.{pairs_apart_places, pairs_before, pairs_behind, pairs_across, at_most_same, only_one}
+use Rattle.pareto_front.proofs.FrontLaws.{front_in_any_order, front_by_costs, costs, costs-set}
 
 -- ---- a front of which an entry is settled
 
@@ -22,12 +23,14 @@ use Rattle.pareto_front.proofs.FrontLaws.{pairs_apart_places, pairs_before, pair
 module _ {d : ℕ} (settled unsettled rest : List Entry) (x : Entry) (front : IsFront d (record { settled = settled; unsettled = unsettled }))
     (out : IsPermutation unsettled (x ∷ rest)) where
   moved : IsPermutation (settled ++ unsettled) ((settled ++ x ∷ []) ++ rest)
-  moved = subst (λ l. IsPermutation (settled ++ unsettled) l) (sym (append_assoc settled (x ∷ []) rest)) (IsPermutation-append_right settled unsettled (x ∷ rest) out)
+  moved = subst (λ l. IsPermutation (settled ++ unsettled) l) (sym (append_assoc settled (x ∷ []) rest))
+      (IsPermutation-append_right settled unsettled (x ∷ rest) out)
 
   pub settled_front : IsFront d (record { settled = settled ++ x ∷ []; unsettled = rest })
   settled_front = front_in_any_order front (record { settled = settled ++ x ∷ []; unsettled = rest }) moved
 
-  pub settles : (c : List ℕ) → x.cost ≡ c → Settles (record { settled = settled; unsettled = unsettled }) c (record { settled = settled ++ x ∷ []; unsettled = rest })
+  pub settles : (c : List ℕ) → x.cost ≡ c
+      → Settles (record { settled = settled; unsettled = unsettled }) c (record { settled = settled ++ x ∷ []; unsettled = rest })
   settles c same = record {
     settled = λ e. (
       λ h. elim (cases_push settled x e h) [ inl old ↦ inl old | inr is ↦ inr (subst (λ z. Contains unsettled z × (z.cost ≡ c)) (sym is) (x_in, same)) ],
@@ -106,7 +109,8 @@ module _ {d : ℕ} (settled unsettled kept : List Entry) (new : Entry) (front : 
     each_beside : (e : Entry) → Contains (settled ++ kept) e → AreIncomparable e new
     each_beside e h = elim (Contains-append_cases settled kept e h) [
       | inl near ↦ beside e (Contains-append_left settled unsettled e near) (spares e near)
-      | inr far ↦ beside e (Contains-append_right settled unsettled e (kept_old e far)) (each_in (λ (x : Entry). ¬ Dominates new.cost x.cost) kept out.gone e far)
+      | inr far ↦ beside e (Contains-append_right settled unsettled e (kept_old e far))
+          (each_in (λ (x : Entry). ¬ Dominates new.cost x.cost) kept out.gone e far)
     ]
 
     as_long : (e : Entry) → Contains (settled ++ (kept ++ new ∷ [])) e → length e.cost ≡ d
@@ -160,7 +164,8 @@ gets_arc xs i new pairs within same e = (
   only_place : (k : ℕ) → k < length xs → (get_or xs k new).cost ≡ new.cost → k ≡ i
   only_place k inside k_is = elim (cases_eq k i) [
     | inl here ↦ here
-    | inr other ↦ absurd ((pairs_apart_places xs pairs k i new other inside within).one_way (at_most_same (get_or xs k new) (get_or xs i new) (k_is ∙ sym same)))
+    | inr other ↦ absurd ((pairs_apart_places xs pairs k i new other inside within).one_way
+        (at_most_same (get_or xs k new) (get_or xs i new) (k_is ∙ sym same)))
   ]
 
 -- no entry has the cost
@@ -188,11 +193,13 @@ module _ {d : ℕ} (settled unsettled : List Entry) (i : ℕ) (new : Entry) (fro
         ∙ sym (map-append cost_of settled unsettled)) front
 
   module _ (within : i < length unsettled) (same : (get_or unsettled i new).cost ≡ new.cost) where
-    pub unsettled_relabelled : Relabels (record { settled = settled; unsettled = unsettled }) new (record { settled = settled; unsettled = set unsettled i new })
+    pub unsettled_relabelled : Relabels (record { settled = settled; unsettled = unsettled }) new
+        (record { settled = settled; unsettled = set unsettled i new })
     unsettled_relabelled = record {
       settled = gets_no_arc settled new (λ h.
           (pairs_across AreIncomparable settled unsettled front.incomparable (record { cost = new.cost; arc = h.arc }) (get_or unsettled i new)
-          h.contains (Contains-get_or unsettled i new within)).other_way (at_most_same (get_or unsettled i new) (record { cost = new.cost; arc = h.arc }) same));
+          h.contains (Contains-get_or unsettled i new within)).other_way
+          (at_most_same (get_or unsettled i new) (record { cost = new.cost; arc = h.arc }) same));
       unsettled = gets_arc unsettled i new (pairs_behind AreIncomparable settled unsettled front.incomparable) within same;
     }
 

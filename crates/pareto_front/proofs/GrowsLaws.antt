@@ -87,7 +87,8 @@ module _ {D : ℕ} (list : List (FrontEntry D)) (i : ℕ) (x : FrontEntry D) (wi
 
   pub not_before : AllPairs AreIncomparable (map told_entry list) → ¬ HasCost (map told_entry (take i list)) x.cost.0
   not_before pairs h =
-      let front = subst (AllPairs AreIncomparable) (take-map told_entry (i + 1) list ∙ one_more) (pairs_take AreIncomparable (i + 1) (map told_entry list) pairs) in
+      let front = subst (AllPairs AreIncomparable) (take-map told_entry (i + 1) list ∙ one_more)
+      (pairs_take AreIncomparable (i + 1) (map told_entry list) pairs) in
       (pairs_across AreIncomparable (map told_entry (take i list)) (told_entry x ∷ []) front (record { cost = x.cost.0; arc = h.arc }) (told_entry x) h.contains
       (in_first (told_entry x) [])).one_way (AtMost-refl x.cost.0)
 

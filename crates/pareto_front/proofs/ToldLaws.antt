@@ -44,7 +44,8 @@ module _ {D : ℕ} {list : List (FrontEntry D)} {c : List ℕ} {i : ℕ} (there 
 
 -- no entry of a list is at most the cost
 told_none : {D : ℕ} (list : List (FrontEntry D)) (c : List ℕ) → CoversNone list c → (e : Entry) → Contains (map told_entry list) e → ¬ AtMost e.cost c
-told_none list c none e h = each_in (λ (x : Entry). ¬ AtMost x.cost c) (map told_entry list) (All-map (λ (x : Entry). ¬ AtMost x.cost c) told_entry list none) e h
+told_none list c none e h =
+    each_in (λ (x : Entry). ¬ AtMost x.cost c) (map told_entry list) (All-map (λ (x : Entry). ¬ AtMost x.cost c) told_entry list none) e h
 
 module _ {D : ℕ} (settled unsettled : List (FrontEntry D)) (c : List ℕ) (first : CoversNone settled c) (second : CoversNone unsettled c) where
   -- so none of either list is
@@ -121,7 +122,8 @@ module _ {D : ℕ} (settled unsettled : List (FrontEntry D)) (front : IsFront D 
 
     pub told_relabelled_unsettled : IsFront D (front_of settled (set unsettled i (with_arc x arc)))
     told_relabelled_unsettled = rw (told_set unsettled unsettled_cost)
-        (unsettled_relabelled_front (map told_entry settled) (map told_entry unsettled) i (record { cost = c; arc = arc.0 }) front unsettled_within unsettled_at)
+        (unsettled_relabelled_front (map told_entry settled) (map told_entry unsettled) i (record { cost = c; arc = arc.0 }) front unsettled_within
+        unsettled_at)
 
 -- the settled entry that is at most a cost tells the arc of the settled entry of this cost
 module _ {D : ℕ} (settled unsettled : List (FrontEntry D)) (front : IsFront D (front_of settled unsettled)) {c : List ℕ} {i : ℕ}

@@ -5,3 +5,9 @@ pub mod Changes
 pub mod Entering
 pub mod Finding
 pub mod Listing
+pub mod FrontLaws
+pub mod FrontChanges
+pub mod KeptLaws
+pub mod GrowsLaws
+pub mod BlockLaws
+pub mod ToldLaws

@@ -2,3 +2,4 @@ pub mod Fronts
 pub mod Merging
 pub mod Calls
 pub mod Sorted
+pub mod Blocks

@@ -1,7 +1,6 @@
 -- Each event that may happen leads to some state. The first half of a round: its drops in any order and then its takes in any order lead to one state.
 use Rattle.std.proofs.Common.{◌≡◌, ◌≢◌, ℕ, ◌+◌, ◌-◌, ◌<◌, ◌≤◌, ◌⊎◌, ◌↔◌, List, [], ◌∷◌, ◌++◌, length, map, Option, Some, inl, inr, refl, sym, ap, subst, ◌∙◌}
-use Rattle.std.proofs.Common.{arith}
-use Rattle.std.specs.Prelude.{slice_get, Contains, AllPairs, IsPermutation}
+use Rattle.std.proofs.Common.{arith, slice_get, Contains, AllPairs, IsPermutation}
 use Rattle.std.specs.List.{range_with_len}
 use Rattle.std.proofs.lemmas.Bool.{cases_eq, cases_lt}
 use Rattle.std.proofs.lemmas.List.Elements.{Contains-append_left, Contains-append_right}
@@ -17,7 +16,7 @@ use Rattle.list_laws.proofs.SetLaws.{none_of_empty, same_by_permutation}
 use Rattle.road_network.specs.Network.{Network}
 use Rattle.road_network.proofs.Reached.{arc_counts}
 use Rattle.event_machine.specs.Machine.{Task, Label, IsSamePair, Beats, SearchState, Place, settled, dropped, waiting, entries_at, IsEntry, LeadsOn, IsTask}
-use Rattle.event_machine.specs.Machine.{waits, is_candidate, has_arc, IsBeatenAtTarget}
+use Rattle.event_machine.specs.Machine.{waits, is_candidate, has_arc, IsBeatenAtTarget, Follows}
 use Rattle.event_machine.specs.Events.{Becomes, MayTake, Takes, MayDrop, Drops, Relaxes, IsMerged, keeps, lowers, discards, enters, Merges, Event, take, drop}
 use Rattle.event_machine.specs.Events.{IsSame, Happens, Runs}
 use Rattle.event_machine.specs.Rounds.{IsBetweenRounds, IsUndominated, Begins}
@@ -104,18 +103,12 @@ module _ (task : Task) (s : SearchState) where
 
   pub relax_happens : (l : Label) (k : ℕ) → Contains s.unrelaxed (l, k) → LeadsOn task.network l.node k → (next : SearchState) × Relaxes task s l k next
   relax_happens l k may on =
-      let rest = sift cases_pair (λ p. p ≢ (l, k)) (λ p. told_not (cases_pair p (l, k))) s.unrelaxed in
-      let x : Label = record { node = on.to; cost = plus l.cost on.by; arc = k } in (
-        record s { unrelaxed = rest.0; candidates = x ∷ s.candidates },
-        record {
-          may = may;
-          candidate = x;
-          follows = record { by = on.by; leads = on.leads; cost = refl };
-          arc = refl;
-          entries = λ p y. (λ h. h, λ h. h);
-          unrelaxed = rest.1.exact;
-          candidates = IsPermutation-refl (x ∷ s.candidates);
-        },
+      let (rest, left) = sift cases_pair (λ p. p ≢ (l, k)) (λ p. told_not (cases_pair p (l, k))) s.unrelaxed in
+      let x : Label = record { node = on.to; cost = plus l.cost on.by; arc = k } in
+      let f : Follows task.network l x = record { by = on.by; leads = on.leads; cost = refl } in
+      let moved = IsPermutation-refl (x ∷ s.candidates) in (
+        record s { unrelaxed = rest; candidates = x ∷ s.candidates },
+        record { may = may; candidate = x; follows = f; arc = refl; entries = λ p y. (λ h. h, λ h. h); unrelaxed = left.exact; candidates = moved },
       )
 
 module _ (s : SearchState) (x : Label) (there : Contains s.candidates x) where
@@ -221,8 +214,7 @@ abbrev OpensArcs : Task → Label × ℕ → Type 0
 OpensArcs task p = LeadsOn task.network p.0.node p.1
 
 take_moves : (task : Task) (s : SearchState) (l : Label) (next : SearchState) → Takes task s l next → Moves (λ y. y ≡ l) settled (OpensArcs task) s next
-take_moves task s l next h =
-    record { entries = h.entries; unrelaxed = λ p. let u = h.unrelaxed p in grind arith; candidates = h.candidates }
+take_moves task s l next h = record { entries = h.entries; unrelaxed = λ p. let u = h.unrelaxed p in grind arith; candidates = h.candidates }
 
 -- ---- what is told of a state
 

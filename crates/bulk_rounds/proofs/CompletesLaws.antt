@@ -1,26 +1,29 @@
 -- Relaxes and merges lose nothing that survives, and keep its place; at the end all survivors are entries. So lists that complete a round are runs to
 -- its outcome, in whatever order, and so are those that relax all and then merge all.
-use Rattle.std.proofs.Common.{◌≡◌, ◌≢◌, ◌↔◌, ◌⊎◌, List, [], inl, inr, refl, sym, subst, ◌∙◌, arith, ℕ, ◌∷◌, ◌++◌, map, ap, ap₂}
-use Rattle.std.specs.Prelude.{AllPairs, Contains, IsPermutation}
-use Rattle.std.proofs.lemmas.List.Sorted.{IsPermutation-refl}
+-- The events of pieces, drawn in any order, complete the round.
+use Rattle.std.proofs.Common.{◌≡◌, ◌≢◌, ◌↔◌, ◌⊎◌, List, [], inl, inr, refl, sym, subst, ◌∙◌, arith, ℕ, ◌∷◌, ◌++◌, map, ap, ap₂, AllPairs, Contains}
+use Rattle.std.proofs.Common.{IsPermutation, ◌<◌, ◌+◌, zero, suc, length, get_or, add-one, flat_map}
+use Rattle.std.specs.List.{range_with_len, AllZip}
+use Rattle.std.proofs.lemmas.List.Sorted.{IsPermutation-refl, IsPermutation-trans}
+use Rattle.std.proofs.lemmas.List.{map-append}
 use Rattle.cost_vector.specs.Costs.{AtMost, Dominates}
 use Rattle.cost_vector.proofs.Vectors.{AtMost-trans, AtMost-antisymm, cases_same}
 use Rattle.list_laws.specs.Sets.{ListsOnce}
 use Rattle.list_laws.proofs.SetLaws.{none_of_empty, same_by_permutation}
-use Rattle.list_laws.proofs.OnceLaws.{same_by, members_once, rest_once, lists_append, empty_if_none, once_as, pairs_append, pairs_of_members}
-use Rattle.list_laws.proofs.OnceLaws.{lists_in_any_order, lists_permute, lists_images}
+use Rattle.list_laws.proofs.OnceLaws.{alike_back, alike_through, same_by, members_once, rest_once, lists_append, empty_if_none, once_as, pairs_append}
+use Rattle.list_laws.proofs.OnceLaws.{pairs_of_members, lists_in_any_order, lists_permute, lists_images, in_append, once_apart, flat_in_any_order, range_once}
 use Rattle.list_laws.proofs.Members.{in_none, in_first, cases_in}
-use Rattle.list_laws.proofs.Pairs.{pairs_rest, pair_with_first}
+use Rattle.list_laws.proofs.Pairs.{pairs_rest, pair_with_first, pairs_none}
 use Rattle.road_network.specs.Network.{Network}
 use Rattle.event_machine.specs.Machine.{Task, IsTask, Label, IsSamePair, Beats, SearchState, Place, settled, dropped, waiting, entries_at, IsEntry}
 use Rattle.event_machine.specs.Events.{Event, take, drop, relax, merge, SameEntries, IsSame, IsMerged, keeps, lowers, discards, enters, Merges, Happens, Runs}
 use Rattle.event_machine.specs.Orders.{IsArrival, IsToDo, Survives, HasPair, Belongs, IsOutcome, MergesResult, Completes}
 use Rattle.event_machine.specs.Rounds.{relaxing, Finishes}
+use Rattle.event_machine.specs.Pieces.{joined, IsRelaxOf, relaxes, AreRelaxPieces, AreMergePieces, merges_of, AreDoneInPieces}
 use Rattle.event_machine.proofs.Sound.{IsSound, AreApart, Covers, IsCovered, IsMet, covered_by_itself, below_pair, cases_label, label_by_parts, same_pair}
 use Rattle.event_machine.proofs.Sound.{pair_back, cases_pair}
-use Rattle.event_machine.proofs.Stepping.{place_before_merge}
-use Rattle.event_machine.proofs.Stepping.{Changes, changes_of, arrivals_by_relax, arrivals_by_merge, candidates_by_merge, arrival_on, same_changes}
-use Rattle.event_machine.proofs.Keeping.{met_after, sound_after, same_is_sound}
+use Rattle.event_machine.proofs.Keeping.{place_before_merge, Changes, changes_of, arrivals_by_relax, arrivals_by_merge, candidates_by_merge, arrival_on}
+use Rattle.event_machine.proofs.Keeping.{same_changes, met_after, sound_after, same_is_sound}
 use Rattle.event_machine.proofs.Running.{same_itself, same_back, runs_on, runs_apart, run_exists, runs_to_end}
 use Rattle.bulk_rounds.proofs.BegunLaws.{relax_happens, merge_happens}
 
@@ -42,10 +45,7 @@ pub keeps_through : (net : Network) (a b c : SearchState) → KeepsOutcome net a
 keeps_through net a b c first second = record {
   met = λ y h. second.met y (first.met y h);
   back = λ y h. first.back y (second.back y h);
-  places = λ p other y unbeaten.
-      let before = first.places p other y unbeaten in
-      let after = second.places p other y (λ z there. unbeaten z (first.back z there)) in
-      (λ h. after.0 (before.0 h), λ h. before.1 (after.1 h));
+  places = λ p other y unbeaten. alike_through (first.places p other y unbeaten) (second.places p other y (λ z there. unbeaten z (first.back z there)));
 }
 
 pair_on : (xs ys : List Label) → ((z : Label) → Contains xs z → Contains ys z) → (y : Label) → HasPair xs y → HasPair ys y
@@ -191,12 +191,14 @@ all_but : {A B F : Type 0} → (A ↔ B) → ¬ F → (B ↔ (A × (¬ F)))
 all_but same other = grind arith
 
 module _ (task : Task) (is : IsTask task) where
-  arrival_alike : (a b : SearchState) → IsSame a b → (x : Label) → IsArrival task.network a x → IsArrival task.network b x
-  arrival_alike a b same = arrival_on task.network a b (λ x. (same_by_permutation a.candidates b.candidates same.candidates x).1) (λ p. (same.unrelaxed p).0)
+  arrival_alike : (a b : SearchState) → IsSame a b → (x : Label) → IsArrival task.network a x ↔ IsArrival task.network b x
+  arrival_alike a b same x = (on a b same, on b a (same_back a b same)) where
+    on : (a b : SearchState) → IsSame a b → IsArrival task.network a x → IsArrival task.network b x
+    on a b same = arrival_on task.network a b (λ y. (same_by_permutation a.candidates b.candidates same.candidates y).1) (λ p. (same.unrelaxed p).0) x
 
   to_do_alike : (a b : SearchState) → IsSame b a → (event : Event) → IsToDo task.network a event ↔ IsToDo task.network b event
-  to_do_alike a b same (relax l k) = ((same.unrelaxed (l, k)).1, (same.unrelaxed (l, k)).0)
-  to_do_alike a b same (merge x) = (arrival_alike a b (same_back b a same) x, arrival_alike b a same x)
+  to_do_alike a b same (relax l k) = alike_back (same.unrelaxed (l, k))
+  to_do_alike a b same (merge x) = alike_back (arrival_alike b a same x)
   to_do_alike a b same _ = (λ h. h, λ h. h)
 
   -- an event leaves all else to do
@@ -227,7 +229,7 @@ module _ (task : Task) (is : IsTask task) where
       all = once_as (IsToDo task.network a) (IsToDo task.network b) events (to_do_alike a b same) left.all;
       in_order = left.in_order;
       kept = keeps_through task.network s a b left.kept
-          (same_keeps task is a b left.sound (same_changes task is a b left.sound same) (arrival_alike b a same) same.entries);
+          (same_keeps task is a b left.sound (same_changes task is a b left.sound same) (λ x. (arrival_alike b a same x).0) same.entries);
     }
 
     left_on : (event : Event) (rest : List Event) (a b : SearchState) → IsLeft s (event ∷ rest) a → Happens task a event b → IsLeft s rest b
@@ -284,24 +286,18 @@ IsMerging net s (merge x) = IsArrival net s x
 IsMerging net s _ = ⊥
 
 module _ (net : Network) (s : SearchState) where
-  either_half : (event : Event) → IsToDo net s event ↔ (IsRelaxing s event ⊎ IsMerging net s event)
-  either_half event = grind arith
-
-  not_both : (event : Event) → IsRelaxing s event → ¬ IsMerging net s event
-  not_both event = grind arith
-
   no_result : (a b : Event) → IsRelaxing s a ⊎ IsMerging net s b → ¬ MergesResult net a b
   no_result a b = grind arith
 
   -- all relaxes in any order, and then all merges in any order
   pub completes_in_halves : (first second : List Event) → ListsOnce (IsRelaxing s) first → ListsOnce (IsMerging net s) second
       → Completes net s (first ++ second)
-  completes_in_halves first second relaxes merges = record {
-    all = lists_append (IsRelaxing s) (IsMerging net s) (IsToDo net s) first second either_half not_both relaxes merges;
+  completes_in_halves first second due due_next = record {
+    all = lists_append (IsRelaxing s) (IsMerging net s) (IsToDo net s) first second (λ event. grind arith) (λ event. grind arith) due due_next;
     in_order = pairs_append (λ a b. ¬ MergesResult net a b) first second
-        (pairs_of_members (λ a b. ¬ MergesResult net a b) first (λ a b h k. no_result a b (inl ((relaxes.exact a).0 h))))
-        (pairs_of_members (λ a b. ¬ MergesResult net a b) second (λ a b h k. no_result a b (inr ((merges.exact b).0 k))))
-        (λ a b h k. no_result a b (inl ((relaxes.exact a).0 h)));
+        (pairs_of_members (λ a b. ¬ MergesResult net a b) first (λ a b h k. no_result a b (inl ((due.exact a).0 h))))
+        (pairs_of_members (λ a b. ¬ MergesResult net a b) second (λ a b h k. no_result a b (inr ((due_next.exact b).0 k))))
+        (λ a b h k. no_result a b (inl ((due.exact a).0 h)));
   }
 
   -- the merges of all that arrives
@@ -329,25 +325,19 @@ module _ (task : Task) (is : IsTask task) where
   pub arrivals_when_relaxed : (ps : List (Label × ℕ)) (s b : SearchState) → IsSound task s → ListsOnce (Contains s.unrelaxed) ps
       → Runs task s (map relaxing ps) b → ListsOnce (IsArrival task.network s) b.candidates
   arrivals_when_relaxed [] s b sound pairs run = record {
-    exact = λ x. (
-      λ here. inl ((same_by_permutation b.candidates s.candidates run.candidates x).1 here),
-      elim [
-        | inl there ↦ (same_by_permutation b.candidates s.candidates run.candidates x).0 there
-        | inr (e, there, f) ↦ absurd (in_none (e, x.arc) ((pairs.exact (e, x.arc)).1 there))
-      ],
-    );
+    exact = λ x.
+        let moved = same_by_permutation b.candidates s.candidates run.candidates x in
+        let none = λ (e : Label) (there : Contains s.unrelaxed (e, x.arc)). in_none (e, x.arc) ((pairs.exact (e, x.arc)).1 there) in
+        (λ here. inl (moved.1 here), elim [ inl there ↦ moved.0 there | inr (e, there, _) ↦ absurd (none e there) ]);
     once = (same_is_sound task is s b run sound).fresh.once;
   }
   arrivals_when_relaxed (p ∷ ps) s b sound pairs run =
       let from_sound = same_is_sound task is s run.from run.same sound in
       let rest = arrivals_when_relaxed ps run.next b (sound_after task is run.from run.next (relaxing p) from_sound run.step)
       (rest_once (Contains run.from.unrelaxed) (Contains run.next.unrelaxed) p ps run.step.unrelaxed
-      (once_as (Contains s.unrelaxed) (Contains run.from.unrelaxed) (p ∷ ps) (λ q. ((run.same.unrelaxed q).1, (run.same.unrelaxed q).0)) pairs)) run.rest in
-      once_as (IsArrival task.network run.next) (IsArrival task.network s) b.candidates (λ x.
-      let relaxed = arrivals_by_relax task run.from run.next p.0 p.1 run.step x in (
-        λ h. arrival_alike task is run.from s run.same x (relaxed.1 h),
-        λ h. relaxed.0 (arrival_alike task is s run.from (same_back run.from s run.same) x h),
-      )) rest
+      (once_as (Contains s.unrelaxed) (Contains run.from.unrelaxed) (p ∷ ps) (λ q. alike_back (run.same.unrelaxed q)) pairs)) run.rest in
+      once_as (IsArrival task.network run.next) (IsArrival task.network s) b.candidates (λ x. alike_through
+      (alike_back (arrivals_by_relax task run.from run.next p.0 p.1 run.step x)) (arrival_alike task is run.from s run.same x)) rest
 
   relaxes_exist : (ps : List (Label × ℕ)) (s : SearchState) → IsSound task s → ListsOnce (Contains s.unrelaxed) ps
       → (b : SearchState) × Runs task s (map relaxing ps) b
@@ -398,3 +388,77 @@ module _ (task : Task) (is : IsTask task) where
           let all = lists_permute (IsArrival task.network s) b.candidates xs (arrivals_when_relaxed ps s b sound pairs relaxed) arrivals in
           record { relaxes = ps; each_relax = pairs; relaxed = b; relaxing_all = relaxed; merges = xs; each_merge = all; merging_all = merged },
     )
+
+-- ---- pieces by their numbers
+
+shifted : {X : Type 0} (f : ℕ → List X) (a n : ℕ) → flat_map f (range_with_len (a + 1) n) ≡ flat_map (λ i. f (suc i)) (range_with_len a n)
+shifted f a zero = refl
+shifted f a (suc n) = ap₂ ◌++◌ (ap f (add-one a)) (shifted f (a + 1) n)
+
+by_number : {X : Type 0} (pieces : List (List X)) → flat_map (λ i. get_or pieces i []) (range_with_len 0 (length pieces)) ≡ joined pieces
+by_number [] = refl
+by_number (p ∷ ps) = ap (λ rest. p ++ rest) (shifted (λ i. get_or (p ∷ ps) i []) 0 (length ps) ∙ by_number ps)
+
+-- what is done in pieces is all of the pieces, in some order
+done_permutes : (pieces : List (List Event)) (numbers : List ℕ) (events : List Event) → AreDoneInPieces pieces numbers events
+    → IsPermutation (joined pieces) events
+done_permutes pieces numbers events done =
+    let f = λ (i : ℕ). get_or pieces i [] in
+    subst (λ es. IsPermutation es events) (by_number pieces) (IsPermutation-trans (flat_map f (range_with_len 0 (length pieces))) (flat_map f numbers) events
+    (flat_in_any_order f (λ i. i < length pieces) (range_with_len 0 (length pieces)) numbers (range_once (length pieces)) done.drawn) done.done)
+
+-- ---- both halves
+
+-- the label that an event is about
+abbrev source : Event → Label
+source (take l) = l
+source (drop l) = l
+source (relax l k) = l
+source (merge x) = x
+
+module _ (s : SearchState) where
+  relax_of : (labels : List Label) (event : Event) → IsRelaxOf s labels event ↔ (Contains labels (source event) × IsRelaxing s event)
+  relax_of labels event = (to event, from event) where
+    to : (event : Event) → IsRelaxOf s labels event → Contains labels (source event) × IsRelaxing s event
+    to event (relaxes l k there pair) = (there, pair)
+
+    from : (event : Event) → Contains labels (source event) × IsRelaxing s event → IsRelaxOf s labels event
+    from (relax l k) h = relaxes l k h.0 h.1
+    from _ h = absurd h.1
+
+  relaxes_joined : (cut : List (List Label)) (pieces : List (List Event)) → AllPairs ◌≢◌ (joined cut)
+      → AllZip (λ labels events. ListsOnce (IsRelaxOf s labels) events) cut pieces
+      → ListsOnce (λ event. Contains (joined cut) (source event) × IsRelaxing s event) (joined pieces)
+  relaxes_joined [] [] apart zipped =
+      record { exact = λ event. (λ h. absurd (in_none event h), λ h. absurd (in_none (source event) h.0)); once = pairs_none ◌≢◌ }
+  relaxes_joined [] (p ∷ ps) apart zipped = absurd zipped
+  relaxes_joined (c ∷ cs) [] apart zipped = absurd zipped
+  relaxes_joined (c ∷ cs) (p ∷ ps) apart zipped =
+      let (apart_rest, across) = once_apart c (joined cs) apart in
+      lists_append (λ event. Contains c (source event) × IsRelaxing s event) (λ event. Contains (joined cs) (source event) × IsRelaxing s event)
+      (λ event. Contains (c ++ joined cs) (source event) × IsRelaxing s event) p (joined ps) (λ event. both (in_append c (joined cs) (source event)))
+      (λ event h k. across (source event) h.0 k.0) (once_as (IsRelaxOf s c) _ p (relax_of c) zipped.0) (relaxes_joined cs ps apart_rest zipped.1) where
+        both : {V C D H : Type 0} → (V ↔ (C ⊎ D)) → ((V × H) ↔ ((C × H) ⊎ (D × H)))
+        both g = grind arith
+
+  relaxes_done : (cut : List (List Label)) (pieces : List (List Event)) → AreRelaxPieces s cut pieces → ListsOnce (IsRelaxing s) (joined pieces)
+  relaxes_done cut pieces are = once_as (λ event. Contains (joined cut) (source event) × IsRelaxing s event) (IsRelaxing s) (joined pieces)
+      (λ event. (λ h. h.1, λ h. (from event h, h))) (relaxes_joined cut pieces are.apart are.events) where
+        from : (event : Event) → IsRelaxing s event → Contains (joined cut) (source event)
+        from (relax l k) pair = are.each l k pair
+        from _ wrong = absurd wrong
+
+merges_joined : (cut : List (List Label)) → joined (merges_of cut) ≡ map (λ x. merge x) (joined cut)
+merges_joined [] = refl
+merges_joined (c ∷ cs) = ap (λ rest. map (λ x. merge x) c ++ rest) (merges_joined cs) ∙ sym (map-append (λ x. merge x) c (joined cs))
+
+-- relaxes in pieces, and then merges in pieces
+pub pieces_complete : (net : Network) (s : SearchState) (labels arrivals : List (List Label)) (pieces : List (List Event)) (drawn drawn_next : List ℕ)
+    (first second : List Event) → AreRelaxPieces s labels pieces → AreDoneInPieces pieces drawn first
+    → AreMergePieces net s arrivals → AreDoneInPieces (merges_of arrivals) drawn_next second → Completes net s (first ++ second)
+pieces_complete net s labels arrivals pieces drawn drawn_next first second are done are_next done_next =
+    let merges = map (λ x. merge x) (joined arrivals) in
+    let moved = subst (λ es. IsPermutation es second) (merges_joined arrivals) (done_permutes (merges_of arrivals) drawn_next second done_next) in
+    completes_in_halves net s first second
+    (lists_in_any_order _ (joined pieces) first (done_permutes pieces drawn first done) (relaxes_done s labels pieces are))
+    (lists_in_any_order _ merges second moved (mergings net s (joined arrivals) are_next))

@@ -1,8 +1,7 @@
 -- Rounds: each state between rounds has one, all its rounds lead to one state, and a counted round settles some label. There is one number of
 -- counted rounds, each makes what waits heavier, and how many labels are settled says whether the query passes its budget.
-use Rattle.std.proofs.Common.{◌≡◌, ◌≢◌, ℕ, zero, suc, ◌+◌, ◌<◌, ◌≤◌, ◌⊎◌, ◌↔◌, List, [], ◌∷◌, ◌++◌, length, map, replicate, sum}
-use Rattle.std.proofs.Common.{inl, inr, refl, sym, ap, ap₂, subst, ◌∙◌, arith}
-use Rattle.std.specs.Prelude.{AllPairs, Contains}
+use Rattle.std.proofs.Common.{◌≡◌, ◌≢◌, ℕ, zero, suc, ◌+◌, ◌<◌, ◌≤◌, ◌⊎◌, ◌↔◌, List, [], ◌∷◌, ◌++◌, length, map, replicate, sum, inl, inr, refl, sym, ap, ap₂}
+use Rattle.std.proofs.Common.{subst, ◌∙◌, arith, AllPairs, Contains}
 use Rattle.std.proofs.lemmas.Bool.{cases_lt}
 use Rattle.std.proofs.lemmas.List.{length-map}
 use Rattle.std.proofs.lemmas.List.Elements.{All-map, All-weaker}
@@ -18,14 +17,11 @@ use Rattle.event_machine.specs.Machine.{Task, IsTask, Label, IsSamePair, SearchS
 use Rattle.event_machine.specs.Events.{Event, drop, take, merge, IsSame, MayDrop, Runs, IsReached}
 use Rattle.event_machine.specs.Rounds.{IsBetweenRounds, Begins, Finishes, Round, CountedRound, GoRounds, NoneStays, Rounds, relaxing}
 use Rattle.event_machine.specs.Orders.{Stays, IsNext, IsBegun, IsOutcome}
-use Rattle.event_machine.proofs.Sound.{IsSound, cases_label, same_pair}
+use Rattle.event_machine.proofs.Sound.{IsSound, cases_label, same_pair, grown_from_settled, all_settled}
 use Rattle.event_machine.proofs.Running.{same_itself, same_back, same_through, drop_alike, runs_on, runs_from_same, along_run}
-use Rattle.event_machine.proofs.Frontier.{grown_from_settled, all_settled}
-use Rattle.event_machine.proofs.Stepping.{changes_of}
-use Rattle.event_machine.proofs.Keeping.{sound_after, same_is_sound, sound_if_reached, settled_once}
+use Rattle.event_machine.proofs.Keeping.{changes_of, sound_after, same_is_sound, sound_if_reached, settled_once}
 use Rattle.bulk_rounds.proofs.BegunLaws.{told_may_drop, told_stays, told_better, all_drops, left_waiting, some_begun, begins_is_begun, one_begun}
-use Rattle.bulk_rounds.proofs.CompletesLaws.{some_outcome, finishes_is_outcome}
-use Rattle.bulk_rounds.proofs.CompletesLaws.{one_outcome}
+use Rattle.bulk_rounds.proofs.CompletesLaws.{some_outcome, finishes_is_outcome, one_outcome}
 
 module _ (task : Task) (is : IsTask task) where
   -- ---- a round is a run
@@ -73,15 +69,10 @@ module _ (task : Task) (is : IsTask task) where
   }
 
   abbrev begins_from_same : (a b t : SearchState) → IsSame a b → Begins task b t → Begins task a t
-  begins_from_same a b t same h = record {
-    drops = h.drops;
-    each_drop = once_as (MayDrop task b) (MayDrop task a) h.drops (λ l. (drop_alike task b a (same_back a b same) l, drop_alike task a b same l)) h.each_drop;
-    left = h.left;
-    dropping = runs_from_same task a b h.left (map (λ l. drop l) h.drops) (same_back a b same) h.dropping;
-    takes = h.takes;
-    each_take = h.each_take;
-    taking = h.taking;
-  }
+  begins_from_same a b t same h =
+      let all = once_as (MayDrop task b) (MayDrop task a) h.drops (λ l. (drop_alike task b a (same_back a b same) l, drop_alike task a b same l)) h.each_drop in
+      let run = runs_from_same task a b h.left (map (λ l. drop l) h.drops) (same_back a b same) h.dropping in
+      record { drops = h.drops; each_drop = all; left = h.left; dropping = run; takes = h.takes; each_take = h.each_take; taking = h.taking }
 
   abbrev round_from_same : (a b t : SearchState) → IsSame a b → IsBetweenRounds a → Round task b t → Round task a t
   round_from_same a b t same between h =
@@ -313,8 +304,7 @@ module _ (task : Task) (is : IsTask task) (budget : ℕ) where
       (rest.0, rest.1, omega (arith, rest.2))
 
   -- so many rounds take a label of no less a sum
-  pub bounded : (n : ℕ) → Rounds task budget n
-      → (v : ℕ) × (c : List ℕ) × IsRelevant task.network task.start task.target task.limit v c × (n ≤ sum c + 1)
+  pub bounded : (n : ℕ) → Rounds task budget n → (v : ℕ) × (c : List ℕ) × IsRelevant task.network task.start task.target task.limit v c × (n ≤ sum c + 1)
   bounded zero h =
       let start = start_is_relevant task.network task.start task.target task.limit is.start is.limit in
       (task.start, replicate task.network.criteria 0, start, omega arith)

@@ -1,9 +1,8 @@
 -- Runs: which states are the same, that runs go on from and to same states, and that runs follow one another.
-use Rattle.std.proofs.Common.{ℕ, ◌⊎◌, List, [], ◌∷◌, ◌++◌, ◌↔◌, inl, inr, arith}
+use Rattle.std.proofs.Common.{ℕ, ◌⊎◌, List, [], ◌∷◌, ◌++◌, ◌↔◌, arith, Contains}
 use Rattle.std.proofs.lemmas.List.Sorted.{IsPermutation-refl, IsPermutation-sym, IsPermutation-trans}
-use Rattle.event_machine.specs.Machine.{Task, Label, SearchState, settled, waiting, IsBeatenAtTarget}
-use Rattle.std.specs.Prelude.{Contains}
 use Rattle.cost_vector.specs.Costs.{Within}
+use Rattle.event_machine.specs.Machine.{Task, Label, SearchState, settled, waiting, IsBeatenAtTarget}
 use Rattle.event_machine.specs.Events.{Event, IsSame, MayDrop, Happens, Runs}
 
 -- ---- same states

@@ -33,6 +33,13 @@ told_both told told_too = grind arith
 pub told_either : {P Q : Type 0} → IsTold P → IsTold Q → IsTold (P ⊎ Q)
 told_either told told_too = grind arith
 
+-- what is so exactly where another thing is: the other way round, and through a third
+pub alike_back : {P Q : Type 0} → (P ↔ Q) → (Q ↔ P)
+alike_back same = (same.1, same.0)
+
+pub alike_through : {P Q R : Type 0} → (P ↔ Q) → (Q ↔ R) → (P ↔ R)
+alike_through first second = grind arith
+
 module _ {X : Type 0} where
   -- what a list contains that is made of others
   pub in_cons : (x : X) (xs : List X) (y : X) → Contains (x ∷ xs) y ↔ ((y ≡ x) ⊎ Contains xs y)

@@ -1,8 +1,10 @@
-pub mod Forms
 pub mod Kinds
+pub mod Rules
 pub mod Table
 pub mod Rest
+pub mod Files
 pub mod Grammar
+pub mod WeightForms
 pub mod Reader
 pub mod Sinks
 pub mod Steps

@@ -6,7 +6,7 @@ ghost use Rattle.gr_reader.specs.Rules.{number_of};
 use line_text::{Numeral, decimal, next_field};
 
 /// The least number of more than 32 bits. It stands for each of them.
-pub const PAST: u64 = 1 << 32;
+const PAST: u64 = 1 << 32;
 
 /// The fields of a text that has exactly three.
 pub fn three_fields(text: &[u8]) -> Option<(&[u8], &[u8], &[u8])>
@@ -22,7 +22,7 @@ pub fn three_fields(text: &[u8]) -> Option<(&[u8], &[u8], &[u8])>
     }
 }
 
-/// The number that a field writes. One of more than 32 bits is told as `PAST`.
+/// The number that a field writes. One of more than 32 bits is told as 2^32.
 pub fn number(field: &[u8]) -> Option<u64>
     ensures { result ≡ number_of field.now }
 {

@@ -7,7 +7,7 @@
 
 mod arc_sink;
 mod fault;
-pub mod fields;
+mod fields;
 mod grammar;
 pub mod laws;
 mod read;
@@ -17,6 +17,7 @@ mod weight_form;
 mod weights;
 
 pub use fault::{FileFault, FileLimits, LineKind};
+pub use fields::{number, three_fields};
 pub use grammar::Grammar;
 pub use read::{read_gr, read_into, read_records};
 pub use record_lines::RecordLines;

@@ -52,7 +52,8 @@ module _ {P R : Type 0} (rules : Rules P R) (total : ℕ) (front : List (List �
   forms = forms_of rules front
 
   -- with these forms behind those in front
-  state_is : (form : Option (Form P R)) → form_of rules (without_cr line) ≡ form → (known : Option P) (come : ℕ) → known ≡ problem_in (forms ++ cons_option form [])
+  state_is : (form : Option (Form P R)) → form_of rules (without_cr line) ≡ form → (known : Option P) (come : ℕ)
+      → known ≡ problem_in (forms ++ cons_option form [])
       → come ≡ count_by is_record (forms ++ cons_option form [])
       → a_state known come (length front + 1) (min (sum_by with_lf front) total + size_in total (min (sum_by with_lf front) total) line)
       ≡ state_behind rules total (front ++ line ∷ [])
@@ -61,7 +62,8 @@ module _ {P R : Type 0} (rules : Rules P R) (total : ℕ) (front : List (List �
       same_state sizes _ come _ _ _ _ _ (e ∙ ap problem_in (sym more)) (g ∙ ap (count_by is_record) (sym more)) (sym (length_push front line))
       (passed_more total (sum_by with_lf front) (length line) ∙ ap (λ n. min n total) (sym (sum_by_push with_lf front line)))
 
-  state_more : (form : Option (Form P R)) → form_of rules (without_cr line) ≡ form → option_and_then (form_kind rules (problem_in forms) (count_by is_record forms)) form ≡ None
+  state_more : (form : Option (Form P R)) → form_of rules (without_cr line) ≡ form
+      → option_and_then (form_kind rules (problem_in forms) (count_by is_record forms)) form ≡ None
       → with_form (past total (state_behind rules total front) line) form ≡ state_behind rules total (front ++ line ∷ [])
   state_more None f k = let same = sym (append-nil forms) in state_is None f _ _ (ap problem_in same) (ap (count_by is_record) same)
   state_more (Some (Problem problem)) f k =
@@ -99,6 +101,10 @@ one_first kind_of p q kind other here before there first =
     (cases_lt p q)
 
 module _ {P R : Type 0} (rules : Rules P R) (limits : FileLimits) (bytes : List ℕ) where
+  -- the state behind these first lines
+  abbrev behind : List (List ℕ) → State P
+  behind front = state_behind rules (length bytes) front
+
   -- no place before this one is faulty
   abbrev NoneBefore : ℕ → Type 0
   NoneBefore n = (i : ℕ) → i < n → kind_at rules limits bytes i ≡ None
@@ -108,27 +114,28 @@ module _ {P R : Type 0} (rules : Rules P R) (limits : FileLimits) (bytes : List 
   Says end = MatchOption end (NoneBefore (length (lines_of bytes) + 1)) (λ fault. FirstFault rules limits bytes fault.kind fault.line)
 
   kind_here : (front back : List (List ℕ)) → front ++ back ≡ lines_of bytes
-      → kind_at rules limits bytes (length front) ≡ kind_there rules limits (length bytes) (state_behind rules (length bytes) front) (slice_get back 0)
+      → kind_at rules limits bytes (length front) ≡ kind_there rules limits (length bytes) (behind front) (slice_get back 0)
   kind_here front back e = rw (← e, take_at front back (length front) refl, slice_get-front front back) refl
 
-  fault_here : (n : ℕ) (kind : LineKind) → n ≤ length (lines_of bytes) → NoneBefore n → kind_at rules limits bytes n ≡ Some kind → FirstFault rules limits bytes kind (n + 1)
+  fault_here : (n : ℕ) (kind : LineKind) → n ≤ length (lines_of bytes) → NoneBefore n → kind_at rules limits bytes n ≡ Some kind
+      → FirstFault rules limits bytes kind (n + 1)
   fault_here n kind within before here =
       let place : n + 1 - 1 ≡ n = omega arith in
       record { counted = omega arith; within = omega arith; faulty = ap (kind_at rules limits bytes) place ∙ here; first = λ i lt. before i (omega arith) }
 
   says_end : (front : List (List ℕ)) → front ++ [] ≡ lines_of bytes → NoneBefore (length front) → (kind : Option LineKind)
-      → end_kind rules (state_behind rules (length bytes) front) ≡ kind → Says (ends {R = R} (state_behind rules (length bytes) front) kind).end
+      → end_kind rules (behind front) ≡ kind → Says (ends {R = R} (behind front) kind).end
   says_end front e before kind k = by_kind kind (kind_here front [] e ∙ k) (ap length (sym e ∙ append-nil front)) where
     by_kind : (kind : Option LineKind) → kind_at rules limits bytes (length front) ≡ kind → length (lines_of bytes) ≡ length front
-        → Says (ends {R = R} (state_behind rules (length bytes) front) kind).end
+        → Says (ends {R = R} (behind front) kind).end
     by_kind None here last = rw last (below_more _ _ before here)
     by_kind (Some kind) here last = fault_here (length front) kind (omega arith) before here
 
   says_line : (front : List (List ℕ)) (line : List ℕ) (back : List (List ℕ)) → front ++ line ∷ back ≡ lines_of bytes → NoneBefore (length front)
-      → (NoneBefore (length front + 1) → Says (read_lines rules limits (length bytes) (state_behind rules (length bytes) (front ++ line ∷ [])) back).end)
-      → (kind : Option LineKind) → line_kind rules limits (length bytes) (state_behind rules (length bytes) front) line ≡ kind
-      → Says (line_told kind (past (length bytes) (state_behind rules (length bytes) front) line) (form_of rules (without_cr line))
-      (read_lines rules limits (length bytes) (with_form (past (length bytes) (state_behind rules (length bytes) front) line) (form_of rules (without_cr line))) back)).end
+      → (NoneBefore (length front + 1) → Says (read_lines rules limits (length bytes) (behind (front ++ line ∷ [])) back).end)
+      → (kind : Option LineKind) → line_kind rules limits (length bytes) (behind front) line ≡ kind
+      → Says (line_told kind (past (length bytes) (behind front) line) (form_of rules (without_cr line))
+      (read_lines rules limits (length bytes) (with_form (past (length bytes) (behind front) line) (form_of rules (without_cr line))) back)).end
   says_line front line back e before later (Some kind) k =
       let within : length front ≤ length (lines_of bytes) = omega (arith, ap length (sym e), length-append front (line ∷ back)) in
       fault_here (length front) kind within before (kind_here front (line ∷ back) e ∙ k)
@@ -137,17 +144,17 @@ module _ {P R : Type 0} (rules : Rules P R) (limits : FileLimits) (bytes : List 
       rw (
         state,
         with_line-end (form_of rules (without_cr line))
-            (read_lines rules limits (length bytes) (state_behind rules (length bytes) (front ++ line ∷ [])) back),
+            (read_lines rules limits (length bytes) (behind (front ++ line ∷ [])) back),
       )
       (later (below_more _ _ before (kind_here front (line ∷ back) e ∙ k)))
 
   says : (back front : List (List ℕ)) → front ++ back ≡ lines_of bytes → NoneBefore (length front)
-      → Says (read_lines rules limits (length bytes) (state_behind rules (length bytes) front) back).end
-  says [] front e before = says_end front e before (end_kind rules (state_behind rules (length bytes) front)) refl
+      → Says (read_lines rules limits (length bytes) (behind front) back).end
+  says [] front e before = says_end front e before (end_kind rules (behind front)) refl
   says (line ∷ back) front e before =
       says_line front line back e before
       (λ none. says back (front ++ line ∷ []) (append_assoc front (line ∷ []) back ∙ e) (subst NoneBefore (sym (length_push front line)) none))
-      (line_kind rules limits (length bytes) (state_behind rules (length bytes) front) line) refl
+      (line_kind rules limits (length bytes) (behind front) line) refl
 
   all_says : Says (read_rest rules limits at_start bytes).end
   all_says =

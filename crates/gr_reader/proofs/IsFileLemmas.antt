@@ -28,7 +28,7 @@ head_is form other forms others e = (cc, cc)
 
 module _ {P R : Type 0} (rules : Rules P R) where
   -- an accepted record was due and is in range
-  pub record_accepted : (known : P) (come : ℕ) (r : R) → form_kind rules (Some known) come (Record r) ≡ None
+  record_accepted : (known : P) (come : ℕ) (r : R) → form_kind rules (Some known) come (Record r) ≡ None
       → (come < rules.count known) × IsInRange rules known r
   record_accepted known come r e = by_tests (nat_le (rules.count known) come) refl e where
     by_tests : (full : Bool) → nat_le (rules.count known) come ≡ full
@@ -41,7 +41,7 @@ module _ {P R : Type 0} (rules : Rules P R) where
         (due, record { nodes = nodes.0; weight = (passed_test WeightRange _ (rules.has_weight r) nodes.1).0 })
 
   -- such a record is accepted
-  pub record_fits : (known : P) (come : ℕ) (r : R) → come < rules.count known → IsInRange rules known r → form_kind rules (Some known) come (Record r) ≡ None
+  record_fits : (known : P) (come : ℕ) (r : R) → come < rules.count known → IsInRange rules known r → form_kind rules (Some known) come (Record r) ≡ None
   record_fits known come r due fits =
       let more : nat_le (rules.count known) come ≡ false = grind (arith, nat_tests) in
       rw (more, fits.nodes, fits.weight) refl

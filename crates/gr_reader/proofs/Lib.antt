@@ -7,3 +7,4 @@ pub mod LawsLemmas
 pub mod TakesBytesLemmas
 pub mod HasComeLemmas
 pub mod ReadsIntoLemmas
+pub mod WeightLemmas

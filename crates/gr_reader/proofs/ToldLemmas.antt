@@ -10,7 +10,7 @@ use Rattle.line_text.specs.Reading.{Lines, TakesLine}
 use Rattle.line_text.proofs.LineLemmas.{first_lf-le, length-raw_line, lines_of-first}
 use Rattle.gr_reader.specs.declared.fault.FileLimits.{FileLimits}
 use Rattle.gr_reader.specs.declared.fault.LineKind.{LineKind}
-use Rattle.gr_reader.specs.Rules.{Form, Rules, form_of}
+use Rattle.gr_reader.specs.Rules.{Form, Rules, form_in, form_of}
 use Rattle.gr_reader.specs.Rules.Form.{Problem, Record, Malformed}
 use Rattle.gr_reader.specs.Table.{State, form_kind, limit_kind, line_kind, size_in}
 use Rattle.gr_reader.specs.Rest.{Told, past, with_form, line_told, read_lines, ends}
@@ -110,9 +110,9 @@ module _ {P R : Type 0} (rules : Rules P R) where
   -- ---- what the first line says that isn't ignored
 
   -- an accepted problem line gives the state behind it
-  told_problem : (lines : Lines) (problem : P) (more : List ℕ) → IsAccepted rules None 0 lines.text (Problem problem)
+  told_problem : (lines : Lines) (problem : P) (more : List ℕ) → IsAccepted rules None 0 (form_in rules lines.text) (Problem problem)
       → told_here rules lines more None 0 ≡ told_of rules lines (Some problem) 0 more
-  told_problem lines problem more accepted = rw (accepted.says, accepted.no_fault) refl
+  told_problem lines problem more accepted = rw (accepted.no_fault, accepted.form_is) refl
 
   -- Behind a problem line that stays.
   module _ (limits : FileLimits) (total : ℕ) (known : P) where
@@ -139,7 +139,7 @@ module _ {P R : Type 0} (rules : Rules P R) where
   -- What `begin` answers.
   module _ (old new : Lines) (rest : List ℕ) (after : Option (List ℕ)) where
     -- the problem line is accepted
-    pub begin_accepts : (problem : P) → FindsLine rules old new rest after → IsAccepted rules None 0 new.text (Problem problem)
+    pub begin_accepts : (problem : P) → FindsLine rules old new rest after → IsAccepted rules None 0 (form_in rules new.text) (Problem problem)
         → BeginsWithProblem rules new (told_of rules old None 0 rest) after problem
     begin_accepts problem found accepted =
         let same = found.told None 0 ∙ told_problem new problem found.more accepted in

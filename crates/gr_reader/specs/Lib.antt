@@ -4,6 +4,7 @@ pub mod Table
 pub mod Rest
 pub mod Files
 pub mod Grammar
+pub mod Capped
 pub mod WeightForms
 pub mod Reader
 pub mod Sinks

@@ -199,7 +199,8 @@ module _ {P R : Type 0} (rules : Rules P R) where
   IsSound IsOf limits bytes (Err fault) = IsFirstFault limits bytes fault
 
   -- Where the text is of a value, that is answered, and otherwise its first fault.
-  pub record IsComplete {A : Type 0} (IsOf : A → Type 0) (limits : FileLimits) (bytes : List ℕ) (result : Result A FileFault)
+  pub record IsComplete
+      {A : Type 0} (IsOf : A → Type 0) (limits : FileLimits) (bytes : List ℕ) (result : Result A FileFault)
       : Type 0 where
     pub accepts : (value : A) → IsOf value → Gives value result
     pub refuses : (kind : LineKind) (line : ℕ) → FirstFault rules limits bytes kind line → Refuses kind line result

@@ -1,5 +1,5 @@
 -- What the lines of a file say. Some are ignored, one is the problem line, and each other is a record.
-use Rattle.std.specs.Prelude.{ℕ, ◌^◌, ◌==◌, Bool, true, if◌then◌else◌, List, [], ◌∷◌, Option, Some, None, min, nat_eq}
+use Rattle.std.specs.Prelude.{ℕ, ◌==◌, Bool, true, if◌then◌else◌, List, [], ◌∷◌, Option, Some, None, nat_eq}
 use Rattle.std.specs.Prelude.{◌≡◌, slice_index}
 use Rattle.std.specs.Cmp.Lexicographic.{pointwise}
 use Rattle.line_text.specs.Fields.{fields_of}
@@ -28,9 +28,9 @@ pub record Rules (P R : Type 0) : Type 0 where
 abbrev pub is_word : List ℕ → List ℕ → Bool
 is_word field word = pointwise nat_eq field word
 
--- the number that a field of digits writes. One of more than 32 bits is out of every range: it counts as 2^32.
+-- the number that a field of digits writes, of any length
 abbrev pub number_of : List ℕ → Option ℕ
-number_of field = if is_digits field then Some (min (value_of field) (2 ^ 32)) else None
+number_of field = if is_digits field then Some (value_of field) else None
 
 -- the test that a line of these fields is blank or a comment: its first byte that isn't a blank is a `c`
 abbrev pub is_ignored : List (List ℕ) → Bool

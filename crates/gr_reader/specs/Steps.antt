@@ -5,7 +5,6 @@ use Rattle.line_text.specs.Lines.{lines_of}
 use Rattle.line_text.specs.Reading.{Lines, rest_of}
 use Rattle.gr_reader.specs.declared.fault.FileFault.{FileFault}
 use Rattle.gr_reader.specs.declared.fault.FileFault.TheVariants.{Line, Read, OutOfMemory}
-use Rattle.gr_reader.specs.declared.fault.LineKind.{LineKind}
 use Rattle.gr_reader.specs.Rules.{Form, Rules, form_in}
 use Rattle.gr_reader.specs.Table.{form_kind, lacking}
 use Rattle.gr_reader.specs.Rest.{Told, with_form, ends, line_told, read_lines}
@@ -57,11 +56,7 @@ module _ {P R : Type 0} (rules : Rules P R) where
   LineTells old new before after result =
       IfSome (rest_of old before) (λ rest. LineTold old new rest (rest_of new after) result)
 
-  -- a line says just this, and it has no fault
-  pub record IsAccepted (problem : Option P) (come : ℕ) (line : List ℕ) (form : Form P R) : Type 0 where
-    pub says : form_in rules line ≡ form
+  -- a line of this form has no fault, and it says just this
+  pub record IsAccepted (problem : Option P) (come : ℕ) (form accepted : Form P R) : Type 0 where
+    pub form_is : form ≡ accepted
     pub no_fault : form_kind rules problem come form ≡ None
-
-  -- the first fault of what a line says
-  abbrev pub fault_in : Option P → ℕ → List ℕ → Option LineKind
-  fault_in problem come line = form_kind rules problem come (form_in rules line)

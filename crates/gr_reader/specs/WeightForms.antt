@@ -6,6 +6,7 @@ use Rattle.gr_reader.specs.declared.fault.LineKind.TheVariants.{SizeRange, NodeR
 use Rattle.gr_reader.specs.declared.weights.Sizes.{Sizes}
 use Rattle.gr_reader.specs.declared.weight_form.Form.TheVariants as read
 use Rattle.gr_reader.specs.declared.weight_form.Form.{Form as ReadForm}
+use Rattle.gr_reader.specs.Capped.{capped_number, map_form}
 use Rattle.gr_reader.specs.Rules.{Form}
 use Rattle.gr_reader.specs.Rules.Form.{Problem, Record, Malformed}
 use Rattle.gr_reader.specs.Grammar.{is_node, weights}
@@ -20,6 +21,13 @@ as_form read.Malformed = Malformed
 abbrev pub or_malformed : Option ReadForm → Form Sizes ArcLine
 or_malformed None = Malformed
 or_malformed (Some form) = as_form form
+
+-- the form with its numbers capped
+abbrev pub capped : Form Sizes ArcLine → Form Sizes ArcLine
+capped form =
+    map_form (λ sizes. record { nodes = capped_number sizes.nodes; arcs = capped_number sizes.arcs })
+    (λ arc. record { tail = capped_number arc.tail; head = capped_number arc.head; weight = capped_number arc.weight })
+    form
 
 -- the fault of a problem line's numbers
 abbrev pub size_kind : ℕ → ℕ → Option LineKind

@@ -1,6 +1,8 @@
 //! Fields of lines, and the numbers that they write.
 ghost use Rattle.std.specs.Prelude.{◌≡◌, ◌≢◌, [], ◌∷◌, MatchOption, length};
+ghost use Rattle.std.specs.Option.{option_map};
 ghost use Rattle.line_text.specs.Fields.{fields_of};
+ghost use Rattle.gr_reader.specs.Capped.{capped_number};
 ghost use Rattle.gr_reader.specs.Rules.{number_of};
 
 use line_text::{Numeral, decimal, next_field};
@@ -24,7 +26,7 @@ pub fn three_fields(text: &[u8]) -> Option<(&[u8], &[u8], &[u8])>
 
 /// The number that a field writes. One of more than 32 bits is told as 2^32.
 pub fn number(field: &[u8]) -> Option<u64>
-    ensures { result ≡ number_of field.now }
+    ensures { result ≡ option_map capped_number (number_of field.now) }
 {
     match decimal(field, PAST - 1) {
         Numeral::NotDigits => None,

@@ -1,8 +1,9 @@
 //! What tells one kind of files from another.
-ghost use Rattle.std.specs.Prelude.{◌≡◌, ◌<◌, ℕ, None, Some, IfOk, IfErr, OnOk};
-ghost use Rattle.gr_reader.specs.Rules.{Rules, IsInRange};
+ghost use Rattle.std.specs.Prelude.{◌≡◌, true, None, Some, IfOk, IfErr};
+ghost use Rattle.gr_reader.specs.Rules.{Rules, form_in};
 ghost use Rattle.gr_reader.specs.Rules.Form.{Problem, Record};
-ghost use Rattle.gr_reader.specs.Steps.{IsAccepted, fault_in};
+ghost use Rattle.gr_reader.specs.Steps.{IsAccepted};
+ghost use Rattle.gr_reader.specs.Table.{form_kind};
 
 use crate::fault::LineKind;
 
@@ -24,14 +25,16 @@ pub trait Grammar {
 
     /// Reads the first line of a file.
     fn problem_in(line: &[u8]) -> Result<Self::Problem, LineKind>
-        ensures accepted { IfOk result
-            (λ problem. IsAccepted rules None 0 line.now (Problem problem)) }
-        ensures refused { IfErr result (λ kind. fault_in rules None 0 line.now ≡ Some kind) };
+        ensures accepted { IfOk result (λ problem.
+            IsAccepted rules None 0 (form_in rules line.now) (Problem problem)) }
+        ensures refused { IfErr result (λ kind.
+            form_kind rules None 0 (form_in rules line.now) ≡ Some kind) };
 
     /// Reads a line behind the problem line and so many records.
     fn record_in(line: &[u8], problem: &Self::Problem, come: u32) -> Result<Self::Record, LineKind>
-        ensures accepted { IfOk result
-            (λ r. IsAccepted rules (Some problem.now) come line.now (Record r)) }
-        ensures refused { IfErr result
-            (λ kind. fault_in rules (Some problem.now) come line.now ≡ Some kind) };
+        requires { rules.is_size problem.now ≡ true }
+        ensures accepted { IfOk result (λ r.
+            IsAccepted rules (Some problem.now) come (form_in rules line.now) (Record r)) }
+        ensures refused { IfErr result (λ kind.
+            form_kind rules (Some problem.now) come (form_in rules line.now) ≡ Some kind) };
 }

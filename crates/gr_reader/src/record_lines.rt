@@ -106,8 +106,9 @@ impl<G: Grammar> RecordLines<G> {
         ensures takes_no_memory { result ≢ Err FileFault.OutOfMemory }
 
         // Where the source tells its bytes, the answer is that of the file's text, and no byte is lost.
-        ensures tells { WhereRecords self.old.stage (λ problem come. RecordTells G.rules (Some problem)
-            come self.old.lines self.new.lines (S.state source.old) (S.state source.new) result) }
+        ensures tells { WhereRecords self.old.stage (λ problem come.
+            RecordTells G.rules (Some problem) come self.old.lines self.new.lines
+            (S.state source.old) (S.state source.new) result) }
         ensures takes { TakesBytes
             self.old.lines self.new.lines (S.state source.old) (S.state source.new) }
 

@@ -1,7 +1,7 @@
 ghost use Rattle.std.specs.Prelude.{◌≡◌, ◌∷◌};
 ghost use Rattle.line_text.specs.Fields.{fields_of};
 ghost use Rattle.gr_reader.specs.Grammar.{arc_from, problem_from, weights_form};
-ghost use Rattle.gr_reader.specs.WeightForms.{as_form, or_malformed};
+ghost use Rattle.gr_reader.specs.WeightForms.{as_form, capped, or_malformed};
 
 use crate::fields::{number, three_fields};
 use line_text::next_field;
@@ -16,7 +16,7 @@ pub(crate) enum Form {
 
 /// What a line says.
 pub(crate) fn form_of(line: &[u8]) -> Form
-    ensures { as_form result ≡ weights_form (fields_of line.now) }
+    ensures { as_form result ≡ capped (weights_form (fields_of line.now)) }
 {
     match next_field(line) {
         None => Form::Malformed,
@@ -26,7 +26,7 @@ pub(crate) fn form_of(line: &[u8]) -> Form
 
 /// What a line says whose first field is this word.
 fn form_behind(word: &[u8], rest: &[u8]) -> Option<Form>
-    ensures { or_malformed result ≡ weights_form (word.now ∷ fields_of rest.now) }
+    ensures { or_malformed result ≡ capped (weights_form (word.now ∷ fields_of rest.now)) }
 {
     if word == b"a".as_slice() {
         arc_behind(rest)
@@ -39,7 +39,7 @@ fn form_behind(word: &[u8], rest: &[u8]) -> Option<Form>
 
 /// The arc that three numbers say.
 fn arc_behind(text: &[u8]) -> Option<Form>
-    ensures { or_malformed result ≡ arc_from (fields_of text.now) }
+    ensures { or_malformed result ≡ capped (arc_from (fields_of text.now)) }
 {
     let (tail, head, weight) = three_fields(text)?;
     let tail = number(tail)?;
@@ -50,7 +50,7 @@ fn arc_behind(text: &[u8]) -> Option<Form>
 
 /// What the word `sp` and two numbers say of the file's size.
 fn problem_behind(text: &[u8]) -> Option<Form>
-    ensures { or_malformed result ≡ problem_from (fields_of text.now) }
+    ensures { or_malformed result ≡ capped (problem_from (fields_of text.now)) }
 {
     let (word, nodes, arcs) = three_fields(text)?;
     if word != b"sp".as_slice() {

@@ -1,8 +1,11 @@
 //! The weight files of the shortest path challenge.
-ghost use Rattle.std.specs.Prelude.{◌≡◌, IfOk};
+ghost use Rattle.std.specs.Prelude.{◌≡◌, None, Some, IfOk, IfErr};
 ghost use Rattle.std.specs.Result.{result_err};
 ghost use Rattle.gr_reader.specs.Grammar.{is_node, weights};
-ghost use Rattle.gr_reader.specs.WeightForms.{range_kind, size_kind};
+ghost use Rattle.gr_reader.specs.Rules.Form.{Problem, Record};
+ghost use Rattle.gr_reader.specs.Steps.{IsAccepted};
+ghost use Rattle.gr_reader.specs.Table.{form_kind};
+ghost use Rattle.gr_reader.specs.WeightForms.{as_form, range_kind, size_kind};
 
 use crate::fault::LineKind;
 use crate::grammar::Grammar;
@@ -32,20 +35,40 @@ impl Grammar for WeightFiles {
     }
 
     fn problem_in(line: &[u8]) -> Result<Sizes, LineKind> {
-        match form_of(line) {
-            Form::Malformed => Err(LineKind::BadLine),
-            Form::Arc { .. } => Err(LineKind::NoProblem),
-            Form::Problem { nodes, arcs } => sizes_of(nodes, arcs),
-        }
+        sizes_in(form_of(line))
     }
 
     fn record_in(line: &[u8], sizes: &Sizes, come: u32) -> Result<ArcLine, LineKind> {
-        match form_of(line) {
-            Form::Malformed => Err(LineKind::BadLine),
-            Form::Problem { .. } => Err(LineKind::SecondProblem),
-            Form::Arc { .. } if sizes.arcs <= come => Err(LineKind::CountWrong),
-            Form::Arc { tail, head, weight } => arc_of(sizes.nodes, tail, head, weight),
-        }
+        arc_in(form_of(line), *sizes, come)
+    }
+}
+
+/// The sizes in the first line.
+fn sizes_in(form: Form) -> Result<Sizes, LineKind>
+    ensures accepted { IfOk result
+        (λ sizes. IsAccepted weights None 0 (as_form form) (Problem sizes)) }
+    ensures refused { IfErr result
+        (λ kind. form_kind weights None 0 (as_form form) ≡ Some kind) }
+{
+    match form {
+        Form::Malformed => Err(LineKind::BadLine),
+        Form::Arc { .. } => Err(LineKind::NoProblem),
+        Form::Problem { nodes, arcs } => sizes_of(nodes, arcs),
+    }
+}
+
+/// The arc in a line behind the problem line and so many arcs.
+fn arc_in(form: Form, sizes: Sizes, come: u32) -> Result<ArcLine, LineKind>
+    ensures accepted { IfOk result
+        (λ arc. IsAccepted weights (Some sizes) come (as_form form) (Record arc)) }
+    ensures refused { IfErr result
+        (λ kind. form_kind weights (Some sizes) come (as_form form) ≡ Some kind) }
+{
+    match form {
+        Form::Malformed => Err(LineKind::BadLine),
+        Form::Problem { .. } => Err(LineKind::SecondProblem),
+        Form::Arc { .. } if sizes.arcs <= come => Err(LineKind::CountWrong),
+        Form::Arc { tail, head, weight } => arc_of(sizes.nodes, tail, head, weight),
     }
 }
 

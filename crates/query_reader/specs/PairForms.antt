@@ -2,6 +2,7 @@
 use Rattle.std.specs.Prelude.{ℕ, ◌&&◌, if◌then◌else◌, Option, Some, None}
 use Rattle.gr_reader.specs.declared.fault.LineKind.{LineKind}
 use Rattle.gr_reader.specs.declared.fault.LineKind.TheVariants.{SizeRange, NodeRange}
+use Rattle.gr_reader.specs.Capped.{capped_number, map_form}
 use Rattle.gr_reader.specs.Rules.{Form}
 use Rattle.gr_reader.specs.Rules.Form.{Problem, Record, Malformed}
 use Rattle.query_reader.specs.declared.pair_form.Form.TheVariants as read
@@ -19,6 +20,11 @@ as_form read.Malformed = Malformed
 abbrev pub or_malformed : Option ReadForm → Form ℕ Pair
 or_malformed None = Malformed
 or_malformed (Some form) = as_form form
+
+-- the form with its numbers capped
+abbrev pub capped : Form ℕ Pair → Form ℕ Pair
+capped form =
+    map_form capped_number (λ pair. record { from = capped_number pair.from; to = capped_number pair.to }) form
 
 -- the fault of a problem line's number
 abbrev pub size_kind : ℕ → Option LineKind

@@ -1,7 +1,7 @@
 ghost use Rattle.std.specs.Prelude.{◌≡◌, ◌≢◌, [], ◌∷◌, MatchOption, length};
 ghost use Rattle.line_text.specs.Fields.{fields_of};
 ghost use Rattle.query_reader.specs.Grammar.{pair_from, pairs_form, problem_from};
-ghost use Rattle.query_reader.specs.PairForms.{as_form, or_malformed};
+ghost use Rattle.query_reader.specs.PairForms.{as_form, capped, or_malformed};
 
 use gr_reader::{number, three_fields};
 use line_text::next_field;
@@ -16,7 +16,7 @@ pub(crate) enum Form {
 
 /// What a line says.
 pub(crate) fn form_of(line: &[u8]) -> Form
-    ensures { as_form result ≡ pairs_form (fields_of line.now) }
+    ensures { as_form result ≡ capped (pairs_form (fields_of line.now)) }
 {
     match next_field(line) {
         None => Form::Malformed,
@@ -26,7 +26,7 @@ pub(crate) fn form_of(line: &[u8]) -> Form
 
 /// What a line says whose first field is this word.
 fn form_behind(word: &[u8], rest: &[u8]) -> Option<Form>
-    ensures { or_malformed result ≡ pairs_form (word.now ∷ fields_of rest.now) }
+    ensures { or_malformed result ≡ capped (pairs_form (word.now ∷ fields_of rest.now)) }
 {
     if word == b"q".as_slice() {
         pair_behind(rest)
@@ -39,7 +39,7 @@ fn form_behind(word: &[u8], rest: &[u8]) -> Option<Form>
 
 /// The pair that two numbers say.
 fn pair_behind(text: &[u8]) -> Option<Form>
-    ensures { or_malformed result ≡ pair_from (fields_of text.now) }
+    ensures { or_malformed result ≡ capped (pair_from (fields_of text.now)) }
 {
     let (from, to) = two_fields(text)?;
     let from = number(from)?;
@@ -49,7 +49,7 @@ fn pair_behind(text: &[u8]) -> Option<Form>
 
 /// What the words `aux`, `sp` and `p2p` and a number say of the file's size.
 fn problem_behind(text: &[u8]) -> Option<Form>
-    ensures { or_malformed result ≡ problem_from (fields_of text.now) }
+    ensures { or_malformed result ≡ capped (problem_from (fields_of text.now)) }
 {
     let (aux, rest) = next_field(text)?;
     let (sp, p2p, count) = three_fields(rest)?;

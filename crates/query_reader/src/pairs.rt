@@ -1,7 +1,10 @@
-ghost use Rattle.std.specs.Prelude.{◌≡◌, IfOk};
+ghost use Rattle.std.specs.Prelude.{◌≡◌, None, Some, IfOk, IfErr};
 ghost use Rattle.std.specs.Result.{result_err};
+ghost use Rattle.gr_reader.specs.Rules.Form.{Problem, Record};
+ghost use Rattle.gr_reader.specs.Steps.{IsAccepted};
+ghost use Rattle.gr_reader.specs.Table.{form_kind};
 ghost use Rattle.query_reader.specs.Grammar.{may_be_node, pairs};
-ghost use Rattle.query_reader.specs.PairForms.{range_kind, size_kind};
+ghost use Rattle.query_reader.specs.PairForms.{as_form, range_kind, size_kind};
 
 use crate::pair_form::{Form, form_of};
 use gr_reader::{Grammar, LineKind};
@@ -31,20 +34,40 @@ impl Grammar for PairFiles {
     }
 
     fn problem_in(line: &[u8]) -> Result<u32, LineKind> {
-        match form_of(line) {
-            Form::Malformed => Err(LineKind::BadLine),
-            Form::Pair { .. } => Err(LineKind::NoProblem),
-            Form::Problem { count } => count_of(count),
-        }
+        count_in(form_of(line))
     }
 
     fn record_in(line: &[u8], problem: &u32, come: u32) -> Result<Pair, LineKind> {
-        match form_of(line) {
-            Form::Malformed => Err(LineKind::BadLine),
-            Form::Problem { .. } => Err(LineKind::SecondProblem),
-            Form::Pair { .. } if *problem <= come => Err(LineKind::CountWrong),
-            Form::Pair { from, to } => pair_of(from, to),
-        }
+        pair_in(form_of(line), *problem, come)
+    }
+}
+
+/// The number of pairs in the first line.
+fn count_in(form: Form) -> Result<u32, LineKind>
+    ensures accepted { IfOk result
+        (λ count. IsAccepted pairs None 0 (as_form form) (Problem count)) }
+    ensures refused { IfErr result
+        (λ kind. form_kind pairs None 0 (as_form form) ≡ Some kind) }
+{
+    match form {
+        Form::Malformed => Err(LineKind::BadLine),
+        Form::Pair { .. } => Err(LineKind::NoProblem),
+        Form::Problem { count } => count_of(count),
+    }
+}
+
+/// The pair in a line behind the problem line and so many pairs.
+fn pair_in(form: Form, count: u32, come: u32) -> Result<Pair, LineKind>
+    ensures accepted { IfOk result
+        (λ pair. IsAccepted pairs (Some count) come (as_form form) (Record pair)) }
+    ensures refused { IfErr result
+        (λ kind. form_kind pairs (Some count) come (as_form form) ≡ Some kind) }
+{
+    match form {
+        Form::Malformed => Err(LineKind::BadLine),
+        Form::Problem { .. } => Err(LineKind::SecondProblem),
+        Form::Pair { .. } if count <= come => Err(LineKind::CountWrong),
+        Form::Pair { from, to } => pair_of(from, to),
     }
 }
 

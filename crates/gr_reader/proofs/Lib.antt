@@ -8,3 +8,4 @@ pub mod TakesBytesLemmas
 pub mod HasComeLemmas
 pub mod ReadsIntoLemmas
 pub mod WeightLemmas
+pub mod MayTellLemmas

@@ -1,5 +1,5 @@
 -- What a reader of a file of records shows, and what its answers say.
-use Rattle.std.specs.Prelude.{◌≡◌, ◌≢◌, ℕ, ◌+◌, ◌^◌, ◌<◌, ◌≤◌, ⊤, IfSome, IsSomeAnd, Bool, true, false, List, [], length}
+use Rattle.std.specs.Prelude.{◌≡◌, ℕ, ◌+◌, ◌^◌, ◌<◌, ◌≤◌, ⊤, IfSome, IsSomeAnd, Bool, true, false, List, [], length}
 use Rattle.std.specs.Prelude.{Option, Some, None, Result, Ok, Err}
 use Rattle.route_io.specs.Sources.{SourceState}
 use Rattle.line_text.specs.declared.limits.LineLimits.{LineLimits}
@@ -8,6 +8,7 @@ use Rattle.gr_reader.specs.declared.fault.FileFault.{FileFault}
 use Rattle.gr_reader.specs.declared.fault.FileFault.TheVariants.{Line, Read, OutOfMemory}
 use Rattle.gr_reader.specs.declared.fault.FileLimits.{FileLimits}
 use Rattle.gr_reader.specs.declared.fault.LineKind.{LineKind}
+use Rattle.gr_reader.specs.declared.fault.LineKind.TheVariants.{WeightRange}
 use Rattle.gr_reader.specs.declared.record_lines.Stage.{Stage}
 use Rattle.gr_reader.specs.declared.record_lines.Stage.TheVariants.{Unread, Records, Whole, Failed}
 use Rattle.gr_reader.specs.Rules.{Rules, IsInRange}
@@ -104,13 +105,25 @@ Refuses kind line (Err Read) = ⊤
 Refuses kind line (Err OutOfMemory) = ⊤
 
 module _ {P R : Type 0} (rules : Rules P R) where
+  -- A reader may tell this fault: it takes no memory, and a weight is at fault only where one can be out of range.
+  abbrev pub MayTell : FileFault → Type 0
+  MayTell (Line WeightRange line) = (r : R) × (rules.has_weight r ≡ false)
+  MayTell (Line kind line) = ⊤
+  MayTell Read = ⊤
+  MayTell OutOfMemory = ⊥
+
+  -- the same of a call that takes memory
+  abbrev pub MayAnswer : FileFault → Type 0
+  MayAnswer OutOfMemory = ⊤
+  MayAnswer fault = MayTell fault
+
   -- what every reader keeps at a stage: at most all records have come, and the lines go on until the end
   abbrev pub IsStage : Lines → Stage P → Type 0
   IsStage lines Unread = lines.fault ≡ None
   IsStage lines (Records problem come) =
       (rules.is_size problem ≡ true) × (come ≤ rules.count problem) × (lines.fault ≡ None)
   IsStage lines Whole = ⊤
-  IsStage lines (Failed fault) = fault ≢ OutOfMemory
+  IsStage lines (Failed fault) = MayTell fault
 
   -- what every reader keeps
   pub record IsReader (lines : Lines) (stage : Stage P) : Type 0 where

@@ -1,8 +1,8 @@
-ghost use Rattle.std.specs.Prelude.{◌≡◌, ◌+◌, ◌≤◌, ◌^◌, IfSome};
+ghost use Rattle.std.specs.Prelude.{◌≡◌, ◌+◌, ◌≤◌, ◌^◌, IfErr, IfSome};
 ghost use Rattle.route_io.specs.Sources.{ReadsFrom};
 ghost use Rattle.line_text.specs.Reading.{max_line};
 ghost use Rattle.gr_reader.specs.Grammar.{IsGrFile, weights};
-ghost use Rattle.gr_reader.specs.Reader.{IsComplete, IsSound, ReadsWhole, TakesAtMost, file_failed};
+ghost use Rattle.gr_reader.specs.Reader.{IsComplete, IsSound, MayAnswer, ReadsWhole, TakesAtMost, file_failed};
 ghost use Rattle.gr_reader.specs.Sinks.{ReadsInto};
 
 use crate::arc_sink::OneFile;
@@ -88,6 +88,9 @@ pub fn read_records<G: Grammar, S: Source, K: RecordSink<G>>(
     // fault of a line is the first.
     ensures reads { ReadsWhole G.rules limits (S.state source.old).left
         (K.has_taken sink.old sink.new) result }
+
+    // What holds over every source.
+    ensures may { IfErr result (MayAnswer G.rules) }
 
     // Where the source tells its bytes, at most one byte past the limit is taken.
     ensures takes_at_most { TakesAtMost (limits.file + 1)

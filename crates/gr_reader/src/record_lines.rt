@@ -1,12 +1,12 @@
 //! The one loop over the lines of a file.
-ghost use Rattle.std.specs.Prelude.{◌≡◌, ◌≢◌, ◌≤◌, ◌<◌, ◌^◌, ◌+◌, true, None, Some, Ok, Err, IfOk, OnOk};
+ghost use Rattle.std.specs.Prelude.{◌≡◌, ◌≢◌, ◌≤◌, ◌^◌, ◌+◌, true, None, IfOk, IfErr, OnOk};
 ghost use Rattle.route_io.specs.Sources.{ReadsFrom};
 ghost use Rattle.line_text.specs.Fields.{fields_of};
 ghost use Rattle.line_text.specs.Reading.{max_line};
 ghost use Rattle.gr_reader.specs.Rules.{is_ignored};
 ghost use Rattle.gr_reader.specs.Steps.{LineTells};
-ghost use Rattle.gr_reader.specs.Reader.{BeginTells, IsEnded, IsNext, IsStage, Moves, RecordTells, TakesBytes};
-ghost use Rattle.gr_reader.specs.Reader.{WhereRecords, failed_at, file_failed, stage_begun, unread};
+ghost use Rattle.gr_reader.specs.Reader.{BeginTells, IsEnded, IsNext, IsStage, MayTell, Moves, RecordTells};
+ghost use Rattle.gr_reader.specs.Reader.{TakesBytes, WhereRecords, failed_at, file_failed, stage_begun, unread};
 
 use crate::fault::{FileFault, FileLimits, LineKind};
 use crate::grammar::Grammar;
@@ -71,7 +71,7 @@ impl<G: Grammar> RecordLines<G> {
 
         // What holds over every source.
         ensures range { IfOk result (λ problem. G.rules.is_size problem ≡ true) }
-        ensures takes_no_memory { result ≢ Err FileFault.OutOfMemory }
+        ensures may { IfErr result (MayTell G.rules) }
 
         // Where the source tells its bytes, the answer is that of the file's text, and no byte is lost.
         ensures tells { BeginTells G.rules
@@ -103,7 +103,7 @@ impl<G: Grammar> RecordLines<G> {
         ensures reads_nothing { IsEnded self.old.stage → source.new ≡ source.old }
 
         // What holds over every source.
-        ensures takes_no_memory { result ≢ Err FileFault.OutOfMemory }
+        ensures may { IfErr result (MayTell G.rules) }
 
         // Where the source tells its bytes, the answer is that of the file's text, and no byte is lost.
         ensures tells { WhereRecords self.old.stage (λ problem come.
@@ -157,7 +157,7 @@ fn read_problem<G: Grammar, S: Source>(
     // What holds over every source.
     ensures goes_on { OnOk result (lines.new.fault ≡ None) }
     ensures range { IfOk result (λ problem. G.rules.is_size problem ≡ true) }
-    ensures takes_no_memory { result ≢ Err FileFault.OutOfMemory }
+    ensures may { IfErr result (MayTell G.rules) }
 
     // The source's failures alone make a failed read.
     ensures source { ReadsFrom (S.state source.old) (S.state source.new) (file_failed result) }
@@ -191,7 +191,7 @@ fn read_record<G: Grammar, S: Source>(
     // What holds over every source.
     ensures goes_on { OnOk result (lines.new.fault ≡ None) }
     ensures next { IsNext G.rules problem.now come result }
-    ensures takes_no_memory { result ≢ Err FileFault.OutOfMemory }
+    ensures may { IfErr result (MayTell G.rules) }
 
     // The source's failures alone make a failed read.
     ensures source { ReadsFrom (S.state source.old) (S.state source.new) (file_failed result) }
@@ -221,7 +221,7 @@ fn next_line<G: Grammar, S: Source>(lines: &mut Lines, source: &mut S) -> Result
 
     // What holds over every source.
     ensures goes_on { OnOk result (lines.new.fault ≡ None) }
-    ensures takes_no_memory { result ≢ Err FileFault.OutOfMemory }
+    ensures may { IfErr result (MayTell G.rules) }
 
     // The source's failures alone make a failed read.
     ensures source { ReadsFrom (S.state source.old) (S.state source.new) (file_failed result) }

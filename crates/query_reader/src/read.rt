@@ -1,8 +1,8 @@
-ghost use Rattle.std.specs.Prelude.{◌≡◌, ◌+◌, ◌≤◌, ◌^◌, IfSome};
+ghost use Rattle.std.specs.Prelude.{◌≡◌, ◌+◌, ◌≤◌, ◌^◌, IfErr, IfSome};
 ghost use Rattle.route_io.specs.Sources.{ReadsFrom};
 ghost use Rattle.line_text.specs.Reading.{max_line};
 ghost use Rattle.gr_reader.specs.Reader.{IsComplete, IsSound, TakesAtMost, file_failed};
-ghost use Rattle.query_reader.specs.Answers.{listed};
+ghost use Rattle.query_reader.specs.Answers.{BlamesNoWeight, listed};
 ghost use Rattle.query_reader.specs.Grammar.{IsPairs, pairs};
 
 use crate::pair_list::PairList;
@@ -27,6 +27,9 @@ pub fn read_p2p<S: Source>(
         IsSound pairs (IsPairs limits bytes) limits bytes (listed result)) }
     ensures complete { IfSome (S.state source.old).left (λ bytes.
         IsComplete pairs (IsPairs limits bytes) limits bytes (listed result)) }
+
+    // Over every source a file of pairs has no weights that could be at fault.
+    ensures weights { IfErr result BlamesNoWeight }
 
     // Where the source tells its bytes, at most one byte past the limit is taken.
     ensures takes_at_most { TakesAtMost (limits.file + 1)

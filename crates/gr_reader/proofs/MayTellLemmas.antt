@@ -32,11 +32,4 @@ module _ {P R : Type 0} (rules : Rules P R) where
   pub may_tell-form : (known : Option P) (come : ℕ) (form : Form P R) (kind : LineKind) (line : ℕ) → form_kind rules known come form ≡ Some kind
       → MayTell rules (Line kind line)
   may_tell-form known come form WeightRange line e = weight_of known come form e
-  may_tell-form known come form BadLine line e = tt
-  may_tell-form known come form NoProblem line e = tt
-  may_tell-form known come form SecondProblem line e = tt
-  may_tell-form known come form SizeRange line e = tt
-  may_tell-form known come form NodeRange line e = tt
-  may_tell-form known come form CountWrong line e = tt
-  may_tell-form known come form LineTooLong line e = tt
-  may_tell-form known come form FileTooLong line e = tt
+  may_tell-form known come form kind line e = tt

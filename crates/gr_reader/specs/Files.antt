@@ -58,8 +58,8 @@ module _ {P R : Type 0} (rules : Rules P R) where
       kind_there limits (length bytes) (state_behind (length bytes) (take i (lines_of bytes)))
       (slice_get (lines_of bytes) i)
 
-  -- The line of this number, from 1, is the first faulty one, and this is the first fault that fits it. The place behind
-  -- the last line counts as a line.
+  -- The line of this number, from 1, is the first faulty one, and this is the first fault that fits it. The place
+  -- behind the last line counts as a line.
   pub record FirstFault (limits : FileLimits) (bytes : List ℕ) (kind : LineKind) (line : ℕ) : Type 0 where
     pub counted : 1 ≤ line
     pub within : line ≤ length (lines_of bytes) + 1

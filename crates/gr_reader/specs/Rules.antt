@@ -38,7 +38,7 @@ is_ignored [] = true
 is_ignored (word ∷ fields) = slice_index word 0 == 99
 
 module _ {P R : Type 0} (rules : Rules P R) where
-  -- what a line says that isn't ignored, its CR taken off
+  -- what a line without a CR at its end says, where it isn't ignored
   abbrev pub form_in : List ℕ → Form P R
   form_in line = rules.form_from (fields_of line)
 

@@ -48,7 +48,7 @@ pairs_form (word ∷ fields) =
 abbrev pub may_be_node : ℕ → Bool
 may_be_node v = nat_le 1 v && nat_lt v (2 ^ 32)
 
--- Files of pairs say how many pairs there are, and then each: where it starts, and where it leads. Nothing has a weight.
+-- Files of pairs say how many pairs there are, and then each: where it starts, and where it leads. None has a weight.
 abbrev pub pairs : Rules ℕ Pair
 pairs = record {
   form_from = pairs_form;

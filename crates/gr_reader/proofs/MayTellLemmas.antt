@@ -1,8 +1,8 @@
 -- Which faults may be told, over every source.
 use Rattle.std.proofs.Common.{◌≡◌, ℕ, false, true, not, Bool, cond, Option, Some, None, refl, nat_le}
 use Rattle.gr_reader.specs.declared.fault.LineKind.{LineKind}
-use Rattle.gr_reader.specs.declared.fault.LineKind.TheVariants.{BadLine, NoProblem, SecondProblem, SizeRange, NodeRange}
-use Rattle.gr_reader.specs.declared.fault.LineKind.TheVariants.{WeightRange, CountWrong, LineTooLong, FileTooLong}
+use Rattle.gr_reader.specs.declared.fault.LineKind.TheVariants.{SizeRange, NodeRange}
+use Rattle.gr_reader.specs.declared.fault.LineKind.TheVariants.{WeightRange, CountWrong}
 use Rattle.gr_reader.specs.declared.fault.FileFault.TheVariants.{Line}
 use Rattle.gr_reader.specs.Rules.{Form, Rules}
 use Rattle.gr_reader.specs.Rules.Form.{Problem, Record, Malformed}

@@ -346,7 +346,7 @@ module _ (task : Task) (is : IsTask task) (budget : ℕ) where
   pub bounded : (n : ℕ) → Rounds task budget n
       → (v : ℕ) × (c : List ℕ) × IsRelevant task.network task.start task.target task.limit v c × (n ≤ sum c + 1)
   bounded zero h =
-      let start = start_is_relevant task.network is.network task.start task.target task.limit is.start is.limit in
+      let start = start_is_relevant task.network task.start task.target task.limit is.start is.limit in
       (task.start, replicate task.network.criteria 0, start, omega arith)
   bounded (suc n) h =
       let found = heavy_end n 0 (start_state task) h.last reached_at_start (λ y there. omega arith) h.rounds in

@@ -18,7 +18,7 @@ fn shown_file(alloc: Global, file: &ArcFile) -> Result<String, AllocError> {
 }
 
 /// The kind's number and the line of a fault, `r` or `m`.
-fn shown_fault(alloc: Global, fault: FileFault) -> Result<String, AllocError> {
+pub(super) fn shown_fault(alloc: Global, fault: FileFault) -> Result<String, AllocError> {
     match fault {
         FileFault::Line { kind, line } => format!(in alloc; "{} at {line}", kind.number()),
         FileFault::Read => String::from_str(alloc, "r"),

@@ -1,0 +1,39 @@
+-- What readers find, and how a publication changes it.
+use Rattle.std.specs.Prelude.{ℕ, Bool, List, fold, slice_set}
+use Rattle.arc_graph.specs.declared.change.Change.{Change}
+use Rattle.arc_graph.specs.Graph.{Weights}
+use Rattle.arc_graph.specs.History.{History, with_changes}
+use Rattle.arc_graph.specs.Pages.{page_of}
+
+-- An epoch, with a number for each page of its weights, and the history that led to it, which the code keeps as a witness.
+pub record Published : Type 0 where
+  pub number : ℕ
+  pub closed : Bool
+  pub weights : Weights
+  pub pages : List ℕ
+  pub history : History
+
+-- one publication: the next epoch's number, whether the history is closed, the changes, and the whole history
+pub record Publication : Type 0 where
+  pub number : ℕ
+  pub closed : Bool
+  pub changes : List Change
+  pub history : History
+
+-- the page of the change's arc has this number
+abbrev pub with_page : ℕ → List ℕ → Change → List ℕ
+with_page number pages c = slice_set pages (page_of c.arc.0) number
+
+-- the pages of all changes have it
+abbrev pub with_pages : ℕ → List ℕ → List Change → List ℕ
+with_pages number pages cs = fold (with_page number) pages cs
+
+-- what readers find after a publication
+abbrev pub with_publication : Published → Publication → Published
+with_publication p q = record {
+  number = q.number;
+  closed = q.closed;
+  weights = with_changes p.weights q.changes;
+  pages = with_pages q.number p.pages q.changes;
+  history = q.history;
+}

@@ -52,11 +52,15 @@ sets_of h = filter_map changes_in h
 abbrev pub sets : History → ℕ
 sets h = length (sets_of h)
 
+-- the entry is Closed
+abbrev pub is_closed : HistoryEntry → Bool
+is_closed (Changes cs) = false
+is_closed Closed = true
+
 -- the last entry is Closed
 abbrev pub ends_closed : History → Bool
 ends_closed [] = false
-ends_closed (Changes cs ∷ []) = false
-ends_closed (Closed ∷ []) = true
+ends_closed (e ∷ []) = is_closed e
 ends_closed (e ∷ d ∷ rest) = ends_closed (d ∷ rest)
 
 -- Well formed for so many arcs and criteria: all changes are of these, and Closed stands only last.

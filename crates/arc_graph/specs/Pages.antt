@@ -1,5 +1,5 @@
 -- The arcs in pages: arcs are counted from 1, pages from 0.
-use Rattle.std.specs.Prelude.{◌≡◌, ◌≢◌, ℕ, ◌-◌, ◌/◌, ◌≤◌, length, slice_get}
+use Rattle.std.specs.Prelude.{◌≡◌, ◌≢◌, ℕ, ◌+◌, ◌-◌, ◌*◌, ◌/◌, List, ◌++◌, length, take, drop, slice_get, slice_range}
 use Rattle.std.specs.Int.{div_ceil}
 use Rattle.arc_graph.specs.Graph.{Weights}
 
@@ -17,7 +17,12 @@ pages_of arcs = div_ceil arcs page_size
 
 -- arc k stands on the page
 abbrev pub IsOnPage : ℕ → ℕ → Type 0
-IsOnPage page k = (1 ≤ k) × (page_of k ≡ page)
+IsOnPage page k = page_of k ≡ page
+
+-- a list with an element for each arc, where those of the page are taken from another such list
+abbrev pub with_page : {X : Type 0} → ℕ → List X → List X → List X
+with_page page from xs =
+    take (page * page_size) xs ++ (slice_range from (page * page_size) ((page + 1) * page_size) ++ drop ((page + 1) * page_size) xs)
 
 -- the arcs of the page have the same states in both
 abbrev pub AgreeOnPage : ℕ → Weights → Weights → Type 0

@@ -1,5 +1,5 @@
 -- How the states of the arcs lie in memory: four places each, all 0 for a shut arc.
-use Rattle.std.specs.Prelude.{◌≡◌, ℕ, ◌^◌, ◌<◌, ◌≤◌, Bool, List, ◌++◌, Option, Some, None, length, map, take, replicate, slice_index, All}
+use Rattle.std.specs.Prelude.{◌≡◌, ℕ, ◌^◌, ◌<◌, ◌≤◌, Bool, List, Option, Some, None, length, map, take, replicate, slice_index, All}
 use Rattle.std.specs.Prelude.{nat_eq, if◌then◌else◌}
 use Rattle.std.specs.Cmp.Lexicographic.{pointwise}
 use Rattle.cost_vector.specs.Costs.{max_criteria, min_criteria}
@@ -13,11 +13,6 @@ is_zero places = pointwise nat_eq places (replicate 4 0)
 abbrev pub state_in : ℕ → List ℕ → Option (List ℕ)
 state_in criteria places = if is_zero places then None else Some (take criteria places)
 
--- the four places of a state: a vector's weights and 0 past them, or only 0 where it is shut
-abbrev pub places_of : Option (List ℕ) → List ℕ
-places_of None = replicate 4 0
-places_of (Some w) = take 4 (w ++ replicate 4 0)
-
 -- the states of all arcs
 abbrev pub states_of : ℕ → List (List ℕ) → List (Option (List ℕ))
 states_of criteria vectors = map (state_in criteria) vectors
@@ -27,6 +22,11 @@ pub record IsStoredState (criteria : ℕ) (places : List ℕ) : Type 0 where
   pub four : length places ≡ 4
   pub small : All (λ x. x < 2 ^ 32) places
   pub filler : (i : ℕ) → criteria ≤ i → slice_index places i ≡ 0
+
+-- the places are those of the state
+pub record IsStoredAs (criteria : ℕ) (state : Option (List ℕ)) (places : List ℕ) : Type 0 where
+  pub stored : IsStoredState criteria places
+  pub state_is : state_in criteria places ≡ state
 
 -- the same for each arc
 pub record AreStoredStates (criteria : ℕ) (vectors : List (List ℕ)) : Type 0 where

@@ -1,9 +1,9 @@
-ghost use Rattle.std.specs.Prelude.{◌≡◌, ◌≤◌, ◌<◌, ◌-◌, ◌^◌, length, IfOk, IfSome, All};
+ghost use Rattle.std.specs.Prelude.{◌≡◌, ℕ, ◌≤◌, ◌<◌, ◌-◌, ◌*◌, ◌^◌, length, take, IfOk, IfSome, All};
 ghost use Rattle.road_network.specs.Network.{IsVector};
 ghost use Rattle.arc_graph.specs.Graph.{AreWeights, arc_state};
 ghost use Rattle.arc_graph.specs.History.{with_change};
-ghost use Rattle.arc_graph.specs.Pages.{CopiesPage, page_of, pages_of};
-ghost use Rattle.arc_graph.specs.Stored.{AreStoredStates, is_zero, places_of, states_of};
+ghost use Rattle.arc_graph.specs.Pages.{CopiesPage, page_of, page_size, pages_of, with_page};
+ghost use Rattle.arc_graph.specs.Stored.{AreStoredStates, IsStoredAs, IsStoredState, is_zero, states_of};
 
 use cost_vector::{ArcNo, OutOfMemory, Weight};
 use std::alloc::Global;
@@ -11,6 +11,9 @@ use std::marker::Model;
 
 /// The weights of one arc, in the order of the criteria; all are 0 where the arc is shut.
 pub(crate) type Places = [u32; 4];
+
+/// A shut arc's.
+const SHUT: Places = [0; 4];
 
 /// How many arcs stand on a page of `Weights`; the last page may have fewer.
 const PAGE_SIZE: usize = 4096;
@@ -103,9 +106,7 @@ impl Weights {
         requires there { page < pages_of (length self.old.states) }
         ensures { CopiesPage page other.now self.old self.new }
     {
-        let start = page * PAGE_SIZE;
-        let end = (start + PAGE_SIZE).min(self.vectors.len());
-        self.vectors[start..end].copy_from_slice(&other.vectors[start..end]);
+        copy_page_of(&other.vectors, &mut self.vectors, page);
     }
 
     /// The same weights again, in memory of their own.
@@ -120,15 +121,36 @@ impl Weights {
     }
 }
 
-/// A state as it lies in memory.
-fn places_of(w: Option<Weight>) -> Places
-    ensures { result ≡ places_of w }
+/// Takes over the elements of one page.
+fn copy_page_of(from: &[Places], to: &mut [Places], page: usize)
+    requires same { length from.now ≡ length to.old }
+    requires there { page * page_size < length to.old }
+    ensures { to.new ≡ with_page page from.now to.old }
 {
-    let mut places = [0; 4];
-    if let Some(weight) = w {
-        for (i, place) in places.iter_mut().enumerate().take(weight.count()) {
-            *place = weight.component(i);
-        }
+    let start = page * PAGE_SIZE;
+    let end = to.len().min(start + PAGE_SIZE);
+    to[start..end].copy_from_slice(&from[start..end]);
+}
+
+/// A state as it lies in memory.
+fn places_of(state: Option<Weight>) -> Places
+    ensures { (criteria : ℕ) → IfSome state (IsVector criteria)
+        → IsStoredAs criteria state result }
+{
+    match state {
+        None => SHUT,
+        Some(weight) => places_of_vector(&weight),
+    }
+}
+
+/// The weights of a vector, and 0 in the places past them.
+fn places_of_vector(weight: &Weight) -> Places
+    ensures stored { IsStoredState (length weight.now) result }
+    ensures vector { take (length weight.now) result ≡ weight.now }
+{
+    let mut places = SHUT;
+    for i in 0..weight.count() {
+        places[i] = weight.component(i);
     }
     places
 }
@@ -137,5 +159,5 @@ fn places_of(w: Option<Weight>) -> Places
 pub(crate) fn is_zero(places: &Places) -> bool
     ensures { result ≡ is_zero places.now }
 {
-    *places == [0; 4]
+    *places == SHUT
 }

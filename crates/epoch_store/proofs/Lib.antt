@@ -1,0 +1,6 @@
+pub mod PrefixLemmas
+pub mod ChronicleLemmas
+pub mod PageNumberLemmas
+pub mod EpochLemmas
+pub mod RuleLemmas
+pub mod OperatorLemmas

@@ -21,12 +21,12 @@ pub record Publication : Type 0 where
   pub history : History
 
 -- the page of the change's arc has this number
-abbrev pub with_page : ℕ → List ℕ → Change → List ℕ
-with_page number pages c = slice_set pages (page_of c.arc.0) number
+abbrev pub with_page_number : ℕ → List ℕ → Change → List ℕ
+with_page_number number pages c = slice_set pages (page_of c.arc.0) number
 
 -- the pages of all changes have it
-abbrev pub with_pages : ℕ → List ℕ → List Change → List ℕ
-with_pages number pages cs = fold (with_page number) pages cs
+abbrev pub with_page_numbers : ℕ → List ℕ → List Change → List ℕ
+with_page_numbers number pages cs = fold (with_page_number number) pages cs
 
 -- what readers find after a publication
 abbrev pub with_publication : Published → Publication → Published
@@ -34,6 +34,6 @@ with_publication p q = record {
   number = q.number;
   closed = q.closed;
   weights = with_changes p.weights q.changes;
-  pages = with_pages q.number p.pages q.changes;
+  pages = with_page_numbers q.number p.pages q.changes;
   history = q.history;
 }

@@ -1,5 +1,5 @@
 -- What always holds of what readers find: the rule under which the operator and the readers step.
-use Rattle.std.specs.Prelude.{◌≡◌, ℕ, ◌≤◌, ◌<◌, Bool, false, List, [], length, replicate, slice_index}
+use Rattle.std.specs.Prelude.{◌≡◌, ℕ, ◌≤◌, ◌<◌, Bool, false, List, [], ◌∷◌, length, replicate, slice_index}
 use mathlib.Core.Option.{some}
 use mathlib.Core.List.{IsPrefix}
 use lib.ListN.{get_elem?}
@@ -41,6 +41,12 @@ pub record Looks (o : Origin) (before : History) (p : Published) (after : Histor
 pub record Follows (o : Origin) (p : Published) (q : Publication) : Type 0 where
   pub begins : IsPrefix p.history q.history
   pub epoch : IsEpoch o p → IsEpoch o (with_publication p q)
+
+-- one publication waits to be shown, and follows what is published
+pub record AwaitsOne (o : Origin) (p : Published) (waiting : List Publication) : Type 0 where
+  pub publication : Publication
+  pub alone : waiting ≡ publication ∷ []
+  pub follows : Follows o p publication
 
 -- what is shown to a reader who has seen this history: its last epoch
 pub record IsShown (o : Origin) (seen : History) (n : ℕ) (is_closed : Bool) (w : Weights) : Type 0 where

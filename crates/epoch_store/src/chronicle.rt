@@ -1,7 +1,6 @@
 //! The chronicle of a store, a list of histories that stands in proofs alone. The code has the number of these histories, and
 //! witnesses, which say that a history was drawn up in the store. Two witnesses of one place in the list are of one history.
 ghost use Rattle.std.specs.Prelude.{◌≡◌, [], None, IsTrue, IfSome};
-ghost use Rattle.epoch_store.specs.Chronicle.{count_of};
 
 use crate::draft::Draft;
 use crate::history::History;
@@ -79,16 +78,14 @@ impl Chronicle {
     /// The chronicle of the store that has it, with the right to add to it.
     pub(crate) fn into_keeper<S: Store>(self) -> Keeper<S>
         requires { self ≡ S.origin.chronicle }
-        ensures { result.last ≡ [] }
+        ensures { result ≡ [] }
     {
         let Chronicle { count, seen } = self;
         Keeper {
             count,
-            last: Witness {
-                place: 0,
-                seen,
-                of: PhantomData,
-            },
+            place: 0,
+            seen,
+            of: PhantomData,
         }
     }
 }
@@ -135,23 +132,49 @@ impl<S: Store> Witness<S> {
     }
 }
 
-/// The right to add histories to the chronicle of a store.
+/// The right to add histories to the chronicle of a store. Contracts see the one that was added last.
 #[derive(Drop)]
 pub(crate) struct Keeper<S: Store> {
     count: Word<History, u64, Counted>,
-    pub(crate) last: Witness<S>,
-    ghost count_is: { count ≡ count_of S.origin.chronicle },
+    place: u64,
+    seen: Seen<History, u64, Counted>,
+    of: PhantomData<S>,
+}
+
+impl<S: Store> Model for Keeper<S> {
+    ghost use Rattle.std.specs.Prelude.{◌≡◌, length};
+    ghost use Rattle.arc_graph.specs.History.{History};
+    ghost use Rattle.epoch_store.specs.Chronicle.{count_of, latest};
+
+    ghost Value = { History };
+
+    ghost view = { λ k. latest k.seen.log };
+
+    ghost invariant = { λ k. (k.place ≡ length k.seen.log)
+        × (k.seen.book ≡ S.origin.chronicle)
+        × (k.count ≡ count_of S.origin.chronicle) };
 }
 
 impl<S: Store> Keeper<S> {
+    /// A witness of the history that was added last.
+    pub(crate) fn last(&self) -> Witness<S>
+        ensures { result ≡ self.now }
+    {
+        Witness {
+            place: self.place,
+            seen: self.seen.again(),
+            of: PhantomData,
+        }
+    }
+
     /// Adds the history that the draft leads to. It doesn't where the count has reached its end.
     pub(crate) fn add<M: Plain<Draft, History, u64>>(&mut self, draft: &Draft) -> Option<Witness<S>>
         requires { M.state draft.now ≡ None }
         ensures { IfSome result (λ w. w ≡ M.ask draft.now) }
     {
-        let place = self.last.place;
+        let place = self.place;
         let next = place.checked_add(1)?;
-        let mut seen = self.last.seen.again();
+        let mut seen = self.seen.again();
         let mut offer: Offer<History, u64, Counted, Nothing> = seen.plain::<Nothing, Draft, M>(draft);
         let mut pen = seen.no_pen();
         let found = self.count.compare_exchange::<Add, Nothing>(
@@ -164,11 +187,8 @@ impl<S: Store> Keeper<S> {
         if found != place {
             return None;
         }
-        self.last = Witness {
-            place: next,
-            seen,
-            of: PhantomData,
-        };
-        Some(self.last.again())
+        self.place = next;
+        self.seen = seen;
+        Some(self.last())
     }
 }

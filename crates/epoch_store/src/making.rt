@@ -32,11 +32,12 @@ pub fn make<S: Store>(
     ensures unread { IfOk result (λ r. All (λ h. h ≡ []) r.1.items) }
 {
     let keeper = chronicle.into_keeper::<S>();
-    let shown = snapshots(alloc, first, &weights, &keeper.last, readers)?;
-    let second = opening(alloc, first, weights.try_copy()?, &keeper.last)?;
+    let history = keeper.last();
+    let shown = snapshots(alloc, first, &weights, &history, readers)?;
+    let second = opening(alloc, first, weights.try_copy()?, &history)?;
     let writer = StoreWriter::new(
         alloc,
-        opening(alloc, first, weights, &keeper.last)?,
+        opening(alloc, first, weights, &history)?,
         second,
         readers as usize,
     )?;

@@ -1,5 +1,5 @@
 //! The operator of a store.
-ghost use Rattle.std.specs.Prelude.{◌≡◌, ◌<◌, [], ◌∷◌, ◌++◌, ◌↔◌, true, false, Some, None, length, drop, vec_len, vec_capacity, All, IsTrue, IsOk, IfOk, IfErr, OnOk, OnErr};
+ghost use Rattle.std.specs.Prelude.{◌≡◌, ◌<◌, [], ◌∷◌, ◌++◌, ◌↔◌, true, false, Some, None, length, drop, fold, vec_len, vec_capacity, All, IsTrue, IsOk, IfOk, IfErr, OnOk, OnErr};
 ghost use Rattle.arc_graph.specs.History.{IsChange, closed_history, max_pending, sets_of, with_none_pending, with_pending, with_published};
 ghost use Rattle.arc_graph.specs.History.HistoryEntry.{Changes, Closed};
 ghost use mathlib.Core.List.{IsPrefix};
@@ -7,7 +7,7 @@ ghost use Rattle.epoch_store.specs.Chronicle.{of_sets};
 ghost use Rattle.epoch_store.specs.Faults.{HasPublishFault, HasRoom, HasSetFault, HasShutFault, IsArc, MayPublish, MaySet, MayShut};
 ghost use Rattle.epoch_store.specs.Origin.{IsOperatorIn, arcs_of, criteria_of, last_number};
 ghost use Rattle.epoch_store.specs.Published.{with_publication};
-ghost use Rattle.epoch_store.specs.Standing.{Follows};
+ghost use Rattle.epoch_store.specs.Standing.{AwaitsOne, Follows};
 
 use crate::chronicle::Keeper;
 use crate::draft::{ChangeSet, Closing, Draft, Publishing};
@@ -35,6 +35,7 @@ where
     Published<S>: Absorb<Publication<S>, State = Published<S>>,
 {
     alloc: Global,
+    first: u32,
     number: u32,
     draft: Draft,
     keeper: Keeper<S>,
@@ -56,6 +57,7 @@ where
 
     ghost invariant = { λ o. IsOperatorIn S.origin
             (record { published = of_sets o.draft.sets.items; pending = o.draft.pending.items })
+        × (o.first ≡ S.origin.first)
         × (o.number ≡ last_number S.origin (of_sets o.draft.sets.items))
         × (o.writer.desk.shown.value.history ≡ of_sets o.draft.sets.items)
         × (drop o.writer.behind o.writer.log.items ≡ []) };
@@ -91,11 +93,11 @@ impl<S: Store> Operator<S> {
     /// An operator that has published nothing.
     pub(crate) fn new(
         alloc: Global,
-        number: u32,
+        first: u32,
         keeper: Keeper<S>,
         writer: StoreWriter<S>,
     ) -> Operator<S>
-        requires number { number ≡ S.origin.first }
+        requires first { first ≡ S.origin.first }
         requires shown { writer.desk.shown.value.history ≡ [] }
         requires idle { drop writer.behind writer.log.items ≡ [] }
         ensures { result ≡ record { published = []; pending = [] } }
@@ -106,7 +108,8 @@ impl<S: Store> Operator<S> {
         };
         Operator {
             alloc,
-            number,
+            first,
+            number: first,
             draft,
             keeper,
             writer,
@@ -117,7 +120,7 @@ impl<S: Store> Operator<S> {
     pub fn first(&self) -> u32
         ensures { result ≡ S.origin.first }
     {
-        self.number - self.draft.sets.len() as u32
+        self.first
     }
 
     /// The number of the current epoch.
@@ -153,6 +156,7 @@ impl<S: Store> Operator<S> {
         if !self.has_room() {
             return Err(SetFault::Full);
         }
+        let _count = w.count(); // a proof knows the range of what is counted
         let change = Change {
             arc: ArcNo(arc),
             weight: Some(w),
@@ -197,7 +201,10 @@ impl<S: Store> Operator<S> {
         ensures fault { IfErr result (HasPublishFault S.origin self.old) }
         ensures unchanged { OnErr result (self.new ≡ self.old) }
     {
-        let number = self.number.checked_add(1).ok_or(PublishFault::LastEpoch)?;
+        if self.number == u32::MAX {
+            return Err(PublishFault::LastEpoch);
+        }
+        let number = self.number + 1;
         self.draft.sets.reserve(1).map_err(|_| OutOfMemory)?;
         let publication = next_epoch(self.alloc, number, &self.draft, &mut self.keeper)?;
         hand_over(rt, &mut self.writer, publication)?;
@@ -223,6 +230,7 @@ impl<S: Store> Operator<S> {
     {
         let Operator {
             alloc,
+            first,
             number,
             draft,
             mut keeper,
@@ -235,6 +243,7 @@ impl<S: Store> Operator<S> {
         }
         let operator = Operator {
             alloc,
+            first,
             number,
             draft,
             keeper,
@@ -336,8 +345,23 @@ fn hand_over<S: Store, R: Wait>(
         ≡ writer.old.desk.shown.value) }
     ensures idle { drop writer.new.behind writer.new.log.items ≡ [] }
 {
-    if writer.append(publication).is_err() {
-        return Err(OutOfMemory);
+    match writer.append(publication) {
+        Ok(()) => {
+            replace_with(writer, rt, show::<S, R>);
+            Ok(())
+        }
+        Err(_) => Err(OutOfMemory),
     }
-    replace_with(writer, rt, |writer, rt| writer.publish_as::<Look<S>, R>(rt)).map_err(|_| OutOfMemory)
+}
+
+/// Shows the one publication that waits to the readers.
+fn show<S: Store, R: Wait>(writer: StoreWriter<S>, rt: &R) -> (StoreWriter<S>, ())
+    requires { AwaitsOne S.origin writer.desk.shown.value (drop writer.behind writer.log.items) }
+    ensures shown { result.0.desk.shown.value ≡ fold with_publication
+        writer.desk.shown.value (drop writer.behind writer.log.items) }
+    ensures idle { drop result.0.behind result.0.log.items ≡ [] }
+{
+    let (writer, shown) = writer.publish_as::<Look<S>, R>(rt);
+    prove!(shown.is_ok());
+    (writer, ())
 }

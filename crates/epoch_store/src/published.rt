@@ -2,7 +2,7 @@
 ghost use Rattle.std.specs.Prelude.{◌≡◌, ◌<◌, length};
 ghost use Rattle.arc_graph.specs.History.{IsChange, with_changes};
 ghost use Rattle.epoch_store.specs.Origin.{arcs_of, criteria_of};
-ghost use Rattle.epoch_store.specs.Published.{with_pages, with_publication};
+ghost use Rattle.epoch_store.specs.Published.{with_page_numbers, with_publication};
 
 use crate::chronicle::Witness;
 use crate::store::Store;

@@ -1,10 +1,8 @@
 -- The chronicle of a store: a list, in proofs alone, of the histories that its operator drew up. A history that wasn't
 -- published in the end, for want of memory, stands in it too.
-use Rattle.std.specs.Prelude.{◌≡◌, ℕ, ◌==◌, true, List, [], ◌∷◌, ◌++◌, length, MatchBool, fold, map}
+use Rattle.std.specs.Prelude.{◌≡◌, ℕ, ◌==◌, true, List, [], ◌∷◌, ◌++◌, length, MatchBool, fold}
 use Rattle.logbook.specs.Pages.{Book, Cell, Named, Step, View}
-use Rattle.arc_graph.specs.declared.change.Change.{Change}
 use Rattle.arc_graph.specs.History.{History}
-use Rattle.arc_graph.specs.History.HistoryEntry.{Changes}
 
 -- the history that was drawn up last, or the empty one
 abbrev pub latest : List History → History
@@ -21,7 +19,3 @@ count_of b = record { tracked = true; key = 0; book = b }
 -- where the number found is the one expected, the history was added to those that were seen
 abbrev pub Adds : Step History → View History ℕ → ℕ → View History ℕ → Type 0
 Adds s v found w = MatchBool (found == s.old) (w.0 ≡ v.0 ++ s.ask ∷ []) (Unit {0})
-
--- the history of an open store with these change sets
-abbrev pub of_sets : List (List Change) → History
-of_sets css = map Changes css

@@ -57,7 +57,7 @@ pub(crate) struct Publishing;
 impl Plain<Draft, History, u64> for Publishing {
     ghost use Rattle.std.specs.Prelude.{None, [], ◌∷◌, ◌++◌};
     ghost use Rattle.arc_graph.specs.History.HistoryEntry.{Changes};
-    ghost use Rattle.epoch_store.specs.Chronicle.{of_sets};
+    ghost use Rattle.epoch_store.specs.Published.{of_sets};
 
     ghost ask = { λ d. of_sets d.sets.items ++ Changes d.pending.items ∷ [] };
 
@@ -70,7 +70,7 @@ pub(crate) struct Closing;
 impl Plain<Draft, History, u64> for Closing {
     ghost use Rattle.std.specs.Prelude.{None, [], ◌∷◌, ◌++◌};
     ghost use Rattle.arc_graph.specs.History.HistoryEntry.{Closed};
-    ghost use Rattle.epoch_store.specs.Chronicle.{of_sets};
+    ghost use Rattle.epoch_store.specs.Published.{of_sets};
 
     ghost ask = { λ d. of_sets d.sets.items ++ Closed ∷ [] };
 

@@ -1,12 +1,11 @@
 //! The operator of a store.
-ghost use Rattle.std.specs.Prelude.{◌≡◌, ◌<◌, [], ◌∷◌, ◌++◌, ◌↔◌, true, false, Some, None, length, drop, fold, vec_len, vec_capacity, All, IsTrue, IsOk, IfOk, IfErr, OnOk, OnErr};
+ghost use Rattle.std.specs.Prelude.{◌≡◌, ◌<◌, [], ◌∷◌, ◌++◌, ◌↔◌, Some, None, length, drop, fold, vec_len, vec_capacity, All, IsTrue, IsOk, IfOk, IfErr, OnOk, OnErr};
 ghost use Rattle.arc_graph.specs.History.{IsChange, closed_history, max_pending, sets_of, with_none_pending, with_pending, with_published};
-ghost use Rattle.arc_graph.specs.History.HistoryEntry.{Changes, Closed};
+ghost use Rattle.arc_graph.specs.History.HistoryEntry.{Closed};
 ghost use mathlib.Core.List.{IsPrefix};
-ghost use Rattle.epoch_store.specs.Chronicle.{of_sets};
 ghost use Rattle.epoch_store.specs.Faults.{HasPublishFault, HasRoom, HasSetFault, HasShutFault, IsArc, MayPublish, MaySet, MayShut};
 ghost use Rattle.epoch_store.specs.Origin.{IsOperatorIn, arcs_of, criteria_of, last_number};
-ghost use Rattle.epoch_store.specs.Published.{with_publication};
+ghost use Rattle.epoch_store.specs.Published.{closing_of, epoch_of, of_sets, with_publication};
 ghost use Rattle.epoch_store.specs.Standing.{AwaitsOne, Follows};
 
 use crate::chronicle::Keeper;
@@ -48,7 +47,7 @@ where
 {
     ghost use Rattle.std.specs.Prelude.{◌≡◌, [], drop};
     ghost use Rattle.arc_graph.specs.History.{Operator};
-    ghost use Rattle.epoch_store.specs.Chronicle.{of_sets};
+    ghost use Rattle.epoch_store.specs.Published.{of_sets};
     ghost use Rattle.epoch_store.specs.Origin.{IsOperatorIn, last_number};
 
     ghost Value = { Operator };
@@ -236,20 +235,19 @@ impl<S: Store> Operator<S> {
             mut keeper,
             mut writer,
         } = self;
-        let closed = closing(alloc, number, &draft, &mut keeper)
-            .and_then(|publication| hand_over(rt, &mut writer, publication));
-        if closed.is_ok() {
-            return Ok(Ended { writer });
+        match end_history(rt, alloc, number, &draft, &mut keeper, &mut writer) {
+            Ok(()) => Ok(Ended { writer }),
+            Err(_) => Err(CloseRefused {
+                operator: Operator {
+                    alloc,
+                    first,
+                    number,
+                    draft,
+                    keeper,
+                    writer,
+                },
+            }),
         }
-        let operator = Operator {
-            alloc,
-            first,
-            number,
-            draft,
-            keeper,
-            writer,
-        };
-        Err(CloseRefused { operator })
     }
 
     fn has_arc(&self, arc: u32) -> bool
@@ -291,12 +289,8 @@ fn next_epoch<S: Store>(
     keeper: &mut Keeper<S>,
 ) -> Result<Publication<S>, OutOfMemory>
     requires { All (IsChange (arcs_of S.origin) (criteria_of S.origin)) draft.now.pending.items }
-    ensures { IfOk result (λ q. q ≡ record {
-        number = number;
-        closed = false;
-        changes = draft.now.pending.items;
-        history = of_sets draft.now.sets.items ++ Changes draft.now.pending.items ∷ [];
-    }) }
+    ensures { IfOk result (λ q. q
+        ≡ epoch_of number draft.now.sets.items draft.now.pending.items) }
 {
     let changes = Vec::from_slice(alloc, &draft.pending)?;
     let history = keeper.add::<Publishing>(draft).ok_or(OutOfMemory)?;
@@ -308,27 +302,32 @@ fn next_epoch<S: Store>(
     })
 }
 
-/// The publication that ends the history.
-fn closing<S: Store>(
+/// Hands over to the readers that the history has ended. Nothing changes where there is no memory for it.
+fn end_history<S: Store, R: Wait>(
+    rt: &R,
     alloc: Global,
     number: u32,
     draft: &Draft,
     keeper: &mut Keeper<S>,
-) -> Result<Publication<S>, OutOfMemory>
-    ensures { IfOk result (λ q. q ≡ record {
-        number = number;
-        closed = true;
-        changes = [];
-        history = of_sets draft.now.sets.items ++ Closed ∷ [];
-    }) }
+    writer: &mut StoreWriter<S>,
+) -> Result<(), OutOfMemory>
+    requires idle { drop writer.old.behind writer.old.log.items ≡ [] }
+    requires follows { Follows S.origin writer.old.desk.shown.value
+        (closing_of number draft.now.sets.items) }
+    ensures shown { OnOk result (writer.new.desk.shown.value.history
+        ≡ of_sets draft.now.sets.items ++ Closed ∷ []) }
+    ensures unchanged { OnErr result (writer.new.desk.shown.value
+        ≡ writer.old.desk.shown.value) }
+    ensures idle { drop writer.new.behind writer.new.log.items ≡ [] }
 {
     let history = keeper.add::<Closing>(draft).ok_or(OutOfMemory)?;
-    Ok(Publication {
+    let publication = Publication {
         number,
         closed: true,
         changes: Vec::new(alloc),
         history,
-    })
+    };
+    hand_over(rt, writer, publication)
 }
 
 /// Hands a publication over to the readers. Nothing changes where there is no memory for it.

@@ -1,6 +1,6 @@
 use Rattle.std.proofs.Common.{List, subst, sym}
 use Rattle.arc_graph.specs.declared.change.Change.{Change}
-use Rattle.epoch_store.specs.Chronicle.{of_sets}
+use Rattle.epoch_store.specs.Published.{of_sets}
 use Rattle.epoch_store.specs.Faults.{HasRoom}
 use Rattle.epoch_store.specs.Origin.{IsOperatorIn}
 use Rattle.epoch_store.proofs.OperatorLemmas.{one_more_pending}

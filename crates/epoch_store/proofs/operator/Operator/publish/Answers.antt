@@ -3,7 +3,7 @@ use Rattle.std.proofs.lemmas.Bool.Decides.{nat_tests}
 use Rattle.arc_graph.specs.declared.change.Change.{Change}
 use Rattle.arc_graph.specs.History.{History, max_epoch}
 use Rattle.arc_graph.specs.History.HistoryEntry.{Changes}
-use Rattle.epoch_store.specs.Chronicle.{of_sets}
+use Rattle.epoch_store.specs.Published.{of_sets}
 use Rattle.epoch_store.specs.Origin.{last_number}
 use Rattle.epoch_store.specs.Published.{Publication}
 use Rattle.epoch_store.specs.Standing.{Follows}

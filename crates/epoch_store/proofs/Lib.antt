@@ -4,3 +4,4 @@ pub mod PageNumberLemmas
 pub mod EpochLemmas
 pub mod RuleLemmas
 pub mod OperatorLemmas
+pub mod ShownLemmas

@@ -5,7 +5,7 @@ use mathlib.Core.List.{IsPrefix}
 use lib.ListN.{get_elem?}
 use Rattle.arc_graph.specs.History.{History, LeavePage, ends_closed, number_after, sets}
 use Rattle.arc_graph.specs.Graph.{Weights}
-use Rattle.arc_graph.specs.Pages.{pages_of}
+use Rattle.arc_graph.specs.Pages.{AgreeOnPage, pages_of}
 use Rattle.epoch_store.specs.Origin.{Origin, IsPublishedIn, arcs_of, criteria_of, last_number, last_weights}
 use Rattle.epoch_store.specs.Published.{Published, Publication, with_publication}
 
@@ -64,3 +64,10 @@ opening_of o first = record {
   pages = replicate (pages_of (arcs_of o)) first;
   history = [];
 }
+
+-- the pages below a number were brought to what they are in `from`, and the others are as before
+pub record IsBrought (upto : ℕ) (from before after : Weights) : Type 0 where
+  pub criteria : after.criteria ≡ from.criteria
+  pub arcs : length after.states ≡ length from.states
+  pub done : (page : ℕ) → page < upto → AgreeOnPage page after from
+  pub rest : (page : ℕ) → upto ≤ page → AgreeOnPage page after before

@@ -66,8 +66,9 @@ impl<S: Store> Shown<S> {
         requires begins { IsPrefix self.old published.now.history }
         ensures { self.new ≡ published.now.history }
     {
+        let seen = self.snapshot.number;
         for page in 0..published.pages.len() {
-            if published.pages[page] > self.snapshot.number {
+            if published.pages[page] > seen {
                 self.snapshot.weights.copy_page(&published.weights, page);
             }
         }

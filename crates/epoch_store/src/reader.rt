@@ -4,7 +4,7 @@ ghost use mathlib.Core.List.{IsPrefix};
 ghost use Rattle.arc_graph.specs.History.{ends_closed};
 ghost use Rattle.left_right.specs.Sides.{view};
 ghost use Rattle.epoch_store.specs.Origin.{IsPublishedIn, arcs_of, criteria_of, last_number, last_weights};
-ghost use Rattle.epoch_store.specs.Standing.{IsEpoch};
+ghost use Rattle.epoch_store.specs.Standing.{IsEpoch, IsShown};
 
 use crate::chronicle::Witness;
 use crate::operator::Ended;
@@ -58,6 +58,16 @@ impl<S: Store> Shown<S> {
             },
             history,
         }
+    }
+
+    /// The snapshot.
+    fn last_epoch(&self) -> &Snapshot
+        ensures shown { IsShown S.origin self.now
+            result.now.number result.now.closed result.now.weights }
+        ensures criteria { result.now.weights.criteria ≡ criteria_of S.origin }
+        ensures arcs { length result.now.weights.states ≡ arcs_of S.origin }
+    {
+        &self.snapshot
     }
 
     /// Goes on to an epoch that was found, in place: it copies the pages that have changed.
@@ -128,7 +138,7 @@ impl<S: Store> EpochReader<S> {
         ensures criteria { result.now.weights.criteria ≡ criteria_of S.origin }
         ensures arcs { length result.now.weights.states ≡ arcs_of S.origin }
     {
-        &self.shown.snapshot
+        self.shown.last_epoch()
     }
 
     /// Goes on to the last epoch of a store that is closed.

@@ -48,6 +48,7 @@ impl Play<History, u64> for Add {
 }
 
 /// A chronicle with no history, for a store that is to be made. Contracts see which one it is.
+#[derive(Drop)]
 pub struct Chronicle {
     count: Word<History, u64, Counted>,
     seen: Seen<History, u64, Counted>,

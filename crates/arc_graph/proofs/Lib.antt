@@ -15,4 +15,4 @@ pub mod RelaxLaws
 pub mod PageLemmas
 pub mod HistoryLemmas
 pub mod OperatorLemmas
-pub mod WithPageLemmas
+pub mod CopiedPageLemmas

@@ -6,6 +6,7 @@ use Rattle.std.proofs.lemmas.List.{length-append}
 use Rattle.std.proofs.lemmas.List.Elements.{All-nil, All-push, All-take}
 use Rattle.std.proofs.lemmas.Option.{slice_get_within}
 use Rattle.list_laws.proofs.Gets.{get_before, get_in_push}
+use Rattle.arc_graph.specs.declared.change.Change.{Change}
 use Rattle.arc_graph.specs.History.{HistoryEntry, History, IsChange, IsHistory, IsOperator, IsPublished, Operator, closed_history, ends_closed, is_closed, max_epoch, max_pending, number_after, sets, sets_of, with_published}
 use Rattle.arc_graph.specs.History.HistoryEntry.{Changes, Closed}
 use Rattle.arc_graph.proofs.HistoryLemmas.{sets_of_both, sets_with_set, sets_closed, count_with_set, ends_with}
@@ -21,6 +22,10 @@ last_closed (e ∷ d ∷ rest) (suc n) at last = last_closed (d ∷ rest) n at (
 -- what holds of each in a list holds in its front
 all_in_front : {X : Type 0} (P : X → Type 0) (xs ys : List X) → All P (xs ++ ys) → All P xs
 all_in_front P xs ys all = subst (All P) (take_at xs ys (length xs) refl) (All-take P (length xs) (xs ++ ys) all)
+
+-- no more changes than may be pending
+abbrev IsRoomy : List Change → Type 0
+IsRoomy cs = length cs ≤ max_pending
 
 module _ (arcs criteria : ℕ) where
   -- an entry more, where Closed doesn't stand last
@@ -48,8 +53,8 @@ module _ (arcs criteria : ℕ) where
     pub published_front : (h later : History) → IsPublished arcs criteria first (h ++ later) → IsPublished arcs criteria first h
     published_front h later is = record {
       history = history_front h later is.history;
-      sizes = all_in_front (λ cs. length cs ≤ max_pending) (sets_of h) (sets_of later)
-          (subst (All (λ cs. length cs ≤ max_pending)) (sets_of_both h later) is.sizes);
+      sizes = all_in_front IsRoomy (sets_of h) (sets_of later)
+          (subst (All IsRoomy) (sets_of_both h later) is.sizes);
       number =
           let both = ap length (sets_of_both h later) in
           omega (arith, is.number, both, length-append (sets_of h) (sets_of later));
@@ -59,12 +64,13 @@ module _ (arcs criteria : ℕ) where
     pub operator_published : (o : Operator) → IsOperator arcs criteria first o → number_after first (sets o.published) < max_epoch
         → IsOperator arcs criteria first (with_published o)
     operator_published o is below =
+        let Changed = All (IsChange arcs criteria) in
         let grown = sym (sets_with_set o.published o.pending) in
         record {
           published = record {
             history = history_with o.published (Changes o.pending) is.published.history is.unclosed
-                (subst (All (All (IsChange arcs criteria))) grown (All-push (All (IsChange arcs criteria)) (sets_of o.published) o.pending is.published.history.changes is.pending));
-            sizes = subst (All (λ cs. length cs ≤ max_pending)) grown (All-push (λ cs. length cs ≤ max_pending) (sets_of o.published) o.pending is.published.sizes is.room);
+                (subst (All Changed) grown (All-push Changed (sets_of o.published) o.pending is.published.history.changes is.pending));
+            sizes = subst (All IsRoomy) grown (All-push IsRoomy (sets_of o.published) o.pending is.published.sizes is.room);
             number = omega (arith, below, count_with_set o.published o.pending);
           };
           unclosed = ends_with o.published (Changes o.pending);
@@ -79,6 +85,6 @@ module _ (arcs criteria : ℕ) where
         record {
           history = history_with o.published Closed is.published.history is.unclosed
               (subst (All (All (IsChange arcs criteria))) same is.published.history.changes);
-          sizes = subst (All (λ cs. length cs ≤ max_pending)) same is.published.sizes;
+          sizes = subst (All IsRoomy) same is.published.sizes;
           number = subst (λ ss. number_after first (length ss) ≤ max_epoch) same is.published.number;
         }

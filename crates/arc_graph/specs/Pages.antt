@@ -20,8 +20,8 @@ abbrev pub IsOnPage : ℕ → ℕ → Type 0
 IsOnPage page k = page_of k ≡ page
 
 -- a list with an element for each arc, where those of the page are taken from another such list
-abbrev pub with_page : {X : Type 0} → ℕ → List X → List X → List X
-with_page page from xs =
+abbrev pub with_copied_page : {X : Type 0} → ℕ → List X → List X → List X
+with_copied_page page from xs =
     take (page * page_size) xs ++ (slice_range from (page * page_size) ((page + 1) * page_size) ++ drop ((page + 1) * page_size) xs)
 
 -- the arcs of the page have the same states in both

@@ -2,7 +2,7 @@ ghost use Rattle.std.specs.Prelude.{◌≡◌, ℕ, ◌≤◌, ◌<◌, ◌-◌,
 ghost use Rattle.road_network.specs.Network.{IsVector};
 ghost use Rattle.arc_graph.specs.Graph.{AreWeights, arc_state};
 ghost use Rattle.arc_graph.specs.History.{with_change};
-ghost use Rattle.arc_graph.specs.Pages.{CopiesPage, page_of, page_size, pages_of, with_page};
+ghost use Rattle.arc_graph.specs.Pages.{CopiesPage, page_of, page_size, pages_of, with_copied_page};
 ghost use Rattle.arc_graph.specs.Stored.{AreStoredStates, IsStoredAs, IsStoredState, is_zero, states_of};
 
 use cost_vector::{ArcNo, OutOfMemory, Weight};
@@ -125,7 +125,7 @@ impl Weights {
 fn copy_page_of(from: &[Places], to: &mut [Places], page: usize)
     requires same { length from.now ≡ length to.old }
     requires there { page * page_size < length to.old }
-    ensures { to.new ≡ with_page page from.now to.old }
+    ensures { to.new ≡ with_copied_page page from.now to.old }
 {
     let start = page * PAGE_SIZE;
     let end = to.len().min(start + PAGE_SIZE);

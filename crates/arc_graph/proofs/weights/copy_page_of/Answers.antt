@@ -1,4 +1,4 @@
-use Rattle.arc_graph.proofs.WithPageLemmas.{put_page}
+use Rattle.arc_graph.proofs.CopiedPageLemmas.{put_page}
 use Rattle.arc_graph.proofs.weights.copy_page_of.Goals as goal
 
 pub returns : goal.returns

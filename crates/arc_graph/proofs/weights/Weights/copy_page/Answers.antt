@@ -1,4 +1,4 @@
-use Rattle.arc_graph.proofs.WithPageLemmas.{TookPage, stored_now, copied_now}
+use Rattle.arc_graph.proofs.CopiedPageLemmas.{TookPage, stored_now, copied_now}
 use Rattle.arc_graph.proofs.weights.Weights.copy_page.Goals as goal
 
 took : (c : goal.After-self-1) → TookPage c.args.page c.self.inside.criteria c.other.inside.criteria c.self.inside.vectors.len c.self.inside.vectors.items

@@ -47,5 +47,5 @@ pub adds_moves : (v : List History) (e : History) (old next : ℕ) → length v 
     → Moves IsKept shown moved 0 (v, (no_nib, None)) (λ n. either (n == old) next n) (Adds (step 0 old next e) (v, (no_nib, None)))
 adds_moves v e old next len next_is cs log kept pre away =
     let P : List Cell → Type 0 = λ c. (0 < length c) × ((cell c 0).1 ≡ true)
-        × Goes IsKept shown moved 0 (v, (no_nib, None)) (λ n. either (n == old) next n) (Adds (step 0 old next e) (v, (no_nib, None))) c log in
+    × Goes IsKept shown moved 0 (v, (no_nib, None)) (λ n. either (n == old) next n) (Adds (step 0 old next e) (v, (no_nib, None))) c log in
     subst P (sym kept.words) (omega arith, refl, adds_goes log v e old next len next_is pre (length log == old) refl)

@@ -1,15 +1,13 @@
 -- Epochs of a store: the first, the next, and the last when no more are to come.
-use Rattle.std.proofs.Common.{◌≡◌, ℕ, ◌+◌, ◌≤◌, ◌<◌, Bool, true, false, List, [], ◌∷◌, ◌++◌, length, refl, ap, sym, subst, ◌∙◌, arith}
-use Rattle.std.specs.Prelude.{All}
-use Rattle.std.proofs.lemmas.List.Elements.{All-nil}
+use Rattle.std.proofs.Common.{◌≡◌, ℕ, ◌+◌, ◌≤◌, true, false, List, [], ◌∷◌, ◌++◌, length, refl, ap, sym, subst, ◌∙◌, arith}
 use Rattle.arc_graph.specs.declared.change.Change.{Change}
 use Rattle.arc_graph.specs.Graph.{Weights}
-use Rattle.arc_graph.specs.History.{History, Operator, closed_history, ends_closed, max_epoch, number_after, sets, sets_of, with_changes, with_published}
+use Rattle.arc_graph.specs.History.{History, max_epoch, sets, with_changes}
 use Rattle.arc_graph.specs.History.HistoryEntry.{Changes, Closed}
 use Rattle.arc_graph.specs.Pages.{pages_of}
 use Rattle.arc_graph.proofs.HistoryLemmas.{sets_closed, count_with_set, ends_with, epoch_next, epoch_closed}
 use Rattle.epoch_store.specs.Origin.{Origin, IsPublishedIn, arcs_of, last_number, last_weights}
-use Rattle.epoch_store.specs.Published.{Published, Publication, with_page_numbers, with_publication}
+use Rattle.epoch_store.specs.Published.{Published, with_page_numbers}
 use Rattle.epoch_store.specs.Standing.{ArePageNumbers, Follows, IsEpoch, IsShown, opening_of}
 use Rattle.epoch_store.proofs.PageNumberLemmas.{numbers_first, numbers_with_set, numbers_closed}
 

@@ -5,3 +5,4 @@ pub mod EpochLemmas
 pub mod RuleLemmas
 pub mod OperatorLemmas
 pub mod ShownLemmas
+pub mod ClosedLemmas

@@ -1,6 +1,6 @@
 -- What an operator keeps, by what it does.
-use Rattle.std.proofs.Common.{◌≡◌, ℕ, true, false, ◌+◌, ◌<◌, ◌≤◌, inl, inr, List, [], ◌∷◌, ◌++◌, Some, length, length-append, map, refl, ap, sym, subst, ◌∙◌, arith}
-use Rattle.std.specs.Prelude.{All, sum, replicate}
+use Rattle.std.proofs.Common.{◌≡◌, ℕ, ◌+◌, ◌<◌, ◌≤◌, inl, inr, List, [], ◌∷◌, ◌++◌, length, length-append, refl, ap, arith}
+use Rattle.std.specs.Prelude.{sum, replicate}
 use Rattle.std.proofs.lemmas.Bool.{cases_lt}
 use Rattle.std.proofs.lemmas.List.{map-append}
 use Rattle.std.proofs.lemmas.List.Sums.{sum_by-cons}
@@ -9,9 +9,9 @@ use Rattle.cost_vector.proofs.Vectors.{All_from_zeros}
 use Rattle.arc_graph.proofs.HistoryLemmas.{count_with_set}
 use Rattle.arc_graph.proofs.OperatorLemmas.{operator_published, operator_closed}
 use Rattle.arc_graph.specs.declared.change.Change.{Change}
-use Rattle.arc_graph.specs.History.{History, IsChange, Operator, max_epoch, sets_of, with_none_pending, with_pending}
-use Rattle.arc_graph.specs.History.HistoryEntry.{Changes, Closed}
-use Rattle.epoch_store.specs.Faults.{HasRoom, IsArc, IsZero}
+use Rattle.arc_graph.specs.History.{IsChange, Operator, max_epoch, sets_of, with_none_pending, with_pending}
+use Rattle.arc_graph.specs.History.HistoryEntry.{Changes}
+use Rattle.epoch_store.specs.Faults.{HasRoom, IsZero}
 use Rattle.epoch_store.specs.Origin.{Origin, IsOperatorIn, arcs_of, criteria_of, last_number}
 use Rattle.epoch_store.specs.Published.{Published, closing_of, epoch_of, of_sets}
 use Rattle.epoch_store.specs.Standing.{Follows}

@@ -1,5 +1,5 @@
 -- The numbers of pages: what they say as a history grows.
-use Rattle.std.proofs.Common.{◌≡◌, ◌≢◌, ℕ, ◌+◌, ◌-◌, ◌<◌, ◌≤◌, ◌==◌, Bool, true, false, ◌⊎◌, inl, inr, List, [], ◌∷◌, ◌++◌, length, take, drop, refl, ap, sym, subst, ◌∙◌, arith}
+use Rattle.std.proofs.Common.{◌≡◌, ℕ, ◌+◌, ◌-◌, ◌<◌, ◌≤◌, ◌⊎◌, inl, inr, List, [], ◌∷◌, ◌++◌, length, take, drop, refl, ap, sym, subst, ◌∙◌, arith}
 use Rattle.std.specs.Prelude.{slice_index, slice_range, slice_set, replicate, All}
 use Rattle.std.proofs.lemmas.List.{drop-append-le, take_all, length-append, length-set, length-drop, get_or-set_same, get_or-set_other}
 use Rattle.std.proofs.lemmas.Bool.{cases_eq, cases_lt}
@@ -9,7 +9,7 @@ use Rattle.arc_graph.specs.History.{History, LeavePage, LeavesPage, number_after
 use Rattle.arc_graph.specs.History.HistoryEntry.{Changes, Closed}
 use Rattle.arc_graph.specs.Pages.{IsOnPage, page_of}
 use Rattle.arc_graph.proofs.HistoryLemmas.{sets_with_set, sets_closed, count_with_set}
-use Rattle.epoch_store.specs.Published.{with_page_number, with_page_numbers}
+use Rattle.epoch_store.specs.Published.{with_page_numbers}
 use Rattle.epoch_store.specs.Standing.{ArePageNumbers}
 
 -- a set has an arc of the page, which gets the set's number; or it has none, and the page's number stays
@@ -51,7 +51,7 @@ left_with_set page h cs i within left leaves =
     let more : length (drop i css ++ cs ∷ []) ≤ sets h + 1 - i = simp (length-append, length-drop) (omega arith) in
     let whole : slice_range css i (sets h) ≡ drop i css = take_all (sets h - i) (drop i css) (simp length-drop (omega arith)) in
     let range : slice_range (sets_of (h ++ Changes cs ∷ [])) i (sets h + 1) ≡ slice_range css i (sets h) ++ cs ∷ [] =
-        rw (sets_with_set, behind, whole) (take_all (sets h + 1 - i) (drop i css ++ cs ∷ []) more) in
+    rw (sets_with_set, behind, whole) (take_all (sets h + 1 - i) (drop i css ++ cs ∷ []) more) in
     subst (All (LeavesPage page)) (sym range) (All-push (LeavesPage page) (slice_range css i (sets h)) cs left leaves)
 
 -- before the first publication

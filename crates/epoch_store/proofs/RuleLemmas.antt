@@ -1,10 +1,7 @@
 -- The rule of a store, under each kind of step.
-use Rattle.std.proofs.Common.{◌≡◌, ◌≢◌, ℕ, inl, inr, List, [], ◌∷◌, ◌++◌, refl, sym, subst}
+use Rattle.std.proofs.Common.{ℕ, inl, inr, List, [], refl, subst}
 use Rattle.std.specs.Prelude.{slice_set}
-use Rattle.std.proofs.lemmas.List.{append-nil}
-use mathlib.Core.Option.{some}
 use mathlib.Core.List.{IsPrefix}
-use lib.ListN.{get_elem?}
 use Rattle.atomic_table.proofs.Lists.{at_set, at_snoc}
 use Rattle.left_right.specs.Register.{Admits, Turns, TurnsAt}
 use Rattle.arc_graph.specs.History.{History}

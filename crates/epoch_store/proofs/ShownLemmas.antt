@@ -1,5 +1,5 @@
 -- What a reader is shown: a snapshot goes on to a later epoch by the pages that have changed.
-use Rattle.std.proofs.Common.{◌≡◌, ℕ, ◌+◌, ◌-◌, ◌<◌, ◌≤◌, Bool, inl, inr, List, ◌++◌, length, refl, ap, sym, subst, ◌∙◌, arith}
+use Rattle.std.proofs.Common.{◌≡◌, ℕ, ◌+◌, ◌-◌, ◌<◌, ◌≤◌, Bool, inl, inr, length, refl, ap, sym, subst, ◌∙◌, arith}
 use Rattle.std.specs.Prelude.{slice_get, slice_index}
 use Rattle.std.proofs.lemmas.List.{length-append}
 use Rattle.std.proofs.lemmas.Bool.{cases_eq}
@@ -11,7 +11,7 @@ use Rattle.arc_graph.proofs.HistoryLemmas.{sets_of_both, epoch_arcs, epoch_crite
 use Rattle.arc_graph.proofs.PageLemmas.{same_by_pages}
 use Rattle.epoch_store.specs.Origin.{Origin, arcs_of, criteria_of, last_number, last_weights}
 use Rattle.epoch_store.specs.Published.{Published}
-use Rattle.epoch_store.specs.Standing.{ArePageNumbers, IsBrought, IsEpoch, IsShown}
+use Rattle.epoch_store.specs.Standing.{IsBrought, IsEpoch, IsShown}
 
 -- a page whose number is no greater than the snapshot's is as it was
 pub page_stands : (o : Origin) (seen : History) (p : Published) (w : Weights) (n page : ℕ) → IsPrefix seen p.history → IsEpoch o p
@@ -22,7 +22,7 @@ page_stands o seen p w n page begins epoch number weights there old =
     let more : i ≤ sets h = subst (λ (later : History). i ≤ sets later) begins.1 (omega (arith, ap length (sets_of_both seen begins.0), length-append (sets_of seen) (sets_of begins.0))) in
     let left = epoch.pages page i there more (omega (arith, number)) in
     let before : epoch_after o.base h i ≡ w =
-        ap (λ later. epoch_after o.base later i) (sym begins.1) ∙ epoch_earlier o.base seen begins.0 i (omega arith) ∙ sym weights in
+    ap (λ later. epoch_after o.base later i) (sym begins.1) ∙ epoch_earlier o.base seen begins.0 i (omega arith) ∙ sym weights in
     let agree = page_left_by_sets page o.base h i (sets h) more left in
     λ k on. ap (λ v. slice_get v.states (k - 1)) (sym before) ∙ agree k on ∙ ap (λ v. slice_get v.states (k - 1)) (sym epoch.weights)
 

@@ -6,7 +6,7 @@ use lib.ListN.{get_elem?}
 use Rattle.arc_graph.specs.History.{History, LeavePage, ends_closed, number_after, sets}
 use Rattle.arc_graph.specs.Graph.{Weights}
 use Rattle.arc_graph.specs.Pages.{AgreeOnPage, pages_of}
-use Rattle.epoch_store.specs.Origin.{Origin, IsPublishedIn, arcs_of, criteria_of, last_number, last_weights}
+use Rattle.epoch_store.specs.Origin.{Origin, IsPublishedIn, arcs_of, last_number, last_weights}
 use Rattle.epoch_store.specs.Published.{Published, Publication, with_publication}
 
 -- since the epoch of a page's number, no change set has had an arc of the page

@@ -176,15 +176,13 @@ impl<S: Store> Keeper<S> {
         let place = self.place;
         let next = place.checked_add(1)?;
         let mut seen = self.seen.again();
-        let mut offer: Offer<History, u64, Counted, Nothing> = seen.plain::<Nothing, Draft, M>(draft);
-        let mut pen = seen.no_pen();
-        let found = self.count.compare_exchange::<Add, Nothing>(
-            place,
-            next,
-            &mut seen,
-            &mut offer,
-            &mut pen,
+        let mut offer: Offer<History, u64, Counted, Nothing> = seen.plain::<Nothing, Draft, M>(
+            draft,
         );
+        let mut pen = seen.no_pen();
+        let found = self
+            .count
+            .compare_exchange::<Add, Nothing>(place, next, &mut seen, &mut offer, &mut pen);
         if found != place {
             return None;
         }

@@ -5,6 +5,7 @@ mod chronicle;
 mod draft;
 mod fault;
 mod history;
+mod laws;
 mod making;
 mod operator;
 mod published;
@@ -14,8 +15,9 @@ mod store;
 
 pub use chronicle::Chronicle;
 pub use draft::ChangeSet;
+pub use fault::{PublishFault, SetFault, ShutFault};
+pub use laws::closed_histories_go_no_further;
 pub use making::make;
 pub use operator::{CloseRefused, Ended, Operator};
 pub use reader::{EpochReader, Snapshot};
-pub use fault::{PublishFault, SetFault, ShutFault};
 pub use store::Store;

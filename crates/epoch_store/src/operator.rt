@@ -55,7 +55,7 @@ where
     ghost view = { λ o. record { published = of_sets o.draft.sets.items; pending = o.draft.pending.items } };
 
     ghost invariant = { λ o. IsOperatorIn S.origin
-            (record { published = of_sets o.draft.sets.items; pending = o.draft.pending.items })
+        (record { published = of_sets o.draft.sets.items; pending = o.draft.pending.items })
         × (o.first ≡ S.origin.first)
         × (o.number ≡ last_number S.origin (of_sets o.draft.sets.items))
         × (o.writer.desk.shown.value.history ≡ of_sets o.draft.sets.items)

@@ -31,11 +31,11 @@ impl<S: Store> Model for Published<S> {
     ghost Value = { Published };
 
     ghost view = { λ p. record {
-        number = p.number;
-        closed = p.closed;
-        weights = p.weights;
-        pages = p.pages.items;
-        history = p.history;
+      number = p.number;
+      closed = p.closed;
+      weights = p.weights;
+      pages = p.pages.items;
+      history = p.history;
     } };
 
     ghost invariant = { λ p. (p.weights.criteria ≡ criteria_of S.origin)
@@ -61,10 +61,10 @@ impl<S: Store> Model for Publication<S> {
     ghost Value = { Publication };
 
     ghost view = { λ q. record {
-        number = q.number;
-        closed = q.closed;
-        changes = q.changes.items;
-        history = q.history;
+      number = q.number;
+      closed = q.closed;
+      changes = q.changes.items;
+      history = q.history;
     } };
 
     ghost invariant = { λ q. All (IsChange (arcs_of S.origin) (criteria_of S.origin)) q.changes.items };

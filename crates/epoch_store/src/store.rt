@@ -11,8 +11,8 @@ impl Store for Brand {
     ghost use Rattle.std.specs.Prelude.{[]};
 
     ghost origin = { record {
-        chronicle = record { number = 0; log_name = 0; cells_name = 0 };
-        first = 0;
-        base = record { criteria = 0; states = [] };
+      chronicle = record { number = 0; log_name = 0; cells_name = 0 };
+      first = 0;
+      base = record { criteria = 0; states = [] };
     } };
 }

@@ -1,6 +1,5 @@
-use Rattle.std.proofs.Common.{◌≡◌, [], sym, ◌∙◌, arith, refl, subst, Some}
+use Rattle.std.proofs.Common.{◌≡◌, [], ◌∙◌, arith, refl, Some}
 use Rattle.std.proofs.lemmas.List.Elements.{All-pop, All-push}
-use mathlib.Core.List.{IsPrefix}
 use Rattle.arc_graph.specs.History.{History}
 use Rattle.epoch_store.proofs.RuleLemmas.{new_reader}
 use Rattle.epoch_store.proofs.making.seat_readers.Goals as goal
@@ -11,7 +10,7 @@ reader-requires g c = new_reader g.S.Store.origin
 pub new-requires : goal.new-requires
 new-requires g c =
     let unread : c.in-Some.shown ≡ [] =
-        (All-pop (λ (h : History). h ≡ []) c.loop-shown.rest.items c.pop.new.self.items (Some c.in-Some.shown) c.in-Some.ensures.items c.loop-shown.invariant.waiting).1 in
+    (All-pop (λ (h : History). h ≡ []) c.loop-shown.rest.items c.pop.new.self.items (Some c.in-Some.shown) c.in-Some.ensures.items c.loop-shown.invariant.waiting).1 in
     rw unread (c.in_ok-reader.field-0.place.me.0.client, refl)
 
 pub loop-shown-preserved : goal.loop-shown-preserved

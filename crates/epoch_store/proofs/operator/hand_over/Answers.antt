@@ -1,4 +1,4 @@
-use Rattle.std.proofs.Common.{◌≡◌, List, [], ◌∷◌, ◌++◌, ap, sym, subst, ◌∙◌}
+use Rattle.std.proofs.Common.{List, [], ◌∷◌, ◌++◌, ap, sym, subst, ◌∙◌}
 use Rattle.epoch_store.specs.Published.{Published, Publication}
 use Rattle.epoch_store.specs.Standing.{Follows}
 use Rattle.epoch_store.proofs.operator.hand_over.Goals as goal

@@ -1,4 +1,4 @@
-use Rattle.std.proofs.Common.{◌≡◌, List, length, IsTrue, nat_eq, ap, subst, arith}
+use Rattle.std.proofs.Common.{◌≡◌, List, ap, subst, arith}
 use Rattle.std.proofs.lemmas.Bool.Decides.{nat_tests}
 use mathlib.Core.List.{IsPrefix}
 use Rattle.arc_graph.specs.History.{History}

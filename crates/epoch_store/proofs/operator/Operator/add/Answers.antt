@@ -12,7 +12,7 @@ invariant_of-self-2 g c =
     let keeps = c.self.invariant in
     let published = of_sets c.self.inside.draft.sets.items in
     let more = one_more_pending o (record { published = published; pending = c.self.inside.draft.pending.items }) c.args.change keeps.0 c.requires.change
-        (subst HasRoom (sym c.self.view_is) c.requires.room) in (
+    (subst HasRoom (sym c.self.view_is) c.requires.room) in (
       subst (λ (pending : List Change). IsOperatorIn o (record { published = published; pending = pending })) (sym c.in_ok-push.ensures.items) more,
       keeps.1,
       keeps.2,

@@ -1,12 +1,9 @@
-use Rattle.std.proofs.Common.{◌≡◌, ◌+◌, ◌<◌, List, [], ◌∷◌, ◌++◌, refl, arith}
+use Rattle.std.proofs.Common.{◌≡◌, ◌<◌, List, [], ◌∷◌, ◌++◌, refl, arith}
 use Rattle.std.proofs.lemmas.Bool.Decides.{nat_tests}
 use Rattle.arc_graph.specs.declared.change.Change.{Change}
-use Rattle.arc_graph.specs.History.{History, max_epoch}
+use Rattle.arc_graph.specs.History.{max_epoch}
 use Rattle.arc_graph.specs.History.HistoryEntry.{Changes}
 use Rattle.epoch_store.specs.Published.{of_sets}
-use Rattle.epoch_store.specs.Origin.{last_number}
-use Rattle.epoch_store.specs.Published.{Publication}
-use Rattle.epoch_store.specs.Standing.{Follows}
 use Rattle.epoch_store.proofs.OperatorLemmas.{of_sets_with, next_operator, next_number, next_follows}
 use Rattle.epoch_store.proofs.operator.Operator.publish.Goals as goal
 
@@ -17,7 +14,7 @@ hand_over-requires-clause-follows g c =
     let keeps = c.self.invariant in
     let below : own.number < max_epoch = grind (arith, nat_tests) in
     rw (c.in_ok-publication.ensures, c.reserve.ensures.items)
-        (next_follows o own.draft.sets.items own.draft.pending.items own.number keeps.0 keeps.2 own.writer.desk.shown.value keeps.3 below)
+    (next_follows o own.draft.sets.items own.draft.pending.items own.number keeps.0 keeps.2 own.writer.desk.shown.value keeps.3 below)
 
 pub invariant_of-self-2 : goal.invariant_of-self-2
 invariant_of-self-2 g c =
@@ -29,9 +26,9 @@ invariant_of-self-2 g c =
     let below : own.number < max_epoch = grind (arith, nat_tests) in
     let kept = c.reserve.ensures.items in
     let published : of_sets c.publish.new.self.sets.items ≡ of_sets css ++ Changes cs ∷ [] =
-        rw (c.publish.ensures.sets, kept) (of_sets_with css cs) in
+    rw (c.publish.ensures.sets, kept) (of_sets_with css cs) in
     let shown : c.hand_over.new.writer.desk.shown.value.history ≡ of_sets css ++ Changes cs ∷ [] =
-        rw (c.in_ok-hand_over.ensures.shown, c.in_ok-publication.ensures, kept) refl in
+    rw (c.in_ok-hand_over.ensures.shown, c.in_ok-publication.ensures, kept) refl in
     rw (published, c.publish.ensures.pending) (
       next_operator o css cs own.number keeps.0 keeps.2 below,
       keeps.1,
@@ -45,4 +42,4 @@ returns-clause-number g c =
     let own = c.self.inside in
     let keeps = c.self.invariant in
     rw (c.publish.ensures.sets, c.reserve.ensures.items, of_sets_with)
-        (next_number g.S.Store.origin own.draft.sets.items own.draft.pending.items own.number keeps.0 keeps.2)
+    (next_number g.S.Store.origin own.draft.sets.items own.draft.pending.items own.number keeps.0 keeps.2)

@@ -1,9 +1,8 @@
-use Rattle.std.proofs.Common.{◌≡◌, ℕ, ◌+◌, ◌<◌, ◌≤◌, length, get_or, sym, ◌∙◌, ap, subst, arith}
+use Rattle.std.proofs.Common.{◌≡◌, ◌+◌, ◌<◌, ◌≤◌, length, sym, ◌∙◌, ap, subst, arith}
 use Rattle.std.specs.Prelude.{slice_index}
 use Rattle.std.proofs.lemmas.List.{get_or_default}
 use mathlib.Core.List.{IsPrefix}
 use Rattle.arc_graph.specs.Graph.{Weights}
-use Rattle.arc_graph.specs.History.{History}
 use Rattle.arc_graph.specs.Pages.{pages_of}
 use Rattle.epoch_store.specs.Origin.{arcs_of}
 use Rattle.epoch_store.specs.Published.{Published}
@@ -46,14 +45,14 @@ loop-page-preserved g c =
     let there : page < length found.pages.items = omega arith in
     elim c.if-index-seen.branch [
       | then-index-seen w ↦
-        subst (IsBrought (page + 1) from before) (sym (ap (λ s. s.snapshot.weights) w.self-inside-is))
-            (page_brought from before c.loop-page.self-inside.snapshot.weights w.copy_page.new.self page c.loop-page.invariant w.copy_page.ensures)
+          subst (IsBrought (page + 1) from before) (sym (ap (λ s. s.snapshot.weights) w.self-inside-is))
+          (page_brought from before c.loop-page.self-inside.snapshot.weights w.copy_page.new.self page c.loop-page.invariant w.copy_page.ensures)
       | else-index-seen w ↦
-        let old : slice_index found.pages.items page ≤ own.snapshot.number =
-            omega (arith, w.if-index-seen.false, c.index.ensures, get_or_default found.pages.items page c.index.result.now 0 there) in
-        let stands = page_stands o own.history p before own.snapshot.number page begins epoch c.self.invariant.number c.self.invariant.weights there old in
-        subst (IsBrought (page + 1) from before) (sym (ap (λ s. s.snapshot.weights) w.self-inside-is))
-            (page_kept from before c.loop-page.self-inside.snapshot.weights page c.loop-page.invariant stands)
+          let old : slice_index found.pages.items page ≤ own.snapshot.number =
+          omega (arith, w.if-index-seen.false, c.index.ensures, get_or_default found.pages.items page c.index.result.now 0 there) in
+          let stands = page_stands o own.history p before own.snapshot.number page begins epoch c.self.invariant.number c.self.invariant.weights there old in
+          subst (IsBrought (page + 1) from before) (sym (ap (λ s. s.snapshot.weights) w.self-inside-is))
+          (page_kept from before c.loop-page.self-inside.snapshot.weights page c.loop-page.invariant stands)
     ]
 
 pub invariant_of-self : goal.invariant_of-self
@@ -65,5 +64,5 @@ invariant_of-self g c =
     let count : pages_of (arcs_of o) ≤ c.loop-page.page = omega arith in
     let all : pages_of (length found.weights.states) ≤ c.loop-page.page = rw c.published.invariant.1 count in
     let same : c.loop-page.self-inside.snapshot.weights ≡ found.weights =
-        all_brought found.weights c.self.inside.snapshot.weights c.loop-page.self-inside.snapshot.weights c.loop-page.page c.loop-page.invariant all in
+    all_brought found.weights c.self.inside.snapshot.weights c.loop-page.self-inside.snapshot.weights c.loop-page.page c.loop-page.invariant all in
     rw (c.again.ensures, same) (record { number = epoch.number; closed = epoch.closed; weights = epoch.weights; published = epoch.published })

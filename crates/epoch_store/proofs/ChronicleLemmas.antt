@@ -6,7 +6,7 @@ use mathlib.Core.List.{IsPrefix}
 use prog.Atomic.{either}
 use Rattle.logbook.specs.Pages.{Cell, cell, keeps, no_nib, step, Moves, Goes}
 use Rattle.arc_graph.specs.History.{History}
-use Rattle.epoch_store.specs.Chronicle.{IsKept, Adds}
+use Rattle.epoch_store.specs.Chronicle.{IsKept, AddsHistory}
 use Rattle.epoch_store.proofs.PrefixLemmas.{prefix_same}
 
 abbrev shown : List History → List History
@@ -15,9 +15,14 @@ shown log = []
 abbrev moved : List History → List History → ℕ → Type 0
 moved xs ys n = Unit {0}
 
+-- where the counting word is `old`, it becomes `next`, and the history is added
+abbrev AddsOne : List History → History → ℕ → ℕ → List Cell → List History → Type 0
+AddsOne v e old next =
+    Goes IsKept shown moved 0 (v, (no_nib, None)) (λ n. either (n == old) next n) (AddsHistory (step 0 old next e) (v, (no_nib, None)))
+
 adds_goes : (log v : List History) (e : History) (old next : ℕ) → length v ≡ old → next ≡ old + 1 → IsPrefix v log
     → (b : Bool) → (length log == old) ≡ b
-    → Goes IsKept shown moved 0 (v, (no_nib, None)) (λ n. either (n == old) next n) (Adds (step 0 old next e) (v, (no_nib, None))) ((length log, true) ∷ (0, true) ∷ []) log
+    → AddsOne v e old next ((length log, true) ∷ (0, true) ∷ []) log
 adds_goes log v e old next len next_is pre true is =
     let here : length log ≡ old = grind (arith, nat_tests) in
     let same : v ≡ log = prefix_same v log log pre ([], append-nil log) (omega arith) in
@@ -44,8 +49,8 @@ adds_goes log v e old next len next_is pre false is =
 
 -- whatever the chronicle is, the step adds the history to all that was seen, or finds that there are more
 pub adds_moves : (v : List History) (e : History) (old next : ℕ) → length v ≡ old → next ≡ old + 1
-    → Moves IsKept shown moved 0 (v, (no_nib, None)) (λ n. either (n == old) next n) (Adds (step 0 old next e) (v, (no_nib, None)))
+    → Moves IsKept shown moved 0 (v, (no_nib, None)) (λ n. either (n == old) next n) (AddsHistory (step 0 old next e) (v, (no_nib, None)))
 adds_moves v e old next len next_is cs log kept pre away =
     let P : List Cell → Type 0 = λ c. (0 < length c) × ((cell c 0).1 ≡ true)
-    × Goes IsKept shown moved 0 (v, (no_nib, None)) (λ n. either (n == old) next n) (Adds (step 0 old next e) (v, (no_nib, None))) c log in
+    × AddsOne v e old next c log in
     subst P (sym kept.words) (omega arith, refl, adds_goes log v e old next len next_is pre (length log == old) refl)

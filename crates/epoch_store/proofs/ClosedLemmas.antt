@@ -26,6 +26,7 @@ no_rest h (e ∷ rest) same = absurd (omega (arith, length-append h (e ∷ rest)
 pub no_further : (arcs criteria : ℕ) (seen later : History) → ends_closed seen ≡ true → IsPrefix seen later → IsHistory arcs criteria later → later ≡ seen
 no_further arcs criteria seen later closed begins is =
     let last = closed_at seen closed in
-    let at : slice_get later last.0 ≡ Some Closed = subst (λ (l : History). slice_get l last.0 ≡ Some Closed) begins.1 (get_before seen begins.0 Closed last.0 last.1) in
+    let before = get_before seen begins.0 Closed last.0 last.1 in
+    let at : slice_get later last.0 ≡ Some Closed = subst (λ (l : History). slice_get l last.0 ≡ Some Closed) begins.1 before in
     let count : length (seen ++ begins.0) ≡ length seen = omega (arith, is.closed_last last.0 at, last.2, ap length begins.1) in
     sym begins.1 ∙ no_rest seen begins.0 count

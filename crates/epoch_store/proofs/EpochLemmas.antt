@@ -8,7 +8,7 @@ use Rattle.arc_graph.specs.Pages.{pages_of}
 use Rattle.arc_graph.proofs.HistoryLemmas.{sets_closed, count_with_set, ends_with, epoch_next, epoch_closed}
 use Rattle.epoch_store.specs.Origin.{Origin, IsPublishedIn, arcs_of, last_number, last_weights}
 use Rattle.epoch_store.specs.Published.{Published, with_page_numbers}
-use Rattle.epoch_store.specs.Standing.{ArePageNumbers, Follows, IsEpoch, IsShown, opening_of}
+use Rattle.epoch_store.specs.Standing.{ArePageNumbers, MayFollow, IsEpoch, IsShown, opening_of}
 use Rattle.epoch_store.proofs.PageNumberLemmas.{numbers_first, numbers_with_set, numbers_closed}
 
 -- nothing was published yet
@@ -35,7 +35,7 @@ opening_epoch o small = record {
 -- the next epoch, by a set of changes
 pub set_follows : (o : Origin) (p : Published) (h : History) (cs : List Change) (n : ℕ) → p.history ≡ h → n ≡ last_number o h + 1
     → IsPublishedIn o (h ++ Changes cs ∷ [])
-    → Follows o p (record { number = n; closed = false; changes = cs; history = h ++ Changes cs ∷ [] })
+    → MayFollow o p (record { number = n; closed = false; changes = cs; history = h ++ Changes cs ∷ [] })
 set_follows o p h cs n is next allowed = record {
   begins = (Changes cs ∷ [], ap (λ k. k ++ Changes cs ∷ []) is);
   epoch = λ epoch.
@@ -54,7 +54,7 @@ set_follows o p h cs n is next allowed = record {
 -- the last epoch, when no more are to come
 pub closing_follows : (o : Origin) (p : Published) (h : History) (n : ℕ) → p.history ≡ h → n ≡ last_number o h
     → IsPublishedIn o (h ++ Closed ∷ [])
-    → Follows o p (record { number = n; closed = true; changes = []; history = h ++ Closed ∷ [] })
+    → MayFollow o p (record { number = n; closed = true; changes = []; history = h ++ Closed ∷ [] })
 closing_follows o p h n is same allowed = record {
   begins = (Closed ∷ [], ap (λ k. k ++ Closed ∷ []) is);
   epoch = λ epoch.

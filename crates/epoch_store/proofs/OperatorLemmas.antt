@@ -14,7 +14,7 @@ use Rattle.arc_graph.specs.History.HistoryEntry.{Changes}
 use Rattle.epoch_store.specs.Faults.{HasRoom, IsZero}
 use Rattle.epoch_store.specs.Origin.{Origin, IsOperatorIn, arcs_of, criteria_of, last_number}
 use Rattle.epoch_store.specs.Published.{Published, closing_of, epoch_of, of_sets}
-use Rattle.epoch_store.specs.Standing.{Follows}
+use Rattle.epoch_store.specs.Standing.{MayFollow}
 use Rattle.epoch_store.proofs.EpochLemmas.{nothing_published, set_follows, closing_follows}
 
 -- the change sets are those of the history that they make
@@ -82,12 +82,12 @@ module _ (o : Origin) (css : List (List Change)) (cs : List Change) (n : ℕ)
 
   -- it follows
   pub next_follows : (p : Published) → p.history ≡ of_sets css → n < max_epoch
-      → Follows o p (epoch_of (n + 1) css cs)
+      → MayFollow o p (epoch_of (n + 1) css cs)
   next_follows p shown below = set_follows o p (of_sets css) cs (n + 1) shown (omega (arith, number)) (next_operator below).published
 
   -- so does the end of the history
   pub end_follows : (p : Published) → p.history ≡ of_sets css
-      → Follows o p (closing_of n css)
+      → MayFollow o p (closing_of n css)
   end_follows p shown =
       closing_follows o p (of_sets css) n shown number
       (operator_closed (arcs_of o) (criteria_of o) o.first (record { published = of_sets css; pending = cs }) is)

@@ -7,7 +7,7 @@ use Rattle.left_right.specs.Register.{Admits, Turns, TurnsAt}
 use Rattle.arc_graph.specs.History.{History}
 use Rattle.epoch_store.specs.Origin.{Origin}
 use Rattle.epoch_store.specs.Published.{Published, Publication, with_publication}
-use Rattle.epoch_store.specs.Standing.{BeginsWithAll, Follows, Looks, Stands}
+use Rattle.epoch_store.specs.Standing.{BeginsWithAll, MayFollow, Looks, Stands}
 use Rattle.epoch_store.proofs.PrefixLemmas.{prefix_self, prefix_trans}
 
 -- a new reader has seen nothing
@@ -37,7 +37,7 @@ looks o seat v p views stands at = (
 )
 
 -- the operator publishes
-pub publishes : (o : Origin) (seat : ℕ) (v : History) (p : Published) (q : Publication) → Follows o p q
+pub publishes : (o : Origin) (seat : ℕ) (v : History) (p : Published) (q : Publication) → MayFollow o p q
     → TurnsAt (Stands o) seat v p (with_publication p q) (λ v x y w. Looks o v y w)
 publishes o seat v p q follows views stands at =
     let epoch = follows.epoch stands.epoch in (

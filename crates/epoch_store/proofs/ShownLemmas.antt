@@ -19,7 +19,9 @@ pub page_stands : (o : Origin) (seen : History) (p : Published) (w : Weights) (n
 page_stands o seen p w n page begins epoch number weights there old =
     let h = p.history in
     let i = sets seen in
-    let more : i ≤ sets h = subst (λ (later : History). i ≤ sets later) begins.1 (omega (arith, ap length (sets_of_both seen begins.0), length-append (sets_of seen) (sets_of begins.0))) in
+    let count = ap length (sets_of_both seen begins.0) in
+    let more : i ≤ sets h =
+    subst (λ (later : History). i ≤ sets later) begins.1 (omega (arith, count, length-append (sets_of seen) (sets_of begins.0))) in
     let left = epoch.pages page i there more (omega (arith, number)) in
     let before : epoch_after o.base h i ≡ w =
     ap (λ later. epoch_after o.base later i) (sym begins.1) ∙ epoch_earlier o.base seen begins.0 i (omega arith) ∙ sym weights in
@@ -70,4 +72,6 @@ page_kept from before w page is agree = record {
 -- all pages were
 pub all_brought : (from before w : Weights) (n : ℕ) → IsBrought n from before w → pages_of (length from.states) ≤ n → w ≡ from
 all_brought from before w n is all =
-    same_by_pages w from is.criteria is.arcs (λ page there. let below : page < pages_of (length from.states) = subst (λ (k : ℕ). page < pages_of k) is.arcs there in is.done page (omega arith))
+    let below : (page : ℕ) → page < pages_of (length w.states) → page < n =
+    λ page there. let within : page < pages_of (length from.states) = subst (λ (k : ℕ). page < pages_of k) is.arcs there in omega arith in
+    same_by_pages w from is.criteria is.arcs (λ page there. is.done page (below page there))

@@ -17,5 +17,5 @@ abbrev pub count_of : Book → Named
 count_of b = record { tracked = true; key = 0; book = b }
 
 -- where the number found is the one expected, the history was added to those that were seen
-abbrev pub Adds : Step History → View History ℕ → ℕ → View History ℕ → Type 0
-Adds s v found w = MatchBool (found == s.old) (w.0 ≡ v.0 ++ s.ask ∷ []) (Unit {0})
+abbrev pub AddsHistory : Step History → View History ℕ → ℕ → View History ℕ → Type 0
+AddsHistory s v found w = MatchBool (found == s.old) (w.0 ≡ v.0 ++ s.ask ∷ []) (Unit {0})

@@ -10,8 +10,8 @@ use Rattle.epoch_store.specs.declared.fault.PublishFault.{PublishFault}
 use Rattle.epoch_store.specs.declared.fault.PublishFault.TheVariants as publish
 
 -- the number is that of one of so many arcs
-abbrev pub IsArc : ℕ → ℕ → Type 0
-IsArc arcs k = (1 ≤ k) × (k ≤ arcs)
+abbrev pub HasArc : ℕ → ℕ → Type 0
+HasArc arcs k = (1 ≤ k) × (k ≤ arcs)
 
 -- all weights are 0
 abbrev pub IsZero : List ℕ → Type 0
@@ -23,23 +23,23 @@ HasRoom o = length o.pending < max_pending
 
 -- an arc may be given these weights
 abbrev pub MaySet : Origin → Operator → ℕ → List ℕ → Type 0
-MaySet o operator k w = IsArc (arcs_of o) k × (¬ IsZero w) × HasRoom operator
+MaySet o operator k w = HasArc (arcs_of o) k × (¬ IsZero w) × HasRoom operator
 
 -- an arc may be shut
 abbrev pub MayShut : Origin → Operator → ℕ → Type 0
-MayShut o operator k = IsArc (arcs_of o) k × HasRoom operator
+MayShut o operator k = HasArc (arcs_of o) k × HasRoom operator
 
 -- why an arc isn't given these weights
 abbrev pub HasSetFault : Origin → Operator → ℕ → List ℕ → SetFault → Type 0
-HasSetFault o operator k w set.Arc = ¬ IsArc (arcs_of o) k
-HasSetFault o operator k w set.Zero = IsArc (arcs_of o) k × IsZero w
-HasSetFault o operator k w set.Full = IsArc (arcs_of o) k × (¬ IsZero w) × (¬ HasRoom operator)
+HasSetFault o operator k w set.Arc = ¬ HasArc (arcs_of o) k
+HasSetFault o operator k w set.Zero = HasArc (arcs_of o) k × IsZero w
+HasSetFault o operator k w set.Full = HasArc (arcs_of o) k × (¬ IsZero w) × (¬ HasRoom operator)
 HasSetFault o operator k w set.OutOfMemory = Unit {0}
 
 -- why an arc isn't shut
 abbrev pub HasShutFault : Origin → Operator → ℕ → ShutFault → Type 0
-HasShutFault o operator k shut.Arc = ¬ IsArc (arcs_of o) k
-HasShutFault o operator k shut.Full = IsArc (arcs_of o) k × (¬ HasRoom operator)
+HasShutFault o operator k shut.Arc = ¬ HasArc (arcs_of o) k
+HasShutFault o operator k shut.Full = HasArc (arcs_of o) k × (¬ HasRoom operator)
 HasShutFault o operator k shut.OutOfMemory = Unit {0}
 
 -- an epoch may follow

@@ -4,6 +4,10 @@ use Rattle.logbook.specs.Pages.{Book}
 use Rattle.arc_graph.specs.Graph.{Weights}
 use Rattle.arc_graph.specs.History.{History, Operator, IsOperator, IsPublished, epoch_after, number_after, sets}
 
+-- the most readers of a store
+abbrev pub max_readers : ℕ
+max_readers = 16
+
 -- its chronicle, the number of its first epoch, and the first weights
 pub record Origin : Type 0 where
   pub chronicle : Book

@@ -38,7 +38,7 @@ pub record Looks (o : Origin) (before : History) (p : Published) (after : Histor
   pub begins : IsPrefix before p.history
 
 -- A publication follows what is published: its history goes on from there, and leads to an epoch again.
-pub record Follows (o : Origin) (p : Published) (q : Publication) : Type 0 where
+pub record MayFollow (o : Origin) (p : Published) (q : Publication) : Type 0 where
   pub begins : IsPrefix p.history q.history
   pub epoch : IsEpoch o p → IsEpoch o (with_publication p q)
 
@@ -46,7 +46,7 @@ pub record Follows (o : Origin) (p : Published) (q : Publication) : Type 0 where
 pub record AwaitsOne (o : Origin) (p : Published) (waiting : List Publication) : Type 0 where
   pub publication : Publication
   pub alone : waiting ≡ publication ∷ []
-  pub follows : Follows o p publication
+  pub follows : MayFollow o p publication
 
 -- what is shown to a reader who has seen this history: its last epoch
 pub record IsShown (o : Origin) (seen : History) (n : ℕ) (is_closed : Bool) (w : Weights) : Type 0 where

@@ -1,5 +1,6 @@
-//! The chronicle of a store, a list of histories that stands in proofs alone. The code has the number of these histories, and
-//! witnesses, which say that a history was drawn up in the store. Two witnesses of one place in the list are of one history.
+//! The chronicle of a store, a list of histories that stands in proofs alone. The code has the number of these
+//! histories, and witnesses, which say that a history was drawn up in the store. Two witnesses of one place in the list
+//! are of one history.
 ghost use Rattle.std.specs.Prelude.{◌≡◌, [], None, IsTrue, IfSome};
 
 use crate::draft::Draft;
@@ -42,9 +43,9 @@ impl Gain<History, u64> for Nothing {
 struct Add;
 
 impl Play<History, u64> for Add {
-    ghost use Rattle.epoch_store.specs.Chronicle.{Adds};
+    ghost use Rattle.epoch_store.specs.Chronicle.{AddsHistory};
 
-    ghost then = { Adds };
+    ghost then = { AddsHistory };
 }
 
 /// A chronicle with no history, for a store that is to be made. Contracts see which one it is.

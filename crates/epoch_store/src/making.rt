@@ -1,5 +1,6 @@
 //! How a store is made.
 ghost use Rattle.std.specs.Prelude.{◌≡◌, ◌≤◌, ◌<◌, [], All, IfOk, vec_len};
+ghost use Rattle.epoch_store.specs.Origin.{max_readers};
 ghost use Rattle.epoch_store.specs.Standing.{opening_of};
 
 use crate::chronicle::{Chronicle, Witness};
@@ -13,8 +14,8 @@ use cost_vector::OutOfMemory;
 use std::alloc::Global;
 use std::mem::ManuallyDrop;
 
-/// Makes a store with an operator and so many readers, 1 to 16. The current epoch has the first number and these weights.
-/// A place for a reader that is refused counts as want of memory; the memory of a store that can't be made then is lost.
+/// Makes a store with an operator and so many readers, 1 to 16. The current epoch has the first number and these
+/// weights. A reader that is refused its place counts as want of memory; the memory of the store is lost then.
 pub fn make<S: Store>(
     alloc: Global,
     chronicle: Chronicle,
@@ -26,7 +27,7 @@ pub fn make<S: Store>(
     requires first { first ≡ S.origin.first }
     requires weights { weights ≡ S.origin.base }
     requires one { 1 ≤ readers }
-    requires sixteen { readers ≤ 16 }
+    requires most { readers ≤ max_readers }
     ensures operator { IfOk result (λ r. r.0 ≡ record { published = []; pending = [] }) }
     ensures readers { IfOk result (λ r. vec_len r.1 ≡ readers) }
     ensures unread { IfOk result (λ r. All (λ h. h ≡ []) r.1.items) }
@@ -34,6 +35,7 @@ pub fn make<S: Store>(
     let keeper = chronicle.into_keeper::<S>();
     let history = keeper.last();
     let shown = snapshots(alloc, first, &weights, &history, readers)?;
+    let places = Vec::with_capacity(alloc, shown.len())?;
     let second = opening(alloc, first, weights.try_copy()?, &history)?;
     let writer = StoreWriter::new(
         alloc,
@@ -41,7 +43,7 @@ pub fn make<S: Store>(
         second,
         readers as usize,
     )?;
-    match seat_readers(alloc, &writer, shown) {
+    match seat_readers(&writer, shown, places) {
         Ok(seated) => Ok((Operator::new(alloc, first, keeper, writer), seated)),
         Err(_) => {
             let _lost = unsafe { ManuallyDrop::new_unchecked(writer) };
@@ -92,18 +94,19 @@ fn snapshots<S: Store>(
     Ok(all)
 }
 
-/// Gives each snapshot a reader of its own.
+/// Gives each snapshot a reader of its own, in these places.
 fn seat_readers<S: Store>(
-    alloc: Global,
     writer: &StoreWriter<S>,
     snapshots: Vec<Shown<S>>,
+    places: Vec<EpochReader<S>>,
 ) -> Result<Vec<EpochReader<S>>, OutOfMemory>
     requires unread { All (λ h. h ≡ []) snapshots.items }
+    requires vacant { vec_len places ≡ 0 }
     ensures readers { IfOk result (λ v. vec_len v ≡ vec_len snapshots) }
     ensures unread { IfOk result (λ v. All (λ h. h ≡ []) v.items) }
 {
     let mut rest = snapshots;
-    let mut seated = Vec::with_capacity(alloc, rest.len())?;
+    let mut seated = places;
     while let Some(shown) = rest.pop() {
         seated.push(EpochReader::new(writer.factory().reader()?, shown))?;
     }

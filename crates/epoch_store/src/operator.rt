@@ -3,10 +3,10 @@ ghost use Rattle.std.specs.Prelude.{◌≡◌, ◌<◌, [], ◌∷◌, ◌++◌,
 ghost use Rattle.arc_graph.specs.History.{IsChange, closed_history, max_pending, sets_of, with_none_pending, with_pending, with_published};
 ghost use Rattle.arc_graph.specs.History.HistoryEntry.{Closed};
 ghost use mathlib.Core.List.{IsPrefix};
-ghost use Rattle.epoch_store.specs.Faults.{HasPublishFault, HasRoom, HasSetFault, HasShutFault, IsArc, MayPublish, MaySet, MayShut};
+ghost use Rattle.epoch_store.specs.Faults.{HasPublishFault, HasRoom, HasSetFault, HasShutFault, HasArc, MayPublish, MaySet, MayShut};
 ghost use Rattle.epoch_store.specs.Origin.{IsOperatorIn, arcs_of, criteria_of, last_number};
 ghost use Rattle.epoch_store.specs.Published.{closing_of, epoch_of, of_sets, with_publication};
-ghost use Rattle.epoch_store.specs.Standing.{AwaitsOne, Follows};
+ghost use Rattle.epoch_store.specs.Standing.{AwaitsOne, MayFollow};
 
 use crate::chronicle::Keeper;
 use crate::draft::{ChangeSet, Closing, Draft, Publishing};
@@ -191,8 +191,8 @@ impl<S: Store> Operator<S> {
         self.draft.pending = Vec::new(self.alloc);
     }
 
-    /// Publishes the pending changes as one set, also where there are none, and answers the number of the epoch that they
-    /// make. All memory is taken before the one step at which readers can see it. It may wait for readers.
+    /// Publishes the pending changes as one set, also where there are none, and answers the number of the epoch that
+    /// they make. All memory is taken before the one step at which readers can see it. It may wait for readers.
     pub fn publish<R: Wait>(&mut self, rt: &R) -> Result<u32, PublishFault>
         ensures published { OnOk result (self.new ≡ with_published self.old) }
         ensures number { IfOk result (λ k. k ≡ last_number S.origin self.new.published) }
@@ -221,8 +221,8 @@ impl<S: Store> Operator<S> {
         reader.look(Some(self.writer.published().history.again()))
     }
 
-    /// Ends the history. Pending changes aren't published. All memory is taken before the one step at which readers can see
-    /// it. It may wait for readers.
+    /// Ends the history. Pending changes aren't published. All memory is taken before the one step at which readers can
+    /// see it. It may wait for readers.
     pub fn close<R: Wait>(self, rt: &R) -> Result<Ended<S>, CloseRefused<S>>
         ensures ended { IfOk result (λ e. e ≡ closed_history self) }
         ensures refused { IfErr result (λ r. r.operator ≡ self) }
@@ -251,7 +251,7 @@ impl<S: Store> Operator<S> {
     }
 
     fn has_arc(&self, arc: u32) -> bool
-        ensures { IsTrue result ↔ IsArc (arcs_of S.origin) arc }
+        ensures { IsTrue result ↔ HasArc (arcs_of S.origin) arc }
     {
         1 <= arc && arc <= self.writer.published().weights.arcs()
     }
@@ -312,7 +312,7 @@ fn end_history<S: Store, R: Wait>(
     writer: &mut StoreWriter<S>,
 ) -> Result<(), OutOfMemory>
     requires idle { drop writer.old.behind writer.old.log.items ≡ [] }
-    requires follows { Follows S.origin writer.old.desk.shown.value
+    requires follows { MayFollow S.origin writer.old.desk.shown.value
         (closing_of number draft.now.sets.items) }
     ensures shown { OnOk result (writer.new.desk.shown.value.history
         ≡ of_sets draft.now.sets.items ++ Closed ∷ []) }
@@ -337,7 +337,7 @@ fn hand_over<S: Store, R: Wait>(
     publication: Publication<S>,
 ) -> Result<(), OutOfMemory>
     requires idle { drop writer.old.behind writer.old.log.items ≡ [] }
-    requires follows { Follows S.origin writer.old.desk.shown.value publication }
+    requires follows { MayFollow S.origin writer.old.desk.shown.value publication }
     ensures shown { OnOk result (writer.new.desk.shown.value
         ≡ with_publication writer.old.desk.shown.value publication) }
     ensures unchanged { OnErr result (writer.new.desk.shown.value

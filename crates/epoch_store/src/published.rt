@@ -43,7 +43,7 @@ impl<S: Store> Model for Published<S> {
         × (length p.pages.items ≡ pages_of (arcs_of S.origin)) };
 }
 
-/// One publication, as the operator hands it over: all that readers are to find, with the changes in place of the weights.
+/// One publication, as the operator hands it over: what readers are to find, with the changes in place of the weights.
 #[derive(Drop)]
 pub struct Publication<S: Store> {
     pub(crate) number: u32,

@@ -88,8 +88,8 @@ impl<S: Store> Shown<S> {
     }
 }
 
-/// A reader, with a snapshot of its own. Contracts see the history that it has seen, was told or has learnt, of which the
-/// snapshot is the last epoch.
+/// A reader, with a snapshot of its own. Contracts see the history that it has seen, was told of or has learnt; the
+/// snapshot is that history's last epoch.
 #[derive(Drop)]
 pub struct EpochReader<S: Store> {
     /// None during a look alone.
@@ -121,7 +121,7 @@ impl<S: Store> EpochReader<S> {
         }
     }
 
-    /// Looks at what is published. It waits for nobody and takes no memory; a look that is refused counts as want of it.
+    /// Looks at what is published. It waits for nobody and takes no memory; a refused look counts as want of it.
     pub fn read(&mut self) -> Result<(), OutOfMemory>
         ensures begins { IsPrefix self.old self.new }
         ensures unchanged { OnErr result (self.new ≡ self.old) }

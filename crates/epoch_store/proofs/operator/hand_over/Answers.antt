@@ -1,6 +1,6 @@
 use Rattle.std.proofs.Common.{List, [], ◌∷◌, ◌++◌, ap, sym, subst, ◌∙◌}
 use Rattle.epoch_store.specs.Published.{Published, Publication}
-use Rattle.epoch_store.specs.Standing.{Follows}
+use Rattle.epoch_store.specs.Standing.{MayFollow}
 use Rattle.epoch_store.proofs.operator.hand_over.Goals as goal
 
 pub replace_with-requires : goal.replace_with-requires
@@ -10,5 +10,5 @@ replace_with-requires g c =
     record {
       publication = q;
       alone = c.in-Ok.ensures.pending ∙ ap (λ (waiting : List Publication). waiting ++ q ∷ []) c.requires.idle;
-      follows = subst (λ (p : Published). Follows g.S.Store.origin p q) (sym shown) c.requires.follows;
+      follows = subst (λ (p : Published). MayFollow g.S.Store.origin p q) (sym shown) c.requires.follows;
     }

@@ -15,5 +15,6 @@ compare_exchange-found-requires g c =
       book,
       pen.0 ∙ book,
       offer.0,
-      rw (ap (λ w. w.key) keeps.2, pen.1, offer.1, offer.3, c.requires, seen) (adds_moves k.seen.log (g.M.Plain.ask c.args.draft.now) k.place c.in_ok-next.next (sym keeps.0) next),
+      rw (ap (λ w. w.key) keeps.2, pen.1, offer.1, offer.3, c.requires, seen)
+          (adds_moves k.seen.log (g.M.Plain.ask c.args.draft.now) k.place c.in_ok-next.next (sym keeps.0) next),
     )

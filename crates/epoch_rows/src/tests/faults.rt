@@ -61,7 +61,11 @@ fn refusals<S: Store, R: Wait + Abort>(rt: &R, operator: &mut Operator<S>) -> Re
     operator.drop_pending();
     assert_eq!(rt; operator.shut(6), Ok(()), "room again");
     assert_eq!(rt; operator.publish(rt), Ok(4294967295), "the last epoch");
-    assert_eq!(rt; operator.publish(rt), Err(PublishFault::LastEpoch), "and no more");
+    assert_eq!(rt;
+        operator.publish(rt),
+        Err(PublishFault::LastEpoch),
+        "and no more"
+    );
     let set = operator.sets().last().ok_or("a set was published")?;
     assert_eq!(rt; set.changes().len(), 1, "what was given up isn't published");
     assert_eq!(rt; operator.sets().len(), 1, "one set");

@@ -76,10 +76,16 @@ fn publish_all<S: Store, R: Wait + Abort>(
     for (k, asked) in SETS.iter().enumerate() {
         publish(rt, operator, asked, replay)?;
         early.read()?;
-        assert!(rt; shows(&early, operator.number(), false, replay), "the epoch of set {k}");
+        assert!(rt;
+            shows(&early, operator.number(), false, replay),
+            "the epoch of set {k}"
+        );
         if k % 3 == 2 {
             late.read()?;
-            assert!(rt; shows(&late, operator.number(), false, replay), "three sets at once");
+            assert!(rt;
+                shows(&late, operator.number(), false, replay),
+                "three sets at once"
+            );
         }
     }
     assert_eq!(rt; operator.number(), 13, "a number for each set");
@@ -171,7 +177,10 @@ fn set_and_tell<S: Store, R: Wait + Abort>(
         .set(2, Weight::of_numbers(&[5, 5]))
         .map_err(|_| "an arc is set")?;
     reader.read()?;
-    assert!(rt; shows(reader, 0, false, replay), "a pending change isn't seen");
+    assert!(rt;
+        shows(reader, 0, false, replay),
+        "a pending change isn't seen"
+    );
     assert_eq!(rt; operator.publish(rt).ok(), Some(1), "the next number");
     operator.tell(reader)?;
     reader.read()?;
@@ -190,6 +199,9 @@ fn learn<S: Store, R: Abort>(
     let reader = readers.get_mut(0).ok_or("a reader")?;
     reader.learn(ended)?;
     reader.read()?;
-    assert!(rt; shows(reader, 1, true, replay), "no further epoch, and no pending change");
+    assert!(rt;
+        shows(reader, 1, true, replay),
+        "no further epoch, and no pending change"
+    );
     Ok(())
 }

@@ -6,7 +6,7 @@ use mathlib.Core.List.{IsPrefix}
 use prog.Atomic.{either}
 use Rattle.logbook.specs.Pages.{Cell, cell, keeps, no_nib, step, Moves, Goes}
 use Rattle.arc_graph.specs.History.{History}
-use Rattle.epoch_store.specs.Chronicle.{IsKept, AddsHistory}
+use Rattle.epoch_store.specs.Chronicle.{IsChronicle, AddsHistory}
 use Rattle.epoch_store.proofs.PrefixLemmas.{prefix_same}
 
 abbrev shown : List History → List History
@@ -18,7 +18,7 @@ moved xs ys n = Unit {0}
 -- where the counting word is `old`, it becomes `next`, and the history is added
 abbrev AddsOne : List History → History → ℕ → ℕ → List Cell → List History → Type 0
 AddsOne v e old next =
-    Goes IsKept shown moved 0 (v, (no_nib, None)) (λ n. either (n == old) next n) (AddsHistory (step 0 old next e) (v, (no_nib, None)))
+    Goes IsChronicle shown moved 0 (v, (no_nib, None)) (λ n. either (n == old) next n) (AddsHistory (step 0 old next e) (v, (no_nib, None)))
 
 adds_goes : (log v : List History) (e : History) (old next : ℕ) → length v ≡ old → next ≡ old + 1 → IsPrefix v log
     → (b : Bool) → (length log == old) ≡ b
@@ -49,7 +49,7 @@ adds_goes log v e old next len next_is pre false is =
 
 -- whatever the chronicle is, the step adds the history to all that was seen, or finds that there are more
 pub adds_moves : (v : List History) (e : History) (old next : ℕ) → length v ≡ old → next ≡ old + 1
-    → Moves IsKept shown moved 0 (v, (no_nib, None)) (λ n. either (n == old) next n) (AddsHistory (step 0 old next e) (v, (no_nib, None)))
+    → Moves IsChronicle shown moved 0 (v, (no_nib, None)) (λ n. either (n == old) next n) (AddsHistory (step 0 old next e) (v, (no_nib, None)))
 adds_moves v e old next len next_is cs log kept pre away =
     let P : List Cell → Type 0 = λ c. (0 < length c) × ((cell c 0).1 ≡ true)
     × AddsOne v e old next c log in

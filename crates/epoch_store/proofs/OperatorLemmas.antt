@@ -4,14 +4,13 @@ use Rattle.std.specs.Prelude.{sum, replicate}
 use Rattle.std.proofs.lemmas.Bool.{cases_lt}
 use Rattle.std.proofs.lemmas.List.{map-append}
 use Rattle.std.proofs.lemmas.List.Sums.{sum_by-cons}
-use Rattle.std.proofs.lemmas.List.Elements.{All-nil, All-push}
-use Rattle.cost_vector.proofs.Vectors.{All_from_zeros}
+use Rattle.std.proofs.lemmas.List.Elements.{All-nil, All-cons, All-push}
 use Rattle.arc_graph.proofs.HistoryLemmas.{count_with_set}
 use Rattle.arc_graph.proofs.OperatorLemmas.{operator_published, operator_closed}
 use Rattle.arc_graph.specs.declared.change.Change.{Change}
 use Rattle.arc_graph.specs.History.{IsChange, Operator, max_epoch, sets_of, with_none_pending, with_pending}
 use Rattle.arc_graph.specs.History.HistoryEntry.{Changes}
-use Rattle.epoch_store.specs.Faults.{HasRoom, IsZero}
+use Rattle.epoch_store.specs.Faults.{MayPend, IsZero}
 use Rattle.epoch_store.specs.Origin.{Origin, IsOperatorIn, arcs_of, criteria_of, last_number}
 use Rattle.epoch_store.specs.Published.{Published, closing_of, epoch_of, of_sets}
 use Rattle.epoch_store.specs.Standing.{MayFollow}
@@ -37,7 +36,7 @@ new_operator o small = record {
 
 -- one change more is pending
 pub one_more_pending : (o : Origin) (operator : Operator) (c : Change) → IsOperatorIn o operator → IsChange (arcs_of o) (criteria_of o) c
-    → HasRoom operator → IsOperatorIn o (with_pending operator c)
+    → MayPend operator → IsOperatorIn o (with_pending operator c)
 one_more_pending o operator c is change room = record {
   published = is.published;
   unclosed = is.unclosed;
@@ -54,19 +53,17 @@ none_pending o operator is = record {
   room = omega arith;
 }
 
-zeros : (w : List ℕ) → sum w ≡ 0 → w ≡ replicate (length w) 0
-zeros [] none = refl
+zeros : (w : List ℕ) → sum w ≡ 0 → IsZero w
+zeros [] none = All-nil (λ x. x ≡ 0)
 zeros (x ∷ w) none =
     let parts = sum_by-cons (λ n. n) x w in
-    let first : x ≡ 0 = omega (arith, parts, none) in
-    let rest : w ≡ replicate (length w) 0 = zeros w (omega (arith, parts, none)) in
-    cc
+    All-cons (λ y. y ≡ 0) x w (omega (arith, parts, none)) (zeros w (omega (arith, parts, none)))
 
 -- a vector of which not all weights are 0
 pub is_not_zero : (w : List ℕ) → (¬ IsZero w) → 0 < sum w
 is_not_zero w some_weight = elim (cases_lt 0 (sum w)) [
   | inl more ↦ more
-  | inr none ↦ absurd (some_weight (All_from_zeros w (zeros w (omega arith))))
+  | inr none ↦ absurd (some_weight (zeros w (omega arith)))
 ]
 
 -- what an operator publishes next, where it has these sets and these changes are pending

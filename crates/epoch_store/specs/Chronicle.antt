@@ -9,7 +9,7 @@ abbrev pub latest : List History → History
 latest log = fold (λ _ h. h) [] log
 
 -- The first word counts the histories. A book has two words, of which this one leaves the second at 0.
-pub record IsKept (cells : List Cell) (log : List History) : Type 0 where
+pub record IsChronicle (cells : List Cell) (log : List History) : Type 0 where
   pub words : cells ≡ (length log, true) ∷ (0, true) ∷ []
 
 -- the word that counts them

@@ -18,28 +18,28 @@ abbrev pub IsZero : List ℕ → Type 0
 IsZero w = All (λ x. x ≡ 0) w
 
 -- one change more may be pending
-abbrev pub HasRoom : Operator → Type 0
-HasRoom o = length o.pending < max_pending
+abbrev pub MayPend : Operator → Type 0
+MayPend o = length o.pending < max_pending
 
 -- an arc may be given these weights
 abbrev pub MaySet : Origin → Operator → ℕ → List ℕ → Type 0
-MaySet o operator k w = HasArc (arcs_of o) k × (¬ IsZero w) × HasRoom operator
+MaySet o operator k w = HasArc (arcs_of o) k × (¬ IsZero w) × MayPend operator
 
 -- an arc may be shut
 abbrev pub MayShut : Origin → Operator → ℕ → Type 0
-MayShut o operator k = HasArc (arcs_of o) k × HasRoom operator
+MayShut o operator k = HasArc (arcs_of o) k × MayPend operator
 
 -- why an arc isn't given these weights
 abbrev pub HasSetFault : Origin → Operator → ℕ → List ℕ → SetFault → Type 0
 HasSetFault o operator k w set.Arc = ¬ HasArc (arcs_of o) k
 HasSetFault o operator k w set.Zero = HasArc (arcs_of o) k × IsZero w
-HasSetFault o operator k w set.Full = HasArc (arcs_of o) k × (¬ IsZero w) × (¬ HasRoom operator)
+HasSetFault o operator k w set.Full = HasArc (arcs_of o) k × (¬ IsZero w) × (¬ MayPend operator)
 HasSetFault o operator k w set.OutOfMemory = Unit {0}
 
 -- why an arc isn't shut
 abbrev pub HasShutFault : Origin → Operator → ℕ → ShutFault → Type 0
 HasShutFault o operator k shut.Arc = ¬ HasArc (arcs_of o) k
-HasShutFault o operator k shut.Full = HasArc (arcs_of o) k × (¬ HasRoom operator)
+HasShutFault o operator k shut.Full = HasArc (arcs_of o) k × (¬ MayPend operator)
 HasShutFault o operator k shut.OutOfMemory = Unit {0}
 
 -- an epoch may follow

@@ -15,9 +15,9 @@ pub struct Counted;
 impl Rule<History, u64> for Counted {
     ghost use Rattle.std.specs.Prelude.{[]};
     ghost use base.Fml.{ftrue};
-    ghost use Rattle.epoch_store.specs.Chronicle.{IsKept};
+    ghost use Rattle.epoch_store.specs.Chronicle.{IsChronicle};
 
-    ghost holds = { λ cells log. IsKept cells log };
+    ghost holds = { λ cells log. IsChronicle cells log };
 
     ghost first = { [] };
 

@@ -3,7 +3,7 @@ ghost use Rattle.std.specs.Prelude.{◌≡◌, ◌<◌, [], ◌∷◌, ◌++◌,
 ghost use Rattle.arc_graph.specs.History.{IsChange, closed_history, max_pending, sets_of, with_none_pending, with_pending, with_published};
 ghost use Rattle.arc_graph.specs.History.HistoryEntry.{Closed};
 ghost use mathlib.Core.List.{IsPrefix};
-ghost use Rattle.epoch_store.specs.Faults.{HasPublishFault, HasRoom, HasSetFault, HasShutFault, HasArc, MayPublish, MaySet, MayShut};
+ghost use Rattle.epoch_store.specs.Faults.{HasPublishFault, MayPend, HasSetFault, HasShutFault, HasArc, MayPublish, MaySet, MayShut};
 ghost use Rattle.epoch_store.specs.Origin.{IsOperatorIn, arcs_of, criteria_of, last_number};
 ghost use Rattle.epoch_store.specs.Published.{closing_of, epoch_of, of_sets, with_publication};
 ghost use Rattle.epoch_store.specs.Standing.{AwaitsOne, MayFollow};
@@ -257,14 +257,14 @@ impl<S: Store> Operator<S> {
     }
 
     fn has_room(&self) -> bool
-        ensures { IsTrue result ↔ HasRoom self.now }
+        ensures { IsTrue result ↔ MayPend self.now }
     {
         self.draft.pending.len() < MAX_PENDING
     }
 
     fn add(&mut self, change: Change) -> Result<(), OutOfMemory>
         requires change { IsChange (arcs_of S.origin) (criteria_of S.origin) change }
-        requires room { HasRoom self.old }
+        requires room { MayPend self.old }
         ensures pending { OnOk result (self.new ≡ with_pending self.old change) }
         ensures unchanged { OnErr result (self.new ≡ self.old) }
     {

@@ -4,6 +4,8 @@
 
 mod blocks;
 mod front;
+mod sorted;
 
 pub use blocks::BlockFront;
 pub use front::{FrontEntry, ParetoFront, Standing};
+pub use sorted::SortedFront;

@@ -1,0 +1,10 @@
+//! The replies to queries as texts: answers of costs and of walks, and refusals.
+#![tactic(auto)]
+
+mod answer;
+mod form;
+mod page;
+mod piece;
+
+pub use answer::put_answer;
+pub use form::Form;

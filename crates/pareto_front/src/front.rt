@@ -41,7 +41,8 @@ pub trait ParetoFront<const D: usize> {
 
     /// How many entries are settled.
     fn settled_len(&self) -> usize
-        ensures { result ≡ length (state self.now).settled };
+        ensures front { IsFront D (state self.now) }
+        ensures value { result ≡ length (state self.now).settled };
 
     /// How the cost stands to the entries.
     fn compare(&self, cost: &CompactCost<D>) -> Standing

@@ -10,7 +10,7 @@ use Rattle.cost_vector.specs.Costs.{plus, Dominates, Within}
 use Rattle.cost_vector.proofs.Vectors.{cases_Dominates, cases_Within}
 use Rattle.list_laws.specs.Sets.{ListsOnce}
 use Rattle.list_laws.proofs.Members.{in_rest, in_front, in_map, in_none, in_first}
-use Rattle.list_laws.proofs.OnceLaws.{IsTold, told_as, told_not, told_both, told_either, told_some, told_in, sift, list_all, taken_out, range_once, in_cons}
+use Rattle.list_laws.proofs.OnceLaws.{IsTold, told_as, told_not, told_both, told_either, told_member, told_in, sift, list_all, taken_out, range_once, in_cons}
 use Rattle.list_laws.proofs.OnceLaws.{empty_if_none, same_by, once_as}
 use Rattle.list_laws.proofs.Pairs.{pairs_rest, pair_with_first}
 use Rattle.list_laws.proofs.SetLaws.{none_of_empty, same_by_permutation}
@@ -28,20 +28,14 @@ use Rattle.event_machine.proofs.Running.{useless_on, same_itself, runs_on, runs_
 -- ---- what is told
 
 told_place : (p q : Place) → IsTold (p ≡ q)
-told_place settled settled = inl refl
-told_place dropped dropped = inl refl
-told_place waiting waiting = inl refl
-told_place _ _ = inr (λ e. absurd cc)
+told_place p q = grind arith
 
 listed : (p : Place) → Contains (settled ∷ dropped ∷ waiting ∷ []) p
 listed settled = (0, omega arith, refl)
 listed dropped = (1, omega arith, refl)
 listed waiting = (2, omega arith, refl)
 
--- whether P holds of a member, and of an entry
-told_member : {X : Type 0} (P : X → Type 0) → ((x : X) → IsTold (P x)) → (xs : List X) → IsTold ((x : X) × Contains xs x × P x)
-told_member P told xs = elim (told_some P told xs) [ inl found ↦ inl found | inr none ↦ inr (λ (x, here, holds). none x here holds) ]
-
+-- whether P holds of an entry
 told_entry : (P : Label → Type 0) → ((y : Label) → IsTold (P y)) → (s : SearchState) → IsTold ((y : Label) × IsEntry s y × P y)
 told_entry P told s = told_as (λ (p, _, (y, here, holds)). (y, (p, here), holds)) (λ (y, (p, here), holds). (p, listed p, (y, here, holds)))
     (told_member (λ p. (y : Label) × Contains (entries_at s p) y × P y) (λ p. told_member P told (entries_at s p)) (settled ∷ dropped ∷ waiting ∷ []))
@@ -227,14 +221,8 @@ abbrev OpensArcs : Task → Label × ℕ → Type 0
 OpensArcs task p = LeadsOn task.network p.0.node p.1
 
 take_moves : (task : Task) (s : SearchState) (l : Label) (next : SearchState) → Takes task s l next → Moves (λ y. y ≡ l) settled (OpensArcs task) s next
-take_moves task s l next h = record {
-  entries = h.entries;
-  unrelaxed = λ p. opens (h.unrelaxed p) (λ e. subst (λ (m : Label). LeadsOn task.network m.node p.1) e)
-      (λ e. subst (λ (m : Label). LeadsOn task.network m.node p.1) (sym e));
-  candidates = h.candidates;
-} where
-  opens : {B S E O P : Type 0} → (B ↔ (S ⊎ (E × O))) → (E → P → O) → (E → O → P) → (B ↔ (S ⊎ (E × P)))
-  opens f to back = grind arith
+take_moves task s l next h =
+    record { entries = h.entries; unrelaxed = λ p. let u = h.unrelaxed p in grind arith; candidates = h.candidates }
 
 -- ---- what is told of a state
 

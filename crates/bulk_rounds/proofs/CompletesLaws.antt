@@ -7,7 +7,7 @@ use Rattle.cost_vector.specs.Costs.{AtMost, Dominates}
 use Rattle.cost_vector.proofs.Vectors.{AtMost-trans, AtMost-antisymm, cases_same}
 use Rattle.list_laws.specs.Sets.{ListsOnce}
 use Rattle.list_laws.proofs.SetLaws.{none_of_empty, same_by_permutation}
-use Rattle.list_laws.proofs.OnceLaws.{same_by, told_in, list_all, in_cons, in_append, empty_if_none, once_as, pairs_append, pairs_of_members}
+use Rattle.list_laws.proofs.OnceLaws.{same_by, members_once, rest_once, lists_append, empty_if_none, once_as, pairs_append, pairs_of_members}
 use Rattle.list_laws.proofs.OnceLaws.{lists_in_any_order, lists_permute, lists_images}
 use Rattle.list_laws.proofs.Members.{in_none, in_first, cases_in}
 use Rattle.list_laws.proofs.Pairs.{pairs_rest, pair_with_first}
@@ -113,11 +113,7 @@ event_keeps task is a b (relax l k) sound due h =
 module _ (net : Network) (a b : SearchState) (kept : KeepsOutcome net a b) (apart : AreApart b)
     (no_arc : b.unrelaxed ≡ []) (no_candidate : b.candidates ≡ []) where
   covered : (y : Label) → IsPresent net a y → IsCovered b y
-  covered y present = elim (kept.met y (elim present [ inl entry ↦ inr (covered_by_itself a y entry) | inr arrival ↦ inl arrival ])) [
-    | inr h ↦ h
-    | inl (inl there) ↦ absurd (none_of_empty b.candidates no_candidate y there)
-    | inl (inr (e, there, f)) ↦ absurd (none_of_empty b.unrelaxed no_arc (e, y.arc) there)
-  ]
+  covered y present = grind (arith, covered_by_itself, none_of_empty)
 
   -- an entry can stand for all before that isn't worse
   covers_back : (y z : Label) → IsEntry b y → IsPresent net a z → z.node ≡ y.node → AtMost z.cost y.cost → Covers y z
@@ -185,29 +181,14 @@ one_outcome net s a b first second = record {
   candidates = subst (IsPermutation a.candidates) (first.candidates ∙ sym second.candidates) (IsPermutation-refl a.candidates);
 }
 
--- ---- lists of all that is so, each once
-
-module _ {X : Type 0} where
-  -- what is left of such a list
-  rest_once : (P Q : X → Type 0) (x : X) (xs : List X) → ((y : X) → Q y ↔ (P y × (y ≢ x))) → ListsOnce P (x ∷ xs) → ListsOnce Q xs
-  rest_once P Q x xs left lists = record {
-    exact = λ y. others (in_cons x xs y) (lists.exact y) (λ h e. pair_with_first ◌≢◌ x xs lists.once y h (sym e)) (left y);
-    once = pairs_rest ◌≢◌ x xs lists.once;
-  } where
-    others : {W R E H L : Type 0} → (W ↔ (E ⊎ R)) → (W ↔ H) → (R → ¬ E) → (L ↔ (H × (¬ E))) → (R ↔ L)
-    others f g apart h = grind arith
-
-  -- two of them, one behind the other
-  pub lists_append : (P Q R : X → Type 0) (xs ys : List X) → ((x : X) → R x ↔ (P x ⊎ Q x)) → ((x : X) → P x → ¬ Q x)
-      → ListsOnce P xs → ListsOnce Q ys → ListsOnce R (xs ++ ys)
-  lists_append P Q R xs ys either apart first second = record {
-    exact = λ x. joined (in_append xs ys x) (either x) (first.exact x) (second.exact x);
-    once = pairs_append ◌≢◌ xs ys first.once second.once (λ x y h k e. apart y (subst P e ((first.exact x).0 h)) ((second.exact y).0 k));
-  } where
-    joined : {W A B C D H : Type 0} → (W ↔ (A ⊎ B)) → (H ↔ (C ⊎ D)) → (A ↔ C) → (B ↔ D) → (W ↔ H)
-    joined f g h k = grind arith
-
 -- ---- what is to do
+
+-- all but one, and all where that one is of another kind
+but_one : {A B E F : Type 0} → (B ↔ (A × (¬ E))) → (F → E) → (E → F) → (B ↔ (A × (¬ F)))
+but_one but to back = grind arith
+
+all_but : {A B F : Type 0} → (A ↔ B) → ¬ F → (B ↔ (A × (¬ F)))
+all_but same other = grind arith
 
 module _ (task : Task) (is : IsTask task) where
   arrival_alike : (a b : SearchState) → IsSame a b → (x : Label) → IsArrival task.network a x → IsArrival task.network b x
@@ -221,17 +202,10 @@ module _ (task : Task) (is : IsTask task) where
   -- an event leaves all else to do
   to_do_after : (a b : SearchState) → IsSound task a → (event : Event) → IsToDo task.network a event → Happens task a event b
       → (other : Event) → IsToDo task.network b other ↔ (IsToDo task.network a other × (other ≢ event))
-  to_do_after a b sound (relax l k) due h (relax m j) = (
-    λ here. let old = (h.unrelaxed (m, j)).0 here in (old.0, λ same. old.1 (cc)),
-    λ (there, other). (h.unrelaxed (m, j)).1 (there, λ same. other (ap relaxing same)),
-  )
-  to_do_after a b sound (relax l k) due h (merge x) =
-      let arrivals = arrivals_by_relax task a b l k h x in (λ here. (arrivals.1 here, λ same. absurd cc), λ there. arrivals.0 there.0)
-  to_do_after a b sound (merge x) due h (relax m j) = (λ pair. ((h.unrelaxed (m, j)).0 pair, λ same. absurd cc), λ there. (h.unrelaxed (m, j)).1 there.0)
-  to_do_after a b sound (merge x) due h (merge y) = let arrivals = arrivals_by_merge task is a b sound x h y in (
-    λ here. ((arrivals.0 here).0, λ same. (arrivals.0 here).1 cc),
-    λ (there, other). arrivals.1 (there, λ e. other (ap (λ (z : Label). merge z) e)),
-  )
+  to_do_after a b sound (relax l k) due h (relax m j) = but_one (h.unrelaxed (m, j)) (λ same. cc) (λ same. ap relaxing same)
+  to_do_after a b sound (relax l k) due h (merge x) = all_but (arrivals_by_relax task a b l k h x) (λ same. absurd cc)
+  to_do_after a b sound (merge x) due h (relax m j) = all_but ((h.unrelaxed (m, j)).1, (h.unrelaxed (m, j)).0) (λ same. absurd cc)
+  to_do_after a b sound (merge x) due h (merge y) = but_one (arrivals_by_merge task is a b sound x h y) (λ same. cc) (λ e. ap (λ (z : Label). merge z) e)
   to_do_after a b sound (take l) due h _ = absurd due
   to_do_after a b sound (drop l) due h _ = absurd due
   to_do_after a b sound _ due h (take l) = (λ wrong. absurd wrong, λ h. h.0)
@@ -287,12 +261,7 @@ module _ (task : Task) (is : IsTask task) where
 
     module _ (sound : IsSound task s) (events : List Event) (completes : Completes task.network s events) where
       none_yet : IsLeft s events s
-      none_yet = record {
-        sound = sound;
-        all = completes.all;
-        in_order = completes.in_order;
-        kept = record { met = λ y h. h; back = λ y h. h; places = λ p other y unbeaten. (λ h. h, λ h. h) };
-      }
+      none_yet = grind arith
 
       -- each list that completes is a run, and leads to the outcome
       pub completes_run : (after : SearchState) × Runs task s events after
@@ -316,18 +285,13 @@ IsMerging net s _ = ⊥
 
 module _ (net : Network) (s : SearchState) where
   either_half : (event : Event) → IsToDo net s event ↔ (IsRelaxing s event ⊎ IsMerging net s event)
-  either_half (relax l k) = (λ h. inl h, elim [ inl h ↦ h | inr wrong ↦ absurd wrong ])
-  either_half (merge x) = (λ h. inr h, elim [ inl wrong ↦ absurd wrong | inr h ↦ h ])
-  either_half _ = (λ wrong. absurd wrong, elim [ inl wrong ↦ absurd wrong | inr wrong ↦ absurd wrong ])
+  either_half event = grind arith
 
   not_both : (event : Event) → IsRelaxing s event → ¬ IsMerging net s event
-  not_both (relax l k) h wrong = wrong
-  not_both _ wrong h = wrong
+  not_both event = grind arith
 
   no_result : (a b : Event) → IsRelaxing s a ⊎ IsMerging net s b → ¬ MergesResult net a b
-  no_result (merge y) (relax l k) h result = elim h [ inl wrong ↦ wrong | inr wrong ↦ wrong ]
-  no_result (merge y) _ h wrong = wrong
-  no_result _ b h wrong = wrong
+  no_result a b = grind arith
 
   -- all relaxes in any order, and then all merges in any order
   pub completes_in_halves : (first second : List Event) → ListsOnce (IsRelaxing s) first → ListsOnce (IsMerging net s) second
@@ -401,7 +365,7 @@ module _ (task : Task) (is : IsTask task) where
     -- all pairs that are to be relaxed, and all that arrives
     some_work : (ps : List (Label × ℕ)) × (xs : List Label) × ListsOnce (Contains s.unrelaxed) ps × ListsOnce (IsArrival task.network s) xs
     some_work =
-        let (ps, pairs) = list_all cases_pair (Contains s.unrelaxed) (told_in cases_pair s.unrelaxed) s.unrelaxed (λ p h. h) in
+        let (ps, pairs) = members_once cases_pair s.unrelaxed in
         let (b, run) = relaxes_exist ps s sound pairs in
         (ps, b.candidates, pairs, arrivals_when_relaxed ps s b sound pairs run)
 

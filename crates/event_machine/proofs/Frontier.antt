@@ -142,9 +142,10 @@ module _ (task : Task) (is : IsTask task) (s : SearchState) (sound : IsSound tas
 
   module _ (l : Label) (may : MayTake task s l) where
     -- a walk whose cost dominates its cost has a settled label below it at its end
-    nothing_below : (p : List ℕ) (v : ℕ) (b : List ℕ) → IsWalk task.network task.start p v b → Dominates b l.cost → HasSettledBelow s v b
+    nothing_below : (p : List ℕ) (v : ℕ) (b : List ℕ) → IsWalk task.network task.start p v b → Dominates b l.cost
+        → (e : HasSettledBelow s v b) × Dominates e.label.cost l.cost
     nothing_below p v b walk less = elim (frontier p v b walk) [
-      | inl below ↦ below
+      | inl below ↦ (below, AtMost-Dominates below.label.cost b l.cost below.at_most less)
       | inr y ↦
           let dominates = AtMost-Dominates y.label.cost b l.cost y.at_most less in
           elim y.pending [
@@ -161,8 +162,7 @@ module _ (task : Task) (is : IsTask task) (s : SearchState) (sound : IsSound tas
     taken_is_best = record {
       reached = walked l (inl (waiting, may.waits));
       nondominated = λ p b walk less.
-          let below = nothing_below p l.node b walk less in
-          let dominates = AtMost-Dominates below.label.cost b l.cost below.at_most less in
+          let (below, dominates) = nothing_below p l.node b walk less in
           dominates.differs (ap (λ (m : Label). m.cost) (alone_there below.label (settled, below.settled) below.node dominates.at_most));
     }
 
@@ -171,8 +171,7 @@ module _ (task : Task) (is : IsTask task) (s : SearchState) (sound : IsSound tas
       best = taken_is_best;
       within = may.within;
       undominated = λ b best less.
-          let below = nothing_below best.reached.0 task.target b best.reached.1 less in
-          let dominates = AtMost-Dominates below.label.cost b l.cost below.at_most less in
+          let (below, dominates) = nothing_below best.reached.0 task.target b best.reached.1 less in
           may.unbeaten (record { by = below.label; settled = below.settled; node = below.node; dominates = dominates });
     }
 
@@ -185,7 +184,7 @@ module _ (task : Task) (is : IsTask task) (s : SearchState) (sound : IsSound tas
         let long = length_of_walk task.network is.network q task.start walk.at walk.before walk.walk in
         let less = subst (Dominates walk.before) (sym walk.cost)
         (grows_along task.network is.network k walk.at l.node walk.by walk.before walk.leads long) in
-        let e = settled_at_best walk.at walk.before best (nothing_below q walk.at walk.before walk.walk less) in
+        let e = settled_at_best walk.at walk.before best (nothing_below q walk.at walk.before walk.walk less).0 in
         let x : Label = record { node = l.node; cost = l.cost; arc = k } in
         let leads = subst (λ u. Leads task.network k u walk.by l.node) (sym e.node) walk.leads in
         let f : Follows task.network e.label x = record { by = walk.by; leads = leads; cost = walk.cost ∙ ap (λ b. plus b walk.by) (sym e.cost) } in
@@ -201,10 +200,7 @@ module _ (task : Task) (is : IsTask task) (s : SearchState) (sound : IsSound tas
     taken_is_least = elim (sound.founded l (inl (waiting, may.waits))) [
       | at_start e ↦ subst (HasLeastArc task.network task.start) (sym e) (record {
         walk = [];
-        least = record {
-          walk = (is.start, refl, refl);
-          least = λ q walk other. absurd (other (none_at_zero task.network is.network q task.start task.start walk));
-        };
+        least = grind (arith, none_at_zero);
         arc = refl;
       })
       | follows e there f ↦

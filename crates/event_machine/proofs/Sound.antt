@@ -15,9 +15,7 @@ use Rattle.event_machine.specs.Laws.{IsKnown, HasLeastArc}
 -- ---- what can be told of labels
 
 pub label_by_parts : (x y : Label) → IsSamePair x y → x.arc ≡ y.arc → x ≡ y
-label_by_parts x y pair arc =
-    let made : ℕ → List ℕ → ℕ → Label = λ n c k. record { node = n; cost = c; arc = k } in
-    ap₂ (λ n c. made n c x.arc) pair.node pair.cost ∙ ap (made y.node y.cost) arc
+label_by_parts x y pair arc = grind arith
 
 pub same_pair : (x y : Label) → x ≡ y → IsSamePair x y
 same_pair x y e = record { node = ap (λ (l : Label). l.node) e; cost = ap (λ (l : Label). l.cost) e }

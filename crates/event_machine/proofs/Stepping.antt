@@ -96,10 +96,7 @@ module _ (a b : SearchState) (apart : AreApart a) where
       | inr other ↦ inl other
       | inl e ↦ inr (subst (Covers n) (sym e) (covers_pair n m (pair_back m n pair) less))
     ];
-    clear = λ p y y_in other node. elim [
-      | inl below ↦ other (sym (apart.alone m y entry (p, y_in) (pair.node ∙ node) (subst (λ c. AtMost c y.cost) (sym pair.cost) below)))
-      | inr above ↦ other (apart.alone y m (p, y_in) entry (sym (pair.node ∙ node)) (subst (AtMost y.cost) (sym pair.cost) above))
-    ];
+    clear = λ p y y_in other node. grind arith;
   }
 
   -- a waiting label has room among the others, wherever it stands
@@ -119,10 +116,7 @@ module _ (task : Task) (a b : SearchState) (sound : IsSound task a) (x : Label) 
       | inr above ↦ elim (cases_below y x (sym node) above) [ inl pair ↦ h.new y (p, there) pair | inr beats ↦ h.unbeaten y (p, there) beats ]
       | inl below ↦ elim (cases_below x y node below) [
         | inl pair ↦ h.new y (p, there) (pair_back x y pair)
-        | inr beats ↦ elim stays [
-          | inr unbeaten ↦ unbeaten beats
-          | inl is_settled ↦ sound.undominated y x (subst (λ q. Contains (entries_at a q) y) is_settled there) (is_candidate mine) beats.cost
-        ]
+        | inr beats ↦ grind arith
       ]
     ];
   }
@@ -190,10 +184,7 @@ pub record Changes (task : Task) (a b : SearchState) : Type 0 where
 
 -- one label follows from another along one arc
 pub follows_alike : (net : Network) (e x y : Label) → Follows net e x → Follows net e y → x.arc ≡ y.arc → x ≡ y
-follows_alike net e x y f g arc =
-    let that = subst (λ k. Leads net k e.node g.by y.node) (sym arc) g.leads in
-    let alike = leads_alike net x.arc e.node x.node e.node y.node f.by g.by f.leads that in
-    label_by_parts x y (record { node = alike.2; cost = f.cost ∙ ap (plus e.cost) alike.1 ∙ sym g.cost }) arc
+follows_alike net e x y f g arc = grind (arith, leads_alike, label_by_parts)
 
 -- what is given or arrives still is or does where no candidate and no arc that is to be relaxed goes
 given_on : (net : Network) (a b : SearchState) → ((p : Label × ℕ) → Contains a.unrelaxed p → Contains b.unrelaxed p) → (x : Label)

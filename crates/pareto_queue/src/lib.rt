@@ -2,7 +2,9 @@
 //! gives out at once all of those whose cost no waiting cost dominates.
 #![tactic(auto)]
 
+mod block;
 mod queue;
+mod shadow;
 mod steps;
 
 pub use queue::Queue;

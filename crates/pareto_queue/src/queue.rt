@@ -4,27 +4,16 @@ ghost use Rattle.list_laws.specs.Sets.{Loses};
 ghost use Rattle.pareto_queue.specs.Queues.{IsDominatedBy, LosesWhere, TakesUndominated};
 
 use crate::Steps;
+use crate::block::Block;
 use compact_labels::{CompactCost, CompactSpot};
 use cost_vector::{Limit, OutOfMemory};
 use std::alloc::Global;
+use std::marker::Model;
 use std::sync::ledger::Ledger;
-
-/// The most spots of a block.
-const BLOCK: usize = 128;
-
-/// Spots that stand between the fences of two blocks, in any order.
-#[derive(Drop)]
-struct Block<const D: usize> {
-    /// No spot of the block comes before it, and each of the blocks before it does.
-    fence: CompactSpot<D>,
-    /// A cost that is at most each cost of the block.
-    corner: CompactCost<D>,
-    spots: Vec<CompactSpot<D>>,
-}
 
 /// The spots that wait, each once.
 ///
-/// They stand in blocks of at most 128, in ascending order of the blocks and in any order within one. A block into which
+/// They stand in blocks of at most 128, in ascending order of the blocks and in any order within one. A block in which
 /// nothing undominated can stand isn't looked into.
 #[derive(Drop)]
 pub struct Queue<const D: usize> {

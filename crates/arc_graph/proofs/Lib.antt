@@ -12,3 +12,7 @@ pub mod ChainLemmas
 pub mod LayoutLemmas
 pub mod NumbersLemmas
 pub mod RelaxLaws
+pub mod PageLemmas
+pub mod HistoryLemmas
+pub mod OperatorLemmas
+pub mod CopiedPageLemmas

@@ -1,5 +1,5 @@
 -- What a joiner keeps of the files that came so far.
-use Rattle.std.specs.Prelude.{◌≡◌, ℕ, ◌≤◌, List, Option, length, All}
+use Rattle.std.specs.Prelude.{◌≡◌, ℕ, ◌+◌, ◌≤◌, List, Option, length, All}
 use Rattle.cost_vector.specs.Costs.{max_criteria}
 use Rattle.arc_graph.specs.declared.join.OtherEnds.{OtherEnds}
 use Rattle.road_network.specs.Network.{IsNode}
@@ -33,3 +33,16 @@ pub record IsJoiner (j : Joiner) : Type 0 where
   pub tails : All (λ e. IsNode j.nodes e.0) j.ends
   pub heads : All (λ e. IsNode j.nodes e.1) j.ends
   pub stored : All (IsStoredState j.begun) j.vectors
+
+-- one file more was begun, this much of it is due, and nothing of it has come
+pub record BeginsFile (old new : Joiner) (nodes arcs : ℕ) : Type 0 where
+  pub begun : new.begun ≡ old.begun + 1
+  pub due_nodes : new.due_nodes ≡ nodes
+  pub due_arcs : new.due_arcs ≡ arcs
+  pub none : new.come ≡ 0
+
+-- the file begun last is the same one, and as much of it is due as before
+pub record KeepsFile (old new : Joiner) : Type 0 where
+  pub begun : new.begun ≡ old.begun
+  pub due_nodes : new.due_nodes ≡ old.due_nodes
+  pub due_arcs : new.due_arcs ≡ old.due_arcs

@@ -7,3 +7,5 @@ pub mod Joiner
 pub mod Inside
 pub mod Faults
 pub mod StandsFor
+pub mod Pages
+pub mod History

@@ -23,6 +23,11 @@ pub record IsStoredState (criteria : ℕ) (places : List ℕ) : Type 0 where
   pub small : All (λ x. x < 2 ^ 32) places
   pub filler : (i : ℕ) → criteria ≤ i → slice_index places i ≡ 0
 
+-- the places are those of the state
+pub record IsStoredAs (criteria : ℕ) (state : Option (List ℕ)) (places : List ℕ) : Type 0 where
+  pub stored : IsStoredState criteria places
+  pub state_is : state_in criteria places ≡ state
+
 -- the same for each arc
 pub record AreStoredStates (criteria : ℕ) (vectors : List (List ℕ)) : Type 0 where
   pub two : min_criteria ≤ criteria

@@ -7,6 +7,7 @@ ghost use Rattle.arc_graph.specs.Files.{ArcFile, empty_file, size_of, with_arc};
 ghost use Rattle.arc_graph.specs.Agreement.{Agree, AgreeInSize, HasFault, joined};
 ghost use Rattle.arc_graph.specs.Agreement.{IsOtherSize, IsZeroArc, DiffersInEnds};
 ghost use Rattle.arc_graph.specs.StandsFor.{StandsFor};
+ghost use Rattle.arc_graph.specs.Joiner.{BeginsFile, KeepsFile};
 ghost use Rattle.arc_graph.specs.Faults.{AreLeastIfAny, IsEarlier, arc_fault_of};
 ghost use Rattle.list_laws.specs.Least.{IsLeastIfAny};
 ghost use Rattle.arc_graph.specs.Stored.{is_zero, states_of};
@@ -114,13 +115,8 @@ impl Joiner {
         requires fewer_than_four { self.old.begun < max_criteria }
         requires whole { self.old.come ≡ self.old.due_arcs }
 
-        // What is due of the file, and that nothing of it has come.
-        ensures begun { OnOk result (self.new.begun ≡ self.old.begun + 1) }
-        ensures nodes { OnOk result (self.new.due_nodes ≡ nodes) }
-        ensures arcs { OnOk result (self.new.due_arcs ≡ arcs) }
-        ensures none { OnOk result (self.new.come ≡ 0) }
-
-        // The files of before, and one without arcs.
+        // All of the file is due; and the files are those of before, and one without arcs.
+        ensures begins { OnOk result (BeginsFile self.old self.new nodes arcs) }
         ensures files { (files : List ArcFile) → StandsFor self.old files
             → OnOk result (StandsFor self.new (files ++ empty_file nodes ∷ [])) }
     {
@@ -160,9 +156,7 @@ impl Joiner {
         requires due { self.old.come < self.old.due_arcs }
 
         // One arc more has come of the file that was begun last.
-        ensures begun { self.new.begun ≡ self.old.begun }
-        ensures nodes { self.new.due_nodes ≡ self.old.due_nodes }
-        ensures arcs { self.new.due_arcs ≡ self.old.due_arcs }
+        ensures file { KeepsFile self.old self.new }
         ensures come { OnOk result (self.new.come ≡ self.old.come + 1) }
 
         // The files of before, the last with this arc more.
@@ -185,9 +179,7 @@ impl Joiner {
         requires due { self.old.come < self.old.due_arcs }
 
         // One arc more has come of the file that was begun last.
-        ensures begun { self.new.begun ≡ self.old.begun }
-        ensures nodes { self.new.due_nodes ≡ self.old.due_nodes }
-        ensures arcs { self.new.due_arcs ≡ self.old.due_arcs }
+        ensures file { KeepsFile self.old self.new }
         ensures come { OnOk result (self.new.come ≡ self.old.come + 1) }
 
         // The files of before, the last with this arc more.
@@ -207,9 +199,7 @@ impl Joiner {
         requires due { self.old.come < self.old.due_arcs }
 
         // One arc more has come of the file that was begun last.
-        ensures begun { self.new.begun ≡ self.old.begun }
-        ensures nodes { self.new.due_nodes ≡ self.old.due_nodes }
-        ensures arcs { self.new.due_arcs ≡ self.old.due_arcs }
+        ensures file { KeepsFile self.old self.new }
         ensures come { self.new.come ≡ self.old.come + 1 }
 
         // The files of before, the last with this arc more.

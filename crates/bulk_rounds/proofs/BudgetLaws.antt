@@ -11,7 +11,8 @@ use Rattle.event_machine.specs.Machine.{Task, IsTask, Label, IsSamePair, SearchS
 use Rattle.event_machine.specs.Events.{IsReached}
 use Rattle.event_machine.specs.Rounds.{IsBetweenRounds, NoneStays}
 use Rattle.event_machine.proofs.Keeping.{sound_if_reached}
-use Rattle.event_machine.proofs.SettledLabels.{settled_once, all_settled}
+use Rattle.event_machine.proofs.Keeping.{settled_once}
+use Rattle.event_machine.proofs.Frontier.{all_settled}
 
 abbrev pair_of : Label → ℕ × List ℕ
 pair_of l = (l.node, l.cost)

@@ -1,188 +1,147 @@
 -- Lists that complete a round are runs to its outcome, in whatever order; so are those that relax all and then merge all.
-use Rattle.std.proofs.Common.{◌≡◌, ◌≢◌, ◌↔◌, ◌⊎◌, ℕ, List, [], ◌∷◌, ◌++◌, map, inl, inr, refl, sym, ap, ap₂, subst, ◌∙◌, arith, append-nil}
-use Rattle.std.specs.Prelude.{AllPairs, Contains}
-use Rattle.std.proofs.lemmas.List.Sorted.{Contains-permutation, IsPermutation-sym}
-use Rattle.cost_vector.specs.Costs.{AtMost, plus}
-use Rattle.cost_vector.proofs.Vectors.{AtMost-refl, plus_cancel}
-use Rattle.road_network.specs.Network.{Network}
-use Rattle.road_network.proofs.WalkLaws.{leads_by_vector}
-use Rattle.road_network.proofs.Reached.{leads_alike}
-use Rattle.list_laws.proofs.Members.{in_none, in_first, in_rest, in_front, cases_in}
-use Rattle.list_laws.proofs.Pairs.{pairs_none, pairs_rest, pair_with_first, pairs_cons}
+use Rattle.std.proofs.Common.{◌≡◌, ◌≢◌, ◌↔◌, ◌⊎◌, ℕ, List, [], ◌∷◌, ◌++◌, map, inl, inr, refl, sym, ap, ap₂, subst, arith}
+use Rattle.std.specs.Prelude.{Contains}
+use Rattle.std.proofs.lemmas.List.Sorted.{IsPermutation-sym}
+use Rattle.list_laws.proofs.Members.{in_none, in_first, cases_in}
+use Rattle.list_laws.proofs.Pairs.{pairs_rest, pair_with_first}
 use Rattle.list_laws.specs.Sets.{ListsOnce}
-use Rattle.event_machine.specs.Machine.{Task, IsTask, Label, SearchState, settled, LeadsOn, Follows}
-use Rattle.event_machine.specs.Events.{Event, take, drop, relax, merge, IsSame, Relaxes, Merges, Happens, Runs}
+use Rattle.road_network.specs.Network.{Network}
+use Rattle.event_machine.specs.Machine.{Task, IsTask, Label, SearchState}
+use Rattle.event_machine.specs.Events.{Event, take, drop, relax, merge, IsSame, Happens, Runs}
 use Rattle.event_machine.specs.Rounds.{relaxing, Finishes}
-use Rattle.event_machine.specs.Orders.{IsArrival, came, comes, MergesResult, Completes, IsOutcome}
-use Rattle.list_laws.proofs.SetLaws.{none_of_empty, gains_by_permutation}
-use Rattle.event_machine.proofs.Running.{same_itself, same_back, runs_on, runs_apart, runs_to_same}
-use Rattle.event_machine.proofs.Sound.{IsSound, cases_label, cases_pair}
-use Rattle.event_machine.proofs.Stepping.{follows_alike, arrivals_by_relax, candidates_by_merge}
-use Rattle.event_machine.proofs.Frontier.{length_of_walk}
-use Rattle.event_machine.proofs.Keeping.{sound_after, sound_by_run}
-use Rattle.list_laws.proofs.OnceLaws.{told_as, told_in, list_all, in_cons, in_append, empty_if_none, once_in_any_order, pairs_append}
+use Rattle.event_machine.specs.Orders.{IsArrival, came, comes, MergesResult, IsToDo, Completes, IsOutcome}
+use Rattle.list_laws.proofs.SetLaws.{same_by_permutation}
+use Rattle.event_machine.proofs.Running.{same_itself, same_back, runs_on, runs_apart, run_exists, runs_to_end}
+use Rattle.event_machine.proofs.Sound.{IsSound, cases_pair}
+use Rattle.event_machine.proofs.Stepping.{arrival_on, arrivals_by_relax, arrivals_by_merge, same_changes}
+use Rattle.event_machine.proofs.Keeping.{sound_after, same_is_sound}
+use Rattle.list_laws.proofs.OnceLaws.{told_in, list_all, in_cons, in_append, empty_if_none, once_as, pairs_append}
 use Rattle.list_laws.proofs.OnceLaws.{pairs_of_members, lists_in_any_order, lists_permute, lists_images}
 use Rattle.bulk_rounds.proofs.HappensLaws.{relax_happens, merge_happens}
-use Rattle.bulk_rounds.proofs.OutcomeLaws.{arrival_alike, outcome_of_run, one_outcome}
+use Rattle.bulk_rounds.proofs.OutcomeLaws.{KeepsOutcome, keeps_through, same_keeps, event_keeps, outcome_at_end, one_outcome}
 
--- ---- event by event
+-- ---- lists of all that is so, each once
 
--- each candidate stands once, and no pair gives it
-record IsFresh (net : Network) (s : SearchState) : Type 0 where
-  pub once : AllPairs ◌≢◌ s.candidates
-  pub apart : (e x : Label) → Contains s.candidates x → Contains s.unrelaxed (e, x.arc) → ¬ Follows net e x
+module _ {X : Type 0} where
+  -- what is left of such a list
+  rest_once : (P Q : X → Type 0) (x : X) (xs : List X) → ((y : X) → Q y ↔ (P y × (y ≢ x))) → ListsOnce P (x ∷ xs) → ListsOnce Q xs
+  rest_once P Q x xs left lists = record {
+    exact = λ y. others (in_cons x xs y) (lists.exact y) (λ h e. pair_with_first ◌≢◌ x xs lists.once y h (sym e)) (left y);
+    once = pairs_rest ◌≢◌ x xs lists.once;
+  } where
+    others : {W R E H L : Type 0} → (W ↔ (E ⊎ R)) → (W ↔ H) → (R → ¬ E) → (L ↔ (H × (¬ E))) → (R ↔ L)
+    others f g apart h = grind arith
 
--- a label follows from one settled label alone
-follows_once : (task : Task) → IsTask task → (s : SearchState) → IsSound task s → (d e x : Label) → Contains s.settled d → Contains s.settled e
-    → Follows task.network d x → Follows task.network e x → d ≡ e
-follows_once task is s sound d e x there there_too f g =
-    let alike = leads_alike task.network x.arc d.node x.node e.node x.node f.by g.by f.leads g.leads in
-    let long = (leads_by_vector task.network is.network x.arc e.node x.node g.by g.leads).whole in
-    let sums : plus d.cost g.by ≡ plus e.cost g.by = ap (plus d.cost) (sym alike.1) ∙ sym f.cost ∙ g.cost in
-    let way = sound.walked d (inl (settled, there)) in
-    let way_too = sound.walked e (inl (settled, there_too)) in
-    let cost : d.cost ≡ e.cost = plus_cancel d.cost e.cost g.by
-    (length_of_walk task is way.arcs d.node d.cost way.walk ∙ sym long) (length_of_walk task is way_too.arcs e.node e.cost way_too.walk ∙ sym long) sums in
-    sound.apart.alone d e (settled, there) (settled, there_too) alike.0 (subst (AtMost d.cost) cost (AtMost-refl d.cost))
+  -- two of them, one behind the other
+  pub lists_append : (P Q R : X → Type 0) (xs ys : List X) → ((x : X) → R x ↔ (P x ⊎ Q x)) → ((x : X) → P x → ¬ Q x)
+      → ListsOnce P xs → ListsOnce Q ys → ListsOnce R (xs ++ ys)
+  lists_append P Q R xs ys either apart first second = record {
+    exact = λ x. joined (in_append xs ys x) (either x) (first.exact x) (second.exact x);
+    once = pairs_append ◌≢◌ xs ys first.once second.once (λ x y h k e. apart y (subst P e ((first.exact x).0 h)) ((second.exact y).0 k));
+  } where
+    joined : {W A B C D H : Type 0} → (W ↔ (A ⊎ B)) → (H ↔ (C ⊎ D)) → (A ↔ C) → (B ↔ D) → (W ↔ H)
+    joined f g h k = grind arith
 
--- what is left of a list that completes, where just what its first event does is done
-rest_completes : (net : Network) (s next : SearchState) (event : Event) (rest : List Event) → Completes net s (event ∷ rest)
-    → ((l : Label) (k : ℕ) → Contains next.unrelaxed (l, k) ↔ (Contains s.unrelaxed (l, k) × (relax l k ≢ event)))
-    → ((x : Label) → IsArrival net next x ↔ (IsArrival net s x × (merge x ≢ event))) → Completes net next rest
-rest_completes net s next event rest c pairs arrivals = record {
-  relaxes = λ l k. others (in_cons event rest (relax l k)) (c.relaxes l k) (once (relax l k)) (pairs l k);
-  merges = λ x. others (in_cons event rest (merge x)) (c.merges x) (once (merge x)) (arrivals x);
-  takes = λ l h. c.takes l (in_rest event rest (take l) h);
-  drops = λ l h. c.drops l (in_rest event rest (drop l) h);
-  once = pairs_rest ◌≢◌ event rest c.once;
-  in_order = pairs_rest (λ a b. ¬ MergesResult net a b) event rest c.in_order;
-} where
-  once : (other : Event) → Contains rest other → other ≢ event
-  once other h e = pair_with_first ◌≢◌ event rest c.once other h (sym e)
-
-  others : {R W P Q E : Type 0} → (W ↔ (E ⊎ R)) → (W ↔ P) → (R → ¬ E) → (Q ↔ (P × (¬ E))) → (R ↔ Q)
-  others f g apart h = grind arith
-
-module _ (task : Task) (is : IsTask task) (s next : SearchState) (sound : IsSound task s) (fresh : IsFresh task.network s) (rest : List Event) where
-  relax_goes_on : (l : Label) (k : ℕ) → Completes task.network s (relax l k ∷ rest) → Relaxes task s l k next
-      → Completes task.network next rest × IsFresh task.network next
-  relax_goes_on l k c h = (
-    rest_completes task.network s next (relax l k) rest c
-        (λ e j. (
-          λ here. let old = (h.unrelaxed (e, j)).0 here in (old.0, λ same. old.1 (cc)),
-          λ (there, other). (h.unrelaxed (e, j)).1 (there, λ same. other (ap relaxing same)),
-        ))
-        (λ x. let arrivals = arrivals_by_relax task s next l k h x in (λ here. (arrivals.1 here, λ same. absurd cc), λ there. arrivals.0 there.0)),
-    record { once = once; apart = apart },
-  ) where
-    given : Contains s.unrelaxed (l, h.candidate.arc)
-    given = subst (λ j. Contains s.unrelaxed (l, j)) (sym h.arc) h.may
-
-    once : AllPairs ◌≢◌ next.candidates
-    once = once_in_any_order (h.candidate ∷ s.candidates) next.candidates h.candidates (pairs_cons ◌≢◌ h.candidate s.candidates
-        (λ y there e. fresh.apart l h.candidate (subst (Contains s.candidates) (sym e) there) given h.follows) fresh.once)
-
-    apart : (e x : Label) → Contains next.candidates x → Contains next.unrelaxed (e, x.arc) → ¬ Follows task.network e x
-    apart e x there pair f = elim ((gains_by_permutation h.candidate s.candidates next.candidates h.candidates x).0 there) [
-      | inl old ↦ fresh.apart e x old ((h.unrelaxed (e, x.arc)).0 pair).0 f
-      | inr new ↦
-          let from : Follows task.network l x = subst (Follows task.network l) (sym new) h.follows in
-          let was = (h.unrelaxed (e, x.arc)).0 pair in
-          let same : e ≡ l = follows_once task is s sound e l x (sound.paired e x.arc was.0).0 (sound.paired l k h.may).0 f from in
-          was.1 (ap₂ (λ (m : Label) (j : ℕ). (m, j)) same (ap (λ (m : Label). m.arc) new ∙ h.arc))
-    ]
-
-  merge_goes_on : (x : Label) → Completes task.network s (merge x ∷ rest) → Merges s x next → Completes task.network next rest × IsFresh task.network next
-  merge_goes_on x c h = (
-    rest_completes task.network s next (merge x) rest c
-        (λ e j. (λ pair. ((h.unrelaxed (e, j)).0 pair, λ same. absurd cc), λ pair. (h.unrelaxed (e, j)).1 pair.0))
-        (λ y. (
-          λ here. (before y here, λ same. other y here cc),
-          λ (there, differs). after y (λ e. differs (ap (λ (z : Label). merge z) e)) there,
-        )),
-    record {
-      once = pairs_rest ◌≢◌ x next.candidates once;
-      apart = λ e y there pair. fresh.apart e y ((candidates y).1 (inl there)) ((h.unrelaxed (e, y.arc)).0 pair);
-    },
-  ) where
-    candidates : (y : Label) → Contains s.candidates y ↔ (Contains next.candidates y ⊎ (y ≡ x))
-    candidates = candidates_by_merge s next x h
-
-    once : AllPairs ◌≢◌ (x ∷ next.candidates)
-    once = once_in_any_order s.candidates (x ∷ next.candidates) h.candidates fresh.once
-
-    after : (y : Label) → y ≢ x → IsArrival task.network s y → IsArrival task.network next y
-    after y differs (comes e there f) = comes e ((h.unrelaxed (e, y.arc)).1 there) f
-    after y differs (came there) = elim ((candidates y).0 there) [ inl here ↦ came here | inr e ↦ absurd (differs e) ]
-
-    before : (y : Label) → IsArrival task.network next y → IsArrival task.network s y
-    before y (comes e there f) = comes e ((h.unrelaxed (e, y.arc)).0 there) f
-    before y (came here) = came ((candidates y).1 (inl here))
-
-    other : (y : Label) → IsArrival task.network next y → y ≢ x
-    other y (came here) e = pair_with_first ◌≢◌ x next.candidates once y here (sym e)
-    other y (comes d there f) e = fresh.apart d y ((candidates y).1 (inr e)) ((h.unrelaxed (d, y.arc)).0 there) f
-
--- ---- runs
+-- ---- what is to do
 
 module _ (task : Task) (is : IsTask task) where
-  abbrev IsLeft : SearchState → List Event → Type 0
-  IsLeft s events = Completes task.network s events × IsFresh task.network s
+  arrival_alike : (a b : SearchState) → IsSame a b → (x : Label) → IsArrival task.network a x → IsArrival task.network b x
+  arrival_alike a b same =
+      arrival_on task.network a b (λ x. (same_by_permutation b.candidates a.candidates (IsPermutation-sym a.candidates b.candidates same.candidates) x).0) (λ p. (same.unrelaxed p).0)
 
-  goes_on : (s next : SearchState) (event : Event) (rest : List Event) → IsSound task s → IsLeft s (event ∷ rest) → Happens task s event next → IsLeft next rest
-  goes_on s next (take l) rest sound left h = absurd (left.0.takes l (in_first (take l) rest))
-  goes_on s next (drop l) rest sound left h = absurd (left.0.drops l (in_first (drop l) rest))
-  goes_on s next (relax l k) rest sound left h = relax_goes_on task is s next sound left.1 rest l k left.0 h
-  goes_on s next (merge x) rest sound left h = merge_goes_on task is s next sound left.1 rest x left.0 h
+  to_do_alike : (a b : SearchState) → IsSame b a → (event : Event) → IsToDo task.network a event ↔ IsToDo task.network b event
+  to_do_alike a b same (relax l k) = ((same.unrelaxed (l, k)).1, (same.unrelaxed (l, k)).0)
+  to_do_alike a b same (merge x) = (arrival_alike a b (same_back b a same) x, arrival_alike b a same x)
+  to_do_alike a b same _ = (λ h. h, λ h. h)
 
-  first_happens : (s : SearchState) (event : Event) (rest : List Event) → IsSound task s → Completes task.network s (event ∷ rest)
-      → (next : SearchState) × Happens task s event next
-  first_happens s (take l) rest sound c = absurd (c.takes l (in_first (take l) rest))
-  first_happens s (drop l) rest sound c = absurd (c.drops l (in_first (drop l) rest))
-  first_happens s (relax l k) rest sound c = let pair = (c.relaxes l k).0 (in_first (relax l k) rest) in relax_happens task s l k pair (sound.paired l k pair).1
-  first_happens s (merge x) rest sound c = elim ((c.merges x).0 (in_first (merge x) rest)) [
-    | came there ↦ merge_happens s x there
-    | comes e there f ↦ elim (cases_in (merge x) rest (relax e x.arc) ((c.relaxes e x.arc).1 there)) [
-      | inl wrong ↦ absurd cc
-      | inr later ↦ absurd (pair_with_first (λ a b. ¬ MergesResult task.network a b) (merge x) rest c.in_order (relax e x.arc) later (refl, f))
-    ]
-  ]
-
-  -- each list that completes is a run
-  completes_run : (s : SearchState) (events : List Event) → IsSound task s → IsLeft s events → (after : SearchState) × Runs task s events after
-  completes_run s [] sound left = (s, same_itself s)
-  completes_run s (event ∷ rest) sound left =
-      let (next, step) = first_happens s event rest sound left.0 in
-      let (after, run) = completes_run next rest (sound_after task is s next event sound step) (goes_on s next event rest sound left step) in
-      (after, record { from = s; same = same_itself s; next = next; step = step; rest = run })
-
-  left_alike : (s b : SearchState) (events : List Event) → IsSame b s → IsLeft s events → IsLeft b events
-  left_alike s b events same (c, fresh) = (
-    record {
-      relaxes = λ l k. let old = c.relaxes l k in let u = same.unrelaxed (l, k) in grind arith;
-      merges = λ x. (
-        λ h. arrival_alike task.network s b (same_back b s same) x ((c.merges x).0 h),
-        λ h. (c.merges x).1 (arrival_alike task.network b s same x h),
-      );
-      takes = c.takes;
-      drops = c.drops;
-      once = c.once;
-      in_order = c.in_order;
-    },
-    record {
-      once = once_in_any_order s.candidates b.candidates (IsPermutation-sym b.candidates s.candidates same.candidates) fresh.once;
-      apart = λ e x there pair. fresh.apart e x (Contains-permutation b.candidates s.candidates x same.candidates there) ((same.unrelaxed (e, x.arc)).0 pair);
-    },
+  -- an event leaves all else to do
+  to_do_after : (a b : SearchState) → IsSound task a → (event : Event) → IsToDo task.network a event → Happens task a event b
+      → (other : Event) → IsToDo task.network b other ↔ (IsToDo task.network a other × (other ≢ event))
+  to_do_after a b sound (relax l k) due h (relax m j) = (
+    λ here. let old = (h.unrelaxed (m, j)).0 here in (old.0, λ same. old.1 (cc)),
+    λ (there, other). (h.unrelaxed (m, j)).1 (there, λ same. other (ap relaxing same)),
   )
+  to_do_after a b sound (relax l k) due h (merge x) =
+      let arrivals = arrivals_by_relax task a b l k h x in (λ here. (arrivals.1 here, λ same. absurd cc), λ there. arrivals.0 there.0)
+  to_do_after a b sound (merge x) due h (relax m j) =
+      (λ pair. ((h.unrelaxed (m, j)).0 pair, λ same. absurd cc), λ there. (h.unrelaxed (m, j)).1 there.0)
+  to_do_after a b sound (merge x) due h (merge y) = let arrivals = arrivals_by_merge task is a b sound x h y in (
+    λ here. ((arrivals.0 here).0, λ same. (arrivals.0 here).1 cc),
+    λ (there, other). arrivals.1 (there, λ e. other (ap (λ (z : Label). merge z) e)),
+  )
+  to_do_after a b sound (take l) due h _ = absurd due
+  to_do_after a b sound (drop l) due h _ = absurd due
+  to_do_after a b sound _ due h (take l) = (λ wrong. absurd wrong, λ h. h.0)
+  to_do_after a b sound _ due h (drop l) = (λ wrong. absurd wrong, λ h. h.0)
 
-  -- what is left of it completes from where its beginning leads to
-  completes_along : (s b : SearchState) (events more : List Event) → IsSound task s → IsLeft s (events ++ more) → Runs task s events b → IsLeft b more
-  completes_along s b [] more sound left run = left_alike s b more run left
-  completes_along s b (event ∷ rest) more sound left run =
-      let sound_too = sound_by_run task is s run.from [] sound run.same in
-      let left_too = left_alike s run.from (event ∷ (rest ++ more)) run.same left in
-      completes_along run.next b rest more (sound_after task is run.from run.next event sound_too run.step)
-      (goes_on run.from run.next event (rest ++ more) sound_too left_too run.step) run.rest
+  -- ---- lists that complete
+
+  -- the events complete what the state s leads to
+  record IsLeft (s : SearchState) (events : List Event) (m : SearchState) : Type 0 where
+    pub sound : IsSound task m
+    pub completes : Completes task.network m events
+    pub kept : KeepsOutcome task.network s m
+
+  module _ (s : SearchState) where
+    left_alike : (events : List Event) (a b : SearchState) → IsSame b a → IsLeft s events a → IsLeft s events b
+    left_alike events a b same left = record {
+      sound = same_is_sound task is a b same left.sound;
+      completes = record {
+        all = once_as (IsToDo task.network a) (IsToDo task.network b) events (to_do_alike a b same) left.completes.all;
+        in_order = left.completes.in_order;
+      };
+      kept = keeps_through task.network s a b left.kept
+          (same_keeps task is a b left.sound (same_changes task is a b left.sound same) (arrival_alike b a same) same.entries);
+    }
+
+    left_on : (event : Event) (rest : List Event) (a b : SearchState) → IsLeft s (event ∷ rest) a → Happens task a event b → IsLeft s rest b
+    left_on event rest a b left h =
+        let all = left.completes.all in
+        let due = (all.exact event).0 (in_first event rest) in
+        record {
+          sound = sound_after task is a b event left.sound h;
+          completes = record {
+            all = rest_once (IsToDo task.network a) (IsToDo task.network b) event rest (to_do_after a b left.sound event due h) all;
+            in_order = pairs_rest (λ a b. ¬ MergesResult task.network a b) event rest left.completes.in_order;
+          };
+          kept = keeps_through task.network s a b left.kept (event_keeps task is a b event left.sound due h);
+        }
+
+    first_happens : (event : Event) (rest : List Event) (a : SearchState) → IsLeft s (event ∷ rest) a → (b : SearchState) × Happens task a event b
+    first_happens (take l) rest a left = absurd ((left.completes.all.exact (take l)).0 (in_first (take l) rest))
+    first_happens (drop l) rest a left = absurd ((left.completes.all.exact (drop l)).0 (in_first (drop l) rest))
+    first_happens (relax l k) rest a left =
+        let pair = (left.completes.all.exact (relax l k)).0 (in_first (relax l k) rest) in relax_happens task a l k pair (left.sound.paired l k pair).1
+    first_happens (merge x) rest a left = elim ((left.completes.all.exact (merge x)).0 (in_first (merge x) rest)) [
+      | came there ↦ merge_happens a x there
+      | comes e there f ↦ elim (cases_in (merge x) rest (relax e x.arc) ((left.completes.all.exact (relax e x.arc)).1 there)) [
+        | inl wrong ↦ absurd cc
+        | inr later ↦
+            absurd (pair_with_first (λ a b. ¬ MergesResult task.network a b) (merge x) rest left.completes.in_order (relax e x.arc) later (refl, f))
+      ]
+    ]
+
+    outcome_if_none_left : (b : SearchState) → IsLeft s [] b → IsOutcome task.network s b
+    outcome_if_none_left b left =
+        let none = λ (event : Event) (due : IsToDo task.network b event). in_none event ((left.completes.all.exact event).1 due) in
+        outcome_at_end task.network s b left.kept left.sound.apart (empty_if_none b.unrelaxed (λ p there. none (relaxing p) there))
+        (empty_if_none b.candidates (λ x there. none (merge x) (came there)))
+
+    module _ (sound : IsSound task s) (events : List Event) (completes : Completes task.network s events) where
+      none_yet : IsLeft s events s
+      none_yet = record {
+        sound = sound;
+        completes = completes;
+        kept = record { met = λ y h. h; back = λ y h. h; places = λ p other y unbeaten. (λ h. h, λ h. h) };
+      }
+
+      -- each list that completes is a run, and leads to the outcome
+      pub completes_run : (after : SearchState) × Runs task s events after
+      completes_run = run_exists task (IsLeft s) left_alike left_on first_happens events s none_yet
+
+      pub completes_to_outcome : (after : SearchState) → Runs task s events after ↔ IsOutcome task.network s after
+      completes_to_outcome = runs_to_end task (IsLeft s) left_alike left_on first_happens (IsOutcome task.network s) outcome_if_none_left
+          (one_outcome task.network s) events s none_yet
 
 -- ---- halves
 
@@ -197,6 +156,11 @@ IsMerging net s (merge x) = IsArrival net s x
 IsMerging net s _ = ⊥
 
 module _ (net : Network) (s : SearchState) where
+  either_half : (event : Event) → IsToDo net s event ↔ (IsRelaxing s event ⊎ IsMerging net s event)
+  either_half (relax l k) = (λ h. inl h, elim [ inl h ↦ h | inr wrong ↦ absurd wrong ])
+  either_half (merge x) = (λ h. inr h, elim [ inl wrong ↦ absurd wrong | inr h ↦ h ])
+  either_half _ = (λ wrong. absurd wrong, elim [ inl wrong ↦ absurd wrong | inr wrong ↦ absurd wrong ])
+
   not_both : (event : Event) → IsRelaxing s event → ¬ IsMerging net s event
   not_both (relax l k) h wrong = wrong
   not_both _ wrong h = wrong
@@ -210,25 +174,12 @@ module _ (net : Network) (s : SearchState) where
   pub completes_in_halves : (first second : List Event) → ListsOnce (IsRelaxing s) first → ListsOnce (IsMerging net s) second
       → Completes net s (first ++ second)
   completes_in_halves first second relaxes merges = record {
-    relaxes = λ l k. of_first (cases (relax l k)) (relaxes.exact (relax l k)) (merges.exact (relax l k)).0;
-    merges = λ x. of_second (cases (merge x)) (relaxes.exact (merge x)).0 (merges.exact (merge x));
-    takes = λ l h. elim ((cases (take l)).0 h) [ inl wrong ↦ (relaxes.exact (take l)).0 wrong | inr wrong ↦ (merges.exact (take l)).0 wrong ];
-    drops = λ l h. elim ((cases (drop l)).0 h) [ inl wrong ↦ (relaxes.exact (drop l)).0 wrong | inr wrong ↦ (merges.exact (drop l)).0 wrong ];
-    once = pairs_append ◌≢◌ first second relaxes.once merges.once
-        (λ a b h k e. not_both b (subst (IsRelaxing s) e ((relaxes.exact a).0 h)) ((merges.exact b).0 k));
+    all = lists_append (IsRelaxing s) (IsMerging net s) (IsToDo net s) first second either_half not_both relaxes merges;
     in_order = pairs_append (λ a b. ¬ MergesResult net a b) first second
         (pairs_of_members (λ a b. ¬ MergesResult net a b) first (λ a b h k. no_result a b (inl ((relaxes.exact a).0 h))))
         (pairs_of_members (λ a b. ¬ MergesResult net a b) second (λ a b h k. no_result a b (inr ((merges.exact b).0 k))))
         (λ a b h k. no_result a b (inl ((relaxes.exact a).0 h)));
-  } where
-    cases : (event : Event) → Contains (first ++ second) event ↔ (Contains first event ⊎ Contains second event)
-    cases = in_append first second
-
-    of_first : {W A B P : Type 0} → (W ↔ (A ⊎ B)) → (A ↔ P) → ¬ B → (W ↔ P)
-    of_first f g none = grind arith
-
-    of_second : {W A B P : Type 0} → (W ↔ (A ⊎ B)) → ¬ A → (B ↔ P) → (W ↔ P)
-    of_second f none g = grind arith
+  }
 
   -- the merges of all that arrives
   pub mergings : (xs : List Label) → ListsOnce (IsArrival net s) xs → ListsOnce (IsMerging net s) (map (λ x. merge x) xs)
@@ -248,117 +199,78 @@ module _ (net : Network) (s : SearchState) where
         from (relax l k) h = ((l, k), h, refl)
         from _ wrong = absurd wrong
 
--- what the pairs give
-given_by : (net : Network) (ps : List (Label × ℕ)) → ((p : Label × ℕ) → Contains ps p → LeadsOn net p.0.node p.1)
-    → (xs : List Label) × ((x : Label) → Contains xs x ↔ ((e : Label) × Contains ps (e, x.arc) × Follows net e x))
-given_by net [] leads = ([], λ x. (λ h. absurd (in_none x h), λ (e, h, f). absurd (in_none (e, x.arc) h)))
-given_by net (p ∷ ps) leads =
-    let on = leads p (in_first p ps) in
-    let first : Label = record { node = on.to; cost = plus p.0.cost on.by; arc = p.1 } in
-    let gives : Follows net p.0 first = record { by = on.by; leads = on.leads; cost = refl } in
-    let (xs, lists) = given_by net ps (λ q h. leads q (in_rest p ps q h)) in (
-      first ∷ xs,
-      λ x. (
-        λ h. elim (cases_in first xs x h) [
-          | inl e ↦ (p.0, in_front p ps (p.0, x.arc) (ap (λ (y : Label). (p.0, y.arc)) e), subst (Follows net p.0) (sym e) gives)
-          | inr later ↦ let (e, there, f) = (lists x).0 later in (e, in_rest p ps (e, x.arc) there, f)
-        ],
-        λ (e, h, f). elim (cases_in p ps (e, x.arc) h) [
-          | inl same ↦
-              let from = subst (λ (m : Label). Follows net m x) (ap (λ (q : Label × ℕ). q.0) same) f in
-              in_front first xs x (follows_alike net p.0 x first from gives (ap (λ (q : Label × ℕ). q.1) same))
-          | inr later ↦ in_rest first xs x ((lists x).1 (e, later, f))
-        ],
-      ),
-    )
+-- ---- all relaxes
 
--- ---- from a state without candidates
-
-module _ (task : Task) (is : IsTask task) (s : SearchState) (sound : IsSound task s) (no_candidate : s.candidates ≡ []) where
-  fresh : IsFresh task.network s
-  fresh = record {
-    once = subst (AllPairs ◌≢◌) (sym no_candidate) (pairs_none ◌≢◌);
-    apart = λ e x there. absurd (none_of_empty s.candidates no_candidate x there);
-  }
-
-  outcome_of_completed : (events : List Event) (after : SearchState) → Completes task.network s events → Runs task s events after
-      → IsOutcome task.network s after
-  outcome_of_completed events after c run =
-      let all : Completes task.network s (events ++ []) = subst (Completes task.network s) (sym (append-nil events)) c in
-      let left = (completes_along task is s after events [] sound (all, fresh) run).0 in
-      outcome_of_run task is s after events sound run c.takes c.drops
-      (empty_if_none after.unrelaxed (λ p h. in_none (relaxing p) ((left.relaxes p.0 p.1).1 h)))
-      (empty_if_none after.candidates (λ x h. in_none (merge x) ((left.merges x).1 (came h))))
-
-  -- each list that completes leads to the outcome
-  pub completes_to_outcome : (events : List Event) (after : SearchState) → Completes task.network s events
-      → Runs task s events after ↔ IsOutcome task.network s after
-  completes_to_outcome events after c = (
-    outcome_of_completed events after c,
-    λ outcome.
-        let (other, run) = completes_run task is s events sound (c, fresh) in
-        runs_to_same task s other after events run (one_outcome task.network s after other outcome (outcome_of_completed events other c run)),
-  )
-
-  some_pairs : (ps : List (Label × ℕ)) × ListsOnce (Contains s.unrelaxed) ps
-  some_pairs = list_all cases_pair (Contains s.unrelaxed) (told_in cases_pair s.unrelaxed) s.unrelaxed (λ p h. h)
-
-  some_arrivals : (xs : List Label) × ListsOnce (IsArrival task.network s) xs
-  some_arrivals =
-      let (xs, lists) = given_by task.network s.unrelaxed (λ p h. (sound.paired p.0 p.1 h).1) in
-      let bound : (x : Label) → IsArrival task.network s x → Contains xs x =
-      λ x. elim [ came there ↦ absurd (none_of_empty s.candidates no_candidate x there) | comes e there f ↦ (lists x).1 (e, there, f) ] in
-      list_all cases_label (IsArrival task.network s)
-      (λ x. told_as (λ h. let (e, there, f) = (lists x).0 h in comes e there f) (bound x) (told_in cases_label xs x)) xs bound
-
+module _ (task : Task) (is : IsTask task) where
   -- where all is relaxed, each arrival is a candidate once
-  pub arrivals_when_relaxed : (ps : List (Label × ℕ)) (b : SearchState) → ListsOnce (Contains s.unrelaxed) ps → Runs task s (map relaxing ps) b
-      → ListsOnce (IsArrival task.network s) b.candidates
-  arrivals_when_relaxed ps b pairs run =
-      let (xs, arrivals) = some_arrivals in
-      let merges = mergings task.network s xs arrivals in
-      let (left, fresh_later) = completes_along task is s b (map relaxing ps) (map (λ x. merge x) xs) sound
-      (relaxes_then_merges task.network s ps xs pairs arrivals, fresh) run in
-      record {
-        exact = λ x. (
-          λ h. (merges.exact (merge x)).0 ((left.merges x).1 (came h)),
-          λ h. elim ((left.merges x).0 ((merges.exact (merge x)).1 h)) [
-            | came here ↦ here
-            | comes e there f ↦ absurd ((merges.exact (relax e x.arc)).0 ((left.relaxes e x.arc).1 there))
-          ],
-        );
-        once = fresh_later.once;
-      }
+  pub arrivals_when_relaxed : (ps : List (Label × ℕ)) (s b : SearchState) → IsSound task s → ListsOnce (Contains s.unrelaxed) ps
+      → Runs task s (map relaxing ps) b → ListsOnce (IsArrival task.network s) b.candidates
+  arrivals_when_relaxed [] s b sound pairs run = record {
+    exact = λ x. (
+      λ here. came ((same_by_permutation b.candidates s.candidates run.candidates x).1 here),
+      elim [
+        | came there ↦ (same_by_permutation b.candidates s.candidates run.candidates x).0 there
+        | comes e there f ↦ absurd (in_none (e, x.arc) ((pairs.exact (e, x.arc)).1 there))
+      ],
+    );
+    once = (same_is_sound task is s b run sound).fresh.once;
+  }
+  arrivals_when_relaxed (p ∷ ps) s b sound pairs run =
+      let from_sound = same_is_sound task is s run.from run.same sound in
+      let rest = arrivals_when_relaxed ps run.next b (sound_after task is run.from run.next (relaxing p) from_sound run.step)
+      (rest_once (Contains run.from.unrelaxed) (Contains run.next.unrelaxed) p ps run.step.unrelaxed
+      (once_as (Contains s.unrelaxed) (Contains run.from.unrelaxed) (p ∷ ps) (λ q. ((run.same.unrelaxed q).1, (run.same.unrelaxed q).0)) pairs)) run.rest in
+      once_as (IsArrival task.network run.next) (IsArrival task.network s) b.candidates (λ x.
+      let relaxed = arrivals_by_relax task run.from run.next p.0 p.1 run.step x in (
+        λ h. arrival_alike task is run.from s run.same x (relaxed.1 h),
+        λ h. relaxed.0 (arrival_alike task is s run.from (same_back run.from s run.same) x h),
+      )) rest
 
-  finished_to_outcome : (after : SearchState) → Finishes task s after → IsOutcome task.network s after
-  finished_to_outcome after f =
-      let arrivals = arrivals_when_relaxed f.relaxes f.relaxed f.each_relax f.relaxing_all in
-      let lists = lists_in_any_order (IsArrival task.network s) f.relaxed.candidates f.merges f.each_merge arrivals in
-      let events = map (λ x. merge x) f.merges in
-      outcome_of_completed (map relaxing f.relaxes ++ events) after (relaxes_then_merges task.network s f.relaxes f.merges f.each_relax lists)
-      (runs_on task s f.relaxed after (map relaxing f.relaxes) events f.relaxing_all f.merging_all)
+  relaxes_exist : (ps : List (Label × ℕ)) (s : SearchState) → IsSound task s → ListsOnce (Contains s.unrelaxed) ps
+      → (b : SearchState) × Runs task s (map relaxing ps) b
+  relaxes_exist [] s sound pairs = (s, same_itself s)
+  relaxes_exist (p ∷ ps) s sound pairs =
+      let may = (pairs.exact p).0 (in_first p ps) in
+      let (next, step) = relax_happens task s p.0 p.1 may (sound.paired p.0 p.1 may).1 in
+      let (b, run) = relaxes_exist ps next (sound_after task is s next (relaxing p) sound step)
+      (rest_once (Contains s.unrelaxed) (Contains next.unrelaxed) p ps step.unrelaxed pairs) in
+      (b, record { from = s; same = same_itself s; next = next; step = step; rest = run })
 
-  -- there is an outcome
-  pub some_outcome : (after : SearchState) × IsOutcome task.network s after
-  some_outcome =
-      let (ps, pairs) = some_pairs in
-      let (xs, arrivals) = some_arrivals in
-      let events = map relaxing ps ++ map (λ x. merge x) xs in
-      let c = relaxes_then_merges task.network s ps xs pairs arrivals in
-      let (after, run) = completes_run task is s events sound (c, fresh) in
-      (after, outcome_of_completed events after c run)
+  -- ---- the second half of a round
 
-  -- a round's second half leads to the outcome
-  pub finishes_is_outcome : (after : SearchState) → Finishes task s after ↔ IsOutcome task.network s after
-  finishes_is_outcome after = (
-    finished_to_outcome after,
-    λ outcome.
-        let (ps, pairs) = some_pairs in
-        let (xs, arrivals) = some_arrivals in
-        let first = map relaxing ps in
-        let second = map (λ x. merge x) xs in
-        let run = (completes_to_outcome (first ++ second) after (relaxes_then_merges task.network s ps xs pairs arrivals)).1 outcome in
-        let (b, relaxed, merged) = runs_apart task s after first second run in
-        let all = lists_permute (IsArrival task.network s) b.candidates xs (arrivals_when_relaxed ps b pairs relaxed) arrivals in
-        record { relaxes = ps; each_relax = pairs; relaxed = b; relaxing_all = relaxed; merges = xs; each_merge = all; merging_all = merged },
-  )
+  module _ (s : SearchState) (sound : IsSound task s) where
+    -- all pairs that are to be relaxed, and all that arrives
+    some_work : (ps : List (Label × ℕ)) × (xs : List Label) × ListsOnce (Contains s.unrelaxed) ps × ListsOnce (IsArrival task.network s) xs
+    some_work =
+        let (ps, pairs) = list_all cases_pair (Contains s.unrelaxed) (told_in cases_pair s.unrelaxed) s.unrelaxed (λ p h. h) in
+        let (b, run) = relaxes_exist ps s sound pairs in
+        (ps, b.candidates, pairs, arrivals_when_relaxed ps s b sound pairs run)
+
+    -- there is an outcome
+    pub some_outcome : (after : SearchState) × IsOutcome task.network s after
+    some_outcome =
+        let (ps, xs, pairs, arrivals) = some_work in
+        let events = map relaxing ps ++ map (λ x. merge x) xs in
+        let completes = relaxes_then_merges task.network s ps xs pairs arrivals in
+        let (after, run) = completes_run task is s sound events completes in
+        (after, (completes_to_outcome task is s sound events completes after).0 run)
+
+    -- a round's second half leads to the outcome
+    pub finishes_is_outcome : (after : SearchState) → Finishes task s after ↔ IsOutcome task.network s after
+    finishes_is_outcome after = (
+      λ f.
+          let arrivals = arrivals_when_relaxed f.relaxes s f.relaxed sound f.each_relax f.relaxing_all in
+          let lists = lists_in_any_order (IsArrival task.network s) f.relaxed.candidates f.merges f.each_merge arrivals in
+          let first = map relaxing f.relaxes in
+          let second = map (λ x. merge x) f.merges in
+          (completes_to_outcome task is s sound (first ++ second) (relaxes_then_merges task.network s f.relaxes f.merges f.each_relax lists) after).0
+          (runs_on task s f.relaxed after first second f.relaxing_all f.merging_all),
+      λ outcome.
+          let (ps, xs, pairs, arrivals) = some_work in
+          let first = map relaxing ps in
+          let second = map (λ x. merge x) xs in
+          let completes = relaxes_then_merges task.network s ps xs pairs arrivals in
+          let (b, relaxed, merged) = runs_apart task s after first second ((completes_to_outcome task is s sound (first ++ second) completes after).1 outcome) in
+          let all = lists_permute (IsArrival task.network s) b.candidates xs (arrivals_when_relaxed ps s b sound pairs relaxed) arrivals in
+          record { relaxes = ps; each_relax = pairs; relaxed = b; relaxing_all = relaxed; merges = xs; each_merge = all; merging_all = merged },
+    )

@@ -11,7 +11,7 @@ use Rattle.list_laws.specs.Sets.{HasMoreThan}
 use Rattle.event_machine.specs.Machine.{Task, IsTask, Label, SearchState, start_state, settled, dropped, waiting}
 use Rattle.event_machine.specs.Events.{drop, IsSame, MayDrop, IsReached}
 use Rattle.event_machine.specs.Rounds.{IsBetweenRounds, Begins, Round, CountedRound, GoRounds, NoneStays, Rounds}
-use Rattle.event_machine.specs.Orders.{Stays, came, comes}
+use Rattle.event_machine.specs.Orders.{Stays, IsNext, came, comes}
 use Rattle.list_laws.proofs.SetLaws.{none_of_empty, more_by_list}
 use Rattle.list_laws.proofs.OnceLaws.{empty_if_none}
 use Rattle.std.proofs.lemmas.List.Sorted.{Contains-permutation}
@@ -203,14 +203,14 @@ module _ (task : Task) (is : IsTask task) (budget : ℕ) where
 
   heavier : (k : ℕ) (s t : SearchState) → IsReached task s → Round task s t → Weighs k s → Weighs (k + 1) t
   heavier k s t reached round weighs y there =
-      let outcome = (outcome_of task is s t reached round).waiting y in
+      let outcome = (outcome_of task is s t reached round).entries waiting y in
       let begun = begun_of task is s t reached round in
       let survives = outcome.0 there in
       elim survives.0.present [
-        | inl (settled, here) ↦ absurd (survives.1 (record { label = y; member = here; same = same_pair y y refl }))
-        | inl (dropped, here) ↦ absurd (survives.2 (record { label = y; member = here; same = same_pair y y refl }))
+        | inl (settled, here) ↦ absurd (survives.1.0 (record { label = y; member = here; same = same_pair y y refl }))
+        | inl (dropped, here) ↦ absurd (survives.1.1 (record { label = y; member = here; same = same_pair y y refl }))
         | inl (waiting, here) ↦
-            let (stays, not_next) = (begun.waiting y).0 here in
+            let (stays, not_next) = waits_on here in
             elim (cases_lt k (sum y.cost)) [
               | inl below ↦ omega (arith, below)
               | inr above ↦ absurd (not_next (record {
@@ -222,9 +222,15 @@ module _ (task : Task) (is : IsTask task) (budget : ℕ) where
         | inr (comes e here follows) ↦
             let next = ((begun.unrelaxed (e, y.arc)).0 here).0 in
             let sound = sound_if_reached task is round.begun (reached_begun task is s t reached round) in
-            let less = sum-Dominates e.cost y.cost (grown_from_settled task is round.begun sound e y ((begun.settled e).1 (inr next)) follows) in
+            let less = sum-Dominates e.cost y.cost (grown_from_settled task is round.begun sound e y ((begun.entries settled e).1 (inr (inr (refl, next)))) follows) in
             omega (arith, less, weighs e next.stays.waits)
-      ]
+      ] where
+        waits_on : Contains round.begun.waiting y → Stays task s y × (¬ IsNext task s y)
+        waits_on here = elim (((begun_of task is s t reached round).entries waiting y).0 here) [
+          | inl (it_waits, kept, not_next) ↦ (record { waits = it_waits; kept = kept }, not_next)
+          | inr (inl (wrong, _)) ↦ absurd cc
+          | inr (inr (wrong, _)) ↦ absurd cc
+        ]
 
   abbrev IsRelevantLabel : Label → Type 0
   IsRelevantLabel l = IsRelevant task.network task.start task.target task.limit l.node l.cost

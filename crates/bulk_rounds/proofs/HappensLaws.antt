@@ -7,13 +7,12 @@ use Rattle.std.proofs.lemmas.Bool.{cases_eq, cases_lt}
 use Rattle.std.proofs.lemmas.List.Elements.{Contains-append_left, Contains-append_right, Contains-append_cases}
 use Rattle.std.proofs.lemmas.List.Sorted.{IsPermutation-refl}
 use Rattle.cost_vector.specs.Costs.{plus}
-use Rattle.cost_vector.proofs.Vectors.{cases_same}
 use Rattle.road_network.specs.Network.{Network}
 use Rattle.road_network.proofs.Reached.{arc_counts}
 use Rattle.list_laws.proofs.Members.{in_rest, in_front, in_map}
 use Rattle.event_machine.specs.Machine.{Task, Label, IsSamePair, Beats, SearchState, Place, settled, dropped, waiting, entries_at, IsEntry, LeadsOn}
 use Rattle.event_machine.specs.Events.{Becomes, MayTake, Takes, MayDrop, Drops, Relaxes, IsMerged, keeps, lowers, discards, enters, Merges}
-use Rattle.event_machine.proofs.Sound.{cases_label, cases_pair, cases_beats}
+use Rattle.event_machine.proofs.Sound.{cases_label, cases_pair, cases_beats, told_pair}
 use Rattle.list_laws.proofs.OnceLaws.{IsTold, told_as, told_not, told_both, told_either, told_some, told_in, sift, list_all, taken_out, range_once}
 
 -- ---- what is told
@@ -23,9 +22,6 @@ told_place settled settled = inl refl
 told_place dropped dropped = inl refl
 told_place waiting waiting = inl refl
 told_place _ _ = inr (λ e. absurd cc)
-
-told_pair : (x y : Label) → IsTold (IsSamePair x y)
-told_pair x y = told_as (λ h. record { node = h.0; cost = h.1 }) (λ h. (h.node, h.cost)) (told_both (cases_eq x.node y.node) (cases_same x.cost y.cost))
 
 in_entries : (s : SearchState) (y : Label) → Contains (s.settled ++ (s.dropped ++ s.waiting)) y ↔ IsEntry s y
 in_entries s y = (

@@ -1,41 +1,35 @@
 -- Relaxes and merges lose nothing that survives, and keep its place; at the end all survivors are entries.
-use Rattle.std.proofs.Common.{◌≡◌, ◌≢◌, ◌↔◌, ◌⊎◌, ◌≤◌, List, [], ◌∷◌, inl, inr, refl, sym, subst, ◌∙◌, arith}
+use Rattle.std.proofs.Common.{◌≡◌, ◌≢◌, ◌↔◌, ◌⊎◌, List, [], inl, inr, refl, sym, subst, ◌∙◌, arith}
 use Rattle.std.specs.Prelude.{Contains, IsPermutation}
-use Rattle.std.proofs.lemmas.List.Sorted.{Contains-permutation, IsPermutation-refl}
+use Rattle.std.proofs.lemmas.List.Sorted.{IsPermutation-refl}
 use Rattle.cost_vector.specs.Costs.{AtMost, Dominates}
-use Rattle.cost_vector.proofs.Vectors.{AtMost-refl, AtMost-trans, AtMost-antisymm}
+use Rattle.cost_vector.proofs.Vectors.{AtMost-trans, AtMost-antisymm, cases_same}
 use Rattle.road_network.specs.Network.{Network}
-use Rattle.list_laws.proofs.Members.{in_front, in_rest}
 use Rattle.event_machine.specs.Machine.{Task, IsTask, Label, IsSamePair, Beats, SearchState, Place, settled, dropped, waiting, entries_at, IsEntry}
-use Rattle.event_machine.specs.Events.{Event, take, drop, relax, merge, SameEntries, IsSame, IsMerged, keeps, lowers, discards, enters, Merges, Happens, Runs}
-use Rattle.event_machine.specs.Orders.{IsArrival, came, comes, Survives, HasPair, IsOutcome}
+use Rattle.event_machine.specs.Events.{Event, take, drop, relax, merge, SameEntries, IsSame, IsMerged, keeps, lowers, discards, enters, Merges, Happens}
+use Rattle.event_machine.specs.Orders.{IsArrival, came, comes, IsToDo, Survives, HasPair, Belongs, IsOutcome}
 use Rattle.list_laws.proofs.SetLaws.{none_of_empty}
-use Rattle.event_machine.proofs.Sound.{IsSound, AreApart, Covers, better, as_good, IsCovered, covers_through, covered_by_itself, node_of_cover, cost_of_cover}
-use Rattle.event_machine.proofs.Sound.{cases_label, label_by_parts, same_pair, pair_back}
-use Rattle.event_machine.proofs.Changing.{place_before_merge}
-use Rattle.event_machine.proofs.Stepping.{Changes, arrivals_by_relax, candidates_by_merge, same_changes}
-use Rattle.event_machine.proofs.Keeping.{changes_of, sound_after, sound_by_run}
 use Rattle.list_laws.proofs.OnceLaws.{same_by}
+use Rattle.event_machine.proofs.Sound.{IsSound, AreApart, Covers, IsCovered, IsMet, covered_by_itself, below_pair, cases_label, label_by_parts, same_pair, pair_back}
+use Rattle.event_machine.proofs.Changing.{place_before_merge}
+use Rattle.event_machine.proofs.Stepping.{Changes, changes_of, arrivals_by_relax, arrivals_by_merge, candidates_by_merge}
+use Rattle.event_machine.proofs.Keeping.{met_after}
 
 -- ---- what is kept
 
 abbrev IsPresent : Network → SearchState → Label → Type 0
 IsPresent net s y = IsEntry s y ⊎ IsArrival net s y
 
--- y arrives, or an entry can stand for it
-abbrev IsMet : Network → SearchState → Label → Type 0
-IsMet net s y = IsArrival net s y ⊎ IsCovered s y
-
 abbrev IsUnbeaten : Network → SearchState → Label → Type 0
 IsUnbeaten net s y = (z : Label) → IsPresent net s z → ¬ Beats z y
 
 -- what is met at a is met at b, nothing is new at b, and what is unbeaten keeps its place
-record KeepsOutcome (net : Network) (a b : SearchState) : Type 0 where
+pub record KeepsOutcome (net : Network) (a b : SearchState) : Type 0 where
   pub met : (y : Label) → IsMet net a y → IsMet net b y
   pub back : (y : Label) → IsPresent net b y → IsPresent net a y
   pub places : (p : Place) → p ≢ waiting → (y : Label) → IsUnbeaten net a y → HasPair (entries_at a p) y ↔ HasPair (entries_at b p) y
 
-keeps_through : (net : Network) (a b c : SearchState) → KeepsOutcome net a b → KeepsOutcome net b c → KeepsOutcome net a c
+pub keeps_through : (net : Network) (a b c : SearchState) → KeepsOutcome net a b → KeepsOutcome net b c → KeepsOutcome net a c
 keeps_through net a b c first second = record {
   met = λ y h. second.met y (first.met y h);
   back = λ y h. first.back y (second.back y h);
@@ -45,16 +39,18 @@ keeps_through net a b c first second = record {
       (λ h. after.0 (before.0 h), λ h. before.1 (after.1 h));
 }
 
-module _ (task : Task) (a b : SearchState) (changes : Changes task a b) (arrivals : (y : Label) → IsArrival task.network b y → IsArrival task.network a y) where
+pair_on : (xs ys : List Label) → ((z : Label) → Contains xs z → Contains ys z) → (y : Label) → HasPair xs y → HasPair ys y
+pair_on xs ys on y h = record { label = h.label; member = on h.label h.member; same = h.same }
+
+pair_through : (l m n : Label) → IsSamePair l m → IsSamePair m n → IsSamePair l n
+pair_through l m n first second = record { node = first.node ∙ second.node; cost = first.cost ∙ second.cost }
+
+module _ (task : Task) (is : IsTask task) (a b : SearchState) (sound : IsSound task a) (changes : Changes task a b)
+    (arrivals : (y : Label) → IsArrival task.network b y → IsArrival task.network a y) where
   keeps_outcome : ((p : Place) → p ≢ waiting → (y : Label) → IsUnbeaten task.network a y → HasPair (entries_at a p) y ↔ HasPair (entries_at b p) y)
       → KeepsOutcome task.network a b
   keeps_outcome places = record {
-    met = λ y. elim [
-      | inl arrival ↦ changes.arrivals y arrival
-      | inr h ↦
-          let k = changes.entries.covers h.entry h.is_entry in
-          inr (record { entry = k.entry; is_entry = k.is_entry; covers = covers_through k.entry h.entry y k.covers h.covers })
-    ];
+    met = met_after task is a b sound changes;
     back = λ y. elim [
       | inr arrival ↦ inr (arrivals y arrival)
       | inl entry ↦ elim (changes.entries.known y entry) [ inl old ↦ inl old | inr candidate ↦ inr (came candidate) ]
@@ -62,57 +58,46 @@ module _ (task : Task) (a b : SearchState) (changes : Changes task a b) (arrival
     places = places;
   }
 
-  same_keeps : SameEntries b a → KeepsOutcome task.network a b
-  same_keeps same = keeps_outcome (λ p other y unbeaten. (
-    λ h. record { label = h.label; member = (same p h.label).1 h.member; same = h.same },
-    λ h. record { label = h.label; member = (same p h.label).0 h.member; same = h.same },
-  ))
-
--- what arrives in one of two same states arrives in the other
-pub arrival_alike : (net : Network) (a b : SearchState) → IsSame a b → (y : Label) → IsArrival net a y → IsArrival net b y
-arrival_alike net a b same y (came there) = came (Contains-permutation a.candidates b.candidates y same.candidates there)
-arrival_alike net a b same y (comes e there f) = comes e ((same.unrelaxed (e, y.arc)).0 there) f
+  pub same_keeps : SameEntries b a → KeepsOutcome task.network a b
+  same_keeps same = keeps_outcome (λ p other y unbeaten. (pair_on _ _ (λ z. (same p z).1) y, pair_on _ _ (λ z. (same p z).0) y))
 
 module _ (task : Task) (is : IsTask task) (a b : SearchState) (sound : IsSound task a) (x : Label) (h : Merges a x b) where
   mine : Contains a.candidates x
   mine = (candidates_by_merge a b x h x).1 (inr refl)
 
-  arrival_before_merge : (y : Label) → IsArrival task.network b y → IsArrival task.network a y
-  arrival_before_merge y (came here) = came ((candidates_by_merge a b x h y).1 (inl here))
-  arrival_before_merge y (comes e there f) = comes e ((h.unrelaxed (e, y.arc)).0 there) f
-
-  pair_through : (l m n : Label) → IsSamePair l m → IsSamePair m n → IsSamePair l n
-  pair_through l m n first second = record { node = first.node ∙ second.node; cost = first.cost ∙ second.cost }
-
-  place_after_merge : (p : Place) (y : Label) → IsUnbeaten task.network a y → HasPair (entries_at a p) y → IsMerged a x b → HasPair (entries_at b p) y
-  place_after_merge p y unbeaten was = stays where
-    still : Contains (entries_at b p) was.label → HasPair (entries_at b p) y
-    still here = record { label = was.label; member = here; same = was.same }
-
-    stays : IsMerged a x b → HasPair (entries_at b p) y
-    stays (keeps k) = still ((k.entries p was.label).1 was.member)
-    stays (discards k) = still ((k.entries p was.label).1 was.member)
-    stays (enters k) = still ((k.entries p was.label).1 (inl (
-      was.member,
-      inr (λ beats.
-          unbeaten x (inr (came mine)) (record { node = beats.node ∙ was.same.node; cost = subst (Dominates x.cost) was.same.cost beats.cost })),
-    )))
-    stays (lowers k) = elim (cases_label was.label k.entry) [
-      | inr other ↦ still ((k.entries p was.label).1 (inl (was.member, other)))
-      | inl e ↦
-          let there : p ≡ k.place = sound.apart.placed p k.place k.entry (subst (Contains (entries_at a p)) e was.member) k.is_entry in
-          let pair : IsSamePair k.entry y = subst (λ m. IsSamePair m y) e was.same in
-          record { label = x; member = (k.entries p x).1 (inr (there, refl)); same = pair_through x k.entry y (pair_back k.entry x k.same) pair }
-    ]
+  place_after : IsMerged a x b → (p : Place) (y : Label) → IsUnbeaten task.network a y → HasPair (entries_at a p) y → HasPair (entries_at b p) y
+  place_after (keeps k) p y unbeaten was = pair_on _ _ (λ z. (k.entries p z).1) y was
+  place_after (discards k) p y unbeaten was = pair_on _ _ (λ z. (k.entries p z).1) y was
+  place_after (enters k) p y unbeaten was =
+      let safe = λ (beats : Beats x was.label).
+      unbeaten x (inr (came mine)) (record { node = beats.node ∙ was.same.node; cost = subst (Dominates x.cost) was.same.cost beats.cost }) in
+      record { label = was.label; member = (k.entries p was.label).1 (inl (was.member, inr safe)); same = was.same }
+  place_after (lowers k) p y unbeaten was = elim (cases_label was.label k.entry) [
+    | inr other ↦ record { label = was.label; member = (k.entries p was.label).1 (inl (was.member, other)); same = was.same }
+    | inl e ↦
+        let there : p ≡ k.place = sound.apart.placed p k.place k.entry (subst (Contains (entries_at a p)) e was.member) k.is_entry in
+        let pair : IsSamePair k.entry y = subst (λ m. IsSamePair m y) e was.same in
+        record { label = x; member = (k.entries p x).1 (inr (there, refl)); same = pair_through x k.entry y (pair_back k.entry x k.same) pair }
+  ]
 
   merge_keeps : KeepsOutcome task.network a b
-  merge_keeps = keeps_outcome task a b (changes_of task is a b (merge x) sound h) arrival_before_merge (λ p other y unbeaten. (
-    λ was. place_after_merge p y unbeaten was h.entries,
-    λ now. elim (place_before_merge task a b sound x mine h.entries p now.label now.member) [
-      | inl was ↦ record { label = was.label; member = was.member; same = pair_through was.label now.label y was.same now.same }
-      | inr (waits, _) ↦ absurd (other waits)
-    ],
-  ))
+  merge_keeps = keeps_outcome task is a b sound (changes_of task is a b sound (merge x) h)
+      (λ y arrival. ((arrivals_by_merge task is a b sound x h y).0 arrival).0) (λ p other y unbeaten. (
+        place_after h.entries p y unbeaten,
+        λ now. elim (place_before_merge task a b sound x mine h.entries p now.label now.member) [
+          | inl was ↦ record { label = was.label; member = was.member; same = pair_through was.label now.label y was.same now.same }
+          | inr (waits, _) ↦ absurd (other waits)
+        ],
+      ))
+
+-- an event that is to do keeps it
+pub event_keeps : (task : Task) (is : IsTask task) (a b : SearchState) (event : Event) → IsSound task a → IsToDo task.network a event
+    → Happens task a event b → KeepsOutcome task.network a b
+event_keeps task is a b (take l) sound due h = absurd due
+event_keeps task is a b (drop l) sound due h = absurd due
+event_keeps task is a b (merge x) sound due h = merge_keeps task is a b sound x h
+event_keeps task is a b (relax l k) sound due h =
+    same_keeps task is a b sound (changes_of task is a b sound (relax l k) h) (λ y. (arrivals_by_relax task a b l k h y).1) h.entries
 
 -- ---- at the end
 
@@ -129,30 +114,28 @@ module _ (net : Network) (a b : SearchState) (kept : KeepsOutcome net a b) (apar
   covers_back : (y z : Label) → IsEntry b y → IsPresent net a z → z.node ≡ y.node → AtMost z.cost y.cost → Covers y z
   covers_back y z entry there node below =
       let by = covered z there in
-      let less = AtMost-trans by.entry.cost z.cost y.cost (cost_of_cover by.entry z by.covers) below in
-      subst (λ w. Covers w z) (apart.alone by.entry y by.is_entry entry (node_of_cover by.entry z by.covers ∙ node) less) by.covers
+      let less = AtMost-trans by.entry.cost z.cost y.cost by.covers.cost below in
+      subst (λ w. Covers w z) (apart.alone by.entry y by.is_entry entry (by.covers.node ∙ node) less) by.covers
 
   entry_survives : (y : Label) → IsEntry b y → Survives net a y
   entry_survives y entry = record {
     present = kept.back y (inl entry);
-    unbeaten = λ z there beats. beats.cost.differs (AtMost-antisymm z.cost y.cost beats.cost.at_most
-        (cost_of_cover y z (covers_back y z entry there beats.node beats.cost.at_most)));
-    least = λ z there pair. least z pair (covers_back y z entry there pair.node (subst (AtMost z.cost) pair.cost (AtMost-refl z.cost)));
-  } where
-    least : (z : Label) → IsSamePair z y → Covers y z → y.arc ≤ z.arc
-    least z pair (better beats) = absurd (beats.cost.differs (sym pair.cost))
-    least z pair (as_good _ less) = less
+    unbeaten = λ z there beats.
+        let covers = covers_back y z entry there beats.node beats.cost.at_most in
+        beats.cost.differs (AtMost-antisymm z.cost y.cost beats.cost.at_most covers.cost);
+    least = λ z there pair. (covers_back y z entry there pair.node (below_pair z y pair)).arc (sym pair.cost);
+  }
 
   survivor_enters : (y : Label) → Survives net a y → IsEntry b y
-  survivor_enters y survives = enter by.covers where
-    by : IsCovered b y
-    by = covered y survives.present
-
-    enter : Covers by.entry y → IsEntry b y
-    enter (better beats) = absurd (survives.unbeaten by.entry (kept.back by.entry (inl by.is_entry)) beats)
-    enter (as_good pair less) =
-        let least = survives.least by.entry (kept.back by.entry (inl by.is_entry)) pair in
-        subst (IsEntry b) (label_by_parts by.entry y pair (omega (arith, less, least))) by.is_entry
+  survivor_enters y survives =
+      let by = covered y survives.present in
+      let there = kept.back by.entry (inl by.is_entry) in
+      elim (cases_same by.entry.cost y.cost) [
+        | inr other ↦ absurd (survives.unbeaten by.entry there (record { node = by.covers.node; cost = record { at_most = by.covers.cost; differs = other } }))
+        | inl same ↦
+            let pair : IsSamePair by.entry y = record { node = by.covers.node; cost = same } in
+            subst (IsEntry b) (label_by_parts by.entry y pair (omega (arith, by.covers.arc same, survives.least by.entry there pair))) by.is_entry
+      ]
 
   at_place : (p : Place) → p ≢ waiting → (y : Label) → Contains (entries_at b p) y ↔ (Survives net a y × HasPair (entries_at a p) y)
   at_place p other y = (
@@ -161,70 +144,34 @@ module _ (net : Network) (a b : SearchState) (kept : KeepsOutcome net a b) (apar
         (survives, (kept.places p other y survives.unbeaten).1 (record { label = y; member = here; same = same_pair y y refl })),
     λ (survives, pair).
         let h = (kept.places p other y survives.unbeaten).0 pair in
-        let below = subst (AtMost h.label.cost) h.same.cost (AtMost-refl h.label.cost) in
-        subst (Contains (entries_at b p)) (apart.alone h.label y (p, h.member) (survivor_enters y survives) h.same.node below) h.member,
+        let same = apart.alone h.label y (p, h.member) (survivor_enters y survives) h.same.node (below_pair h.label y h.same) in
+        subst (Contains (entries_at b p)) same h.member,
   )
 
-  outcome_at_end : IsOutcome net a b
+  at_waiting : (y : Label) → Contains b.waiting y ↔ (Survives net a y × Belongs a y waiting)
+  at_waiting y = (
+    λ here. (entry_survives y (waiting, here), (elsewhere here settled (λ e. absurd cc), elsewhere here dropped (λ e. absurd cc))),
+    λ h. waits h.1 (survivor_enters y h.0),
+  ) where
+    elsewhere : Contains b.waiting y → (p : Place) → p ≢ waiting → ¬ HasPair (entries_at a p) y
+    elsewhere here p other pair = other (apart.placed p waiting y ((at_place p other y).1 (entry_survives y (waiting, here), pair)) here)
+
+    waits : Belongs a y waiting → IsEntry b y → Contains b.waiting y
+    waits none (settled, here) = absurd (none.0 ((at_place settled (λ e. absurd cc) y).0 here).1)
+    waits none (dropped, here) = absurd (none.1 ((at_place dropped (λ e. absurd cc) y).0 here).1)
+    waits none (waiting, here) = here
+
+  pub outcome_at_end : IsOutcome net a b
   outcome_at_end = record {
-    settled = at_place settled (λ e. absurd cc);
-    dropped = at_place dropped (λ e. absurd cc);
-    waiting = λ y. (
-      λ here.
-          let survives = entry_survives y (waiting, here) in
-          (survives, elsewhere y here survives settled (λ e. absurd cc), elsewhere y here survives dropped (λ e. absurd cc)),
-      λ h. waits y h.1 h.2 (survivor_enters y h.0),
-    );
+    entries = elim [ settled ↦ at_place settled (λ e. absurd cc) | dropped ↦ at_place dropped (λ e. absurd cc) | waiting ↦ at_waiting ];
     unrelaxed = no_arc;
     candidates = no_candidate;
-  } where
-    elsewhere : (y : Label) → Contains b.waiting y → Survives net a y → (p : Place) → p ≢ waiting → ¬ HasPair (entries_at a p) y
-    elsewhere y here survives p other pair = other (apart.placed p waiting y ((at_place p other y).1 (survives, pair)) here)
-
-    waits : (y : Label) → ¬ HasPair a.settled y → ¬ HasPair a.dropped y → IsEntry b y → Contains b.waiting y
-    waits y unsettled undropped (settled, here) = absurd (unsettled ((at_place settled (λ e. absurd cc) y).0 here).1)
-    waits y unsettled undropped (dropped, here) = absurd (undropped ((at_place dropped (λ e. absurd cc) y).0 here).1)
-    waits y unsettled undropped (waiting, here) = here
-
--- ---- runs
-
-module _ (task : Task) (is : IsTask task) where
-  event_keeps : (a b : SearchState) (event : Event) → IsSound task a → Happens task a event b → ((l : Label) → event ≢ take l) → ((l : Label) → event ≢ drop l)
-      → KeepsOutcome task.network a b
-  event_keeps a b (take l) sound h no_take no_drop = absurd (no_take l refl)
-  event_keeps a b (drop l) sound h no_take no_drop = absurd (no_drop l refl)
-  event_keeps a b (merge x) sound h no_take no_drop = merge_keeps task is a b sound x h
-  event_keeps a b (relax l k) sound h no_take no_drop =
-      same_keeps task a b (changes_of task is a b (relax l k) sound h) (λ y. (arrivals_by_relax task a b l k h y).1) h.entries
-
-  run_keeps : (a b : SearchState) (events : List Event) → IsSound task a → Runs task a events b
-      → ((l : Label) → ¬ Contains events (take l)) → ((l : Label) → ¬ Contains events (drop l)) → KeepsOutcome task.network a b
-  run_keeps a b [] sound run no_take no_drop = same_keeps task a b (same_changes task a b sound run) (arrival_alike task.network b a run) run.entries
-  run_keeps a b (event ∷ rest) sound run no_take no_drop =
-      let c = run.from in
-      let sound_too = sound_by_run task is a c [] sound run.same in
-      let same = same_keeps task a c (same_changes task a c sound run.same) (arrival_alike task.network c a run.same) run.same.entries in
-      let first = event_keeps c run.next event sound_too run.step
-      (λ l e. no_take l (in_front event rest (take l) (sym e))) (λ l e. no_drop l (in_front event rest (drop l) (sym e))) in
-      keeps_through task.network a c b same (keeps_through task.network c run.next b first
-      (run_keeps run.next b rest (sound_after task is c run.next event sound_too run.step) run.rest
-      (λ l h. no_take l (in_rest event rest (take l) h)) (λ l h. no_drop l (in_rest event rest (drop l) h))))
-
-  -- each run of relaxes and merges that leaves none of them leads to the outcome
-  pub outcome_of_run : (a b : SearchState) (events : List Event) → IsSound task a → Runs task a events b
-      → ((l : Label) → ¬ Contains events (take l)) → ((l : Label) → ¬ Contains events (drop l)) → b.unrelaxed ≡ [] → b.candidates ≡ []
-      → IsOutcome task.network a b
-  outcome_of_run a b events sound run no_take no_drop no_arc no_candidate =
-      outcome_at_end task.network a b (run_keeps a b events sound run no_take no_drop) (sound_by_run task is a b events sound run).apart no_arc no_candidate
+  }
 
 -- the outcome is one state
 pub one_outcome : (net : Network) (s a b : SearchState) → IsOutcome net s a → IsOutcome net s b → IsSame a b
 one_outcome net s a b first second = record {
-  entries = elim [
-    | settled ↦ same_by _ a.settled b.settled first.settled second.settled
-    | dropped ↦ same_by _ a.dropped b.dropped first.dropped second.dropped
-    | waiting ↦ same_by _ a.waiting b.waiting first.waiting second.waiting
-  ];
+  entries = λ p. same_by _ (entries_at a p) (entries_at b p) (first.entries p) (second.entries p);
   unrelaxed = λ p. subst (λ ps. Contains a.unrelaxed p ↔ Contains ps p) (first.unrelaxed ∙ sym second.unrelaxed) (λ h. h, λ h. h);
   candidates = subst (IsPermutation a.candidates) (first.candidates ∙ sym second.candidates) (IsPermutation-refl a.candidates);
 }

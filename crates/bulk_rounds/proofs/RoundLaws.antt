@@ -1,5 +1,5 @@
 -- Rounds: each state between rounds has one, all its rounds lead to one state, and a counted round settles some label.
-use Rattle.std.proofs.Common.{◌<◌, ◌≤◌, ◌⊎◌, ◌↔◌, List, [], ◌∷◌, ◌++◌, map, sum, inl, inr, subst, arith}
+use Rattle.std.proofs.Common.{◌<◌, ◌≤◌, ◌⊎◌, ◌↔◌, List, ◌++◌, map, sum, inl, inr, refl, subst, arith}
 use Rattle.std.specs.Prelude.{Contains}
 use Rattle.cost_vector.proofs.Vectors.{sum-Dominates}
 use Rattle.list_laws.proofs.Members.{in_none, each_in}
@@ -10,12 +10,13 @@ use Rattle.event_machine.specs.Events.{Event, drop, take, merge, IsSame, Runs, I
 use Rattle.event_machine.specs.Rounds.{IsBetweenRounds, Begins, Finishes, Round, CountedRound, relaxing}
 use Rattle.event_machine.specs.Orders.{Stays, IsNext, IsBegun, IsOutcome}
 use Rattle.event_machine.proofs.Sound.{IsSound}
-use Rattle.event_machine.proofs.Running.{same_back, runs_on, runs_from_same}
+use Rattle.event_machine.proofs.Running.{same_back, runs_on, runs_from_same, along_run}
 use Rattle.list_laws.proofs.OnceLaws.{once_as}
-use Rattle.bulk_rounds.proofs.BegunLaws.{drops_in_any_order, some_begun, begins_is_begun, one_begun}
+use Rattle.bulk_rounds.proofs.BegunLaws.{all_drops, left_waiting, some_begun, begins_is_begun, one_begun}
 use Rattle.bulk_rounds.proofs.CompletesLaws.{some_outcome, finishes_is_outcome}
 use Rattle.bulk_rounds.proofs.OutcomeLaws.{one_outcome}
-use Rattle.event_machine.proofs.Keeping.{changes_of, sound_after, sound_by_run, sound_if_reached}
+use Rattle.event_machine.proofs.Keeping.{sound_after, same_is_sound, sound_if_reached}
+use Rattle.event_machine.proofs.Stepping.{changes_of}
 
 module _ (task : Task) (is : IsTask task) where
   -- ---- what a round leads to is reached, and keeps what is settled
@@ -27,11 +28,10 @@ module _ (task : Task) (is : IsTask task) where
   }
 
   kept_by_run : (s t : SearchState) (events : List Event) (l : Label) → IsSound task s → Runs task s events t → Contains s.settled l → Contains t.settled l
-  kept_by_run s t [] l sound same there = (same.entries settled l).1 there
-  kept_by_run s t (event ∷ rest) l sound run there =
-      let from = sound_by_run task is s run.from [] sound run.same in
-      kept_by_run run.next t rest l (sound_after task is run.from run.next event from run.step) run.rest
-      ((changes_of task is run.from run.next event from run.step).entries.kept l ((run.same.entries settled l).1 there))
+  kept_by_run s t events l sound run there = (along_run task (λ _ m. IsSound task m × Contains m.settled l)
+      (λ _ a b same (sound, there). (same_is_sound task is a b same sound, (same.entries settled l).1 there))
+      (λ event _ a b (sound, there) step. (sound_after task is a b event sound step, (changes_of task is a b sound event step).entries.kept l there))
+      events s t (sound, there) run).1
 
   reached_by_begins : (s t : SearchState) → IsReached task s → Begins task s t → IsReached task t
   reached_by_begins s t reached h =
@@ -67,7 +67,8 @@ module _ (task : Task) (is : IsTask task) where
 
   -- what is left after the drops
   pub left_after_drops : (s b : SearchState) → IsReached task s → (h : Begins task s b) → (y : Label) → Contains h.left.waiting y ↔ Stays task s y
-  left_after_drops s b reached h = ((drops_in_any_order task is s (sound_if_reached task is s reached) h.left h.drops h.each_drop).0 h.dropping).waiting
+  left_after_drops s b reached h =
+      left_waiting task s h.left (((all_drops task is s (sound_if_reached task is s reached) h.drops h.each_drop).1 h.left).0 h.dropping)
 
   pub some_round : (s : SearchState) → IsReached task s → IsBetweenRounds s → (t : SearchState) × Round task s t
   some_round s reached between =
@@ -76,8 +77,8 @@ module _ (task : Task) (is : IsTask task) where
       let begins = (begins_is_begun task is s sound between begun).1 is_begun in
       let there = reached_by_begins s begun reached begins in
       let sound_begun = sound_if_reached task is begun there in
-      let (after, outcome) = some_outcome task is begun sound_begun is_begun.candidates in
-      let finishes = (finishes_is_outcome task is begun sound_begun is_begun.candidates after).1 outcome in
+      let (after, outcome) = some_outcome task is begun sound_begun in
+      let finishes = (finishes_is_outcome task is begun sound_begun after).1 outcome in
       (after, record { between = between; begun = begun; begins = begins; finishes = finishes })
 
   module _ (s t : SearchState) (reached : IsReached task s) (round : Round task s t) where
@@ -88,7 +89,7 @@ module _ (task : Task) (is : IsTask task) where
     begun_of = (begins_is_begun task is s (sound_if_reached task is s reached) round.between round.begun).0 round.begins
 
     pub outcome_of : IsOutcome task.network round.begun t
-    outcome_of = (finishes_is_outcome task is round.begun (sound_if_reached task is round.begun reached_begun) begun_of.candidates t).0 round.finishes
+    outcome_of = (finishes_is_outcome task is round.begun (sound_if_reached task is round.begun reached_begun) t).0 round.finishes
 
     pub between_after : IsBetweenRounds t
     between_after = record { unrelaxed = outcome_of.unrelaxed; candidates = outcome_of.candidates }
@@ -99,12 +100,18 @@ module _ (task : Task) (is : IsTask task) where
     -- what is taken is settled at the end, and was not at the start
     pub taken_is_new : (y : Label) → IsNext task s y → Contains t.settled y × (¬ Contains s.settled y)
     taken_is_new y next = (
-      kept_by_finishes round.begun t y reached_begun round.finishes ((begun_of.settled y).1 (inr next)),
+      kept_by_finishes round.begun t y reached_begun round.finishes ((begun_of.entries settled y).1 (inr (inr (refl, next)))),
       λ there. let same = (sound_if_reached task is s reached).apart.placed settled waiting y there next.stays.waits in cc,
     )
 
     pub kept_by_round : (y : Label) → Contains s.settled y → Contains t.settled y
-    kept_by_round y there = kept_by_finishes round.begun t y reached_begun round.finishes ((begun_of.settled y).1 (inl there))
+    kept_by_round y there = kept_by_finishes round.begun t y reached_begun round.finishes ((begun_of.entries settled y).1 (inl (
+      there,
+      (λ may. not_waiting may.waits),
+      (λ next. not_waiting next.stays.waits),
+    ))) where
+      not_waiting : ¬ Contains s.waiting y
+      not_waiting it_waits = let same = (sound_if_reached task is s reached).apart.placed settled waiting y there it_waits in cc
 
   pub one_end : (s a b : SearchState) → IsReached task s → Round task s a → Round task s b → IsSame a b
   one_end s a b reached first second =
@@ -112,7 +119,7 @@ module _ (task : Task) (is : IsTask task) where
       let there = reached_by_begins s first.begun reached first.begins in
       let that = finishes_from_same first.begun second.begun b same second.finishes in
       one_outcome task.network first.begun a b (outcome_of s a reached first)
-      ((finishes_is_outcome task is first.begun (sound_if_reached task is first.begun there) (begun_of s a reached first).candidates b).0 that)
+      ((finishes_is_outcome task is first.begun (sound_if_reached task is first.begun there) b).0 that)
 
   -- ---- a counted round
 

@@ -26,23 +26,22 @@ pub fn rounds_begin_in_any_order()
         → IsBegun task s a → IsBegun task s b → IsSame a b }
 {}
 
-/// From a state without candidates each list of events that relaxes each pair and merges each arrival once, after it
-/// was relaxed, is a run, and all these runs lead to one state. Once all pairs are relaxed, the candidates are the
-/// arrivals, each once.
+/// From each reached state each list of events that relaxes each pair and merges each arrival once, after it was
+/// relaxed, is a run, and all these runs lead to one state. What arrives are the candidates that already wait to be
+/// merged and those that the pairs give. Once all pairs are relaxed, the candidates are the arrivals, each once.
 pub fn rounds_end_in_any_order()
     ensures some_state { (task : Task) (s : SearchState)
-        → IsTask task → IsReached task s → s.candidates ≡ []
+        → IsTask task → IsReached task s
         → (after : SearchState) × IsOutcome task.network s after }
     ensures arrivals { (task : Task) (s relaxed : SearchState) (relaxes : List (Label × ℕ))
-        → IsTask task → IsReached task s → s.candidates ≡ []
-        → ListsOnce (Contains s.unrelaxed) relaxes
+        → IsTask task → IsReached task s → ListsOnce (Contains s.unrelaxed) relaxes
         → Runs task s (map relaxing relaxes) relaxed
         → ListsOnce (IsArrival task.network s) relaxed.candidates }
     ensures each_order { (task : Task) (s after : SearchState) (events : List Event)
-        → IsTask task → IsReached task s → s.candidates ≡ [] → Completes task.network s events
+        → IsTask task → IsReached task s → Completes task.network s events
         → (Runs task s events after ↔ IsOutcome task.network s after) }
     ensures finishes { (task : Task) (s after : SearchState)
-        → IsTask task → IsReached task s → s.candidates ≡ []
+        → IsTask task → IsReached task s
         → (Finishes task s after ↔ IsOutcome task.network s after) }
     ensures one_state { (task : Task) (s a b : SearchState)
         → IsOutcome task.network s a → IsOutcome task.network s b → IsSame a b }

@@ -1,14 +1,14 @@
 -- What becomes of the entries where an event happens in a sound state.
-use Rattle.std.proofs.Common.{◌≡◌, ◌≢◌, List, ◌⊎◌, inl, inr, refl, sym, subst, ◌∙◌, arith}
+use Rattle.std.proofs.Common.{◌≡◌, ◌≢◌, ◌≤◌, List, ◌⊎◌, inl, inr, refl, sym, subst, ◌∙◌, arith}
 use Rattle.std.specs.Prelude.{Contains}
 use Rattle.cost_vector.specs.Costs.{AtMost}
 use Rattle.cost_vector.proofs.Vectors.{AtMost-refl}
 use Rattle.event_machine.specs.Machine.{Task, Label, IsSamePair, Beats, SearchState, Place, settled, waiting, entries_at, IsEntry}
 use Rattle.event_machine.specs.Machine.{IsActive, waits, is_candidate}
-use Rattle.event_machine.specs.Events.{SameEntries, Becomes, LowersEntry, Enters, IsMerged, keeps, lowers, discards, enters}
+use Rattle.event_machine.specs.Events.{SameEntries, Becomes, Enters, IsMerged, keeps, lowers, discards, enters}
 use Rattle.event_machine.specs.Orders.{HasPair}
 use Rattle.event_machine.specs.Laws.{IsKnown}
-use Rattle.event_machine.proofs.Sound.{Covers, better, as_good, IsCovered, covers_itself, covered_by_itself}
+use Rattle.event_machine.proofs.Sound.{Covers, covers_beaten, covers_pair, IsCovered, covered_by_itself}
 use Rattle.event_machine.proofs.Sound.{AreApart, IsSound, cases_label, cases_beats, cases_below, same_pair, pair_back}
 
 -- no settled label goes, each entry was known and can be stood for later, and they stay apart
@@ -88,40 +88,35 @@ module _ (a b : SearchState) (apart : AreApart a) where
       apart = apart_after;
     }
 
-  -- a waiting label has room among the others, wherever it stands
-  pub room_to_move : (l : Label) → Contains a.waiting l → HasRoom a (λ _ y. y ≢ l) l
-  room_to_move l there = record {
-    source = inl there;
-    settled_stay = λ y is_settled e. let same : settled ≡ waiting = apart.placed settled waiting l (subst (Contains a.settled) e is_settled) there in cc;
-    others_covered = λ p y y_in. elim (cases_label y l) [ inr other ↦ inl other | inl e ↦ inr (subst (Covers l) (sym e) (covers_itself l)) ];
+  -- a label of its pair has room in place of an entry that isn't settled, or can't be
+  room_in_place : (m n : Label) → IsSamePair m n → n.arc ≤ m.arc → IsEntry a m → Contains a.waiting n ⊎ Contains a.candidates n → ¬ Contains a.settled m
+      → HasRoom a (λ _ y. y ≢ m) n
+  room_in_place m n pair less entry source unsettled = record {
+    source = source;
+    settled_stay = λ y there e. unsettled (subst (Contains a.settled) e there);
+    others_covered = λ p y y_in. elim (cases_label y m) [
+      | inr other ↦ inl other
+      | inl e ↦ inr (subst (Covers n) (sym e) (covers_pair n m (pair_back m n pair) less))
+    ];
     clear = λ p y y_in other node. elim [
-      | inl below ↦ other (sym (apart.alone l y (waiting, there) (p, y_in) node below))
-      | inr above ↦ other (apart.alone y l (p, y_in) (waiting, there) (sym node) above)
+      | inl below ↦ other (sym (apart.alone m y entry (p, y_in) (pair.node ∙ node) (subst (λ c. AtMost c y.cost) (sym pair.cost) below)))
+      | inr above ↦ other (apart.alone y m (p, y_in) entry (sym (pair.node ∙ node)) (subst (AtMost y.cost) (sym pair.cost) above))
     ];
   }
+
+  -- a waiting label has room among the others, wherever it stands
+  pub room_to_move : (l : Label) → Contains a.waiting l → HasRoom a (λ _ y. y ≢ l) l
+  room_to_move l there = room_in_place l l (same_pair l l refl) (omega arith) (waiting, there) (inl there)
+      (λ is_settled. let same : settled ≡ waiting = apart.placed settled waiting l is_settled there in cc)
 
 -- ---- a candidate is merged
 
 module _ (task : Task) (a b : SearchState) (sound : IsSound task a) (x : Label) (mine : Contains a.candidates x) where
-  room_to_lower : (h : LowersEntry a x b) → HasRoom a (λ _ y. y ≢ h.entry) x
-  room_to_lower h = record {
-    source = inr mine;
-    settled_stay = λ y there e. sound.unequalled h.entry x (subst (Contains a.settled) e there) mine (pair_back h.entry x h.same);
-    others_covered = λ p y there. elim (cases_label y h.entry) [
-      | inr other ↦ inl other
-      | inl e ↦ inr (subst (Covers x) (sym e) (as_good (pair_back h.entry x h.same) (omega (arith, h.greater))))
-    ];
-    clear = λ p y there other node. let entry : IsEntry a h.entry = (h.place, h.is_entry) in elim [
-      | inl below ↦ other (sym (sound.apart.alone h.entry y entry (p, there) (h.same.node ∙ node) (subst (λ c. AtMost c y.cost) (sym h.same.cost) below)))
-      | inr above ↦ other (sound.apart.alone y h.entry (p, there) entry (sym (h.same.node ∙ node)) (subst (AtMost y.cost) (sym h.same.cost) above))
-    ];
-  }
-
   room_to_enter : (h : Enters a x b) → HasRoom a (λ p y. (p ≡ settled) ⊎ (¬ Beats x y)) x
   room_to_enter h = record {
     source = inr mine;
     settled_stay = λ y there. inl refl;
-    others_covered = λ p y there. elim (cases_beats x y) [ inl beats ↦ inr (better beats) | inr unbeaten ↦ inl (inr unbeaten) ];
+    others_covered = λ p y there. elim (cases_beats x y) [ inl beats ↦ inr (covers_beaten x y beats) | inr unbeaten ↦ inl (inr unbeaten) ];
     clear = λ p y there stays node. elim [
       | inr above ↦ elim (cases_below y x (sym node) above) [ inl pair ↦ h.new y (p, there) pair | inr beats ↦ h.unbeaten y (p, there) beats ]
       | inl below ↦ elim (cases_below x y node below) [
@@ -137,7 +132,9 @@ module _ (task : Task) (a b : SearchState) (sound : IsSound task a) (x : Label) 
   -- whatever becomes of x
   pub entries_by_merge : IsMerged a x b → EntriesChange a b
   entries_by_merge (keeps h) = entries_stay a b sound.apart h.entries
-  entries_by_merge (lowers h) = entries_become a b sound.apart (λ _ y. y ≢ h.entry) x h.place h.entries (room_to_lower h)
+  entries_by_merge (lowers h) = entries_become a b sound.apart (λ _ y. y ≢ h.entry) x h.place h.entries
+      (room_in_place a b sound.apart h.entry x h.same (omega (arith, h.greater)) (h.place, h.is_entry) (inr mine)
+      (λ there. sound.unequalled h.entry x there mine (pair_back h.entry x h.same)))
   entries_by_merge (discards h) = entries_stay a b sound.apart h.entries
   entries_by_merge (enters h) = entries_become a b sound.apart (λ p y. (p ≡ settled) ⊎ (¬ Beats x y)) x waiting h.entries (room_to_enter h)
 
@@ -146,9 +143,9 @@ module _ (task : Task) (a b : SearchState) (sound : IsSound task a) (x : Label) 
 
   -- x itself can be stood for
   pub covered_by_merge : IsMerged a x b → IsCovered b x
-  covered_by_merge (keeps h) = record { entry = h.entry; is_entry = entry_after h.entries h.entry h.is_entry; covers = as_good h.same h.lesser }
+  covered_by_merge (keeps h) = record { entry = h.entry; is_entry = entry_after h.entries h.entry h.is_entry; covers = covers_pair h.entry x h.same h.lesser }
   covered_by_merge (lowers h) = covered_by_itself b x (h.place, (h.entries h.place x).1 (inr (refl, refl)))
-  covered_by_merge (discards h) = record { entry = h.entry; is_entry = entry_after h.entries h.entry h.is_entry; covers = better h.beats }
+  covered_by_merge (discards h) = record { entry = h.entry; is_entry = entry_after h.entries h.entry h.is_entry; covers = covers_beaten h.entry x h.beats }
   covered_by_merge (enters h) = covered_by_itself b x (waiting, (h.entries waiting x).1 (inr (refl, refl)))
 
   pair_itself : (xs : List Label) (y : Label) → Contains xs y → HasPair xs y

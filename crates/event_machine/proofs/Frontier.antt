@@ -1,20 +1,26 @@
 -- No walk gets past the labels that are still to be worked on, so a label that may be taken is final.
-use Rattle.std.proofs.Common.{◌≡◌, ℕ, List, [], ◌∷◌, length, replicate, reverse, ◌≤◌, ◌⊎◌, inl, inr, refl, sym, ap, subst, ◌∙◌, arith}
-use Rattle.std.specs.Prelude.{Contains}
-use Rattle.cost_vector.specs.Costs.{AtMost, Dominates, plus}
-use Rattle.cost_vector.proofs.Vectors.{AtMost-refl, AtMost-trans, AtMost-plus, AtMost-Dominates, Dominates-plus, Dominates-trans}
-use Rattle.cost_vector.proofs.Vectors.{Within-AtMost, cases_same}
+use Rattle.std.proofs.Common.{◌≡◌, ℕ, List, [], ◌∷◌, ◌++◌, length, replicate, reverse, ◌≤◌, ◌⊎◌, inl, inr, refl, sym, ap, subst, ◌∙◌}
+use Rattle.std.specs.Prelude.{slice_index, Contains}
+use Rattle.std.proofs.lemmas.List.{reverse-append}
+use Rattle.cost_vector.specs.Costs.{AtMost, Dominates, Within, plus}
+use Rattle.cost_vector.proofs.Vectors.{AtMost-refl, AtMost-trans, AtMost-plus, AtMost-Dominates, Dominates-AtMost, Dominates-trans, Within-AtMost}
+use Rattle.cost_vector.proofs.Vectors.{plus_cancel, cases_same}
 use Rattle.road_network.specs.Network.{Leads}
-use Rattle.road_network.specs.Walks.{IsWalk}
-use Rattle.road_network.specs.Best.{IsBest}
+use Rattle.road_network.specs.Walks.{Arrives, IsWalk}
+use Rattle.road_network.specs.Best.{IsBest, IsBackwardLeast}
 use Rattle.road_network.specs.Answers.{IsRelevant}
-use Rattle.road_network.proofs.WalkLaws.{leads_by_vector, length_of_arrival, arrives_by_walk, walk_by_arrival}
-use Rattle.road_network.proofs.BestLaws.{grows_along}
-use Rattle.event_machine.specs.Machine.{Task, IsTask, Label, SearchState, settled, dropped, waiting, IsEntry, IsActive, waits}
-use Rattle.event_machine.specs.Machine.{is_candidate, has_arc, HasSettled, Follows}
+use Rattle.road_network.proofs.WalkLaws.{leads_by_vector, length_of_arrival, length_of_walk, arrives_by_walk, ends_by_last}
+use Rattle.road_network.proofs.BestLaws.{grows_along, best_before}
+use Rattle.road_network.proofs.BackwardLaws.{none_at_zero, with_last_arc}
+use Rattle.road_network.proofs.Reached.{leads_alike}
+use Rattle.event_machine.specs.Machine.{Task, IsTask, Label, SearchState, settled, dropped, waiting, IsEntry, IsActive, waits, is_candidate, has_arc}
+use Rattle.event_machine.specs.Machine.{HasSettled, IsBeatenAtTarget, Follows}
 use Rattle.event_machine.specs.Events.{MayTake}
 use Rattle.event_machine.specs.Orders.{IsArrival, came, comes}
-use Rattle.event_machine.proofs.Sound.{Covers, better, as_good, IsCovered, node_of_cover, cost_of_cover, Comes, IsSound, IsLeastArc}
+use Rattle.event_machine.specs.Rounds.{NoneStays}
+use Rattle.event_machine.specs.Laws.{HasLeastArc}
+use Rattle.list_laws.proofs.SetLaws.{none_of_empty}
+use Rattle.event_machine.proofs.Sound.{IsCovered, IsSound, at_start, follows}
 
 -- some settled label of the node v costs at most c
 pub record HasSettledBelow (s : SearchState) (v : ℕ) (c : List ℕ) : Type 0 where
@@ -29,159 +35,192 @@ pub record HasPendingBelow (s : SearchState) (c : List ℕ) : Type 0 where
   pub pending : IsActive s label ⊎ Contains s.dropped label
   pub at_most : AtMost label.cost c
 
-module _ (task : Task) (is : IsTask task) where
-  -- ---- walks
+module _ (task : Task) (is : IsTask task) (s : SearchState) (sound : IsSound task s) where
+  -- the cost of an entry has a place for each criterion
+  length_of_entry : (e : Label) → IsEntry s e → length e.cost ≡ task.network.criteria
+  length_of_entry e entry = let (p, walk) = sound.walked e (inl entry) in length_of_walk task.network is.network p task.start e.node e.cost walk
 
-  pub length_of_walk : (q : List ℕ) (v : ℕ) (c : List ℕ) → Comes task q v c → length c ≡ task.network.criteria
-  length_of_walk q v c walk = length_of_arrival task.network is.network q task.start v c walk
+  -- what follows a settled label costs more
+  pub grown_from_settled : (e x : Label) → Contains s.settled e → Follows task.network e x → Dominates e.cost x.cost
+  grown_from_settled e x there f = subst (Dominates e.cost) (sym f.cost)
+      (grows_along task.network is.network x.arc e.node x.node f.by e.cost f.leads (length_of_entry e (settled, there)))
 
-  pub forwards : (q : List ℕ) (v : ℕ) (c : List ℕ) → Comes task q v c → IsWalk task.network task.start (reverse q) v c
-  forwards q v c walk = walk_by_arrival task.network is.network q task.start v c walk
+  -- a label follows along its arc from one entry alone
+  pub follows_once : (d e x : Label) → IsEntry s d → IsEntry s e → Follows task.network d x → Follows task.network e x → d ≡ e
+  follows_once d e x entry entry_too f g =
+      let alike = leads_alike task.network x.arc d.node x.node e.node x.node f.by g.by f.leads g.leads in
+      let long = sym (leads_by_vector task.network is.network x.arc e.node x.node g.by g.leads).whole in
+      let sums : plus d.cost g.by ≡ plus e.cost g.by = ap (plus d.cost) (sym alike.1) ∙ sym f.cost ∙ g.cost in
+      let cost = plus_cancel d.cost e.cost g.by (length_of_entry d entry ∙ long) (length_of_entry e entry_too ∙ long) sums in
+      sound.apart.alone d e entry entry_too alike.0 (subst (AtMost d.cost) cost (AtMost-refl d.cost))
 
-  pub backwards : (p : List ℕ) (v : ℕ) (c : List ℕ) → IsWalk task.network task.start p v c → Comes task (reverse p) v c
-  backwards p v c walk = arrives_by_walk task.network is.network p task.start v c walk
+  -- ---- the frontier
 
-  -- the walk without its last arc costs less
-  pub less_before : (k : ℕ) (before : List ℕ) (v : ℕ) (c : List ℕ) → (walk : Comes task (k ∷ before) v c) → Dominates walk.before c
-  less_before k before v c walk =
-      let long = length_of_walk before walk.at walk.before walk.walk in
-      subst (Dominates walk.before) (sym walk.cost) (grows_along task.network is.network k walk.at v walk.by walk.before walk.leads long)
+  covered_below : (x : Label) (c : List ℕ) → AtMost x.cost c → IsCovered s x → HasSettledBelow s x.node c ⊎ HasPendingBelow s c
+  covered_below x c below by = at by.is_entry where
+    less : AtMost by.entry.cost c
+    less = AtMost-trans by.entry.cost x.cost c by.covers.cost below
 
-  module _ (s : SearchState) (sound : IsSound task s) where
-    -- what follows a settled label costs more
-    pub grown_from_settled : (e x : Label) → Contains s.settled e → Follows task.network e x → Dominates e.cost x.cost
-    grown_from_settled e x there f =
-        let way = sound.walked e (inl (settled, there)) in
-        less_before x.arc way.arcs x.node x.cost (record { at = e.node; by = f.by; before = e.cost; walk = way.walk; leads = f.leads; cost = f.cost })
+    at : IsEntry s by.entry → HasSettledBelow s x.node c ⊎ HasPendingBelow s c
+    at (settled, here) = inl (record { label = by.entry; settled = here; node = by.covers.node; at_most = less })
+    at (dropped, here) = inr (record { label = by.entry; pending = inr here; at_most = less })
+    at (waiting, here) = inr (record { label = by.entry; pending = inl (waits here); at_most = less })
 
-    -- ---- the frontier
+  arrival_below : (x : Label) (c : List ℕ) → AtMost x.cost c → IsArrival task.network s x → HasPendingBelow s c
+  arrival_below x c below (came here) = record { label = x; pending = inl (is_candidate here); at_most = below }
+  arrival_below x c below (comes e there f) =
+      let less = grown_from_settled e x (sound.paired e x.arc there).0 f in
+      record { label = e; pending = inl (has_arc x.arc there); at_most = AtMost-trans e.cost x.cost c less.at_most below }
 
-    entry_below : (y : Label) (v : ℕ) (c : List ℕ) → IsEntry s y → y.node ≡ v → AtMost y.cost c → HasSettledBelow s v c ⊎ HasPendingBelow s c
-    entry_below y v c (settled, here) node below = inl (record { label = y; settled = here; node = node; at_most = below })
-    entry_below y v c (dropped, here) node below = inr (record { label = y; pending = inr here; at_most = below })
-    entry_below y v c (waiting, here) node below = inr (record { label = y; pending = inl (waits here); at_most = below })
+  abbrev Arriving : List ℕ → ℕ → List ℕ → Type 0
+  Arriving q v c = Arrives task.network task.start q v c
 
-    covered_below : (x : Label) (c : List ℕ) → AtMost x.cost c → IsCovered s x → HasSettledBelow s x.node c ⊎ HasPendingBelow s c
-    covered_below x c below by =
-        let y = by.entry in
-        entry_below y x.node c by.is_entry (node_of_cover y x by.covers) (AtMost-trans y.cost x.cost c (cost_of_cover y x by.covers) below)
-
-    arrival_below : (x : Label) (c : List ℕ) → AtMost x.cost c → IsArrival task.network s x → HasPendingBelow s c
-    arrival_below x c below (came here) = record { label = x; pending = inl (is_candidate here); at_most = below }
-    arrival_below x c below (comes e there f) =
-        let less = grown_from_settled e x (sound.paired e x.arc there).0 f in
-        record { label = e; pending = inl (has_arc x.arc there); at_most = AtMost-trans e.cost x.cost c less.at_most below }
-
-    -- the arc k goes on from a settled label that costs at most as much as the walk so far
-    one_more : (k : ℕ) (before : List ℕ) (v : ℕ) (c : List ℕ) → (walk : Comes task (k ∷ before) v c)
-        → HasSettledBelow s walk.at walk.before → HasSettledBelow s v c ⊎ HasPendingBelow s c
-    one_more k before v c walk e =
-        let x : Label = record { node = v; cost = plus e.label.cost walk.by; arc = k } in
-        let leads = subst (λ u. Leads task.network k u walk.by v) (sym e.node) walk.leads in
-        let sums = AtMost-plus e.label.cost walk.before walk.by walk.by e.at_most (AtMost-refl walk.by) in
-        let below : AtMost x.cost c = subst (AtMost x.cost) (sym walk.cost) sums in
-        elim (sound.expanded e.label x e.settled (record { by = walk.by; leads = leads; cost = refl })) [
-          | inl arrival ↦ inr (arrival_below x c below arrival)
-          | inr by ↦ covered_below x c below by
-        ]
-
-    -- each walk's end has a settled label that costs at most as much, or something pending does
-    pub frontier : (q : List ℕ) (v : ℕ) (c : List ℕ) → Comes task q v c → HasSettledBelow s v c ⊎ HasPendingBelow s c
-    frontier [] v c walk =
-        let zeros = replicate task.network.criteria 0 in
-        let at_start = covered_below _ zeros (AtMost-refl zeros) sound.started in
-        subst (λ u. HasSettledBelow s u c ⊎ HasPendingBelow s c) walk.1
-        (subst (λ z. HasSettledBelow s task.start z ⊎ HasPendingBelow s z) (sym walk.2) at_start)
-    frontier (k ∷ before) v c walk = elim (frontier before walk.at walk.before walk.walk) [
-      | inl e ↦ one_more k before v c walk e
-      | inr y ↦ inr (record {
-        label = y.label;
-        pending = y.pending;
-        at_most = AtMost-trans y.label.cost walk.before c y.at_most (less_before k before v c walk).at_most;
-      })
-    ]
-
-    -- ---- a label that may be taken
-
-    module _ (l : Label) (may : MayTake task s l) where
-      -- a walk whose cost dominates its cost has a settled label below it at its end
-      pub nothing_below : (q : List ℕ) (v : ℕ) (b : List ℕ) → Comes task q v b → Dominates b l.cost → HasSettledBelow s v b
-      nothing_below q v b walk less = elim (frontier q v b walk) [
-        | inl below ↦ below
-        | inr y ↦
-            let dominates = AtMost-Dominates y.label.cost b l.cost y.at_most less in
-            elim y.pending [
-              | inl active ↦ absurd (may.undominated y.label active dominates)
-              | inr there ↦ elim (sound.useless y.label there) [
-                | inl beyond ↦ absurd (beyond (Within-AtMost task.limit y.label.cost l.cost dominates.at_most may.within))
-                | inr h ↦
-                    let too = Dominates-trans h.by.cost y.label.cost l.cost h.dominates dominates in
-                    absurd (may.unbeaten (record { by = h.by; settled = h.settled; node = h.node; dominates = too }))
-              ]
-            ]
+  -- the arc k goes on from a settled label that costs at most as much as the walk so far
+  one_more : (k : ℕ) (before : List ℕ) (v : ℕ) (c : List ℕ) → (walk : Arriving (k ∷ before) v c)
+      → HasSettledBelow s walk.at walk.before → HasSettledBelow s v c ⊎ HasPendingBelow s c
+  one_more k before v c walk e =
+      let x : Label = record { node = v; cost = plus e.label.cost walk.by; arc = k } in
+      let leads = subst (λ u. Leads task.network k u walk.by v) (sym e.node) walk.leads in
+      let sums = AtMost-plus e.label.cost walk.before walk.by walk.by e.at_most (AtMost-refl walk.by) in
+      let below : AtMost x.cost c = subst (AtMost x.cost) (sym walk.cost) sums in
+      elim (sound.expanded e.label x e.settled (record { by = walk.by; leads = leads; cost = refl })) [
+        | inl arrival ↦ inr (arrival_below x c below arrival)
+        | inr by ↦ covered_below x c below by
       ]
 
-      -- no entry of its node dominates it
-      no_entry_dominates : (y : Label) → IsEntry s y → y.node ≡ l.node → ¬ Dominates y.cost l.cost
-      no_entry_dominates y entry node less =
-          less.differs (ap (λ (m : Label). m.cost) (sound.apart.alone y l entry (waiting, may.waits) node less.at_most))
+  -- each walk's end has a settled label that costs at most as much, or something pending does
+  arriving_below : (q : List ℕ) (v : ℕ) (c : List ℕ) → Arriving q v c → HasSettledBelow s v c ⊎ HasPendingBelow s c
+  arriving_below [] v c walk =
+      let zeros = replicate task.network.criteria 0 in
+      subst (λ u. HasSettledBelow s u c ⊎ HasPendingBelow s c) walk.1 (subst (λ z. HasSettledBelow s task.start z ⊎ HasPendingBelow s z) (sym walk.2)
+      (covered_below _ zeros (AtMost-refl zeros) sound.started))
+  arriving_below (k ∷ before) v c walk = elim (arriving_below before walk.at walk.before walk.walk) [
+    | inl e ↦ one_more k before v c walk e
+    | inr y ↦
+        let long = length_of_arrival task.network is.network before task.start walk.at walk.before walk.walk in
+        let less = subst (Dominates walk.before) (sym walk.cost) (grows_along task.network is.network k walk.at v walk.by walk.before walk.leads long) in
+        inr (record { label = y.label; pending = y.pending; at_most = AtMost-trans y.label.cost walk.before c y.at_most less.at_most })
+  ]
 
-      taken_is_best : IsBest task.network task.start l.node l.cost
-      taken_is_best =
-          let way = sound.walked l (inl (waiting, may.waits)) in record {
-            reached = (reverse way.arcs, forwards way.arcs l.node l.cost way.walk);
-            nondominated = λ p b walk less.
-                let below = nothing_below (reverse p) l.node b (backwards p l.node b walk) less in
-                no_entry_dominates below.label (settled, below.settled) below.node (AtMost-Dominates below.label.cost b l.cost below.at_most less);
-          }
+  frontier : (p : List ℕ) (v : ℕ) (c : List ℕ) → IsWalk task.network task.start p v c → HasSettledBelow s v c ⊎ HasPendingBelow s c
+  frontier p v c walk = arriving_below (reverse p) v c (arrives_by_walk task.network is.network p task.start v c walk)
 
-      pub taken_is_relevant : IsRelevant task.network task.start task.target task.limit l.node l.cost
-      taken_is_relevant = record {
-        best = taken_is_best;
-        within = may.within;
-        undominated = λ b best less.
-            let reached = best.reached in
-            let below = nothing_below (reverse reached.0) task.target b (backwards reached.0 task.target b reached.1) less in
-            let dominates = AtMost-Dominates below.label.cost b l.cost below.at_most less in
-            may.unbeaten (record { by = below.label; settled = below.settled; node = below.node; dominates = dominates });
-      }
+  -- a best cost is that of a settled label, if one costs at most as much
+  settled_at_best : (v : ℕ) (c : List ℕ) → IsBest task.network task.start v c → HasSettledBelow s v c → HasSettled s v c
+  settled_at_best v c best e = elim (cases_same e.label.cost c) [
+    | inl same ↦ record { label = e.label; settled = e.settled; node = e.node; cost = same }
+    | inr other ↦
+        let (p, walk) = sound.walked e.label (inl (settled, e.settled)) in
+        absurd (best.nondominated p e.label.cost (subst (λ u. IsWalk task.network task.start p u e.label.cost) e.node walk)
+        (record { at_most = e.at_most; differs = other }))
+  ]
 
-      module _ (k : ℕ) (before : List ℕ) (walk : Comes task (k ∷ before) l.node l.cost) where
-        -- a walk of its cost without its last arc ends at a settled label of just that cost
-        before_is_settled : HasSettled s walk.at walk.before
-        before_is_settled =
-            let below = nothing_below before walk.at walk.before walk.walk (less_before k before l.node l.cost walk) in
-            let e = below.label in
-            elim (cases_same e.cost walk.before) [
-              | inl same ↦ record { label = e; settled = below.settled; node = below.node; cost = same }
-              | inr other ↦
-                  let way = sound.walked e (inl (settled, below.settled)) in
-                  let whole = (leads_by_vector task.network is.network k walk.at l.node walk.by walk.leads).whole in
-                  let long = length_of_walk way.arcs e.node e.cost way.walk ∙ sym whole in
-                  let shorter = Dominates-plus e.cost walk.before walk.by long (record { at_most = below.at_most; differs = other }) in
-                  let leads = subst (λ u. Leads task.network k u walk.by l.node) (sym below.node) walk.leads in
-                  let on : Comes task (k ∷ way.arcs) l.node (plus e.cost walk.by) =
-                  record { at = e.node; by = walk.by; before = e.cost; walk = way.walk; leads = leads; cost = refl } in
-                  absurd (taken_is_best.nondominated (reverse (k ∷ way.arcs)) (plus e.cost walk.by)
-                  (forwards (k ∷ way.arcs) l.node (plus e.cost walk.by) on) (subst (Dominates (plus e.cost walk.by)) (sym walk.cost) shorter))
+  -- ---- a label that may be taken
+
+  module _ (l : Label) (may : MayTake task s l) where
+    -- a walk whose cost dominates its cost has a settled label below it at its end
+    nothing_below : (p : List ℕ) (v : ℕ) (b : List ℕ) → IsWalk task.network task.start p v b → Dominates b l.cost → HasSettledBelow s v b
+    nothing_below p v b walk less = elim (frontier p v b walk) [
+      | inl below ↦ below
+      | inr y ↦
+          let dominates = AtMost-Dominates y.label.cost b l.cost y.at_most less in
+          elim y.pending [
+            | inl active ↦ absurd (may.undominated y.label active dominates)
+            | inr there ↦ elim (sound.useless y.label there) [
+              | inl beyond ↦ absurd (beyond (Within-AtMost task.limit y.label.cost l.cost dominates.at_most may.within))
+              | inr h ↦
+                  let too = Dominates-trans h.by.cost y.label.cost l.cost h.dominates dominates in
+                  absurd (may.unbeaten (record { by = h.by; settled = h.settled; node = h.node; dominates = too }))
             ]
+          ]
+    ]
 
-        least_last : l.arc ≤ k
-        least_last =
-            let e = before_is_settled in
-            let x : Label = record { node = l.node; cost = l.cost; arc = k } in
-            let leads = subst (λ u. Leads task.network k u walk.by l.node) (sym e.node) walk.leads in
-            let f : Follows task.network e.label x = record { by = walk.by; leads = leads; cost = walk.cost ∙ ap (λ b. plus b walk.by) (sym e.cost) } in
-            elim (sound.expanded e.label x e.settled f) [
-              | inl (came there) ↦ absurd (may.alone x there (record { node = refl; cost = refl }))
-              | inl (comes d there g) ↦ absurd (may.undominated d (has_arc k there) (grown_from_settled d x (sound.paired d k there).0 g))
-              | inr by ↦ covered by.entry by.is_entry by.covers
-            ] where
-              covered : (z : Label) → IsEntry s z → Covers z (record { node = l.node; cost = l.cost; arc = k }) → l.arc ≤ k
-              covered z entry (better beats) = absurd (no_entry_dominates z entry beats.node beats.cost)
-              covered z entry (as_good pair less) =
-                  let same = sound.apart.alone z l entry (waiting, may.waits) pair.node (subst (AtMost z.cost) pair.cost (AtMost-refl z.cost)) in
-                  omega (arith, less, ap (λ (m : Label). m.arc) same)
+    -- the only entry of its node that costs at most as much is itself
+    alone_there : (y : Label) → IsEntry s y → y.node ≡ l.node → AtMost y.cost l.cost → y ≡ l
+    alone_there y entry node below = sound.apart.alone y l entry (waiting, may.waits) node below
 
-      pub taken_is_least : IsLeastArc task l
-      taken_is_least k before walk = least_last k before walk
+    taken_is_best : IsBest task.network task.start l.node l.cost
+    taken_is_best = record {
+      reached = sound.walked l (inl (waiting, may.waits));
+      nondominated = λ p b walk less.
+          let below = nothing_below p l.node b walk less in
+          let dominates = AtMost-Dominates below.label.cost b l.cost below.at_most less in
+          dominates.differs (ap (λ (m : Label). m.cost) (alone_there below.label (settled, below.settled) below.node dominates.at_most));
+    }
+
+    pub taken_is_relevant : IsRelevant task.network task.start task.target task.limit l.node l.cost
+    taken_is_relevant = record {
+      best = taken_is_best;
+      within = may.within;
+      undominated = λ b best less.
+          let below = nothing_below best.reached.0 task.target b best.reached.1 less in
+          let dominates = AtMost-Dominates below.label.cost b l.cost below.at_most less in
+          may.unbeaten (record { by = below.label; settled = below.settled; node = below.node; dominates = dominates });
+    }
+
+    -- no walk of its cost ends by a lesser arc
+    least_last : (q : List ℕ) (k : ℕ) → IsWalk task.network task.start (q ++ k ∷ []) l.node l.cost → l.arc ≤ k
+    least_last q k whole =
+        let walk = (ends_by_last task.network is.network q task.start l.node k l.cost).0 whole in
+        let best = best_before task.network is.network q task.start walk.at l.node k walk.before walk.by walk.walk walk.leads
+        (subst (IsBest task.network task.start l.node) walk.cost taken_is_best) in
+        let long = length_of_walk task.network is.network q task.start walk.at walk.before walk.walk in
+        let less = subst (Dominates walk.before) (sym walk.cost)
+        (grows_along task.network is.network k walk.at l.node walk.by walk.before walk.leads long) in
+        let e = settled_at_best walk.at walk.before best (nothing_below q walk.at walk.before walk.walk less) in
+        let x : Label = record { node = l.node; cost = l.cost; arc = k } in
+        let leads = subst (λ u. Leads task.network k u walk.by l.node) (sym e.node) walk.leads in
+        let f : Follows task.network e.label x = record { by = walk.by; leads = leads; cost = walk.cost ∙ ap (λ b. plus b walk.by) (sym e.cost) } in
+        elim (sound.expanded e.label x e.settled f) [
+          | inl (came there) ↦ absurd (may.alone x there (record { node = refl; cost = refl }))
+          | inl (comes d there g) ↦ absurd (may.undominated d (has_arc k there) (grown_from_settled d x (sound.paired d k there).0 g))
+          | inr by ↦
+              let same = alone_there by.entry by.is_entry by.covers.node by.covers.cost in
+              subst (λ (m : Label). m.arc ≤ k) same (by.covers.arc (ap (λ (m : Label). m.cost) same))
+        ]
+
+    pub taken_is_least : HasLeastArc task.network task.start l
+    taken_is_least = elim (sound.founded l (inl (waiting, may.waits))) [
+      | at_start e ↦ subst (HasLeastArc task.network task.start) (sym e) (record {
+        walk = [];
+        least = record {
+          walk = (is.start, refl, refl);
+          least = λ q walk other. absurd (other (none_at_zero task.network is.network q task.start task.start walk));
+        };
+        arc = refl;
+      })
+      | follows e there f ↦
+          let from = sound.least e there in
+          let least = with_last_arc task.network is.network from.walk task.start e.node l.node l.arc e.cost f.by from.least f.leads
+          (λ q k walk. least_last q k (subst (IsWalk task.network task.start (q ++ k ∷ []) l.node) (sym f.cost) walk)) in
+          record {
+            walk = from.walk ++ l.arc ∷ [];
+            least = subst (λ c. IsBackwardLeast task.network task.start l.node c (from.walk ++ l.arc ∷ [])) (sym f.cost) least;
+            arc = ap (λ (p : List ℕ). slice_index p 0) (sym (reverse-append from.walk (l.arc ∷ [])));
+          }
+    ]
+
+  -- ---- all relevant pairs
+
+  -- what is useless to go on from costs no less than a relevant pair
+  not_useless : (v : ℕ) (c b : List ℕ) → IsRelevant task.network task.start task.target task.limit v c → AtMost b c
+      → ¬ ((¬ Within task.limit b) ⊎ IsBeatenAtTarget task s b)
+  not_useless v c b relevant below = elim [
+    | inl beyond ↦ beyond (Within-AtMost task.limit b c below relevant.within)
+    | inr h ↦
+        let best = subst (λ t. IsBest task.network task.start t h.by.cost) h.node (sound.relevant h.by h.settled).best in
+        relevant.undominated h.by.cost best (Dominates-AtMost h.by.cost b c h.dominates below)
+  ]
+
+  -- where all that waits may be dropped, and nothing else is to be done, each relevant pair is settled
+  pub all_settled : s.candidates ≡ [] → s.unrelaxed ≡ [] → NoneStays task s
+      → (v : ℕ) (c : List ℕ) → IsRelevant task.network task.start task.target task.limit v c → HasSettled s v c
+  all_settled no_candidate no_arc none v c relevant = elim (frontier relevant.best.reached.0 v c relevant.best.reached.1) [
+    | inl e ↦ settled_at_best v c relevant.best e
+    | inr y ↦ absurd (not_useless v c y.label.cost relevant y.at_most (elim y.pending [
+      | inl (waits here) ↦ (none y.label here).useless
+      | inl (is_candidate here) ↦ absurd (none_of_empty s.candidates no_candidate y.label here)
+      | inl (has_arc k here) ↦ absurd (none_of_empty s.unrelaxed no_arc (y.label, k) here)
+      | inr there ↦ sound.useless y.label there
+    ]))
+  ]

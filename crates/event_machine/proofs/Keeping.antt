@@ -1,17 +1,22 @@
 -- Each state is sound to which events lead.
-use Rattle.std.proofs.Common.{◌≡◌, List, [], ◌∷◌, ◌⊎◌, inl, inr, refl, sym, subst, ◌∙◌}
+use Rattle.std.proofs.Common.{◌≡◌, ◌≢◌, ◌↔◌, ℕ, List, [], ◌∷◌, ◌++◌, ◌⊎◌, inl, inr, refl, sym, subst, ◌∙◌}
 use Rattle.std.specs.Prelude.{Contains}
-use Rattle.cost_vector.specs.Costs.{Dominates, Within}
+use Rattle.cost_vector.specs.Costs.{AtMost, Dominates, Within}
 use Rattle.cost_vector.proofs.Vectors.{AtMost-Dominates}
+use Rattle.road_network.specs.Walks.{IsWalk}
+use Rattle.road_network.specs.Answers.{IsRelevant}
+use Rattle.road_network.proofs.WalkLaws.{walk_on}
+use Rattle.list_laws.proofs.SetLaws.{none_of_empty}
 use Rattle.list_laws.proofs.Members.{in_none, in_first, in_one}
+use Rattle.list_laws.proofs.Pairs.{pairs_none}
 use Rattle.event_machine.specs.Machine.{Task, IsTask, Label, IsSamePair, SearchState, start_label, start_state, Place, settled, dropped}
-use Rattle.event_machine.specs.Machine.{waiting, entries_at, IsActive, waits, is_candidate, has_arc, IsBeatenAtTarget, Follows}
-use Rattle.event_machine.specs.Events.{Event, take, drop, relax, merge, Happens, Runs, IsReached}
-use Rattle.event_machine.specs.Orders.{IsArrival}
+use Rattle.event_machine.specs.Machine.{waiting, entries_at, IsEntry, IsActive, waits, is_candidate, has_arc, HasSettled, IsBeatenAtTarget, Follows}
+use Rattle.event_machine.specs.Events.{Event, Happens, IsSame, Runs, IsReached}
 use Rattle.event_machine.specs.Laws.{IsKnown}
-use Rattle.event_machine.proofs.Sound.{IsSound, IsFounded, at_start, follows, HasWalk, IsCovered, covers_through, covered_by_itself}
-use Rattle.event_machine.proofs.Stepping.{Changes, IsGiven, take_changes, drop_changes, relax_changes, merge_changes, same_changes}
-use Rattle.event_machine.proofs.Frontier.{grown_from_settled, taken_is_relevant, taken_is_least}
+use Rattle.event_machine.proofs.Sound.{IsSound, IsFounded, at_start, follows, IsCovered, IsMet, covers_through, covered_by_itself, below_pair}
+use Rattle.event_machine.proofs.Running.{along_run}
+use Rattle.event_machine.proofs.Stepping.{Changes, IsGiven, same_changes, changes_of}
+use Rattle.event_machine.proofs.Frontier.{grown_from_settled, taken_is_relevant, taken_is_least, all_settled}
 
 module _ (task : Task) (is : IsTask task) where
   module _ (a b : SearchState) (sound : IsSound task a) (changes : Changes task a b) where
@@ -21,14 +26,12 @@ module _ (task : Task) (is : IsTask task) where
       | inr here ↦ elim (changes.candidates y here) [ inl old ↦ inl (inr old) | inr given ↦ inr given ]
     ]
 
-    walk_of_given : (y : Label) → IsGiven task a y → HasWalk task y
+    walk_of_given : (y : Label) → IsGiven task a y → (p : List ℕ) × IsWalk task.network task.start p y.node y.cost
     walk_of_given y given =
-        let way = sound.walked given.from (inl (settled, given.settled)) in
-        let f = given.follows in record {
-          arcs = y.arc ∷ way.arcs;
-          walk = record { at = given.from.node; by = f.by; before = given.from.cost; walk = way.walk; leads = f.leads; cost = f.cost };
-          last = refl;
-        }
+        let (p, walk) = sound.walked given.from (inl (settled, given.settled)) in
+        let f = given.follows in
+        let on = walk_on task.network is.network p task.start given.from.node y.node y.arc given.from.cost f.by walk f.leads in
+        (p ++ y.arc ∷ [], subst (IsWalk task.network task.start (p ++ y.arc ∷ []) y.node) (sym f.cost) on)
 
     founded_after : (y : Label) → IsKnown b y → IsFounded task b y
     founded_after y known = elim (known_before y known) [
@@ -62,11 +65,12 @@ module _ (task : Task) (is : IsTask task) where
         let k = changes.entries.covers h.entry h.is_entry in
         record { entry = k.entry; is_entry = k.is_entry; covers = covers_through k.entry h.entry x k.covers h.covers }
 
-    expanded_after : (e x : Label) → Contains b.settled e → Follows task.network e x → IsArrival task.network b x ⊎ IsCovered b x
-    expanded_after e x there f = elim (changes.settled e there) [
-      | inr taken ↦ inl (taken.opens x f)
-      | inl old ↦ elim (sound.expanded e x old f) [ inl arrival ↦ changes.arrivals x arrival | inr by ↦ inr (covered_after x by) ]
-    ]
+    -- what is met stays so
+    pub met_after : (x : Label) → IsMet task.network a x → IsMet task.network b x
+    met_after x = elim [ inl arrival ↦ changes.arrivals x arrival | inr by ↦ inr (covered_after x by) ]
+
+    expanded_after : (e x : Label) → Contains b.settled e → Follows task.network e x → IsMet task.network b x
+    expanded_after e x there f = elim (changes.settled e there) [ inr taken ↦ inl (taken.opens x f) | inl old ↦ met_after x (sound.expanded e x old f) ]
 
     useless_after : (y : Label) → Contains b.dropped y → (¬ Within task.limit y.cost) ⊎ IsBeatenAtTarget task b y.cost
     useless_after y there = elim (changes.useless y there) [
@@ -80,6 +84,7 @@ module _ (task : Task) (is : IsTask task) where
       founded = founded_after;
       paired = λ e k there. let pair = changes.paired e k there in (pair.1, pair.2);
       apart = changes.entries.apart;
+      fresh = changes.fresh;
       started = covered_after (start_label task) sound.started;
       expanded = expanded_after;
       useless = useless_after;
@@ -91,20 +96,14 @@ module _ (task : Task) (is : IsTask task) where
 
   -- ---- event by event, and run by run
 
-  pub changes_of : (a b : SearchState) (event : Event) → IsSound task a → Happens task a event b → Changes task a b
-  changes_of a b (take l) sound h = take_changes task a b sound l h
-  changes_of a b (drop l) sound h = drop_changes task a b sound l h
-  changes_of a b (relax l k) sound h = relax_changes task a b sound l k h
-  changes_of a b (merge x) sound h = merge_changes task a b sound x h
-
   pub sound_after : (a b : SearchState) (event : Event) → IsSound task a → Happens task a event b → IsSound task b
-  sound_after a b event sound h = sound_by_changes a b sound (changes_of a b event sound h)
+  sound_after a b event sound h = sound_by_changes a b sound (changes_of task is a b sound event h)
 
-  pub sound_by_run : (a b : SearchState) (events : List Event) → IsSound task a → Runs task a events b → IsSound task b
-  sound_by_run a b [] sound same = sound_by_changes a b sound (same_changes task a b sound same)
-  sound_by_run a b (event ∷ rest) sound run =
-      let sound_too = sound_by_changes a run.from sound (same_changes task a run.from sound run.same) in
-      sound_by_run run.next b rest (sound_after run.from run.next event sound_too run.step) run.rest
+  pub same_is_sound : (a b : SearchState) → IsSame b a → IsSound task a → IsSound task b
+  same_is_sound a b same sound = sound_by_changes a b sound (same_changes task is a b sound same)
+
+  pub sound_by_run : (events : List Event) (a b : SearchState) → IsSound task a → Runs task a events b → IsSound task b
+  sound_by_run = along_run task (λ _ s. IsSound task s) (λ _. same_is_sound) (λ event _ a b sound h. sound_after a b event sound h)
 
   -- ---- from the start
 
@@ -118,13 +117,15 @@ module _ (task : Task) (is : IsTask task) where
 
   pub sound_at_start : IsSound task (start_state task)
   sound_at_start = record {
-    walked = λ y known. subst (HasWalk task) (sym (known_at_start y known)) (record { arcs = []; walk = (is.start, refl, refl); last = refl });
+    walked = λ y known. subst (λ (m : Label). (p : List ℕ) × IsWalk task.network task.start p m.node m.cost) (sym (known_at_start y known))
+        ([], (is.start, refl, refl));
     founded = λ y known. at_start (known_at_start y known);
     paired = λ e k there. absurd (in_none (e, k) there);
     apart = record {
       alone = λ y z y_in z_in node below. known_at_start y (inl y_in) ∙ sym (known_at_start z (inl z_in));
       placed = λ p q y here there. (at_start_alone p y here).0 ∙ sym (at_start_alone q y there).0;
     };
+    fresh = record { once = pairs_none ◌≢◌; apart = λ e x there. absurd (in_none x there) };
     started = covered_by_itself (start_state task) (start_label task) (waiting, in_first (start_label task) []);
     expanded = λ e x there. absurd (in_none e there);
     useless = λ y there. absurd (in_none y there);
@@ -135,4 +136,33 @@ module _ (task : Task) (is : IsTask task) where
   }
 
   pub sound_if_reached : (s : SearchState) → IsReached task s → IsSound task s
-  sound_if_reached s reached = sound_by_run (start_state task) s reached.events sound_at_start reached.run
+  sound_if_reached s reached = sound_by_run reached.events (start_state task) s sound_at_start reached.run
+
+  -- ---- the laws
+
+  module _ (s : SearchState) (reached : IsReached task s) where
+    sound : IsSound task s
+    sound = sound_if_reached s reached
+
+    pub settled_once : (l m : Label) → Contains s.settled l → Contains s.settled m → IsSamePair l m → l ≡ m
+    settled_once l m there there_too pair = sound.apart.alone l m (settled, there) (settled, there_too) pair.node (below_pair l m pair)
+
+    pub settled_stays : (next : SearchState) (event : Event) (l : Label) → Happens task s event next → Contains s.settled l → Contains next.settled l
+    settled_stays next event l step there = (changes_of task is s next sound event step).entries.kept l there
+
+    pub entries_stand : (next : SearchState) (event : Event) (l y : Label) → Happens task s event next → Contains s.settled l
+        → y.node ≡ l.node → AtMost y.cost l.cost → IsEntry s y ↔ IsEntry next y
+    entries_stand next event l y step there node below =
+        let stays = settled_stays next event l step there in
+        let sound_next = sound_after s next event sound step in (
+          λ entry. subst (IsEntry next) (sym (sound.apart.alone y l entry (settled, there) node below)) (settled, stays),
+          λ entry. subst (IsEntry s) (sym (sound_next.apart.alone y l entry (settled, stays) node below)) (settled, there),
+        )
+
+    pub end_has_all : s.waiting ≡ [] → s.candidates ≡ [] → s.unrelaxed ≡ []
+        → (v : ℕ) (c : List ℕ) → IsRelevant task.network task.start task.target task.limit v c ↔ HasSettled s v c
+    end_has_all none_waits no_candidate no_arc v c = (
+      all_settled task is s sound no_candidate no_arc (λ l here. absurd (none_of_empty s.waiting none_waits l here)) v c,
+      λ h. subst (λ u. IsRelevant task.network task.start task.target task.limit u c) h.node
+          (subst (IsRelevant task.network task.start task.target task.limit h.label.node) h.cost (sound.relevant h.label h.settled)),
+    )

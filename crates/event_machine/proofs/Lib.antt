@@ -4,5 +4,4 @@ pub mod Changing
 pub mod Stepping
 pub mod Frontier
 pub mod Keeping
-pub mod SettledLabels
 pub mod Bounding

@@ -1,10 +1,10 @@
 -- Runs: which states are the same, that runs go on from and to same states, and that runs follow one another.
-use Rattle.std.proofs.Common.{ℕ, List, [], ◌∷◌, ◌++◌, inl, inr}
+use Rattle.std.proofs.Common.{ℕ, List, [], ◌∷◌, ◌++◌, ◌↔◌, inl, inr}
 use Rattle.std.proofs.lemmas.List.Sorted.{Contains-permutation, IsPermutation-refl, IsPermutation-sym, IsPermutation-trans}
 use Rattle.list_laws.specs.Sets.{SameMembers}
 use Rattle.event_machine.specs.Machine.{Task, Label, SearchState, settled, waiting, IsEntry, IsActive, waits}
 use Rattle.event_machine.specs.Machine.{is_candidate, has_arc, IsBeatenAtTarget}
-use Rattle.event_machine.specs.Events.{Event, IsSame, MayDrop, Runs}
+use Rattle.event_machine.specs.Events.{Event, IsSame, MayDrop, Happens, Runs}
 
 -- ---- same states
 
@@ -86,3 +86,29 @@ module _ (task : Task) where
   runs_apart a c (event ∷ rest) more run =
       let later = runs_apart run.next c rest more run.rest in
       (later.0, record { from = run.from; same = run.same; next = run.next; step = run.step; rest = later.1 }, later.2)
+
+-- What stands in each same state, and what each event leaves standing, as Q says it of the events to come.
+module _ (task : Task) (Q : List Event → SearchState → Type 0) (same : (events : List Event) (a b : SearchState) → IsSame b a → Q events a → Q events b)
+    (step : (event : Event) (rest : List Event) (a b : SearchState) → Q (event ∷ rest) a → Happens task a event b → Q rest b) where
+  -- it stands at the end of a run
+  pub along_run : (events : List Event) (a b : SearchState) → Q events a → Runs task a events b → Q [] b
+  along_run [] a b q run = same [] a b run q
+  along_run (event ∷ rest) a b q run =
+      along_run rest run.next b (step event rest run.from run.next (same (event ∷ rest) a run.from run.same q) run.step) run.rest
+
+  module _ (may : (event : Event) (rest : List Event) (a : SearchState) → Q (event ∷ rest) a → (b : SearchState) × Happens task a event b) where
+    -- there is a run
+    pub run_exists : (events : List Event) (a : SearchState) → Q events a → (b : SearchState) × Runs task a events b
+    run_exists [] a q = (a, same_itself a)
+    run_exists (event ∷ rest) a q =
+        let (next, happens) = may event rest a q in
+        let (b, run) = run_exists rest next (step event rest a next q happens) in
+        (b, record { from = a; same = same_itself a; next = next; step = happens; rest = run })
+
+    -- the runs are those to what each run ends at, where this is one state
+    pub runs_to_end : (End : SearchState → Type 0) → ((b : SearchState) → Q [] b → End b) → ((b c : SearchState) → End b → End c → IsSame b c)
+        → (events : List Event) (a : SearchState) → Q events a → (b : SearchState) → Runs task a events b ↔ End b
+    runs_to_end End ends one events a q b = (
+      λ run. ends b (along_run events a b q run),
+      λ end. let (c, run) = run_exists events a q in runs_to_same task a c b events run (one b c end (ends c (along_run events a c q run))),
+    )

@@ -1,124 +1,179 @@
--- A text and its first field.
-use Rattle.std.proofs.Common.{◌≡◌, ℕ, ◌+◌, ◌<◌, ◌≤◌, Bool, true, false, not, cond, List, [], ◌∷◌, ◌++◌, length, take, drop, get_or, refl, sym, ap, ◌∙◌, arith}
-use Rattle.std.proofs.Common.{filter, ⊎_elim, one-add, add-zero, ltb, Some, None}
-use Rattle.std.specs.List.{slice_split, position_or_len, All, AllPass}
-use Rattle.std.specs.Option.{unwrap_or}
-use Rattle.std.proofs.lemmas.Bool.{cases_eq, cases_lt, false≢true, not-false}
-use Rattle.std.proofs.lemmas.Bool.Decides.{nat_tests}
-use Rattle.std.proofs.lemmas.List.{drop_more, take_all, drop_all, take-append-drop, length-take, length-drop, get_or-drop, get_or-take, nil_from_length}
-use Rattle.std.proofs.lemmas.List.Elements.{All-from_get_or}
-use Rattle.std.proofs.lemmas.List.Splits.{slice_split_first, slice_split_none, slice_split-cons_yes}
-use Rattle.std.proofs.lemmas.List.Sums.{fails_before_first, passes_at_first}
-use Rattle.line_text.specs.Fields.{is_blank, is_filled, has_byte, fields_of, BeginsBlank, FirstField}
+-- The fields of a text, and where they stand.
+use Rattle.std.proofs.Common.{◌≡◌, ℕ, ◌<◌, Bool, true, false, cond, List, [], ◌∷◌, ◌++◌, length, take, drop, refl, sym, ap, ◌∙◌, arith, filter, ⊎_elim, ◌+◌, ◌-◌, slice_range, append_assoc, length-append}
+use Rattle.std.specs.List.{slice_split, prefix_len, All, AllPass, onto_first}
+use Rattle.std.proofs.lemmas.Bool.{cases_lt, lt-ltb, not-false, not-true}
+use Rattle.std.proofs.lemmas.List.{append-nil, drop_more, drop_all, take-append-drop, length-take, get_or-take, nil_from_length}
+use Rattle.std.proofs.lemmas.List.Elements.{All-from_get_or, All-head, All-tail, All-weaker, filter-append}
+use Rattle.std.proofs.lemmas.List.Splits.{slice_split_at, slice_split_none, slice_split-cons_yes, length-slice_split}
+use Rattle.std.proofs.lemmas.List.Sums.{prefix_len_passes, prefix_len_stops}
+use Rattle.std.proofs.Math.Seq.{take-append_seam, drop-append_seam, drop-append-add}
+use Rattle.line_text.specs.Fields.{is_blank, is_filled, has_byte, fields_of, BeginsBlank, FirstField, FieldAt}
 
--- the first place, where there is one, and otherwise the length
-pub place_or_len : (n len : ℕ) → n ≤ len → unwrap_or (cond (ltb n len) (Some n) None) len ≡ n
-place_or_len n len within = grind (arith, nat_tests)
+-- ---- the first field
 
 -- a blank in front of a text counts for nothing
-pub fields_of-blank : (byte : ℕ) (text : List ℕ) → is_blank byte ≡ true → fields_of (byte ∷ text) ≡ fields_of text
+fields_of-blank : (byte : ℕ) (text : List ℕ) → is_blank byte ≡ true → fields_of (byte ∷ text) ≡ fields_of text
 fields_of-blank byte text blank = ap (filter has_byte) (slice_split-cons_yes is_blank byte text blank)
 
--- how many blanks a text begins with
-abbrev blanks_of : List ℕ → ℕ
-blanks_of text = position_or_len is_filled text
+fields_of-blanks : (blanks text : List ℕ) → AllPass is_blank blanks → fields_of (blanks ++ text) ≡ fields_of text
+fields_of-blanks [] text all = refl
+fields_of-blanks (byte ∷ blanks) text all =
+    fields_of-blank byte (blanks ++ text) (All-head (λ b. is_blank b ≡ true) byte blanks all)
+    ∙ fields_of-blanks blanks text (All-tail (λ b. is_blank b ≡ true) byte blanks all)
 
-blanks_of-cons : (byte : ℕ) (text : List ℕ) (blank : Bool) → is_blank byte ≡ blank → blanks_of (byte ∷ text) ≡ cond blank (1 + blanks_of text) 0
-blanks_of-cons byte text true e = ap (λ b. cond (not (not b)) (1 + blanks_of text) 0) e
-blanks_of-cons byte text false e = ap (λ b. cond (not (not b)) (1 + blanks_of text) 0) e
+-- bytes other than blanks, up to the end or a blank, are a field
+module _ (field : List ℕ) (some : 0 < length field) (none_blank : All (λ byte. is_blank byte ≡ false) field) where
+  keeps : (parts : List (List ℕ)) → filter has_byte (field ∷ parts) ≡ field ∷ filter has_byte parts
+  keeps parts =
+      ap (λ b. cond b (field ∷ filter has_byte parts) (filter has_byte parts)) (lt-ltb 0 (length field) some)
 
-fields_of-drop_step : (byte : ℕ) (text : List ℕ) → fields_of (drop (blanks_of text) text) ≡ fields_of text → (blank : Bool)
-    → is_blank byte ≡ blank → fields_of (drop (blanks_of (byte ∷ text)) (byte ∷ text)) ≡ fields_of (byte ∷ text)
-fields_of-drop_step byte text later true e =
-    ap (λ n. fields_of (drop n (byte ∷ text))) (blanks_of-cons byte text true e ∙ one-add _) ∙ later ∙ sym (fields_of-blank byte text e)
-fields_of-drop_step byte text later false e =
-    ap (λ n. fields_of (drop n (byte ∷ text))) (blanks_of-cons byte text false e)
+  fields_of-field : (rest : List ℕ) → BeginsBlank rest → fields_of (field ++ rest) ≡ field ∷ fields_of rest
+  fields_of-field [] begins = ap fields_of (append-nil field) ∙ ap (filter has_byte) (slice_split_none is_blank field none_blank) ∙ keeps []
+  fields_of-field (blank ∷ rest) begins =
+      ap (filter has_byte) (slice_split_at is_blank field blank rest none_blank begins) ∙ keeps (slice_split is_blank rest)
+      ∙ ap (λ fields. field ∷ fields) (sym (fields_of-blank blank rest begins))
 
-pub fields_of-drop_blanks : (text : List ℕ) → fields_of (drop (position_or_len is_filled text) text) ≡ fields_of text
-fields_of-drop_blanks [] = refl
-fields_of-drop_blanks (byte ∷ text) =
-    fields_of-drop_step byte text (fields_of-drop_blanks text) (is_blank byte) refl
+-- the longest front of bytes of a kind, and what stands behind it
+module _ (p : ℕ → Bool) (text : List ℕ) where
+  all_before : AllPass p (take (prefix_len p text) text)
+  all_before =
+      All-from_get_or (λ byte. p byte ≡ true) _ 0 (λ i lt.
+      let before : i < prefix_len p text = omega (arith, length-take (prefix_len p text) text) in
+      ap p (get_or-take _ text i 0 before) ∙ prefix_len_passes p text i 0 before)
 
-filter-filled : (bytes : List ℕ) (parts : List (List ℕ)) → 0 < length bytes → filter has_byte (bytes ∷ parts) ≡ bytes ∷ filter has_byte parts
-filter-filled bytes parts some =
-    let e : has_byte bytes ≡ true = grind (arith, nat_tests) in
-    ap (λ b. cond b (bytes ∷ filter has_byte parts) (filter has_byte parts)) e
-
--- A text begins with no blank: its first field is what stands before its first blank.
-module _ (text : List ℕ) (some : 0 < length text) (filled : is_filled (get_or text 0 0) ≡ true) where
-  starts_blank : position_or_len is_blank text ≡ 0 → is_blank (get_or text 0 0) ≡ true
-  starts_blank none =
-      let within : position_or_len is_blank text < length text = omega arith in
-      sym (ap (λ n. is_blank (get_or text n 0)) none) ∙ passes_at_first is_blank text 0 within
-
-  pub first_filled : 0 < position_or_len is_blank text
-  first_filled =
-      ⊎_elim
-      (λ none. absurd (false≢true (sym (ap not (starts_blank none)) ∙ filled)))
-      (λ more. omega arith)
-      (cases_eq (position_or_len is_blank text) 0)
-
-  ends_at_blank : position_or_len is_blank text < length text
-      → fields_of text ≡ take (position_or_len is_blank text) text ∷ fields_of (drop (position_or_len is_blank text) text)
-  ends_at_blank lt =
-      let n : ℕ = position_or_len is_blank text in
-      let filled_part : 0 < length (take n text) = rw length-take (omega (arith, first_filled)) in
-      let rest_is : fields_of (drop n text) ≡ fields_of (drop (n + 1) text) =
-      ap fields_of (drop_more text n 0 lt) ∙ fields_of-blank (get_or text n 0) (drop (n + 1) text) (passes_at_first is_blank text 0 lt) in
-      ap (filter has_byte) (slice_split_first is_blank text 0 lt)
-      ∙ filter-filled (take n text) (slice_split is_blank (drop (n + 1) text)) filled_part ∙ ap (λ fields. take n text ∷ fields) (sym rest_is)
-
-  ends_at_end : length text ≤ position_or_len is_blank text
-      → fields_of text ≡ take (position_or_len is_blank text) text ∷ fields_of (drop (position_or_len is_blank text) text)
-  ends_at_end le =
-      let n : ℕ = position_or_len is_blank text in
-      let none : All (λ byte. is_blank byte ≡ false) text =
-      All-from_get_or (λ byte. is_blank byte ≡ false) text 0 (λ i lt. fails_before_first is_blank text i 0 (omega arith)) in
-      ap (filter has_byte) (slice_split_none is_blank text none) ∙ filter-filled text [] some ∙ rw (take_all n text le, drop_all n text le) refl
-
-  pub fields_of-first : fields_of text ≡ take (position_or_len is_blank text) text ∷ fields_of (drop (position_or_len is_blank text) text)
-  fields_of-first = ⊎_elim ends_at_blank ends_at_end (cases_lt (position_or_len is_blank text) (length text))
-
-blank_from_filled : (byte : ℕ) → is_filled byte ≡ false → is_blank byte ≡ true
-blank_from_filled byte e = not-false (is_blank byte) e
-
--- what stands from the first blank on is nothing, or begins with it
-begins_blank : (text : List ℕ) → BeginsBlank (drop (position_or_len is_blank text) text)
-begins_blank text =
-    ⊎_elim
-    (λ lt. rw (drop_more text (position_or_len is_blank text) 0 lt) (passes_at_first is_blank text 0 lt))
-    (λ le. rw (drop_all (position_or_len is_blank text) text le) tt)
-    (cases_lt (position_or_len is_blank text) (length text))
+  behind_all : (P : List ℕ → Type 0) → P [] → ((byte : ℕ) (more : List ℕ) → p byte ≡ false → P (byte ∷ more)) → P (drop (prefix_len p text) text)
+  behind_all P none some =
+      ⊎_elim (λ lt. rw (drop_more text (prefix_len p text) 0 lt) (some _ _ (prefix_len_stops p text 0 lt)))
+      (λ le. rw (drop_all (prefix_len p text) text le) none)
+      (cases_lt (prefix_len p text) (length text))
 
 -- Of a text this stands behind its blanks.
-module _ (text filled : List ℕ) (e : filled ≡ drop (position_or_len is_filled text) text) where
+module _ (text filled : List ℕ) (e : filled ≡ drop (prefix_len is_blank text) text) where
+  abbrev blanks : List ℕ
+  blanks = take (prefix_len is_blank text) text
+
+  parts : text ≡ blanks ++ filled
+  parts = sym (take-append-drop (prefix_len is_blank text) text) ∙ ap (λ bytes. blanks ++ bytes) (sym e)
+
+  no_blanks : fields_of text ≡ fields_of filled
+  no_blanks = ap fields_of parts ∙ fields_of-blanks blanks filled (all_before is_blank text)
+
   pub no_field : length filled ≡ 0 → fields_of text ≡ []
-  no_field none = sym (fields_of-drop_blanks text) ∙ ap fields_of (sym e ∙ nil_from_length filled none)
+  no_field none = no_blanks ∙ ap fields_of (nil_from_length filled none)
 
-  some_blanks : 0 < length filled → position_or_len is_filled text < length text
-  some_blanks some = omega (arith, ap length e, length-drop (position_or_len is_filled text) text)
+  first_filled : 0 < length filled → 0 < prefix_len is_filled filled
+  first_filled =
+      rw e (behind_all is_blank text (λ bytes. 0 < length bytes → 0 < prefix_len is_filled bytes) (λ some. absurd (omega arith))
+      (λ byte more is some. rw is (omega arith)))
 
-  starts_filled : 0 < length filled → is_filled (get_or filled 0 0) ≡ true
-  starts_filled some =
-      ap is_filled (ap (λ rest. get_or rest 0 0) e ∙ get_or-drop (position_or_len is_filled text) text 0 0
-      ∙ ap (λ n. get_or text n 0) (add-zero _)) ∙ passes_at_first is_filled text 0 (some_blanks some)
-
-  blanks_are_blank : AllPass is_blank (take (position_or_len is_filled text) text)
-  blanks_are_blank =
-      All-from_get_or (λ byte. is_blank byte ≡ true) _ 0 (λ i lt.
-      let before : i < position_or_len is_filled text = omega (arith, length-take (position_or_len is_filled text) text) in
-      ap is_blank (get_or-take _ text i 0 before) ∙ blank_from_filled (get_or text i 0) (fails_before_first is_filled text i 0 before))
-
-  pub first_field : (size : ℕ) (field rest : List ℕ) → 0 < length filled → size ≡ position_or_len is_blank filled
+  pub first_field : (size : ℕ) (field rest : List ℕ) → 0 < length filled → size ≡ prefix_len is_filled filled
       → field ≡ take size filled → rest ≡ drop size filled → FirstField text field rest
   first_field size field rest some sized front back =
-      let first = starts_filled some in
-      let parts : filled ≡ field ++ rest = sym (take-append-drop size filled) ∙ rw (front, back) refl in
+      let long : 0 < length field = omega (arith, first_filled some, ap length front, length-take size filled) in
+      let whole : filled ≡ field ++ rest = sym (take-append-drop size filled) ∙ rw (front, back) refl in
+      let ends : BeginsBlank rest = rw (back, sized) (behind_all is_filled filled BeginsBlank tt (λ byte more. not-false (is_blank byte))) in
+      let none_blank : All (λ byte. is_blank byte ≡ false) field =
+      All-weaker (λ byte. is_filled byte ≡ true) (λ byte. is_blank byte ≡ false) (λ byte. not-true (is_blank byte)) field
+      (rw (front, sized) (all_before is_filled filled)) in
       record {
-        blanks = take (position_or_len is_filled text) text;
-        parts = sym (take-append-drop (position_or_len is_filled text) text) ∙ rw (← parts, e) refl;
-        only_blanks = blanks_are_blank;
-        filled = omega (arith, first_filled filled some first, ap length front, length-take size filled);
-        ends = rw (back, sized) (begins_blank filled);
-        fields = sym (fields_of-drop_blanks text) ∙ ap fields_of (sym e) ∙ fields_of-first filled some first ∙ rw (front, back, sized) refl;
+        blanks = blanks;
+        parts = parts ∙ ap (λ bytes. blanks ++ bytes) whole;
+        only_blanks = all_before is_blank text;
+        filled = long;
+        ends = ends;
+        fields = no_blanks ∙ ap fields_of whole ∙ fields_of-field field long none_blank rest ends;
       }
+
+-- ---- the field of a number
+
+-- one byte more in front of the parts
+split-step : (byte : ℕ) (whole front rest : List (List ℕ)) → whole ≡ front ++ rest → 0 < length front → (blank : Bool)
+    → cond blank ([] ∷ whole) (onto_first byte whole) ≡ cond blank ([] ∷ front) (onto_first byte front) ++ rest
+split-step byte whole front rest e some true = ap (λ parts. [] ∷ parts) e
+split-step byte whole [] rest e some false = absurd (omega arith)
+split-step byte whole (part ∷ others) rest e some false = ap (onto_first byte) e
+
+-- a blank parts a text
+split-append : (front : List ℕ) (blank : ℕ) (rest : List ℕ) → is_blank blank ≡ true
+    → slice_split is_blank (front ++ blank ∷ rest) ≡ slice_split is_blank front ++ slice_split is_blank rest
+split-append [] blank rest e = slice_split-cons_yes is_blank blank rest e
+split-append (byte ∷ front) blank rest e =
+    split-step byte (slice_split is_blank (front ++ blank ∷ rest)) (slice_split is_blank front) (slice_split is_blank rest)
+    (split-append front blank rest e) (omega (arith, length-slice_split is_blank front)) (is_blank byte)
+
+fields_of-append : (front rest : List ℕ) → BeginsBlank rest → fields_of (front ++ rest) ≡ fields_of front ++ fields_of rest
+fields_of-append front [] begins = ap fields_of (append-nil front) ∙ sym (append-nil (fields_of front))
+fields_of-append front (blank ∷ rest) begins =
+    ap (filter has_byte) (split-append front blank rest begins)
+    ∙ filter-append has_byte (slice_split is_blank front) (slice_split is_blank rest)
+    ∙ ap (λ fields. fields_of front ++ filter has_byte fields) (sym (slice_split-cons_yes is_blank blank rest begins))
+
+-- blanks behind a text count for nothing
+blanks_behind : (front blanks : List ℕ) → AllPass is_blank blanks → fields_of (front ++ blanks) ≡ fields_of front
+blanks_behind front [] all = ap fields_of (append-nil front)
+blanks_behind front (blank ∷ blanks) all =
+    fields_of-append front (blank ∷ blanks) (All-head (λ byte. is_blank byte ≡ true) blank blanks all)
+    ∙ ap (λ fields. fields_of front ++ fields) (ap fields_of (sym (append-nil (blank ∷ blanks))) ∙ fields_of-blanks (blank ∷ blanks) [] all)
+    ∙ append-nil (fields_of front)
+
+-- In front of the rest stand this many fields of the text, and no field runs on into it.
+pub record BehindFields (text rest : List ℕ) (i : ℕ) : Type 0 where
+  pub front : List ℕ
+  pub parts : text ≡ front ++ rest
+  pub count : length (fields_of front) ≡ i
+  pub fields : fields_of text ≡ fields_of front ++ fields_of rest
+
+-- a field that stands between these bytes
+field_between : (front field after : List ℕ) (i : ℕ) → 0 < length field → length (fields_of front) ≡ i
+    → fields_of (front ++ (field ++ after)) ≡ fields_of front ++ field ∷ fields_of after
+    → FieldAt (front ++ (field ++ after)) i (length front) (length front + length field)
+field_between front field after i some count fields =
+    let size : length front + length field - length front ≡ length field = omega arith in
+    let before = take-append_seam front (field ++ after) in
+    let here : slice_range (front ++ (field ++ after)) (length front) (length front + length field) ≡ field =
+    ap (λ n. take n (drop (length front) (front ++ (field ++ after)))) size
+    ∙ ap (take (length field)) (drop-append_seam front (field ++ after)) ∙ take-append_seam field after in
+    let behind = drop-append-add front (field ++ after) (length field) ∙ drop-append_seam field after in
+    record {
+      filled = omega arith;
+      within = omega (arith, length-append front (field ++ after), length-append field after);
+      before = ap (λ bytes. length (fields_of bytes)) before ∙ count;
+      fields = rw (before, here, behind) fields;
+    }
+
+-- A field of the rest is the next one of the text.
+module _ (text rest field after : List ℕ) (i : ℕ) (behind : BehindFields text rest i) (found : FirstField rest field after) where
+  text_is : text ≡ (behind.front ++ found.blanks) ++ (field ++ after)
+  text_is = behind.parts ∙ ap (λ bytes. behind.front ++ bytes) found.parts ∙ sym (append_assoc behind.front found.blanks (field ++ after))
+
+  fields_are : fields_of text ≡ fields_of behind.front ++ field ∷ fields_of after
+  fields_are = behind.fields ∙ ap (λ fields. fields_of behind.front ++ fields) found.fields
+
+  pub behind_more : BehindFields text after (i + 1)
+  behind_more =
+      let front = (behind.front ++ found.blanks) ++ field in
+      let parts : text ≡ front ++ after = text_is ∙ sym (append_assoc (behind.front ++ found.blanks) field after) in
+      let fields : fields_of text ≡ fields_of front ++ fields_of after = ap fields_of parts ∙ fields_of-append front after found.ends in
+      record {
+        front = front;
+        parts = parts;
+        count = omega (
+          arith,
+          behind.count,
+          ap length fields,
+          ap length fields_are,
+          length-append (fields_of front) (fields_of after),
+          length-append (fields_of behind.front) (field ∷ fields_of after),
+        );
+        fields = fields;
+      }
+
+  pub field_at : (n start end : ℕ) → i ≡ n → end ≡ length text - length after → start ≡ end - length field → FieldAt text n start end
+  field_at n start end nth ends starts =
+      let front = behind.front ++ found.blanks in
+      let no_more = blanks_behind behind.front found.blanks found.only_blanks in
+      let sizes = length-append field after in
+      let first : start ≡ length front = omega (arith, ap length text_is, length-append front (field ++ after)) in
+      let last : end ≡ length front + length field = omega (arith, ap length text_is, length-append front (field ++ after)) in
+      rw (first, last, text_is) (field_between front field after n found.filled (ap length no_more ∙ behind.count ∙ nth)
+      (sym (ap fields_of text_is) ∙ fields_are ∙ ap (λ fields. fields ++ field ∷ fields_of after) (sym no_more)))

@@ -1,9 +1,5 @@
 pub mod AdvancesLemmas
 pub mod FieldLemmas
-pub mod LfLemmas
 pub mod LineLemmas
-pub mod MarkLemmas
 pub mod NumeralLemmas
-pub mod PlaceLemmas
-pub mod RangeLemmas
-pub mod RestLemmas
+pub mod FillsLemmas

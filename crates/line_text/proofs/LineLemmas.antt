@@ -1,93 +1,125 @@
--- The first line of a text.
-use Rattle.std.proofs.Common.{◌≡◌, ℕ, suc, ◌+◌, ◌-◌, ◌<◌, ◌≤◌, Bool, true, false, not, cond, List, [], ◌∷◌, ◌++◌, length, take, drop, get_or, refl, sym, ap}
-use Rattle.std.proofs.Common.{◌∙◌, arith, ⊎_elim, one-add, length-append, eqb}
+-- The first line of a text, and its fault.
+use Rattle.std.proofs.Common.{◌≡◌, ℕ, suc, ◌+◌, ◌-◌, ◌<◌, ◌≤◌, Bool, true, false, not, cond, List, [], ◌∷◌, ◌++◌, length, take, drop, get_or, refl, sym, ap, ◌∙◌, arith, one-add, length-append, eqb, Some, ⊎_elim}
 use Rattle.std.specs.List.{onto_first}
-use Rattle.std.proofs.lemmas.Bool.{cases_lt, false≢true}
-use Rattle.std.proofs.lemmas.List.{get_or_append_left, take_all, length-take, take-append-le, drop-append-le}
-use Rattle.std.proofs.lemmas.List.Sums.{prefix_len-le-length, fails_before_first, passes_at_first, position_or_len_is}
+use Rattle.std.proofs.lemmas.Bool.Decides.{nat_tests}
+use Rattle.std.proofs.lemmas.List.{append-nil, take-append-drop, length-take, take-append-le, drop-append-le}
+use Rattle.std.proofs.lemmas.List.Folds.{prefix_len-append}
+use Rattle.std.proofs.lemmas.List.Sums.{prefix_len-le-length}
+use Rattle.std.proofs.lemmas.Bool.{cases_lt}
 use Rattle.line_text.specs.Lines.{is_lf, first_lf, raw_line, after_line, line_size, without_cr, lines_of}
-
-first_lf-cons : (byte : ℕ) (text : List ℕ) (ends : Bool) → is_lf byte ≡ ends → first_lf (byte ∷ text) ≡ cond ends 0 (1 + first_lf text)
-first_lf-cons byte text true e = ap (λ b. cond (not b) (1 + first_lf text) 0) e
-first_lf-cons byte text false e = ap (λ b. cond (not b) (1 + first_lf text) 0) e
+use Rattle.line_text.specs.declared.limits.LineFault.{LineFault}
+use Rattle.line_text.specs.declared.limits.LineFault.TheVariants.{Read, OutOfMemory}
+use Rattle.line_text.specs.declared.limits.LineLimits.{LineLimits}
+use Rattle.line_text.specs.Marks.{line_fault, first_fault, line_answer, answer_of}
 
 pub first_lf-le : (text : List ℕ) → first_lf text ≤ length text
 first_lf-le text = prefix_len-le-length (λ byte. not (is_lf byte)) text
 
--- an LF that is held stays the first one
-pub first_lf-whole : (held more : List ℕ) → first_lf held < length held → first_lf (held ++ more) ≡ first_lf held
-first_lf-whole held more whole =
-    let same = λ (k : ℕ) (lt : k < length held). get_or_append_left held more 0 k lt in
-    position_or_len_is is_lf (held ++ more) (first_lf held) 0 (omega (arith, length-append held more))
-    (λ k below. ap is_lf (same k (omega arith)) ∙ fails_before_first is_lf held k 0 below)
-    (λ _. ap is_lf (same (first_lf held) whole) ∙ passes_at_first is_lf held 0 whole)
-
--- bytes without an LF don't hold the first one
-pub first_lf-part : (held more : List ℕ) → first_lf held ≡ length held → length held ≤ first_lf (held ++ more)
-first_lf-part held more part =
-    ⊎_elim
-    (λ early.
-    let found : is_lf (get_or (held ++ more) (first_lf (held ++ more)) 0) ≡ true =
-    passes_at_first is_lf (held ++ more) 0 (omega (arith, length-append held more)) in
-    let none : is_lf (get_or held (first_lf (held ++ more)) 0) ≡ false = fails_before_first is_lf held _ 0 (omega arith) in
-    absurd (false≢true (sym none ∙ sym (ap is_lf (get_or_append_left held more 0 _ early)) ∙ found)))
-    (λ late. late)
-    (cases_lt (first_lf (held ++ more)) (length held))
+-- the place of an LF is within the text
+pub ruleset lf_places = first_lf-le
 
 -- the first line is as long as the place of its LF says
 pub length-raw_line : (text : List ℕ) → length (raw_line text) ≡ first_lf text
 length-raw_line text = length-take (first_lf text) text ∙ omega (arith, first_lf-le text)
 
--- the first line is held whole
-module _ (held more : List ℕ) (whole : first_lf held < length held) where
-  pub raw_line-whole : raw_line (held ++ more) ≡ raw_line held
-  raw_line-whole =
-      ap (λ n. take n (held ++ more)) (first_lf-whole held more whole) ∙ take-append-le (first_lf held) held more (first_lf-le held)
+-- The first line of these bytes is the first line with more behind them.
+pub record BeginsAlike (held more : List ℕ) : Type 0 where
+  pub raw : raw_line (held ++ more) ≡ raw_line held
+  pub size : line_size (held ++ more) ≡ line_size held
+  pub behind : after_line (held ++ more) ≡ after_line held ++ more
 
-  pub after_line-whole : after_line (held ++ more) ≡ after_line held ++ more
-  after_line-whole =
-      ap (λ n. drop (n + 1) (held ++ more)) (first_lf-whole held more whole) ∙ drop-append-le (first_lf held + 1) held more (omega arith)
+pub begins_alike-nil : (held : List ℕ) → BeginsAlike held []
+begins_alike-nil held = record {
+  raw = ap raw_line (append-nil held);
+  size = ap line_size (append-nil held);
+  behind = ap after_line (append-nil held) ∙ sym (append-nil (after_line held));
+}
 
-  pub line_size-whole : line_size (held ++ more) ≡ line_size held
-  line_size-whole =
-      omega (arith, ap length raw_line-whole, length-append held more, length-raw_line held)
+module _ (held more : List ℕ) where
+  first_lf-append : first_lf (held ++ more) ≡ cond (eqb (first_lf held) (length held)) (length held + first_lf more) (first_lf held)
+  first_lf-append = prefix_len-append (λ byte. not (is_lf byte)) held more
 
--- the first line has no LF
-module _ (text : List ℕ) (part : first_lf text ≡ length text) where
-  pub raw_line-part : raw_line text ≡ text
-  raw_line-part = take_all (first_lf text) text (omega arith)
+  -- bytes without an LF don't hold the first one
+  pub first_lf-part : first_lf held ≡ length held → length held ≤ first_lf (held ++ more)
+  first_lf-part part = rw first_lf-append (grind (arith, nat_tests))
 
-  pub line_size-part : line_size text ≡ length text
-  line_size-part = omega (arith, length-raw_line text)
+  -- an LF that is held stays the first one
+  pub begins_alike : first_lf held < length held → BeginsAlike held more
+  begins_alike whole =
+      let same : first_lf (held ++ more) ≡ first_lf held = first_lf-append ∙ grind (arith, nat_tests) in
+      let raw : raw_line (held ++ more) ≡ raw_line held =
+      ap (λ n. take n (held ++ more)) same ∙ take-append-le (first_lf held) held more (first_lf-le held) in
+      record {
+        raw = raw;
+        size = omega (arith, ap length raw, length-append held more, length-raw_line held);
+        behind = ap (λ n. drop (n + 1) (held ++ more)) same ∙ drop-append-le (first_lf held + 1) held more (omega arith);
+      }
 
-lines_of-step : (byte : ℕ) (text : List ℕ) → onto_first byte (lines_of text) ≡ (byte ∷ raw_line text) ∷ lines_of (after_line text)
-    → (ends : Bool) → is_lf byte ≡ ends → lines_of (byte ∷ text) ≡ raw_line (byte ∷ text) ∷ lines_of (after_line (byte ∷ text))
-lines_of-step byte text later true e =
-    ap (λ b. cond b ([] ∷ lines_of text) (onto_first byte (lines_of text))) e
-    ∙ sym (ap (λ n. take n (byte ∷ text) ∷ lines_of (drop (n + 1) (byte ∷ text))) (first_lf-cons byte text true e))
-lines_of-step byte text later false e =
-    let at : first_lf (byte ∷ text) ≡ suc (first_lf text) = first_lf-cons byte text false e ∙ one-add _ in
-    let behind : first_lf (byte ∷ text) + 1 ≡ suc (first_lf text + 1) = omega (arith, at) in
-    ap (λ b. cond b ([] ∷ lines_of text) (onto_first byte (lines_of text))) e ∙ later
-    ∙ sym (ap (λ n. take n (byte ∷ text) ∷ lines_of (after_line (byte ∷ text))) at
-    ∙ ap (λ n. (byte ∷ raw_line text) ∷ lines_of (drop n (byte ∷ text))) behind)
+-- where no LF stands before a place, the first one is the first from there on
+pub first_lf-behind : (bytes : List ℕ) (searched : ℕ) → searched ≤ first_lf bytes → first_lf bytes ≡ searched + first_lf (drop searched bytes)
+first_lf-behind bytes searched none =
+    let front = take searched bytes in
+    let size : length front ≡ searched = omega (arith, length-take searched bytes, first_lf-le bytes) in
+    let within = first_lf-le front in
+    let parted = ap first_lf (sym (take-append-drop searched bytes)) ∙ first_lf-append front (drop searched bytes) in
+    grind (arith, nat_tests)
+
+-- what the lines of a text with one byte more in front are, by whether that ends a line
+lines_of-step : (byte : ℕ) (text : List ℕ) → onto_first byte (lines_of text) ≡ (byte ∷ raw_line text) ∷ lines_of (after_line text) → (ends : Bool)
+    → cond ends ([] ∷ lines_of text) (onto_first byte (lines_of text))
+    ≡ take (cond (not ends) (1 + first_lf text) 0) (byte ∷ text) ∷ lines_of (drop (cond (not ends) (1 + first_lf text) 0 + 1) (byte ∷ text))
+lines_of-step byte text later true = refl
+lines_of-step byte text later false =
+    let behind : 1 + first_lf text + 1 ≡ suc (first_lf text + 1) = omega arith in
+    rw (behind, one-add (first_lf text)) later
 
 -- the lines of a text are its first line and those behind it
 pub lines_of-first : (text : List ℕ) → 0 < length text → lines_of text ≡ raw_line text ∷ lines_of (after_line text)
 lines_of-first [] some = absurd (omega arith)
-lines_of-first (byte ∷ []) some = lines_of-step byte [] refl (is_lf byte) refl
+lines_of-first (byte ∷ []) some = lines_of-step byte [] refl (is_lf byte)
 lines_of-first (byte ∷ next ∷ text) some =
-    lines_of-step byte (next ∷ text) (ap (onto_first byte) (lines_of-first (next ∷ text) (omega arith))) (is_lf byte) refl
+    lines_of-step byte (next ∷ text) (ap (onto_first byte) (lines_of-first (next ∷ text) (omega arith))) (is_lf byte)
 
 -- a line's text is short of the line by one CR at most
-pub text_at_most : (line : List ℕ) → length (without_cr line) ≤ length line
-text_at_most line = by_last (eqb (get_or line (length line - 1) 0) 13) where
-  by_last : (cr : Bool) → length (cond cr (take (length line - 1) line) line) ≤ length line
-  by_last true = omega (arith, length-take (length line - 1) line)
-  by_last false = omega arith
+pub length-without_cr : (line : List ℕ) → (length (without_cr line) ≤ length line) × (length line ≤ length (without_cr line) + 1)
+length-without_cr line = by_last (eqb (get_or line (length line - 1) 0) 13) where
+  by_last : (cr : Bool) → let text = cond cr (take (length line - 1) line) line in (length text ≤ length line) × (length line ≤ length text + 1)
+  by_last true = let short = length-take (length line - 1) line in (omega (arith, short), omega (arith, short))
+  by_last false = (omega arith, omega arith)
 
-pub text_at_least : (line : List ℕ) → length line ≤ length (without_cr line) + 1
-text_at_least line = by_last (eqb (get_or line (length line - 1) 0) 13) where
-  by_last : (cr : Bool) → length line ≤ length (cond cr (take (length line - 1) line) line) + 1
-  by_last true = omega (arith, length-take (length line - 1) line)
-  by_last false = omega arith
+-- ---- the limits of a line of which more and more is known
+
+pub answer_of-some : (limits : LineLimits) (passed : ℕ) (text : List ℕ) → 0 < length text
+    → answer_of limits passed text ≡ line_answer (first_fault limits passed text)
+answer_of-some limits passed [] some = absurd (omega arith)
+answer_of-some limits passed (byte ∷ text) some = refl
+
+-- the marks make no other fault
+pub never_read : (limits : LineLimits) (passed raw size : ℕ) → line_fault limits passed raw size ≡ Some Read → ⊥
+never_read limits passed raw size e = grind (arith, nat_tests)
+
+pub never_memory : (limits : LineLimits) (passed raw size : ℕ) → line_fault limits passed raw size ≡ Some OutOfMemory → ⊥
+never_memory limits passed raw size e = grind (arith, nat_tests)
+
+-- a fault that stands while a line without an LF is known stays when all of it is known
+fault_stays : (limits : LineLimits) (passed known all raw size : ℕ) (fault : LineFault) → all ≡ known → known ≤ raw → raw ≤ size
+    → line_fault limits passed known all ≡ Some fault → line_fault limits passed raw size ≡ Some fault
+fault_stays limits passed known all raw size fault part more within e = grind (arith, nat_tests)
+
+module _ (limits : LineLimits) (passed : ℕ) (held more : List ℕ) where
+  pub first_fault-alike : BeginsAlike held more → first_fault limits passed (held ++ more) ≡ first_fault limits passed held
+  first_fault-alike alike =
+      ap (λ raw. line_fault limits passed (length raw) (line_size (held ++ more))) alike.raw
+      ∙ ap (line_fault limits passed (length (raw_line held))) alike.size
+
+  pub first_fault-broken : (fault : LineFault) → first_fault limits passed held ≡ Some fault → first_fault limits passed (held ++ more) ≡ Some fault
+  first_fault-broken fault e =
+      ⊎_elim (λ whole. first_fault-alike (begins_alike held more whole) ∙ e)
+      (λ part.
+      let raw = length-raw_line held in
+      let line = length-raw_line (held ++ more) in
+      let within = first_lf-le held in
+      let later = first_lf-part held more (omega arith) in
+      fault_stays limits passed (length (raw_line held)) (line_size held) (length (raw_line (held ++ more))) (line_size (held ++ more)) fault
+      (omega arith) (omega arith) (omega (arith, first_lf-le (held ++ more))) e)
+      (cases_lt (first_lf held) (length held))

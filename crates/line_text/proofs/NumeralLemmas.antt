@@ -1,5 +1,5 @@
 -- A text that is read digit by digit.
-use Rattle.std.proofs.Common.{◌≡◌, ℕ, ◌+◌, ◌-◌, ◌*◌, ◌<◌, true, ◌&&◌, List, Option, Some, None, length, take, get_or, sym, ap, ◌∙◌, arith}
+use Rattle.std.proofs.Common.{◌≡◌, ℕ, ◌+◌, ◌-◌, ◌*◌, ◌<◌, true, ◌&&◌, List, Option, Some, None, length, take, get_or, ap, ◌∙◌, arith}
 use Rattle.std.specs.Char.{is_ascii_digit, digit_value}
 use Rattle.std.specs.List.{list_all}
 use Rattle.std.specs.Str.Parse.{digits_value}
@@ -16,14 +16,12 @@ pub record ReadsFront (text : List ℕ) (greatest i : ℕ) (value : Option ℕ) 
 digit_value-is : (byte : ℕ) → is_ascii_digit byte ≡ true → digit_value byte ≡ byte - 48
 digit_value-is byte digit = grind (arith, nat_tests)
 
-at_most-some : (greatest value number : ℕ) → Some value ≡ at_most greatest number → value ≡ number
-at_most-some greatest value number e = grind (arith, nat_tests)
+-- the number with one digit more, where it was at most the greatest, and where it wasn't
+more_at_most : (greatest value n m d : ℕ) → Some value ≡ at_most greatest n → m ≡ n * 10 + d → at_most greatest (value * 10 + d) ≡ at_most greatest m
+more_at_most greatest value n m d front e = grind (arith, nat_tests)
 
-at_most-none : (greatest number : ℕ) → None ≡ at_most greatest number → greatest < number
-at_most-none greatest number e = grind (arith, nat_tests)
-
-at_most-above : (greatest number : ℕ) → greatest < number → None ≡ at_most greatest number
-at_most-above greatest number above = grind (arith, nat_tests)
+more_above : (greatest n m d : ℕ) → None ≡ at_most greatest n → m ≡ n * 10 + d → None ≡ at_most greatest m
+more_above greatest n m d front e = grind (arith, nat_tests)
 
 module _ (text : List ℕ) (greatest i : ℕ) (within : i < length text) (digit : is_ascii_digit (get_or text i 0) ≡ true) where
   value_of-more : value_of (take (i + 1) text) ≡ value_of (take i text) * 10 + (get_or text i 0 - 48)
@@ -34,14 +32,8 @@ module _ (text : List ℕ) (greatest i : ℕ) (within : i < length text) (digit 
 
   pub reads_more : (value : ℕ) (more : Option ℕ) → ReadsFront text greatest i (Some value)
       → more ≡ at_most greatest (value * 10 + (get_or text i 0 - 48)) → ReadsFront text greatest (i + 1) more
-  reads_more value more front e = record {
-    digits = digits-more front.digits;
-    number = e ∙ ap (at_most greatest) (ap (λ n. n * 10 + (get_or text i 0 - 48)) (at_most-some greatest value _ front.number) ∙ sym value_of-more);
-  }
+  reads_more value more front e =
+      record { digits = digits-more front.digits; number = e ∙ more_at_most greatest value _ _ _ front.number value_of-more }
 
   pub stays_above : ReadsFront text greatest i None → ReadsFront text greatest (i + 1) None
-  stays_above front = record {
-    digits = digits-more front.digits;
-    number = let above : greatest < value_of (take i text) = at_most-none greatest _ front.number in
-        at_most-above greatest _ (omega (arith, value_of-more));
-  }
+  stays_above front = record { digits = digits-more front.digits; number = more_above greatest _ _ _ front.number value_of-more }

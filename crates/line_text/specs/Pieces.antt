@@ -1,17 +1,23 @@
 -- What the steps of a reader do to the bytes that it holds.
-use Rattle.std.specs.Prelude.{◌≡◌, ◌<◌, ◌≤◌, ◌+◌, ℕ, Bool, true, false, List, ◌++◌, length, Some, None, Result, Ok, Err}
+use Rattle.std.specs.Prelude.{◌≡◌, ◌<◌, ◌≤◌, ◌+◌, ℕ, Bool, true, false, List, ◌++◌, length, slice_range, Option, Some, None, Result, Ok, Err, is_err}
+use Rattle.std.specs.Io.KnownBytes.{Consumes, IsAtEnd}
+use Rattle.route_io.specs.Sources.{SourceState, ReadsFrom}
+use Rattle.route_io.specs.declared.fault.Failed.{Failed}
+use Rattle.line_text.specs.declared.lines.Span.{Span}
 use Rattle.line_text.specs.declared.limits.LineFault.{LineFault}
 use Rattle.line_text.specs.declared.limits.LineLimits.{LineLimits}
 use Rattle.line_text.specs.Lines.{first_lf, raw_line, after_line, line_size, without_cr}
 use Rattle.line_text.specs.Marks.{first_fault}
 use Rattle.line_text.specs.Reading.{Lines, max_line}
 
--- The places in a buffer are in order. The bytes that are held stand between the last two.
-pub record InPlace (size text_start text_end held_start held_end : ℕ) : Type 0 where
-  pub text : text_start ≤ text_end
-  pub text_within : text_end ≤ size
-  pub held : held_start ≤ held_end
-  pub held_within : held_end ≤ size
+-- a part of a buffer
+abbrev pub part_of : List ℕ → Span → List ℕ
+part_of bytes span = slice_range bytes span.start span.end
+
+-- The part lies in a buffer of so many bytes.
+pub record IsIn (size : ℕ) (span : Span) : Type 0 where
+  pub ordered : span.start ≤ span.end
+  pub within : span.end ≤ size
 
 -- The counts are within the limits, at most one byte past the total was taken, and the line's limit leaves room.
 pub record InBounds (limits : LineLimits) (text_len held_len number passed : ℕ) : Type 0 where
@@ -21,9 +27,19 @@ pub record InBounds (limits : LineLimits) (text_len held_len number passed : ℕ
   pub within_line : text_len ≤ limits.line
   pub leaves_room : limits.line ≤ max_line
 
--- some bytes were appended
-abbrev pub Grows : List ℕ → List ℕ → Type 0
-Grows old new = (more : List ℕ) × (new ≡ old ++ more)
+-- what an answer says of the bytes that are held: some more, or none at the end of input and where the read failed
+abbrev pub Took : List ℕ → List ℕ → Option (List ℕ) → Result Bool Failed → Type 0
+Took old new left (Ok true) = length old < length new
+Took old new left (Ok false) = (new ≡ old) × IsAtEnd left
+Took old new left (Err failed) = new ≡ old
+
+-- One read, whose bytes stand behind those that were held.
+pub record Fills (old new : List ℕ) (before after : SourceState) (result : Result Bool Failed) : Type 0 where
+  pub more : List ℕ
+  pub grown : new ≡ old ++ more
+  pub taken : Consumes before.left after.left more
+  pub answer : Took old new after.left result
+  pub source : ReadsFrom before after (is_err result)
 
 -- the reader behind the first line that is held
 abbrev pub past_line : Lines → Lines
@@ -40,12 +56,12 @@ pub record TakesWhole (old new : Lines) : Type 0 where
   pub whole : first_lf old.held < length old.held
   pub taken : new ≡ past_line old
 
--- The first line is held in part.
+-- Nothing changes, and the first line is held in part.
 pub record LacksLf (old new : Lines) : Type 0 where
-  pub within : first_fault old.limits old.passed old.held ≡ None
-  pub part : first_lf old.held ≡ length old.held
   pub same : new ≡ old
-  pub short : length old.held ≤ max_line
+  pub within : first_fault new.limits new.passed new.held ≡ None
+  pub part : first_lf new.held ≡ length new.held
+  pub short : length new.held ≤ max_line
 
 -- What is held of the first line breaks the limits.
 pub record Breaks (old new : Lines) (fault : LineFault) : Type 0 where

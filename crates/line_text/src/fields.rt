@@ -1,5 +1,5 @@
 ghost use Rattle.std.specs.Prelude.{◌≡◌, ◌≤◌, [], drop, length, MatchOption};
-ghost use Rattle.std.specs.List.{position_or_len};
+ghost use Rattle.std.specs.List.{prefix_len};
 ghost use Rattle.line_text.specs.Fields.{FieldAt, FirstField, fields_of, is_blank, is_filled};
 
 /// The first field of a text, and what stands behind it.
@@ -30,27 +30,25 @@ pub fn field(text: &[u8], i: usize) -> Option<(usize, usize)>
 
 /// What stands behind the blanks that a text begins with.
 fn behind_blanks(text: &[u8]) -> &[u8]
-    ensures { result.now ≡ drop (position_or_len is_filled text.now) text.now }
+    ensures { result.now ≡ drop (prefix_len is_blank text.now) text.now }
 {
     &text[blank_len(text)..]
 }
 
 /// How many blanks a text begins with.
 fn blank_len(text: &[u8]) -> usize
-    ensures value { result ≡ position_or_len is_filled text.now }
+    ensures value { result ≡ prefix_len is_blank text.now }
     ensures within { result ≤ length text.now }
 {
-    let filled = text.iter().position(|byte| !is_blank(*byte));
-    filled.unwrap_or(text.len())
+    text.iter().take_while(|byte| is_blank(**byte)).count()
 }
 
 /// How many bytes other than blanks a text begins with.
 fn filled_len(text: &[u8]) -> usize
-    ensures value { result ≡ position_or_len is_blank text.now }
+    ensures value { result ≡ prefix_len is_filled text.now }
     ensures within { result ≤ length text.now }
 {
-    let blank = text.iter().position(|byte| is_blank(*byte));
-    blank.unwrap_or(text.len())
+    text.iter().take_while(|byte| !is_blank(**byte)).count()
 }
 
 /// Whether a byte is a space or a tab.

@@ -1,13 +1,12 @@
 ghost use Rattle.std.specs.Prelude.{◌≡◌, ◌≢◌, ◌↔◌, ◌+◌, ◌-◌, ◌<◌, ◌≤◌, ◌++◌, List, [], length, take, drop, false, true};
 ghost use Rattle.std.specs.Prelude.{Ok, Err, Some, IfOk, OnOk, OnErr, IfSome, IfNone, IsSome, IsTrue, MatchOption, min};
-ghost use Rattle.std.specs.Prelude.{slice_range, is_err, None};
+ghost use Rattle.std.specs.Prelude.{None};
 ghost use Rattle.std.specs.Result.{result_err};
-ghost use Rattle.std.specs.Io.KnownBytes.{Keeps, IsAtEnd};
 ghost use Rattle.route_io.specs.Sources.{Reads, ReadsFrom};
 ghost use Rattle.line_text.specs.Lines.{first_lf, without_cr};
 ghost use Rattle.line_text.specs.Marks.{first_fault, line_fault};
-ghost use Rattle.line_text.specs.Pieces.{Grows, TakesHeld, past_line};
-ghost use Rattle.line_text.specs.Reading.{Advances, InLimits, begun, max_held, max_line, line_failed, rest_of};
+ghost use Rattle.line_text.specs.Pieces.{Fills, IsIn, TakesHeld, part_of, past_line};
+ghost use Rattle.line_text.specs.Reading.{Advances, InLimits, begun, max_held, max_line, line_failed};
 
 use crate::{LineFault, LineLimits};
 use cost_vector::OutOfMemory;
@@ -22,6 +21,13 @@ pub const MAX_LINE: u32 = 65_536;
 /// The most bytes that a reader holds, twice the longest line: a line that is held in part always leaves room.
 pub const MAX_HELD: usize = 2 * MAX_LINE as usize;
 
+/// A part of the buffer.
+#[derive(Clone, Copy)]
+struct Span {
+    start: usize,
+    end: usize,
+}
+
 /// Reads the lines of a source, which may give its bytes in any pieces.
 ///
 /// A line is looked at where it lies in the buffer. The bytes of a line that is held in part are moved only where the
@@ -30,36 +36,34 @@ pub const MAX_HELD: usize = 2 * MAX_LINE as usize;
 pub struct Lines {
     limits: LineLimits,
     buffer: Vec<u8>,
-    text_start: usize,
-    text_end: usize,
-    held_start: usize,
-    held_end: usize,
+    text: Span,
+    held: Span,
     number: u64,
     passed: u64,
     fault: Option<LineFault>,
 }
 
 impl Model for Lines {
-    ghost use Rattle.std.specs.Prelude.{◌≡◌, ◌≢◌, ◌-◌, Some, slice_range, vec_len};
+    ghost use Rattle.std.specs.Prelude.{◌≡◌, ◌≢◌, ◌-◌, Some, vec_len};
     ghost use Rattle.line_text.specs.declared.limits.LineFault.TheVariants.{OutOfMemory};
-    ghost use Rattle.line_text.specs.Pieces.{InBounds, InPlace};
+    ghost use Rattle.line_text.specs.Pieces.{InBounds, IsIn, part_of};
     ghost use Rattle.line_text.specs.Reading.{Lines, max_held};
 
     ghost Value = { Lines };
 
     ghost view = { λ lines. record {
       limits = lines.limits;
-      held = slice_range lines.buffer.items lines.held_start lines.held_end;
-      text = slice_range lines.buffer.items lines.text_start lines.text_end;
+      held = part_of lines.buffer.items lines.held;
+      text = part_of lines.buffer.items lines.text;
       number = lines.number;
       passed = lines.passed;
       fault = lines.fault;
     } };
 
     ghost invariant = { λ lines. (vec_len lines.buffer ≡ max_held)
-        × InPlace max_held lines.text_start lines.text_end lines.held_start lines.held_end
-        × InBounds lines.limits (lines.text_end - lines.text_start)
-        (lines.held_end - lines.held_start) lines.number lines.passed
+        × IsIn max_held lines.text × IsIn max_held lines.held
+        × InBounds lines.limits (lines.text.end - lines.text.start)
+        (lines.held.end - lines.held.start) lines.number lines.passed
         × (lines.fault ≢ Some OutOfMemory) };
 }
 
@@ -73,10 +77,8 @@ impl Lines {
         Ok(Lines {
             limits,
             buffer: vec![in alloc; 0; MAX_HELD]?,
-            text_start: 0,
-            text_end: 0,
-            held_start: 0,
-            held_end: 0,
+            text: Span { start: 0, end: 0 },
+            held: Span { start: 0, end: 0 },
             number: 0,
             passed: 0,
             fault: None,
@@ -121,7 +123,7 @@ impl Lines {
         ensures value { result.now ≡ self.now.text }
         ensures within { length result.now ≤ self.now.limits.line }
     {
-        &self.buffer[self.text_start..self.text_end]
+        &self.buffer[self.text.start..self.text.end]
     }
 
     /// The current line's number, from 1. It is 0 before the first line.
@@ -142,8 +144,10 @@ impl Lines {
         self.drop_text();
         let mut searched = 0;
         loop {
-            if self.take_line(searched)? {
-                return Ok(true);
+            match self.take_line(searched) {
+                Ok(true) => return Ok(true),
+                Ok(false) => {}
+                Err(fault) => return Err(fault),
             }
             searched = self.held().len();
             match self.refill(source) {
@@ -158,21 +162,19 @@ impl Lines {
     fn drop_text(&mut self)
         ensures { self.new ≡ record self.old { text = [] } }
     {
-        self.text_start = 0;
-        self.text_end = 0;
+        self.text = Span { start: 0, end: 0 };
     }
 
     /// The bytes that are held.
     fn held(&self) -> &[u8]
         ensures { result.now ≡ self.now.held }
     {
-        &self.buffer[self.held_start..self.held_end]
+        &self.buffer[self.held.start..self.held.end]
     }
 
     /// Takes the first line that is held, if its LF is held. It isn't among the first `searched` bytes.
     fn take_line(&mut self, searched: usize) -> Result<bool, LineFault>
-        requires within { searched ≤ length self.old.held }
-        requires none { searched ≤ first_lf self.old.held }
+        requires { searched ≤ first_lf self.old.held }
         ensures { TakesHeld self.old self.new result }
     {
         let Some(raw) = find_lf(self.held(), searched) else {
@@ -233,10 +235,10 @@ impl Lines {
           passed = self.old.passed + size;
         } }
     {
-        let start = self.held_start;
-        self.text_start = start;
-        self.text_end = start + text_len(&self.buffer[start..start + raw]);
-        self.held_start = start + size;
+        let start = self.held.start;
+        let end = start + text_len(&self.buffer[start..start + raw]);
+        self.text = Span { start, end };
+        self.held.start = start + size;
         self.number += 1;
         self.passed += size as u64;
     }
@@ -247,23 +249,11 @@ impl Lines {
         requires in_total { self.old.passed + length self.old.held ≤ self.old.limits.total }
         requires no_text { self.old.text ≡ [] }
         ensures stays { self.new ≡ record self.old { held = self.new.held } }
-        ensures grows { Grows self.old.held self.new.held }
-        ensures more { result ≡ Ok true → length self.old.held < length self.new.held }
-        ensures end { result ≡ Ok false
-            → (self.new.held ≡ self.old.held) × IsAtEnd (S.state source.new).left }
-        ensures failed { OnErr result (self.new.held ≡ self.old.held) }
-        ensures rest { Keeps
-            (rest_of self.old (S.state source.old)) (rest_of self.new (S.state source.new)) }
-        ensures source { ReadsFrom (S.state source.old) (S.state source.new) (is_err result) }
+        ensures reads { Fills self.old.held self.new.held
+            (S.state source.old) (S.state source.new) result }
     {
-        let held = self.held_end - self.held_start;
         let wanted = self.wanted();
-        let start = make_room(self.buffer.as_mut_slice(), self.held_start, self.held_end);
-        self.held_start = start;
-        self.held_end = start + held;
-        let taken = read_behind(source, self.buffer.as_mut_slice(), start + held, wanted)?;
-        self.held_end = start + held + taken;
-        Ok(taken > 0)
+        fill(source, self.buffer.as_mut_slice(), &mut self.held, wanted)
     }
 
     /// How many more bytes are of use: those up to one past the total, and no more than the buffer has.
@@ -278,9 +268,9 @@ impl Lines {
 }
 
 /// Where the first LF stands. It isn't among the first `searched` bytes.
+#[tactic(auto, using(crate::proofs::LineLemmas::lf_places))]
 fn find_lf(bytes: &[u8], searched: usize) -> Option<usize>
-    requires within { searched ≤ length bytes.now }
-    requires none { searched ≤ first_lf bytes.now }
+    requires { searched ≤ first_lf bytes.now }
     ensures { MatchOption result (first_lf bytes.now ≡ length bytes.now)
         (λ at. (first_lf bytes.now ≡ at) × (at < length bytes.now)) }
 {
@@ -302,21 +292,44 @@ fn text_len(line: &[u8]) -> usize
     }
 }
 
-/// Leaves room behind the bytes from `start` up to `end`, and answers where they start then. They are moved to the
-/// front only where they reach the buffer's end.
-fn make_room(buffer: &mut [u8], start: usize, end: usize) -> usize
-    requires ordered { start ≤ end }
-    requires within { end ≤ length buffer.old }
-    requires short { end - start < length buffer.old }
-    ensures kept { slice_range buffer.new result (result + (end - start))
-        ≡ slice_range buffer.old start end }
-    ensures room { result + (end - start) < length buffer.new }
+/// Reads once behind the bytes that are held, and takes at most `most` bytes.
+fn fill<S: Source>(
+    source: &mut S,
+    buffer: &mut [u8],
+    held: &mut Span,
+    most: usize,
+) -> Result<bool, Failed>
+    requires place { IsIn (length buffer.old) held.old }
+    requires short { held.old.end - held.old.start < length buffer.old }
+    requires some { 0 < most }
+    ensures place { IsIn (length buffer.new) held.new }
+    ensures at_most { held.new.end - held.new.start ≤ held.old.end - held.old.start + most }
+    ensures reads { Fills (part_of buffer.old held.old) (part_of buffer.new held.new)
+        (S.state source.old) (S.state source.new) result }
 {
-    if start < end && end < buffer.len() {
-        return start;
+    make_room(buffer, held);
+    let taken = read_behind(source, buffer, held.end, most)?;
+    held.end += taken;
+    Ok(taken > 0)
+}
+
+/// Leaves room behind the bytes that are held. They are moved to the front only where they reach the buffer's end.
+fn make_room(buffer: &mut [u8], held: &mut Span)
+    requires place { IsIn (length buffer.old) held.old }
+    requires short { held.old.end - held.old.start < length buffer.old }
+    ensures kept { part_of buffer.new held.new ≡ part_of buffer.old held.old }
+    ensures size { held.new.end - held.new.start ≡ held.old.end - held.old.start }
+    ensures place { IsIn (length buffer.new) held.new }
+    ensures room { held.new.end < length buffer.new }
+{
+    if held.start < held.end && held.end < buffer.len() {
+        return;
     }
-    buffer.copy_within(start..end, 0);
-    0
+    buffer.copy_within(held.start..held.end, 0);
+    *held = Span {
+        start: 0,
+        end: held.end - held.start,
+    };
 }
 
 /// Reads once into what is free behind the first `filled` bytes, and takes at most `most` bytes.

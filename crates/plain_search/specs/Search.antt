@@ -1,7 +1,8 @@
 -- What a search keeps of the spots that it has come to: the permanent ones, in that order, and the waiting ones.
 use Rattle.std.specs.Prelude.{◌≡◌, ◌≢◌, ℕ, ◌⊎◌, ◌==◌, List, Option, length, map, filter, replicate, All, AllPairs, Any, Contains}
+use Rattle.cost_vector.specs.declared.label.Label.{Label}
 use Rattle.cost_vector.specs.declared.label.Spot.{Spot}
-use Rattle.cost_vector.specs.Costs.{AtMost, plus, Within, LexLess}
+use Rattle.cost_vector.specs.Costs.{AtMost, Dominates, plus, Within, LexLess}
 use Rattle.list_laws.specs.Least.{IsLeastMember}
 use Rattle.list_laws.specs.Without.{IsWithout}
 use Rattle.road_network.specs.Network.{Network, Leads}
@@ -21,22 +22,25 @@ pub record Task : Type 0 where
 abbrev pub task_of : Graph → Weights → Query → Task
 task_of g w query = record { net = network g w; from = query.from.0; to = query.to.0; limit = query.limit }
 
--- the pair of a node and a cost is relevant to the task
-abbrev pub IsRelevantTo : Task → ℕ → List ℕ → Type 0
-IsRelevantTo task v c = IsRelevant task.net task.from task.to task.limit v c
+-- the pair of the spot's node and its cost is relevant to the task
+abbrev pub IsRelevantTo : Task → Spot → Type 0
+IsRelevantTo task x = IsRelevant task.net task.from task.to task.limit x.node.0 x.cost
 
 -- a node, reached at a cost
 abbrev pub spot_at : ℕ → List ℕ → Spot
 spot_at v c = record { node = record { 0 = v }; cost = c }
 
+-- the node and the cost of a label
+abbrev pub spot_of : Label → Spot
+spot_of l = record { node = l.node; cost = l.cost }
+
 -- the costs of a node among spots
 abbrev pub costs_at : ℕ → List Spot → List (List ℕ)
 costs_at node spots = map (λ (x : Spot). x.cost) (filter (λ (x : Spot). x.node.0 == node) spots)
 
--- Spot e makes spot x needless: its cost is at most that of x, at the same node, or it is a smaller cost of the target.
-pub record Prunes (to : ℕ) (e x : Spot) : Type 0 where
-  pub at_most : AtMost e.cost x.cost
-  pub place : (e.node.0 ≡ x.node.0) ⊎ ((e.node.0 ≡ to) × (e.cost ≢ x.cost))
+-- spot e makes spot x needless: at the same node its cost is at most that of x, or at the target it dominates it
+abbrev pub Prunes : ℕ → Spot → Spot → Type 0
+Prunes to e x = ((e.node.0 ≡ x.node.0) × AtMost e.cost x.cost) ⊎ ((e.node.0 ≡ to) × Dominates e.cost x.cost)
 
 -- some spot of the list does
 abbrev pub IsPruned : ℕ → List Spot → Spot → Type 0
@@ -50,11 +54,15 @@ IsCovered to limit permanent waiting x = IsPruned to permanent x ⊎ (IsPruned t
 abbrev pub TakesOut : ℕ → Spot → List Spot → List Spot → Type 0
 TakesOut to x before after = IsWithout (λ y. Prunes to x y) before after
 
--- spot x joins the waiting ones in place of those that it prunes, unless it is covered already
-pub record Adds (to : ℕ) (limit : List (Option ℕ)) (permanent before : List Spot) (x : Spot) (after : List Spot) : Type 0 where
-  pub old_or_new : All (λ y. Contains before y ⊎ ((y ≡ x) × Within limit x.cost × (¬ IsPruned to permanent x))) after
-  pub kept : All (λ y. IsPruned to after y) before
-  pub added : IsCovered to limit permanent after x
+-- y waited before, or is one of those added, within the limit and not needless
+abbrev pub IsOldOrNew : ℕ → List (Option ℕ) → List Spot → List Spot → List Spot → Spot → Type 0
+IsOldOrNew to limit permanent before added y = Contains before y ⊎ (Contains added y × Within limit y.cost × (¬ IsPruned to permanent y))
+
+-- the spots join the waiting ones in place of those that they prune, but for those that are covered
+pub record Adds (to : ℕ) (limit : List (Option ℕ)) (permanent before added after : List Spot) : Type 0 where
+  pub old_or_new : All (IsOldOrNew to limit permanent before added) after
+  pub kept : All (IsPruned to after) before
+  pub covered : All (IsCovered to limit permanent after) added
 
 -- x stands in the list, and no cost there is lexicographically less
 abbrev pub IsLeastOf : List Spot → Spot → Type 0
@@ -74,16 +82,16 @@ pub record MayWait (task : Task) (permanent : List Spot) (x : Spot) : Type 0 whe
   pub later : All (λ e. ¬ LexLess x.cost e.cost) permanent
   pub small : IsSumOf (length permanent) x.cost
 
--- the permanent spots are relevant pairs, each once, in ascending lexicographic order, of costs as small as those that wait
-pub record AreSpots (task : Task) (permanent waiting : List Spot) : Type 0 where
-  pub relevant : All (λ e. IsRelevantTo task e.node.0 e.cost) permanent
-  pub distinct : AllPairs ◌≢◌ permanent
-  pub ascending : AllPairs (λ a b. ¬ LexLess b.cost a.cost) permanent
+-- the cost of a is less, or it is the same at another node
+abbrev pub IsBefore : Spot → Spot → Type 0
+IsBefore a b = LexLess a.cost b.cost ⊎ ((a.cost ≡ b.cost) × (a.node.0 ≢ b.node.0))
+
+-- The permanent spots are relevant pairs, each once, in ascending lexicographic order, of costs as small as those that
+-- wait. The start is covered, and so is all that leads on from them.
+pub record IsSearch (task : Task) (permanent waiting : List Spot) : Type 0 where
+  pub relevant : All (IsRelevantTo task) permanent
+  pub ascending : AllPairs IsBefore permanent
   pub small : All (λ e. IsSumOf (length permanent) e.cost) permanent
   pub may_wait : All (MayWait task permanent) waiting
-
--- besides, the start is covered, and so is all that leads on from the permanent spots
-pub record IsSearch (task : Task) (permanent waiting : List Spot) : Type 0 where
-  pub spots : AreSpots task permanent waiting
   pub started : IsCovered task.to task.limit permanent waiting (spot_at task.from (replicate task.net.criteria 0))
   pub expanded : All (IsExpanded task permanent waiting) permanent

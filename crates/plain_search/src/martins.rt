@@ -31,12 +31,11 @@ pub fn plain_search(
 {
     prove!(query.from.0 <= graph.nodes());
     prove!(graph.arcs() == weights.arcs());
-    let mut search = Search::new(alloc);
     let start = Spot {
         node: query.from,
         cost: Cost::zero(graph.criteria()),
     };
-    search.add(query, &start)?;
+    let mut search = Search::begin(alloc, start)?;
     search.run(alloc, graph, weights, query)?;
     if !search.is_done() {
         return Err(SearchFault::Budget);

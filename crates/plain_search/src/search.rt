@@ -1,4 +1,4 @@
-ghost use Rattle.std.specs.Prelude.{◌≡◌, ◌≤◌, ◌<◌, ◌⊎◌, ◌↔◌, [], ◌∷◌, ◌++◌, length, IsTrue, IfOk, OnOk, IfSome, IfNone, Contains, All};
+ghost use Rattle.std.specs.Prelude.{◌≡◌, ◌≤◌, ◌<◌, ◌⊎◌, ◌↔◌, [], ◌∷◌, ◌++◌, length, map, IsTrue, IfOk, OnOk, IfSome, IfNone, Contains, All};
 ghost use Rattle.cost_vector.specs.Costs.{LexLess};
 ghost use Rattle.road_network.specs.Limits.{max_budget};
 ghost use Rattle.plain_search.specs.Query.{IsPosed};
@@ -6,7 +6,7 @@ ghost use Rattle.plain_search.specs.Search.{Prunes, IsPruned, IsLeastOf, TakesOu
 
 use crate::query::Query;
 use arc_graph::{Graph, Weights, relax};
-use cost_vector::{Cost, NodeNo, OutOfMemory, Spot};
+use cost_vector::{Cost, Label, NodeNo, OutOfMemory, Spot};
 use std::alloc::Global;
 
 /// The spots that a search has come to.
@@ -18,17 +18,17 @@ pub(crate) struct Search {
 }
 
 impl Search {
-    ghost use Rattle.plain_search.specs.Search.{task_of, costs_at, IsCovered, Adds, IsSearch};
+    ghost use Rattle.plain_search.specs.Search.{task_of, costs_at, spot_of, IsCovered, Adds, IsSearch};
 
-    /// No spot yet.
-    pub(crate) fn new(alloc: Global) -> Search
-        ensures permanent { result.permanent.items ≡ [] }
-        ensures waiting { result.waiting.items ≡ [] }
+    /// The start alone waits.
+    pub(crate) fn begin(alloc: Global, start: Spot) -> Result<Search, OutOfMemory>
+        ensures permanent { IfOk result (λ search. search.permanent.items ≡ []) }
+        ensures waiting { IfOk result (λ search. search.waiting.items ≡ start ∷ []) }
     {
-        Search {
+        Ok(Search {
             permanent: Vec::new(alloc),
-            waiting: Vec::new(alloc),
-        }
+            waiting: vec![in alloc; start]?,
+        })
     }
 
     /// Whether no spot waits.
@@ -95,14 +95,7 @@ impl Search {
     {
         self.settle(query.to, spot)?;
         let labels = relax(alloc, graph, weights, spot)?;
-        for label in &labels {
-            let next = Spot {
-                node: label.node,
-                cost: label.cost,
-            };
-            self.add(query, &next)?;
-        }
-        Ok(())
+        self.add_all(query, &labels)
     }
 
     /// Makes a spot permanent, and takes out the waiting ones that it prunes, itself among them.
@@ -117,12 +110,29 @@ impl Search {
         Ok(())
     }
 
+    /// Adds the spots of labels one by one.
+    fn add_all(&mut self, query: &Query, labels: &[Label]) -> Result<(), OutOfMemory>
+        requires { All (λ l. length query.now.limit ≡ length l.cost) labels.now }
+        ensures permanent { self.new.permanent.items ≡ self.old.permanent.items }
+        ensures waiting { OnOk result (Adds query.now.to.0 query.now.limit self.old.permanent.items
+            self.old.waiting.items (map spot_of labels.now) self.new.waiting.items) }
+    {
+        for label in labels {
+            let spot = Spot {
+                node: label.node,
+                cost: label.cost,
+            };
+            self.add(query, &spot)?;
+        }
+        Ok(())
+    }
+
     /// Lets a spot wait in place of those that it prunes, unless it is covered already.
-    pub(crate) fn add(&mut self, query: &Query, spot: &Spot) -> Result<(), OutOfMemory>
+    fn add(&mut self, query: &Query, spot: &Spot) -> Result<(), OutOfMemory>
         requires { length query.now.limit ≡ length spot.now.cost }
         ensures permanent { self.new.permanent.items ≡ self.old.permanent.items }
-        ensures waiting { OnOk result (Adds query.now.to.0 query.now.limit
-            self.old.permanent.items self.old.waiting.items spot.now self.new.waiting.items) }
+        ensures waiting { OnOk result (Adds query.now.to.0 query.now.limit self.old.permanent.items
+            self.old.waiting.items (spot.now ∷ []) self.new.waiting.items) }
     {
         if self.covers(query, spot) {
             return Ok(());
@@ -144,14 +154,14 @@ impl Search {
     }
 }
 
-/// Whether an entry makes a spot needless: its cost is at most the spot's, at the same node, or it is a smaller cost of
-/// the target.
+/// Whether an entry makes a spot needless: at the same node its cost is at most the spot's, or at the target it
+/// dominates the spot's.
 fn prunes(to: NodeNo, entry: &Spot, spot: &Spot) -> bool
     ensures { IsTrue result ↔ Prunes to.0 entry.now spot.now }
 {
     entry.cost.count() == spot.cost.count()
-        && entry.cost.at_most(&spot.cost)
-        && (entry.node == spot.node || entry.node == to && entry.cost != spot.cost)
+        && (entry.node == spot.node && entry.cost.at_most(&spot.cost)
+            || entry.node == to && entry.cost.dominates(&spot.cost))
 }
 
 /// Whether one of the entries prunes a spot.

@@ -81,7 +81,8 @@ pub fn walks_of_costs_are_one_list()
         (costs : List (List ℕ)) → IsNetwork net → AreBestCosts net s t limit costs
         → (routes : List Route) × IsAnswer net s t limit routes }
     ensures one_answer { (net : Network) (s t : ℕ) (limit : List (Option ℕ))
-        (routes others : List Route) → IsAnswer net s t limit routes → IsAnswer net s t limit others → routes ≡ others }
+        (routes others : List Route) → IsAnswer net s t limit routes
+        → IsAnswer net s t limit others → routes ≡ others }
 {}
 
 /// A backward-least walk is made arc by arc of such walks, whether its cost is best or not. Its first part is the

@@ -17,12 +17,12 @@ use Rattle.route_top.specs.declared.stop.Disagreement.TheVariants.{Sizes, Ends, 
 use Rattle.route_top.specs.Outcome.{Outcome, folder_failed, bad_file, bad_files, no_memory}
 
 -- the most bytes of a weight file
-abbrev pub max_file : ℕ
-max_file = 2 ^ 29
+abbrev pub max_file_size : ℕ
+max_file_size = 2 ^ 29
 
 -- the limits of a weight file
 abbrev pub weight_limits : FileLimits
-weight_limits = record { line = max_line; file = max_file }
+weight_limits = record { line = max_line; file = max_file_size }
 
 -- there is a file of this name, and this holds of its bytes
 pub record HasFile (file_of : FileMap) (name : List ℕ) (Holds : List ℕ → Type 0) : Type 0 where

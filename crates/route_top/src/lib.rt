@@ -25,7 +25,7 @@ use std::alloc::Global;
 use stop::Stop;
 
 /// The most bytes of a weight file.
-pub const MAX_FILE: u64 = 1 << 29;
+pub const MAX_FILE_SIZE: u64 = 1 << 29;
 
 /// Runs the command that the words ask for over the folder's files, and answers the exit status. Replies go to `out`.
 /// On each status but 0 and 8 one line goes to `err`, whose faults only cut that line.

@@ -8,7 +8,7 @@ ghost use Rattle.route_top.specs.Outcome.{status_of};
 ghost use Rattle.route_top.specs.ReadResults.{FileRead, NetworkRead};
 ghost use Rattle.route_top.specs.Stops.{run_outcome};
 
-use crate::MAX_FILE;
+use crate::MAX_FILE_SIZE;
 use crate::stop::Stop;
 use arc_graph::{Graph, Joiner, Weights};
 use gr_reader::{FileFault, FileLimits, read_into};
@@ -19,7 +19,7 @@ use std::alloc::Global;
 /// The limits of a weight file.
 const LIMITS: FileLimits = FileLimits {
     line: MAX_LINE,
-    file: MAX_FILE,
+    file: MAX_FILE_SIZE,
 };
 
 /// Reads the named files in order, two to four of them, and joins them. The first fault of a file ends the run.

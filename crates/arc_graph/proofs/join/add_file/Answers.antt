@@ -21,9 +21,9 @@ push-requires-clause-head c =
 
 pub loop-arc-preserved : goal.loop-arc-preserved
 loop-arc-preserved c = record {
-  begun = omega (arith, c.in_ok-push.ensures.begun);
-  nodes = omega (arith, c.in_ok-push.ensures.nodes);
-  arcs = omega (arith, c.in_ok-push.ensures.arcs);
+  begun = omega (arith, c.in_ok-push.ensures.file.begun);
+  nodes = omega (arith, c.in_ok-push.ensures.file.due_nodes);
+  arcs = omega (arith, c.in_ok-push.ensures.file.due_arcs);
   come = omega (arith, c.in_ok-push.ensures.come);
   stands = λ files stands.
       stands_more _ files c.args.file.now.nodes c.arcs-arcs.result.now c.loop-arc.arc-index _ c.loop-arc-test.true

@@ -1,4 +1,4 @@
-use Rattle.event_machine.proofs.SettledLabels.{settled_stays, entries_stand}
+use Rattle.event_machine.proofs.Keeping.{settled_stays, entries_stand}
 use Rattle.event_machine.proofs.finality.entries_below_settled_labels_stand.Goals as goal
 
 pub returns-clause-settled : goal.returns-clause-settled

@@ -1,4 +1,4 @@
-use Rattle.event_machine.proofs.SettledLabels.{end_has_all}
+use Rattle.event_machine.proofs.Keeping.{end_has_all}
 use Rattle.event_machine.proofs.finality.the_end_has_all_relevant_pairs.Goals as goal
 
 pub returns : goal.returns

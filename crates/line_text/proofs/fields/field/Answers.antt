@@ -1,5 +1,5 @@
 use Rattle.std.proofs.Common.{refl, arith}
-use Rattle.line_text.proofs.PlaceLemmas.{behind_more, field_at}
+use Rattle.line_text.proofs.FieldLemmas.{behind_more, field_at}
 use Rattle.line_text.proofs.fields.field.Goals as goal
 
 pub loop-preserved : goal.loop-preserved

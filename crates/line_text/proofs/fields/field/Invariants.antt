@@ -1,4 +1,4 @@
-use Rattle.line_text.proofs.PlaceLemmas.{BehindFields}
+use Rattle.line_text.proofs.FieldLemmas.{BehindFields}
 use Rattle.line_text.proofs.fields.field.Given as goal
 
 abbrev pub invariant-loop : goal.invariant-loop

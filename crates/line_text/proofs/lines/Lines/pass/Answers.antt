@@ -1,13 +1,25 @@
-use Rattle.std.proofs.Common.{◌+◌, ◌≤◌, length, refl, ap, arith}
-use Rattle.line_text.proofs.RangeLemmas.{drop-slice_range, length-slice_range, text_range}
+use Rattle.std.proofs.Common.{◌≡◌, ℕ, ◌+◌, ◌-◌, ◌≤◌, List, length, take, drop, slice_range, refl, sym, ap, ◌∙◌, arith}
+use Rattle.std.proofs.lemmas.List.{drop-drop, take-take, length-take}
+use Rattle.std.proofs.lemmas.Slice.{between_is}
+use Rattle.line_text.specs.Lines.{without_cr}
 use Rattle.line_text.proofs.lines.Lines.pass.Goals as goal
+
+take-part : (xs : List ℕ) (a b n : ℕ) → a + n ≤ b → take n (slice_range xs a b) ≡ slice_range xs a (a + n)
+take-part xs a b n within =
+    let size : n ≡ a + n - a = omega arith in
+    take-take n (b - a) (drop a xs) (omega arith) ∙ ap (λ m. take m (drop a xs)) size
+
+drop-part : (xs : List ℕ) (a b n : ℕ) → drop n (slice_range xs a b) ≡ slice_range xs (a + n) b
+drop-part xs a b n = ap (drop n) (between_is xs a b) ∙ drop-drop n a (take b xs) ∙ sym (between_is xs (a + n) b)
 
 pub returns : goal.returns
 returns c =
-    let lines = c.self.inside in
-    let bytes = lines.buffer.items in
-    let held = length-slice_range bytes lines.held_start lines.held_end (omega arith) in
-    let within : lines.held_start + c.args.size ≤ lines.held_end = omega (arith, ap (λ r. length r.held) c.self.view_is) in
-    let text = text_range bytes lines.held_start lines.held_end c.args.raw c.text_len.result (omega arith) (omega arith)
-    (rw c.deref.ensures.value at c.text_len.ensures.within) (rw c.deref.ensures.value at c.text_len.ensures.text) in
-    rw (← c.self.view_is, drop-slice_range bytes lines.held_start lines.held_end c.args.size within, text) refl
+    let bytes = c.self.inside.buffer.items in
+    let start = c.self.inside.held.start in
+    let end = c.self.inside.held.end in
+    let line = rw c.deref.ensures.value at c.text_len.ensures in
+    let within : start + c.args.size ≤ end = omega (arith, ap (λ lines. length lines.held) c.self.view_is, length-take (end - start) (drop start bytes)) in
+    let short : c.text_len.result ≤ c.args.raw = omega (arith, line.within, length-take (start + c.args.raw - start) (drop start bytes)) in
+    let text = sym (take-part bytes start (start + c.args.raw) c.text_len.result (omega arith)) ∙ line.text
+    ∙ sym (ap without_cr (take-part bytes start end c.args.raw (omega arith))) in
+    rw (← c.self.view_is, drop-part bytes start end c.args.size, text) refl

@@ -1,44 +1,26 @@
-use Rattle.std.proofs.Common.{Ok, length, ap, arith}
-use Rattle.std.proofs.lemmas.Result.{err_from_is_err_and}
 use Rattle.route_io.proofs.ReadsLemmas.{ReadsFrom-then}
-use Rattle.line_text.specs.Pieces.{LacksLf}
-use Rattle.line_text.proofs.AdvancesLemmas.{advances_broken, advances_whole, advances_end, holds_more, searched_within, searched_none, still_within}
+use Rattle.line_text.proofs.AdvancesLemmas.{advances_broken, advances_whole, advances_end, holds_more, searched_none}
 use Rattle.line_text.proofs.lines.Lines.read_line.Goals as goal
 
-pub returns-in_err-take_line-clause-advances : goal.returns-in_err-take_line-clause-advances
-returns-in_err-take_line-clause-advances g c =
-    let p = err_from_is_err_and c.from_residual.result c.from_residual.ensures.1 in
-    rw (p.1, p.2) (advances_broken _ _ _ _ _ c.loop-self.invariant.holds _ c.in_err-take_line.ensures)
+pub returns-in-Ok-true-clause-advances : goal.returns-in-Ok-true-clause-advances
+returns-in-Ok-true-clause-advances g c =
+    advances_whole _ _ _ _ _ c.loop-fault.invariant.holds (rw c.in-Ok-true.field-0-test at c.in-Ok-true.ensures)
 
-pub returns-then-branch-clause-advances : goal.returns-then-branch-clause-advances
-returns-then-branch-clause-advances g c =
-    advances_whole _ _ _ _ _ c.loop-self.invariant.holds (rw c.if-branch.true at c.in_ok-take_line.ensures)
+pub returns-in-Err-clause-advances : goal.returns-in-Err-clause-advances
+returns-in-Err-clause-advances g c = advances_broken _ _ _ _ _ c.loop-fault.invariant.holds _ c.in-Err.ensures
 
-pub refill-requires-clause-room : goal.refill-requires-clause-room
-refill-requires-clause-room g c =
-    let lacks : LacksLf c.loop-self.self c.take_line.new.self = rw c.if-branch.false at c.in_ok-take_line.ensures in
-    rw lacks.same lacks.short
-
-pub loop-self-smaller : goal.loop-self-smaller
-loop-self-smaller g c =
-    let lacks : LacksLf c.loop-self.self c.take_line.new.self = rw c.if-branch.false at c.in_ok-take_line.ensures in
-    let more = c.in-Ok-true.ensures.more (ap (λ b. Ok b) c.in-Ok-true.field-0-test) in
-    omega (arith, ap (λ lines. length lines.held) lacks.same, lacks.short)
-
-pub loop-self-preserved : goal.loop-self-preserved
-loop-self-preserved g c =
-    let lacks : LacksLf c.loop-self.self c.take_line.new.self = rw c.if-branch.false at c.in_ok-take_line.ensures in
+pub loop-fault-preserved : goal.loop-fault-preserved
+loop-fault-preserved g c =
+    let lacks = rw c.in-Ok-false.field-0-test at c.in-Ok-false.ensures in
     record {
-      holds = holds_more _ _ _ lacks c.refill.ensures.stays _ _ _ _ c.loop-self.invariant.holds c.refill.ensures.rest;
-      within = rw c.held-searched.ensures (searched_within _ _ _ lacks c.refill.ensures.stays c.refill.ensures.grows);
-      none = rw c.held-searched.ensures (searched_none _ _ _ lacks c.refill.ensures.stays c.refill.ensures.grows);
-      source = ReadsFrom-then _ _ _ _ c.loop-self.invariant.source c.in-Ok-true.ensures.source;
+      holds = holds_more _ _ _ lacks c.refill.ensures.stays _ _ _ c.refill.ensures.reads _ _ c.loop-fault.invariant.holds;
+      none = rw c.held-searched.ensures (searched_none _ _ _ lacks c.refill.ensures.stays _ _ _ c.refill.ensures.reads);
+      source = ReadsFrom-then _ _ _ _ c.loop-fault.invariant.source c.in-Ok-true-refill.ensures.reads.source;
     }
 
-pub returns-in-Ok-false-clause-advances : goal.returns-in-Ok-false-clause-advances
-returns-in-Ok-false-clause-advances g c =
-    let lacks : LacksLf c.loop-self.self c.take_line.new.self = rw c.if-branch.false at c.in_ok-take_line.ensures in
-    let end = c.in-Ok-false.ensures.end (ap (λ b. Ok b) c.in-Ok-false.field-0-test) in
-    let holds = holds_more _ _ _ lacks c.refill.ensures.stays _ _ _ _ c.loop-self.invariant.holds c.refill.ensures.rest in
-    advances_end _ _ _ _ _ holds c.take_rest.result c.take_rest.ensures.some c.take_rest.ensures.none
-    (still_within _ _ _ lacks c.refill.ensures.stays end.0) end.1
+pub returns-in-Ok-false-refill-clause-advances : goal.returns-in-Ok-false-refill-clause-advances
+returns-in-Ok-false-refill-clause-advances g c =
+    let lacks = rw c.in-Ok-false.field-0-test at c.in-Ok-false.ensures in
+    let end = rw c.in-Ok-false-refill.field-0-test at c.in-Ok-false-refill.ensures.reads in
+    advances_end _ _ _ _ _ (holds_more _ _ _ lacks c.refill.ensures.stays _ _ _ c.refill.ensures.reads _ _ c.loop-fault.invariant.holds)
+    c.take_rest.result c.take_rest.ensures.some c.take_rest.ensures.none (rw (c.refill.ensures.stays, end.answer.0) lacks.within) end.answer.1

@@ -5,13 +5,12 @@ use Rattle.line_text.specs.Reading.{max_line}
 use Rattle.line_text.proofs.AdvancesLemmas.{Holds}
 use Rattle.line_text.proofs.lines.Lines.read_line.Given as goal
 
-abbrev pub invariant-loop-self : goal.invariant-loop-self
-invariant-loop-self g l = record {
+abbrev pub invariant-loop-fault : goal.invariant-loop-fault
+invariant-loop-fault g l = record {
   holds : Holds l.fn.self l.self (g.S.Source.state l.fn.source) (g.S.Source.state l.source);
-  within : l.searched ≤ length l.self.held;
   none : l.searched ≤ first_lf l.self.held;
   source : ReadsFrom (g.S.Source.state l.fn.source) (g.S.Source.state l.source) false;
 }
 
-abbrev pub decreases-loop-self : goal.decreases-loop-self
-decreases-loop-self g l = max_line + 1 - length l.self.held
+abbrev pub decreases-loop-fault : goal.decreases-loop-fault
+decreases-loop-fault g l = max_line + 1 - length l.self.held

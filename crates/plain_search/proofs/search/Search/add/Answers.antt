@@ -1,12 +1,16 @@
-use Rattle.std.proofs.Common.{refl}
+use Rattle.std.proofs.Common.{[], refl}
 use Rattle.std.proofs.lemmas.Bool.{false≢true}
-use Rattle.plain_search.proofs.AddsLemmas.{adds_nothing, adds_last}
+use Rattle.std.proofs.lemmas.List.Elements.{All-nil, All-push}
+use Rattle.plain_search.specs.Search.{IsCovered}
+use Rattle.plain_search.proofs.PrunesLemmas.{adds_aside, adds_last}
 use Rattle.plain_search.proofs.search.Search.add.Goals as goal
 
 pub returns-then-covers-clause-waiting : goal.returns-then-covers-clause-waiting
-returns-then-covers-clause-waiting c = adds_nothing _ _ _ _ c.args.spot.now (c.if-covers.ensures.0 refl)
+returns-then-covers-clause-waiting c =
+    adds_aside _ _ _ _ _ (All-push (IsCovered _ _ _ _) [] c.args.spot.now (All-nil (IsCovered _ _ _ _))
+    (c.if-covers.ensures.0 refl))
 
 pub returns-clause-waiting : goal.returns-clause-waiting
 returns-clause-waiting c =
-    adds_last c.args.query.now.to.0 c.args.query.now.limit c.args.self.now.permanent.items c.args.self.now.waiting.items c.take_out.new.spots.items
-    c.push.new.self.items c.args.spot.now (λ covered. false≢true (c.if-covers.ensures.1 covered)) c.take_out.ensures c.in_ok-push.ensures.items
+    rw c.in_ok-push.ensures.items
+    (adds_last _ _ _ _ _ c.args.spot.now (λ covered. false≢true (c.if-covers.ensures.1 covered)) c.take_out.ensures)

@@ -2,7 +2,8 @@
 //! gives out at once all of those whose cost no waiting cost dominates.
 #![tactic(auto)]
 
-mod block;
+mod extraction;
+mod order;
 mod queue;
 mod shadow;
 mod steps;

@@ -1,0 +1,4 @@
+mod ExtractionLemmas
+mod OrderLemmas
+mod RetainedLemmas
+mod ShadowLemmas

@@ -14,6 +14,10 @@ module _ {D : ℕ} where
   abbrev pub SpotLess : CompactSpot D → CompactSpot D → Type 0
   SpotLess a b = LexLess a.cost.0 b.cost.0 ⊎ ((a.cost.0 ≡ b.cost.0) × (a.node.0 < b.node.0))
 
+  -- no spot comes before one that stands before it in the list
+  abbrev pub AreSorted : List (CompactSpot D) → Type 0
+  AreSorted = AllPairs (λ a b. ¬ SpotLess b a)
+
   -- the spots of a queue ascend, and their costs have two to four components
   pub record IsQueue (spots : List (CompactSpot D)) : Type 0 where
     pub two : min_criteria ≤ D

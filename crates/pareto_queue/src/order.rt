@@ -1,5 +1,5 @@
 ghost use Rattle.std.specs.Prelude.{◌≡◌, ◌↔◌, AllPairs, Contains, IfErr, IfOk, IsTrue, Some, slice_get};
-ghost use Rattle.pareto_queue.specs.Queues.{IsGap, SpotLess};
+ghost use Rattle.pareto_queue.specs.Queues.{AreSorted, IsGap, SpotLess};
 
 use compact_labels::CompactSpot;
 
@@ -15,9 +15,21 @@ pub(crate) fn place_of<const D: usize>(
     spots.binary_search(spot)
 }
 
-/// Whether the spot is one of the list.
-pub(crate) fn is_among<const D: usize>(spots: &[CompactSpot<D>], spot: &CompactSpot<D>) -> bool
-    ensures { AllPairs SpotLess spots.now → (IsTrue result ↔ Contains spots.now spot.now) }
+/// Where a spot that isn't there would stand.
+pub(crate) fn gap_of<const D: usize>(spots: &[CompactSpot<D>], spot: &CompactSpot<D>) -> usize
+    requires ascending { AllPairs SpotLess spots.now }
+    requires new { ¬ Contains spots.now spot.now }
+    ensures { IsGap spots.now spot.now result }
 {
-    spots.binary_search(spot).is_ok()
+    match place_of(spots, spot) {
+        Ok(at) => at,
+        Err(at) => at,
+    }
+}
+
+/// Whether the spot isn't one of the list.
+pub(crate) fn is_absent<const D: usize>(spots: &[CompactSpot<D>], spot: &CompactSpot<D>) -> bool
+    ensures { AreSorted spots.now → (IsTrue result ↔ ¬ Contains spots.now spot.now) }
+{
+    spots.binary_search(spot).is_err()
 }

@@ -1,14 +1,14 @@
 ghost use Rattle.std.specs.Prelude.{◌≡◌, ◌≢◌, ◌+◌, ◌^◌, ◌<◌, ◌≤◌, ◌↔◌, ◌⊎◌, [], ◌∷◌, length, IsTrue, IfOk, OnOk, OnErr, All, AllPairs, Contains};
 ghost use Rattle.cost_vector.specs.Costs.{AtMost, Within, max_criteria, min_criteria};
 ghost use Rattle.list_laws.specs.Sets.{Loses};
-ghost use Rattle.pareto_queue.specs.Queues.{Gains, IsDominatedBy, LosesWhere, SpotLess, TakesUndominated};
+ghost use Rattle.pareto_queue.specs.Queues.{AreSorted, Gains, IsDominatedBy, LosesWhere, TakesUndominated};
 
 use crate::Steps;
 use crate::extraction::extract;
-use crate::order::{is_among, place_of};
+use crate::order::{gap_of, is_absent, place_of};
 use crate::shadow::is_dominated;
 use compact_labels::{CompactCost, CompactSpot};
-use cost_vector::{Limit, OutOfMemory};
+use cost_vector::{Cost, Limit, OutOfMemory};
 use std::alloc::Global;
 use std::marker::Model;
 use std::mem;
@@ -73,10 +73,7 @@ impl<const D: usize> Queue<D> {
         ensures put { OnOk result (Gains self.old (spot.entry ∷ []) self.new) }
         ensures same { OnErr result (self.new ≡ self.old) }
     {
-        let at = match place_of(&self.spots, &spot) {
-            Ok(at) => at,
-            Err(at) => at,
-        };
+        let at = gap_of(&self.spots, &spot);
         self.spots.insert(at, spot)?;
         Ok(())
     }
@@ -121,9 +118,9 @@ impl<const D: usize> Queue<D> {
         self.rest.sort_unstable();
         let gone = &self.rest;
         self.spots.retain(|spot| -> bool
-            ensures { AllPairs SpotLess gone.entry.now.items → (IsTrue result ↔ ¬ Contains gone.entry.now.items spot.now) }
+            ensures { AreSorted gone.entry.now.items → (IsTrue result ↔ ¬ Contains gone.entry.now.items spot.now) }
         {
-            !is_among(gone, spot)
+            is_absent(gone, spot)
         });
         Ok(())
     }
@@ -144,11 +141,10 @@ impl<const D: usize> Queue<D> {
         requires { length limit.now ≡ D }
         ensures { LosesWhere (λ s. ¬ Within limit.now s.cost.0) self.old self.new }
     {
-        let most = greatest_within(limit);
         self.spots.retain(|spot| -> bool
-            ensures { IsTrue result ↔ AtMost spot.now.cost.0 most.0 }
+            ensures { IsTrue result ↔ Within limit.entry.now spot.now.cost.0 }
         {
-            spot.cost.at_most(&most)
+            is_within(limit, &spot.cost)
         });
     }
 
@@ -170,14 +166,13 @@ impl<const D: usize> Queue<D> {
     }
 }
 
-/// The greatest cost that is within the limit.
-fn greatest_within<const D: usize>(limit: &Limit) -> CompactCost<D>
-    requires { length limit.now ≡ D }
-    ensures { (c : _) → All (λ x. x < 2 ^ 64) c → (AtMost c result.0 ↔ Within limit.now c) }
+/// Whether the cost is within the limit.
+fn is_within<const D: usize>(limit: &Limit, cost: &CompactCost<D>) -> bool
+    ensures { IsTrue result ↔ Within limit.now cost.now.0 }
 {
-    let mut most = [u64::MAX; D];
-    for (i, component) in most.iter_mut().enumerate() {
-        *component = limit.place(i).unwrap_or(u64::MAX);
+    let components: &[u64] = &cost.0;
+    if limit.count() != components.len() {
+        return false;
     }
-    CompactCost(most)
+    limit.holds(&Cost::of_numbers(components))
 }

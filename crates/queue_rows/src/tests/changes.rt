@@ -9,11 +9,13 @@ use std::marker::Brand;
 use std::sync::ledger::{Blank, Ledger};
 use std::test::Fail;
 
-/// A queue of these spots, each given as its cost and its node.
-fn queue_of(alloc: Global, spots: &[[u64; 3]]) -> Result<Queue<2>, OutOfMemory> {
+/// A queue of spots at nodes 1, 2 and so on, of these costs.
+fn queue_of(alloc: Global, costs: &[[u64; 2]]) -> Result<Queue<2>, OutOfMemory> {
     let mut queue = Queue::new(alloc);
-    for &[first, second, node] in spots {
-        wait(&mut queue, spot([first, second], node as u32))?;
+    let mut node = 0;
+    for cost in costs {
+        node = u32::min(node, 999) + 1;
+        wait(&mut queue, spot(*cost, node))?;
     }
     Ok(queue)
 }
@@ -37,12 +39,12 @@ fn taken<L: Ledger>(
 #[test]
 fn takes_equal_costs_together(rt: HostRuntime) -> Result<(), Fail> {
     let alloc = rt.alloc();
-    let mut queue = queue_of(alloc, &[[4, 4, 9], [5, 1, 1], [4, 4, 2], [4, 5, 3], [4, 4, 5]])?;
+    let mut queue = queue_of(alloc, &[[4, 4], [5, 1], [4, 4], [4, 5], [4, 4]])?;
     let first = taken::<Brand>(alloc, Blank::new(1), &mut queue)?;
-    let wanted = [spot([4, 4], 2), spot([4, 4], 5), spot([4, 4], 9), spot([5, 1], 1)];
+    let wanted = [spot([4, 4], 1), spot([4, 4], 3), spot([4, 4], 5), spot([5, 1], 2)];
     assert_eq!(rt; first.as_slice(), wanted.as_slice(), "the first round");
     let second = taken::<Brand>(alloc, Blank::new(1), &mut queue)?;
-    assert_eq!(rt; second.as_slice(), [spot([4, 5], 3)].as_slice(), "the second");
+    assert_eq!(rt; second.as_slice(), [spot([4, 5], 4)].as_slice(), "the second");
     assert!(rt; queue.is_empty());
     Ok(())
 }
@@ -65,7 +67,7 @@ fn removes_from_each_place(rt: HostRuntime) -> Result<(), Fail> {
 #[test]
 fn removes_many(rt: HostRuntime) -> Result<(), Fail> {
     let alloc = rt.alloc();
-    let mut queue = queue_of(alloc, &[[1, 9, 1], [2, 8, 2], [3, 7, 3], [4, 6, 4]])?;
+    let mut queue = queue_of(alloc, &[[1, 9], [2, 8], [3, 7], [4, 6]])?;
     queue.remove_all(&[spot([4, 6], 4), spot([5, 5], 5), spot([1, 9], 1), spot([4, 6], 4)])?;
     let left = taken::<Brand>(alloc, Blank::new(1), &mut queue)?;
     assert_eq!(rt; left.as_slice(), [spot([2, 8], 2), spot([3, 7], 3)].as_slice());
@@ -75,7 +77,7 @@ fn removes_many(rt: HostRuntime) -> Result<(), Fail> {
 #[test]
 fn drops_only_what_is_dominated_or_beyond(rt: HostRuntime) -> Result<(), Fail> {
     let alloc = rt.alloc();
-    let mut queue = queue_of(alloc, &[[1, 9, 1], [2, 8, 2], [2, 9, 3], [4, 6, 4], [6, 1, 5]])?;
+    let mut queue = queue_of(alloc, &[[1, 9], [2, 8], [2, 9], [4, 6], [6, 1]])?;
     queue.drop_dominated(&[CompactCost([2, 8]), CompactCost([9, 9])]);
     assert_eq!(rt; queue.len(), 4, "a cost equal to a given one stays");
     queue.drop_beyond(&Limit::of_places(&[Some(4), Some(8)]));

@@ -1,11 +1,14 @@
-ghost use Rattle.std.specs.Prelude.{◌<◌, ◌≢◌, AllPairs, IfOk};
+ghost use Rattle.std.specs.Prelude.{◌≡◌, ◌<◌, ◌≤◌, ◌≢◌, AllPairs, IfOk};
+ghost use Rattle.cost_vector.specs.Costs.{max_criteria};
 
 use compact_labels::{CompactCost, CompactSpot};
 use cost_vector::{NodeNo, OutOfMemory};
 use pareto_queue::Queue;
 use std::alloc::Global;
 
-pub(super) fn spot<const D: usize>(cost: [u64; D], node: u32) -> CompactSpot<D> {
+pub(super) fn spot<const D: usize>(cost: [u64; D], node: u32) -> CompactSpot<D>
+    ensures { result.node.0 ≡ node }
+{
     CompactSpot {
         cost: CompactCost(cost),
         node: NodeNo(node),
@@ -39,7 +42,8 @@ pub(super) fn draw_spots<const D: usize>(
     nodes: u32,
     below: u64,
 ) -> Result<Vec<CompactSpot<D>>, OutOfMemory>
-    requires { 0 < below }
+    requires drawn { 0 < below }
+    requires four { D ≤ max_criteria }
     ensures { IfOk result (λ v. AllPairs ◌≢◌ v.items) }
 {
     let mut state = 20131;
@@ -55,7 +59,9 @@ pub(super) fn draw_spots<const D: usize>(
 pub(super) fn wait<const D: usize>(
     queue: &mut Queue<D>,
     spot: CompactSpot<D>,
-) -> Result<bool, OutOfMemory> {
+) -> Result<bool, OutOfMemory>
+    requires { D ≤ max_criteria }
+{
     let there = queue.remove(&spot);
     queue.put(spot)?;
     Ok(there)

@@ -1,33 +1,20 @@
 -- Pieces of a round, drawn in any order: their events complete the round.
 use Rattle.std.proofs.Common.{◌≡◌, ◌≢◌, ◌↔◌, ◌⊎◌, ℕ, ◌<◌, ◌+◌, zero, suc, List, [], ◌∷◌, ◌++◌, length, map, get_or}
-use Rattle.std.proofs.Common.{inl, inr, refl, sym, ap, ap₂, subst, ◌∙◌, arith, add-one}
+use Rattle.std.proofs.Common.{refl, sym, ap, ap₂, subst, ◌∙◌, arith, add-one}
 use Rattle.std.specs.Prelude.{AllPairs, Contains, IsPermutation}
 use Rattle.std.specs.List.{flat_map, range_with_len, AllZip}
 use Rattle.std.proofs.lemmas.List.{map-append}
-use Rattle.std.proofs.lemmas.List.Elements.{Contains-append_right}
 use Rattle.std.proofs.lemmas.List.Sorted.{IsPermutation-trans}
-use Rattle.list_laws.proofs.Members.{in_none, cases_in}
-use Rattle.list_laws.proofs.Pairs.{pairs_none, pairs_rest, pair_with_first}
+use Rattle.list_laws.proofs.Members.{in_none}
+use Rattle.list_laws.proofs.Pairs.{pairs_none}
 use Rattle.road_network.specs.Network.{Network}
 use Rattle.list_laws.specs.Sets.{ListsOnce}
 use Rattle.event_machine.specs.Machine.{Label, SearchState}
 use Rattle.event_machine.specs.Events.{Event, take, drop, relax, merge}
 use Rattle.event_machine.specs.Orders.{Completes}
 use Rattle.event_machine.specs.Pieces.{joined, IsRelaxOf, relaxes, AreRelaxPieces, AreMergePieces, merges_of, AreDoneInPieces}
-use Rattle.list_laws.proofs.OnceLaws.{in_append, once_as, pairs_append, lists_in_any_order, flat_in_any_order, range_once}
+use Rattle.list_laws.proofs.OnceLaws.{in_append, once_apart, lists_append, once_as, lists_in_any_order, flat_in_any_order, range_once}
 use Rattle.bulk_rounds.proofs.CompletesLaws.{IsRelaxing, mergings, completes_in_halves}
-
--- both parts of a list without repeats have none, and share nothing
-once_apart : {X : Type 0} (xs ys : List X) → AllPairs ◌≢◌ (xs ++ ys) → AllPairs ◌≢◌ ys × ((x : X) → Contains xs x → ¬ Contains ys x)
-once_apart [] ys distinct = (distinct, λ x h. absurd (in_none x h))
-once_apart (z ∷ zs) ys distinct =
-    let (second, across) = once_apart zs ys (pairs_rest ◌≢◌ z (zs ++ ys) distinct) in (
-      second,
-      λ x h there. elim (cases_in z zs x h) [
-        | inl e ↦ pair_with_first ◌≢◌ z (zs ++ ys) distinct x (Contains-append_right zs ys x there) (sym e)
-        | inr later ↦ across x later there
-      ],
-    )
 
 -- ---- pieces by their numbers
 
@@ -75,15 +62,11 @@ module _ (s : SearchState) where
   relaxes_joined (c ∷ cs) [] apart zipped = absurd zipped
   relaxes_joined (c ∷ cs) (p ∷ ps) apart zipped =
       let (apart_rest, across) = once_apart c (joined cs) apart in
-      let rest = relaxes_joined cs ps apart_rest zipped.1 in
-      let first = once_as (IsRelaxOf s c) (λ event. Contains c (source event) × IsRelaxing s event) p (relax_of c) zipped.0 in
-      record {
-        exact = λ event. both (in_append p (joined ps) event) (in_append c (joined cs) (source event)) (first.exact event) (rest.exact event);
-        once = pairs_append ◌≢◌ p (joined ps) first.once rest.once (λ a b h k e.
-            across (source b) (subst (λ d. Contains c (source d)) e ((first.exact a).0 h).0) ((rest.exact b).0 k).0);
-      } where
-        both : {W V A B C D H : Type 0} → (W ↔ (A ⊎ B)) → (V ↔ (C ⊎ D)) → (A ↔ (C × H)) → (B ↔ (D × H)) → (W ↔ (V × H))
-        both f g h k = grind arith
+      lists_append (λ event. Contains c (source event) × IsRelaxing s event) (λ event. Contains (joined cs) (source event) × IsRelaxing s event)
+      (λ event. Contains (c ++ joined cs) (source event) × IsRelaxing s event) p (joined ps) (λ event. both (in_append c (joined cs) (source event)))
+      (λ event h k. across (source event) h.0 k.0) (once_as (IsRelaxOf s c) _ p (relax_of c) zipped.0) (relaxes_joined cs ps apart_rest zipped.1) where
+        both : {V C D H : Type 0} → (V ↔ (C ⊎ D)) → ((V × H) ↔ ((C × H) ⊎ (D × H)))
+        both g = grind arith
 
   relaxes_done : (cut : List (List Label)) (pieces : List (List Event)) → AreRelaxPieces s cut pieces → ListsOnce (IsRelaxing s) (joined pieces)
   relaxes_done cut pieces are = once_as (λ event. Contains (joined cut) (source event) × IsRelaxing s event) (IsRelaxing s) (joined pieces)

@@ -1,25 +1,31 @@
--- No walk gets past the labels that are still to be worked on, so a label that may be taken is final.
-use Rattle.std.proofs.Common.{◌≡◌, ℕ, List, [], ◌∷◌, ◌++◌, length, replicate, reverse, ◌≤◌, ◌⊎◌, inl, inr, refl, sym, ap, subst, ◌∙◌}
-use Rattle.std.specs.Prelude.{slice_index, Contains}
+-- No walk gets past the labels that are still to be worked on, so a label that may be taken is final; and how great the costs of labels can be.
+use Rattle.std.proofs.Common.{◌≡◌, ℕ, List, [], ◌∷◌, ◌++◌, length, replicate, reverse, ◌≤◌, ◌⊎◌, inl, inr, refl, sym, ap, subst, ◌∙◌, ◌≢◌, zero, suc, ◌+◌, ◌<◌}
+use Rattle.std.proofs.Common.{sum, arith}
+use Rattle.std.specs.Prelude.{slice_index, Contains, AllPairs}
 use Rattle.std.proofs.lemmas.List.{reverse-append}
+use Rattle.std.proofs.lemmas.Bool.{cases_lt}
 use Rattle.cost_vector.specs.Costs.{AtMost, Dominates, Within, plus}
-use Rattle.cost_vector.proofs.Vectors.{AtMost-refl, AtMost-trans, AtMost-plus, AtMost-Dominates, Dominates-AtMost, Dominates-trans, Within-AtMost}
-use Rattle.cost_vector.proofs.Vectors.{plus_cancel, cases_same}
-use Rattle.road_network.specs.Network.{Leads}
-use Rattle.road_network.specs.Walks.{Arrives, IsWalk}
+use Rattle.cost_vector.proofs.Vectors.{AtMost-refl, AtMost-trans, AtMost-plus, AtMost-Dominates, Dominates-AtMost, Within-AtMost, plus_cancel}
+use Rattle.cost_vector.proofs.Vectors.{cases_same, sum-Dominates}
+use Rattle.list_laws.specs.Sets.{HasMoreThan}
+use Rattle.list_laws.proofs.SetLaws.{none_of_empty, more_by_list}
+use Rattle.list_laws.proofs.Members.{in_none, in_one, cases_in}
+use Rattle.list_laws.proofs.Pairs.{pairs_none, pairs_cons}
+use Rattle.road_network.specs.Network.{Leads, AreSmall}
+use Rattle.road_network.specs.Walks.{Arrives, IsWalk, IsSumOf}
 use Rattle.road_network.specs.Best.{IsBest, IsBackwardLeast}
 use Rattle.road_network.specs.Answers.{IsRelevant}
-use Rattle.road_network.proofs.WalkLaws.{leads_by_vector, length_of_arrival, length_of_walk, arrives_by_walk, ends_by_last}
+use Rattle.road_network.proofs.WalkLaws.{leads_by_vector, length_of_arrival, length_of_walk, walk_on, arrives_by_walk, ends_by_last}
 use Rattle.road_network.proofs.BestLaws.{grows_along, best_before}
 use Rattle.road_network.proofs.BackwardLaws.{none_at_zero, with_last_arc}
 use Rattle.road_network.proofs.Reached.{leads_alike}
+use Rattle.road_network.proofs.SumLaws.{sum_of_none, sum_of_more, sum_of_most, small_by}
 use Rattle.event_machine.specs.Machine.{Task, IsTask, Label, SearchState, settled, dropped, waiting, IsEntry, IsActive, waits, is_candidate, has_arc}
-use Rattle.event_machine.specs.Machine.{HasSettled, IsBeatenAtTarget, Follows}
+use Rattle.event_machine.specs.Machine.{HasSettled, IsBeatenAtTarget, Follows, start_label}
 use Rattle.event_machine.specs.Events.{MayTake}
-use Rattle.event_machine.specs.Orders.{IsArrival, came, comes}
+use Rattle.event_machine.specs.Orders.{IsArrival}
 use Rattle.event_machine.specs.Rounds.{NoneStays}
-use Rattle.event_machine.specs.Laws.{HasLeastArc}
-use Rattle.list_laws.proofs.SetLaws.{none_of_empty}
+use Rattle.event_machine.specs.Laws.{HasLeastArc, IsKnown}
 use Rattle.event_machine.proofs.Sound.{IsCovered, IsSound, at_start, follows}
 
 -- some settled label of the node v costs at most c
@@ -36,9 +42,19 @@ pub record HasPendingBelow (s : SearchState) (c : List ℕ) : Type 0 where
   pub at_most : AtMost label.cost c
 
 module _ (task : Task) (is : IsTask task) (s : SearchState) (sound : IsSound task s) where
+  -- each label has a walk of its cost
+  walked : (y : Label) → IsKnown s y → (p : List ℕ) × IsWalk task.network task.start p y.node y.cost
+  walked y known = elim (sound.founded y known) [
+    | at_start e ↦ subst (λ (m : Label). (p : List ℕ) × IsWalk task.network task.start p m.node m.cost) (sym e) ([], (is.start, refl, refl))
+    | follows e there f ↦
+        let from = sound.least e there in
+        let on = walk_on task.network is.network from.walk task.start e.node y.node y.arc e.cost f.by from.least.walk f.leads in
+        (from.walk ++ y.arc ∷ [], subst (IsWalk task.network task.start (from.walk ++ y.arc ∷ []) y.node) (sym f.cost) on)
+  ]
+
   -- the cost of an entry has a place for each criterion
   length_of_entry : (e : Label) → IsEntry s e → length e.cost ≡ task.network.criteria
-  length_of_entry e entry = let (p, walk) = sound.walked e (inl entry) in length_of_walk task.network is.network p task.start e.node e.cost walk
+  length_of_entry e entry = let (p, walk) = walked e (inl entry) in length_of_walk task.network is.network p task.start e.node e.cost walk
 
   -- what follows a settled label costs more
   pub grown_from_settled : (e x : Label) → Contains s.settled e → Follows task.network e x → Dominates e.cost x.cost
@@ -67,8 +83,8 @@ module _ (task : Task) (is : IsTask task) (s : SearchState) (sound : IsSound tas
     at (waiting, here) = inr (record { label = by.entry; pending = inl (waits here); at_most = less })
 
   arrival_below : (x : Label) (c : List ℕ) → AtMost x.cost c → IsArrival task.network s x → HasPendingBelow s c
-  arrival_below x c below (came here) = record { label = x; pending = inl (is_candidate here); at_most = below }
-  arrival_below x c below (comes e there f) =
+  arrival_below x c below (inl here) = record { label = x; pending = inl (is_candidate here); at_most = below }
+  arrival_below x c below (inr (e, there, f)) =
       let less = grown_from_settled e x (sound.paired e x.arc there).0 f in
       record { label = e; pending = inl (has_arc x.arc there); at_most = AtMost-trans e.cost x.cost c less.at_most below }
 
@@ -105,12 +121,19 @@ module _ (task : Task) (is : IsTask task) (s : SearchState) (sound : IsSound tas
   frontier : (p : List ℕ) (v : ℕ) (c : List ℕ) → IsWalk task.network task.start p v c → HasSettledBelow s v c ⊎ HasPendingBelow s c
   frontier p v c walk = arriving_below (reverse p) v c (arrives_by_walk task.network is.network p task.start v c walk)
 
+  -- what costs at most as much as a cost within the limit that is unbeaten at the target is so too
+  not_useless : (b c : List ℕ) → AtMost b c → Within task.limit c → ¬ IsBeatenAtTarget task s c → ¬ ((¬ Within task.limit b) ⊎ IsBeatenAtTarget task s b)
+  not_useless b c below within unbeaten = elim [
+    | inl beyond ↦ beyond (Within-AtMost task.limit b c below within)
+    | inr h ↦ unbeaten (record { by = h.by; settled = h.settled; node = h.node; dominates = Dominates-AtMost h.by.cost b c h.dominates below })
+  ]
+
   -- a best cost is that of a settled label, if one costs at most as much
   settled_at_best : (v : ℕ) (c : List ℕ) → IsBest task.network task.start v c → HasSettledBelow s v c → HasSettled s v c
   settled_at_best v c best e = elim (cases_same e.label.cost c) [
     | inl same ↦ record { label = e.label; settled = e.settled; node = e.node; cost = same }
     | inr other ↦
-        let (p, walk) = sound.walked e.label (inl (settled, e.settled)) in
+        let (p, walk) = walked e.label (inl (settled, e.settled)) in
         absurd (best.nondominated p e.label.cost (subst (λ u. IsWalk task.network task.start p u e.label.cost) e.node walk)
         (record { at_most = e.at_most; differs = other }))
   ]
@@ -119,19 +142,15 @@ module _ (task : Task) (is : IsTask task) (s : SearchState) (sound : IsSound tas
 
   module _ (l : Label) (may : MayTake task s l) where
     -- a walk whose cost dominates its cost has a settled label below it at its end
-    nothing_below : (p : List ℕ) (v : ℕ) (b : List ℕ) → IsWalk task.network task.start p v b → Dominates b l.cost → HasSettledBelow s v b
+    nothing_below : (p : List ℕ) (v : ℕ) (b : List ℕ) → IsWalk task.network task.start p v b → Dominates b l.cost
+        → (e : HasSettledBelow s v b) × Dominates e.label.cost l.cost
     nothing_below p v b walk less = elim (frontier p v b walk) [
-      | inl below ↦ below
+      | inl below ↦ (below, AtMost-Dominates below.label.cost b l.cost below.at_most less)
       | inr y ↦
           let dominates = AtMost-Dominates y.label.cost b l.cost y.at_most less in
           elim y.pending [
             | inl active ↦ absurd (may.undominated y.label active dominates)
-            | inr there ↦ elim (sound.useless y.label there) [
-              | inl beyond ↦ absurd (beyond (Within-AtMost task.limit y.label.cost l.cost dominates.at_most may.within))
-              | inr h ↦
-                  let too = Dominates-trans h.by.cost y.label.cost l.cost h.dominates dominates in
-                  absurd (may.unbeaten (record { by = h.by; settled = h.settled; node = h.node; dominates = too }))
-            ]
+            | inr there ↦ absurd (not_useless y.label.cost l.cost dominates.at_most may.within may.unbeaten (sound.useless y.label there))
           ]
     ]
 
@@ -141,10 +160,9 @@ module _ (task : Task) (is : IsTask task) (s : SearchState) (sound : IsSound tas
 
     taken_is_best : IsBest task.network task.start l.node l.cost
     taken_is_best = record {
-      reached = sound.walked l (inl (waiting, may.waits));
+      reached = walked l (inl (waiting, may.waits));
       nondominated = λ p b walk less.
-          let below = nothing_below p l.node b walk less in
-          let dominates = AtMost-Dominates below.label.cost b l.cost below.at_most less in
+          let (below, dominates) = nothing_below p l.node b walk less in
           dominates.differs (ap (λ (m : Label). m.cost) (alone_there below.label (settled, below.settled) below.node dominates.at_most));
     }
 
@@ -153,8 +171,7 @@ module _ (task : Task) (is : IsTask task) (s : SearchState) (sound : IsSound tas
       best = taken_is_best;
       within = may.within;
       undominated = λ b best less.
-          let below = nothing_below best.reached.0 task.target b best.reached.1 less in
-          let dominates = AtMost-Dominates below.label.cost b l.cost below.at_most less in
+          let (below, dominates) = nothing_below best.reached.0 task.target b best.reached.1 less in
           may.unbeaten (record { by = below.label; settled = below.settled; node = below.node; dominates = dominates });
     }
 
@@ -167,13 +184,13 @@ module _ (task : Task) (is : IsTask task) (s : SearchState) (sound : IsSound tas
         let long = length_of_walk task.network is.network q task.start walk.at walk.before walk.walk in
         let less = subst (Dominates walk.before) (sym walk.cost)
         (grows_along task.network is.network k walk.at l.node walk.by walk.before walk.leads long) in
-        let e = settled_at_best walk.at walk.before best (nothing_below q walk.at walk.before walk.walk less) in
+        let e = settled_at_best walk.at walk.before best (nothing_below q walk.at walk.before walk.walk less).0 in
         let x : Label = record { node = l.node; cost = l.cost; arc = k } in
         let leads = subst (λ u. Leads task.network k u walk.by l.node) (sym e.node) walk.leads in
         let f : Follows task.network e.label x = record { by = walk.by; leads = leads; cost = walk.cost ∙ ap (λ b. plus b walk.by) (sym e.cost) } in
         elim (sound.expanded e.label x e.settled f) [
-          | inl (came there) ↦ absurd (may.alone x there (record { node = refl; cost = refl }))
-          | inl (comes d there g) ↦ absurd (may.undominated d (has_arc k there) (grown_from_settled d x (sound.paired d k there).0 g))
+          | inl (inl there) ↦ absurd (may.alone x there (record { node = refl; cost = refl }))
+          | inl (inr (d, there, g)) ↦ absurd (may.undominated d (has_arc k there) (grown_from_settled d x (sound.paired d k there).0 g))
           | inr by ↦
               let same = alone_there by.entry by.is_entry by.covers.node by.covers.cost in
               subst (λ (m : Label). m.arc ≤ k) same (by.covers.arc (ap (λ (m : Label). m.cost) same))
@@ -183,10 +200,7 @@ module _ (task : Task) (is : IsTask task) (s : SearchState) (sound : IsSound tas
     taken_is_least = elim (sound.founded l (inl (waiting, may.waits))) [
       | at_start e ↦ subst (HasLeastArc task.network task.start) (sym e) (record {
         walk = [];
-        least = record {
-          walk = (is.start, refl, refl);
-          least = λ q walk other. absurd (other (none_at_zero task.network is.network q task.start task.start walk));
-        };
+        least = grind (arith, none_at_zero);
         arc = refl;
       })
       | follows e there f ↦
@@ -202,25 +216,67 @@ module _ (task : Task) (is : IsTask task) (s : SearchState) (sound : IsSound tas
 
   -- ---- all relevant pairs
 
-  -- what is useless to go on from costs no less than a relevant pair
-  not_useless : (v : ℕ) (c b : List ℕ) → IsRelevant task.network task.start task.target task.limit v c → AtMost b c
-      → ¬ ((¬ Within task.limit b) ⊎ IsBeatenAtTarget task s b)
-  not_useless v c b relevant below = elim [
-    | inl beyond ↦ beyond (Within-AtMost task.limit b c below relevant.within)
-    | inr h ↦
-        let best = subst (λ t. IsBest task.network task.start t h.by.cost) h.node (sound.relevant h.by h.settled).best in
-        relevant.undominated h.by.cost best (Dominates-AtMost h.by.cost b c h.dominates below)
-  ]
-
   -- where all that waits may be dropped, and nothing else is to be done, each relevant pair is settled
   pub all_settled : s.candidates ≡ [] → s.unrelaxed ≡ [] → NoneStays task s
       → (v : ℕ) (c : List ℕ) → IsRelevant task.network task.start task.target task.limit v c → HasSettled s v c
   all_settled no_candidate no_arc none v c relevant = elim (frontier relevant.best.reached.0 v c relevant.best.reached.1) [
     | inl e ↦ settled_at_best v c relevant.best e
-    | inr y ↦ absurd (not_useless v c y.label.cost relevant y.at_most (elim y.pending [
-      | inl (waits here) ↦ (none y.label here).useless
-      | inl (is_candidate here) ↦ absurd (none_of_empty s.candidates no_candidate y.label here)
-      | inl (has_arc k here) ↦ absurd (none_of_empty s.unrelaxed no_arc (y.label, k) here)
-      | inr there ↦ sound.useless y.label there
-    ]))
+    | inr y ↦ absurd (not_useless y.label.cost c y.at_most relevant.within
+        (λ h. relevant.undominated h.by.cost (subst (λ t. IsBest task.network task.start t h.by.cost) h.node (sound.relevant h.by h.settled).best) h.dominates)
+        (elim y.pending [
+          | inl (waits here) ↦ (none y.label here).useless
+          | inl (is_candidate here) ↦ absurd (none_of_empty s.candidates no_candidate y.label here)
+          | inl (has_arc k here) ↦ absurd (none_of_empty s.unrelaxed no_arc (y.label, k) here)
+          | inr there ↦ sound.useless y.label there
+        ]))
+  ]
+
+-- the settled labels on the walk to l, itself included, are different ones, and l's cost is a sum of as many weights as others are there
+record HasChain (s : SearchState) (l : Label) : Type 0 where
+  pub before : List Label
+  pub distinct : AllPairs ◌≢◌ (l ∷ before)
+  pub each : (x : Label) → Contains (l ∷ before) x → Contains s.settled x × (sum x.cost ≤ sum l.cost)
+  pub bound : IsSumOf (length before) l.cost
+
+module _ (task : Task) (is : IsTask task) (small : AreSmall task.network.states) (s : SearchState) (sound : IsSound task s) where
+  sum_at_start : (y : Label) → y ≡ start_label task → IsSumOf 0 y.cost
+  sum_at_start y e = subst (λ (m : Label). IsSumOf 0 m.cost) (sym e) (sum_of_none task.network.criteria)
+
+  sum_on : (n : ℕ) (e x : Label) → Follows task.network e x → IsSumOf n e.cost → IsSumOf (suc n) x.cost
+  sum_on n e x f bound = sum_of_most (n + 1) (suc n) x.cost (omega arith)
+      (subst (IsSumOf (n + 1)) (sym f.cost) (sum_of_more n e.cost f.by bound (small_by task.network small x.arc e.node x.node f.by f.leads)))
+
+  chain : (n : ℕ) (l : Label) → sum l.cost < n → Contains s.settled l → HasChain s l
+  chain zero l less there = absurd (omega arith)
+  chain (suc n) l less there = elim (sound.founded l (inl (settled, there))) [
+    | at_start e ↦ record {
+      before = [];
+      distinct = pairs_cons ◌≢◌ l [] (λ x none. absurd (in_none x none)) (pairs_none ◌≢◌);
+      each = λ x here. subst (λ (m : Label). Contains s.settled m × (sum m.cost ≤ sum l.cost)) (sym (in_one l x here)) (there, omega arith);
+      bound = sum_at_start l e;
+    }
+    | follows e e_there f ↦
+        let grown = sum-Dominates e.cost l.cost (grown_from_settled task is s sound e l e_there f) in
+        let rest = chain n e (omega arith) e_there in
+        record {
+          before = e ∷ rest.before;
+          distinct = pairs_cons ◌≢◌ l (e ∷ rest.before)
+              (λ x here same. omega (arith, grown, (rest.each x here).1, ap (λ (m : Label). sum m.cost) same)) rest.distinct;
+          each = λ x here. elim (cases_in l (e ∷ rest.before) x here) [
+            | inl same ↦ subst (λ (m : Label). Contains s.settled m × (sum m.cost ≤ sum l.cost)) (sym same) (there, omega arith)
+            | inr later ↦ let old = rest.each x later in (old.0, omega (arith, grown, old.1))
+          ];
+          bound = sum_on (length rest.before) e l f rest.bound;
+        }
+  ]
+
+  pub known_is_bounded : (y : Label) (n : ℕ) → ¬ HasMoreThan n s.settled → IsKnown s y → IsSumOf n y.cost
+  known_is_bounded y n few known = elim (sound.founded y known) [
+    | at_start e ↦ sum_of_most 0 n y.cost (omega arith) (sum_at_start y e)
+    | follows e there f ↦
+        let way = chain (suc (sum e.cost)) e (omega arith) there in
+        elim (cases_lt n (length (e ∷ way.before))) [
+          | inl more ↦ absurd (few (more_by_list n s.settled (e ∷ way.before) way.distinct (λ x here. (way.each x here).0) more))
+          | inr most ↦ sum_of_most (suc (length way.before)) n y.cost (omega (arith, most)) (sum_on (length way.before) e y f way.bound)
+        ]
   ]

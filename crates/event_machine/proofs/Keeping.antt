@@ -1,42 +1,33 @@
 -- Each state is sound to which events lead.
-use Rattle.std.proofs.Common.{◌≡◌, ◌≢◌, ◌↔◌, ℕ, List, [], ◌∷◌, ◌++◌, ◌⊎◌, inl, inr, refl, sym, subst, ◌∙◌}
+use Rattle.std.proofs.Common.{◌≡◌, ◌≢◌, ◌↔◌, ℕ, List, [], inl, inr, refl, sym, subst, ◌∙◌}
 use Rattle.std.specs.Prelude.{Contains}
-use Rattle.cost_vector.specs.Costs.{AtMost, Dominates, Within}
+use Rattle.cost_vector.specs.Costs.{AtMost, Dominates}
 use Rattle.cost_vector.proofs.Vectors.{AtMost-Dominates}
-use Rattle.road_network.specs.Walks.{IsWalk}
 use Rattle.road_network.specs.Answers.{IsRelevant}
-use Rattle.road_network.proofs.WalkLaws.{walk_on}
 use Rattle.list_laws.proofs.SetLaws.{none_of_empty}
 use Rattle.list_laws.proofs.Members.{in_none, in_first, in_one}
 use Rattle.list_laws.proofs.Pairs.{pairs_none}
 use Rattle.event_machine.specs.Machine.{Task, IsTask, Label, IsSamePair, SearchState, start_label, start_state, Place, settled, dropped}
-use Rattle.event_machine.specs.Machine.{waiting, entries_at, IsEntry, IsActive, waits, is_candidate, has_arc, HasSettled, IsBeatenAtTarget, Follows}
+use Rattle.event_machine.specs.Machine.{waiting, entries_at, IsEntry, IsActive, waits, is_candidate, has_arc, HasSettled, Follows}
 use Rattle.event_machine.specs.Events.{Event, Happens, IsSame, Runs, IsReached}
 use Rattle.event_machine.specs.Laws.{IsKnown}
-use Rattle.event_machine.proofs.Sound.{IsSound, IsFounded, at_start, follows, IsCovered, IsMet, covers_through, covered_by_itself, below_pair}
-use Rattle.event_machine.proofs.Running.{along_run}
-use Rattle.event_machine.proofs.Stepping.{Changes, IsGiven, same_changes, changes_of}
+use Rattle.event_machine.proofs.Sound.{IsSound, apart_by, IsFounded, at_start, follows, IsCovered, IsMet, covers_through, covered_by_itself, below_pair}
+use Rattle.event_machine.proofs.Running.{useless_on, along_run}
+use Rattle.event_machine.proofs.Stepping.{Changes, same_changes, changes_of}
 use Rattle.event_machine.proofs.Frontier.{grown_from_settled, taken_is_relevant, taken_is_least, all_settled}
 
 module _ (task : Task) (is : IsTask task) where
   module _ (a b : SearchState) (sound : IsSound task a) (changes : Changes task a b) where
-    known_before : (y : Label) → IsKnown b y → IsKnown a y ⊎ IsGiven task a y
-    known_before y = elim [
-      | inl entry ↦ inl (changes.entries.known y entry)
-      | inr here ↦ elim (changes.candidates y here) [ inl old ↦ inl (inr old) | inr given ↦ inr given ]
-    ]
-
-    walk_of_given : (y : Label) → IsGiven task a y → (p : List ℕ) × IsWalk task.network task.start p y.node y.cost
-    walk_of_given y given =
-        let (p, walk) = sound.walked given.from (inl (settled, given.settled)) in
-        let f = given.follows in
-        let on = walk_on task.network is.network p task.start given.from.node y.node y.arc given.from.cost f.by walk f.leads in
-        (p ++ y.arc ∷ [], subst (IsWalk task.network task.start (p ++ y.arc ∷ []) y.node) (sym f.cost) on)
+    founded_still : (y : Label) → IsKnown a y → IsFounded task b y
+    founded_still y old = elim (sound.founded y old) [ at_start e ↦ at_start e | follows e there f ↦ follows e (changes.entries.kept e there) f ]
 
     founded_after : (y : Label) → IsKnown b y → IsFounded task b y
-    founded_after y known = elim (known_before y known) [
-      | inr given ↦ follows given.from (changes.entries.kept given.from given.settled) given.follows
-      | inl old ↦ elim (sound.founded y old) [ at_start e ↦ at_start e | follows e there f ↦ follows e (changes.entries.kept e there) f ]
+    founded_after y = elim [
+      | inl entry ↦ founded_still y (changes.entries.known y entry)
+      | inr here ↦ elim (changes.candidates y here) [
+        | inl old ↦ founded_still y (inr old)
+        | inr (e, there, f) ↦ follows e (changes.entries.kept e (sound.paired e y.arc there).0) f
+      ]
     ]
 
     -- no label from which the search went on dominates a settled one
@@ -48,15 +39,15 @@ module _ (task : Task) (is : IsTask task) where
     no_better_than l there y (has_arc k here) less = no_better l y there (changes.paired y k here).0 less
     no_better_than l there y (is_candidate here) less = elim (changes.candidates y here) [
       | inl old ↦ no_better l y there (is_candidate old) less
-      | inr given ↦ no_better l given.from there given.active
-          (AtMost-Dominates given.from.cost y.cost l.cost (grown_from_settled task is a sound given.from y given.settled given.follows).at_most less)
+      | inr (e, pair, f) ↦
+          let grown = grown_from_settled task is a sound e y (sound.paired e y.arc pair).0 f in
+          no_better l e there (has_arc y.arc pair) (AtMost-Dominates e.cost y.cost l.cost grown.at_most less)
     ]
 
     no_equal : (l x : Label) → Contains b.settled l → Contains b.candidates x → ¬ IsSamePair x l
     no_equal l x there here pair = elim (changes.candidates x here) [
-      | inr given ↦
-          let less = grown_from_settled task is a sound given.from x given.settled given.follows in
-          no_better l given.from there given.active (subst (Dominates given.from.cost) pair.cost less)
+      | inr (e, arc, f) ↦
+          no_better l e there (has_arc x.arc arc) (subst (Dominates e.cost) pair.cost (grown_from_settled task is a sound e x (sound.paired e x.arc arc).0 f))
       | inl old ↦ elim (changes.settled l there) [ inl before ↦ sound.unequalled l x before old pair | inr taken ↦ taken.may.alone x old pair ]
     ]
 
@@ -72,22 +63,15 @@ module _ (task : Task) (is : IsTask task) where
     expanded_after : (e x : Label) → Contains b.settled e → Follows task.network e x → IsMet task.network b x
     expanded_after e x there f = elim (changes.settled e there) [ inr taken ↦ inl (taken.opens x f) | inl old ↦ met_after x (sound.expanded e x old f) ]
 
-    useless_after : (y : Label) → Contains b.dropped y → (¬ Within task.limit y.cost) ⊎ IsBeatenAtTarget task b y.cost
-    useless_after y there = elim (changes.useless y there) [
-      | inl beyond ↦ inl beyond
-      | inr h ↦ inr (record { by = h.by; settled = changes.entries.kept h.by h.settled; node = h.node; dominates = h.dominates })
-    ]
-
     sound_by_changes : IsSound task b
     sound_by_changes = record {
-      walked = λ y known. elim (known_before y known) [ inl old ↦ sound.walked y old | inr given ↦ walk_of_given y given ];
       founded = founded_after;
       paired = λ e k there. let pair = changes.paired e k there in (pair.1, pair.2);
       apart = changes.entries.apart;
       fresh = changes.fresh;
       started = covered_after (start_label task) sound.started;
       expanded = expanded_after;
-      useless = useless_after;
+      useless = λ y there. useless_on task a b changes.entries.kept y.cost (changes.useless y there);
       undominated = λ l y there. no_better_than l there y;
       unequalled = no_equal;
       relevant = λ l there. elim (changes.settled l there) [ inl old ↦ sound.relevant l old | inr taken ↦ taken_is_relevant task is a sound l taken.may ];
@@ -117,15 +101,11 @@ module _ (task : Task) (is : IsTask task) where
 
   pub sound_at_start : IsSound task (start_state task)
   sound_at_start = record {
-    walked = λ y known. subst (λ (m : Label). (p : List ℕ) × IsWalk task.network task.start p m.node m.cost) (sym (known_at_start y known))
-        ([], (is.start, refl, refl));
     founded = λ y known. at_start (known_at_start y known);
     paired = λ e k there. absurd (in_none (e, k) there);
-    apart = record {
-      alone = λ y z y_in z_in node below. known_at_start y (inl y_in) ∙ sym (known_at_start z (inl z_in));
-      placed = λ p q y here there. (at_start_alone p y here).0 ∙ sym (at_start_alone q y there).0;
-    };
-    fresh = record { once = pairs_none ◌≢◌; apart = λ e x there. absurd (in_none x there) };
+    apart = apart_by (start_state task) (λ p q y z y_in z_in node below.
+        ((at_start_alone p y y_in).0 ∙ sym (at_start_alone q z z_in).0, (at_start_alone p y y_in).1 ∙ sym (at_start_alone q z z_in).1));
+    fresh = record { once = pairs_none ◌≢◌; apart = λ x there. absurd (in_none x there) };
     started = covered_by_itself (start_state task) (start_label task) (waiting, in_first (start_label task) []);
     expanded = λ e x there. absurd (in_none e there);
     useless = λ y there. absurd (in_none y there);

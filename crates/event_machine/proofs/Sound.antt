@@ -5,20 +5,17 @@ use Rattle.std.proofs.lemmas.Bool.{cases_eq}
 use Rattle.cost_vector.specs.Costs.{AtMost, Dominates, Within}
 use Rattle.cost_vector.proofs.Vectors.{AtMost-refl, AtMost-trans, AtMost-antisymm, cases_same, cases_Dominates}
 use Rattle.road_network.specs.Network.{Network}
-use Rattle.road_network.specs.Walks.{IsWalk}
 use Rattle.road_network.specs.Answers.{IsRelevant}
 use Rattle.list_laws.proofs.OnceLaws.{IsTold, told_as, told_both}
 use Rattle.event_machine.specs.Machine.{Task, Label, IsSamePair, Beats, SearchState, start_label, Place, entries_at, IsEntry, IsActive}
 use Rattle.event_machine.specs.Machine.{IsBeatenAtTarget, LeadsOn, Follows}
-use Rattle.event_machine.specs.Orders.{IsArrival}
+use Rattle.event_machine.specs.Orders.{IsGiven, IsArrival}
 use Rattle.event_machine.specs.Laws.{IsKnown, HasLeastArc}
 
 -- ---- what can be told of labels
 
 pub label_by_parts : (x y : Label) → IsSamePair x y → x.arc ≡ y.arc → x ≡ y
-label_by_parts x y pair arc =
-    let made : ℕ → List ℕ → ℕ → Label = λ n c k. record { node = n; cost = c; arc = k } in
-    ap₂ (λ n c. made n c x.arc) pair.node pair.cost ∙ ap (made y.node y.cost) arc
+label_by_parts x y pair arc = grind arith
 
 pub same_pair : (x y : Label) → x ≡ y → IsSamePair x y
 same_pair x y e = record { node = ap (λ (l : Label). l.node) e; cost = ap (λ (l : Label). l.cost) e }
@@ -98,14 +95,20 @@ pub record AreApart (s : SearchState) : Type 0 where
   pub alone : (y z : Label) → IsEntry s y → IsEntry s z → y.node ≡ z.node → AtMost y.cost z.cost → y ≡ z
   pub placed : (p q : Place) (y : Label) → Contains (entries_at s p) y → Contains (entries_at s q) y → p ≡ q
 
+pub apart_by : (s : SearchState) → ((p q : Place) (y z : Label) → Contains (entries_at s p) y → Contains (entries_at s q) z
+    → y.node ≡ z.node → AtMost y.cost z.cost → (p ≡ q) × (y ≡ z)) → AreApart s
+apart_by s both = record {
+  alone = λ y z (p, y_in) (q, z_in) node below. (both p q y z y_in z_in node below).1;
+  placed = λ p q y here there. (both p q y y here there refl (AtMost-refl y.cost)).0;
+}
+
 -- each candidate stands once, and no arc that is still to be relaxed gives it again
 pub record IsFresh (net : Network) (s : SearchState) : Type 0 where
   pub once : AllPairs ◌≢◌ s.candidates
-  pub apart : (e x : Label) → Contains s.candidates x → Contains s.unrelaxed (e, x.arc) → ¬ Follows net e x
+  pub apart : (x : Label) → Contains s.candidates x → ¬ IsGiven net s x
 
 -- all that each state keeps to which events lead
 pub record IsSound (task : Task) (s : SearchState) : Type 0 where
-  pub walked : (y : Label) → IsKnown s y → (p : List ℕ) × IsWalk task.network task.start p y.node y.cost
   pub founded : (y : Label) → IsKnown s y → IsFounded task s y
   pub paired : (e : Label) (k : ℕ) → Contains s.unrelaxed (e, k) → Contains s.settled e × LeadsOn task.network e.node k
   pub apart : AreApart s

@@ -38,7 +38,7 @@ are_stored {A} {B} {f} {g} {n} {m} {xs} {a} {ys} {b} s t left_is right_is e =
 
 module _ {A B : Type 0} (R : A → B → Type 0) where
   -- a test of each pair decides the fact of all pairs
-  AllZip-decides : (test : A × B → Bool) → ((x : A) (y : B) → Decides (test (x, y)) (R x y)) → (xs : List A) (ys : List B)
+  pub AllZip-decides : (test : A × B → Bool) → ((x : A) (y : B) → Decides (test (x, y)) (R x y)) → (xs : List A) (ys : List B)
       → length xs ≡ length ys → Decides (list_all test (zip xs ys)) (AllZip R xs ys)
   AllZip-decides test each [] [] e = (λ _. tt, λ _. refl)
   AllZip-decides test each (x ∷ xs) (y ∷ ys) e = Decides-and _ _ (each x y) (AllZip-decides test each xs ys (omega arith))

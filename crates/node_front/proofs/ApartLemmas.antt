@@ -1,0 +1,60 @@
+-- Entries, and lists of entries of which none is needless beside another.
+use Rattle.std.proofs.Common.{◌≡◌, ◌≢◌, ◌⊎◌, ◌↔◌, ℕ, ◌≤◌, List, [], ◌∷◌, ◌++◌, inl, inr, refl, sym, ap, subst, ◌∙◌, arith}
+use Rattle.std.specs.Prelude.{AllPairs, Contains}
+use Rattle.cost_vector.specs.Costs.{AtMost, Dominates}
+use Rattle.cost_vector.proofs.Vectors.{AtMost-refl}
+use Rattle.list_laws.proofs.Members.{in_none, cases_in}
+use Rattle.list_laws.proofs.Pairs.{pairs_rest, pair_with_first}
+use Rattle.list_laws.proofs.OnceLaws.{in_append}
+use Rattle.pareto_front.specs.Fronts.{Entry, Front, entries, HasCost, AreIncomparable, IsFront}
+use Rattle.pareto_front.specs.Merging.{Stays}
+use Rattle.node_front.specs.Apart.{AreApart}
+
+-- entries of one cost and one arc are one
+pub same_entry : (x y : Entry) → x.cost ≡ y.cost → x.arc ≡ y.arc → x ≡ y
+same_entry x y same_cost same_arc =
+    ap (λ (c : List ℕ). let z : Entry = record { cost = c; arc = x.arc } in z) same_cost
+    ∙ ap (λ (a : ℕ). let z : Entry = record { cost = y.cost; arc = a } in z) same_arc
+
+-- what is the same is at most the other
+pub AtMost-same : (a b : List ℕ) → a ≡ b → AtMost a b
+AtMost-same a b same = subst (AtMost a) same (AtMost-refl a)
+
+-- of two lists, one behind the other, one has the cost
+pub has_append : (xs ys : List Entry) (c : List ℕ) → HasCost (xs ++ ys) c ↔ (HasCost xs c ⊎ HasCost ys c)
+has_append xs ys c = (
+  λ h. elim ((in_append xs ys (record { cost = c; arc = h.arc })).0 h.contains) [
+    | inl first ↦ inl (record { arc = h.arc; contains = first })
+    | inr second ↦ inr (record { arc = h.arc; contains = second })
+  ],
+  elim [
+    | inl h ↦ record { arc = h.arc; contains = (in_append xs ys (record { cost = c; arc = h.arc })).1 (inl h.contains) }
+    | inr h ↦ record { arc = h.arc; contains = (in_append xs ys (record { cost = c; arc = h.arc })).1 (inr h.contains) }
+  ],
+)
+
+-- a member's cost
+pub has_cost_of : (list : List Entry) (x : Entry) → Contains list x → HasCost list x.cost
+has_cost_of list x there = record { arc = x.arc; contains = there }
+
+-- incomparable entries are apart
+pub apart_from_pairs : (list : List Entry) → AllPairs AreIncomparable list → AreApart list
+apart_from_pairs [] pairs x y x_in y_in below = absurd (in_none x x_in)
+apart_from_pairs (z ∷ zs) pairs x y x_in y_in below = elim (cases_in z zs x x_in) [
+  | inl x_first ↦ elim (cases_in z zs y y_in) [
+    | inl y_first ↦ x_first ∙ sym y_first
+    | inr y_later ↦ absurd ((pair_with_first AreIncomparable z zs pairs y y_later).one_way (subst (λ (w : Entry). AtMost w.cost y.cost) x_first below))
+  ]
+  | inr x_later ↦ elim (cases_in z zs y y_in) [
+    | inl y_first ↦ absurd ((pair_with_first AreIncomparable z zs pairs x x_later).other_way (subst (λ (w : Entry). AtMost x.cost w.cost) y_first below))
+    | inr y_later ↦ apart_from_pairs zs (pairs_rest AreIncomparable z zs pairs) x y x_later y_later below
+  ]
+]
+
+-- the entries of a front are apart
+pub apart_of_front : (d : ℕ) (f : Front) → IsFront d f → AreApart (entries f)
+apart_of_front d f is = apart_from_pairs (entries f) is.incomparable
+
+-- none dominates another
+pub apart_not_dominated : (list : List Entry) → AreApart list → (x y : Entry) → Contains list x → Contains list y → ¬ Dominates x.cost y.cost
+apart_not_dominated list apart x y x_in y_in less = less.differs (ap (λ (w : Entry). w.cost) (apart x y x_in y_in less.at_most))

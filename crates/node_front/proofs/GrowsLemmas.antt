@@ -1,0 +1,28 @@
+-- Lists of spots that grow at their end.
+use Rattle.std.proofs.Common.{◌≡◌, ◌≢◌, ◌↔◌, ℕ, List, [], ◌++◌, sym}
+use Rattle.std.specs.Prelude.{All, Contains}
+use Rattle.std.proofs.lemmas.List.{append-nil}
+use Rattle.std.proofs.lemmas.List.Elements.{All-nil}
+use Rattle.list_laws.proofs.Members.{in_none}
+use Rattle.list_laws.proofs.Pairs.{pairs_none}
+use Rattle.list_laws.proofs.OnceLaws.{once_as}
+use Rattle.compact_labels.specs.declared.label.CompactSpot.{CompactSpot}
+use Rattle.pareto_front.specs.Calls.{GrowsBy}
+
+-- by nothing, where there is nothing of the kind
+pub grows_by_none : (D v : ℕ) (P : List ℕ → Type 0) (xs : List (CompactSpot D)) → ((c : List ℕ) → ¬ P c) → GrowsBy v P xs xs
+grows_by_none D v P xs none = record {
+  more = [];
+  appended = sym (append-nil xs);
+  node = All-nil (λ (s : CompactSpot D). s.node.0 ≡ v);
+  costs = record { exact = λ c. (λ h. absurd (in_none c h), λ p. absurd (none c p)); once = pairs_none ◌≢◌ };
+}
+
+-- by the same, said otherwise
+pub grows_as : (D v : ℕ) (P Q : List ℕ → Type 0) (xs ys : List (CompactSpot D)) → ((c : List ℕ) → P c ↔ Q c) → GrowsBy v P xs ys → GrowsBy v Q xs ys
+grows_as D v P Q xs ys same grows = record {
+  more = grows.more;
+  appended = grows.appended;
+  node = grows.node;
+  costs = once_as P Q _ same grows.costs;
+}

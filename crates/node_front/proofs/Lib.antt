@@ -1,0 +1,12 @@
+pub mod ApartLemmas
+pub mod StaysLemmas
+pub mod MergedLemmas
+pub mod GrowsLemmas
+pub mod PlacedLemmas
+pub mod NeedlessLemmas
+pub mod SurvivorsLemmas
+pub mod RemovedLemmas
+pub mod MergingLemmas
+pub mod DeltaLemmas
+pub mod MergeLaws
+pub mod RoundLemmas

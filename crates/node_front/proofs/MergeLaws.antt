@@ -1,0 +1,252 @@
+-- Merging in parts, and merging the delta in place of its candidates, leads to the same front.
+use Rattle.std.proofs.Common.{◌≡◌, ◌≢◌, ◌⊎◌, ◌↔◌, ℕ, ◌<◌, ◌≤◌, List, [], ◌∷◌, ◌++◌, inl, inr, refl, sym, ap, subst, ◌∙◌, arith, append_assoc}
+use Rattle.std.specs.Prelude.{Contains}
+use Rattle.std.proofs.lemmas.Bool.{cases_lt}
+use Rattle.std.proofs.lemmas.List.{append-nil}
+use Rattle.cost_vector.specs.Costs.{AtMost, Dominates}
+use Rattle.cost_vector.proofs.Vectors.{AtMost-Dominates, cases_same}
+use Rattle.list_laws.specs.Sets.{ListsOnce}
+use Rattle.list_laws.proofs.Members.{in_none}
+use Rattle.list_laws.proofs.OnceLaws.{in_append}
+use Rattle.pareto_front.specs.Fronts.{Entry, Front, HasCost, IsCovered, IsDominated, SparesSettled, entries}
+use Rattle.pareto_front.specs.Calls.{Enters, Relabels}
+use Rattle.pareto_front.specs.Merging.{Stays, Delta, IsDelta, IsMerged, IsAdded, IsRemoved, IsLowered}
+use Rattle.node_front.specs.Apart.{AreApart}
+use Rattle.node_front.proofs.ApartLemmas.{same_entry, AtMost-same, has_append, has_cost_of, apart_not_dominated}
+use Rattle.node_front.proofs.StaysLemmas.{stays_below, stays_of_cost}
+use Rattle.node_front.proofs.NeedlessLemmas.{told_entry_in, told_has_cost}
+use Rattle.node_front.proofs.MergedLemmas.{entered_merges, relabelled_merges, merged_apart}
+
+-- of fewer known entries, among which all that stays still is, the same stays
+pub stays_core : (known fewer : List Entry) → ((x : Entry) → Contains fewer x → Contains known x) → ((x : Entry) → Stays known x → Contains fewer x)
+    → (x : Entry) → Stays fewer x ↔ Stays known x
+stays_core known fewer sub core x = (
+  λ stays. record {
+    contains = sub x stays.contains;
+    nondominated = λ h.
+        let (b, b_stays, below) = stays_below known h.by h.contains in
+        stays.nondominated (record { by = b; contains = core b b_stays; dominates = AtMost-Dominates b.cost h.by.cost x.cost below h.dominates });
+    least = λ y y_in same.
+        let (b, b_stays, below) = stays_below known y y_in in
+        elim (cases_same b.cost x.cost) [
+          | inl equal ↦
+              let low = stays.least b (core b b_stays) equal in
+              let high = b_stays.least y y_in (same ∙ sym equal) in
+              omega (arith, low, high)
+          | inr other ↦ absurd (stays.nondominated (record {
+            by = b;
+            contains = core b b_stays;
+            dominates = record { at_most = subst (AtMost b.cost) same below; differs = other };
+          }))
+        ];
+  },
+  λ stays. record {
+    contains = core x stays;
+    nondominated = λ h. stays.nondominated (record { by = h.by; contains = sub h.by h.contains; dominates = h.dominates });
+    least = λ y y_in. stays.least y (sub y y_in);
+  },
+)
+
+-- where no candidate comes, an apart front is as it was
+pub merged_none : (front : Front) → AreApart (entries front) → IsMerged front [] front
+merged_none front apart = record {
+  entries = λ x. (
+    λ there. record {
+      contains = (in_append (entries front) [] x).1 (inl there);
+      nondominated = λ h. apart_not_dominated (entries front) apart h.by x (old h.by h.contains) there h.dominates;
+      least = λ y y_in same. let one = apart y x (old y y_in) there (AtMost-same y.cost x.cost same) in omega (arith, ap (λ (w : Entry). w.arc) one);
+    },
+    λ stays. old x stays.contains,
+  );
+  settled = λ c. (λ h. (h, λ by. in_none by.by by.contains), λ h. h.0);
+} where
+  old : (x : Entry) → Contains (entries front ++ []) x → Contains (entries front) x
+  old x there = subst (λ l. Contains l x) (append-nil (entries front)) there
+
+-- candidates and then others
+pub merged_then : (first second third : Front) (xs ys : List Entry) → IsMerged first xs second → IsMerged second ys third → IsMerged first (xs ++ ys) third
+merged_then first second third xs ys merged again = record {
+  entries = λ x.
+      let same = stays_core ((entries first ++ xs) ++ ys) (entries second ++ ys) sub core x in
+      subst (λ l. Contains (entries third) x ↔ Stays l x) (append_assoc (entries first) xs ys) (
+        λ there. same.0 ((again.entries x).0 there),
+        λ stays. (again.entries x).1 (same.1 stays),
+      );
+  settled = λ c. both (again.settled c) (merged.settled c) (dominated_append xs ys c);
+} where
+  sub : (x : Entry) → Contains (entries second ++ ys) x → Contains ((entries first ++ xs) ++ ys) x
+  sub x there = (in_append (entries first ++ xs) ys x).1 (elim ((in_append (entries second) ys x).0 there) [
+    | inl old ↦ inl ((merged.entries x).0 old).contains
+    | inr new ↦ inr new
+  ])
+
+  core : (x : Entry) → Stays ((entries first ++ xs) ++ ys) x → Contains (entries second ++ ys) x
+  core x stays = (in_append (entries second) ys x).1 (elim ((in_append (entries first ++ xs) ys x).0 stays.contains) [
+    | inr new ↦ inr new
+    | inl old ↦ inl ((merged.entries x).1 (record {
+      contains = old;
+      nondominated = λ h. stays.nondominated
+          (record { by = h.by; contains = (in_append (entries first ++ xs) ys h.by).1 (inl h.contains); dominates = h.dominates });
+      least = λ y y_in. stays.least y ((in_append (entries first ++ xs) ys y).1 (inl y_in));
+    }))
+  ])
+
+  both : {A B C M N L : Type 0} → (A ↔ (B × (¬ N))) → (B ↔ (C × (¬ M))) → (L ↔ (M ⊎ N)) → (A ↔ (C × (¬ L)))
+  both f g h = grind arith
+
+  dominated_append : (xs ys : List Entry) (c : List ℕ) → IsDominated (xs ++ ys) c ↔ (IsDominated xs c ⊎ IsDominated ys c)
+  dominated_append xs ys c = (
+    λ h. elim ((in_append xs ys h.by).0 h.contains) [
+      | inl old ↦ inl (record { by = h.by; contains = old; dominates = h.dominates })
+      | inr new ↦ inr (record { by = h.by; contains = new; dominates = h.dominates })
+    ],
+    elim [
+      | inl h ↦ record { by = h.by; contains = (in_append xs ys h.by).1 (inl h.contains); dominates = h.dominates }
+      | inr h ↦ record { by = h.by; contains = (in_append xs ys h.by).1 (inr h.contains); dominates = h.dominates }
+    ],
+  )
+
+-- ---- the delta in place of the candidates
+
+module _ (before : Front) (candidates : List Entry) (delta : Delta) (is : IsDelta before candidates delta) (apart : AreApart (entries before)) where
+  known : List Entry
+  known = entries before ++ candidates
+
+  -- what the delta brings
+  brought : List Entry
+  brought = delta.added ++ delta.lowered
+
+  pub brought_stays : (x : Entry) → Contains (delta.added ++ delta.lowered) x → Stays (entries before ++ candidates) x
+  brought_stays x there = elim ((in_append delta.added delta.lowered x).0 there) [
+    | inl added ↦ ((is.added.exact x).0 added).stays
+    | inr lowered ↦ ((is.lowered.exact x).0 lowered).stays
+  ]
+
+  -- it is no old entry
+  pub brought_new : (x : Entry) → Contains (delta.added ++ delta.lowered) x → ¬ Contains (entries before) x
+  brought_new x there old = elim ((in_append delta.added delta.lowered x).0 there) [
+    | inl added ↦ ((is.added.exact x).0 added).new (has_cost_of (entries before) x old)
+    | inr lowered ↦
+        let low = (is.lowered.exact x).0 lowered in
+        let one = apart x (record { cost = x.cost; arc = low.arc }) old low.old (AtMost-same x.cost x.cost refl) in
+        omega (arith, low.lesser, ap (λ (w : Entry). w.arc) one)
+  ]
+
+  -- so it is a candidate
+  pub brought_candidate : (x : Entry) → Contains (delta.added ++ delta.lowered) x → Contains candidates x
+  brought_candidate x there = elim ((in_append (entries before) candidates x).0 (brought_stays x there).contains) [
+    | inl old ↦ absurd (brought_new x there old)
+    | inr candidate ↦ candidate
+  ]
+
+  -- all that stays is old or brought
+  stays_brought : (x : Entry) → Stays (entries before ++ candidates) x → Contains (entries before) x ⊎ Contains (delta.added ++ delta.lowered) x
+  stays_brought x stays = elim (told_entry_in (entries before) x) [
+    | inl old ↦ inl old
+    | inr not_old ↦ inr ((in_append delta.added delta.lowered x).1 (elim (told_has_cost (entries before) x.cost) [
+      | inr none ↦ inl ((is.added.exact x).1 (record { stays = stays; new = none }))
+      | inl has ↦ inr ((is.lowered.exact x).1 (record {
+        stays = stays;
+        arc = has.arc;
+        old = has.contains;
+        lesser = lesser has (stays.least (record { cost = x.cost; arc = has.arc })
+            ((in_append (entries before) candidates (record { cost = x.cost; arc = has.arc })).1 (inl has.contains)) refl) not_old;
+      }))
+    ]))
+  ] where
+    lesser : (has : HasCost (entries before) x.cost) → x.arc ≤ has.arc → ¬ Contains (entries before) x → x.arc < has.arc
+    lesser has least not_old = elim (cases_lt x.arc has.arc) [
+      | inl less ↦ less
+      | inr not_less ↦
+          let same : has.arc ≡ x.arc = omega (arith, least, not_less) in
+          absurd (not_old (subst (λ a. Contains (entries before) (record { cost = x.cost; arc = a })) same has.contains))
+    ]
+
+  -- a front into which the delta has come is what the candidates make of it
+  pub merged_by_delta : (after : Front) → IsMerged before (delta.added ++ delta.lowered) after → IsMerged before candidates after
+  merged_by_delta after merged = record {
+    entries = λ x.
+        let same = stays_core (entries before ++ candidates) (entries before ++ (delta.added ++ delta.lowered)) sub core x in (
+          λ there. same.0 ((merged.entries x).0 there),
+          λ stays. (merged.entries x).1 (same.1 stays),
+        );
+    settled = λ c. (
+      λ h. let (was, none) = (merged.settled c).0 h in (was, λ by. none (by_brought c was by)),
+      λ h. (merged.settled c).1 (h.0, λ by. h.1 (record { by = by.by; contains = brought_candidate by.by by.contains; dominates = by.dominates })),
+    );
+  } where
+    sub : (x : Entry) → Contains (entries before ++ (delta.added ++ delta.lowered)) x → Contains (entries before ++ candidates) x
+    sub x there = elim ((in_append (entries before) (delta.added ++ delta.lowered) x).0 there) [
+      | inl old ↦ (in_append (entries before) candidates x).1 (inl old)
+      | inr new ↦ (brought_stays x new).contains
+    ]
+
+    core : (x : Entry) → Stays (entries before ++ candidates) x → Contains (entries before ++ (delta.added ++ delta.lowered)) x
+    core x stays = (in_append (entries before) (delta.added ++ delta.lowered) x).1 (stays_brought x stays)
+
+    by_brought : (c : List ℕ) → HasCost before.settled c → IsDominated candidates c → IsDominated (delta.added ++ delta.lowered) c
+    by_brought c was by =
+        let (b, stays, below) = stays_below (entries before ++ candidates) by.by ((in_append (entries before) candidates by.by).1 (inr by.contains)) in
+        let less = AtMost-Dominates b.cost by.by.cost c below by.dominates in
+        elim (stays_brought b stays) [
+          | inr new ↦ record { by = b; contains = new; dominates = less }
+          | inl old ↦
+              let there = (in_append before.settled before.unsettled (record { cost = c; arc = was.arc })).1 (inl was.contains) in
+              absurd (apart_not_dominated (entries before) apart b (record { cost = c; arc = was.arc }) old there less)
+        ]
+
+  -- ---- step by step
+
+  module _ (xs : List Entry) (mid : Front) (sub : (x : Entry) → Contains xs x → Contains (delta.added ++ delta.lowered) x) (merged : IsMerged before xs mid) (e : Entry) where
+    mid_known : (x : Entry) → Contains (entries before ++ xs) x → Contains (entries before ++ candidates) x
+    mid_known x there = (in_append (entries before) candidates x).1 (elim ((in_append (entries before) xs x).0 there) [
+      | inl old ↦ inl old
+      | inr new ↦ inr (brought_candidate x (sub x new))
+    ])
+
+    -- an added entry can be put in, if it hasn't come yet
+    pub step_uncovered : Contains delta.added e → ((x : Entry) → Contains xs x → x ≢ e) → ¬ IsCovered (entries mid) e.cost
+    step_uncovered there not_yet covered =
+        let b = covered.by in
+        let added = (is.added.exact e).0 there in
+        let stays = (merged.entries b).0 covered.contains in
+        let b_known = mid_known b stays.contains in
+        elim (cases_same b.cost e.cost) [
+          | inr other ↦ added.stays.nondominated
+              (record { by = b; contains = b_known; dominates = record { at_most = covered.at_most; differs = other } })
+          | inl same ↦ elim ((in_append (entries before) xs b).0 stays.contains) [
+            | inl old ↦ added.new (subst (HasCost (entries before)) same (has_cost_of (entries before) b old))
+            | inr new ↦
+                let low = added.stays.least b b_known same in
+                let high = (brought_stays b (sub b new)).least e added.stays.contains (sym same) in
+                not_yet b new (same_entry b e same (omega (arith, low, high)))
+          ]
+        ]
+
+    -- it dominates no settled entry
+    pub step_spares : Contains (delta.added ++ delta.lowered) e → SparesSettled before e.cost → SparesSettled mid e.cost
+    step_spares there spares s s_in less =
+        let was = ((merged.settled s.cost).0 (has_cost_of mid.settled s s_in)).0 in
+        spares (record { cost = s.cost; arc = was.arc }) was.contains less
+
+    -- where a lowered entry comes, the entry of its cost is there, with no lesser arc
+    pub step_lowered : Contains delta.lowered e → (b : Entry) × Contains (entries mid) b × (b.cost ≡ e.cost) × (e.arc ≤ b.arc)
+    step_lowered there =
+        let low = (is.lowered.exact e).0 there in
+        let x : Entry = record { cost = e.cost; arc = low.arc } in
+        let none : ¬ IsDominated (entries before ++ xs) e.cost = λ h.
+        low.stays.nondominated (record { by = h.by; contains = mid_known h.by h.contains; dominates = h.dominates }) in
+        let (b, stays, same) = stays_of_cost (entries before ++ xs) x ((in_append (entries before) xs x).1 (inl low.old)) none in
+        (b, (merged.entries b).1 stays, same, low.stays.least b (mid_known b stays.contains) same)
+
+    mid_apart : AreApart (entries mid)
+    mid_apart = merged_apart before mid xs merged
+
+    pub entered_then : (after : Front) → ¬ IsCovered (entries mid) e.cost → SparesSettled mid e.cost → Enters mid e after → IsMerged before (xs ++ e ∷ []) after
+    entered_then after new spares enters = merged_then before mid after xs (e ∷ []) merged (entered_merges mid e mid_apart new spares after enters)
+
+    pub relabelled_then : (after : Front) → Contains delta.lowered e → Relabels mid e after → IsMerged before (xs ++ e ∷ []) after
+    relabelled_then after there relabels =
+        let (b, b_in, same, no_more) = step_lowered there in
+        let at = subst (λ c. Contains (entries mid) (record { cost = c; arc = b.arc })) same b_in in
+        merged_then before mid after xs (e ∷ []) merged (relabelled_merges mid e mid_apart after b.arc at no_more relabels)

@@ -1,0 +1,339 @@
+-- How the fronts of all nodes are kept: what one more front changes, and what another one at a node's place changes.
+use Rattle.std.proofs.Common.{◌≡◌, ◌≢◌, ◌⊎◌, ℕ, zero, suc, ◌+◌, ◌<◌, ◌≤◌, List, [], ◌∷◌, ◌++◌, length, map, get_or, set, replicate, inl, inr, refl, sym, ap, subst, subst₂, ◌∙◌, arith}
+use Rattle.std.specs.Prelude.{All, Contains}
+use Rattle.std.specs.List.{range_with_len}
+use Rattle.std.proofs.lemmas.Bool.{cases_lt}
+use Rattle.std.proofs.lemmas.List.{length-map, map_push, map-set, set-get_or, set_past, length-set, length_push, get_or-map, get_or-set_same, get_or-set_other, get_or-replicate, length-replicate, get_or_past, get_or_push, get_or_append_left, get_or_default, ext_get_or}
+use Rattle.std.proofs.lemmas.List.Elements.{All-weaker, All-push, All-set}
+use Rattle.std.proofs.lemmas.List.FromFn.{length-range_with_len}
+use Rattle.list_laws.proofs.Members.{in_none}
+use Rattle.list_laws.proofs.Pairs.{pigeonhole}
+use Rattle.list_laws.proofs.OnceLaws.{range_once}
+use Rattle.road_network.specs.Limits.{max_nodes}
+use Rattle.pareto_front.specs.Fronts.{Front, HasCost, empty_front, entries}
+use Rattle.node_front.specs.Apart.{AreApart}
+use Rattle.node_front.specs.NodeFronts.{Fronts, SameElsewhere, front_at, fronts_by, spares_by, room_at, IsPlaced}
+
+-- two numbers are the same or not
+pub cases_number : (m n : ℕ) → (m ≡ n) ⊎ (m ≢ n)
+cases_number m n = elim (cases_lt m n) [
+  | inl less ↦ inr (λ e. omega arith)
+  | inr not_less ↦ elim (cases_lt n m) [ inl above ↦ inr (λ e. omega arith) | inr not_above ↦ inl (omega arith) ]
+]
+
+-- the front of a number is that at its place
+pub front_by : (places : List ℕ) (states : List Front) → get_or states 0 empty_front ≡ empty_front → (v : ℕ)
+    → get_or (fronts_by places states) v empty_front ≡ get_or states (get_or places v 0) empty_front
+front_by places states first v = elim (cases_lt v (length places)) [
+  | inl within ↦ get_or-map (λ k. get_or states k empty_front) places v 0 empty_front within
+  | inr past ↦
+      get_or_past (fronts_by places states) v empty_front (omega (arith, length-map places (λ k. get_or states k empty_front)))
+      ∙ sym first ∙ ap (λ k. get_or states k empty_front) (sym (get_or_past places v 0 past))
+]
+
+-- the room of a number is that at its place
+pub spare_by : (places spares : List ℕ) (v : ℕ) → get_or (spares_by places spares) v 0 ≡ room_at spares (get_or places v 0)
+spare_by places spares v = elim (cases_lt v (length places)) [
+  | inl within ↦ get_or-map (room_at spares) places v 0 0 within
+  | inr past ↦
+      get_or_past (spares_by places spares) v 0 (omega (arith, length-map places (room_at spares)))
+      ∙ ap (room_at spares) (sym (get_or_past places v 0 past))
+]
+
+-- no number has a place, where all are 0
+pub no_place : (n v : ℕ) → get_or (replicate {A = ℕ} n 0) v 0 ≡ 0
+no_place n v = elim (cases_lt v n) [
+  | inl within ↦ get_or-replicate {A = ℕ} n v 0 0 within
+  | inr past ↦ get_or_past (replicate {A = ℕ} n 0) v 0 (omega (arith, length-replicate {A = ℕ} n 0))
+]
+
+-- a front without entries is apart
+empty_apart : (state : Front) → state ≡ empty_front → AreApart (entries state)
+empty_apart state empty = subst (λ (f : Front). AreApart (entries f)) (sym empty) (λ x y x_in y_in below. absurd (in_none x x_in))
+
+module _ (places : List ℕ) (states : List Front) (placed : IsPlaced places states) where
+  pub front_of : (v : ℕ) → get_or (fronts_by places states) v empty_front ≡ get_or states (get_or places v 0) empty_front
+  front_of = front_by places states placed.first
+
+  some_begun : 0 < length states
+  some_begun = let begun = placed.begun 0 0 placed.some in omega (arith, begun, placed.no_node)
+
+  -- each number's place is that of a front
+  pub place_begun : (v : ℕ) → get_or places v 0 < length states
+  place_begun v = elim (cases_lt v (length places)) [
+    | inl within ↦ placed.begun v 0 within
+    | inr past ↦ omega (arith, get_or_past places v 0 past, some_begun)
+  ]
+
+  -- each front is apart
+  pub front_apart : (v : ℕ) → AreApart (entries (get_or (fronts_by places states) v empty_front))
+  front_apart v = subst (λ (f : Front). AreApart (entries f)) (sym (front_of v)) (placed.apart (get_or places v 0) empty_front (place_begun v))
+
+  -- a node whose front has an entry was reached
+  pub has_place : (v : ℕ) (c : List ℕ) → HasCost (entries (get_or (fronts_by places states) v empty_front)) c → get_or places v 0 ≢ 0
+  has_place v c has none =
+      let empty = front_of v ∙ ap (λ k. get_or states k empty_front) none ∙ placed.first in
+      let there = subst (λ (f : Front). HasCost (entries f) c) empty has in
+      in_none (record { cost = c; arc = there.arc }) there.contains
+
+  -- and is a node; its place is what was read
+  pub place_read : (v k : ℕ) → get_or places v 0 ≢ 0 → k ≡ get_or places v k → k ≡ get_or places v 0
+  place_read v k some read = elim (cases_lt v (length places)) [
+    | inl within ↦ read ∙ get_or_default places v k 0 within
+    | inr past ↦ absurd (some (get_or_past places v 0 past))
+  ]
+
+  -- the fronts are no more than the numbers
+  pub few_begun : length states ≤ length places
+  few_begun =
+      let numbers = range_once (length states) in
+      let held : (k : ℕ) → k < length states → Contains places k = λ k below. elim (cases_lt 0 k) [
+        | inl positive ↦ placed.used k positive below
+        | inr none ↦ let zero : 0 ≡ k = omega arith in subst (Contains places) zero (0, placed.some, placed.no_node)
+      ] in
+      omega (
+        arith,
+        length-range_with_len 0 (length states),
+        pigeonhole (range_with_len 0 (length states)) places numbers.once (λ k there. held k ((numbers.exact k).0 there)),
+      )
+
+  -- another front at the place of the node v
+  module _ (v k : ℕ) (at : k ≡ get_or places v 0) (some : k ≢ 0) (state : Front) where
+    first_set : get_or (set states k state) 0 empty_front ≡ empty_front
+    first_set = get_or-set_other states k 0 state empty_front (λ e. some (sym e)) ∙ placed.first
+
+    pub placed_set : AreApart (entries state) → IsPlaced places (set states k state)
+    placed_set apart = record {
+      some = placed.some;
+      few = placed.few;
+      no_node = placed.no_node;
+      begun = subst (λ n. All (λ j. j < n) places) (sym (length-set states k state)) placed.begun;
+      own = placed.own;
+      used = λ j positive below. placed.used j positive (omega (arith, below, length-set states k state));
+      first = first_set;
+      apart = All-set (λ f. AreApart (entries f)) states k state apart placed.apart;
+    }
+
+    pub front_set : get_or (fronts_by places (set states k state)) v empty_front ≡ state
+    front_set =
+        front_by places (set states k state) first_set v
+        ∙ ap (λ j. get_or (set states k state) j empty_front) (sym at)
+        ∙ get_or-set_same states k state empty_front (subst (λ j. j < length states) (sym at) (place_begun v))
+
+    pub front_set_elsewhere : (w : ℕ) → w ≢ v → get_or (fronts_by places (set states k state)) w empty_front ≡ get_or (fronts_by places states) w empty_front
+    front_set_elsewhere w other =
+        let apart : get_or places w 0 ≢ k = λ e. other (placed.own w v (e ∙ at) (λ zero. some (sym e ∙ zero))) in
+        front_by places (set states k state) first_set w ∙ get_or-set_other states k (get_or places w 0) state empty_front apart ∙ sym (front_of w)
+
+  -- a front without entries for the node v, which had none
+  module _ (v : ℕ) (node : 0 < v) (within : v < length places) (unreached : get_or places v 0 ≡ 0) (state : Front) (empty : state ≡ empty_front) where
+    old_place : (w : ℕ) → w ≢ v → get_or (set places v (length states)) w 0 ≡ get_or places w 0
+    old_place w other = get_or-set_other places v w (length states) 0 other
+
+    new_place : get_or (set places v (length states)) v 0 ≡ length states
+    new_place = get_or-set_same places v (length states) 0 within
+
+    own_push : (a b : ℕ) → get_or (set places v (length states)) a 0 ≡ get_or (set places v (length states)) b 0
+        → get_or (set places v (length states)) a 0 ≢ 0 → a ≡ b
+    own_push a b same some = elim (cases_number a v) [
+      | inl a_new ↦ elim (cases_number b v) [
+        | inl b_new ↦ a_new ∙ sym b_new
+        | inr b_old ↦
+            let at_a : get_or (set places v (length states)) a 0 ≡ length states = subst (λ w. get_or (set places v (length states)) w 0 ≡ length states) (sym a_new) new_place in
+            absurd (omega (arith, same, at_a, old_place b b_old, place_begun b))
+      ]
+      | inr a_old ↦ elim (cases_number b v) [
+        | inl b_new ↦
+            let at_b : get_or (set places v (length states)) b 0 ≡ length states = subst (λ w. get_or (set places v (length states)) w 0 ≡ length states) (sym b_new) new_place in
+            absurd (omega (arith, same, at_b, old_place a a_old, place_begun a))
+        | inr b_old ↦ placed.own a b (sym (old_place a a_old) ∙ same ∙ old_place b b_old) (λ zero. some (old_place a a_old ∙ zero))
+      ]
+    ]
+
+    used_push : (k : ℕ) → 0 < k → k < length (states ++ state ∷ []) → Contains (set places v (length states)) k
+    used_push k positive below = elim (cases_lt k (length states)) [
+      | inl old ↦
+          let (i, inside, is) = placed.used k positive old in
+          let other : i ≢ v = λ e. omega (arith, positive, unreached, subst (λ j. get_or places j 0 ≡ k) e (get_or_default places i 0 k inside ∙ is)) in
+          (i, omega (arith, inside, length-set places v (length states)), get_or-set_other places v i (length states) k other ∙ is)
+      | inr last ↦
+          let new : length states ≡ k = omega (arith, last, below, length_push states state) in
+          subst (Contains (set places v (length states))) new
+          (v, omega (arith, within, length-set places v (length states)), get_or-set_same places v (length states) (length states) within)
+    ]
+
+    first_push : get_or (states ++ state ∷ []) 0 empty_front ≡ empty_front
+    first_push = get_or_append_left states (state ∷ []) empty_front 0 some_begun ∙ placed.first
+
+    pub placed_push : IsPlaced (set places v (length states)) (states ++ state ∷ [])
+    placed_push =
+        let long = length-set places v (length states) in
+        let more = length_push states state in
+        record {
+          some = omega (arith, long, placed.some);
+          few = omega (arith, long, placed.few);
+          no_node = old_place 0 (λ e. omega (arith, node, e)) ∙ placed.no_node;
+          begun = All-set (λ k. k < length (states ++ state ∷ [])) places v (length states) (omega (arith, more))
+              (All-weaker (λ k. k < length states) (λ k. k < length (states ++ state ∷ [])) (λ k below. omega (arith, below, more)) places placed.begun);
+          own = own_push;
+          used = used_push;
+          first = first_push;
+          apart = All-push (λ f. AreApart (entries f)) states state placed.apart (empty_apart state empty);
+        }
+
+    pub fronts_push : fronts_by (set places v (length states)) (states ++ state ∷ []) ≡ fronts_by places states
+    fronts_push = ext_get_or empty_front (fronts_by (set places v (length states)) (states ++ state ∷ [])) (fronts_by places states)
+        (length-map (set places v (length states)) (λ k. get_or (states ++ state ∷ []) k empty_front)
+        ∙ length-set places v (length states) ∙ sym (length-map places (λ k. get_or states k empty_front)))
+        (λ w inside. front_by (set places v (length states)) (states ++ state ∷ []) first_push w ∙ at w ∙ sym (front_of w)) where
+          at : (w : ℕ) → get_or (states ++ state ∷ []) (get_or (set places v (length states)) w 0) empty_front ≡ get_or states (get_or places w 0) empty_front
+          at w = elim (cases_number w v) [
+            | inl new ↦
+                subst (λ u. get_or (states ++ state ∷ []) (get_or (set places v (length states)) u 0) empty_front ≡ get_or states (get_or places u 0) empty_front)
+                (sym new)
+                (ap (λ k. get_or (states ++ state ∷ []) k empty_front) new_place ∙ get_or_push states state empty_front (length states) refl ∙ empty
+                ∙ sym placed.first ∙ ap (λ k. get_or states k empty_front) (sym unreached))
+            | inr other ↦
+                ap (λ k. get_or (states ++ state ∷ []) k empty_front) (old_place w other)
+                ∙ get_or_append_left states (state ∷ []) empty_front (get_or places w 0) (place_begun w)
+          ]
+
+    pub spares_push : (spares : List ℕ) (more w : ℕ) → length spares ≡ length states
+        → get_or (spares_by places spares) w 0 ≤ get_or (spares_by (set places v (length states)) (spares ++ more ∷ [])) w 0
+    spares_push spares more w same = elim (cases_number w v) [
+      | inl new ↦ omega (arith, spare_by places spares w, ap (λ u. room_at spares (get_or places u 0)) new, ap (room_at spares) unreached)
+      | inr other ↦ omega (
+        arith,
+        spare_by places spares w,
+        spare_by (set places v (length states)) (spares ++ more ∷ []) w,
+        ap (room_at (spares ++ more ∷ [])) (old_place w other),
+        room_push (get_or places w 0) (subst (λ n. get_or places w 0 < n) (sym same) (place_begun w)),
+      )
+    ] where
+      room_push : (k : ℕ) → k < length spares → room_at (spares ++ more ∷ []) k ≡ room_at spares k
+      room_push zero below = refl
+      room_push (suc k) below = get_or_append_left spares (more ∷ []) 0 (suc k) below
+
+-- the same, where the fronts are what some things say, and one more thing is added
+module _ {X : Type 0} (state : X → Front) (spare : X → ℕ) (places : List ℕ) (xs ys : List X) (x : X) (v n : ℕ) (placed : IsPlaced places (map state xs))
+    (node : 0 < v) (within : v < length places) (unreached : get_or places v 0 ≡ 0) (empty : state x ≡ empty_front)
+    (pushed : ys ≡ xs ++ x ∷ []) (long : n ≡ length xs) where
+  states_pushed : map state ys ≡ map state xs ++ state x ∷ []
+  states_pushed = ap (map state) pushed ∙ map_push state xs x
+
+  last : n ≡ length (map state xs)
+  last = long ∙ sym (length-map xs state)
+
+  pub placed_more : IsPlaced (set places v n) (map state ys)
+  placed_more = subst₂ (λ k fs. IsPlaced (set places v k) fs) (sym last) (sym states_pushed)
+      (placed_push places (map state xs) placed v node within unreached (state x) empty)
+
+  pub fronts_more : fronts_by (set places v n) (map state ys) ≡ fronts_by places (map state xs)
+  fronts_more = subst₂ (λ k fs. fronts_by (set places v k) fs ≡ fronts_by places (map state xs)) (sym last) (sym states_pushed)
+      (fronts_push places (map state xs) placed v node within unreached (state x) empty)
+
+  pub spares_more : (w : ℕ) → get_or (spares_by places (map spare xs)) w 0 ≤ get_or (spares_by (set places v n) (map spare ys)) w 0
+  spares_more w = subst₂ (λ k ss. get_or (spares_by places (map spare xs)) w 0 ≤ get_or (spares_by (set places v k) ss) w 0)
+      (sym last) (sym (ap (map spare) pushed ∙ map_push spare xs x))
+      (spares_push places (map state xs) placed v node within unreached (state x) empty (map spare xs) (spare x) w
+      (length-map xs spare ∙ sym (length-map xs state)))
+
+-- what is read at the place of a node, and what another thing in its place changes
+module _ {X : Type 0} (state : X → Front) (places : List ℕ) (xs : List X) (placed : IsPlaced places (map state xs)) (v k : ℕ) (at : k ≡ get_or places v 0) where
+  pub state_there : (x : X) → x ≡ get_or xs k x → get_or (fronts_by places (map state xs)) v empty_front ≡ state x
+  state_there x read =
+      let begun : k < length xs = omega (arith, at, place_begun places (map state xs) placed v, length-map xs state) in
+      front_of places (map state xs) placed v ∙ ap (λ j. get_or (map state xs) j empty_front) (sym at)
+      ∙ get_or-map state xs k x empty_front begun ∙ ap state (sym read)
+
+  module _ (some : k ≢ 0) (x : X) where
+    pub placed_changed : AreApart (entries (state x)) → IsPlaced places (map state (set xs k x))
+    placed_changed apart = subst (IsPlaced places) (sym (map-set state xs k x)) (placed_set places (map state xs) placed v k at some (state x) apart)
+
+    pub changed_there : get_or (fronts_by places (map state (set xs k x))) v empty_front ≡ state x
+    changed_there = ap (λ fs. get_or (fronts_by places fs) v empty_front) (map-set state xs k x) ∙ front_set places (map state xs) placed v k at some (state x)
+
+    pub changed_elsewhere : (w : ℕ) → w ≢ v
+        → get_or (fronts_by places (map state (set xs k x))) w empty_front ≡ get_or (fronts_by places (map state xs)) w empty_front
+    changed_elsewhere w other =
+        ap (λ fs. get_or (fronts_by places fs) w empty_front) (map-set state xs k x)
+        ∙ front_set_elsewhere places (map state xs) placed v k at some (state x) w other
+
+-- the same fronts are those of as many numbers
+pub same_count : (places others : List ℕ) (states more : List Front) → fronts_by places states ≡ fronts_by others more → length places ≡ length others
+same_count places others states more same =
+    sym (length-map places (λ k. get_or states k empty_front)) ∙ ap length same ∙ length-map others (λ k. get_or more k empty_front)
+
+-- the fronts of all nodes before and after one of them is changed
+module _ {X : Type 0} (state : X → Front) (before after : Fronts) (places : List ℕ) (xs : List X) (placed : IsPlaced places (map state xs))
+    (v k : ℕ) (at : k ≡ get_or places v 0) (was : before.fronts ≡ fronts_by places (map state xs)) (nodes : after.nodes ≡ before.nodes) where
+  pub front_before : (x : X) → x ≡ get_or xs k x → front_at before v ≡ state x
+  front_before x read = ap (λ fs. get_or fs v empty_front) was ∙ state_there state places xs placed v k at x read
+
+  module _ (some : k ≢ 0) (x : X) (is : after.fronts ≡ fronts_by places (map state (set xs k x))) where
+    pub front_after : front_at after v ≡ state x
+    front_after = ap (λ fs. get_or fs v empty_front) is ∙ changed_there state places xs placed v k at some x
+
+    pub same_elsewhere : SameElsewhere v before after
+    same_elsewhere = record {
+      nodes = nodes;
+      others = λ w other.
+          ap (λ fs. get_or fs w empty_front) is
+          ∙ changed_elsewhere state places xs placed v k at some x w other
+          ∙ ap (λ fs. get_or fs w empty_front) (sym was);
+    }
+
+-- where no node was reached, each front is without entries
+pub none_reached : {X : Type 0} (state : X → Front) (n : ℕ) (places : List ℕ) (xs ys : List X) (x : X) → places ≡ replicate {A = ℕ} n 0 → xs ≡ []
+    → ys ≡ xs ++ x ∷ [] → state x ≡ empty_front → (v : ℕ) → get_or (fronts_by places (map state ys)) v empty_front ≡ empty_front
+none_reached {X} state n places xs ys x zeros none pushed empty v =
+    let fronts : map state ys ≡ empty_front ∷ [] = ap (map state) (pushed ∙ ap (λ (zs : List X). zs ++ x ∷ []) none) ∙ ap (λ (f : Front). f ∷ []) empty in
+    subst₂ (λ ps fs. get_or (fronts_by ps fs) v empty_front ≡ empty_front) (sym zeros) (sym fronts)
+    (front_by (replicate {A = ℕ} n 0) (empty_front ∷ []) refl v ∙ ap (λ k. get_or (empty_front ∷ []) k empty_front) (no_place n v))
+
+-- ---- room
+
+room_there : (spares : List ℕ) (k : ℕ) → k ≢ 0 → room_at spares k ≡ get_or spares k 0
+room_there spares zero some = absurd (some refl)
+room_there spares (suc k) some = refl
+
+room_elsewhere : (spares : List ℕ) (k j r : ℕ) → j ≢ k → room_at (set spares k r) j ≡ room_at spares j
+room_elsewhere spares k zero r other = refl
+room_elsewhere spares k (suc j) r other = get_or-set_other spares k (suc j) r 0 other
+
+-- a node whose front has room was reached
+pub room_place : (places spares : List ℕ) (v : ℕ) → 1 ≤ get_or (spares_by places spares) v 0 → get_or places v 0 ≢ 0
+room_place places spares v room none = omega (arith, room, spare_by places spares v, ap (room_at spares) none)
+
+module _ {X : Type 0} (state : X → Front) (spare : X → ℕ) (places : List ℕ) (xs : List X) (placed : IsPlaced places (map state xs))
+    (v k : ℕ) (at : k ≡ get_or places v 0) (some : k ≢ 0) where
+  begun_at : k < length xs
+  begun_at = omega (arith, at, place_begun places (map state xs) placed v, length-map xs state)
+
+  -- for how many more the front at the place of a node has room
+  pub spare_there : (x : X) → x ≡ get_or xs k x → get_or (spares_by places (map spare xs)) v 0 ≡ spare x
+  spare_there x read =
+      spare_by places (map spare xs) v ∙ ap (room_at (map spare xs)) (sym at) ∙ room_there (map spare xs) k some
+      ∙ get_or-map spare xs k x 0 begun_at ∙ ap spare (sym read)
+
+  pub spare_changed : (x : X) → get_or (spares_by places (map spare (set xs k x))) v 0 ≡ spare x
+  spare_changed x =
+      spare_by places (map spare (set xs k x)) v ∙ ap (room_at (map spare (set xs k x))) (sym at) ∙ room_there (map spare (set xs k x)) k some
+      ∙ get_or-map spare (set xs k x) k x 0 (omega (arith, begun_at, length-set xs k x))
+      ∙ ap spare (get_or-set_same xs k x x begun_at)
+
+  pub spare_elsewhere : (x : X) (w : ℕ) → w ≢ v → get_or (spares_by places (map spare (set xs k x))) w 0 ≡ get_or (spares_by places (map spare xs)) w 0
+  spare_elsewhere x w other =
+      let apart : get_or places w 0 ≢ k = λ e. other (placed.own w v (e ∙ at) (λ zero. some (sym e ∙ zero))) in
+      spare_by places (map spare (set xs k x)) w ∙ ap (λ ss. room_at ss (get_or places w 0)) (map-set spare xs k x)
+      ∙ room_elsewhere (map spare xs) k (get_or places w 0) (spare x) apart ∙ sym (spare_by places (map spare xs) w)
+
+-- something in the place of another that says the same changes no front
+pub same_state_fronts : {X : Type 0} (state : X → Front) (places : List ℕ) (xs : List X) (k : ℕ) (old new : X) → old ≡ get_or xs k old → state new ≡ state old
+    → fronts_by places (map state (set xs k new)) ≡ fronts_by places (map state xs)
+same_state_fronts state places xs k old new read same = ap (fronts_by places) (map-set state xs k new ∙ again) where
+  again : set (map state xs) k (state new) ≡ map state xs
+  again = elim (cases_lt k (length xs)) [
+    | inl within ↦ ap (set (map state xs) k) (same ∙ ap state read ∙ sym (get_or-map state xs k old empty_front within)) ∙ set-get_or (map state xs) k empty_front
+    | inr past ↦ set_past (map state xs) k (state new) (omega (arith, past, length-map xs state))
+  ]

@@ -1,0 +1,97 @@
+-- What stays of the known entries: none of it is needless beside another, and it covers all that is known.
+use Rattle.std.proofs.Common.{◌≡◌, ◌≢◌, ◌⊎◌, ◌↔◌, ℕ, ◌<◌, ◌≤◌, List, [], ◌∷◌, ◌++◌, inl, inr, refl, sym, ap, subst, ◌∙◌, arith}
+use Rattle.std.specs.Prelude.{Contains}
+use Rattle.std.proofs.lemmas.Bool.{cases_lt}
+use Rattle.cost_vector.specs.Costs.{AtMost, Dominates, LexLess}
+use Rattle.cost_vector.proofs.Vectors.{AtMost-trans, cases_AtMost, cases_same, LexLess-irrefl, LexLess-trans, cases_LexLess, LexLess_from_Dominates}
+use Rattle.list_laws.proofs.Members.{in_none, each_in}
+use Rattle.list_laws.proofs.OnceLaws.{in_cons}
+use Rattle.list_laws.proofs.LeastMember.{decided_by_cases, has_least}
+use Rattle.pareto_front.specs.Fronts.{Entry, HasCost, IsDominated}
+use Rattle.pareto_front.specs.Merging.{Stays}
+use Rattle.node_front.specs.Apart.{AreApart}
+use Rattle.node_front.proofs.ApartLemmas.{same_entry, AtMost-same}
+
+-- what stays is apart
+pub apart_of_stays : (known list : List Entry) → ((x : Entry) → Contains list x → Stays known x) → AreApart list
+apart_of_stays known list stays x y x_in y_in below = elim (cases_same x.cost y.cost) [
+  | inl same ↦
+      let one : x.arc ≤ y.arc = (stays x x_in).least y (stays y y_in).contains (sym same) in
+      let other : y.arc ≤ x.arc = (stays y y_in).least x (stays x x_in).contains same in
+      same_entry x y same (omega arith)
+  | inr other ↦ absurd ((stays y y_in).nondominated
+      (record { by = x; contains = (stays x x_in).contains; dominates = record { at_most = below; differs = other } }))
+]
+
+-- the order of entries by cost, and then by arc
+abbrev IsBefore : Entry → Entry → Type 0
+IsBefore x y = LexLess x.cost y.cost ⊎ ((x.cost ≡ y.cost) × (x.arc < y.arc))
+
+before_irrefl : (x : Entry) → ¬ IsBefore x x
+before_irrefl x = elim [ inl less ↦ LexLess-irrefl x.cost less | inr less ↦ omega (arith, less.1) ]
+
+before_trans : (x y z : Entry) → IsBefore x y → IsBefore y z → IsBefore x z
+before_trans x y z (inl xy) (inl yz) = inl (LexLess-trans x.cost y.cost z.cost xy yz)
+before_trans x y z (inl xy) (inr yz) = inl (subst (LexLess x.cost) yz.0 xy)
+before_trans x y z (inr xy) (inl yz) = inl (subst (λ c. LexLess c z.cost) (sym xy.0) yz)
+before_trans x y z (inr xy) (inr yz) = inr (xy.0 ∙ yz.0, omega (arith, xy.1, yz.1))
+
+before_cases : (x y : Entry) → IsBefore x y ⊎ ((x ≡ y) ⊎ IsBefore y x)
+before_cases x y = elim (cases_LexLess x.cost y.cost) [
+  | inl less ↦ inl (inl less)
+  | inr (inr above) ↦ inr (inr (inl above))
+  | inr (inl same) ↦ elim (cases_lt x.arc y.arc) [
+    | inl less ↦ inl (inr (same, less))
+    | inr not_less ↦ elim (cases_lt y.arc x.arc) [
+      | inl above ↦ inr (inr (inr (sym same, above)))
+      | inr not_above ↦ inr (inl (same_entry x y same (omega arith)))
+    ]
+  ]
+]
+
+-- those members of a list that are of a kind
+kept : {X : Type 0} (P : X → Type 0) → ((x : X) → P x ⊎ (¬ P x)) → (xs : List X) → (ys : List X) × ((y : X) → Contains ys y ↔ (Contains xs y × P y))
+kept P told [] = ([], λ y. (λ h. absurd (in_none y h), λ h. h.0))
+kept P told (x ∷ xs) =
+    let (ys, are) = kept P told xs in
+    elim (told x) [
+      | inl holds ↦ (x ∷ ys, λ y. more (are y) (in_cons x xs y) (in_cons x ys y) (λ e. subst P (sym e) holds))
+      | inr fails ↦ (ys, λ y. no_more (are y) (in_cons x xs y) (λ e p. fails (subst P e p)))
+    ] where
+      more : {A B C E H I : Type 0} → (A ↔ (B × H)) → (C ↔ (E ⊎ B)) → (I ↔ (E ⊎ A)) → (E → H) → (I ↔ (C × H))
+      more f g i here = grind arith
+
+      no_more : {A B C E H : Type 0} → (A ↔ (B × H)) → (C ↔ (E ⊎ B)) → (E → ¬ H) → (A ↔ (C × H))
+      no_more f g none = grind arith
+
+-- for each known entry one stays whose cost is at most its cost
+pub stays_below : (known : List Entry) (x : Entry) → Contains known x → (b : Entry) × Stays known b × AtMost b.cost x.cost
+stays_below known x there =
+    let Below : Entry → Type 0 = λ y. AtMost y.cost x.cost in
+    let (ys, are) = kept Below (λ y. cases_AtMost y.cost x.cost) known in
+    let decided = λ (y z : Entry). decided_by_cases IsBefore before_irrefl before_trans y z (before_cases y z) in
+    let some : ys ≢ [] = λ none. in_none x (subst (λ (zs : List Entry). Contains zs x) none ((are x).1 (there, AtMost-same x.cost x.cost refl))) in
+    let (b, least) = has_least IsBefore before_irrefl before_trans decided ys some in
+    let below = (are b).0 least.there in
+    let first = λ (y : Entry) (y_in : Contains known y) (y_below : AtMost y.cost b.cost).
+    each_in (λ z. ¬ IsBefore z b) ys least.none_below y ((are y).1 (y_in, AtMost-trans y.cost b.cost x.cost y_below below.1)) in (
+      b,
+      record {
+        contains = below.0;
+        nondominated = λ h. first h.by h.contains h.dominates.at_most (inl (LexLess_from_Dominates h.by.cost b.cost h.dominates));
+        least = λ y y_in same. elim (cases_lt y.arc b.arc) [
+          | inl less ↦ absurd (first y y_in (AtMost-same y.cost b.cost same) (inr (same, less)))
+          | inr not_less ↦ not_less
+        ];
+      },
+      below.1,
+    )
+
+-- where no known cost dominates a known entry's cost, one of its cost stays
+pub stays_of_cost : (known : List Entry) (x : Entry) → Contains known x → ¬ IsDominated known x.cost → (b : Entry) × Stays known b × (b.cost ≡ x.cost)
+stays_of_cost known x there nondominated =
+    let (b, stays, below) = stays_below known x there in
+    elim (cases_same b.cost x.cost) [
+      | inl same ↦ (b, stays, same)
+      | inr other ↦ absurd (nondominated (record { by = b; contains = stays.contains; dominates = record { at_most = below; differs = other } }))
+    ]

@@ -1,0 +1,99 @@
+use Rattle.std.proofs.Common.{◌≡◌, ◌+◌, ◌≤◌, ℕ, List, [], ◌∷◌, ◌++◌, map, take, length, sym, ap, subst, ◌∙◌, arith}
+use Rattle.std.proofs.lemmas.List.{take_all}
+use Rattle.compact_labels.specs.declared.label.CompactLabel.{CompactLabel}
+use Rattle.pareto_front.specs.Fronts.{entries}
+use Rattle.node_front.specs.Apart.{AreApart}
+use Rattle.node_front.specs.NodeFronts.{Fronts, front_at}
+use Rattle.node_front.proofs.PlacedLemmas.{front_apart}
+use Rattle.node_front.proofs.RoundLemmas.{next_taken, entering_none, enter_room, enter_new, enter_spares, entering_more}
+use Rattle.node_front.proofs.RoundLemmas.{lowering_none, relabel_has, lowering_more, lowering_all}
+use Rattle.node_front.proofs.fronts.Fronts.apply.Goals as goal
+
+pub loop-label-init : goal.loop-label-init
+loop-label-init g c =
+    let apart = λ (v : ℕ). subst (λ (f : Fronts). AreApart (entries (front_at f v))) c.self.view_is
+    (front_apart c.self.inside.places.items (map g.F.ParetoFront.state c.self.inside.fronts.items) c.self.invariant.placed v) in
+    entering_none c.args.self.now c.args.deltas.now apart c.requires.room
+
+pub enter-requires : goal.enter-requires
+enter-requires g c =
+    let before = c.args.self.now in
+    let d = c.args.deltas.now in
+    let apart = λ (v : ℕ). subst (λ (f : Fronts). AreApart (entries (front_at f v))) c.self.view_is
+    (front_apart c.self.inside.places.items (map g.F.ParetoFront.state c.self.inside.fronts.items) c.self.invariant.placed v) in
+    let i = c.loop-label.label-index in
+    let now = c.loop-label.self in
+    let l = c.label-item.result in
+    let more = next_taken c.added-label-items.result.now d.added i l c.added-label-items.ensures c.loop-label-test.true c.label-item.is in
+    let some = c.requires.deltas in (
+      omega arith,
+      (
+        omega arith,
+        (
+          enter_room before d apart some.candidates some.deltas i now c.loop-label.invariant l more,
+          (
+            enter_new before d apart some.candidates some.deltas i now c.loop-label.invariant l more,
+            enter_spares before d apart some.candidates some.deltas i now c.loop-label.invariant l more,
+          ),
+        ),
+      ),
+    )
+
+pub loop-label-preserved : goal.loop-label-preserved
+loop-label-preserved g c =
+    let before = c.args.self.now in
+    let d = c.args.deltas.now in
+    let apart = λ (v : ℕ). subst (λ (f : Fronts). AreApart (entries (front_at f v))) c.self.view_is
+    (front_apart c.self.inside.places.items (map g.F.ParetoFront.state c.self.inside.fronts.items) c.self.invariant.placed v) in
+    let l = c.label-item.result in
+    let more = next_taken c.added-label-items.result.now d.added c.loop-label.label-index l c.added-label-items.ensures c.loop-label-test.true c.label-item.is in
+    entering_more before d apart c.requires.deltas.candidates c.requires.deltas.deltas c.loop-label.label-index c.loop-label.self c.loop-label.invariant l more
+    c.enter.new.self c.enter.ensures.elsewhere c.enter.ensures.others c.enter.ensures.entered c.enter.ensures.room_left
+
+pub loop-label-2-init : goal.loop-label-2-init
+loop-label-2-init g c =
+    let d = c.args.deltas.now in
+    let apart = λ (v : ℕ). subst (λ (f : Fronts). AreApart (entries (front_at f v))) c.self.view_is
+    (front_apart c.self.inside.places.items (map g.F.ParetoFront.state c.self.inside.fronts.items) c.self.invariant.placed v) in
+    let past : length d.added ≤ c.loop-label.label-index =
+    subst (λ (ls : List (CompactLabel g.row.D)). length ls ≤ c.loop-label.label-index) c.added-label-items.ensures c.loop-label-test.false in
+    lowering_none c.args.self.now d apart c.loop-label.label-index c.loop-label.self (take_all c.loop-label.label-index d.added past) c.loop-label.invariant
+
+pub relabel-requires : goal.relabel-requires
+relabel-requires g c =
+    let before = c.args.self.now in
+    let d = c.args.deltas.now in
+    let apart = λ (v : ℕ). subst (λ (f : Fronts). AreApart (entries (front_at f v))) c.self.view_is
+    (front_apart c.self.inside.places.items (map g.F.ParetoFront.state c.self.inside.fronts.items) c.self.invariant.placed v) in
+    let i = c.loop-label-2.label-index in
+    let l = c.label-item-in-loop-label-2.result in
+    let more = next_taken c.lowered-label-items.result.now d.lowered i l c.lowered-label-items.ensures c.loop-label-2-test.true
+    c.label-item-in-loop-label-2.is in (
+      omega arith,
+      (
+        omega arith,
+        relabel_has before d apart c.requires.deltas.candidates c.requires.deltas.deltas i c.loop-label-2.self c.loop-label-2.invariant l more,
+      ),
+    )
+
+pub loop-label-2-preserved : goal.loop-label-2-preserved
+loop-label-2-preserved g c =
+    let d = c.args.deltas.now in
+    let apart = λ (v : ℕ). subst (λ (f : Fronts). AreApart (entries (front_at f v))) c.self.view_is
+    (front_apart c.self.inside.places.items (map g.F.ParetoFront.state c.self.inside.fronts.items) c.self.invariant.placed v) in
+    let i = c.loop-label-2.label-index in
+    let l = c.label-item-in-loop-label-2.result in
+    let more = next_taken c.lowered-label-items.result.now d.lowered i l c.lowered-label-items.ensures c.loop-label-2-test.true
+    c.label-item-in-loop-label-2.is in
+    lowering_more c.args.self.now d apart c.requires.deltas.candidates c.requires.deltas.deltas i c.loop-label-2.self c.loop-label-2.invariant l more
+    c.relabel.new.self c.relabel.ensures.elsewhere c.relabel.ensures.relabelled
+
+pub returns-clause-merged : goal.returns-clause-merged
+returns-clause-merged g c candidates are =
+    let d = c.args.deltas.now in
+    let apart = λ (v : ℕ). subst (λ (f : Fronts). AreApart (entries (front_at f v))) c.self.view_is
+    (front_apart c.self.inside.places.items (map g.F.ParetoFront.state c.self.inside.fronts.items) c.self.invariant.placed v) in
+    let past : length d.lowered ≤ c.loop-label-2.label-index =
+    subst (λ (ls : List (CompactLabel g.row.D)). length ls ≤ c.loop-label-2.label-index) c.lowered-label-items.ensures c.loop-label-2-test.false in
+    lowering_all c.args.self.now d apart candidates are c.loop-label-2.label-index c.loop-label-2.self (take_all c.loop-label-2.label-index d.lowered past)
+    c.loop-label-2.invariant

@@ -1,0 +1,27 @@
+use Rattle.std.proofs.Common.{◌≡◌, ℕ, ◌<◌, ◌^◌, map, get_or, length, sym, ◌∙◌, arith, rules}
+use Rattle.std.proofs.lemmas.List.{length-map}
+use Rattle.node_front.proofs.PlacedLemmas.{few_begun, placed_more, fronts_more, spares_more}
+use Rattle.node_front.proofs.fronts.reach.Goals as goal
+
+pub overflow_cast-next : goal.overflow_cast-next
+overflow_cast-next g c =
+    let fronts = map g.F.ParetoFront.state c.args.fronts.now.items in
+    let few = few_begun c.args.places.now.items fronts c.requires.kept.placed in
+    let small : c.len-next.result < 2 ^ 32 = omega (arith, few, c.requires.kept.placed.few, length-map c.args.fronts.now.items g.F.ParetoFront.state) in
+    search rules
+
+pub returns-clause-kept : goal.returns-clause-kept
+returns-clause-kept g c =
+    let after = placed_more g.F.ParetoFront.state g.F.ParetoFront.spare c.args.places.now.items c.args.fronts.now.items c.push.new.self.items c.new.result c.args.node.0
+    c.len-next.result c.requires.kept.placed c.requires.node c.requires.within (search rules) c.new.ensures c.in_ok-push.ensures.items (search rules) in
+    record { two = c.requires.kept.two; four = c.requires.kept.four; placed = after }
+
+pub returns-clause-same : goal.returns-clause-same
+returns-clause-same g c =
+    fronts_more g.F.ParetoFront.state g.F.ParetoFront.spare c.args.places.now.items c.args.fronts.now.items c.push.new.self.items c.new.result c.args.node.0
+    c.len-next.result c.requires.kept.placed c.requires.node c.requires.within (search rules) c.new.ensures c.in_ok-push.ensures.items (search rules)
+
+pub returns-clause-spares : goal.returns-clause-spares
+returns-clause-spares g c =
+    spares_more g.F.ParetoFront.state g.F.ParetoFront.spare c.args.places.now.items c.args.fronts.now.items c.push.new.self.items c.new.result c.args.node.0
+    c.len-next.result c.requires.kept.placed c.requires.node c.requires.within (search rules) c.new.ensures c.in_ok-push.ensures.items (search rules)

@@ -1,0 +1,4 @@
+pub mod Apart
+pub mod NodeFronts
+pub mod Deltas
+pub mod Survivors

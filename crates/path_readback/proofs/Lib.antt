@@ -1,0 +1,2 @@
+pub mod WellFoundLaws
+pub mod ReadbackLemmas

@@ -1,0 +1,37 @@
+-- What a search has found.
+use Rattle.std.specs.Prelude.{ℕ, ◌-◌, ◌≤◌, ◌↔◌, List, length, AllPairs, Contains, min}
+use Rattle.cost_vector.specs.Costs.{LexLess, min_criteria, max_criteria}
+use Rattle.road_network.specs.Limits.{max_nodes}
+use Rattle.road_network.specs.Network.{IsNode}
+use Rattle.event_machine.specs.Machine.{Label, IsSamePair}
+
+-- The nodes and the criteria of the network that was searched, the nodes from which and to which walks lead, the settled
+-- labels, and the settled costs of the target.
+pub record Found : Type 0 where
+  pub nodes : ℕ
+  pub criteria : ℕ
+  pub start : ℕ
+  pub target : ℕ
+  pub settled : List Label
+  pub costs : List (List ℕ)
+
+-- a settled label of the node v has the cost c
+pub record HasSettled (f : Found) (v : ℕ) (c : List ℕ) : Type 0 where
+  pub arc : ℕ
+  pub settled : Contains f.settled (record { node = v; cost = c; arc = arc })
+
+-- No node has two settled labels of one cost, and the costs are those of the target, in strictly ascending
+-- lexicographic order.
+pub record IsFound (f : Found) : Type 0 where
+  pub two : min_criteria ≤ f.criteria
+  pub four : f.criteria ≤ max_criteria
+  pub nodes : f.nodes ≤ max_nodes
+  pub start : IsNode f.nodes f.start
+  pub target : IsNode f.nodes f.target
+  pub once : AllPairs (λ l m. ¬ IsSamePair l m) f.settled
+  pub ascending : AllPairs LexLess f.costs
+  pub costs : (c : List ℕ) → Contains f.costs c ↔ HasSettled f f.target c
+
+-- the most arcs that a walk through settled labels alone can have: it reaches each of them, and each node, once at most
+abbrev pub longest_in : Found → ℕ
+longest_in f = min f.nodes (length f.settled) - 1

@@ -5,6 +5,8 @@ mod answer;
 mod form;
 mod page;
 mod piece;
+mod refusal;
 
 pub use answer::put_answer;
 pub use form::Form;
+pub use refusal::put_refusal;

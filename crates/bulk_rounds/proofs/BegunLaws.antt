@@ -1,7 +1,6 @@
 -- Each event that may happen leads to some state. The first half of a round: its drops in any order and then its takes in any order lead to one state.
 use Rattle.std.proofs.Common.{◌≡◌, ◌≢◌, ℕ, ◌+◌, ◌-◌, ◌<◌, ◌≤◌, ◌⊎◌, ◌↔◌, List, [], ◌∷◌, ◌++◌, length, map, Option, Some, inl, inr, refl, sym, ap, subst, ◌∙◌}
-use Rattle.std.proofs.Common.{arith}
-use Rattle.std.specs.Prelude.{slice_get, Contains, AllPairs, IsPermutation}
+use Rattle.std.proofs.Common.{arith, slice_get, Contains, AllPairs, IsPermutation}
 use Rattle.std.specs.List.{range_with_len}
 use Rattle.std.proofs.lemmas.Bool.{cases_eq, cases_lt}
 use Rattle.std.proofs.lemmas.List.Elements.{Contains-append_left, Contains-append_right}
@@ -10,14 +9,14 @@ use Rattle.cost_vector.specs.Costs.{plus, Dominates, Within}
 use Rattle.cost_vector.proofs.Vectors.{cases_Dominates, cases_Within}
 use Rattle.list_laws.specs.Sets.{ListsOnce}
 use Rattle.list_laws.proofs.Members.{in_rest, in_front, in_map, in_none, in_first}
-use Rattle.list_laws.proofs.OnceLaws.{IsTold, told_as, told_not, told_both, told_either, told_some, told_in, sift, list_all, taken_out, range_once, in_cons}
+use Rattle.list_laws.proofs.OnceLaws.{IsTold, told_as, told_not, told_both, told_either, told_member, told_in, sift, list_all, taken_out, range_once, in_cons}
 use Rattle.list_laws.proofs.OnceLaws.{empty_if_none, same_by, once_as}
 use Rattle.list_laws.proofs.Pairs.{pairs_rest, pair_with_first}
 use Rattle.list_laws.proofs.SetLaws.{none_of_empty, same_by_permutation}
 use Rattle.road_network.specs.Network.{Network}
 use Rattle.road_network.proofs.Reached.{arc_counts}
 use Rattle.event_machine.specs.Machine.{Task, Label, IsSamePair, Beats, SearchState, Place, settled, dropped, waiting, entries_at, IsEntry, LeadsOn, IsTask}
-use Rattle.event_machine.specs.Machine.{waits, is_candidate, has_arc, IsBeatenAtTarget}
+use Rattle.event_machine.specs.Machine.{waits, is_candidate, has_arc, IsBeatenAtTarget, Follows}
 use Rattle.event_machine.specs.Events.{Becomes, MayTake, Takes, MayDrop, Drops, Relaxes, IsMerged, keeps, lowers, discards, enters, Merges, Event, take, drop}
 use Rattle.event_machine.specs.Events.{IsSame, Happens, Runs}
 use Rattle.event_machine.specs.Rounds.{IsBetweenRounds, IsUndominated, Begins}
@@ -28,20 +27,14 @@ use Rattle.event_machine.proofs.Running.{useless_on, same_itself, runs_on, runs_
 -- ---- what is told
 
 told_place : (p q : Place) → IsTold (p ≡ q)
-told_place settled settled = inl refl
-told_place dropped dropped = inl refl
-told_place waiting waiting = inl refl
-told_place _ _ = inr (λ e. absurd cc)
+told_place p q = grind arith
 
 listed : (p : Place) → Contains (settled ∷ dropped ∷ waiting ∷ []) p
 listed settled = (0, omega arith, refl)
 listed dropped = (1, omega arith, refl)
 listed waiting = (2, omega arith, refl)
 
--- whether P holds of a member, and of an entry
-told_member : {X : Type 0} (P : X → Type 0) → ((x : X) → IsTold (P x)) → (xs : List X) → IsTold ((x : X) × Contains xs x × P x)
-told_member P told xs = elim (told_some P told xs) [ inl found ↦ inl found | inr none ↦ inr (λ (x, here, holds). none x here holds) ]
-
+-- whether P holds of an entry
 told_entry : (P : Label → Type 0) → ((y : Label) → IsTold (P y)) → (s : SearchState) → IsTold ((y : Label) × IsEntry s y × P y)
 told_entry P told s = told_as (λ (p, _, (y, here, holds)). (y, (p, here), holds)) (λ (y, (p, here), holds). (p, listed p, (y, here, holds)))
     (told_member (λ p. (y : Label) × Contains (entries_at s p) y × P y) (λ p. told_member P told (entries_at s p)) (settled ∷ dropped ∷ waiting ∷ []))
@@ -110,18 +103,12 @@ module _ (task : Task) (s : SearchState) where
 
   pub relax_happens : (l : Label) (k : ℕ) → Contains s.unrelaxed (l, k) → LeadsOn task.network l.node k → (next : SearchState) × Relaxes task s l k next
   relax_happens l k may on =
-      let rest = sift cases_pair (λ p. p ≢ (l, k)) (λ p. told_not (cases_pair p (l, k))) s.unrelaxed in
-      let x : Label = record { node = on.to; cost = plus l.cost on.by; arc = k } in (
-        record s { unrelaxed = rest.0; candidates = x ∷ s.candidates },
-        record {
-          may = may;
-          candidate = x;
-          follows = record { by = on.by; leads = on.leads; cost = refl };
-          arc = refl;
-          entries = λ p y. (λ h. h, λ h. h);
-          unrelaxed = rest.1.exact;
-          candidates = IsPermutation-refl (x ∷ s.candidates);
-        },
+      let (rest, left) = sift cases_pair (λ p. p ≢ (l, k)) (λ p. told_not (cases_pair p (l, k))) s.unrelaxed in
+      let x : Label = record { node = on.to; cost = plus l.cost on.by; arc = k } in
+      let f : Follows task.network l x = record { by = on.by; leads = on.leads; cost = refl } in
+      let moved = IsPermutation-refl (x ∷ s.candidates) in (
+        record s { unrelaxed = rest; candidates = x ∷ s.candidates },
+        record { may = may; candidate = x; follows = f; arc = refl; entries = λ p y. (λ h. h, λ h. h); unrelaxed = left.exact; candidates = moved },
       )
 
 module _ (s : SearchState) (x : Label) (there : Contains s.candidates x) where
@@ -227,14 +214,7 @@ abbrev OpensArcs : Task → Label × ℕ → Type 0
 OpensArcs task p = LeadsOn task.network p.0.node p.1
 
 take_moves : (task : Task) (s : SearchState) (l : Label) (next : SearchState) → Takes task s l next → Moves (λ y. y ≡ l) settled (OpensArcs task) s next
-take_moves task s l next h = record {
-  entries = h.entries;
-  unrelaxed = λ p. opens (h.unrelaxed p) (λ e. subst (λ (m : Label). LeadsOn task.network m.node p.1) e)
-      (λ e. subst (λ (m : Label). LeadsOn task.network m.node p.1) (sym e));
-  candidates = h.candidates;
-} where
-  opens : {B S E O P : Type 0} → (B ↔ (S ⊎ (E × O))) → (E → P → O) → (E → O → P) → (B ↔ (S ⊎ (E × P)))
-  opens f to back = grind arith
+take_moves task s l next h = record { entries = h.entries; unrelaxed = λ p. let u = h.unrelaxed p in grind arith; candidates = h.candidates }
 
 -- ---- what is told of a state
 

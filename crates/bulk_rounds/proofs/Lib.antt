@@ -1,4 +1,3 @@
 pub mod CompletesLaws
 pub mod BegunLaws
-pub mod PieceLaws
 pub mod RoundLaws

@@ -1,31 +1,27 @@
 -- Rounds: each state between rounds has one, all its rounds lead to one state, and a counted round settles some label. There is one number of
 -- counted rounds, each makes what waits heavier, and how many labels are settled says whether the query passes its budget.
-use Rattle.std.proofs.Common.{◌≡◌, ◌≢◌, ℕ, zero, suc, ◌+◌, ◌<◌, ◌≤◌, ◌⊎◌, ◌↔◌, List, [], ◌∷◌, ◌++◌, length, map, replicate, sum}
-use Rattle.std.proofs.Common.{inl, inr, refl, sym, ap, ap₂, subst, ◌∙◌, arith}
-use Rattle.std.specs.Prelude.{AllPairs, Contains}
+use Rattle.std.proofs.Common.{◌≡◌, ◌≢◌, ℕ, zero, suc, ◌+◌, ◌<◌, ◌≤◌, ◌⊎◌, ◌↔◌, List, [], ◌∷◌, ◌++◌, length, map, replicate, sum, inl, inr, refl, sym, ap, ap₂}
+use Rattle.std.proofs.Common.{subst, ◌∙◌, arith, AllPairs, Contains}
 use Rattle.std.proofs.lemmas.Bool.{cases_lt}
 use Rattle.std.proofs.lemmas.List.{length-map}
 use Rattle.std.proofs.lemmas.List.Elements.{All-map, All-weaker}
 use Rattle.cost_vector.proofs.Vectors.{sum-Dominates}
 use Rattle.list_laws.specs.Sets.{HasMoreThan}
-use Rattle.list_laws.proofs.Members.{in_none, cases_in, in_map, each_in}
-use Rattle.list_laws.proofs.Pairs.{pairs_none, pairs_cons, pairs_map, pigeonhole}
-use Rattle.list_laws.proofs.SetLaws.{none_of_empty, same_by_permutation, more_by_list}
-use Rattle.list_laws.proofs.OnceLaws.{IsTold, told_some, told_in, list_all, once_as, empty_if_none}
+use Rattle.list_laws.proofs.Members.{in_none, cases_in, in_map}
+use Rattle.list_laws.proofs.Pairs.{pairs_none, pairs_cons, pairs_map}
+use Rattle.list_laws.proofs.SetLaws.{none_of_empty, same_by_permutation, more_by_list, more_on}
+use Rattle.list_laws.proofs.OnceLaws.{told_some, told_more, more_of_map, once_as, empty_if_none}
 use Rattle.road_network.specs.Answers.{IsRelevant, Passes}
 use Rattle.road_network.proofs.BestLaws.{start_is_relevant}
 use Rattle.event_machine.specs.Machine.{Task, IsTask, Label, IsSamePair, SearchState, start_state, settled, dropped, waiting}
 use Rattle.event_machine.specs.Events.{Event, drop, take, merge, IsSame, MayDrop, Runs, IsReached}
 use Rattle.event_machine.specs.Rounds.{IsBetweenRounds, Begins, Finishes, Round, CountedRound, GoRounds, NoneStays, Rounds, relaxing}
 use Rattle.event_machine.specs.Orders.{Stays, IsNext, IsBegun, IsOutcome}
-use Rattle.event_machine.proofs.Sound.{IsSound, cases_label, same_pair}
+use Rattle.event_machine.proofs.Sound.{IsSound, cases_label, same_pair, grown_from_settled, all_settled}
 use Rattle.event_machine.proofs.Running.{same_itself, same_back, same_through, drop_alike, runs_on, runs_from_same, along_run}
-use Rattle.event_machine.proofs.Frontier.{grown_from_settled, all_settled}
-use Rattle.event_machine.proofs.Stepping.{changes_of}
-use Rattle.event_machine.proofs.Keeping.{sound_after, same_is_sound, sound_if_reached, settled_once}
+use Rattle.event_machine.proofs.Keeping.{changes_of, sound_after, same_is_sound, sound_if_reached, settled_once}
 use Rattle.bulk_rounds.proofs.BegunLaws.{told_may_drop, told_stays, told_better, all_drops, left_waiting, some_begun, begins_is_begun, one_begun}
-use Rattle.bulk_rounds.proofs.CompletesLaws.{some_outcome, finishes_is_outcome}
-use Rattle.bulk_rounds.proofs.CompletesLaws.{one_outcome}
+use Rattle.bulk_rounds.proofs.CompletesLaws.{some_outcome, finishes_is_outcome, one_outcome}
 
 module _ (task : Task) (is : IsTask task) where
   -- ---- a round is a run
@@ -48,8 +44,7 @@ module _ (task : Task) (is : IsTask task) where
 
   -- what it leads to is reached, and keeps what is settled
   reached_on : (s t : SearchState) → IsReached task s → LeadsTo s t → IsReached task t
-  reached_on s t reached leads =
-      record { events = reached.events ++ leads.0; run = runs_on task (start_state task) s t reached.events leads.0 reached.run leads.1 }
+  reached_on s t reached leads = grind (arith, runs_on)
 
   kept_on : (s t : SearchState) (l : Label) → IsReached task s → LeadsTo s t → Contains s.settled l → Contains t.settled l
   kept_on s t l reached (events, run) there = (along_run task (λ _ m. IsSound task m × Contains m.settled l)
@@ -74,15 +69,10 @@ module _ (task : Task) (is : IsTask task) where
   }
 
   abbrev begins_from_same : (a b t : SearchState) → IsSame a b → Begins task b t → Begins task a t
-  begins_from_same a b t same h = record {
-    drops = h.drops;
-    each_drop = once_as (MayDrop task b) (MayDrop task a) h.drops (λ l. (drop_alike task b a (same_back a b same) l, drop_alike task a b same l)) h.each_drop;
-    left = h.left;
-    dropping = runs_from_same task a b h.left (map (λ l. drop l) h.drops) (same_back a b same) h.dropping;
-    takes = h.takes;
-    each_take = h.each_take;
-    taking = h.taking;
-  }
+  begins_from_same a b t same h =
+      let all = once_as (MayDrop task b) (MayDrop task a) h.drops (λ l. (drop_alike task b a (same_back a b same) l, drop_alike task a b same l)) h.each_drop in
+      let run = runs_from_same task a b h.left (map (λ l. drop l) h.drops) (same_back a b same) h.dropping in
+      record { drops = h.drops; each_drop = all; left = h.left; dropping = run; takes = h.takes; each_take = h.each_take; taking = h.taking }
 
   abbrev round_from_same : (a b t : SearchState) → IsSame a b → IsBetweenRounds a → Round task b t → Round task a t
   round_from_same a b t same between h =
@@ -151,23 +141,6 @@ module _ (task : Task) (is : IsTask task) where
   pub settles : (s t : SearchState) → IsReached task s → CountedRound task s t → (l : Label) × Contains t.settled l × (¬ Contains s.settled l)
   settles s t reached h = let (l, next) = some_next s t reached h in let new = taken_is_new s t reached h.round l next in (l, new.0, new.1)
 
--- ---- more than so many labels
-
--- whether a list contains more than n different labels
-cases_more : (n : ℕ) (xs : List Label) → IsTold (HasMoreThan n xs)
-cases_more n xs =
-    let (ys, lists) = list_all cases_label (Contains xs) (told_in cases_label xs) xs (λ y there. there) in
-    elim (cases_lt n (length ys)) [
-      | inl below ↦ inl (more_by_list n xs ys lists.once (λ y there. (lists.exact y).0 there) below)
-      | inr above ↦ inr (λ more.
-          let most = pigeonhole more.members ys more.distinct (λ y there. (lists.exact y).1 (each_in (Contains xs) more.members more.each y there)) in
-          omega (arith, above, most, more.more))
-    ]
-
-more_on : (n : ℕ) (xs ys : List Label) → ((y : Label) → Contains xs y → Contains ys y) → HasMoreThan n xs → HasMoreThan n ys
-more_on n xs ys on more =
-    more_by_list n ys more.members more.distinct (λ y there. on y (each_in (Contains xs) more.members more.each y there)) (omega (arith, more.more))
-
 -- some waiting label stays after the drops, or none does
 cases_stays : (task : Task) (s : SearchState) → ((l : Label) × Stays task s l) ⊎ NoneStays task s
 cases_stays task s = elim (told_some (Stays task s) (told_stays task s) s.waiting) [
@@ -186,7 +159,7 @@ module _ (task : Task) (is : IsTask task) (budget : ℕ) where
       → ((y : Label) → Contains seen y → Contains s.settled y) → length seen + left ≡ budget + 1
       → (n : ℕ) × (last : SearchState) × GoRounds task budget n s last × Stops last
   rounds_from zero s reached between seen once each full = (0, s, same_itself s, inl (more_by_list budget s.settled seen once each (omega (arith, full))))
-  rounds_from (suc left) s reached between seen once each full = elim (cases_more budget s.settled) [
+  rounds_from (suc left) s reached between seen once each full = elim (told_more cases_label budget s.settled) [
     | inl more ↦ (0, s, same_itself s, inl more)
     | inr few ↦ elim (cases_stays task s) [
       | inr none ↦ (0, s, same_itself s, inr none)
@@ -277,9 +250,7 @@ module _ (task : Task) (is : IsTask task) (budget : ℕ) where
 
   pub round_after_all : (n : ℕ) (s t : SearchState) → GoRounds task budget n (start_state task) s → ¬ HasMoreThan budget s.settled → CountedRound task s t
       → GoRounds task budget (n + 1) (start_state task) t
-  round_after_all n s t go few round =
-      let one : suc n ≡ n + 1 = omega arith in
-      subst (λ m. GoRounds task budget m (start_state task) t) one (one_round_more n (start_state task) s t reached_at_start start_between go few round)
+  round_after_all n s t go few round = grind (arith, one_round_more, reached_at_start, start_between)
 
   -- where the search doesn't stop between rounds, more rounds come
   pub more_to_come : (k n : ℕ) (s : SearchState) (l : Label) → GoRounds task budget k (start_state task) s
@@ -300,17 +271,7 @@ module _ (task : Task) (is : IsTask task) (budget : ℕ) where
     begun = begun_of task is s t reached round
 
     heavier_left : (y : Label) → Contains round.begun.waiting y → k + 1 ≤ sum y.cost
-    heavier_left y here = elim ((begun.entries waiting y).0 here) [
-      | inl (it_waits, kept, not_next) ↦ elim (cases_lt k (sum y.cost)) [
-        | inl below ↦ omega (arith, below)
-        | inr above ↦ absurd (not_next (record {
-          stays = record { waits = it_waits; kept = kept };
-          none_better = λ z stays better. let less = sum-Dominates z.cost y.cost better in omega (arith, less, above, weighs z stays.waits);
-        }))
-      ]
-      | inr (inl (wrong, _)) ↦ absurd cc
-      | inr (inr (wrong, _)) ↦ absurd cc
-    ]
+    heavier_left y here = let was = (begun.entries waiting y).0 here in grind (arith, cases_lt, sum-Dominates)
 
     heavier : Weighs (k + 1) t
     heavier y there =
@@ -343,8 +304,7 @@ module _ (task : Task) (is : IsTask task) (budget : ℕ) where
       (rest.0, rest.1, omega (arith, rest.2))
 
   -- so many rounds take a label of no less a sum
-  pub bounded : (n : ℕ) → Rounds task budget n
-      → (v : ℕ) × (c : List ℕ) × IsRelevant task.network task.start task.target task.limit v c × (n ≤ sum c + 1)
+  pub bounded : (n : ℕ) → Rounds task budget n → (v : ℕ) × (c : List ℕ) × IsRelevant task.network task.start task.target task.limit v c × (n ≤ sum c + 1)
   bounded zero h =
       let start = start_is_relevant task.network task.start task.target task.limit is.start is.limit in
       (task.start, replicate task.network.criteria 0, start, omega arith)
@@ -382,8 +342,8 @@ module _ (task : Task) (is : IsTask task) (s : SearchState) (reached : IsReached
       → ¬ Passes task.network task.start task.target task.limit budget
   within_where_none_stays budget between none few passes =
       let all = all_settled task is s (sound_if_reached task is s reached) between.candidates between.unrelaxed none in
-      let (ls, lists) = list_all cases_label (Contains s.settled) (told_in cases_label s.settled) s.settled (λ l there. there) in
-      let most = pigeonhole passes.pairs (map pair_of ls) passes.distinct (λ p there.
-      let h = all p.0 p.1 (each_in IsRelevantPair passes.pairs passes.relevant p there) in
-      subst (Contains (map pair_of ls)) (ap₂ (λ v c. (v, c)) h.node h.cost) (in_map pair_of ls h.label ((lists.exact h.label).1 h.settled))) in
-      few (more_by_list budget s.settled ls lists.once (λ l there. (lists.exact l).0 there) (omega (arith, most, length-map ls pair_of, passes.more)))
+      let settled_pair = λ (p : ℕ × List ℕ) (relevant : IsRelevantPair p).
+      let h = all p.0 p.1 relevant in
+      subst (Contains (map pair_of s.settled)) (ap₂ (λ v c. (v, c)) h.node h.cost) (in_map pair_of s.settled h.label h.settled) in
+      let each = All-weaker IsRelevantPair (Contains (map pair_of s.settled)) settled_pair passes.pairs passes.relevant in
+      few (more_of_map cases_label pair_of budget s.settled (record { members = passes.pairs; more = passes.more; distinct = passes.distinct; each = each }))

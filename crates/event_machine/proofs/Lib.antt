@@ -1,5 +1,3 @@
 pub mod Running
 pub mod Sound
-pub mod Stepping
-pub mod Frontier
 pub mod Keeping

@@ -1,9 +1,8 @@
 -- Runs: which states are the same, that runs go on from and to same states, and that runs follow one another.
-use Rattle.std.proofs.Common.{ℕ, ◌⊎◌, List, [], ◌∷◌, ◌++◌, ◌↔◌, inl, inr, arith}
+use Rattle.std.proofs.Common.{ℕ, ◌⊎◌, List, [], ◌∷◌, ◌++◌, ◌↔◌, arith, Contains}
 use Rattle.std.proofs.lemmas.List.Sorted.{IsPermutation-refl, IsPermutation-sym, IsPermutation-trans}
-use Rattle.event_machine.specs.Machine.{Task, Label, SearchState, settled, waiting, IsBeatenAtTarget}
-use Rattle.std.specs.Prelude.{Contains}
 use Rattle.cost_vector.specs.Costs.{Within}
+use Rattle.event_machine.specs.Machine.{Task, Label, SearchState, settled, waiting, IsBeatenAtTarget}
 use Rattle.event_machine.specs.Events.{Event, IsSame, MayDrop, Happens, Runs}
 
 -- ---- same states
@@ -29,10 +28,7 @@ same_through a b c first second = record {
 -- what is beyond the limit or beaten at the target stays so where no settled label goes
 pub useless_on : (task : Task) (a b : SearchState) → ((y : Label) → Contains a.settled y → Contains b.settled y) → (c : List ℕ)
     → (¬ Within task.limit c) ⊎ IsBeatenAtTarget task a c → (¬ Within task.limit c) ⊎ IsBeatenAtTarget task b c
-useless_on task a b kept c = elim [
-  | inl beyond ↦ inl beyond
-  | inr h ↦ inr (record { by = h.by; settled = kept h.by h.settled; node = h.node; dominates = h.dominates })
-]
+useless_on task a b kept c = grind arith
 
 -- what may be dropped in one of two same states may be dropped in the other
 pub drop_alike : (task : Task) (a b : SearchState) → IsSame a b → (l : Label) → MayDrop task a l → MayDrop task b l
@@ -88,7 +84,4 @@ module _ (task : Task) (Q : List Event → SearchState → Type 0) (same : (even
     -- the runs are those to what each run ends at, where this is one state
     pub runs_to_end : (End : SearchState → Type 0) → ((b : SearchState) → Q [] b → End b) → ((b c : SearchState) → End b → End c → IsSame b c)
         → (events : List Event) (a : SearchState) → Q events a → (b : SearchState) → Runs task a events b ↔ End b
-    runs_to_end End ends one events a q b = (
-      λ run. ends b (along_run events a b q run),
-      λ end. let (c, run) = run_exists events a q in runs_to_same task a c b events run (one b c end (ends c (along_run events a c q run))),
-    )
+    runs_to_end End ends one events a q b = grind (arith, along_run, run_exists, runs_to_same)

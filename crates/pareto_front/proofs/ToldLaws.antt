@@ -20,7 +20,7 @@ use Rattle.list_laws.proofs.SetLaws.{same_by_permutation}
 use Rattle.pareto_front.specs.declared.front.FrontEntry.{FrontEntry}
 use Rattle.pareto_front.specs.Fronts.{Entry, AreIncomparable, entries, HasCost, IsCovered, IsFront}
 use Rattle.pareto_front.specs.Calls.{told_entry, ListsSettled, Relabels, Settles}
-use Rattle.pareto_front.specs.Blocks.{CoversAt, CoversNone, front_of}
+use Rattle.pareto_front.specs.Blocks.{CoversAt, CoversNone, told_front}
 use Rattle.pareto_front.proofs.FrontLaws.{incomparable_in_any_order, pairs_before, pairs_of_map, only_one, same_cost}
 use Rattle.pareto_front.proofs.FrontChanges.{settled_front, settles, settled_relabelled, settled_relabelled_front}
 use Rattle.pareto_front.proofs.FrontChanges.{unsettled_relabelled, unsettled_relabelled_front}
@@ -36,10 +36,10 @@ module _ {D : ℕ} {list : List (FrontEntry D)} {c : List ℕ} {i : ℕ} (there 
   told_at : (new : Entry) → get_or (map told_entry list) i new ≡ told_entry x
   told_at new = get_or-map told_entry list i x new there.within ∙ ap told_entry (sym is)
 
-  pub told_settled : (unsettled : List (FrontEntry D)) → Contains (entries (front_of list unsettled)) (told_entry x)
+  pub told_settled : (unsettled : List (FrontEntry D)) → Contains (entries (told_front list unsettled)) (told_entry x)
   told_settled unsettled = Contains-append_left (map told_entry list) (map told_entry unsettled) (told_entry x) told_in
 
-  pub told_unsettled : (settled : List (FrontEntry D)) → Contains (entries (front_of settled list)) (told_entry x)
+  pub told_unsettled : (settled : List (FrontEntry D)) → Contains (entries (told_front settled list)) (told_entry x)
   told_unsettled settled = Contains-append_right (map told_entry settled) (map told_entry list) (told_entry x) told_in
 
 -- no entry of a list is at most the cost
@@ -49,28 +49,28 @@ told_none list c none e h =
 
 module _ {D : ℕ} (settled unsettled : List (FrontEntry D)) (c : List ℕ) (first : CoversNone settled c) (second : CoversNone unsettled c) where
   -- so none of either list is
-  pub uncovered : ¬ IsCovered (entries (front_of settled unsettled)) c
+  pub uncovered : ¬ IsCovered (entries (told_front settled unsettled)) c
   uncovered h = elim (Contains-append_cases (map told_entry settled) (map told_entry unsettled) h.by h.contains) [
     | inl near ↦ told_none settled c first h.by near h.at_most
     | inr far ↦ told_none unsettled c second h.by far h.at_most
   ]
 
   -- and none has the cost
-  pub uncovered_none : ¬ HasCost (entries (front_of settled unsettled)) c
+  pub uncovered_none : ¬ HasCost (entries (told_front settled unsettled)) c
   uncovered_none h = uncovered (record { by = record { cost = c; arc = h.arc }; contains = h.contains; at_most = AtMost-refl c })
 
 -- the entry x is settled
-module _ {D : ℕ} (settled unsettled : List (FrontEntry D)) (front : IsFront D (front_of settled unsettled)) {c : List ℕ} {i : ℕ}
+module _ {D : ℕ} (settled unsettled : List (FrontEntry D)) (front : IsFront D (told_front settled unsettled)) {c : List ℕ} {i : ℕ}
     (there : CoversAt unsettled c i) (x : FrontEntry D) (is : x ≡ get_or unsettled i x) where
   out : IsPermutation (map told_entry unsettled) (told_entry x ∷ map told_entry (swap_remove unsettled i x))
   out = IsPermutation-map told_entry unsettled (x ∷ swap_remove unsettled i x) (IsPermutation-swap_remove unsettled i x there.within is)
 
-  pub told_settled_front : IsFront D (front_of (settled ++ x ∷ []) (swap_remove unsettled i x))
+  pub told_settled_front : IsFront D (told_front (settled ++ x ∷ []) (swap_remove unsettled i x))
   told_settled_front = rw (map_push told_entry settled x)
       (settled_front (map told_entry settled) (map told_entry unsettled) (map told_entry (swap_remove unsettled i x)) (told_entry x) front out)
 
-  pub told_settles : HasCost (entries (front_of settled unsettled)) c
-      → Settles (front_of settled unsettled) c (front_of (settled ++ x ∷ []) (swap_remove unsettled i x))
+  pub told_settles : HasCost (entries (told_front settled unsettled)) c
+      → Settles (told_front settled unsettled) c (told_front (settled ++ x ∷ []) (swap_remove unsettled i x))
   told_settles has = rw (map_push told_entry settled x)
       (settles (map told_entry settled) (map told_entry unsettled) (map told_entry (swap_remove unsettled i x)) (told_entry x) front out c
       (same_cost front c has (told_entry x) (told_unsettled there x is settled) (covers there x is)))
@@ -80,8 +80,8 @@ abbrev pub with_arc : {D : ℕ} → FrontEntry D → ArcNo → FrontEntry D
 with_arc x arc = record { cost = x.cost; arc = arc }
 
 -- the entry x gets another arc
-module _ {D : ℕ} (settled unsettled : List (FrontEntry D)) (front : IsFront D (front_of settled unsettled)) {c : List ℕ}
-    (has : HasCost (entries (front_of settled unsettled)) c) (arc : ArcNo) (i : ℕ) (x : FrontEntry D) where
+module _ {D : ℕ} (settled unsettled : List (FrontEntry D)) (front : IsFront D (told_front settled unsettled)) {c : List ℕ}
+    (has : HasCost (entries (told_front settled unsettled)) c) (arc : ArcNo) (i : ℕ) (x : FrontEntry D) where
   told_set : (list : List (FrontEntry D)) → x.cost.0 ≡ c
       → map told_entry (set list i (with_arc x arc)) ≡ set (map told_entry list) i (record { cost = c; arc = arc.0 })
   told_set list same = map-set told_entry list i (with_arc x arc) ∙ ap (λ c'. set (map told_entry list) i (record { cost = c'; arc = arc.0 })) same
@@ -96,12 +96,12 @@ module _ {D : ℕ} (settled unsettled : List (FrontEntry D)) (front : IsFront D 
     settled_at : (get_or (map told_entry settled) i (record { cost = c; arc = arc.0 })).cost ≡ c
     settled_at = ap (λ (e : Entry). e.cost) (told_at there x is (record { cost = c; arc = arc.0 })) ∙ settled_cost
 
-    pub told_relabels_settled : Relabels (front_of settled unsettled) (record { cost = c; arc = arc.0 })
-        (front_of (set settled i (with_arc x arc)) unsettled)
+    pub told_relabels_settled : Relabels (told_front settled unsettled) (record { cost = c; arc = arc.0 })
+        (told_front (set settled i (with_arc x arc)) unsettled)
     told_relabels_settled = rw (told_set settled settled_cost)
         (settled_relabelled (map told_entry settled) (map told_entry unsettled) i (record { cost = c; arc = arc.0 }) front settled_within settled_at)
 
-    pub told_relabelled_settled : IsFront D (front_of (set settled i (with_arc x arc)) unsettled)
+    pub told_relabelled_settled : IsFront D (told_front (set settled i (with_arc x arc)) unsettled)
     told_relabelled_settled = rw (told_set settled settled_cost)
         (settled_relabelled_front (map told_entry settled) (map told_entry unsettled) i (record { cost = c; arc = arc.0 }) front settled_within settled_at)
 
@@ -115,18 +115,18 @@ module _ {D : ℕ} (settled unsettled : List (FrontEntry D)) (front : IsFront D 
     unsettled_at : (get_or (map told_entry unsettled) i (record { cost = c; arc = arc.0 })).cost ≡ c
     unsettled_at = ap (λ (e : Entry). e.cost) (told_at there x is (record { cost = c; arc = arc.0 })) ∙ unsettled_cost
 
-    pub told_relabels_unsettled : Relabels (front_of settled unsettled) (record { cost = c; arc = arc.0 })
-        (front_of settled (set unsettled i (with_arc x arc)))
+    pub told_relabels_unsettled : Relabels (told_front settled unsettled) (record { cost = c; arc = arc.0 })
+        (told_front settled (set unsettled i (with_arc x arc)))
     told_relabels_unsettled = rw (told_set unsettled unsettled_cost)
         (unsettled_relabelled (map told_entry settled) (map told_entry unsettled) i (record { cost = c; arc = arc.0 }) front unsettled_within unsettled_at)
 
-    pub told_relabelled_unsettled : IsFront D (front_of settled (set unsettled i (with_arc x arc)))
+    pub told_relabelled_unsettled : IsFront D (told_front settled (set unsettled i (with_arc x arc)))
     told_relabelled_unsettled = rw (told_set unsettled unsettled_cost)
         (unsettled_relabelled_front (map told_entry settled) (map told_entry unsettled) i (record { cost = c; arc = arc.0 }) front unsettled_within
         unsettled_at)
 
 -- the settled entry that is at most a cost tells the arc of the settled entry of this cost
-module _ {D : ℕ} (settled unsettled : List (FrontEntry D)) (front : IsFront D (front_of settled unsettled)) {c : List ℕ} {i : ℕ}
+module _ {D : ℕ} (settled unsettled : List (FrontEntry D)) (front : IsFront D (told_front settled unsettled)) {c : List ℕ} {i : ℕ}
     (there : CoversAt settled c i) (x : FrontEntry D) (is : x ≡ get_or settled i x) where
   only_this : (arc : ℕ) → Contains (map told_entry settled) (record { cost = c; arc = arc }) → told_entry x ≡ record { cost = c; arc = arc }
   only_this arc h = only_one front (told_entry x) (record { cost = c; arc = arc }) (told_settled there x is unsettled)
@@ -150,7 +150,7 @@ pub no_arc : {D : ℕ} (settled : List (FrontEntry D)) (c : List ℕ) → Covers
 no_arc settled c none arc = (λ e. absurd (none-some arc e), λ h. absurd (told_none settled c none (record { cost = c; arc = arc.0 }) h (AtMost-refl c)))
 
 -- the settled entries in another order, sorted by their costs
-module _ {D : ℕ} (settled unsettled : List (FrontEntry D)) (front : IsFront D (front_of settled unsettled)) (list : List (FrontEntry D))
+module _ {D : ℕ} (settled unsettled : List (FrontEntry D)) (front : IsFront D (told_front settled unsettled)) (list : List (FrontEntry D))
     (moved : IsPermutation settled list) (sorted : IsSortedBy (λ x y. is_lt (lex_cmp x.cost.0 y.cost.0)) list) where
   told_moved : IsPermutation (map told_entry settled) (map told_entry list)
   told_moved = IsPermutation-map told_entry settled list moved
@@ -166,7 +166,7 @@ module _ {D : ℕ} (settled unsettled : List (FrontEntry D)) (front : IsFront D 
     | inr (inr after) ↦ absurd (false≢true (sym not_after ∙ ap is_lt after))
   ]
 
-  pub lists_settled : ListsSettled (front_of settled unsettled) list
+  pub lists_settled : ListsSettled (told_front settled unsettled) list
   lists_settled = record {
     ascending = pairs_map (λ (x y : FrontEntry D). LexLess x.cost.0 y.cost.0) LexLess (λ (e : FrontEntry D). e.cost.0) (λ x y h. h) list
         (λ i j d before within.

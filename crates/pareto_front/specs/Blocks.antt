@@ -12,8 +12,8 @@ pub record Held : Type 0 where
   pub spare : ℕ
 
 -- the front of these entries
-abbrev pub front_of : {D : ℕ} → List (FrontEntry D) → List (FrontEntry D) → Front
-front_of settled unsettled = record { settled = map told_entry settled; unsettled = map told_entry unsettled }
+abbrev pub told_front : {D : ℕ} → List (FrontEntry D) → List (FrontEntry D) → Front
+told_front settled unsettled = record { settled = map told_entry settled; unsettled = map told_entry unsettled }
 
 -- the entry at the place i is at most the cost
 pub record CoversAt {D : ℕ} (entries : List (FrontEntry D)) (c : List ℕ) (i : ℕ) : Type 0 where
@@ -35,7 +35,7 @@ pub record HaveCorners {D : ℕ} (size : ℕ) (entries : List (FrontEntry D)) (c
 -- settle all entries.
 pub record AreBlocks {D : ℕ} (settled : List (FrontEntry D)) (corners wide_corners : List (CompactCost D))
     (unsettled : List (FrontEntry D)) (room : ℕ) : Type 0 where
-  pub front : IsFront D (front_of settled unsettled)
+  pub front : IsFront D (told_front settled unsettled)
   pub cornered : HaveCorners 16 settled corners
   pub wide_cornered : HaveCorners 128 settled wide_corners
   pub fits : length settled + length unsettled ≤ room

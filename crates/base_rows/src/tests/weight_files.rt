@@ -2,7 +2,7 @@ ghost use Rattle.std.specs.Prelude.{◌≡◌, ◌≤◌, ◌<◌, ◌+◌, ◌^
 
 use super::lines::{left_in, pieces};
 use arc_graph::{ArcFile, Joiner};
-use gr_reader::{FileFault, FileLimits, GrLines, read_gr, read_into};
+use gr_reader::{FileFault, FileLimits, RecordLines, Sizes, WeightFiles, read_gr, read_into};
 use std::alloc::{AllocError, Global};
 use std::process::Abort;
 use std::test::Fail;
@@ -18,7 +18,7 @@ fn shown_file(alloc: Global, file: &ArcFile) -> Result<String, AllocError> {
 }
 
 /// The kind's number and the line of a fault, `r` or `m`.
-fn shown_fault(alloc: Global, fault: FileFault) -> Result<String, AllocError> {
+pub(super) fn shown_fault(alloc: Global, fault: FileFault) -> Result<String, AllocError> {
     match fault {
         FileFault::Line { kind, line } => format!(in alloc; "{} at {line}", kind.number()),
         FileFault::Read => String::from_str(alloc, "r"),
@@ -184,10 +184,10 @@ fn cut_files(rt: HostRuntime) -> Result<(), Fail> {
 fn an_end_is_answered_again(rt: HostRuntime) -> Result<(), Fail> {
     let alloc = rt.alloc();
     let mut source = pieces(alloc, b"p sp 2 1\na 1 2 5\n", 1, vec![in alloc; 14]?)?;
-    let mut lines = GrLines::new(alloc, WIDE)?;
-    assert!(rt; lines.begin(&mut source) == Ok((2, 1)));
-    assert!(rt; lines.next_arc(&mut source) == Err(FileFault::Read));
-    assert!(rt; lines.next_arc(&mut source) == Err(FileFault::Read));
+    let mut lines: RecordLines<WeightFiles> = RecordLines::new(alloc, WIDE)?;
+    assert!(rt; lines.begin(&mut source) == Ok(Sizes { nodes: 2, arcs: 1 }));
+    assert!(rt; lines.next_record(&mut source) == Err(FileFault::Read));
+    assert!(rt; lines.next_record(&mut source) == Err(FileFault::Read));
     assert_eq!(rt; left_in(&mut source), 3);
     Ok(())
 }

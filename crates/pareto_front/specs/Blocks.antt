@@ -15,6 +15,13 @@ pub record Held : Type 0 where
 abbrev pub told_front : {D : ℕ} → List (FrontEntry D) → List (FrontEntry D) → Front
 told_front settled unsettled = record { settled = map told_entry settled; unsettled = map told_entry unsettled }
 
+-- how many settled entries a corner speaks of, and a wide corner
+abbrev pub block_size : ℕ
+block_size = 16
+
+abbrev pub wide_block_size : ℕ
+wide_block_size = 128
+
 -- the entry at the place i is at most the cost
 pub record CoversAt {D : ℕ} (entries : List (FrontEntry D)) (c : List ℕ) (i : ℕ) : Type 0 where
   pub within : i < length entries
@@ -31,18 +38,18 @@ pub record HaveCorners {D : ℕ} (size : ℕ) (entries : List (FrontEntry D)) (c
   pub at_most : (j : ℕ) (e : FrontEntry D) (c : CompactCost D) → j < length entries
       → AtMost (slice_index_or corners (j / size) c).0 (slice_index_or entries j e).cost.0
 
--- Both lists together are a front, and the settled entries have corners, for each 16 and for each 128. There is room to
--- settle all entries.
+-- Both lists together are a front, and the settled entries have corners and wide corners. There is room to settle all
+-- entries.
 pub record AreBlocks {D : ℕ} (settled : List (FrontEntry D)) (corners wide_corners : List (CompactCost D))
     (unsettled : List (FrontEntry D)) (room : ℕ) : Type 0 where
   pub front : IsFront D (told_front settled unsettled)
-  pub cornered : HaveCorners 16 settled corners
-  pub wide_cornered : HaveCorners 128 settled wide_corners
+  pub cornered : HaveCorners block_size settled corners
+  pub wide_cornered : HaveCorners wide_block_size settled wide_corners
   pub fits : length settled + length unsettled ≤ room
 
 -- how many entries can be settled, by the room for them and for their corners
 abbrev pub settled_room : ℕ → ℕ → ℕ → ℕ
-settled_room entries corners wide_corners = min entries (min (16 * corners) (128 * wide_corners))
+settled_room entries corners wide_corners = min entries (min (block_size * corners) (wide_block_size * wide_corners))
 
 -- for how many entries more there is room, among the unsettled ones and to settle all
 abbrev pub spare_of : ℕ → ℕ → ℕ → ℕ → ℕ

@@ -1,13 +1,12 @@
 -- Entries, and lists of entries of which none is needless beside another.
-use Rattle.std.proofs.Common.{◌≡◌, ◌≢◌, ◌⊎◌, ◌↔◌, ℕ, ◌≤◌, List, [], ◌∷◌, ◌++◌, inl, inr, refl, sym, ap, subst, ◌∙◌, arith}
+use Rattle.std.proofs.Common.{◌≡◌, ◌⊎◌, ◌↔◌, ℕ, List, [], ◌∷◌, ◌++◌, inl, inr, sym, ap, subst, ◌∙◌}
 use Rattle.std.specs.Prelude.{AllPairs, Contains}
 use Rattle.cost_vector.specs.Costs.{AtMost, Dominates}
 use Rattle.cost_vector.proofs.Vectors.{AtMost-refl}
 use Rattle.list_laws.proofs.Members.{in_none, cases_in}
 use Rattle.list_laws.proofs.Pairs.{pairs_rest, pair_with_first}
 use Rattle.list_laws.proofs.OnceLaws.{in_append}
-use Rattle.pareto_front.specs.Fronts.{Entry, Front, entries, HasCost, AreIncomparable, IsFront}
-use Rattle.pareto_front.specs.Merging.{Stays}
+use Rattle.pareto_front.specs.Fronts.{Entry, Front, entries, empty_front, HasCost, AreIncomparable, IsFront}
 use Rattle.node_front.specs.Apart.{AreApart}
 
 -- entries of one cost and one arc are one
@@ -58,3 +57,7 @@ apart_of_front d f is = apart_from_pairs (entries f) is.incomparable
 -- none dominates another
 pub apart_not_dominated : (list : List Entry) → AreApart list → (x y : Entry) → Contains list x → Contains list y → ¬ Dominates x.cost y.cost
 apart_not_dominated list apart x y x_in y_in less = less.differs (ap (λ (w : Entry). w.cost) (apart x y x_in y_in less.at_most))
+
+-- a front without entries is apart
+pub empty_apart : (state : Front) → state ≡ empty_front → AreApart (entries state)
+empty_apart state empty = subst (λ (f : Front). AreApart (entries f)) (sym empty) (λ x y x_in y_in below. absurd (in_none x x_in))

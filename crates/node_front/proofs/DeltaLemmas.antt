@@ -1,10 +1,8 @@
 -- What was gathered of the candidates of a node gives the delta of its front.
-use Rattle.std.proofs.Common.{◌≡◌, ◌≢◌, ◌⊎◌, ◌↔◌, ℕ, ◌<◌, ◌≤◌, Bool, true, false, not, List, [], ◌∷◌, ◌++◌, map, inl, inr, refl, sym, ap, subst, ◌∙◌, arith}
+use Rattle.std.proofs.Common.{◌≡◌, ◌≢◌, ◌↔◌, ℕ, Bool, true, not, List, [], ◌∷◌, ◌++◌, map, inl, inr, refl, sym, ap, subst, ◌∙◌, arith}
 use Rattle.std.specs.Prelude.{All, AllPairs, Contains, filter, Result, Ok, Err, IfOk}
 use Rattle.std.proofs.lemmas.Bool.{cases_Bool, cases_lt, false≢true}
-use Rattle.std.proofs.lemmas.List.Elements.{All-head, All-tail, All-filter}
 use Rattle.std.proofs.lemmas.List.Kept.{AllPairs-filter}
-use Rattle.cost_vector.specs.Costs.{Dominates}
 use Rattle.cost_vector.proofs.Vectors.{AtMost-Dominates}
 use Rattle.list_laws.specs.Sets.{ListsOnce}
 use Rattle.list_laws.proofs.Members.{in_first, in_rest, in_filter, of_filter, of_map, each_in, all_from_in}
@@ -14,9 +12,9 @@ use Rattle.compact_labels.specs.declared.label.CompactLabel.{CompactLabel}
 use Rattle.compact_labels.specs.declared.label.CompactSpot.{CompactSpot}
 use Rattle.pareto_front.specs.Calls.{GrowsBy, entry_of}
 use Rattle.pareto_front.specs.Fronts.{Entry, Front, HasCost, IsDominated, SparesSettled, entries}
-use Rattle.pareto_front.specs.Merging.{Stays, Delta, IsDelta, IsAdded, IsRemoved, IsLowered}
+use Rattle.pareto_front.specs.Merging.{IsAdded, IsRemoved, IsLowered}
 use Rattle.node_front.specs.Apart.{AreApart}
-use Rattle.node_front.specs.Deltas.{Deltas, Appends, label_of, spot_of}
+use Rattle.node_front.specs.Deltas.{Deltas, AppendsDelta, label_told, spot_told}
 use Rattle.node_front.specs.declared.merging.Survivor.{Survivor}
 use Rattle.node_front.specs.Survivors.{IsNews, IsMarked, HaveOtherCosts, told}
 use Rattle.node_front.proofs.ApartLemmas.{AtMost-same, has_append, has_cost_of, apart_not_dominated}
@@ -26,22 +24,22 @@ use Rattle.node_front.proofs.SurvivorsLemmas.{in_told, of_told}
 use Rattle.node_front.proofs.MergingLemmas.{IsGathering}
 
 -- labels of one node are those of their entries, and spots those of their costs
-label_again : {D : ℕ} (v : ℕ) (l : CompactLabel D) → l.node.0 ≡ v → l ≡ label_of v (entry_of l)
-label_again v l at = ap (λ u. label_of u (entry_of l)) at
+label_again : {D : ℕ} (v : ℕ) (l : CompactLabel D) → l.node.0 ≡ v → l ≡ label_told v (entry_of l)
+label_again v l at = ap (λ u. label_told u (entry_of l)) at
 
 labels_again : {D : ℕ} (v : ℕ) (survivors : List (Survivor D)) → ((s : Survivor D) → Contains survivors s → s.label.node.0 ≡ v)
-    → map (λ (s : Survivor D). s.label) survivors ≡ map (label_of v) (told survivors)
+    → map (λ (s : Survivor D). s.label) survivors ≡ map (label_told v) (told survivors)
 labels_again v [] at = refl
 labels_again {D} v (s ∷ ss) at =
     ap (λ (l : CompactLabel D). l ∷ map (λ (t : Survivor D). t.label) ss) (label_again v s.label (at s (in_first s ss)))
-    ∙ ap (λ (ls : List (CompactLabel D)). label_of v (entry_of s.label) ∷ ls) (labels_again v ss (λ t there. at t (in_rest s ss t there)))
+    ∙ ap (λ (ls : List (CompactLabel D)). label_told v (entry_of s.label) ∷ ls) (labels_again v ss (λ t there. at t (in_rest s ss t there)))
 
 spots_again : {D : ℕ} (v : ℕ) (spots : List (CompactSpot D)) → ((s : CompactSpot D) → Contains spots s → s.node.0 ≡ v)
-    → spots ≡ map (spot_of v) (map (λ (s : CompactSpot D). s.cost.0) spots)
+    → spots ≡ map (spot_told v) (map (λ (s : CompactSpot D). s.cost.0) spots)
 spots_again v [] at = refl
 spots_again {D} v (s ∷ ss) at =
-    ap (λ u. let t : CompactSpot D = spot_of u s.cost.0 in t ∷ ss) (at s (in_first s ss))
-    ∙ ap (λ (ts : List (CompactSpot D)). spot_of v s.cost.0 ∷ ts) (spots_again v ss (λ t there. at t (in_rest s ss t there)))
+    ap (λ u. let t : CompactSpot D = spot_told u s.cost.0 in t ∷ ss) (at s (in_first s ss))
+    ∙ ap (λ (ts : List (CompactSpot D)). spot_told v s.cost.0 ∷ ts) (spots_again v ss (λ t there. at t (in_rest s ss t there)))
 
 module _ {D : ℕ} (front : Front) (v : ℕ) (candidates : List (CompactLabel D)) (survivors : List (Survivor D)) (gathering : IsGathering front candidates survivors)
     (marks : All (IsMarked v front) survivors) (apart : AreApart (entries front)) (spares : All (λ (l : CompactLabel D). SparesSettled front l.cost.0) candidates) where
@@ -172,7 +170,7 @@ module _ {D : ℕ} (front : Front) (v : ℕ) (candidates : List (CompactLabel D)
       → GrowsBy v (λ c. HasCost front.unsettled c × IsDominated (told survivors) c) before.removed after.removed
       → after.added ≡ before.added ++ map (λ (s : Survivor D). s.label) (filter (λ (s : Survivor D). s.is_new) survivors)
       → after.lowered ≡ before.lowered ++ map (λ (s : Survivor D). s.label) (filter (λ (s : Survivor D). not s.is_new) survivors)
-      → Appends v front (map entry_of candidates) before after
+      → AppendsDelta v front (map entry_of candidates) before after
   appended_is_delta before after grows added lowered = record {
     delta = record {
       added = told (filter (λ (s : Survivor D). s.is_new) survivors);
@@ -198,9 +196,9 @@ module _ {D : ℕ} (front : Front) (v : ℕ) (candidates : List (CompactLabel D)
       → GrowsBy v (λ c. HasCost front.unsettled c × IsDominated (told first) c) was.removed after.removed
       → after.added ≡ was.added ++ map (λ (s : Survivor D). s.label) (filter (λ (s : Survivor D). s.is_new) second)
       → after.lowered ≡ was.lowered ++ map (λ (s : Survivor D). s.label) (filter (λ (s : Survivor D). not s.is_new) second)
-      → Appends v front (map entry_of candidates) before after
+      → AppendsDelta v front (map entry_of candidates) before after
   appended_at was before after first second is_was is_first is_second grows added lowered =
-      subst (λ (d : Deltas D). Appends v front (map entry_of candidates) d after) is_was (appended_is_delta was after
+      subst (λ (d : Deltas D). AppendsDelta v front (map entry_of candidates) d after) is_was (appended_is_delta was after
       (subst (λ (ss : List (Survivor D)). GrowsBy v (λ c. HasCost front.unsettled c × IsDominated (told ss) c) was.removed after.removed) is_first grows)
       (subst (λ (ss : List (Survivor D)). after.added ≡ was.added ++ map (λ (s : Survivor D). s.label) (filter (λ (s : Survivor D). s.is_new) ss)) is_second added)
       (subst (λ (ss : List (Survivor D)). after.lowered ≡ was.lowered ++ map (λ (s : Survivor D). s.label) (filter (λ (s : Survivor D). not s.is_new) ss)) is_second lowered))

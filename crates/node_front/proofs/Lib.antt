@@ -10,3 +10,4 @@ pub mod MergingLemmas
 pub mod DeltaLemmas
 pub mod MergeLaws
 pub mod RoundLemmas
+pub mod FoundLemmas

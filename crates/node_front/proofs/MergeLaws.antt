@@ -3,16 +3,15 @@ use Rattle.std.proofs.Common.{◌≡◌, ◌≢◌, ◌⊎◌, ◌↔◌, ℕ, �
 use Rattle.std.specs.Prelude.{Contains}
 use Rattle.std.proofs.lemmas.Bool.{cases_lt}
 use Rattle.std.proofs.lemmas.List.{append-nil}
-use Rattle.cost_vector.specs.Costs.{AtMost, Dominates}
+use Rattle.cost_vector.specs.Costs.{AtMost}
 use Rattle.cost_vector.proofs.Vectors.{AtMost-Dominates, cases_same}
-use Rattle.list_laws.specs.Sets.{ListsOnce}
 use Rattle.list_laws.proofs.Members.{in_none}
 use Rattle.list_laws.proofs.OnceLaws.{in_append}
 use Rattle.pareto_front.specs.Fronts.{Entry, Front, HasCost, IsCovered, IsDominated, SparesSettled, entries}
 use Rattle.pareto_front.specs.Calls.{Enters, Relabels}
-use Rattle.pareto_front.specs.Merging.{Stays, Delta, IsDelta, IsMerged, IsAdded, IsRemoved, IsLowered}
+use Rattle.pareto_front.specs.Merging.{Stays, Delta, IsDelta, IsMerged}
 use Rattle.node_front.specs.Apart.{AreApart}
-use Rattle.node_front.proofs.ApartLemmas.{same_entry, AtMost-same, has_append, has_cost_of, apart_not_dominated}
+use Rattle.node_front.proofs.ApartLemmas.{same_entry, AtMost-same, has_cost_of, apart_not_dominated}
 use Rattle.node_front.proofs.StaysLemmas.{stays_below, stays_of_cost}
 use Rattle.node_front.proofs.NeedlessLemmas.{told_entry_in, told_has_cost}
 use Rattle.node_front.proofs.MergedLemmas.{entered_merges, relabelled_merges, merged_apart}

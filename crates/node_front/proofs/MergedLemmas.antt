@@ -1,11 +1,10 @@
 -- What one label more makes of a front.
-use Rattle.std.proofs.Common.{◌≡◌, ◌≢◌, ◌⊎◌, ◌↔◌, ℕ, ◌<◌, ◌≤◌, List, [], ◌∷◌, ◌++◌, inl, inr, refl, sym, ap, subst, ◌∙◌, arith}
+use Rattle.std.proofs.Common.{◌≡◌, ◌≢◌, ◌⊎◌, ◌↔◌, ℕ, ◌≤◌, List, [], ◌∷◌, ◌++◌, inl, inr, refl, sym, ap, subst, ◌∙◌, arith}
 use Rattle.std.specs.Prelude.{Contains, Result, Ok, Err, IfOk, OnErr}
 use Rattle.std.proofs.lemmas.List.Elements.{Contains-append_left, Contains-append_right}
 use Rattle.cost_vector.specs.Costs.{AtMost, Dominates}
-use Rattle.cost_vector.proofs.Vectors.{AtMost-Dominates, Dominates-irrefl, cases_same}
-use Rattle.list_laws.specs.Sets.{SameMembers}
-use Rattle.list_laws.proofs.Members.{in_one, in_first, in_front, cases_push}
+use Rattle.cost_vector.proofs.Vectors.{AtMost-Dominates, cases_same}
+use Rattle.list_laws.proofs.Members.{in_one, in_first, cases_push}
 use Rattle.list_laws.proofs.OnceLaws.{in_append}
 use Rattle.pareto_front.specs.Fronts.{Entry, Front, entries, HasCost, IsCovered, IsDominated, SparesSettled}
 use Rattle.pareto_front.specs.Calls.{Enters, Relabels, Settles}

@@ -4,14 +4,14 @@ use Rattle.std.specs.Prelude.{Contains}
 use Rattle.std.proofs.lemmas.Bool.{cases_lt}
 use Rattle.std.proofs.lemmas.List.Elements.{Contains-append_left, Contains-append_right}
 use Rattle.cost_vector.specs.Costs.{AtMost, Dominates}
-use Rattle.cost_vector.proofs.Vectors.{AtMost-trans, AtMost-Dominates, Dominates-AtMost, Dominates-irrefl, cases_same}
+use Rattle.cost_vector.proofs.Vectors.{AtMost-trans, AtMost-Dominates, Dominates-irrefl, cases_same}
 use Rattle.list_laws.proofs.Members.{in_first, cases_push}
-use Rattle.list_laws.proofs.OnceLaws.{in_append, told_some}
-use Rattle.pareto_front.specs.Fronts.{Entry, Front, entries, HasCost, IsCovered, IsDominated, SparesSettled}
-use Rattle.pareto_front.specs.Merging.{Stays, IsAdded, IsRemoved, IsLowered}
+use Rattle.list_laws.proofs.OnceLaws.{told_some}
+use Rattle.pareto_front.specs.Fronts.{Entry, Front, entries, HasCost}
+use Rattle.pareto_front.specs.Merging.{Stays}
 use Rattle.node_front.specs.Apart.{AreApart}
 use Rattle.node_front.specs.Survivors.{IsNeedless, IsNeedlessAmong, IsNews}
-use Rattle.node_front.proofs.ApartLemmas.{same_entry, AtMost-same, has_append, has_cost_of, apart_not_dominated}
+use Rattle.node_front.proofs.ApartLemmas.{same_entry, AtMost-same, has_cost_of}
 use Rattle.node_front.proofs.StaysLemmas.{stays_below}
 
 -- what makes an entry needless is at most its cost

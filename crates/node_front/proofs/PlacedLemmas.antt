@@ -1,5 +1,5 @@
 -- How the fronts of all nodes are kept: what one more front changes, and what another one at a node's place changes.
-use Rattle.std.proofs.Common.{◌≡◌, ◌≢◌, ◌⊎◌, ℕ, zero, suc, ◌+◌, ◌<◌, ◌≤◌, List, [], ◌∷◌, ◌++◌, length, map, get_or, set, replicate, inl, inr, refl, sym, ap, subst, subst₂, ◌∙◌, arith}
+use Rattle.std.proofs.Common.{◌≡◌, ◌≢◌, ◌⊎◌, ℕ, zero, suc, ◌<◌, ◌≤◌, List, [], ◌∷◌, ◌++◌, length, map, get_or, set, replicate, inl, inr, refl, sym, ap, subst, subst₂, ◌∙◌, arith}
 use Rattle.std.specs.Prelude.{All, Contains}
 use Rattle.std.specs.List.{range_with_len}
 use Rattle.std.proofs.lemmas.Bool.{cases_lt}
@@ -9,9 +9,9 @@ use Rattle.std.proofs.lemmas.List.FromFn.{length-range_with_len}
 use Rattle.list_laws.proofs.Members.{in_none}
 use Rattle.list_laws.proofs.Pairs.{pigeonhole}
 use Rattle.list_laws.proofs.OnceLaws.{range_once}
-use Rattle.road_network.specs.Limits.{max_nodes}
 use Rattle.pareto_front.specs.Fronts.{Front, HasCost, empty_front, entries}
 use Rattle.node_front.specs.Apart.{AreApart}
+use Rattle.node_front.proofs.ApartLemmas.{empty_apart}
 use Rattle.node_front.specs.NodeFronts.{Fronts, SameElsewhere, front_at, fronts_by, spares_by, room_at, IsPlaced}
 
 -- two numbers are the same or not
@@ -47,10 +47,6 @@ no_place n v = elim (cases_lt v n) [
   | inr past ↦ get_or_past (replicate {A = ℕ} n 0) v 0 (omega (arith, length-replicate {A = ℕ} n 0))
 ]
 
--- a front without entries is apart
-empty_apart : (state : Front) → state ≡ empty_front → AreApart (entries state)
-empty_apart state empty = subst (λ (f : Front). AreApart (entries f)) (sym empty) (λ x y x_in y_in below. absurd (in_none x x_in))
-
 module _ (places : List ℕ) (states : List Front) (placed : IsPlaced places states) where
   pub front_of : (v : ℕ) → get_or (fronts_by places states) v empty_front ≡ get_or states (get_or places v 0) empty_front
   front_of = front_by places states placed.first
@@ -82,6 +78,10 @@ module _ (places : List ℕ) (states : List Front) (placed : IsPlaced places sta
     | inl within ↦ read ∙ get_or_default places v k 0 within
     | inr past ↦ absurd (some (get_or_past places v 0 past))
   ]
+
+  -- the place of a number was read
+  pub place_within : (v k : ℕ) → v < length places → k ≡ get_or places v k → k ≡ get_or places v 0
+  place_within v k within read = read ∙ get_or_default places v k 0 within
 
   -- the fronts are no more than the numbers
   pub few_begun : length states ≤ length places

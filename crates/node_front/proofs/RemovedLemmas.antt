@@ -1,11 +1,11 @@
 -- The spots of the entries that survivors dominate, each once.
-use Rattle.std.proofs.Common.{◌≡◌, ◌≢◌, ◌⊎◌, ◌↔◌, ℕ, List, [], ◌∷◌, ◌++◌, map, inl, inr, refl, sym, ap, subst, ◌∙◌, append_assoc, arith, false}
-use Rattle.std.specs.Prelude.{All, AllPairs, Any, Contains}
+use Rattle.std.proofs.Common.{◌≡◌, ◌≢◌, ◌⊎◌, ◌↔◌, ℕ, List, [], ◌∷◌, ◌++◌, map, inl, inr, sym, ap, subst, ◌∙◌, append_assoc, arith, false}
+use Rattle.std.specs.Prelude.{AllPairs, Any, Contains}
 use Rattle.std.proofs.lemmas.List.{append-nil, map-append}
 use Rattle.std.proofs.lemmas.List.Elements.{All-append}
 use Rattle.cost_vector.specs.Costs.{Dominates}
 use Rattle.cost_vector.proofs.Vectors.{cases_Dominates}
-use Rattle.list_laws.proofs.Members.{in_none, in_first, in_rest, in_map, of_map, each_in, all_from_in, found_in, any_in, cases_in, cases_push}
+use Rattle.list_laws.proofs.Members.{in_none, in_first, in_map, of_map, each_in, all_from_in, found_in, any_in, cases_in, cases_push}
 use Rattle.list_laws.proofs.Pairs.{pairs_none, pairs_rest, pair_with_first, pairs_cons, pairs_push, pairs_map}
 use Rattle.list_laws.proofs.OnceLaws.{in_append, pairs_append, told_some}
 use Rattle.list_laws.specs.Sets.{ListsOnce}
@@ -51,7 +51,7 @@ pairs_across R (z ∷ zs) ys pairs x y x_in y_in = elim (cases_in z zs x x_in) [
   | inr later ↦ pairs_across R zs ys (pairs_rest R z (zs ++ ys) pairs) x y later y_in
 ]
 
-pairs_unmap : {X Y : Type 0} (R : Y → Y → Type 0) (f : X → Y) (xs : List X) → AllPairs R (map f xs) → AllPairs (λ x z. R (f x) (f z)) xs
+pub pairs_unmap : {X Y : Type 0} (R : Y → Y → Type 0) (f : X → Y) (xs : List X) → AllPairs R (map f xs) → AllPairs (λ x z. R (f x) (f z)) xs
 pairs_unmap R f [] pairs = pairs_none (λ x z. R (f x) (f z))
 pairs_unmap R f (x ∷ xs) pairs = pairs_cons (λ y z. R (f y) (f z)) x xs (λ z there. pair_with_first R (f x) (map f xs) pairs (f z) (in_map f xs z there))
     (pairs_unmap R f xs (pairs_rest R (f x) (map f xs) pairs))

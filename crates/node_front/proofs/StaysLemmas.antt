@@ -1,13 +1,13 @@
 -- What stays of the known entries: none of it is needless beside another, and it covers all that is known.
-use Rattle.std.proofs.Common.{◌≡◌, ◌≢◌, ◌⊎◌, ◌↔◌, ℕ, ◌<◌, ◌≤◌, List, [], ◌∷◌, ◌++◌, inl, inr, refl, sym, ap, subst, ◌∙◌, arith}
+use Rattle.std.proofs.Common.{◌≡◌, ◌≢◌, ◌⊎◌, ◌↔◌, ◌<◌, ◌≤◌, List, [], ◌∷◌, inl, inr, refl, sym, subst, ◌∙◌, arith}
 use Rattle.std.specs.Prelude.{Contains}
 use Rattle.std.proofs.lemmas.Bool.{cases_lt}
-use Rattle.cost_vector.specs.Costs.{AtMost, Dominates, LexLess}
+use Rattle.cost_vector.specs.Costs.{AtMost, LexLess}
 use Rattle.cost_vector.proofs.Vectors.{AtMost-trans, cases_AtMost, cases_same, LexLess-irrefl, LexLess-trans, cases_LexLess, LexLess_from_Dominates}
 use Rattle.list_laws.proofs.Members.{in_none, each_in}
 use Rattle.list_laws.proofs.OnceLaws.{in_cons}
 use Rattle.list_laws.proofs.LeastMember.{decided_by_cases, has_least}
-use Rattle.pareto_front.specs.Fronts.{Entry, HasCost, IsDominated}
+use Rattle.pareto_front.specs.Fronts.{Entry, IsDominated}
 use Rattle.pareto_front.specs.Merging.{Stays}
 use Rattle.node_front.specs.Apart.{AreApart}
 use Rattle.node_front.proofs.ApartLemmas.{same_entry, AtMost-same}

@@ -1,12 +1,12 @@
 -- Survivors, while candidates come one by one.
-use Rattle.std.proofs.Common.{◌≡◌, ◌≢◌, ◌⊎◌, ◌↔◌, ℕ, ◌<◌, ◌≤◌, Bool, true, false, List, [], ◌∷◌, ◌++◌, length, map, inl, inr, refl, sym, ap, subst, ◌∙◌, arith}
+use Rattle.std.proofs.Common.{◌≡◌, ◌≢◌, ◌⊎◌, ◌↔◌, ℕ, Bool, true, false, List, [], ◌∷◌, ◌++◌, inl, inr, sym, subst, arith}
 use Rattle.std.specs.Prelude.{All, AllPairs, Any, Contains}
 use Rattle.std.specs.List.{items_where_true}
 use Rattle.std.proofs.lemmas.Bool.{cases_lt}
 use Rattle.std.proofs.lemmas.List.{map_push}
 use Rattle.std.proofs.lemmas.List.Elements.{All-push, All-weaker, Contains-append_left, Contains-append_right}
 use Rattle.list_laws.specs.Without.{IsWithout}
-use Rattle.list_laws.proofs.Members.{in_none, in_first, in_rest, cases_in, in_map, of_map, each_in, all_from_in, cases_push, found_in, any_in}
+use Rattle.list_laws.proofs.Members.{in_none, in_first, in_rest, cases_in, in_map, of_map, each_in, cases_push, found_in, any_in}
 use Rattle.list_laws.proofs.Pairs.{pairs_none, pairs_rest, pair_with_first, pairs_cons, pairs_push}
 use Rattle.pareto_front.specs.Calls.{entry_of}
 use Rattle.pareto_front.specs.Fronts.{Entry}

@@ -1,19 +1,21 @@
-ghost use Rattle.std.specs.Prelude.{◌≡◌, ◌≢◌, ◌↔◌, ℕ, ◌≤◌, ◌+◌, ◌<◌, List, [], ◌∷◌, map, length, slice_index, IsTrue, IfOk, OnOk, OnErr, All, AllPairs};
+ghost use Rattle.std.specs.Prelude.{◌≡◌, ◌≢◌, ◌↔◌, ℕ, ◌≤◌, ◌+◌, ◌<◌, List, [], ◌∷◌, map, length, slice_index, IsTrue, IfOk, OnOk, OnErr, All, AllPairs, Contains, Some};
 ghost use Rattle.cost_vector.specs.Costs.{max_criteria, min_criteria};
-ghost use Rattle.node_front.specs.Deltas.{Appends, AreDeltas, AreSomeDeltas, HasRoom, MergesAll};
-ghost use Rattle.pareto_front.specs.Calls.{Enters, GrowsBy, Relabels, Settles, entry_of};
-ghost use Rattle.pareto_front.specs.Fronts.{HasCost, IsCovered, SparesSettled, empty_front, entries};
+ghost use Rattle.node_front.specs.Deltas.{AppendsDelta, AreDeltas, AreSomeDeltas, HasRoom, MergesAll};
+ghost use Rattle.pareto_front.specs.Calls.{Enters, GrowsBy, ListsSettled, Relabels, Settles, entry_of};
+ghost use Rattle.pareto_front.specs.Fronts.{HasCost, IsCovered, IsFront, SparesSettled, empty_front, entries};
 ghost use Rattle.pareto_front.specs.Merging.{IsMerged, IsAdded, IsRemoved};
+ghost use Rattle.node_front.specs.FoundFronts.{counted_labels, settled_from};
 ghost use Rattle.road_network.specs.Limits.{max_nodes};
 ghost use Rattle.road_network.specs.Network.{IsNode};
 ghost use Rattle.node_front.specs.NodeFronts.{IsKept, SameElsewhere, SameFronts, front_at, spare_at, fronts_by, spares_by};
 
 use crate::{Deltas, merging};
-use compact_labels::{CompactLabel, CompactSpot};
-use cost_vector::{NodeNo, OutOfMemory};
-use pareto_front::ParetoFront;
+use compact_labels::{CompactCost, CompactLabel, CompactSpot};
+use cost_vector::{ArcNo, NodeNo, OutOfMemory};
+use pareto_front::{FrontEntry, ParetoFront};
 use std::alloc::Global;
 use std::marker::Model;
+use std::mem;
 
 /// The fronts of all nodes. Of a node that no label has reached, one number is kept.
 #[derive(Drop)]
@@ -109,7 +111,7 @@ impl<const D: usize, F: ParetoFront<D> + Drop> Fronts<D, F> {
         self.fronts[place].settle(&spot.cost);
     }
 
-    /// Appends what the candidates, which are all of one node, make of its front.
+    /// AppendsDelta what the candidates, which are all of one node, make of its front.
     pub fn merge(
         &self,
         node: NodeNo,
@@ -120,7 +122,7 @@ impl<const D: usize, F: ParetoFront<D> + Drop> Fronts<D, F> {
         requires some { 0 < length candidates.now }
         requires at_node { All (λ l. l.node.0 ≡ node.0) candidates.now }
         requires spares { All (λ l. SparesSettled (front_at self.now node.0) l.cost.0) candidates.now }
-        ensures { IfOk result (λ _. Appends node.0 (front_at self.now node.0)
+        ensures { IfOk result (λ _. AppendsDelta node.0 (front_at self.now node.0)
             (map entry_of candidates.now) deltas.old deltas.new) }
     {
         let _kept = &self.places;
@@ -198,6 +200,46 @@ impl<const D: usize, F: ParetoFront<D> + Drop> Fronts<D, F> {
     {
         let place = self.places[label.node.0 as usize] as usize;
         self.fronts[place].relabel(&label.cost, label.arc);
+    }
+
+    /// How many entries are settled, of all nodes together; at most `usize::MAX`.
+    pub(crate) fn settled_len(&self) -> usize
+        ensures count { result ≡ counted_labels (length (settled_from 0 self.now.fronts)) }
+        ensures fronts { (v : ℕ) → IsFront D (front_at self.now v) }
+        ensures nodes { self.now.nodes ≤ max_nodes }
+    {
+        let mut labels: usize = 0;
+        for place in &self.places {
+            labels = labels.saturating_add(self.fronts[*place as usize].settled_len());
+        }
+        labels
+    }
+
+    /// The arc of the settled entry of this cost at a node, if there is one.
+    pub(crate) fn settled_arc(&self, node: NodeNo, cost: &CompactCost<D>) -> Option<ArcNo>
+        ensures { (arc : ArcNo) → (result ≡ Some arc) ↔ Contains (front_at self.now node.0).settled
+            (record { cost = cost.now.0; arc = arc.0 }) }
+    {
+        if node.0 as usize >= self.places.len() {
+            return None;
+        }
+        self.fronts[self.places[node.0 as usize] as usize].settled_arc(cost)
+    }
+
+    /// Takes out the settled entries of a node, in ascending lexicographic order of their costs; its front is without
+    /// entries then. It takes no memory.
+    pub(crate) fn take_settled(&mut self, node: NodeNo) -> Vec<FrontEntry<D>>
+        requires { IsNode self.old.nodes node.0 }
+        ensures elsewhere { SameElsewhere node.0 self.old self.new }
+        ensures taken { front_at self.new node.0 ≡ empty_front }
+        ensures settled { ListsSettled (front_at self.old node.0) result.items }
+    {
+        let place = self.places[node.0 as usize] as usize;
+        if place == 0 {
+            return Vec::new(self.alloc);
+        }
+        let front = mem::replace(&mut self.fronts[place], F::new(self.alloc));
+        front.into_settled()
     }
 }
 

@@ -2,9 +2,11 @@
 #![tactic(auto)]
 
 mod deltas;
+mod found;
 mod fronts;
 mod merging;
 
 pub use deltas::Deltas;
+pub use found::FoundFronts;
 pub use fronts::Fronts;
 pub use merging::{arrive, merge};

@@ -4,7 +4,7 @@ ghost use Rattle.pareto_front.specs.Calls.{GrowsBy, entry_of};
 ghost use Rattle.pareto_front.specs.Fronts.{SparesSettled, HasCost, IsDominated, entries};
 ghost use Rattle.pareto_front.specs.Merging.{IsMerged, IsAdded, IsRemoved, Stays};
 ghost use Rattle.node_front.specs.Apart.{AreApart};
-ghost use Rattle.node_front.specs.Deltas.{Appends};
+ghost use Rattle.node_front.specs.Deltas.{AppendsDelta};
 ghost use Rattle.node_front.specs.Survivors.{IsNeedless, IsNeedlessAmong, IsNews, AreSurvivors, IsMarked, AppendsOthers, HaveOtherCosts, told};
 ghost use Rattle.list_laws.specs.Without.{IsWithout};
 
@@ -57,7 +57,7 @@ pub(crate) struct Survivor<const D: usize> {
     pub(crate) is_new: bool,
 }
 
-/// Appends what the candidates, which are all of one node, make of its front.
+/// AppendsDelta what the candidates, which are all of one node, make of its front.
 pub fn merge<const D: usize, F: ParetoFront<D>>(
     front: &F,
     node: NodeNo,
@@ -68,7 +68,7 @@ pub fn merge<const D: usize, F: ParetoFront<D>>(
     requires some { 0 < length candidates.now }
     requires node { All (λ l. l.node.0 ≡ node.0) candidates.now }
     requires spares { All (λ l. SparesSettled (F.state front.now) l.cost.0) candidates.now }
-    ensures { IfOk result (λ _. Appends node.0 (F.state front.now) (map entry_of candidates.now)
+    ensures { IfOk result (λ _. AppendsDelta node.0 (F.state front.now) (map entry_of candidates.now)
         deltas.old deltas.new) }
 {
     deltas.survivors.clear();
@@ -185,7 +185,7 @@ fn is_needless<const D: usize>(label: &CompactLabel<D>, beside: &CompactLabel<D>
     beside.cost.at_most(&label.cost) && (beside.cost != label.cost || beside.arc <= label.arc)
 }
 
-/// Appends the spots of the entries that survivors dominate.
+/// AppendsDelta the spots of the entries that survivors dominate.
 fn find_removed<const D: usize, F: ParetoFront<D>>(
     front: &F,
     node: NodeNo,
@@ -214,7 +214,7 @@ fn find_removed<const D: usize, F: ParetoFront<D>>(
     Ok(())
 }
 
-/// Appends the spots whose costs none of the survivors dominates.
+/// AppendsDelta the spots whose costs none of the survivors dominates.
 fn append_others<const D: usize>(
     found: &[CompactSpot<D>],
     survivors: &[Survivor<D>],
@@ -243,7 +243,7 @@ fn any_dominates<const D: usize>(survivors: &[Survivor<D>], spot: &CompactSpot<D
     )
 }
 
-/// Appends the labels of the survivors, by their marks.
+/// AppendsDelta the labels of the survivors, by their marks.
 fn put_survivors<const D: usize>(
     survivors: &[Survivor<D>],
     added: &mut Vec<CompactLabel<D>>,

@@ -1,4 +1,4 @@
-use Rattle.std.proofs.Common.{◌≡◌, ℕ, ◌<◌, ◌^◌, map, get_or, length, sym, ◌∙◌, arith, rules}
+use Rattle.std.proofs.Common.{◌<◌, ◌^◌, map, arith, rules}
 use Rattle.std.proofs.lemmas.List.{length-map}
 use Rattle.node_front.proofs.PlacedLemmas.{few_begun, placed_more, fronts_more, spares_more}
 use Rattle.node_front.proofs.fronts.reach.Goals as goal

@@ -1,4 +1,4 @@
-use Rattle.std.proofs.Common.{◌≡◌, ◌↔◌, ◌<◌, ◌≤◌, [], ◌∷◌, List, ℕ, refl, arith, subst, sym}
+use Rattle.std.proofs.Common.{◌<◌, ◌≤◌, [], ◌∷◌, List, ℕ, refl, arith, subst}
 use Rattle.std.proofs.lemmas.Bool.Decides.{nat_tests}
 use Rattle.pareto_front.specs.Calls.{Enters, GrowsBy, entry_of}
 use Rattle.pareto_front.specs.Fronts.{Front, HasCost}

@@ -1,4 +1,4 @@
-use Rattle.std.proofs.Common.{◌≡◌, List, subst, sym, rules, refl}
+use Rattle.std.proofs.Common.{List, subst, sym, rules}
 use Rattle.std.specs.Prelude.{AllPairs}
 use Rattle.list_laws.proofs.Retained.{without_by_retain}
 use Rattle.pareto_front.specs.Calls.{entry_of}

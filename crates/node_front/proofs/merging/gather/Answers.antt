@@ -1,4 +1,4 @@
-use Rattle.std.proofs.Common.{◌≡◌, ◌+◌, ℕ, List, [], ◌∷◌, ◌++◌, take, arith, sym, subst, ap, ◌∙◌, Vec, Global}
+use Rattle.std.proofs.Common.{◌≡◌, ◌+◌, List, [], ◌∷◌, ◌++◌, take, arith, sym, subst, ap, ◌∙◌, Vec, Global}
 use Rattle.std.proofs.lemmas.List.{take_more, take_all}
 use Rattle.compact_labels.specs.declared.label.CompactLabel.{CompactLabel}
 use Rattle.node_front.specs.declared.merging.Survivor.{Survivor}

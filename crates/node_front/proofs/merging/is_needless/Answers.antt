@@ -1,4 +1,4 @@
-use Rattle.std.proofs.Common.{◌≡◌, true, sym, ◌∙◌}
+use Rattle.std.proofs.Common.{sym, ◌∙◌}
 use Rattle.std.proofs.lemmas.Bool.{false≢true}
 use Rattle.pareto_front.specs.Calls.{entry_of}
 use Rattle.node_front.proofs.NeedlessLemmas.{needless_at_most}

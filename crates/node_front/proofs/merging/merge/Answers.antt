@@ -1,5 +1,5 @@
-use Rattle.std.proofs.Common.{◌≡◌, ◌<◌, List, map, arith, sym, subst}
-use Rattle.std.specs.Prelude.{All, length}
+use Rattle.std.proofs.Common.{List, arith, sym, subst}
+use Rattle.std.specs.Prelude.{All}
 use Rattle.pareto_front.specs.Fronts.{SparesSettled}
 use Rattle.node_front.specs.declared.merging.Survivor.{Survivor}
 use Rattle.node_front.specs.Survivors.{IsMarked}

@@ -1,11 +1,11 @@
-use Rattle.std.proofs.Common.{◌≡◌, ◌≢◌, ℕ, ◌-◌, List, [], ◌∷◌, IsTrue, ◌↔◌, map, get_or, set, length, sym, ap, subst, subst₂, refl, ◌∙◌, arith}
+use Rattle.std.proofs.Common.{◌≡◌, ◌-◌, [], ◌∷◌, IsTrue, ◌↔◌, map, sym, ap, subst, subst₂, refl, ◌∙◌, arith}
 use Rattle.std.specs.Prelude.{IfOk, OnErr}
 use Rattle.pareto_front.specs.Calls.{GrowsBy, entry_of}
-use Rattle.pareto_front.specs.Fronts.{Front, SparesSettled, empty_front, entries}
+use Rattle.pareto_front.specs.Fronts.{Front, SparesSettled, entries}
 use Rattle.pareto_front.specs.Merging.{IsMerged, IsAdded, IsRemoved}
 use Rattle.node_front.specs.Apart.{AreApart}
 use Rattle.node_front.proofs.MergedLemmas.{merged_or_same_apart}
-use Rattle.node_front.specs.NodeFronts.{Fronts, SameElsewhere, front_at, fronts_by}
+use Rattle.node_front.specs.NodeFronts.{Fronts, fronts_by}
 use Rattle.node_front.proofs.PlacedLemmas.{front_apart, state_there, same_count, front_before, changed_there, same_elsewhere, placed_changed}
 use Rattle.node_front.proofs.fronts.Fronts.arrive.Goals as goal
 

@@ -1,11 +1,10 @@
-use Rattle.std.proofs.Common.{◌≡◌, ◌≢◌, ℕ, ◌+◌, ◌≤◌, List, map, get_or, sym, ap, subst, subst₂, refl, ◌∙◌, arith}
-use Rattle.pareto_front.specs.Calls.{Enters, Relabels, entry_of}
-use Rattle.pareto_front.specs.Fronts.{Front, HasCost, IsCovered, SparesSettled, entries}
+use Rattle.std.proofs.Common.{◌≡◌, map, sym, ap, subst, subst₂, refl, ◌∙◌}
+use Rattle.pareto_front.specs.Calls.{Relabels, entry_of}
+use Rattle.pareto_front.specs.Fronts.{Front, HasCost, entries}
 use Rattle.node_front.specs.Apart.{AreApart}
-use Rattle.node_front.specs.NodeFronts.{Fronts, front_at, spare_at, fronts_by, spares_by}
+use Rattle.node_front.specs.NodeFronts.{Fronts, front_at, fronts_by}
 use Rattle.node_front.proofs.MergedLemmas.{relabelled_apart}
-use Rattle.node_front.proofs.PlacedLemmas.{room_place, has_place, place_read, front_apart, state_there, front_before, changed_there, same_elsewhere, placed_changed}
-use Rattle.node_front.proofs.PlacedLemmas.{spare_there, spare_changed, spare_elsewhere}
+use Rattle.node_front.proofs.PlacedLemmas.{has_place, place_read, front_apart, state_there, front_before, changed_there, same_elsewhere, placed_changed}
 use Rattle.node_front.proofs.fronts.Fronts.relabel.Goals as goal
 
 pub invariant_of-self : goal.invariant_of-self

@@ -1,4 +1,4 @@
-use Rattle.std.proofs.Common.{◌≡◌, ◌≢◌, ◌⊎◌, ◌+◌, ◌<◌, ◌^◌, ℕ, List, get_or, length, true, false, inl, inr, sym, ap, subst, ◌∙◌, arith, rules}
+use Rattle.std.proofs.Common.{◌≡◌, ◌≢◌, ◌⊎◌, ◌+◌, ◌<◌, ◌^◌, List, get_or, length, inl, inr, ap, subst, arith, rules}
 use Rattle.compact_labels.specs.declared.label.CompactLabel.{CompactLabel}
 use Rattle.node_front.proofs.RoundLemmas.{count_fits, reserving_more, same_numbers, other_numbers}
 use Rattle.node_front.proofs.fronts.Fronts.reserve.Goals as goal

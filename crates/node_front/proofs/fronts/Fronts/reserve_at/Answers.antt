@@ -1,8 +1,8 @@
-use Rattle.std.proofs.Common.{◌≡◌, ◌≢◌, ℕ, ◌-◌, ◌≤◌, List, map, get_or, sym, ap, subst, subst₂, refl, ◌∙◌, arith}
+use Rattle.std.proofs.Common.{◌-◌, ◌≤◌, map, get_or, sym, ap, subst, subst₂, ◌∙◌}
 use Rattle.std.specs.Prelude.{OnOk}
 use Rattle.pareto_front.specs.Fronts.{Front, entries}
 use Rattle.node_front.specs.Apart.{AreApart}
-use Rattle.node_front.specs.NodeFronts.{Fronts, front_at, spare_at, fronts_by, spares_by}
+use Rattle.node_front.specs.NodeFronts.{Fronts, spare_at, spares_by}
 use Rattle.node_front.proofs.PlacedLemmas.{front_apart, state_there, placed_changed, same_state_fronts, same_count, spare_changed, spare_elsewhere}
 use Rattle.node_front.proofs.fronts.Fronts.reserve_at.Goals as goal
 

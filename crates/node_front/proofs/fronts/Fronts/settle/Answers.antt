@@ -1,4 +1,4 @@
-use Rattle.std.proofs.Common.{◌≡◌, ◌≢◌, ℕ, List, map, get_or, sym, ap, subst, subst₂, refl, ◌∙◌}
+use Rattle.std.proofs.Common.{◌≡◌, map, sym, ap, subst, subst₂, refl, ◌∙◌}
 use Rattle.pareto_front.specs.Calls.{Settles}
 use Rattle.pareto_front.specs.Fronts.{Front, HasCost, entries}
 use Rattle.node_front.specs.Apart.{AreApart}

@@ -1,0 +1,290 @@
+-- What is found in the fronts of all nodes, of which one has given up its settled entries.
+use Rattle.std.proofs.Common.{◌≡◌, ◌≢◌, ◌⊎◌, ◌↔◌, ℕ, zero, suc, ◌-◌, ◌^◌, min, take, Bool, true, nat_eq, ◌+◌, ◌<◌, ◌≤◌, List, [], ◌∷◌, ◌++◌, Some, None, Option, length, map, get_or, inl, inr, refl, sym, ap, subst, ◌∙◌, arith, option_map}
+use Rattle.std.specs.Prelude.{AllPairs, Contains, slice_get}
+use Rattle.std.specs.Cmp.Lexicographic.{pointwise, bytes_decides}
+use Rattle.std.proofs.lemmas.List.{length-append, length-map, take_more}
+use Rattle.std.proofs.lemmas.List.Elements.{All-nil}
+use Rattle.std.proofs.lemmas.Option.{slice_get-map, slice_get-get_or}
+use Rattle.cost_vector.specs.Costs.{LexLess, min_criteria, max_criteria}
+use Rattle.cost_vector.specs.declared.label.ArcNo.{ArcNo}
+use Rattle.cost_vector.proofs.Vectors.{LexLess-irrefl}
+use Rattle.list_laws.proofs.Members.{in_none, cases_in, in_map, of_map}
+use Rattle.list_laws.proofs.Pairs.{pairs_none, pairs_rest, pair_with_first, pairs_map}
+use Rattle.list_laws.proofs.OnceLaws.{in_append, pairs_append}
+use Rattle.event_machine.specs.Machine.{Label, IsSamePair}
+use Rattle.path_readback.specs.Found.{HasSettled, IsFound}
+use Rattle.road_network.specs.Limits.{max_nodes}
+use Rattle.road_network.specs.Network.{IsNode}
+use Rattle.pareto_front.specs.declared.front.FrontEntry.{FrontEntry}
+use Rattle.pareto_front.specs.Calls.{ListsSettled, told_entry}
+use Rattle.pareto_front.specs.Fronts.{AreIncomparable, Entry, Front, IsFront, empty_front}
+use Rattle.node_front.specs.FoundFronts.{counted_labels, found_in, labels_told, settled_from}
+use Rattle.node_front.specs.NodeFronts.{Fronts, SameElsewhere, front_at}
+use Rattle.node_front.proofs.ApartLemmas.{AtMost-same}
+use Rattle.node_front.proofs.PlacedLemmas.{cases_number}
+use Rattle.node_front.proofs.RemovedLemmas.{pairs_front, pairs_unmap}
+
+abbrev label : ℕ → Entry → Label
+label v e = record { node = v; cost = e.cost; arc = e.arc }
+
+-- ---- the settled labels of many nodes
+
+-- one more front at the end
+pub settled_push : (n : ℕ) (fs : List Front) (f : Front) → length (settled_from n (fs ++ f ∷ [])) ≡ length (settled_from n fs) + length f.settled
+settled_push n [] f =
+    let one = length-append (labels_told n f.settled) [] in
+    let long = length-map f.settled (λ (e : Entry). let l : Label = record { node = n; cost = e.cost; arc = e.arc } in l) in
+    omega (arith, one, long)
+settled_push n (g ∷ fs) f =
+    let rest = settled_push (n + 1) fs f in
+    let whole = length-append (labels_told n g.settled) (settled_from (n + 1) (fs ++ f ∷ [])) in
+    let before = length-append (labels_told n g.settled) (settled_from (n + 1) fs) in
+    omega (arith, rest, whole, before)
+
+-- the labels counted so far, and those of one front more
+pub counted_more : (fs : List Front) (i : ℕ) (f : Front) (count n more : ℕ) → i < length fs → get_or fs i empty_front ≡ f
+    → count ≡ counted_labels (length (settled_from 0 (take i fs))) → n ≡ length f.settled → more ≡ min (count + n) (2 ^ 64 - 1)
+    → more ≡ counted_labels (length (settled_from 0 (take (i + 1) fs)))
+counted_more fs i f count n more within at counted is_n is_more =
+    let longer = ap (settled_from 0) (take_more fs i empty_front within) in
+    let whole = ap length longer ∙ settled_push 0 (take i fs) (get_or fs i empty_front) in
+    let last = ap (λ (g : Front). length g.settled) at in
+    omega (arith, whole, last, counted, is_n, is_more)
+
+-- a label is that of an entry of its node
+in_labels : (n : ℕ) (es : List Entry) (v : ℕ) (e : Entry) → Contains (labels_told n es) (record { node = v; cost = e.cost; arc = e.arc }) ↔ ((v ≡ n) × Contains es e)
+in_labels n es v e = (
+  λ there.
+      let (x, x_in, is) = of_map (λ (y : Entry). let l : Label = record { node = n; cost = y.cost; arc = y.arc } in l) es
+      (record { node = v; cost = e.cost; arc = e.arc }) there in
+      (ap (λ (l : Label). l.node) is, subst (Contains es) (sym (ap (λ (l : Label). let y : Entry = record { cost = l.cost; arc = l.arc } in y) is)) x_in),
+  λ h. subst (λ u. Contains (labels_told n es) (record { node = u; cost = e.cost; arc = e.arc })) (sym h.0)
+      (in_map (λ (y : Entry). let l : Label = record { node = n; cost = y.cost; arc = y.arc } in l) es e h.1),
+)
+
+pub in_settled : (n : ℕ) (fs : List Front) (v : ℕ) (e : Entry) → Contains (settled_from n fs) (record { node = v; cost = e.cost; arc = e.arc })
+    ↔ ((k : ℕ) × (v ≡ n + k) × Contains (get_or fs k empty_front).settled e)
+in_settled n [] v e = (λ there. absurd (in_none (record { node = v; cost = e.cost; arc = e.arc }) there), λ h. absurd (in_none e h.2))
+in_settled n (f ∷ fs) v e = (
+  λ there. elim ((in_append (labels_told n f.settled) (settled_from (n + 1) fs) (record { node = v; cost = e.cost; arc = e.arc })).0 there) [
+    | inl here ↦ let (at, e_in) = (in_labels n f.settled v e).0 here in (zero, omega (arith, at), e_in)
+    | inr later ↦ let (k, at, e_in) = (in_settled (n + 1) fs v e).0 later in (suc k, omega (arith, at), e_in)
+  ],
+  λ h. back (λ k at e_in. (in_settled (n + 1) fs v e).1 (k, at, e_in)) h,
+) where
+  back : ((k : ℕ) → v ≡ (n + 1) + k → Contains (get_or fs k empty_front).settled e
+      → Contains (settled_from (n + 1) fs) (record { node = v; cost = e.cost; arc = e.arc }))
+      → (k : ℕ) × (v ≡ n + k) × Contains (get_or (f ∷ fs) k empty_front).settled e
+      → Contains (settled_from n (f ∷ fs)) (record { node = v; cost = e.cost; arc = e.arc })
+  back later (zero, at, e_in) = (in_append (labels_told n f.settled) (settled_from (n + 1) fs) (record { node = v; cost = e.cost; arc = e.arc })).1
+      (inl ((in_labels n f.settled v e).1 (omega (arith, at), e_in)))
+  back later (suc k, at, e_in) = (in_append (labels_told n f.settled) (settled_from (n + 1) fs) (record { node = v; cost = e.cost; arc = e.arc })).1
+      (inr (later k (omega (arith, at)) e_in))
+
+-- no two labels of different costs are of one pair
+labels_once : (n : ℕ) (es : List Entry) → AllPairs (λ a b. a.cost ≢ b.cost) es → AllPairs (λ l m. ¬ IsSamePair l m) (labels_told n es)
+labels_once n es differ = pairs_map (λ a b. a.cost ≢ b.cost) (λ l m. ¬ IsSamePair l m)
+    (λ (e : Entry). let l : Label = record { node = n; cost = e.cost; arc = e.arc } in l) (λ a b other same. other same.cost) es differ
+
+settled_once : (d n : ℕ) (fs : List Front) → ((k : ℕ) → IsFront d (get_or fs k empty_front)) → AllPairs (λ l m. ¬ IsSamePair l m) (settled_from n fs)
+settled_once d n [] fronts = pairs_none (λ l m. ¬ IsSamePair l m)
+settled_once d n (f ∷ fs) fronts = pairs_append (λ l m. ¬ IsSamePair l m) (labels_told n f.settled) (settled_from (n + 1) fs)
+    (labels_once n f.settled differ) (settled_once d (n + 1) fs (λ k. fronts (suc k))) (λ l m l_in m_in same.
+    let (at, l_there) = (in_labels n f.settled l.node (record { cost = l.cost; arc = l.arc })).0 l_in in
+    let (k, later, m_there) = (in_settled (n + 1) fs m.node (record { cost = m.cost; arc = m.arc })).0 m_in in
+    omega (arith, at, later, same.node)) where
+      differ : AllPairs (λ a b. a.cost ≢ b.cost) f.settled
+      differ =
+          let incomparable = pairs_front AreIncomparable f.settled f.unsettled (fronts 0).incomparable in
+          λ i j e before within same. (incomparable i j e before within).one_way (AtMost-same (get_or f.settled i e).cost (get_or f.settled j e).cost same)
+
+-- ---- the entries of the target
+
+-- of two members, one stands before the other, or both are one
+pairs_cases : {X : Type 0} (R : X → X → Type 0) (xs : List X) → AllPairs R xs → (x y : X) → Contains xs x → Contains xs y → (x ≡ y) ⊎ (R x y ⊎ R y x)
+pairs_cases R [] pairs x y x_in y_in = absurd (in_none x x_in)
+pairs_cases R (z ∷ zs) pairs x y x_in y_in = elim (cases_in z zs x x_in) [
+  | inl x_first ↦ elim (cases_in z zs y y_in) [
+    | inl y_first ↦ inl (x_first ∙ sym y_first)
+    | inr y_later ↦ inr (inl (subst (λ w. R w y) (sym x_first) (pair_with_first R z zs pairs y y_later)))
+  ]
+  | inr x_later ↦ elim (cases_in z zs y y_in) [
+    | inl y_first ↦ inr (inr (subst (λ w. R w x) (sym y_first) (pair_with_first R z zs pairs x x_later)))
+    | inr y_later ↦ pairs_cases R zs (pairs_rest R z zs pairs) x y x_later y_later
+  ]
+]
+
+module _ {D : ℕ} (list : List (FrontEntry D)) (ascending : AllPairs LexLess (map (λ (e : FrontEntry D). e.cost.0) list)) where
+  one_of_cost : (x y : FrontEntry D) → Contains list x → Contains list y → x.cost.0 ≡ y.cost.0 → x ≡ y
+  one_of_cost x y x_in y_in same =
+      elim (pairs_cases (λ (a b : FrontEntry D). LexLess a.cost.0 b.cost.0) list (pairs_unmap LexLess (λ (e : FrontEntry D). e.cost.0) list ascending) x y x_in y_in) [
+        | inl is ↦ is
+        | inr (inl less) ↦ absurd (LexLess-irrefl x.cost.0 (subst (LexLess x.cost.0) (sym same) less))
+        | inr (inr less) ↦ absurd (LexLess-irrefl y.cost.0 (subst (LexLess y.cost.0) same less))
+      ]
+
+  -- the entry of a cost tells its arc
+  pub arc_found : (x : FrontEntry D) (c : List ℕ) → Contains list x → x.cost.0 ≡ c → (arc : ArcNo)
+      → (Some x.arc ≡ Some arc) ↔ Contains (map (told_entry {D = D}) list) (record { cost = c; arc = arc.0 })
+  arc_found x c x_in same arc = (
+    λ is.
+        let arcs : x.arc ≡ arc = cc in
+        subst (λ (a : ArcNo). Contains (map (told_entry {D = D}) list) (record { cost = c; arc = a.0 })) arcs
+        (subst (λ k. Contains (map (told_entry {D = D}) list) (record { cost = k; arc = x.arc.0 })) same (in_map (told_entry {D = D}) list x x_in)),
+    λ there.
+        let (y, y_in, is) = of_map (told_entry {D = D}) list (record { cost = c; arc = arc.0 }) there in
+        let one = one_of_cost x y x_in y_in (same ∙ ap (λ (e : Entry). e.cost) is) in
+        let arcs = ap (λ (z : FrontEntry D). z.arc.0) one ∙ sym (ap (λ (e : Entry). e.arc) is) in
+        ap (λ n. let a : Option ArcNo = Some (record { 0 = n }) in a) arcs,
+  )
+
+-- where no entry has the cost, there is no arc
+pub arc_missing : {D : ℕ} (list : List (FrontEntry D)) (c : List ℕ) → ((k : ℕ) (d : FrontEntry D) → k < length list → (get_or list k d).cost.0 ≢ c) → (arc : ArcNo)
+    → (None ≡ Some arc) ↔ Contains (map (told_entry {D = D}) list) (record { cost = c; arc = arc.0 })
+arc_missing {D} list c none arc = (
+  λ is. absurd cc,
+  λ there.
+      let (y, y_in, is) = of_map (told_entry {D = D}) list (record { cost = c; arc = arc.0 }) there in
+      absurd (none y_in.0 y y_in.1 (ap (λ (z : FrontEntry D). z.cost.0) y_in.2 ∙ sym (ap (λ (e : Entry). e.cost) is))),
+)
+
+-- the cost at a place
+pub cost_found : {D : ℕ} (list : List (FrontEntry D)) (i : ℕ) (x : FrontEntry D) → i < length list → x ≡ get_or list i x
+    → slice_get (map (λ (e : Entry). e.cost) (map (told_entry {D = D}) list)) i ≡ Some x.cost.0
+cost_found {D} list i x within read =
+    slice_get-map (λ (e : Entry). e.cost) (map (told_entry {D = D}) list) i
+    ∙ ap (option_map (λ (e : Entry). e.cost)) (slice_get-map (told_entry {D = D}) list i)
+    ∙ ap (λ (o : Option (FrontEntry D)). option_map (λ (e : Entry). e.cost) (option_map (told_entry {D = D}) o)) (slice_get-get_or list i x within)
+    ∙ ap (λ (y : FrontEntry D). let o : Option (List ℕ) = Some y.cost.0 in o) (sym read)
+
+pub told_costs : {D : ℕ} (list : List (FrontEntry D)) → map (λ (e : Entry). e.cost) (map (told_entry {D = D}) list) ≡ map (λ (e : FrontEntry D). e.cost.0) list
+told_costs [] = refl
+told_costs (x ∷ xs) = ap (λ (cs : List (List ℕ)). x.cost.0 ∷ cs) (told_costs xs)
+
+-- ---- what is found at the target, and elsewhere
+
+module _ (d start target : ℕ) (es : List Entry) (f : Fronts) (taken : front_at f target ≡ empty_front) where
+  pub found_at_target : (e : Entry) → Contains (found_in d start target es f).settled (record { node = target; cost = e.cost; arc = e.arc }) ↔ Contains es e
+  found_at_target e = (
+    λ there. elim ((in_append (labels_told target es) (settled_from 0 f.fronts) (label target e)).0 there) [
+      | inl here ↦ ((in_labels target es target e).0 here).1
+      | inr later ↦
+          let (k, at, e_in) = (in_settled 0 f.fronts target e).0 later in
+          let is : k ≡ target = omega (arith, at) in
+          let there_too = subst (λ u. Contains (front_at f u).settled e) is e_in in
+          absurd (in_none e (subst (λ (g : Front). Contains g.settled e) taken there_too))
+    ],
+    λ there. (in_append (labels_told target es) (settled_from 0 f.fronts) (label target e)).1 (inl ((in_labels target es target e).1 (refl, there))),
+  )
+
+  pub found_elsewhere : (v : ℕ) → v ≢ target → (e : Entry)
+      → Contains (found_in d start target es f).settled (record { node = v; cost = e.cost; arc = e.arc }) ↔ Contains (front_at f v).settled e
+  found_elsewhere v other e = (
+    λ there. elim ((in_append (labels_told target es) (settled_from 0 f.fronts) (label v e)).0 there) [
+      | inl here ↦ absurd (other ((in_labels target es v e).0 here).0)
+      | inr later ↦
+          let (k, at, e_in) = (in_settled 0 f.fronts v e).0 later in
+          let is : k ≡ v = omega (arith, at) in
+          subst (λ u. Contains (front_at f u).settled e) is e_in
+    ],
+    λ there. (in_append (labels_told target es) (settled_from 0 f.fronts) (label v e)).1
+        (inr ((in_settled 0 f.fronts v e).1 (v, omega arith, there))),
+  )
+
+  -- so many labels there are
+  pub counted_all : (count more : ℕ) → count ≡ counted_labels (length (settled_from 0 f.fronts)) → more ≡ min (count + length es) (2 ^ 64 - 1)
+      → more ≡ counted_labels (length (found_in d start target es f).settled)
+  counted_all count more counted is_more =
+      let whole = length-append (labels_told target es) (settled_from 0 f.fronts) in
+      let here = length-map es (λ (e : Entry). let l : Label = record { node = target; cost = e.cost; arc = e.arc } in l) in
+      omega (arith, whole, here, counted, is_more)
+
+-- ---- all that is found
+
+module _ (d start target : ℕ) (before after : Fronts) (list : List (FrontEntry d)) (elsewhere : SameElsewhere target before after)
+    (taken : front_at after target ≡ empty_front) (lists : ListsSettled (front_at before target) list) where
+  none_taken : (e : Entry) → ¬ Contains (front_at after target).settled e
+  none_taken e there = in_none e (subst (λ (f : Front). Contains f.settled e) taken there)
+
+  pub settled_in_fronts : (v : ℕ) (e : Entry)
+      → Contains (found_in d start target (map (told_entry {D = d}) list) after).settled (record { node = v; cost = e.cost; arc = e.arc })
+      ↔ Contains (front_at before v).settled e
+  settled_in_fronts v e = (
+    λ there. elim ((in_append (labels_told target (map (told_entry {D = d}) list)) (settled_from 0 after.fronts) (label v e)).0 there) [
+      | inl here ↦
+          let (at, e_in) = (in_labels target (map (told_entry {D = d}) list) v e).0 here in
+          subst (λ u. Contains (front_at before u).settled e) (sym at) ((lists.exact e).0 e_in)
+      | inr later ↦
+          let (k, at, e_in) = (in_settled 0 after.fronts v e).0 later in
+          let there_too = subst (λ u. Contains (front_at after u).settled e) (sym (omega (arith, at))) e_in in
+          elim (cases_number v target) [
+            | inl same ↦ absurd (none_taken e (subst (λ u. Contains (front_at after u).settled e) same there_too))
+            | inr other ↦ subst (λ (f : Front). Contains f.settled e) (elsewhere.others v other) there_too
+          ]
+    ],
+    λ there. (in_append (labels_told target (map (told_entry {D = d}) list)) (settled_from 0 after.fronts) (label v e)).1 (elim (cases_number v target) [
+      | inl same ↦ inl ((in_labels target (map (told_entry {D = d}) list) v e).1
+          (same, (lists.exact e).1 (subst (λ u. Contains (front_at before u).settled e) same there)))
+      | inr other ↦ inr ((in_settled 0 after.fronts v e).1
+          (v, omega arith, subst (λ (f : Front). Contains f.settled e) (sym (elsewhere.others v other)) there))
+    ]),
+  )
+
+  pub is_found : ((v : ℕ) → IsFront d (front_at after v)) → before.nodes ≤ max_nodes → IsNode before.nodes start → IsNode before.nodes target
+      → IsFound (found_in d start target (map (told_entry {D = d}) list) after)
+  is_found fronts few start_in target_in = record {
+    two = (fronts 0).two;
+    four = (fronts 0).four;
+    nodes = subst (λ n. n ≤ max_nodes) (sym elsewhere.nodes) few;
+    start = subst (λ n. IsNode n start) (sym elsewhere.nodes) start_in;
+    target = subst (λ n. IsNode n target) (sym elsewhere.nodes) target_in;
+    once = pairs_append (λ l m. ¬ IsSamePair l m) (labels_told target (map (told_entry {D = d}) list)) (settled_from 0 after.fronts)
+        (labels_once target (map (told_entry {D = d}) list) listed_differ) (settled_once d 0 after.fronts fronts) (λ l m l_in m_in same.
+        let (at, l_there) = (in_labels target (map (told_entry {D = d}) list) l.node (record { cost = l.cost; arc = l.arc })).0 l_in in
+        let (k, m_at, m_there) = (in_settled 0 after.fronts m.node (record { cost = m.cost; arc = m.arc })).0 m_in in
+        let is : k ≡ target = omega (arith, at, m_at, same.node) in
+        none_taken (record { cost = m.cost; arc = m.arc }) (subst (λ u. Contains (front_at after u).settled (record { cost = m.cost; arc = m.arc })) is m_there));
+    ascending = subst (AllPairs LexLess) (sym costs_again) lists.ascending;
+    costs = costs_settled;
+  } where
+    costs_again : map (λ (e : Entry). e.cost) (map (told_entry {D = d}) list) ≡ map (λ (e : FrontEntry d). e.cost.0) list
+    costs_again = told_costs list
+
+    listed_differ : AllPairs (λ (a b : Entry). a.cost ≢ b.cost) (map (told_entry {D = d}) list)
+    listed_differ = pairs_map (λ (a b : FrontEntry d). LexLess a.cost.0 b.cost.0) (λ (a b : Entry). a.cost ≢ b.cost) (told_entry {D = d})
+        (λ a b less same. LexLess-irrefl a.cost.0 (subst (LexLess a.cost.0) (sym same) less)) list
+        (pairs_unmap LexLess (λ (e : FrontEntry d). e.cost.0) list lists.ascending)
+
+    costs_settled : (c : List ℕ) → Contains (map (λ (e : Entry). e.cost) (map (told_entry {D = d}) list)) c
+        ↔ HasSettled (found_in d start target (map (told_entry {D = d}) list) after) target c
+    costs_settled c = (
+      λ there.
+          let (e, e_in, is) = of_map (λ (x : Entry). x.cost) (map (told_entry {D = d}) list) c there in
+          subst (HasSettled (found_in d start target (map (told_entry {D = d}) list) after) target) (sym is) (record {
+            arc = e.arc;
+            settled = (in_append (labels_told target (map (told_entry {D = d}) list)) (settled_from 0 after.fronts) (label target e)).1
+                (inl ((in_labels target (map (told_entry {D = d}) list) target e).1 (refl, e_in)));
+          }),
+      λ has.
+          let e : Entry = record { cost = c; arc = has.arc } in
+          elim ((in_append (labels_told target (map (told_entry {D = d}) list)) (settled_from 0 after.fronts) (label target e)).0 has.settled) [
+            | inl here ↦ in_map (λ (x : Entry). x.cost) (map (told_entry {D = d}) list) e ((in_labels target (map (told_entry {D = d}) list) target e).0 here).1
+            | inr later ↦
+                let (k, at, e_in) = (in_settled 0 after.fronts target e).0 later in
+                let is : k ≡ target = omega (arith, at) in
+                absurd (none_taken e (subst (λ u. Contains (front_at after u).settled e) is e_in))
+          ],
+    )
+
+-- what a test of two costs says
+pub same_lists_by_test : (a b : List ℕ) (test : Bool) → test ≡ pointwise nat_eq a b → test ≡ true → a ≡ b
+same_lists_by_test a b test is passes = (bytes_decides a b).0 (sym is ∙ passes)
+
+-- a front without entries is one
+pub empty_is_front : (d : ℕ) → min_criteria ≤ d → d ≤ max_criteria → IsFront d empty_front
+empty_is_front d two four = record {
+  two = two;
+  four = four;
+  components = All-nil (λ (e : Entry). length e.cost ≡ d);
+  incomparable = pairs_none AreIncomparable;
+}

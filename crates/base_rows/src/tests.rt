@@ -1,5 +1,6 @@
 mod costs;
 mod lines;
 mod outside;
+mod pairs;
 mod weight_files;
 mod words;

@@ -1,8 +1,3 @@
-pub mod HappensLaws
-pub mod OutcomeLaws
 pub mod CompletesLaws
 pub mod BegunLaws
-pub mod PieceLaws
 pub mod RoundLaws
-pub mod CountingLaws
-pub mod BudgetLaws

@@ -40,7 +40,13 @@ impl<const D: usize> CompactCost<D> {
     pub fn at_most(&self, other: &CompactCost<D>) -> bool
         ensures { IsTrue result ↔ AtMost self.now.0 other.now.0 }
     {
-        self.0.iter().zip(&other.0).all(|(a, b)| a <= b)
+        // All are compared: where the first greater one stands can't be foreseen, and a wrong guess of the processor costs
+        // more than they do.
+        let mut none_greater = true;
+        for (i, component) in self.0.iter().enumerate() {
+            none_greater &= *component <= other.0[i];
+        }
+        none_greater
     }
 
     /// Whether no component exceeds the other's, and some component is smaller.

@@ -1,15 +1,16 @@
 -- The laws of vectors of costs: of their componentwise order, of sums, of dominance, of the lexicographic order and of limits.
 use Rattle.std.proofs.Common.{◌≡◌, ◌≢◌, ℕ, suc, ◌+◌, ◌<◌, ◌≤◌, List, [], ◌∷◌, length, replicate, Option, Some, None, All, sum, ◌⊎◌, inl, inr, refl, sym, ap, subst, ◌∙◌, arith, is_eq, Less, Equal, Greater, nat_eq}
+use Rattle.std.specs.List.{AllZip}
 use Rattle.std.specs.declared.cmp.Ordering.{Ordering}
-use Rattle.std.specs.Ordering.{nat_cmp, ordering_then, ordering_reverse}
+use Rattle.std.specs.Ordering.{ordering_then, ordering_reverse}
+use Rattle.std.specs.Cmp.{nat_cmp_is}
 use Rattle.std.specs.Cmp.Lexicographic.{pointwise, bytes_decides, nat_list_cmp_total, texts_ties}
 use Rattle.std.proofs.lemmas.Bool.{cases_Bool, cases_lt, false≢true}
-use Rattle.std.proofs.lemmas.Bool.Decides.{nat_tests}
 use Rattle.std.proofs.lemmas.Cmp.{tied_itself}
-use Rattle.std.proofs.lemmas.List.{length-replicate}
+use Rattle.std.proofs.lemmas.List.{length-replicate, get_or-replicate, same_lists}
 use Rattle.std.proofs.lemmas.List.Sums.{sum_by-cons}
 use Rattle.std.proofs.lemmas.Slice.Zip.{AllZip-long}
-use Rattle.std.proofs.lemmas.List.Elements.{All-nil, length_all_zip, All-cons, All-head, All-tail, All-replicate, All-same}
+use Rattle.std.proofs.lemmas.List.Elements.{All-nil, length_all_zip, All-cons, All-head, All-tail}
 use Rattle.cost_vector.specs.Costs.{AtMost, Dominates, plus, IsAllowed, Within, no_limit, lex_cmp, LexLess}
 
 -- ---- the componentwise order
@@ -20,36 +21,36 @@ AtMost-refl (x ∷ xs) = (omega arith, AtMost-refl xs)
 
 pub AtMost-trans : (a b c : List ℕ) → AtMost a b → AtMost b c → AtMost a c
 AtMost-trans [] [] c h k = k
-AtMost-trans [] (y ∷ ys) c h k = absurd h
-AtMost-trans (x ∷ xs) [] c h k = absurd h
 AtMost-trans (x ∷ xs) (y ∷ ys) [] h k = absurd k
 AtMost-trans (x ∷ xs) (y ∷ ys) (z ∷ zs) h k = (omega arith, AtMost-trans xs ys zs h.1 k.1)
+AtMost-trans _ _ c h k = absurd h
 
 pub AtMost-antisymm : (a b : List ℕ) → AtMost a b → AtMost b a → a ≡ b
 AtMost-antisymm [] [] h k = refl
-AtMost-antisymm [] (y ∷ ys) h k = absurd h
-AtMost-antisymm (x ∷ xs) [] h k = absurd h
 AtMost-antisymm (x ∷ xs) (y ∷ ys) h k =
     let first : x ≡ y = omega arith in
     let rest = AtMost-antisymm xs ys h.1 k.1 in
     cc
+AtMost-antisymm _ _ h k = absurd h
 
 pub AtMost-length : (a b : List ℕ) → AtMost a b → length a ≡ length b
 AtMost-length = length_all_zip ◌≤◌
 
--- it can be decided
-pub cases_AtMost : (a b : List ℕ) → AtMost a b ⊎ (¬ AtMost a b)
-cases_AtMost [] [] = inl tt
-cases_AtMost [] (y ∷ ys) = inr (λ h. h)
-cases_AtMost (x ∷ xs) [] = inr (λ h. h)
-cases_AtMost (x ∷ xs) (y ∷ ys) =
-    elim (cases_lt y x) [
-      | inl above ↦ inr (λ h. omega arith)
-      | inr below ↦ elim (cases_AtMost xs ys) [
-        | inl rest ↦ inl (below, rest)
-        | inr other ↦ inr (λ h. other h.1)
-      ]
+-- what can be decided of two components can be decided of two vectors
+cases_AllZip : {A B : Type 0} (R : A → B → Type 0) → ((x : A) (y : B) → R x y ⊎ (¬ R x y)) → (a : List A) (b : List B) → AllZip R a b ⊎ (¬ AllZip R a b)
+cases_AllZip R cases [] [] = inl tt
+cases_AllZip R cases (x ∷ xs) (y ∷ ys) =
+    elim (cases x y) [
+      | inr other ↦ inr (λ h. other h.0)
+      | inl first ↦ elim (cases_AllZip R cases xs ys) [ inl rest ↦ inl (first, rest) | inr other ↦ inr (λ h. other h.1) ]
     ]
+cases_AllZip R cases _ _ = inr (λ h. h)
+
+cases_le : (x y : ℕ) → (x ≤ y) ⊎ (¬ (x ≤ y))
+cases_le x y = elim (cases_lt y x) [ inl above ↦ inr (λ h. omega arith) | inr below ↦ inl below ]
+
+pub cases_AtMost : (a b : List ℕ) → AtMost a b ⊎ (¬ AtMost a b)
+cases_AtMost = cases_AllZip ◌≤◌ cases_le
 
 -- no vector is below zero in any component
 pub AtMost-zeros : (d : ℕ) (a : List ℕ) → length a ≡ d → AtMost (replicate d 0) a
@@ -57,34 +58,22 @@ AtMost-zeros d [] e = subst (λ n. AtMost (replicate n 0) []) e tt
 AtMost-zeros d (x ∷ xs) e =
     subst (λ n. AtMost (replicate n 0) (x ∷ xs)) e (omega arith, AtMost-zeros (length xs) xs refl)
 
--- what bounds the components of the greater vector bounds those of the smaller
-pub All-below-AtMost : (n : ℕ) (a b : List ℕ) → AtMost a b → All (λ x. x < n) b → All (λ x. x < n) a
-All-below-AtMost n [] [] h k = k
-All-below-AtMost n [] (y ∷ ys) h k = absurd h
-All-below-AtMost n (x ∷ xs) [] h k = absurd h
-All-below-AtMost n (x ∷ xs) (y ∷ ys) h k =
-    let first : y < n = All-head (λ x. x < n) y ys k in
-    All-cons (λ x. x < n) x xs (omega arith) (All-below-AtMost n xs ys h.1 (All-tail (λ x. x < n) y ys k))
-
 -- ---- sums
 
 pub plus_comm : (a b : List ℕ) → plus a b ≡ plus b a
 plus_comm [] [] = refl
-plus_comm [] (y ∷ ys) = refl
-plus_comm (x ∷ xs) [] = refl
 plus_comm (x ∷ xs) (y ∷ ys) =
     let first : x + y ≡ y + x = omega arith in
     let rest = plus_comm xs ys in
     cc
+plus_comm _ _ = refl
 
 pub plus_assoc : (a b c : List ℕ) → plus (plus a b) c ≡ plus a (plus b c)
-plus_assoc [] b c = refl
-plus_assoc (x ∷ xs) [] c = refl
-plus_assoc (x ∷ xs) (y ∷ ys) [] = refl
 plus_assoc (x ∷ xs) (y ∷ ys) (z ∷ zs) =
     let first : (x + y) + z ≡ x + (y + z) = omega arith in
     let rest = plus_assoc xs ys zs in
     cc
+plus_assoc _ _ _ = refl
 
 pub length-plus : (a w : List ℕ) → length a ≡ length w → length (plus a w) ≡ length a
 length-plus [] w e = refl
@@ -104,12 +93,10 @@ zeros-plus d a e = plus_comm (replicate d 0) a ∙ plus-zeros d a e
 -- sums are monotone in both vectors
 pub AtMost-plus : (a b v w : List ℕ) → AtMost a b → AtMost v w → AtMost (plus a v) (plus b w)
 AtMost-plus [] [] v w h k = tt
-AtMost-plus [] (y ∷ ys) v w h k = absurd h
-AtMost-plus (x ∷ xs) [] v w h k = absurd h
 AtMost-plus (x ∷ xs) (y ∷ ys) [] [] h k = tt
-AtMost-plus (x ∷ xs) (y ∷ ys) [] (t ∷ ts) h k = absurd k
-AtMost-plus (x ∷ xs) (y ∷ ys) (s ∷ ss) [] h k = absurd k
 AtMost-plus (x ∷ xs) (y ∷ ys) (s ∷ ss) (t ∷ ts) h k = (omega arith, AtMost-plus xs ys ss ts h.1 k.1)
+AtMost-plus (x ∷ xs) (y ∷ ys) _ _ h k = absurd k
+AtMost-plus _ _ v w h k = absurd h
 
 pub AtMost-plus_self : (a w : List ℕ) → length a ≡ length w → AtMost a (plus a w)
 AtMost-plus_self [] w e = tt
@@ -121,21 +108,18 @@ AtMost-plus_other a w e = subst (AtMost w) (plus_comm w a) (AtMost-plus_self w a
 
 -- bounds on the components add up
 pub All-plus : (m n : ℕ) (a w : List ℕ) → All (λ x. x ≤ m) a → All (λ x. x ≤ n) w → All (λ x. x ≤ m + n) (plus a w)
-All-plus m n [] w h k = All-nil (λ x. x ≤ m + n)
-All-plus m n (x ∷ xs) [] h k = All-nil (λ x. x ≤ m + n)
 All-plus m n (x ∷ xs) (y ∷ ys) h k =
     let left : x ≤ m = All-head (λ x. x ≤ m) x xs h in
     let right : y ≤ n = All-head (λ x. x ≤ n) y ys k in
     All-cons (λ x. x ≤ m + n) (x + y) (plus xs ys) (omega arith)
     (All-plus m n xs ys (All-tail (λ x. x ≤ m) x xs h) (All-tail (λ x. x ≤ n) y ys k))
+All-plus m n _ _ h k = All-nil (λ x. x ≤ m + n)
 
 -- what is added to both can be taken from both
 pub AtMost-cancel : (a b w : List ℕ) → length a ≡ length w → length b ≡ length w → AtMost (plus a w) (plus b w) → AtMost a b
 AtMost-cancel [] [] w e f h = tt
-AtMost-cancel [] (y ∷ ys) w e f h = absurd (omega arith)
-AtMost-cancel (x ∷ xs) [] w e f h = absurd (omega arith)
-AtMost-cancel (x ∷ xs) (y ∷ ys) [] e f h = absurd (omega arith)
 AtMost-cancel (x ∷ xs) (y ∷ ys) (z ∷ zs) e f h = (omega arith, AtMost-cancel xs ys zs (omega arith) (omega arith) h.1)
+AtMost-cancel _ _ _ e f h = absurd (omega arith)
 
 pub plus_cancel : (a b w : List ℕ) → length a ≡ length w → length b ≡ length w → plus a w ≡ plus b w → a ≡ b
 plus_cancel a b w e f same =
@@ -146,14 +130,8 @@ plus_cancel a b w e f same =
 -- ---- vectors of zeros
 
 pub zeros_from_All : (w : List ℕ) → All (λ x. x ≡ 0) w → w ≡ replicate (length w) 0
-zeros_from_All [] h = refl
-zeros_from_All (x ∷ xs) h =
-    let first : x ≡ 0 = All-head (λ x. x ≡ 0) x xs h in
-    let rest = zeros_from_All xs (All-tail (λ x. x ≡ 0) x xs h) in
-    cc
-
-pub All_from_zeros : (w : List ℕ) → w ≡ replicate (length w) 0 → All (λ x. x ≡ 0) w
-All_from_zeros w e = All-same (λ x. x ≡ 0) w (replicate (length w) 0) e (All-replicate (λ x. x ≡ 0) (length w) 0 refl)
+zeros_from_All w h =
+    same_lists w (replicate (length w) 0) (sym (length-replicate (length w) 0)) (λ k d within. h k d within ∙ sym (get_or-replicate (length w) k 0 d within))
 
 -- ---- dominance
 
@@ -162,9 +140,6 @@ Dominates-irrefl a h = h.differs refl
 
 pub Dominates-asym : (a b : List ℕ) → Dominates a b → ¬ Dominates b a
 Dominates-asym a b h k = h.differs (AtMost-antisymm a b h.at_most k.at_most)
-
-pub Dominates-length : (a b : List ℕ) → Dominates a b → length a ≡ length b
-Dominates-length a b h = AtMost-length a b h.at_most
 
 pub AtMost-Dominates : (a b c : List ℕ) → AtMost a b → Dominates b c → Dominates a c
 AtMost-Dominates a b c h k = record {
@@ -205,7 +180,7 @@ cases_Dominates a b =
 pub Dominates-plus : (a b w : List ℕ) → length a ≡ length w → Dominates a b → Dominates (plus a w) (plus b w)
 Dominates-plus a b w e h = record {
   at_most = AtMost-plus a b w w h.at_most (AtMost-refl w);
-  differs = λ same. h.differs (plus_cancel a b w e (sym (Dominates-length a b h) ∙ e) same);
+  differs = λ same. h.differs (plus_cancel a b w e (sym (AtMost-length a b h.at_most) ∙ e) same);
 }
 
 pub Dominates-cancel : (a b w : List ℕ) → length a ≡ length w → length b ≡ length w
@@ -213,16 +188,6 @@ pub Dominates-cancel : (a b w : List ℕ) → length a ≡ length w → length b
 Dominates-cancel a b w e f h = record {
   at_most = AtMost-cancel a b w e f h.at_most;
   differs = λ same. h.differs (ap (λ v. plus v w) same);
-}
-
--- a weight that is not all zero makes a sum that is dominated
-pub Dominates-plus_self : (a w : List ℕ) → length a ≡ length w → ¬ All (λ x. x ≡ 0) w → Dominates a (plus a w)
-Dominates-plus_self a w e positive = record {
-  at_most = AtMost-plus_self a w e;
-  differs = λ same.
-      let zeros = replicate (length w) 0 in
-      let sums : plus w a ≡ plus zeros a = plus_comm w a ∙ sym same ∙ sym (zeros-plus (length w) a e) in
-      positive (All_from_zeros w (plus_cancel w zeros a (sym e) (length-replicate (length w) 0 ∙ sym e) sums));
 }
 
 -- ---- the lexicographic order
@@ -246,38 +211,17 @@ cases_LexLess a b = by (lex_cmp a b) refl
 
 pub LexLess_from_AtMost : (a b : List ℕ) → AtMost a b → a ≢ b → LexLess a b
 LexLess_from_AtMost [] [] h other = absurd (other refl)
-LexLess_from_AtMost [] (y ∷ ys) h other = absurd h
-LexLess_from_AtMost (x ∷ xs) [] h other = absurd h
 LexLess_from_AtMost (x ∷ xs) (y ∷ ys) h other =
     elim (cases_lt x y) [
-      | inl below ↦ ap (λ o. ordering_then o (lex_cmp xs ys)) (nat_cmp-Less x y below)
+      | inl below ↦ ap (λ o. ordering_then o (lex_cmp xs ys)) (sym (nat_cmp_is x y Less below))
       | inr above ↦ let same : x ≡ y = omega arith in
-          ap (λ o. ordering_then o (lex_cmp xs ys)) (nat_cmp-Equal x y same)
+          ap (λ o. ordering_then o (lex_cmp xs ys)) (sym (nat_cmp_is x y Equal same))
           ∙ LexLess_from_AtMost xs ys h.1 (λ e. other (cc))
     ]
-  where
-    nat_cmp-Less : (x y : ℕ) → x < y → nat_cmp x y ≡ Less
-    nat_cmp-Less x y h = grind (arith, nat_tests)
-
-    nat_cmp-Equal : (x y : ℕ) → x ≡ y → nat_cmp x y ≡ Equal
-    nat_cmp-Equal x y h = grind (arith, nat_tests)
+LexLess_from_AtMost _ _ h other = absurd h
 
 pub LexLess_from_Dominates : (a b : List ℕ) → Dominates a b → LexLess a b
 LexLess_from_Dominates a b h = LexLess_from_AtMost a b h.at_most h.differs
-
--- what is added to both vectors changes nothing
-pub lex_cmp-plus : (a b w : List ℕ) → length a ≡ length w → length b ≡ length w → lex_cmp (plus a w) (plus b w) ≡ lex_cmp a b
-lex_cmp-plus [] [] w e f = refl
-lex_cmp-plus [] (y ∷ ys) w e f = absurd (omega arith)
-lex_cmp-plus (x ∷ xs) [] w e f = absurd (omega arith)
-lex_cmp-plus (x ∷ xs) (y ∷ ys) [] e f = absurd (omega arith)
-lex_cmp-plus (x ∷ xs) (y ∷ ys) (z ∷ zs) e f =
-    let first = nat_cmp-plus x y z in
-    let rest = lex_cmp-plus xs ys zs (omega arith) (omega arith) in
-    cc
-  where
-    nat_cmp-plus : (x y z : ℕ) → nat_cmp (x + z) (y + z) ≡ nat_cmp x y
-    nat_cmp-plus x y z = grind (arith, nat_tests)
 
 -- ---- limits
 
@@ -287,60 +231,45 @@ Within-length l a h = sym (AllZip-long IsAllowed l a h)
 -- what is within a limit stays within it where no component grows
 pub Within-AtMost : (l : List (Option ℕ)) (a b : List ℕ) → AtMost a b → Within l b → Within l a
 Within-AtMost l [] [] h k = k
-Within-AtMost l [] (y ∷ ys) h k = absurd h
-Within-AtMost l (x ∷ xs) [] h k = absurd h
 Within-AtMost [] (x ∷ xs) (y ∷ ys) h k = absurd k
 Within-AtMost (None ∷ l) (x ∷ xs) (y ∷ ys) h k = (tt, Within-AtMost l xs ys h.1 k.1)
 Within-AtMost (Some most ∷ l) (x ∷ xs) (y ∷ ys) h k = (omega arith, Within-AtMost l xs ys h.1 k.1)
+Within-AtMost l _ _ h k = absurd h
 
 pub Within-no_limit : (d : ℕ) (a : List ℕ) → length a ≡ d → Within (no_limit d) a
 Within-no_limit d [] e = subst (λ n. Within (no_limit n) []) e tt
 Within-no_limit d (x ∷ xs) e = subst (λ n. Within (no_limit n) (x ∷ xs)) e (tt, Within-no_limit (length xs) xs refl)
 
 -- it can be decided
+cases_allowed : (place : Option ℕ) (x : ℕ) → IsAllowed place x ⊎ (¬ IsAllowed place x)
+cases_allowed None x = inl tt
+cases_allowed (Some most) x = cases_le x most
+
 pub cases_Within : (l : List (Option ℕ)) (a : List ℕ) → Within l a ⊎ (¬ Within l a)
-cases_Within [] [] = inl tt
-cases_Within [] (x ∷ xs) = inr (λ h. h)
-cases_Within (p ∷ l) [] = inr (λ h. h)
-cases_Within (None ∷ l) (x ∷ xs) =
-    elim (cases_Within l xs) [ inl rest ↦ inl (tt, rest) | inr other ↦ inr (λ h. other h.1) ]
-cases_Within (Some most ∷ l) (x ∷ xs) =
-    elim (cases_lt most x) [
-      | inl above ↦ inr (λ h. omega arith)
-      | inr below ↦ elim (cases_Within l xs) [
-        | inl rest ↦ inl (below, rest)
-        | inr other ↦ inr (λ h. other h.1)
-      ]
-    ]
+cases_Within = cases_AllZip IsAllowed cases_allowed
 
 -- ---- the sum of the components
 
+sum-cons : (x : ℕ) (xs : List ℕ) → sum (x ∷ xs) ≡ x + sum xs
+sum-cons x xs = sum_by-cons (λ n. n) x xs
+
 pub sum-plus : (a b : List ℕ) → length a ≡ length b → sum (plus a b) ≡ sum a + sum b
 sum-plus [] [] e = refl
-sum-plus [] (y ∷ ys) e = absurd (omega arith)
-sum-plus (x ∷ xs) [] e = absurd (omega arith)
-sum-plus (x ∷ xs) (y ∷ ys) e =
-    omega (arith, sum_by-cons (λ n. n) (x + y) (plus xs ys), sum_by-cons (λ n. n) x xs, sum_by-cons (λ n. n) y ys, sum-plus xs ys (omega arith))
+sum-plus (x ∷ xs) (y ∷ ys) e = omega (arith, sum-cons (x + y) (plus xs ys), sum-cons x xs, sum-cons y ys, sum-plus xs ys (omega arith))
+sum-plus _ _ e = absurd (omega arith)
 
 pub sum-AtMost : (a b : List ℕ) → AtMost a b → sum a ≤ sum b
 sum-AtMost [] [] h = omega arith
-sum-AtMost [] (y ∷ ys) h = absurd h
-sum-AtMost (x ∷ xs) [] h = absurd h
-sum-AtMost (x ∷ xs) (y ∷ ys) h =
-    omega (arith, sum_by-cons (λ n. n) x xs, sum_by-cons (λ n. n) y ys, sum-AtMost xs ys h.1)
+sum-AtMost (x ∷ xs) (y ∷ ys) h = omega (arith, sum-cons x xs, sum-cons y ys, sum-AtMost xs ys h.1)
+sum-AtMost _ _ h = absurd h
+
+same_from_sums : (a b : List ℕ) → AtMost a b → sum b ≤ sum a → a ≡ b
+same_from_sums [] [] h k = refl
+same_from_sums (x ∷ xs) (y ∷ ys) h k =
+    let first : x ≡ y = omega (arith, sum-cons x xs, sum-cons y ys, sum-AtMost xs ys h.1) in
+    let rest = same_from_sums xs ys h.1 (omega (arith, sum-cons x xs, sum-cons y ys)) in
+    cc
+same_from_sums _ _ h k = absurd h
 
 pub sum-Dominates : (a b : List ℕ) → Dominates a b → sum a < sum b
-sum-Dominates a b h = by a b h.at_most h.differs
-  where
-    by : (a b : List ℕ) → AtMost a b → a ≢ b → sum a < sum b
-    by [] [] h other = absurd (other refl)
-    by [] (y ∷ ys) h other = absurd h
-    by (x ∷ xs) [] h other = absurd h
-    by (x ∷ xs) (y ∷ ys) h other =
-        let left = sum_by-cons (λ n. n) x xs in
-        let right = sum_by-cons (λ n. n) y ys in
-        elim (cases_lt x y) [
-          | inl below ↦ omega (arith, left, right, sum-AtMost xs ys h.1)
-          | inr above ↦ let same : x ≡ y = omega arith in
-              omega (arith, left, right, by xs ys h.1 (λ e. other (cc)))
-        ]
+sum-Dominates a b h = elim (cases_lt (sum a) (sum b)) [ inl below ↦ below | inr above ↦ absurd (h.differs (same_from_sums a b h.at_most above)) ]

@@ -1,63 +1,39 @@
 -- Runs: which states are the same, that runs go on from and to same states, and that runs follow one another.
-use Rattle.std.proofs.Common.{ℕ, List, [], ◌∷◌, ◌++◌, ◌↔◌, inl, inr}
-use Rattle.std.proofs.lemmas.List.Sorted.{Contains-permutation, IsPermutation-refl, IsPermutation-sym, IsPermutation-trans}
-use Rattle.list_laws.specs.Sets.{SameMembers}
-use Rattle.event_machine.specs.Machine.{Task, Label, SearchState, settled, waiting, IsEntry, IsActive, waits}
-use Rattle.event_machine.specs.Machine.{is_candidate, has_arc, IsBeatenAtTarget}
+use Rattle.std.proofs.Common.{ℕ, ◌⊎◌, List, [], ◌∷◌, ◌++◌, ◌↔◌, arith, Contains}
+use Rattle.std.proofs.lemmas.List.Sorted.{IsPermutation-refl, IsPermutation-sym, IsPermutation-trans}
+use Rattle.cost_vector.specs.Costs.{Within}
+use Rattle.event_machine.specs.Machine.{Task, Label, SearchState, settled, waiting, IsBeatenAtTarget}
 use Rattle.event_machine.specs.Events.{Event, IsSame, MayDrop, Happens, Runs}
 
 -- ---- same states
 
-module _ {X : Type 0} where
-  same_members_back : (xs ys : List X) → SameMembers xs ys → SameMembers ys xs
-  same_members_back xs ys same x = ((same x).1, (same x).0)
-
-  same_members_through : (xs ys zs : List X) → SameMembers xs ys → SameMembers ys zs → SameMembers xs zs
-  same_members_through xs ys zs first second x = (λ h. (second x).0 ((first x).0 h), λ h. (first x).1 ((second x).1 h))
-
 -- to be the same is an equivalence
 pub same_itself : (s : SearchState) → IsSame s s
-same_itself s = record {
-  entries = λ p y. (λ h. h, λ h. h);
-  unrelaxed = λ p. (λ h. h, λ h. h);
-  candidates = IsPermutation-refl s.candidates;
-}
+same_itself s = record { entries = λ p y. (λ h. h, λ h. h); unrelaxed = λ p. (λ h. h, λ h. h); candidates = IsPermutation-refl s.candidates }
 
 pub same_back : (a b : SearchState) → IsSame a b → IsSame b a
 same_back a b same = record {
-  entries = λ p. same_members_back _ _ (same.entries p);
-  unrelaxed = same_members_back _ _ same.unrelaxed;
+  entries = λ p y. ((same.entries p y).1, (same.entries p y).0);
+  unrelaxed = λ p. ((same.unrelaxed p).1, (same.unrelaxed p).0);
   candidates = IsPermutation-sym a.candidates b.candidates same.candidates;
 }
 
 pub same_through : (a b c : SearchState) → IsSame a b → IsSame b c → IsSame a c
 same_through a b c first second = record {
-  entries = λ p. same_members_through _ _ _ (first.entries p) (second.entries p);
-  unrelaxed = same_members_through _ _ _ first.unrelaxed second.unrelaxed;
+  entries = λ p y. let f = first.entries p y in let s = second.entries p y in grind arith;
+  unrelaxed = λ p. let f = first.unrelaxed p in let s = second.unrelaxed p in grind arith;
   candidates = IsPermutation-trans a.candidates b.candidates c.candidates first.candidates second.candidates;
 }
 
--- ---- what may happen in one of two same states may happen in the other
+-- what is beyond the limit or beaten at the target stays so where no settled label goes
+pub useless_on : (task : Task) (a b : SearchState) → ((y : Label) → Contains a.settled y → Contains b.settled y) → (c : List ℕ)
+    → (¬ Within task.limit c) ⊎ IsBeatenAtTarget task a c → (¬ Within task.limit c) ⊎ IsBeatenAtTarget task b c
+useless_on task a b kept c = grind arith
 
-module _ (a b : SearchState) (same : IsSame a b) where
-  pub entry_alike : (y : Label) → IsEntry a y → IsEntry b y
-  entry_alike y h = (h.0, (same.entries h.0 y).0 h.1)
-
-  pub active_alike : (y : Label) → IsActive a y → IsActive b y
-  active_alike y = elim [
-    | waits h ↦ waits ((same.entries waiting y).0 h)
-    | is_candidate h ↦ is_candidate (Contains-permutation a.candidates b.candidates y same.candidates h)
-    | has_arc k h ↦ has_arc k ((same.unrelaxed (y, k)).0 h)
-  ]
-
-  pub beaten_alike : (task : Task) (c : List ℕ) → IsBeatenAtTarget task a c → IsBeatenAtTarget task b c
-  beaten_alike task c h = record { by = h.by; settled = (same.entries settled h.by).0 h.settled; node = h.node; dominates = h.dominates }
-
-  pub drop_alike : (task : Task) (l : Label) → MayDrop task a l → MayDrop task b l
-  drop_alike task l h = record {
-    waits = (same.entries waiting l).0 h.waits;
-    useless = elim h.useless [ inl beyond ↦ inl beyond | inr beaten ↦ inr (beaten_alike task l.cost beaten) ];
-  }
+-- what may be dropped in one of two same states may be dropped in the other
+pub drop_alike : (task : Task) (a b : SearchState) → IsSame a b → (l : Label) → MayDrop task a l → MayDrop task b l
+drop_alike task a b same l h =
+    record { waits = (same.entries waiting l).0 h.waits; useless = useless_on task a b (λ y. (same.entries settled y).0) l.cost h.useless }
 
 -- ---- runs
 
@@ -108,7 +84,4 @@ module _ (task : Task) (Q : List Event → SearchState → Type 0) (same : (even
     -- the runs are those to what each run ends at, where this is one state
     pub runs_to_end : (End : SearchState → Type 0) → ((b : SearchState) → Q [] b → End b) → ((b c : SearchState) → End b → End c → IsSame b c)
         → (events : List Event) (a : SearchState) → Q events a → (b : SearchState) → Runs task a events b ↔ End b
-    runs_to_end End ends one events a q b = (
-      λ run. ends b (along_run events a b q run),
-      λ end. let (c, run) = run_exists events a q in runs_to_same task a c b events run (one b c end (ends c (along_run events a c q run))),
-    )
+    runs_to_end End ends one events a q b = grind (arith, along_run, run_exists, runs_to_same)

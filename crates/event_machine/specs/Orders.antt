@@ -14,12 +14,14 @@ pub record Stays (task : Task) (s : SearchState) (y : Label) : Type 0 where
   pub waits : Contains s.waiting y
   pub kept : ¬ MayDrop task s y
 
--- The labels that Chosen holds of come to stand at the place `to`, and open those of their pairs that Opens holds of;
--- all else stays.
-pub record Moves (Chosen : Label → Type 0) (to : Place) (Opens : Label × ℕ → Type 0) (before after : SearchState) : Type 0 where
+-- The labels that Chosen holds of come to stand at the place `to`, and those of their pairs with an arc that Opens holds
+-- of are to be relaxed; all else stays.
+pub record Moves (Chosen : Label → Type 0) (to : Place) (Opens : Label × ℕ → Type 0) (before after : SearchState)
+    : Type 0 where
   pub entries : (place : Place) (y : Label) → Contains (entries_at after place) y
       ↔ ((Contains (entries_at before place) y × (¬ Chosen y)) ⊎ ((place ≡ to) × Chosen y))
-  pub unrelaxed : (p : Label × ℕ) → Contains after.unrelaxed p ↔ (Contains before.unrelaxed p ⊎ (Chosen p.0 × Opens p))
+  pub unrelaxed : (p : Label × ℕ) → Contains after.unrelaxed p
+      ↔ (Contains before.unrelaxed p ⊎ (Chosen p.0 × Opens p))
   pub candidates : IsPermutation before.candidates after.candidates
 
 -- what each order of the drops leads to: each label that may be dropped is dropped, and nothing else changes
@@ -31,8 +33,8 @@ pub record IsNext (task : Task) (s : SearchState) (y : Label) : Type 0 where
   pub stays : Stays task s y
   pub none_better : (z : Label) → Stays task s z → ¬ Dominates z.cost y.cost
 
--- What each order of the drops, and then each order of the takes, leads to from a state between rounds: those labels are
--- dropped and settled, and all others stay.
+-- What each order of the drops, and then each order of the takes, leads to from a state between rounds: the labels that
+-- may be dropped are dropped, the next ones are settled, and all others stay where they are.
 pub record IsBegun (task : Task) (before after : SearchState) : Type 0 where
   pub entries : (place : Place) (y : Label) → Contains (entries_at after place) y
       ↔ ((Contains (entries_at before place) y × (¬ MayDrop task before y) × (¬ IsNext task before y))
@@ -43,10 +45,13 @@ pub record IsBegun (task : Task) (before after : SearchState) : Type 0 where
 
 -- ---- the second half
 
+-- an arc that is still to be relaxed gives x
+abbrev pub IsGiven : Network → SearchState → Label → Type 0
+IsGiven net s x = (e : Label) × Contains s.unrelaxed (e, x.arc) × Follows net e x
+
 -- x arrives: it is a candidate, or an arc that is still to be relaxed gives it
-pub data IsArrival (net : Network) (s : SearchState) (x : Label) : Type 0 where
-  came : Contains s.candidates x → IsArrival net s x
-  comes : (e : Label) → Contains s.unrelaxed (e, x.arc) → Follows net e x → IsArrival net s x
+abbrev pub IsArrival : Network → SearchState → Label → Type 0
+IsArrival net s x = Contains s.candidates x ⊎ IsGiven net s x
 
 -- the first event merges what the second relaxes
 abbrev pub MergesResult : Network → Event → Event → Type 0
@@ -85,6 +90,7 @@ Belongs before y waiting = (¬ HasPair before.settled y) × (¬ HasPair before.d
 -- What each such order leads to: the labels that survive, settled or dropped exactly where an entry of the node and
 -- cost was so before, and waiting elsewhere.
 pub record IsOutcome (net : Network) (before after : SearchState) : Type 0 where
-  pub entries : (place : Place) (y : Label) → Contains (entries_at after place) y ↔ (Survives net before y × Belongs before y place)
+  pub entries : (place : Place) (y : Label) → Contains (entries_at after place) y
+      ↔ (Survives net before y × Belongs before y place)
   pub unrelaxed : after.unrelaxed ≡ []
   pub candidates : after.candidates ≡ []

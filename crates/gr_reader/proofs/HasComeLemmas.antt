@@ -1,129 +1,132 @@
--- The arcs of a file that have come to a sink, and what is told of those that follow.
-use Rattle.std.proofs.Common.{◌≡◌, ℕ, ◌+◌, ◌-◌, ◌≤◌, List, [], ◌∷◌, ◌++◌, Option, Some, None, IfSome, IsSomeAnd, Ok, Err, length, refl, sym, ap, ◌∙◌}
+-- The records of a file that have come to a sink, and what is told of those that follow.
+use Rattle.std.proofs.Common.{◌≡◌, ℕ, ◌+◌, ◌-◌, true, List, [], ◌∷◌, ◌++◌, Option, Some, None, IfSome, IsSomeAnd, Ok, Err, length, refl, sym, ap, ◌∙◌}
 use Rattle.std.proofs.Common.{append_assoc}
 use Rattle.std.proofs.lemmas.List.{append-nil, length_push}
 use Rattle.std.specs.Io.KnownBytes.{prepend_known}
 use Rattle.route_io.specs.Sources.{SourceState}
-use Rattle.road_network.specs.Limits.{max_arcs}
-use Rattle.arc_graph.specs.declared.file.ArcLine.{ArcLine}
-use Rattle.arc_graph.specs.Files.{ArcFile, empty_file, with_arc}
-use Rattle.line_text.specs.Reading.{Lines, rest_of}
+use Rattle.line_text.specs.Reading.{Lines, begun, rest_of}
 use Rattle.gr_reader.specs.declared.fault.FileFault.{FileFault}
 use Rattle.gr_reader.specs.declared.fault.FileFault.TheVariants.{Line, Read, OutOfMemory}
 use Rattle.gr_reader.specs.declared.fault.FileLimits.{FileLimits}
-use Rattle.gr_reader.specs.declared.gr_lines.Stage.{Stage}
-use Rattle.gr_reader.specs.declared.gr_lines.Stage.TheVariants.{Arcs, Whole}
-use Rattle.gr_reader.specs.Table.{Sizes, said}
+use Rattle.gr_reader.specs.declared.record_lines.Stage.{Stage}
+use Rattle.gr_reader.specs.declared.record_lines.Stage.TheVariants.{Records, Whole}
+use Rattle.gr_reader.specs.Rules.{Rules}
+use Rattle.gr_reader.specs.Table.{line_limits}
 use Rattle.gr_reader.specs.Rest.{Told, read_rest, at_start}
-use Rattle.gr_reader.specs.Reader.{GrLines, unread, told_of, Moves, WhereArcs, BeginTells, SizesTold, ArcTells, FaultTold, IsFirstFault, TakesFile}
-use Rattle.gr_reader.proofs.GrFaultLemmas.{fault_is_first}
+use Rattle.gr_reader.specs.Reader.{RecordLines, told_of, Moves, WhereRecords, BeginTells, ProblemTold, RecordTells, FaultTold, IsFirstFault}
+use Rattle.gr_reader.specs.Reader.{TakesWhole}
+use Rattle.gr_reader.proofs.FirstFaultLemmas.{fault_is_first}
 use Rattle.gr_reader.proofs.LawsLemmas.{read_is_file}
 use Rattle.gr_reader.proofs.StepsLemmas.{IfSome_through}
 
--- The whole gives these arcs, and then what is told later.
-pub record Collects (arcs : List ArcLine) (whole later : Told) : Type 0 where
-  pub parts : whole ≡ record later { arcs = arcs ++ later.arcs }
+-- The whole gives these records, and then what is told later.
+pub record Collects {P R : Type 0} (records : List R) (whole later : Told P R) : Type 0 where
+  pub parts : whole ≡ record later { records = records ++ later.records }
 
--- This of a file has come to a sink. Where the source told the text at the start, what is left now gives the rest of the file.
-pub record HasCome (limits : FileLimits) (lines : GrLines) (start now : SourceState) (HasTaken : ℕ → ArcFile → Type 0) : Type 0 where
-  pub file : ArcFile
-  pub arcs : ℕ
-  pub at : lines.stage ≡ Arcs file.nodes arcs (length file.arcs)
-  pub most : arcs ≤ max_arcs
-  pub taken : HasTaken arcs file
-  pub told : IfSome start.left (λ bytes. IsSomeAnd (rest_of lines.lines now)
-      (λ rest. Collects file.arcs (read_rest limits at_start bytes) (told_of lines.lines (said file.nodes arcs) (length file.arcs) rest)))
+-- how many records are still to come
+abbrev pub records_left : {P R : Type 0} → Rules P R → Stage P → ℕ
+records_left rules (Records problem come) = rules.count problem - come
+records_left rules other = 0
 
--- how many arcs are still to come
-abbrev pub arcs_left : Stage → ℕ
-arcs_left (Arcs nodes arcs come) = arcs - come
-arcs_left other = 0
+module _ {P R : Type 0} (rules : Rules P R) (limits : FileLimits) where
+  -- These records have come to a sink. Where the source told the text at the start, what is left now gives the rest of the file.
+  pub record HasCome (lines : RecordLines P) (start now : SourceState) (HasTaken : P → List R → Type 0) : Type 0 where
+    pub problem : P
+    pub records : List R
+    pub at : lines.stage ≡ Records problem (length records)
+    pub right_size : rules.is_size problem ≡ true
+    pub taken : HasTaken problem records
+    pub told : IfSome start.left (λ bytes. IsSomeAnd (rest_of lines.lines now)
+        (λ rest. Collects records (read_rest rules limits at_start bytes) (told_of rules lines.lines (Some problem) (length records) rest)))
 
--- what is told of the rest before the first line is told of the text
-of_start : (limits : FileLimits) (source : SourceState) (P : Told → Type 0) {Q : List ℕ → Type 0}
-    → IfSome (rest_of (unread limits).lines source) (λ rest. P (told_of (unread limits).lines None 0 rest))
-    → ((bytes : List ℕ) → P (read_rest limits at_start bytes) → Q bytes) → IfSome source.left Q
-of_start limits source P {Q} told each = by_left source.left told where
-  by_left : (left : Option (List ℕ)) → IfSome (prepend_known [] left) (λ rest. P (told_of (unread limits).lines None 0 rest)) → IfSome left Q
-  by_left None told = tt
-  by_left (Some bytes) told = each bytes told
+  -- what is told of the rest before the first line is told of the text
+  of_start : (source : SourceState) (Q : Told P R → Type 0) {T : List ℕ → Type 0}
+      → IfSome (rest_of (begun (line_limits limits)) source) (λ rest. Q (told_of rules (begun (line_limits limits)) None 0 rest))
+      → ((bytes : List ℕ) → Q (read_rest rules limits at_start bytes) → T bytes) → IfSome source.left T
+  of_start source Q {T} told each = by_left source.left told where
+    by_left : (left : Option (List ℕ)) → IfSome (prepend_known [] left) (λ rest. Q (told_of rules (begun (line_limits limits)) None 0 rest)) → IfSome left T
+    by_left None told = tt
+    by_left (Some bytes) told = each bytes told
 
-first_fault : (limits : FileLimits) (bytes : List ℕ) (arcs : List ArcLine) (later : Told) (sizes : Option Sizes) (fault : FileFault)
-    → Collects arcs (read_rest limits at_start bytes) later → FaultTold sizes later fault → IsFirstFault limits bytes fault
-first_fault limits bytes arcs later sizes (Line kind line) collects told =
-    fault_is_first limits bytes kind line (ap (λ told. told.end) collects.parts ∙ ap (λ told. told.end) told)
-first_fault limits bytes arcs later sizes Read collects told = tt
-first_fault limits bytes arcs later sizes OutOfMemory collects told = tt
+  first_fault : (bytes : List ℕ) (records : List R) (later : Told P R) (problem : Option P) (fault : FileFault)
+      → Collects records (read_rest rules limits at_start bytes) later → FaultTold problem later fault → IsFirstFault rules limits bytes fault
+  first_fault bytes records later problem (Line kind line) collects told =
+      fault_is_first rules limits bytes kind line (ap (λ told. told.end) collects.parts ∙ ap (λ told. told.end) told)
+  first_fault bytes records later problem Read collects told = tt
+  first_fault bytes records later problem OutOfMemory collects told = tt
 
-module _ (limits : FileLimits) (start : SourceState) where
-  -- the file has a fault where its sizes should be
-  pub begins_badly : (new : Lines) (now : SourceState) (fault : FileFault) → BeginTells (unread limits).lines new start now (Err fault)
-      → IfSome start.left (λ bytes. IsFirstFault limits bytes fault)
-  begins_badly new now fault tells =
-      of_start limits start (λ told. SizesTold new told (rest_of new now) (Err fault)) tells
-      (λ bytes told. first_fault limits bytes [] _ None fault (record { parts = refl }) told)
+  module _ (start : SourceState) where
+    -- the file has a fault where its problem line should be
+    pub begins_badly : (new : Lines) (now : SourceState) (fault : FileFault) → BeginTells rules (begun (line_limits limits)) new start now (Err fault)
+        → IfSome start.left (λ bytes. IsFirstFault rules limits bytes fault)
+    begins_badly new now fault tells =
+        of_start start (λ told. ProblemTold rules new told (rest_of new now) (Err fault)) tells
+        (λ bytes told. first_fault bytes [] _ None fault (record { parts = refl }) told)
 
-  -- no arc has come yet
-  pub has_come-none : (new : GrLines) (now : SourceState) (nodes arcs : ℕ) (HasTaken : ℕ → ArcFile → Type 0) → new.stage ≡ Arcs nodes arcs 0
-      → arcs ≤ max_arcs → BeginTells (unread limits).lines new.lines start now (Ok (nodes, arcs)) → HasTaken arcs (empty_file nodes)
-      → HasCome limits new start now HasTaken
-  has_come-none new now nodes arcs HasTaken at most tells taken =
-      record {
-        file = empty_file nodes;
-        arcs = arcs;
-        at = at;
-        most = most;
-        taken = taken;
-        told = of_start limits start (λ told. SizesTold new.lines told (rest_of new.lines now) (Ok (nodes, arcs))) tells
-            (λ bytes tells. rw tells.left (record { parts = tells.same }));
-      }
-
-  module _ (old : GrLines) (now : SourceState) (HasTaken : ℕ → ArcFile → Type 0) (come : HasCome limits old start now HasTaken) (new : GrLines)
-      (after : SourceState) where
-    -- one more arc has come
-    pub has_come-more : (arc : ArcLine) (HasMore : ℕ → ArcFile → Type 0) → Moves old.stage new.stage (Ok (Some arc))
-        → WhereArcs old.stage (λ nodes arcs come. ArcTells (said nodes arcs) come old.lines new.lines now after (Ok (Some arc)))
-        → ((arcs : ℕ) (file : ArcFile) → HasTaken arcs file → HasMore arcs (with_arc file arc)) → HasCome limits new start after HasMore
-    has_come-more arc HasMore moves tells takes =
-        let next : new.stage ≡ Arcs come.file.nodes come.arcs (length come.file.arcs + 1) = (rw come.at at moves).1 in
-        let count = length_push come.file.arcs arc in
+    -- no record has come yet
+    pub has_come-none : (new : RecordLines P) (now : SourceState) (problem : P) (HasTaken : P → List R → Type 0) → new.stage ≡ Records problem 0
+        → rules.is_size problem ≡ true → BeginTells rules (begun (line_limits limits)) new.lines start now (Ok problem) → HasTaken problem []
+        → HasCome new start now HasTaken
+    has_come-none new now problem HasTaken at right_size tells taken =
         record {
-          file = with_arc come.file arc;
-          arcs = come.arcs;
-          at = next ∙ ap (Arcs come.file.nodes come.arcs) (sym count);
-          most = come.most;
-          taken = takes come.arcs come.file come.taken;
-          told = IfSome_through start.left (rest_of old.lines now) _ come.told (rw come.at at tells)
-              (λ bytes rest collects tells.
-              rw (tells.left, count)
-              (record {
-                parts = collects.parts ∙ ap (λ (later : Told). record later { arcs = come.file.arcs ++ later.arcs }) tells.first
-                    ∙ ap (λ all. record (told_of new.lines (said come.file.nodes come.arcs) (length come.file.arcs + 1) tells.rest) { arcs = all })
-                    (sym (append_assoc come.file.arcs (arc ∷ []) _));
-              }));
+          problem = problem;
+          records = [];
+          at = at;
+          right_size = right_size;
+          taken = taken;
+          told = of_start start (λ told. ProblemTold rules new.lines told (rest_of new.lines now) (Ok problem)) tells
+              (λ bytes tells. rw tells.left (record { parts = tells.same }));
         }
 
-    -- all arcs have come
-    pub has_come-whole : Moves old.stage new.stage (Ok None)
-        → WhereArcs old.stage (λ nodes arcs come. ArcTells (said nodes arcs) come old.lines new.lines now after (Ok None))
-        → TakesFile limits start.left HasTaken
-    has_come-whole moves tells =
-        let all : (length come.file.arcs ≡ come.arcs) × (new.stage ≡ Whole) = rw come.at at moves in
-        record {
-          file = come.file;
-          taken = rw all.0 come.taken;
-          is_gr = IfSome_through start.left (rest_of old.lines now) _ come.told (rw come.at at tells)
-              (λ bytes rest collects told.
-              let at : ℕ → List ArcLine → Told = λ n arcs. record { sizes = said come.file.nodes n; arcs = arcs; end = None } in
-              read_is_file limits bytes come.file.nodes come.file.arcs
-              (collects.parts ∙ ap (λ (later : Told). record later { arcs = come.file.arcs ++ later.arcs }) told
-              ∙ ap (at come.arcs) (append-nil come.file.arcs) ∙ ap (λ n. at n come.file.arcs) (sym all.0)));
-        }
+    module _ (old : RecordLines P) (now : SourceState) (HasTaken : P → List R → Type 0) (come : HasCome old start now HasTaken) (new : RecordLines P)
+        (after : SourceState) where
+      -- one more record has come
+      pub has_come-more : (r : R) (HasMore : P → List R → Type 0) → Moves rules old.stage new.stage (Ok (Some r))
+          → WhereRecords old.stage (λ problem come. RecordTells rules (Some problem) come old.lines new.lines now after (Ok (Some r)))
+          → ((problem : P) (records : List R) → HasTaken problem records → HasMore problem (records ++ r ∷ []))
+          → HasCome new start after HasMore
+      has_come-more r HasMore moves tells takes =
+          let next : new.stage ≡ Records come.problem (length come.records + 1) = (rw come.at at moves).1 in
+          let count = length_push come.records r in
+          record {
+            problem = come.problem;
+            records = come.records ++ r ∷ [];
+            at = next ∙ ap (Records come.problem) (sym count);
+            right_size = come.right_size;
+            taken = takes come.problem come.records come.taken;
+            told = IfSome_through start.left (rest_of old.lines now) _ come.told (rw come.at at tells)
+                (λ bytes rest collects tells.
+                rw (tells.left, count)
+                (record {
+                  parts = collects.parts ∙ ap (λ (later : Told P R). record later { records = come.records ++ later.records }) tells.first
+                      ∙ ap (λ all. record (told_of rules new.lines (Some come.problem) (length come.records + 1) tells.rest) { records = all })
+                      (sym (append_assoc come.records (r ∷ []) _));
+                }));
+          }
 
-    -- the file has a fault where an arc or its end should be
-    pub has_come-badly : (fault : FileFault)
-        → WhereArcs old.stage (λ nodes arcs come. ArcTells (said nodes arcs) come old.lines new.lines now after (Err fault))
-        → IfSome start.left (λ bytes. IsFirstFault limits bytes fault)
-    has_come-badly fault tells =
-        IfSome_through start.left (rest_of old.lines now) _ come.told (rw come.at at tells)
-        (λ bytes rest collects told. first_fault limits bytes come.file.arcs _ _ fault collects told)
+      -- all records have come
+      pub has_come-whole : Moves rules old.stage new.stage (Ok None)
+          → WhereRecords old.stage (λ problem come. RecordTells rules (Some problem) come old.lines new.lines now after (Ok None))
+          → TakesWhole rules limits start.left HasTaken
+      has_come-whole moves tells =
+          let all : (length come.records ≡ rules.count come.problem) × (new.stage ≡ Whole) = rw come.at at moves in
+          record {
+            problem = come.problem;
+            records = come.records;
+            counted = all.0;
+            taken = come.taken;
+            is_file = IfSome_through start.left (rest_of old.lines now) _ come.told (rw come.at at tells)
+                (λ bytes rest collects told.
+                let at : List R → Told P R = λ records. record { problem = Some come.problem; records = records; end = None } in
+                read_is_file rules limits bytes come.problem come.records
+                (collects.parts ∙ ap (λ (later : Told P R). record later { records = come.records ++ later.records }) told
+                ∙ ap at (append-nil come.records)));
+          }
+
+      -- the file has a fault where a record or its end should be
+      pub has_come-badly : (fault : FileFault)
+          → WhereRecords old.stage (λ problem come. RecordTells rules (Some problem) come old.lines new.lines now after (Err fault))
+          → IfSome start.left (λ bytes. IsFirstFault rules limits bytes fault)
+      has_come-badly fault tells =
+          IfSome_through start.left (rest_of old.lines now) _ come.told (rw come.at at tells)
+          (λ bytes rest collects told. first_fault bytes come.records _ _ fault collects told)

@@ -1,9 +1,11 @@
 pub mod ToldLemmas
-pub mod FormLemmas
 pub mod StepsLemmas
 pub mod LimitLemmas
-pub mod IsGrLemmas
-pub mod GrFaultLemmas
+pub mod FirstFaultLemmas
+pub mod IsFileLemmas
 pub mod LawsLemmas
 pub mod TakesBytesLemmas
 pub mod HasComeLemmas
+pub mod ReadsIntoLemmas
+pub mod WeightLemmas
+pub mod MayTellLemmas

@@ -1,21 +1,18 @@
 -- From line to line up to the first that isn't ignored, in whatever a source tells.
-use Rattle.std.proofs.Common.{◌≡◌, ℕ, ◌+◌, ◌<◌, List, [], ◌∷◌, Option, Some, None, IfSome, IfNone, IsSomeAnd, Bool, Result, Err, length, refl, sym, ◌∙◌, arith}
-use Rattle.std.specs.Option.{option_map}
+use Rattle.std.proofs.Common.{◌≡◌, ℕ, ◌+◌, ◌<◌, List, [], ◌∷◌, Option, Some, None, IfSome, IfNone, IsSomeAnd, Bool, true, false, Result, Err, length, refl, sym, ◌∙◌, arith}
 use Rattle.std.proofs.lemmas.Option.{MatchOption-at_none}
 use Rattle.route_io.specs.Sources.{SourceState}
 use Rattle.line_text.specs.declared.limits.LineFault.{LineFault}
 use Rattle.line_text.specs.declared.limits.LineFault.TheVariants as lines
-use Rattle.line_text.specs.Lines.{after_line, lines_of}
+use Rattle.line_text.specs.Fields.{fields_of}
+use Rattle.line_text.specs.Lines.{after_line}
 use Rattle.line_text.specs.Marks.{first_fault, line_answer, answer_of}
 use Rattle.line_text.specs.Reading.{Lines, Advances, CountsNone, TakesLine, Tells}
 use Rattle.gr_reader.specs.declared.fault.LineKind.TheVariants.{LineTooLong, FileTooLong}
-use Rattle.gr_reader.specs.declared.form.Form.{Form}
-use Rattle.gr_reader.specs.Forms.{form_of, capped}
 use Rattle.gr_reader.specs.Kinds.{told_as}
-use Rattle.gr_reader.specs.Reader.{file_limits, line_state}
-use Rattle.gr_reader.specs.Steps.{Skips, FindsForm, FindsFault}
+use Rattle.gr_reader.specs.Rules.{Rules, is_ignored}
+use Rattle.gr_reader.specs.Steps.{Skips, FindsLine, FindsFault}
 use Rattle.gr_reader.proofs.ToldLemmas.{given, told_of-taken, told_of-broken}
-use Rattle.gr_reader.proofs.FormLemmas.{given-capped}
 
 -- what is told of a rest that is known, and of what is left of it
 pub IfSome_through : (known left : Option (List ℕ)) {P Q : List ℕ → Type 0} (S : List ℕ → List ℕ → Type 0) → IfSome known (λ rest. IsSomeAnd left (S rest))
@@ -30,40 +27,25 @@ pub advanced : {old new : Lines} {before after : SourceState} {result : Result B
     → IfNone old.fault (Advances old new before after result) → Advances old new before after result
 advanced none advances = MatchOption-at_none _ _ none advances
 
--- the form of a line that isn't ignored
-form_is : (text : Option Form) (form : Form) → Some form ≡ option_map capped text → (line : Form) × (text ≡ Some line) × (form ≡ capped line)
-form_is None form e = absurd cc
-form_is (Some line) form e = (line, refl, cc)
-
-ignored_is : (text : Option Form) → None ≡ option_map capped text → text ≡ None
-ignored_is None e = refl
-ignored_is (Some line) e = absurd cc
-
-module _ (old now new : Lines) (after : Option (List ℕ)) (limits : new.limits ≡ now.limits) where
+module _ {P R : Type 0} (rules : Rules P R) (old now new : Lines) (after : Option (List ℕ)) (limits : new.limits ≡ now.limits) where
   -- one more line is ignored
-  pub skips_line : (rest more : List ℕ) → Skips old now rest more → now.number + 1 ≡ new.number → TakesLine now new more after
-      → None ≡ option_map capped (form_of new.text)
-      → IsSomeAnd after (Skips old new rest)
+  pub skips_line : (rest more : List ℕ) → Skips rules old now rest more → now.number + 1 ≡ new.number → TakesLine now new more after
+      → is_ignored (fields_of new.text) ≡ true
+      → IsSomeAnd after (Skips rules old new rest)
   unfolding given
   skips_line rest more skips number taken ignored =
-      let e = ignored_is (form_of new.text) ignored in
-      rw taken.left (λ sizes come small. skips sizes come small ∙ told_of-taken now new more after taken limits (sym number) sizes come ∙ rw e refl)
+      rw taken.left (λ problem come. skips problem come ∙ told_of-taken rules now new more after taken limits (sym number) problem come ∙ rw ignored refl)
 
-  -- the line says something
-  pub finds_form : (rest more : List ℕ) (form : Form) → Skips old now rest more → now.number + 1 ≡ new.number → TakesLine now new more after
-      → Some form ≡ option_map capped (form_of new.text)
-      → FindsForm old new rest after form
+  -- the line isn't ignored
+  pub finds_line : (rest more : List ℕ) → Skips rules old now rest more → now.number + 1 ≡ new.number → TakesLine now new more after
+      → is_ignored (fields_of new.text) ≡ false
+      → FindsLine rules old new rest after
   unfolding given
-  finds_form rest more form skips number taken says =
-      let line = form_is (form_of new.text) form says in
+  finds_line rest more skips number taken says =
       record {
         more = after_line more;
         left = taken.left;
-        told = λ sizes come small.
-            let first = told_of-taken now new more after taken limits (sym number) sizes come in
-            let same = given-capped (file_limits new.limits) (new.passed + length (after_line more)) sizes come small (line_state new sizes come)
-            (lines_of (after_line more)) line.0 in
-            skips sizes come small ∙ (rw line.1 at first) ∙ (rw (← line.2) at same);
+        told = λ problem come. skips problem come ∙ told_of-taken rules now new more after taken limits (sym number) problem come ∙ rw says refl;
       }
 
 answer_of-broken : (now : Lines) (rest : List ℕ) (fault : LineFault) → answer_of now.limits now.passed rest ≡ Err fault → (0 < length rest)
@@ -75,14 +57,14 @@ answer_of-broken now (byte ∷ rest) fault e = (omega arith, by_fault (first_fau
   by_fault (Some broken) e = cc
 
 -- a line breaks a limit
-pub finds_fault : (old now new : Lines) (rest more : List ℕ) (after : Option (List ℕ)) (fault : LineFault) → Skips old now rest more → CountsNone now new
-    → Tells now new more after (Err fault)
-    → FindsFault old rest (told_as fault (new.number + 1))
-finds_fault old now new rest more after lines.Read skips counts tells = tt
-finds_fault old now new rest more after lines.OutOfMemory skips counts tells = tt
-finds_fault old now new rest more after lines.TooLong skips counts tells =
+pub finds_fault : {P R : Type 0} (rules : Rules P R) (old now new : Lines) (rest more : List ℕ) (after : Option (List ℕ)) (fault : LineFault)
+    → Skips rules old now rest more → CountsNone now new → Tells now new more after (Err fault)
+    → FindsFault rules old rest (told_as fault (new.number + 1))
+finds_fault rules old now new rest more after lines.Read skips counts tells = tt
+finds_fault rules old now new rest more after lines.OutOfMemory skips counts tells = tt
+finds_fault rules old now new rest more after lines.TooLong skips counts tells =
     let broken = answer_of-broken now more lines.TooLong tells.answer in
-    rw counts.number (λ sizes come small. skips sizes come small ∙ told_of-broken now more sizes come broken.0 lines.TooLong LineTooLong refl broken.1)
-finds_fault old now new rest more after lines.Total skips counts tells =
+    rw counts.number (λ problem come. skips problem come ∙ told_of-broken rules now more problem come broken.0 lines.TooLong LineTooLong refl broken.1)
+finds_fault rules old now new rest more after lines.Total skips counts tells =
     let broken = answer_of-broken now more lines.Total tells.answer in
-    rw counts.number (λ sizes come small. skips sizes come small ∙ told_of-broken now more sizes come broken.0 lines.Total FileTooLong refl broken.1)
+    rw counts.number (λ problem come. skips problem come ∙ told_of-broken rules now more problem come broken.0 lines.Total FileTooLong refl broken.1)

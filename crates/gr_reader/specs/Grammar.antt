@@ -1,80 +1,70 @@
 -- The weight files of the 9th DIMACS Implementation Challenge, and the first fault of a text that is none.
-use Rattle.std.specs.Prelude.{◌≡◌, ℕ, ◌+◌, ◌-◌, ◌^◌, ◌<◌, ◌≤◌, Bool, true, false, List, [], ◌∷◌, length, map, min, take}
-use Rattle.std.specs.Prelude.{sum_by, count_by, slice_get, Option, Some, None, All}
-use Rattle.std.specs.List.{filter_map}
+use Rattle.std.specs.Prelude.{ℕ, ◌^◌, ◌&&◌, nat_le, nat_lt, Bool, if◌then◌else◌, List, [], ◌∷◌, length, Option, Some, None}
+use Rattle.std.specs.Prelude.{codes}
 use Rattle.road_network.specs.Limits.{max_nodes, max_arcs}
 use Rattle.arc_graph.specs.declared.file.ArcLine.{ArcLine}
-use Rattle.road_network.specs.Network.{IsNode}
-use Rattle.line_text.specs.Lines.{lines_of, without_cr}
+use Rattle.arc_graph.specs.Files.{ArcFile}
 use Rattle.gr_reader.specs.declared.fault.FileLimits.{FileLimits}
 use Rattle.gr_reader.specs.declared.fault.LineKind.{LineKind}
-use Rattle.gr_reader.specs.declared.form.Form.{Form}
-use Rattle.gr_reader.specs.declared.form.Form.TheVariants.{Problem, Arc, Malformed}
-use Rattle.gr_reader.specs.Forms.{form_of}
-use Rattle.gr_reader.specs.Table.{Sizes, State, said, line_kind, end_kind}
+use Rattle.gr_reader.specs.declared.weights.Sizes.{Sizes}
+use Rattle.gr_reader.specs.Rules.{Form, Rules, is_word, number_of}
+use Rattle.gr_reader.specs.Rules.Form.{Problem, Record, Malformed}
+use Rattle.gr_reader.specs.Files.{IsFile, FirstFault}
 
--- what the lines say that aren't ignored, in order
-abbrev pub forms_of : List (List ℕ) → List Form
-forms_of lines = filter_map (λ line. form_of (without_cr line)) lines
+-- the numbers of nodes and arcs
+abbrev pub problem_of : Option ℕ → Option ℕ → Form Sizes ArcLine
+problem_of (Some nodes) (Some arcs) = Problem (record { nodes = nodes; arcs = arcs })
+problem_of (Some nodes) None = Malformed
+problem_of None arcs = Malformed
 
--- the form of an arc's line
-abbrev pub form_of_arc : ArcLine → Form
-form_of_arc arc = Arc arc.tail arc.head arc.weight
+-- the tail, the head and the weight
+abbrev pub arc_of : Option ℕ → Option ℕ → Option ℕ → Form Sizes ArcLine
+arc_of (Some tail) (Some head) (Some weight) = Record (record { tail = tail; head = head; weight = weight })
+arc_of (Some tail) (Some head) None = Malformed
+arc_of (Some tail) None weight = Malformed
+arc_of None head weight = Malformed
 
--- the arc's ends are nodes, and its weight has 32 bits
-pub record IsArc (nodes : ℕ) (arc : ArcLine) : Type 0 where
-  pub tail : IsNode nodes arc.tail
-  pub head : IsNode nodes arc.head
-  pub weight : arc.weight < 2 ^ 32
+-- behind `p` stand exactly the fields `sp`, a number and a number
+abbrev pub problem_from : List (List ℕ) → Form Sizes ArcLine
+problem_from (word ∷ nodes ∷ arcs ∷ []) =
+    if is_word word (codes "sp") then problem_of (number_of nodes) (number_of arcs) else Malformed
+problem_from fields = Malformed
 
--- The text is a weight file of so many nodes and these arcs. But for blank lines and comments it has one problem line
--- and behind it as many arc lines as that says.
-pub record IsGr (limits : FileLimits) (bytes : List ℕ) (nodes : ℕ) (arcs : List ArcLine) : Type 0 where
-  pub short_lines : All (λ line. length line ≤ limits.line) (lines_of bytes)
-  pub short_file : length bytes ≤ limits.file
-  pub lines : forms_of (lines_of bytes) ≡ Problem nodes (length arcs) ∷ map form_of_arc arcs
-  pub some_node : 1 ≤ nodes
-  pub most_nodes : nodes ≤ max_nodes
-  pub most_arcs : length arcs ≤ max_arcs
-  pub in_range : All (IsArc nodes) arcs
+-- behind `a` stand exactly three numbers
+abbrev pub arc_from : List (List ℕ) → Form Sizes ArcLine
+arc_from (tail ∷ head ∷ weight ∷ []) = arc_of (number_of tail) (number_of head) (number_of weight)
+arc_from fields = Malformed
 
--- the sizes of the first problem line
-abbrev pub sizes_in : List Form → Option Sizes
-sizes_in [] = None
-sizes_in (Problem nodes arcs ∷ forms) = said nodes arcs
-sizes_in (Arc tail head weight ∷ forms) = sizes_in forms
-sizes_in (Malformed ∷ forms) = sizes_in forms
+-- what a line of a weight file says
+abbrev pub weights_form : List (List ℕ) → Form Sizes ArcLine
+weights_form [] = Malformed
+weights_form (word ∷ fields) =
+    if is_word word (codes "a")
+    then arc_from fields
+    else (if is_word word (codes "p") then problem_from fields else Malformed)
 
--- the test that a line is an arc line
-abbrev pub is_arc : Form → Bool
-is_arc (Problem nodes arcs) = false
-is_arc (Arc tail head weight) = true
-is_arc Malformed = false
+-- the test that a number is a node's
+abbrev pub is_node : ℕ → ℕ → Bool
+is_node nodes v = nat_le 1 v && nat_le v nodes
 
--- the state behind these first lines of a file of so many bytes
-abbrev pub state_behind : ℕ → List (List ℕ) → State
-state_behind total lines = record {
-  sizes = sizes_in (forms_of lines);
-  come = count_by is_arc (forms_of lines);
-  number = length lines;
-  passed = min (sum_by (λ line. length line + 1) lines) total;
+-- Weight files say how many nodes and arcs there are, and then each arc: its tail, its head and its weight.
+abbrev pub weights : Rules Sizes ArcLine
+weights = record {
+  form_from = weights_form;
+  is_size = λ sizes. nat_le 1 sizes.nodes && nat_le sizes.nodes max_nodes && nat_le sizes.arcs max_arcs;
+  count = λ sizes. sizes.arcs;
+  has_nodes = λ sizes arc. is_node sizes.nodes arc.tail && is_node sizes.nodes arc.head;
+  has_weight = λ arc. nat_lt arc.weight (2 ^ 32);
 }
 
--- the fault of a line, or of the place behind the last one
-abbrev pub kind_there : FileLimits → ℕ → State → Option (List ℕ) → Option LineKind
-kind_there limits total state (Some line) = line_kind limits total state line
-kind_there limits total state None = end_kind state
+-- the text is a weight file of so many nodes and these arcs
+abbrev pub IsGr : FileLimits → List ℕ → ℕ → List ArcLine → Type 0
+IsGr limits bytes nodes arcs = IsFile weights limits bytes (record { nodes = nodes; arcs = length arcs }) arcs
 
--- the fault of the place number i, from 0
-abbrev pub kind_at : FileLimits → List ℕ → ℕ → Option LineKind
-kind_at limits bytes i =
-    kind_there limits (length bytes) (state_behind (length bytes) (take i (lines_of bytes)))
-    (slice_get (lines_of bytes) i)
+-- the same of a file in memory
+abbrev pub IsGrFile : FileLimits → List ℕ → ArcFile → Type 0
+IsGrFile limits bytes file = IsGr limits bytes file.nodes file.arcs
 
--- The line of this number, from 1, is the first faulty one, and this is the first fault that fits it. The place behind
--- the last line counts as a line.
-pub record GrFault (limits : FileLimits) (bytes : List ℕ) (kind : LineKind) (line : ℕ) : Type 0 where
-  pub counted : 1 ≤ line
-  pub within : line ≤ length (lines_of bytes) + 1
-  pub faulty : kind_at limits bytes (line - 1) ≡ Some kind
-  pub first : (i : ℕ) → i < line - 1 → kind_at limits bytes i ≡ None
+-- this line is the first that keeps the text from being a weight file, for this reason
+abbrev pub GrFault : FileLimits → List ℕ → LineKind → ℕ → Type 0
+GrFault limits bytes kind line = FirstFault weights limits bytes kind line

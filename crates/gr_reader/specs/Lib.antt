@@ -1,8 +1,11 @@
-pub mod Forms
 pub mod Kinds
+pub mod Rules
 pub mod Table
 pub mod Rest
+pub mod Files
 pub mod Grammar
+pub mod Capped
+pub mod WeightForms
 pub mod Reader
 pub mod Sinks
 pub mod Steps

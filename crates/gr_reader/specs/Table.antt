@@ -1,8 +1,7 @@
 -- Which fault a line has: the first of the table that fits it.
-use Rattle.std.specs.Prelude.{ℕ, ◌+◌, ◌-◌, ◌^◌, ◌&&◌, nat_le, if◌then◌else◌, not, min, Bool, true, false, is_none}
-use Rattle.std.specs.Prelude.{is_some, List, [], ◌∷◌, length, find, Option, Some, None, option_and_then}
+use Rattle.std.specs.Prelude.{ℕ, ◌+◌, ◌-◌, nat_le, if◌then◌else◌, not, min, Bool, true, false, is_none, is_some, List, []}
+use Rattle.std.specs.Prelude.{◌∷◌, length, find, Option, Some, None, option_and_then}
 use Rattle.std.specs.Option.{option_or}
-use Rattle.road_network.specs.Limits.{max_nodes, max_arcs}
 use Rattle.line_text.specs.declared.limits.LineFault.{LineFault}
 use Rattle.line_text.specs.declared.limits.LineFault.TheVariants as lines
 use Rattle.line_text.specs.declared.limits.LineLimits.{LineLimits}
@@ -12,52 +11,19 @@ use Rattle.gr_reader.specs.declared.fault.FileLimits.{FileLimits}
 use Rattle.gr_reader.specs.declared.fault.LineKind.{LineKind}
 use Rattle.gr_reader.specs.declared.fault.LineKind.TheVariants.{BadLine, NoProblem, SecondProblem, SizeRange, NodeRange}
 use Rattle.gr_reader.specs.declared.fault.LineKind.TheVariants.{WeightRange, CountWrong, LineTooLong, FileTooLong}
-use Rattle.gr_reader.specs.declared.form.Form.{Form}
-use Rattle.gr_reader.specs.declared.form.Form.TheVariants.{Problem, Arc, Malformed}
-use Rattle.gr_reader.specs.Forms.{form_of}
+use Rattle.gr_reader.specs.Rules.{Form, Rules, form_of}
+use Rattle.gr_reader.specs.Rules.Form.{Problem, Record, Malformed}
 
--- how many nodes and arcs the problem line says
-pub record Sizes : Type 0 where
-  pub nodes : ℕ
-  pub arcs : ℕ
-
--- the sizes that a problem line of these numbers says
-abbrev pub said : ℕ → ℕ → Option Sizes
-said nodes arcs = Some (record { nodes = nodes; arcs = arcs })
-
--- what stands before a place of a file: the sizes of the problem line, and how many arc lines, lines and bytes
-pub record State : Type 0 where
-  pub sizes : Option Sizes
+-- what stands before a place of a file: what the problem line says, and how many records, lines and bytes
+pub record State (P : Type 0) : Type 0 where
+  pub problem : Option P
   pub come : ℕ
   pub number : ℕ
   pub passed : ℕ
 
--- the test that a file may have so many nodes and arcs
-abbrev pub in_range : ℕ → ℕ → Bool
-in_range nodes arcs = nat_le 1 nodes && nat_le nodes max_nodes && nat_le arcs max_arcs
-
--- the test that a number is a node's
-abbrev pub is_node : ℕ → ℕ → Bool
-is_node nodes v = nat_le 1 v && nat_le v nodes
-
--- the test that a line of this form has this fault, where these sizes and so many arc lines stand before it
-abbrev pub fits : Option Sizes → ℕ → Form → LineKind → Bool
-fits sizes come Malformed BadLine = true
-fits sizes come (Arc tail head weight) NoProblem = is_none sizes
-fits sizes come (Problem nodes arcs) SecondProblem = is_some sizes
-fits sizes come (Problem nodes arcs) SizeRange = not (in_range nodes arcs)
-fits (Some sizes) come (Arc tail head weight) CountWrong = nat_le sizes.arcs come
-fits (Some sizes) come (Arc tail head weight) NodeRange = not (is_node sizes.nodes tail && is_node sizes.nodes head)
-fits sizes come (Arc tail head weight) WeightRange = nat_le (2 ^ 32) weight
-fits sizes come form kind = false
-
 -- the faults of what a line says, in the order in which they are tried
 abbrev pub order : List LineKind
 order = BadLine ∷ NoProblem ∷ SecondProblem ∷ SizeRange ∷ CountWrong ∷ NodeRange ∷ WeightRange ∷ []
-
--- the first fault of what a line says
-abbrev pub form_kind : Option Sizes → ℕ → Form → Option LineKind
-form_kind sizes come form = find (fits sizes come form) order
 
 -- the limits as those of a reader of lines
 abbrev pub line_limits : FileLimits → LineLimits
@@ -75,18 +41,34 @@ limit_kind (Some lines.OutOfMemory) = None
 abbrev pub size_in : ℕ → ℕ → List ℕ → ℕ
 size_in total passed line = min (length line + 1) (total - passed)
 
--- the first fault of a line in a file of so many bytes: a broken limit comes before what it says
-abbrev pub line_kind : FileLimits → ℕ → State → List ℕ → Option LineKind
-line_kind limits total state line =
-    option_or
-    (limit_kind (line_fault (line_limits limits) state.passed (length line) (size_in total state.passed line)))
-    (option_and_then (form_kind state.sizes state.come) (form_of (without_cr line)))
+module _ {P R : Type 0} (rules : Rules P R) where
+  -- the test that a line of this form has this fault, where this problem line and so many records stand before it
+  abbrev pub fits : Option P → ℕ → Form P R → LineKind → Bool
+  fits problem come Malformed BadLine = true
+  fits problem come (Record r) NoProblem = is_none problem
+  fits problem come (Problem sizes) SecondProblem = is_some problem
+  fits problem come (Problem sizes) SizeRange = not (rules.is_size sizes)
+  fits (Some known) come (Record r) CountWrong = nat_le (rules.count known) come
+  fits (Some known) come (Record r) NodeRange = not (rules.has_nodes known r)
+  fits problem come (Record r) WeightRange = not (rules.has_weight r)
+  fits problem come form kind = false
 
--- what a file lacks at its end, where these sizes and so many arc lines stand in it
-abbrev pub lacking : Option Sizes → ℕ → Option LineKind
-lacking None come = Some NoProblem
-lacking (Some sizes) come = if nat_le sizes.arcs come then None else Some CountWrong
+  -- the first fault of what a line says
+  abbrev pub form_kind : Option P → ℕ → Form P R → Option LineKind
+  form_kind problem come form = find (fits problem come form) order
 
--- the fault of the place behind the last line
-abbrev pub end_kind : State → Option LineKind
-end_kind state = lacking state.sizes state.come
+  -- the first fault of a line in a file of so many bytes: a broken limit comes before what it says
+  abbrev pub line_kind : FileLimits → ℕ → State P → List ℕ → Option LineKind
+  line_kind limits total state line =
+      option_or
+      (limit_kind (line_fault (line_limits limits) state.passed (length line) (size_in total state.passed line)))
+      (option_and_then (form_kind state.problem state.come) (form_of rules (without_cr line)))
+
+  -- what a file lacks at its end, where this problem line and so many records stand in it
+  abbrev pub lacking : Option P → ℕ → Option LineKind
+  lacking None come = Some NoProblem
+  lacking (Some known) come = if nat_le (rules.count known) come then None else Some CountWrong
+
+  -- the fault of the place behind the last line
+  abbrev pub end_kind : State P → Option LineKind
+  end_kind state = lacking state.problem state.come

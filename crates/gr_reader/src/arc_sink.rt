@@ -1,41 +1,21 @@
-//! What a file's arcs are handed to as they come.
-ghost use Rattle.std.specs.Prelude.{◌≡◌, ℕ, None, Some, IsSome, OnOk};
-ghost use Rattle.arc_graph.specs.Files.{ArcFile, empty_file, with_arc};
-ghost use Rattle.gr_reader.specs.Reader.{AreSizes};
-ghost use Rattle.gr_reader.specs.Sinks.{IsDue, JoinerIsReady, JoinerHasTaken, OneHasTaken};
+//! What takes the arcs of weight files.
+ghost use Rattle.std.specs.Prelude.{◌≡◌, None, Some, IsSome};
+ghost use Rattle.gr_reader.specs.Sinks.{JoinerHasTaken, JoinerIsReady, OneHasTaken};
 
+use crate::record_sink::RecordSink;
+use crate::weights::{Sizes, WeightFiles};
 use arc_graph::{ArcFile, ArcLine, Joiner};
 use cost_vector::OutOfMemory;
 use std::alloc::Global;
 
-/// What takes weight files arc by arc, one file after the other.
-pub trait ArcSink {
-    /// A file may be begun.
-    ghost is_ready: { Self → Type 0 };
-
-    /// Since the first state a file was begun that is to have so many arcs, and in the second this of it has come.
-    ghost has_taken: { Self → Self → ℕ → ArcFile → Type 0 };
-
-    /// Begins a file, which is to have this many nodes and arcs. After an error the sink is only dropped.
-    fn begin(&mut self, nodes: u32, arcs: u32) -> Result<(), OutOfMemory>
-        requires ready { is_ready self.old }
-        requires sizes { AreSizes nodes arcs }
-        ensures { OnOk result (has_taken self.old self.new arcs (empty_file nodes)) };
-
-    /// Takes the next arc of the file that was begun last. After an error the sink is only dropped.
-    fn take(&mut self, arc: ArcLine) -> Result<(), OutOfMemory>
-        requires { IsDue has_taken self.old arc }
-        ensures { (before : Self) (arcs : ℕ) (file : ArcFile) → has_taken before self.old arcs file
-            → OnOk result (has_taken before self.new arcs (with_arc file arc)) };
-}
-
-impl ArcSink for Joiner {
+impl RecordSink<WeightFiles> for Joiner {
     ghost is_ready = { JoinerIsReady };
 
-    ghost has_taken = { JoinerHasTaken };
+    ghost has_taken = { λ before now sizes arcs.
+        JoinerHasTaken before now sizes.arcs (record { nodes = sizes.nodes; arcs = arcs }) };
 
-    fn begin(&mut self, nodes: u32, arcs: u32) -> Result<(), OutOfMemory> {
-        self.begin_file(nodes, arcs)
+    fn begin(&mut self, sizes: Sizes) -> Result<(), OutOfMemory> {
+        self.begin_file(sizes.nodes, sizes.arcs)
     }
 
     fn take(&mut self, arc: ArcLine) -> Result<(), OutOfMemory> {
@@ -69,13 +49,14 @@ impl OneFile {
     }
 }
 
-impl ArcSink for OneFile {
+impl RecordSink<WeightFiles> for OneFile {
     ghost is_ready = { λ one. one.file ≡ None };
 
-    ghost has_taken = { λ before now arcs file. OneHasTaken now.file arcs file };
+    ghost has_taken = { λ before now sizes arcs.
+        OneHasTaken now.file sizes.arcs (record { nodes = sizes.nodes; arcs = arcs }) };
 
-    fn begin(&mut self, nodes: u32, _arcs: u32) -> Result<(), OutOfMemory> {
-        self.file = Some(ArcFile::new(self.alloc, nodes));
+    fn begin(&mut self, sizes: Sizes) -> Result<(), OutOfMemory> {
+        self.file = Some(ArcFile::new(self.alloc, sizes.nodes));
         Ok(())
     }
 

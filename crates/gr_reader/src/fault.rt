@@ -18,17 +18,17 @@ pub struct FileLimits {
 pub enum LineKind {
     /// The line has none of the forms.
     BadLine = 1,
-    /// No problem line stands before an arc line, or none in the whole file.
+    /// No problem line stands before a record, or none in the whole file.
     NoProblem = 2,
     /// A problem line stands before this one.
     SecondProblem = 3,
     /// The problem line's numbers are out of range.
     SizeRange = 4,
-    /// An end of the arc isn't a node.
+    /// An end of the record isn't a node.
     NodeRange = 5,
     /// The arc's weight is too great.
     WeightRange = 6,
-    /// There are more arc lines, or at the end fewer, than the problem line says.
+    /// There are more records, or at the end fewer, than the problem line says.
     CountWrong = 7,
     /// The line has more bytes than its limit.
     LineTooLong = 8,
@@ -55,7 +55,7 @@ impl fmt::Display for LineKind {
             LineKind::SizeRange => "size out of range",
             LineKind::NodeRange => "node out of range",
             LineKind::WeightRange => "weight out of range",
-            LineKind::CountWrong => "not as many arcs as the problem line says",
+            LineKind::CountWrong => "not as many records as the problem line says",
             LineKind::LineTooLong => "line too long",
             LineKind::FileTooLong => "file too long",
         })

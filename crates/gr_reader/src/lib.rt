@@ -1,17 +1,25 @@
-//! The weight files of the shortest path challenge: a problem line, and then the arcs, one a line.
+//! The files of the shortest path challenge: a problem line, and then as many records as it says, one a line.
 //!
-//! A file is read arc by arc, from a source that may give its bytes in any pieces. The first faulty line of a file that
-//! isn't accepted is told with its number, and with the first of its faults in a fixed order.
+//! A file is read record by record, from a source that may give its bytes in any pieces. The first faulty line of a
+//! file that isn't accepted is told with its number, and with the first of its faults in a fixed order. What tells one
+//! kind of files from another is a `Grammar`. That of the weight files stands here, with the arcs as records.
 #![tactic(auto)]
 
 mod arc_sink;
 mod fault;
-mod form;
-mod gr_lines;
+mod fields;
+mod grammar;
 pub mod laws;
 mod read;
+mod record_lines;
+mod record_sink;
+mod weight_form;
+mod weights;
 
-pub use arc_sink::ArcSink;
 pub use fault::{FileFault, FileLimits, LineKind};
-pub use gr_lines::GrLines;
-pub use read::{read_gr, read_into};
+pub use fields::{number, three_fields};
+pub use grammar::Grammar;
+pub use read::{read_gr, read_into, read_records};
+pub use record_lines::RecordLines;
+pub use record_sink::RecordSink;
+pub use weights::{Sizes, WeightFiles};

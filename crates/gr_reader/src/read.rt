@@ -1,11 +1,16 @@
-ghost use Rattle.std.specs.Prelude.{◌≡◌, ◌+◌, ◌≤◌, ◌^◌, IfSome};
+ghost use Rattle.std.specs.Prelude.{◌≡◌, ◌+◌, ◌≤◌, ◌^◌, IfErr, IfSome};
 ghost use Rattle.route_io.specs.Sources.{ReadsFrom};
 ghost use Rattle.line_text.specs.Reading.{max_line};
-ghost use Rattle.gr_reader.specs.Reader.{IsComplete, IsSound, ReadsInto, TakesAtMost, file_failed};
+ghost use Rattle.gr_reader.specs.Grammar.{IsGrFile, weights};
+ghost use Rattle.gr_reader.specs.Reader.{IsComplete, IsSound, MayAnswer, ReadsWhole, TakesAtMost, file_failed};
+ghost use Rattle.gr_reader.specs.Sinks.{ReadsInto};
 
-use crate::arc_sink::{ArcSink, OneFile};
+use crate::arc_sink::OneFile;
 use crate::fault::{FileFault, FileLimits};
-use crate::gr_lines::GrLines;
+use crate::grammar::Grammar;
+use crate::record_lines::RecordLines;
+use crate::record_sink::RecordSink;
+use crate::weights::WeightFiles;
 use arc_graph::ArcFile;
 use route_io::Source;
 use std::alloc::Global;
@@ -22,8 +27,10 @@ pub fn read_gr<S: Source>(
 
     // Where the source tells its bytes, a file is answered exactly for its text, and a fault of a line exactly
     // where it is the first, but for the source's failures and want of memory.
-    ensures sound { IfSome (S.state source.old).left (λ bytes. IsSound limits bytes result) }
-    ensures complete { IfSome (S.state source.old).left (λ bytes. IsComplete limits bytes result) }
+    ensures sound { IfSome (S.state source.old).left (λ bytes.
+        IsSound weights (IsGrFile limits bytes) limits bytes result) }
+    ensures complete { IfSome (S.state source.old).left (λ bytes.
+        IsComplete weights (IsGrFile limits bytes) limits bytes result) }
 
     // Where the source tells its bytes, at most one byte past the limit is taken.
     ensures takes_at_most { TakesAtMost (limits.file + 1)
@@ -38,21 +45,22 @@ pub fn read_gr<S: Source>(
 }
 
 /// Reads a whole weight file, and hands its arcs to the sink as they come.
-pub fn read_into<S: Source, A: ArcSink>(
+pub fn read_into<S: Source, K: RecordSink<WeightFiles>>(
     alloc: Global,
     source: &mut S,
     limits: FileLimits,
-    sink: &mut A,
+    sink: &mut K,
 ) -> Result<(), FileFault>
     requires some { 1 ≤ limits.line }
     requires line { limits.line ≤ max_line }
     requires file { limits.file ≤ 2 ^ 63 }
-    requires ready { A.is_ready sink.old }
+    requires ready { K.is_ready sink.old }
 
     // The sink has taken the file that is read. Where the source tells its bytes, that is the one of the text, and a
     // fault of a line is the first.
     ensures reads { ReadsInto limits (S.state source.old).left
-        (A.has_taken sink.old sink.new) result }
+        (λ arcs file. K.has_taken sink.old sink.new
+        (record { nodes = file.nodes; arcs = arcs }) file.arcs) result }
 
     // Where the source tells its bytes, at most one byte past the limit is taken.
     ensures takes_at_most { TakesAtMost (limits.file + 1)
@@ -61,11 +69,41 @@ pub fn read_into<S: Source, A: ArcSink>(
     // The source's failures alone make a failed read.
     ensures source { ReadsFrom (S.state source.old) (S.state source.new) (file_failed result) }
 {
-    let mut lines = GrLines::new(alloc, limits)?;
-    let (nodes, arcs) = lines.begin(source)?;
-    sink.begin(nodes, arcs)?;
-    'arcs: while let Some(arc) = lines.next_arc(source)? {
-        sink.take(arc)?;
+    read_records::<WeightFiles, S, K>(alloc, source, limits, sink)
+}
+
+/// Reads a whole file, and hands its records to the sink as they come.
+pub fn read_records<G: Grammar, S: Source, K: RecordSink<G>>(
+    alloc: Global,
+    source: &mut S,
+    limits: FileLimits,
+    sink: &mut K,
+) -> Result<(), FileFault>
+    requires some { 1 ≤ limits.line }
+    requires line { limits.line ≤ max_line }
+    requires file { limits.file ≤ 2 ^ 63 }
+    requires ready { K.is_ready sink.old }
+
+    // The sink has taken the file that is read. Where the source tells its bytes, that is the one of the text, and a
+    // fault of a line is the first.
+    ensures reads { ReadsWhole G.rules limits (S.state source.old).left
+        (K.has_taken sink.old sink.new) result }
+
+    // What holds over every source.
+    ensures may { IfErr result (MayAnswer G.rules) }
+
+    // Where the source tells its bytes, at most one byte past the limit is taken.
+    ensures takes_at_most { TakesAtMost (limits.file + 1)
+        (S.state source.old) (S.state source.new) }
+
+    // The source's failures alone make a failed read.
+    ensures source { ReadsFrom (S.state source.old) (S.state source.new) (file_failed result) }
+{
+    let mut lines: RecordLines<G> = RecordLines::new(alloc, limits)?;
+    let problem = lines.begin(source)?;
+    sink.begin(problem)?;
+    'records: while let Some(next) = lines.next_record(source)? {
+        sink.take(next)?;
     }
     Ok(())
 }

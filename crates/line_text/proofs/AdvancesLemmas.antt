@@ -6,7 +6,7 @@ use Rattle.route_io.specs.declared.fault.Failed.{Failed}
 use Rattle.route_io.specs.Sources.{SourceState}
 use Rattle.line_text.specs.declared.limits.LineFault.{LineFault}
 use Rattle.line_text.specs.declared.limits.LineFault.TheVariants.{TooLong, Total, Read, OutOfMemory}
-use Rattle.line_text.specs.Lines.{first_lf, raw_line, after_line, line_size, without_cr}
+use Rattle.line_text.specs.Lines.{first_lf, raw_line, line_size, without_cr}
 use Rattle.line_text.specs.Marks.{first_fault, line_answer}
 use Rattle.line_text.specs.Pieces.{past_line, Fills, TakesWhole, LacksLf, Breaks}
 use Rattle.line_text.specs.Reading.{Lines, rest_of, Counts, CountsLine, CountsNone, Stays, Tells, Advances}

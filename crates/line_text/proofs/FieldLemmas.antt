@@ -15,7 +15,7 @@ use Rattle.line_text.specs.Fields.{is_blank, is_filled, has_byte, fields_of, Beg
 fields_of-blank : (byte : ℕ) (text : List ℕ) → is_blank byte ≡ true → fields_of (byte ∷ text) ≡ fields_of text
 fields_of-blank byte text blank = ap (filter has_byte) (slice_split-cons_yes is_blank byte text blank)
 
-pub fields_of-blanks : (blanks text : List ℕ) → AllPass is_blank blanks → fields_of (blanks ++ text) ≡ fields_of text
+fields_of-blanks : (blanks text : List ℕ) → AllPass is_blank blanks → fields_of (blanks ++ text) ≡ fields_of text
 fields_of-blanks [] text all = refl
 fields_of-blanks (byte ∷ blanks) text all =
     fields_of-blank byte (blanks ++ text) (All-head (λ b. is_blank b ≡ true) byte blanks all)

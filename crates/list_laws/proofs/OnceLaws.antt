@@ -3,7 +3,8 @@ use Rattle.std.proofs.Common.{◌≡◌, ◌≢◌, ◌⊎◌, ◌↔◌, ℕ, �
 use Rattle.std.proofs.Common.{inl, inr, refl, sym, ap, subst, subst₂, ◌∙◌, arith, append_assoc, zero-add}
 use Rattle.std.specs.Prelude.{AllPairs, Contains, IsPermutation}
 use Rattle.std.specs.List.{flat_map, range_with_len}
-use Rattle.std.proofs.lemmas.List.{get_or_default}
+use Rattle.std.proofs.lemmas.Bool.{cases_lt}
+use Rattle.std.proofs.lemmas.List.{get_or_default, length-map}
 use Rattle.std.proofs.lemmas.List.Edits.{get_or-remove_below, length-remove}
 use Rattle.std.proofs.lemmas.List.Elements.{Contains-get_or, Contains-append_left, Contains-append_right, Contains-append_cases}
 use Rattle.std.proofs.lemmas.List.FromFn.{length-range_with_len, get_or-range_with_len}
@@ -12,8 +13,8 @@ use Rattle.std.proofs.lemmas.List.Sorted.{IsPermutation-cons, IsPermutation-remo
 use Rattle.std.proofs.lemmas.List.Sorted.{IsPermutation-middle, IsPermutation-append_comm, IsPermutation-append_left, IsPermutation-append_right}
 use Rattle.list_laws.proofs.Members.{in_none, in_first, in_rest, in_front, cases_in, in_map, of_map}
 use Rattle.list_laws.proofs.Pairs.{pairs_none, pairs_rest, pair_with_first, pairs_cons, pairs_map, pigeonhole}
-use Rattle.list_laws.specs.Sets.{SameMembers, ListsOnce}
-use Rattle.list_laws.proofs.SetLaws.{same_by_permutation}
+use Rattle.list_laws.specs.Sets.{SameMembers, ListsOnce, HasMoreThan}
+use Rattle.list_laws.proofs.SetLaws.{same_by_permutation, longer, more_by_list, more_on}
 
 -- it can be told whether P holds
 abbrev pub IsTold : Type 0 → Type 0
@@ -31,6 +32,13 @@ told_both told told_too = grind arith
 
 pub told_either : {P Q : Type 0} → IsTold P → IsTold Q → IsTold (P ⊎ Q)
 told_either told told_too = grind arith
+
+-- what is so exactly where another thing is: the other way round, and through a third
+pub alike_back : {P Q : Type 0} → (P ↔ Q) → (Q ↔ P)
+alike_back same = (same.1, same.0)
+
+pub alike_through : {P Q R : Type 0} → (P ↔ Q) → (Q ↔ R) → (P ↔ R)
+alike_through first second = grind arith
 
 module _ {X : Type 0} where
   -- what a list contains that is made of others
@@ -69,6 +77,9 @@ module _ {X : Type 0} where
       | inr none ↦ inr (λ x h p. elim (cases_in y ys x h) [ inl e ↦ not_here (subst P e p) | inr later ↦ none x later p ])
     ]
   ]
+
+  pub told_member : (P : X → Type 0) → ((x : X) → IsTold (P x)) → (xs : List X) → IsTold ((x : X) × Contains xs x × P x)
+  told_member P told xs = elim (told_some P told xs) [ inl found ↦ inl found | inr none ↦ inr (λ (x, here, holds). none x here holds) ]
 
 module _ {X : Type 0} (same : (x y : X) → IsTold (x ≡ y)) where
   -- whether a list contains x
@@ -150,6 +161,60 @@ module _ {X : Type 0} where
   pairs_of_members R xs each = λ i j d before within.
       each (get_or xs i d) (get_or xs j d) (Contains-get_or xs i d (omega (arith, before, within))) (Contains-get_or xs j d within)
 
+  -- both parts of a list without repeats have none, and share nothing
+  pub once_apart : (xs ys : List X) → AllPairs ◌≢◌ (xs ++ ys) → AllPairs ◌≢◌ ys × ((x : X) → Contains xs x → ¬ Contains ys x)
+  once_apart [] ys distinct = (distinct, λ x h. absurd (in_none x h))
+  once_apart (z ∷ zs) ys distinct =
+      let (second, across) = once_apart zs ys (pairs_rest ◌≢◌ z (zs ++ ys) distinct) in (
+        second,
+        λ x h there. elim (cases_in z zs x h) [
+          | inl e ↦ pair_with_first ◌≢◌ z (zs ++ ys) distinct x (Contains-append_right zs ys x there) (sym e)
+          | inr later ↦ across x later there
+        ],
+      )
+
+  -- what is left of a list of all that is so
+  pub rest_once : (P Q : X → Type 0) (x : X) (xs : List X) → ((y : X) → Q y ↔ (P y × (y ≢ x))) → ListsOnce P (x ∷ xs) → ListsOnce Q xs
+  rest_once P Q x xs left lists = record {
+    exact = λ y. others (in_cons x xs y) (lists.exact y) (λ h e. pair_with_first ◌≢◌ x xs lists.once y h (sym e)) (left y);
+    once = pairs_rest ◌≢◌ x xs lists.once;
+  } where
+    others : {W R E H L : Type 0} → (W ↔ (E ⊎ R)) → (W ↔ H) → (R → ¬ E) → (L ↔ (H × (¬ E))) → (R ↔ L)
+    others f g apart h = grind arith
+
+  -- two of them, one behind the other
+  pub lists_append : (P Q R : X → Type 0) (xs ys : List X) → ((x : X) → R x ↔ (P x ⊎ Q x)) → ((x : X) → P x → ¬ Q x)
+      → ListsOnce P xs → ListsOnce Q ys → ListsOnce R (xs ++ ys)
+  lists_append P Q R xs ys either apart first second = record {
+    exact = λ x. joined (in_append xs ys x) (either x) (first.exact x) (second.exact x);
+    once = pairs_append ◌≢◌ xs ys first.once second.once (λ x y h k e. apart y (subst P e ((first.exact x).0 h)) ((second.exact y).0 k));
+  } where
+    joined : {W A B C D H : Type 0} → (W ↔ (A ⊎ B)) → (H ↔ (C ⊎ D)) → (A ↔ C) → (B ↔ D) → (W ↔ H)
+    joined f g h k = grind arith
+
+module _ {X : Type 0} (same : (x y : X) → IsTold (x ≡ y)) where
+  -- the members of a list, each once
+  pub members_once : (xs : List X) → (ys : List X) × ListsOnce (Contains xs) ys
+  members_once xs = list_all same (Contains xs) (told_in same xs) xs (λ y there. there)
+
+  -- whether a list contains more than n different things
+  pub told_more : (n : ℕ) (xs : List X) → IsTold (HasMoreThan n xs)
+  told_more n xs =
+      let (ys, lists) = members_once xs in
+      elim (cases_lt n (length ys)) [
+        | inl below ↦ inl (more_by_list n xs ys lists.once (λ y there. (lists.exact y).0 there) below)
+        | inr above ↦ inr (λ more. omega (arith, above, longer n ys (more_on n xs ys (λ y there. (lists.exact y).1 there) more)))
+      ]
+
+  -- a list has as many members as it has images
+  pub more_of_map : {Y : Type 0} (f : X → Y) (n : ℕ) (xs : List X) → HasMoreThan n (map f xs) → HasMoreThan n xs
+  more_of_map {Y} f n xs more =
+      let (ys, lists) = members_once xs in
+      let images : (y : Y) → Contains (map f xs) y → Contains (map f ys) y = λ y there.
+      let (x, x_there, e) = of_map f xs y there in subst (Contains (map f ys)) (sym e) (in_map f ys x ((lists.exact x).1 x_there)) in
+      let long = longer n (map f ys) (more_on n (map f xs) (map f ys) images more) in
+      more_by_list n xs ys lists.once (λ y there. (lists.exact y).0 there) (omega (arith, long, length-map ys f))
+
 -- the images of all that P holds of
 pub lists_images : {X Y : Type 0} (f : X → Y) (P : X → Type 0) (Q : Y → Type 0) (xs : List X) → ((x z : X) → f x ≡ f z → x ≡ z)
     → ((x : X) → P x → Q (f x)) → ((y : Y) → Q y → (x : X) × P x × (y ≡ f x)) → ListsOnce P xs → ListsOnce Q (map f xs)
@@ -198,14 +263,6 @@ module _ {X Y : Type 0} (f : X → List Y) where
         )
   ]
 
-  rest_once : (P : X → Type 0) (x : X) (xs : List X) → ListsOnce P (x ∷ xs) → ListsOnce (λ y. P y × (y ≢ x)) xs
-  rest_once P x xs lists = record {
-    exact = λ y. others (in_cons x xs y) (lists.exact y) (λ h e. pair_with_first ◌≢◌ x xs lists.once y h (sym e));
-    once = pairs_rest ◌≢◌ x xs lists.once;
-  } where
-    others : {W R E H : Type 0} → (W ↔ (E ⊎ R)) → (W ↔ H) → (R → ¬ E) → (R ↔ (H × (¬ E)))
-    others f g apart = grind arith
-
   -- what comes from all that P holds of, in two orders
   pub flat_in_any_order : (P : X → Type 0) (xs ys : List X) → ListsOnce P xs → ListsOnce P ys → IsPermutation (flat_map f xs) (flat_map f ys)
   flat_in_any_order P [] ys first second =
@@ -213,7 +270,8 @@ module _ {X Y : Type 0} (f : X → List Y) where
       subst (λ zs. IsPermutation [] (flat_map f zs)) (sym empty) (IsPermutation-refl [])
   flat_in_any_order P (x ∷ xs) ys first second =
       let (zs, out, flat) = flat_taken ys x ((second.exact x).1 ((first.exact x).0 (in_first x xs))) in
-      let rest = flat_in_any_order (λ y. P y × (y ≢ x)) xs zs (rest_once P x xs first) (rest_once P x zs (lists_in_any_order P ys (x ∷ zs) out second)) in
+      let left = λ (zs : List X). rest_once P (λ y. P y × (y ≢ x)) x zs (λ y. (λ h. h, λ h. h)) in
+      let rest = flat_in_any_order (λ y. P y × (y ≢ x)) xs zs (left xs first) (left zs (lists_in_any_order P ys (x ∷ zs) out second)) in
       IsPermutation-trans (f x ++ flat_map f xs) (f x ++ flat_map f zs) (flat_map f ys)
       (IsPermutation-append_right (f x) (flat_map f xs) (flat_map f zs) rest) (IsPermutation-sym (flat_map f ys) (f x ++ flat_map f zs) flat)
 

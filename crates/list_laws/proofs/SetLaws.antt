@@ -42,3 +42,8 @@ module _ {X : Type 0} where
         rw (get_or-take (n + 1) ys i d before_too, get_or-take (n + 1) ys j d below) (distinct i j d before (omega (arith, long, below)));
     each = All-take (Contains xs) (n + 1) ys (all_from_in (Contains xs) ys each);
   }
+
+  -- a list that contains more contains as many
+  pub more_on : (n : ℕ) (xs ys : List X) → ((x : X) → Contains xs x → Contains ys x) → HasMoreThan n xs → HasMoreThan n ys
+  more_on n xs ys on more =
+      more_by_list n ys more.members more.distinct (λ y there. on y (each_in (Contains xs) more.members more.each y there)) (omega (arith, more.more))

@@ -205,7 +205,7 @@ impl<const D: usize, F: ParetoFront<D> + Drop> Fronts<D, F> {
     }
 
     /// How many entries are settled, of all nodes together; at most `usize::MAX`.
-    pub(crate) fn settled_len(&self) -> usize
+    pub fn settled_len(&self) -> usize
         ensures count { result ≡ counted_labels (length (settled_from 0 self.now.fronts)) }
         ensures fronts { (v : ℕ) → IsFront D (front_at self.now v) }
         ensures nodes { self.now.nodes ≤ max_nodes }

@@ -1,5 +1,5 @@
 -- What the calls of a front tell, and what they change.
-use Rattle.std.specs.Prelude.{◌≡◌, ◌≢◌, ℕ, ◌↔◌, ◌⊎◌, List, [], ◌∷◌, ◌++◌, map, All, AllPairs, Contains}
+use Rattle.std.specs.Prelude.{◌≡◌, ◌≢◌, ℕ, ◌↔◌, ◌⊎◌, List, ◌++◌, map, All, AllPairs, Contains}
 use Rattle.cost_vector.specs.Costs.{Dominates, LexLess}
 use Rattle.list_laws.specs.Sets.{ListsOnce, SameMembers}
 use Rattle.compact_labels.specs.declared.label.CompactLabel.{CompactLabel}
@@ -8,7 +8,6 @@ use Rattle.pareto_front.specs.declared.front.FrontEntry.{FrontEntry}
 use Rattle.pareto_front.specs.declared.front.Standing.{Standing}
 use Rattle.pareto_front.specs.declared.front.Standing.TheVariants.{Dominated, Equal, New}
 use Rattle.pareto_front.specs.Fronts.{Entry, Front, entries, HasCost, IsDominated, IsCovered}
-use Rattle.pareto_front.specs.Merging.{Delta, IsDelta}
 
 -- how a cost stands to the entries of a front
 abbrev pub StandsTo : Front → List ℕ → Standing → Type 0

@@ -1,3 +1,5 @@
 pub mod Fronts
 pub mod Merging
 pub mod Calls
+pub mod Sorted
+pub mod Blocks

@@ -90,7 +90,7 @@ pub trait ParetoFront<const D: usize> {
     fn settle(&mut self, cost: &CompactCost<D>)
         requires { HasCost (entries (state self.old)) cost.now.0 }
         ensures settled { Settles (state self.old) cost.now.0 (state self.new) }
-        ensures room { spare self.new ≡ spare self.old };
+        ensures room { spare self.old ≤ spare self.new };
 
     /// The settled entries, in ascending lexicographic order of their costs.
     fn into_settled(self) -> Vec<FrontEntry<D>>

@@ -2,6 +2,10 @@
 //! the least of the last arcs. What candidates make of a front is said by `specs/Merging.antt`.
 #![tactic(auto)]
 
+mod blocks;
 mod front;
+mod sorted;
 
+pub use blocks::BlockFront;
 pub use front::{FrontEntry, ParetoFront, Standing};
+pub use sorted::SortedFront;

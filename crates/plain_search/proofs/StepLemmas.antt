@@ -35,7 +35,7 @@ module _ (g : Graph) (w : Weights) (query : Query) (posed : IsPosed g w query) w
       let start = spot_at query.from.0 (replicate g.criteria 0) in
       let may : MayWait task [] start = record {
         walk = ([], (posed.is_query.from, refl, refl));
-        within = (start_is_relevant task.net net task.from task.to task.limit posed.is_query.from posed.is_query.limit).within;
+        within = (start_is_relevant task.net task.from task.to task.limit posed.is_query.from posed.is_query.limit).within;
         fresh = λ pruned. let by = found_in (λ e. Prunes task.to e start) [] pruned in in_none by.0 by.1;
         later = All-nil (λ e. ¬ LexLess start.cost e.cost);
         small = sum_of_none g.criteria;

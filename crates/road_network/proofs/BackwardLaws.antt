@@ -34,6 +34,18 @@ one_end net (k ∷ rest) s u v b c walk other =
     let end = one_end net rest walk.at u v walk.onward other.onward walk.walk there in
     (end.0, walk.cost ∙ ap₂ plus alike.1 end.1 ∙ sym other.cost)
 
+-- the last arc of a backward-least walk is the least last arc of all walks of its cost
+pub last_arc_is_least : (net : Network) (p q : List ℕ) (s v k j : ℕ) (c : List ℕ) → IsBackwardLeast net s v c (p ++ k ∷ [])
+    → IsWalk net s (q ++ j ∷ []) v c → k ≤ j
+last_arc_is_least net p q s v k j c this other = elim (cases_eq j k) [
+  | inl same ↦ omega arith
+  | inr differs ↦
+      let back = reverse-append p (k ∷ []) in
+      let back_too = reverse-append q (j ∷ []) in
+      let below = this.least (q ++ j ∷ []) other (λ e. let lists = sym back_too ∙ ap reverse e ∙ back in differs (cc)) in
+      elim (rw (back, back_too) at below) [ inl above ↦ omega arith | inr same ↦ omega (arith, same.0) ]
+]
+
 sum_of_zeros : (d : ℕ) → sum (replicate d 0) ≡ 0
 sum_of_zeros d = omega (arith, sum_by-replicate (λ n. n) d 0)
 
@@ -158,18 +170,7 @@ module _ (net : Network) (is : IsNetwork net) where
         let below = this.least (r ++ q) (subst (IsWalk net s (r ++ q) t) (sym parts.cost) whole) (λ e. differs (append_cancel_right r p q e)) in
         less_behind (reverse q) (reverse p) (reverse r) (rw (reverse-append p q, reverse-append r q) at below)
 
-  -- its last arc is the least last arc of all walks of its cost
-  pub last_arc_is_least : (p q : List ℕ) (s v k j : ℕ) (c : List ℕ) → IsBackwardLeast net s v c (p ++ k ∷ []) → IsWalk net s (q ++ j ∷ []) v c → k ≤ j
-  last_arc_is_least p q s v k j c this other = elim (cases_eq j k) [
-    | inl same ↦ omega arith
-    | inr differs ↦
-        let back = reverse-append p (k ∷ []) in
-        let back_too = reverse-append q (j ∷ []) in
-        let below = this.least (q ++ j ∷ []) other (λ e. let lists = sym back_too ∙ ap reverse e ∙ back in differs (cc)) in
-        elim (rw (back, back_too) at below) [ inl above ↦ omega arith | inr same ↦ omega (arith, same.0) ]
-  ]
-
-  -- and with the least last arc on, a backward-least walk is backward-least
+  -- with the least last arc on, a backward-least walk is backward-least
   pub with_last_arc : (p : List ℕ) (s u v k : ℕ) (b w : List ℕ) → IsBackwardLeast net s u b p → Leads net k u w v
       → ((q : List ℕ) (j : ℕ) → IsWalk net s (q ++ j ∷ []) v (plus b w) → k ≤ j) → IsBackwardLeast net s v (plus b w) (p ++ k ∷ [])
   with_last_arc p s u v k b w this arc least =

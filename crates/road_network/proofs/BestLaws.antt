@@ -19,6 +19,20 @@ Within-zeros (place ∷ limit) zero long = absurd (omega arith)
 Within-zeros (None ∷ limit) (suc d) long = (tt, Within-zeros limit d (omega arith))
 Within-zeros (Some most ∷ limit) (suc d) long = (omega arith, Within-zeros limit d (omega arith))
 
+-- nothing is better than to stand still
+pub start_is_relevant : (net : Network) (s t : ℕ) (limit : List (Option ℕ)) → IsNode net.nodes s → length limit ≡ net.criteria
+    → IsRelevant net s t limit s (replicate net.criteria 0)
+start_is_relevant net s t limit node long =
+    let zeros = replicate net.criteria 0 in
+    let none_better : (b : List ℕ) → ¬ Dominates b zeros = λ b better.
+    let long = AtMost-length b zeros better.at_most ∙ length-replicate net.criteria 0 in
+    better.differs (AtMost-antisymm b zeros better.at_most (AtMost-zeros net.criteria b long)) in
+    record {
+      best = record { reached = ([], (node, refl, refl)); nondominated = λ p b walk. none_better b };
+      within = Within-zeros limit net.criteria long;
+      undominated = λ b best. none_better b;
+    }
+
 module _ (net : Network) (is : IsNetwork net) where
   -- what an arc adds makes each cost greater, and leaves dominance as it is
   pub grows_along : (k u v : ℕ) (w c : List ℕ) → Leads net k u w v → length c ≡ net.criteria → Dominates c (plus c w)
@@ -100,17 +114,3 @@ module _ (net : Network) (is : IsNetwork net) where
           inr (λ relevant. relevant.undominated below.cost below.best (AtMost-Dominates below.cost beaten.1 c below.at_most beaten.3))
     ]
   ]
-
-  -- nothing is better than to stand still
-  pub start_is_relevant : (s t : ℕ) (limit : List (Option ℕ)) → IsNode net.nodes s → length limit ≡ net.criteria
-      → IsRelevant net s t limit s (replicate net.criteria 0)
-  start_is_relevant s t limit node long =
-      let zeros = replicate net.criteria 0 in
-      let none_better : (b : List ℕ) → ¬ Dominates b zeros = λ b better.
-      let long = AtMost-length b zeros better.at_most ∙ length-replicate net.criteria 0 in
-      better.differs (AtMost-antisymm b zeros better.at_most (AtMost-zeros net.criteria b long)) in
-      record {
-        best = record { reached = ([], (node, refl, refl)); nondominated = λ p b walk. none_better b };
-        within = Within-zeros limit net.criteria long;
-        undominated = λ b best. none_better b;
-      }

@@ -21,7 +21,7 @@ pub fn best_costs_lie_below_all()
         → IsWalk net s (p ++ q) t c → IsBest net s t c → EndsAtBest net s p }
     ensures before_arc { (net : Network) (p : List ℕ) (s u v k : ℕ) (b w : List ℕ) → IsNetwork net
         → IsWalk net s p u b → Leads net k u w v → IsBest net s v (plus b w) → IsBest net s u b }
-    ensures at_the_start { (net : Network) (s t : ℕ) (limit : List (Option ℕ)) → IsNetwork net
+    ensures at_the_start { (net : Network) (s t : ℕ) (limit : List (Option ℕ))
         → IsNode net.nodes s → length limit ≡ net.criteria
         → IsRelevant net s t limit s (replicate net.criteria 0) }
 {}
@@ -92,7 +92,7 @@ pub fn walks_of_costs_are_one_list()
 pub fn backward_least_walks_grow_by_arcs()
     ensures first_part { (net : Network) (p q : List ℕ) (s v t : ℕ) (b c : List ℕ) → IsNetwork net
         → IsBackwardLeast net s t c (p ++ q) → IsWalk net s p v b → IsBackwardLeast net s v b p }
-    ensures last_arc { (net : Network) (p q : List ℕ) (s v k j : ℕ) (c : List ℕ) → IsNetwork net
+    ensures last_arc { (net : Network) (p q : List ℕ) (s v k j : ℕ) (c : List ℕ)
         → IsBackwardLeast net s v c (p ++ k ∷ []) → IsWalk net s (q ++ j ∷ []) v c → k ≤ j }
     ensures one_arc_more { (net : Network) (p : List ℕ) (s u v k : ℕ) (b w : List ℕ) → IsNetwork net
         → IsBackwardLeast net s u b p → Leads net k u w v

@@ -16,12 +16,50 @@ struct Row {
     err: &'static str,
 }
 
-/// What a run did.
-#[derive(Drop)]
-struct Finished {
+impl Row {
+    fn expected(&self) -> Wanted<'_> {
+        Wanted {
+            words: self.words,
+            status: self.status,
+            out: self.out.as_bytes(),
+            err: self.err.as_bytes(),
+        }
+    }
+}
+
+/// How the run of some words has to end, and what it has to send.
+#[derive(Clone, Copy)]
+struct Wanted<'a> {
+    words: &'a str,
     status: u8,
+    out: &'a [u8],
+    err: &'a [u8],
+}
+
+/// What a run reads from and sends to.
+#[derive(Drop)]
+struct Outside {
+    folder: MemoryFolder,
     out: MemorySink,
     err: MemorySink,
+}
+
+impl Outside {
+    /// A folder, and sinks that never fail.
+    fn of_folder(alloc: Global, folder: MemoryFolder) -> Outside {
+        Outside {
+            folder,
+            out: ample(alloc),
+            err: ample(alloc),
+        }
+    }
+
+    /// Runs the words, and gives the status.
+    fn run(&mut self, alloc: Global, words: &str) -> Result<u8, AllocError> {
+        let words = words_of(alloc, words)?;
+        let (out, err) = (&mut self.out, &mut self.err);
+        Ok(route(alloc, &words, &mut self.folder, out, err))
+    }
 }
 
 /// The words between spaces, of which `''` is the empty one.
@@ -41,16 +79,25 @@ fn file_of(alloc: Global, name: &str, bytes: &[u8]) -> Result<NamedFile, AllocEr
     })
 }
 
-fn folder_of(
-    alloc: Global,
-    files: &[(&str, &str)],
-    fails: Vec<u64>,
-) -> Result<MemoryFolder, AllocError> {
+fn files_of(alloc: Global, files: &[(&str, &str)]) -> Result<Vec<NamedFile>, AllocError> {
     let mut list = Vec::new(alloc);
     for (name, text) in files {
         list.push(file_of(alloc, name, text.as_bytes())?)?;
     }
-    Ok(MemoryFolder::new(list, fails))
+    Ok(list)
+}
+
+/// A folder whose calls don't fail.
+fn folder_of(alloc: Global, files: &[(&str, &str)]) -> Result<MemoryFolder, AllocError> {
+    let list = files_of(alloc, files)?;
+    Ok(MemoryFolder::new(list, Vec::new(alloc)))
+}
+
+/// A folder of a file and of `B.gr`.
+fn folder_with(alloc: Global, name: &str, bytes: &[u8]) -> Result<MemoryFolder, AllocError> {
+    let mut list = files_of(alloc, &[("B.gr", rows::B)])?;
+    list.push(file_of(alloc, name, bytes)?)?;
+    Ok(MemoryFolder::new(list, Vec::new(alloc)))
 }
 
 /// A sink that never fails.
@@ -58,41 +105,60 @@ fn ample(alloc: Global) -> MemorySink {
     MemorySink::new(alloc, u64::MAX, Vec::new(alloc))
 }
 
-/// Runs the words over a folder, with these sinks.
-fn run(
+/// A sink that takes so many bytes.
+fn bounded(alloc: Global, bound: usize) -> MemorySink {
+    MemorySink::new(alloc, bound as u64, Vec::new(alloc))
+}
+
+/// A sink that fails at the call of this number.
+fn failing(alloc: Global, call: u64) -> Result<MemorySink, AllocError> {
+    Ok(MemorySink::new(alloc, u64::MAX, vec![in alloc; call]?))
+}
+
+fn assert_out(rt: &impl Abort, got: &[u8], wanted: &Wanted, number: usize) {
+    assert_eq!(rt; got, wanted.out, "out of {:?} at {number}", wanted.words);
+}
+
+fn assert_err(rt: &impl Abort, got: &[u8], wanted: &Wanted, number: usize) {
+    assert_eq!(rt; got, wanted.err, "err of {:?} at {number}", wanted.words);
+}
+
+fn assert_status(rt: &impl Abort, got: u8, wanted: &Wanted, number: usize) {
+    assert_eq!(rt;
+        got,
+        wanted.status,
+        "status of {:?} at {number}",
+        wanted.words
+    );
+}
+
+/// The run ends as is wanted. The number tells it from other runs of the same words.
+fn assert_run(
+    rt: &impl Abort,
     alloc: Global,
-    words: &str,
-    folder: &mut MemoryFolder,
-    mut out: MemorySink,
-    mut err: MemorySink,
-) -> Result<Finished, AllocError> {
-    let words = words_of(alloc, words)?;
-    let status = route(alloc, &words, folder, &mut out, &mut err);
-    Ok(Finished { status, out, err })
+    wanted: &Wanted,
+    number: usize,
+    outside: &mut Outside,
+) -> Result<(), AllocError> {
+    let status = outside.run(alloc, wanted.words)?;
+    assert_out(rt, outside.out.sent(), wanted, number);
+    assert_err(rt, outside.err.sent(), wanted, number);
+    assert_status(rt, status, wanted, number);
+    Ok(())
 }
 
-fn assert_row(rt: &impl Abort, row: &Row, done: &Finished) {
-    assert_noted(rt, row, row.err.as_bytes(), done);
-}
-
-/// The run is that of the row, but `err` took this.
-fn assert_noted(rt: &impl Abort, row: &Row, note: &[u8], done: &Finished) {
-    let words = row.words;
-    assert_eq!(rt; done.out.sent(), row.out.as_bytes(), "out of {words:?}");
-    assert_eq!(rt; done.err.sent(), note, "err of {words:?}");
-    assert_eq!(rt; done.status, row.status, "status of {words:?}");
+fn assert_row(rt: &impl Abort, alloc: Global, row: &Row, piece: usize) -> Result<(), AllocError> {
+    let folder = folder_of(alloc, row.files)?.with_piece(piece.max(1));
+    let mut outside = Outside::of_folder(alloc, folder);
+    assert_run(rt, alloc, &row.expected(), piece, &mut outside)
 }
 
 #[test]
 fn rows_have_their_output(rt: HostRuntime) -> Result<(), Fail> {
-    let alloc = rt.alloc();
     for row in rows::ROWS {
-        let mut folder = folder_of(alloc, row.files, Vec::new(alloc))?;
-        let done = run(alloc, row.words, &mut folder, ample(alloc), ample(alloc))?;
-        assert_row(&rt, row, &done);
-        let mut folder = folder_of(alloc, row.files, Vec::new(alloc))?.with_piece(1);
-        let done = run(alloc, row.words, &mut folder, ample(alloc), ample(alloc))?;
-        assert_row(&rt, row, &done);
+        for piece in [1, usize::MAX] {
+            assert_row(&rt, rt.alloc(), row, piece)?;
+        }
     }
     Ok(())
 }
@@ -114,58 +180,68 @@ fn cut_fault(length: usize) -> (usize, u8) {
     }
 }
 
+fn cut_note(alloc: Global, length: usize) -> Result<String, AllocError> {
+    let (line, kind) = cut_fault(length);
+    format!(in alloc; "route: file CUT line {line} kind {kind}\n")
+}
+
+/// The first file is cut to a length, and comes in pieces.
+fn cut_file(alloc: Global, length: usize, piece: usize) -> Result<Outside, AllocError> {
+    let text = rows::A.as_bytes();
+    let folder = folder_with(alloc, "CUT", &text[..length.min(text.len())])?;
+    Ok(Outside::of_folder(alloc, folder.with_piece(piece.max(1))))
+}
+
+fn assert_told_cut(
+    rt: &impl Abort,
+    alloc: Global,
+    length: usize,
+    outside: &mut Outside,
+) -> Result<(), AllocError> {
+    let note = cut_note(alloc, length)?;
+    let wanted = Wanted {
+        words: "check CUT B.gr",
+        status: 5,
+        out: b"",
+        err: note.as_bytes(),
+    };
+    assert_run(rt, alloc, &wanted, length, outside)
+}
+
+/// What is wanted where nothing but the last LF is cut off.
+const WHOLE: Wanted = Wanted {
+    words: "check CUT B.gr",
+    status: 0,
+    out: b"ok 4 6 2\n",
+    err: b"",
+};
+
 #[test]
 fn cut_files_are_told(rt: HostRuntime) -> Result<(), Fail> {
-    let alloc = rt.alloc();
-    let text = rows::A.as_bytes();
-    for length in 0..=text.len() {
-        for size in [1, usize::MAX] {
-            let mut files = Vec::new(alloc);
-            files.push(file_of(alloc, "CUT", &text[..length])?)?;
-            files.push(file_of(alloc, "B.gr", rows::B.as_bytes())?)?;
-            let mut folder = MemoryFolder::new(files, Vec::new(alloc)).with_piece(size.max(1));
-            let done = run(
-                alloc,
-                "check CUT B.gr",
-                &mut folder,
-                ample(alloc),
-                ample(alloc),
-            )?;
-            assert_cut(&rt, alloc, length, &done)?;
+    for length in 0..=rows::A.len() {
+        for piece in [1, usize::MAX] {
+            let mut outside = cut_file(rt.alloc(), length, piece)?;
+            if length >= 56 {
+                assert_run(&rt, rt.alloc(), &WHOLE, length, &mut outside)?;
+            } else {
+                assert_told_cut(&rt, rt.alloc(), length, &mut outside)?;
+            }
         }
     }
     Ok(())
 }
 
-fn assert_cut(
-    rt: &impl Abort,
-    alloc: Global,
-    length: usize,
-    done: &Finished,
-) -> Result<(), AllocError> {
-    if length >= 56 {
-        assert_eq!(rt;
-            done.out.sent(),
-            b"ok 4 6 2\n".as_slice(),
-            "length {length}"
-        );
-        assert_eq!(rt; done.err.sent(), b"".as_slice(), "length {length}");
-        assert_eq!(rt; done.status, 0, "length {length}");
-        return Ok(());
-    }
-    let (line, kind) = cut_fault(length);
-    let want = format!(in alloc; "route: file CUT line {line} kind {kind}\n")?;
-    assert_eq!(rt; done.err.sent(), want.as_bytes(), "length {length}");
-    assert_eq!(rt; done.status, 5, "length {length}");
+/// An arc with the greatest weight.
+fn put_arc(text: &mut String, tail: u32, head: u32) -> Result<(), AllocError> {
+    write!(text, "a {tail} {head} 4294967295\n")?;
     Ok(())
 }
 
 /// A path of 1,001 nodes, each of its arcs with the greatest weight.
 fn greatest_path(alloc: Global) -> Result<String, AllocError> {
-    let mut text = format!(in alloc; "p sp 1001 1000\n")?;
-    for tail in 1..1001u32 {
-        let line = format!(in alloc; "a {tail} {} 4294967295\n", tail + 1)?;
-        text.push_str(&line)?;
+    let mut text = String::from_str(alloc, "p sp 1001 1000\n")?;
+    for head in 2..1002 {
+        put_arc(&mut text, head - 1, head)?;
     }
     Ok(text)
 }
@@ -174,137 +250,194 @@ fn greatest_path(alloc: Global) -> Result<String, AllocError> {
 fn greatest_weights_add_up(rt: HostRuntime) -> Result<(), Fail> {
     let alloc = rt.alloc();
     let text = greatest_path(alloc)?;
-    let files = [("P.gr", text.as_str())];
-    let mut folder = folder_of(alloc, &files, Vec::new(alloc))?;
-    let words = "costs --from 1 --to 1001 P.gr P.gr";
-    let done = run(alloc, words, &mut folder, ample(alloc), ample(alloc))?;
-    let want = b"r 0 1 1001 1\nv 4294967295000 4294967295000\n";
-    assert_eq!(rt; done.out.sent(), want.as_slice());
-    assert_eq!(rt; done.status, 0);
+    let folder = folder_of(alloc, &[("P.gr", text.as_str())])?;
+    let wanted = Wanted {
+        words: "costs --from 1 --to 1001 P.gr P.gr",
+        status: 0,
+        out: b"r 0 1 1001 1\nv 4294967295000 4294967295000\n",
+        err: b"",
+    };
+    assert_run(
+        &rt,
+        alloc,
+        &wanted,
+        0,
+        &mut Outside::of_folder(alloc, folder),
+    )?;
     Ok(())
 }
 
+/// The six arcs in a folder whose call of this number fails.
+fn failing_folder(alloc: Global, call: u64) -> Result<Outside, AllocError> {
+    let files = files_of(alloc, rows::SIX_ARCS)?;
+    let folder = MemoryFolder::new(files, vec![in alloc; call]?);
+    Ok(Outside::of_folder(alloc, folder))
+}
+
+/// What is wanted where the call of this number fails: each of two files is selected, read, and read to its end.
+fn wanted_of_call(call: u64) -> Wanted<'static> {
+    let note = match call {
+        0..=2 => "route: folder A.gr\n",
+        3..=5 => "route: folder B.gr\n",
+        _ => return FIRST,
+    };
+    Wanted {
+        words: rows::FIRST,
+        status: 3,
+        out: b"",
+        err: note.as_bytes(),
+    }
+}
+
+/// What the first run has to send.
+const FIRST: Wanted = Wanted {
+    words: rows::FIRST,
+    status: 0,
+    out: b"r 0 1 4 2\nv 2 8\nv 4 2\n",
+    err: b"",
+};
+
 #[test]
 fn each_failing_call_of_the_folder_is_told(rt: HostRuntime) -> Result<(), Fail> {
-    let alloc = rt.alloc();
-    let mut failed = 0u64;
     for call in 0..20u64 {
-        let mut folder = folder_of(alloc, rows::SIX_ARCS, vec![in alloc; call]?)?;
-        let done = run(alloc, rows::FIRST, &mut folder, ample(alloc), ample(alloc))?;
-        if done.status == 0 {
-            break;
-        }
-        failed = call + 1;
-        let name = if call < 3 { "A.gr" } else { "B.gr" };
-        let want = format!(in alloc; "route: folder {name}\n")?;
-        assert_eq!(rt; done.status, 3, "call {call}");
-        assert_eq!(rt; done.out.sent(), b"".as_slice(), "call {call}");
-        assert_eq!(rt; done.err.sent(), want.as_bytes(), "call {call}");
+        let mut outside = failing_folder(rt.alloc(), call)?;
+        let wanted = wanted_of_call(call);
+        assert_run(&rt, rt.alloc(), &wanted, call as usize, &mut outside)?;
     }
-    assert_eq!(rt;
-        failed,
-        6,
-        "each file is selected, read, and read to its end"
-    );
     Ok(())
+}
+
+/// The first run, with this sink for its reply.
+fn first_to(alloc: Global, out: MemorySink) -> Result<Outside, AllocError> {
+    Ok(Outside {
+        folder: folder_of(alloc, rows::SIX_ARCS)?,
+        out,
+        err: ample(alloc),
+    })
 }
 
 #[test]
 fn a_failing_out_is_told(rt: HostRuntime) -> Result<(), Fail> {
     let alloc = rt.alloc();
-    let mut folder = folder_of(alloc, rows::SIX_ARCS, Vec::new(alloc))?;
-    let out = MemorySink::new(alloc, u64::MAX, vec![in alloc; 0u64]?);
-    let done = run(alloc, rows::FIRST, &mut folder, out, ample(alloc))?;
-    assert_eq!(rt; done.status, 4);
-    assert_eq!(rt; done.out.sent(), b"".as_slice());
-    assert_eq!(rt; done.err.sent(), b"route: out\n".as_slice());
+    let mut outside = first_to(alloc, failing(alloc, 0)?)?;
+    assert_run(&rt, alloc, &told_out(b""), 0, &mut outside)?;
     Ok(())
+}
+
+/// What is wanted where a part of the first reply was sent.
+fn told_out(part: &[u8]) -> Wanted<'_> {
+    Wanted {
+        words: rows::FIRST,
+        status: 4,
+        out: part,
+        err: b"route: out\n",
+    }
 }
 
 #[test]
 fn a_full_out_has_the_front_of_the_reply(rt: HostRuntime) -> Result<(), Fail> {
     let alloc = rt.alloc();
-    let reply = b"r 0 1 4 2\nv 2 8\nv 4 2\n";
-    for bound in 0..reply.len() {
-        let mut folder = folder_of(alloc, rows::SIX_ARCS, Vec::new(alloc))?;
-        let out = MemorySink::new(alloc, bound as u64, Vec::new(alloc));
-        let done = run(alloc, rows::FIRST, &mut folder, out, ample(alloc))?;
-        assert_eq!(rt; done.status, 4, "bound {bound}");
-        assert_eq!(rt; done.out.sent(), &reply[..bound], "bound {bound}");
-        assert_eq!(rt;
-            done.err.sent(),
-            b"route: out\n".as_slice(),
-            "bound {bound}"
-        );
+    for bound in 0..FIRST.out.len() {
+        let mut outside = first_to(alloc, bounded(alloc, bound))?;
+        assert_run(
+            &rt,
+            alloc,
+            &told_out(&FIRST.out[..bound]),
+            bound,
+            &mut outside,
+        )?;
     }
     Ok(())
+}
+
+/// A file whose first line has this length.
+fn long_line(alloc: Global, length: usize) -> Result<Outside, AllocError> {
+    let mut text = vec![in alloc; b'c'; length]?;
+    text.push(b'\n')?;
+    text.extend_from_slice(rows::A.as_bytes())?;
+    let folder = folder_with(alloc, "LONG", &text)?;
+    Ok(Outside::of_folder(alloc, folder))
 }
 
 #[test]
 fn a_line_has_65536_bytes_at_most(rt: HostRuntime) -> Result<(), Fail> {
-    let alloc = rt.alloc();
     for (length, status) in [(65_536, 0), (65_537, 5)] {
-        let mut text = vec![in alloc; b'c'; length]?;
-        text.push(b'\n')?;
-        text.extend_from_slice(rows::A.as_bytes())?;
-        let mut files = Vec::new(alloc);
-        files.push(file_of(alloc, "LONG", &text)?)?;
-        files.push(file_of(alloc, "B.gr", rows::B.as_bytes())?)?;
-        let mut folder = MemoryFolder::new(files, Vec::new(alloc));
-        let done = run(
-            alloc,
-            "check LONG B.gr",
-            &mut folder,
-            ample(alloc),
-            ample(alloc),
-        )?;
-        assert_eq!(rt; done.status, status, "length {length}");
+        let mut outside = long_line(rt.alloc(), length)?;
+        let got = outside.run(rt.alloc(), "check LONG B.gr")?;
+        assert_eq!(rt; got, status, "length {length}");
     }
     Ok(())
 }
 
+/// The run of a row, with this sink for its note.
+fn row_noting_to(alloc: Global, row: &Row, err: MemorySink) -> Result<Outside, AllocError> {
+    Ok(Outside {
+        folder: folder_of(alloc, row.files)?,
+        out: ample(alloc),
+        err,
+    })
+}
+
+fn assert_cut_note(
+    rt: &impl Abort,
+    alloc: Global,
+    row: &Row,
+    bound: usize,
+) -> Result<(), AllocError> {
+    let mut outside = row_noting_to(alloc, row, bounded(alloc, bound))?;
+    let mut wanted = row.expected();
+    wanted.err = &wanted.err[..bound.min(wanted.err.len())];
+    assert_run(rt, alloc, &wanted, bound, &mut outside)
+}
+
 #[test]
 fn a_full_err_cuts_the_note_alone(rt: HostRuntime) -> Result<(), Fail> {
-    let alloc = rt.alloc();
     for row in rows::ROWS {
         for bound in [0, 9, 16] {
-            let mut folder = folder_of(alloc, row.files, Vec::new(alloc))?;
-            let err = MemorySink::new(alloc, bound as u64, Vec::new(alloc));
-            let done = run(alloc, row.words, &mut folder, ample(alloc), err)?;
-            let note = row.err.as_bytes();
-            assert_noted(&rt, row, &note[..bound.min(note.len())], &done);
+            assert_cut_note(&rt, rt.alloc(), row, bound)?;
         }
     }
     Ok(())
 }
 
+/// The run of a missing file, whose note comes in pieces of 14 bytes, of which that of this number fails.
+fn noting_in_pieces(alloc: Global, call: u64) -> Result<Outside, AllocError> {
+    let err = failing(alloc, call)?.with_piece(14);
+    Ok(Outside {
+        folder: folder_of(alloc, rows::SIX_ARCS)?,
+        out: ample(alloc),
+        err,
+    })
+}
+
 #[test]
 fn a_failing_err_cuts_the_note_alone(rt: HostRuntime) -> Result<(), Fail> {
-    let alloc = rt.alloc();
     for (call, note) in [
         (0u64, ""),
         (1, "route: folder "),
         (2, "route: folder N.gr\n"),
     ] {
-        let mut folder = folder_of(alloc, rows::SIX_ARCS, Vec::new(alloc))?;
-        let err = MemorySink::new(alloc, u64::MAX, vec![in alloc; call]?).with_piece(14);
-        let words = "check A.gr N.gr";
-        let done = run(alloc, words, &mut folder, ample(alloc), err)?;
-        assert_eq!(rt; done.status, 3, "call {call}");
-        assert_eq!(rt; done.out.sent(), b"".as_slice(), "call {call}");
-        assert_eq!(rt; done.err.sent(), note.as_bytes(), "call {call}");
+        let wanted = Wanted {
+            words: "check A.gr N.gr",
+            status: 3,
+            out: b"",
+            err: note.as_bytes(),
+        };
+        let mut outside = noting_in_pieces(rt.alloc(), call)?;
+        assert_run(&rt, rt.alloc(), &wanted, call as usize, &mut outside)?;
     }
     Ok(())
 }
 
+fn assert_noted_at_once(rt: &impl Abort, alloc: Global, row: &Row) -> Result<(), AllocError> {
+    let mut outside = row_noting_to(alloc, row, failing(alloc, 1)?)?;
+    assert_run(rt, alloc, &row.expected(), 1, &mut outside)
+}
+
 #[test]
 fn a_note_is_sent_at_once(rt: HostRuntime) -> Result<(), Fail> {
-    let alloc = rt.alloc();
     for row in rows::ROWS {
-        let mut folder = folder_of(alloc, row.files, Vec::new(alloc))?;
-        let err = MemorySink::new(alloc, u64::MAX, vec![in alloc; 1u64]?);
-        let done = run(alloc, row.words, &mut folder, ample(alloc), err)?;
-        assert_row(&rt, row, &done);
+        assert_noted_at_once(&rt, rt.alloc(), row)?;
     }
     Ok(())
 }

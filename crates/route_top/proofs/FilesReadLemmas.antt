@@ -15,8 +15,7 @@ use Rattle.arc_graph.specs.Agreement.{HasFault}
 use Rattle.arc_graph.specs.Files.{ArcFile}
 use Rattle.arc_graph.specs.Joiner.{Joiner}
 use Rattle.arc_graph.specs.StandsFor.{StandsFor}
-use Rattle.gr_reader.specs.Reader.{TakesFile}
-use Rattle.gr_reader.specs.Sinks.{JoinerHasTaken}
+use Rattle.gr_reader.specs.Sinks.{JoinerHasTaken, TakesFile}
 use Rattle.route_top.specs.FilesRead.{weight_limits, Tells, Says, FileStop, failed, faulty, starved, FilesStop, at_file, disagree, unjoined, FilesEnd, stops, goes_on, ReadAs}
 use Rattle.route_top.specs.Outcome.{Outcome, status_of}
 use Rattle.route_top.specs.Output.{Runs}

@@ -5,7 +5,7 @@ use Rattle.road_network.specs.Network.{Network, IsNode}
 use Rattle.road_network.specs.Answers.{AreBestCosts, Passes}
 use Rattle.command_words.specs.Words.{QueryAsked}
 use Rattle.route_top.specs.Outcome.{Outcome, done, refused, no_memory}
-use Rattle.route_top.specs.Texts.{costs_reply, node_refusal, budget_refusal}
+use Rattle.answer_writer.specs.Replies.{costs_reply, node_refusal, budget_refusal}
 
 -- both ends of the query are nodes
 abbrev pub HaveNodes : Network → QueryAsked → Type 0

@@ -4,7 +4,7 @@ use Rattle.gr_reader.specs.declared.fault.LineKind.{LineKind}
 use Rattle.gr_reader.specs.Kinds.{kind_number}
 use Rattle.route_top.specs.declared.stop.Disagreement.{Disagreement}
 use Rattle.route_top.specs.declared.stop.Disagreement.TheVariants.{Sizes, Ends, ZeroArc}
-use Rattle.route_top.specs.Texts.{and_number, end_line}
+use Rattle.answer_writer.specs.Replies.{and_number, end_line}
 
 -- the ways in which a run ends, each with what its note names
 pub data Outcome : Type 0 where

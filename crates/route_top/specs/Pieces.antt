@@ -3,7 +3,7 @@ use Rattle.std.specs.Prelude.{ℕ, List}
 use Rattle.std.specs.List.{flat_map}
 use Rattle.route_top.specs.declared.pieces.Piece.{Piece}
 use Rattle.route_top.specs.declared.pieces.Piece.TheVariants.{Text, Number, Cost}
-use Rattle.route_top.specs.Texts.{and_number}
+use Rattle.answer_writer.specs.Replies.{and_number}
 
 -- what a piece of a line says
 abbrev pub text_of : Piece → List ℕ

@@ -8,11 +8,12 @@ ghost use Rattle.command_words.specs.Words.{names_of, query_asked};
 ghost use Rattle.route_top.specs.Costs.{CostsReplies};
 ghost use Rattle.route_top.specs.Output.{Ends, Runs};
 ghost use Rattle.route_top.specs.Stops.{Replies, reply_outcome, run_outcome};
-ghost use Rattle.route_top.specs.Texts.{refusal};
+ghost use Rattle.answer_writer.specs.Replies.{refusal};
 
 use crate::network::read_network;
-use crate::reply::{Reply, kept, put_costs, put_refusal, send};
+use crate::reply::{EPOCH, Reply, kept, put_costs, send};
 use crate::stop::Stop;
+use answer_writer::put_refusal;
 use arc_graph::{Graph, Weights};
 use command_words::{CostsWords, Query};
 use cost_vector::{Limit, NodeNo, OutOfMemory};
@@ -92,7 +93,7 @@ fn refuse(text: &mut SureSink, query: &Query, why: &str) -> Result<Reply, OutOfM
     ensures refuses { IfOk result (λ reply. reply ≡ Reply.Refusal) }
     ensures sent { OnOk result (text.new.sent ≡ refusal 0 query.now.from query.now.to why.now) }
 {
-    kept(put_refusal(text, query.from, query.to, why))?;
+    kept(put_refusal(text, EPOCH, query.from, query.to, why))?;
     Ok(Reply::Refusal)
 }
 

@@ -2,7 +2,7 @@
 ghost use Rattle.std.specs.List.{flat_map};
 ghost use Rattle.route_io.specs.Sinks.{Sends};
 ghost use Rattle.route_top.specs.Pieces.{line_of, text_of};
-ghost use Rattle.route_top.specs.Texts.{and_number};
+ghost use Rattle.answer_writer.specs.Replies.{and_number};
 
 use cost_vector::Cost;
 use line_text::put_decimal;

@@ -3,7 +3,8 @@ ghost use Rattle.std.specs.Prelude.{◌≢◌, ◌↔◌, ◌≡◌, ◌++◌, l
 ghost use Rattle.std.specs.List.{flat_map};
 ghost use Rattle.route_io.specs.Sinks.{Sends};
 ghost use Rattle.route_top.specs.Stops.{IsReply, Replies, reply_outcome, run_outcome};
-ghost use Rattle.route_top.specs.Texts.{and_number, check_reply, cost_line, costs_reply, end_line, refusal};
+ghost use Rattle.answer_writer.specs.Replies.{and_number, cost_line, costs_reply, end_line};
+ghost use Rattle.route_top.specs.Texts.{check_reply};
 
 use crate::pieces::{Piece, put_pieces};
 use crate::stop::Stop;
@@ -13,7 +14,7 @@ use route_io::sure::SureSink;
 use route_io::{Sink, WriteFault, put_all};
 
 /// The epoch of each reply, since nothing is published.
-const EPOCH: u64 = 0;
+pub(crate) const EPOCH: u32 = 0;
 
 /// What a reply to a query is.
 #[derive(Clone, Copy, Debug)]
@@ -82,7 +83,7 @@ fn put_head<K: Sink>(sink: &mut K, from: u32, to: u32, count: u64) -> Result<(),
         sink,
         &[
             Text("r"),
-            Number(EPOCH),
+            Number(u64::from(EPOCH)),
             Number(u64::from(from)),
             Number(u64::from(to)),
             Number(count),
@@ -108,29 +109,6 @@ fn put_cost<K: Sink>(sink: &mut K, cost: &Cost) -> Result<(), WriteFault>
     put_pieces(
         sink,
         &[Piece::Text("v"), Piece::Cost(cost), Piece::Text("\n")],
-    )
-}
-
-/// Sends the line that refuses a query at epoch 0.
-pub(crate) fn put_refusal<K: Sink>(
-    sink: &mut K,
-    from: u32,
-    to: u32,
-    why: &str,
-) -> Result<(), WriteFault>
-    ensures { Sends (K.state sink.old) (K.state sink.new) (refusal 0 from to why.now) result }
-{
-    use Piece::{Number, Text};
-    put_pieces(
-        sink,
-        &[
-            Text("x"),
-            Number(EPOCH),
-            Number(u64::from(from)),
-            Number(u64::from(to)),
-            Text(why),
-            Text("\n"),
-        ],
     )
 }
 

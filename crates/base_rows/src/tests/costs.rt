@@ -1,17 +1,20 @@
 use cost_vector::{ArcNo, Cost, Label, Limit, NodeNo, Spot, Weight};
 use std::test::Fail;
 
+/// Two costs, and whether the first dominates the second.
+const DOMINANCE: &[([u64; 2], [u64; 2], bool)] = &[
+    ([4, 2], [4, 6], true),
+    ([4, 6], [4, 2], false),
+    ([4, 2], [4, 2], false),
+    ([2, 8], [4, 2], false),
+    ([4, 2], [2, 8], false),
+];
+
 #[test]
 fn dominance_needs_one_smaller_component_and_no_greater(rt: HostRuntime) {
-    for (a, b, dominates) in [
-        ([4, 2], [4, 6], true),
-        ([4, 6], [4, 2], false),
-        ([4, 2], [4, 2], false),
-        ([2, 8], [4, 2], false),
-        ([4, 2], [2, 8], false),
-    ] {
-        let (a, b) = (Cost::of_numbers(&a), Cost::of_numbers(&b));
-        assert_eq!(rt; a.dominates(&b), dominates, "{a:?} and {b:?}");
+    for (a, b, dominates) in DOMINANCE {
+        let (a, b) = (Cost::of_numbers(a), Cost::of_numbers(b));
+        assert_eq!(rt; a.dominates(&b), *dominates, "{a:?} and {b:?}");
     }
 }
 
@@ -22,7 +25,11 @@ fn adds_and_takes_back_a_weight(rt: HostRuntime) {
     assert_eq!(rt; cost, Cost::of_numbers(&[4, 0, 7]));
     assert_eq!(rt; cost.minus(&weight), Some(Cost::zero(3)));
     assert_eq!(rt; cost.minus(&Weight::of_numbers(&[0, 1, 0])), None);
-    assert!(rt; !weight.is_zero());
+}
+
+#[test]
+fn only_zeros_are_a_zero_weight(rt: HostRuntime) {
+    assert!(rt; !Weight::of_numbers(&[4, 0, 7]).is_zero());
     assert!(rt; Weight::of_numbers(&[0, 0]).is_zero());
 }
 
@@ -81,6 +88,12 @@ fn vectors_are_shown_as_their_lists(rt: HostRuntime) -> Result<(), Fail> {
     let limit = Limit::of_places(&[None, Some(6)]);
     let shown = format!(in alloc; "{cost:?} {weight:?} {limit:?}")?;
     assert_eq!(rt; shown.as_str(), "[2, 8, 0] [0, 7] [None, Some(6)]");
+    Ok(())
+}
+
+#[test]
+fn numbers_are_shown_as_digits(rt: HostRuntime) -> Result<(), Fail> {
+    let alloc = rt.alloc();
     let numbers = format!(in alloc; "{} {}", NodeNo(3), ArcNo(12))?;
     assert_eq!(rt; numbers.as_str(), "3 12");
     Ok(())

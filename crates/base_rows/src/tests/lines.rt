@@ -7,6 +7,7 @@ use route_io::Source;
 use route_io::memory::MemorySource;
 use route_io::sure::SureSink;
 use std::alloc::{AllocError, Global};
+use std::process::Abort;
 use std::test::Fail;
 
 /// A source that gives a text in pieces of this length, and fails at the reads of these numbers.
@@ -72,49 +73,72 @@ fn limits(line: u32, total: u64) -> LineLimits
     LineLimits { line, total }
 }
 
+/// A text, the greatest line and the greatest total, and what is shown of it.
+const TEXTS: &[(&str, u32, u64, &str)] = &[
+    ("", 100, u64::MAX, "."),
+    ("\n", 100, u64::MAX, "/."),
+    ("a\r\nb\r\r\n\r\n\nc", 100, u64::MAX, "a/b\r///c/."),
+    ("a\nb\r", 100, u64::MAX, "a/b/."),
+    ("12345678\n12345678", 8, 17, "12345678/12345678/."),
+    ("12345678\n123456789", 8, 100, "12345678/l"),
+    ("1234567\r\n", 7, 100, "l"),
+    ("p sp 1 0\nc 3456789", 8, 9, "p sp 1 0/t"),
+    ("p sp 1 0\nc 3456789", 8, 16, "p sp 1 0/t"),
+    ("p sp 1 0\nc 3456789", 8, 17, "p sp 1 0/l"),
+    ("p sp 1 0\n", 8, 8, "t"),
+    ("p sp 1 0", 8, 8, "p sp 1 0/."),
+];
+
+/// What is shown of a text that comes in pieces of this length.
+fn shown_in_pieces(
+    alloc: Global,
+    text: &str,
+    length: usize,
+    limits: LineLimits,
+) -> Result<Vec<u8>, AllocError> {
+    let mut source = pieces(alloc, text.as_bytes(), length, Vec::new(alloc))?;
+    shown(alloc, &mut source, limits)
+}
+
 #[test]
 fn lines_come_in_any_pieces(rt: HostRuntime) -> Result<(), Fail> {
-    let alloc = rt.alloc();
-    for length in [1, 2, 3, 100] {
-        let wide = limits(100, u64::MAX);
-        let cases: [(&[u8], LineLimits, &[u8]); 12] = [
-            (b"", wide, b"."),
-            (b"\n", wide, b"/."),
-            (b"a\r\nb\r\r\n\r\n\nc", wide, b"a/b\r///c/."),
-            (b"a\nb\r", wide, b"a/b/."),
-            (b"12345678\n12345678", limits(8, 17), b"12345678/12345678/."),
-            (b"12345678\n123456789", limits(8, 100), b"12345678/l"),
-            (b"1234567\r\n", limits(7, 100), b"l"),
-            (b"p sp 1 0\nc 3456789", limits(8, 9), b"p sp 1 0/t"),
-            (b"p sp 1 0\nc 3456789", limits(8, 16), b"p sp 1 0/t"),
-            (b"p sp 1 0\nc 3456789", limits(8, 17), b"p sp 1 0/l"),
-            (b"p sp 1 0\n", limits(8, 8), b"t"),
-            (b"p sp 1 0", limits(8, 8), b"p sp 1 0/."),
-        ];
-        for (text, limits, wanted) in cases {
-            let mut source = pieces(alloc, text, length, Vec::new(alloc))?;
-            let got = shown(alloc, &mut source, limits)?;
-            assert_eq!(rt; got.as_slice(), wanted);
+    for (text, line, total, wanted) in TEXTS {
+        for length in [1, 2, 3, 100] {
+            let got = shown_in_pieces(rt.alloc(), text, length, limits(*line, *total))?;
+            assert_eq!(rt; got.as_slice(), wanted.as_bytes(), "{text:?}");
         }
     }
     Ok(())
 }
 
-#[test]
-fn lines_cross_the_buffers_end(rt: HostRuntime) -> Result<(), Fail> {
-    let alloc = rt.alloc();
+const LETTERS: [u8; 5] = [b'a', b'b', b'c', b'd', b'e'];
+
+/// For each letter a line of it that is as long as a line may be.
+fn long_lines(alloc: Global) -> Result<Vec<u8>, AllocError> {
     let mut text = Vec::new(alloc);
-    for byte in [b'a', b'b', b'c', b'd', b'e'] {
+    for byte in LETTERS {
         text.extend_from_slice(&vec![in alloc; byte; 65_536]?)?;
         text.push(b'\n')?;
     }
+    Ok(text)
+}
+
+/// The next line is as long as a line may be, and of this letter alone.
+fn assert_long_line(rt: &impl Abort, lines: &mut Lines, source: &mut MemorySource, byte: u8) {
+    assert_eq!(rt; lines.next_line(source), Ok(true));
+    assert_eq!(rt; lines.text().len(), 65_536);
+    assert!(rt; lines.text().iter().all(|b| *b == byte));
+}
+
+#[test]
+fn lines_cross_the_buffers_end(rt: HostRuntime) -> Result<(), Fail> {
+    let alloc = rt.alloc();
+    let text = long_lines(alloc)?;
     for length in [1, 7, 131_072] {
         let mut source = pieces(alloc, &text, length, Vec::new(alloc))?;
         let mut lines = Lines::new(alloc, limits(65_536, u64::MAX))?;
-        for byte in [b'a', b'b', b'c', b'd', b'e'] {
-            assert_eq!(rt; lines.next_line(&mut source), Ok(true));
-            assert_eq!(rt; lines.text().len(), 65_536);
-            assert!(rt; lines.text().iter().all(|b| *b == byte));
+        for byte in LETTERS {
+            assert_long_line(&rt, &mut lines, &mut source, byte);
         }
         assert_eq!(rt; lines.next_line(&mut source), Ok(false));
         assert_eq!(rt; lines.number(), 5);
@@ -153,10 +177,18 @@ fn a_failed_read_is_kept(rt: HostRuntime) -> Result<(), Fail> {
 #[test]
 fn fields_stand_between_blanks(rt: HostRuntime) {
     let line = b" p\tsp  1 0 ";
-    assert_eq!(rt; field(line, 0), Some((1, 2)));
-    assert_eq!(rt; field(line, 1), Some((3, 5)));
-    assert_eq!(rt; field(line, 3), Some((9, 10)));
-    assert_eq!(rt; field(line, 4), None);
+    for (place, wanted) in [
+        (0, Some((1, 2))),
+        (1, Some((3, 5))),
+        (3, Some((9, 10))),
+        (4, None),
+    ] {
+        assert_eq!(rt; field(line, place), wanted, "field {place}");
+    }
+}
+
+#[test]
+fn the_first_field_is_split_off(rt: HostRuntime) {
     assert_eq!(rt;
         next_field(b"\ta b"),
         Some((b"a".as_slice(), b" b".as_slice()))
@@ -164,21 +196,23 @@ fn fields_stand_between_blanks(rt: HostRuntime) {
     assert_eq!(rt; next_field(b" \t "), None);
 }
 
+/// A text, the greatest number, and the number that it writes.
+const NUMERALS: &[(&str, u64, Numeral)] = &[
+    ("", 9, Numeral::NotDigits),
+    ("+1", 9, Numeral::NotDigits),
+    ("99999999999999999999x", 9, Numeral::NotDigits),
+    ("007", 7, Numeral::Value(7)),
+    ("8", 7, Numeral::Above),
+    ("0000000000000000000000000000009", 9, Numeral::Value(9)),
+    ("4294967296", 4_294_967_295, Numeral::Above),
+    ("18446744073709551615", u64::MAX, Numeral::Value(u64::MAX)),
+    ("18446744073709551616", u64::MAX, Numeral::Above),
+];
+
 #[test]
 fn digits_write_numbers(rt: HostRuntime) {
-    let cases: [(&[u8], u64, Numeral); 9] = [
-        (b"", 9, Numeral::NotDigits),
-        (b"+1", 9, Numeral::NotDigits),
-        (b"99999999999999999999x", 9, Numeral::NotDigits),
-        (b"007", 7, Numeral::Value(7)),
-        (b"8", 7, Numeral::Above),
-        (b"0000000000000000000000000000009", 9, Numeral::Value(9)),
-        (b"4294967296", 4_294_967_295, Numeral::Above),
-        (b"18446744073709551615", u64::MAX, Numeral::Value(u64::MAX)),
-        (b"18446744073709551616", u64::MAX, Numeral::Above),
-    ];
-    for (text, greatest, wanted) in cases {
-        assert_eq!(rt; decimal(text, greatest), wanted);
+    for (text, greatest, wanted) in NUMERALS {
+        assert_eq!(rt; decimal(text.as_bytes(), *greatest), *wanted, "{text:?}");
     }
 }
 

@@ -39,13 +39,25 @@ fn a_folder_gives_its_files_in_pieces(rt: HostRuntime) -> Result<(), Fail> {
 }
 
 #[test]
-fn pieces_have_their_size(rt: HostRuntime) -> Result<(), Fail> {
+fn pieces_of_a_folder_have_their_size(rt: HostRuntime) -> Result<(), Fail> {
     let alloc = rt.alloc();
     let mut folder = MemoryFolder::new(two_files(alloc)?, Vec::new(alloc)).with_piece(1);
     folder.select("a")?;
     assert_eq!(rt; three_reads(&mut folder), [Some(1), Some(1), Some(1)]);
+    Ok(())
+}
+
+#[test]
+fn pieces_of_a_source_have_their_size(rt: HostRuntime) -> Result<(), Fail> {
+    let alloc = rt.alloc();
     let mut source = MemorySource::new([7, 8, 9].to_vec(alloc)?, Vec::new(alloc)).with_piece(1);
     assert_eq!(rt; three_reads(&mut source), [Some(1), Some(1), Some(1)]);
+    Ok(())
+}
+
+#[test]
+fn pieces_of_a_sink_have_their_size(rt: HostRuntime) -> Result<(), Fail> {
+    let alloc = rt.alloc();
     let mut sink = MemorySink::new(alloc, 5, Vec::new(alloc)).with_piece(2);
     assert_eq!(rt; sink.write(b"abc"), Ok(2));
     put_all(&mut sink, b"cde")?;

@@ -24,7 +24,7 @@ fn fault_of(
     requires line { limits.line ≤ 65536 }
     requires file { limits.file ≤ 2 ^ 63 }
 {
-    let folder = folder_of(alloc, &[("T", text)], Vec::new(alloc))?;
+    let folder = folder_of(alloc, &[("T", text)])?;
     let mut folder = folder.with_piece(size.max(1));
     if folder.select("T").is_err() {
         return Ok(Some(FileFault::Read));
@@ -35,18 +35,23 @@ fn fault_of(
     }
 }
 
+/// A text, and the kind and the line of its fault.
+const FAULTS: &[(&str, LineKind, u64)] = &[
+    ("p sp 2 0\na 1 2 1", LineKind::CountWrong, 2),
+    ("a 1 2 1", LineKind::NoProblem, 1),
+    ("p sp 2 1\np sp 2 1", LineKind::SecondProblem, 2),
+    ("p sp 2 1\na 1 3 4294967296", LineKind::NodeRange, 2),
+    ("p sp 0 1", LineKind::SizeRange, 1),
+    ("", LineKind::NoProblem, 1),
+];
+
 #[test]
 fn texts_have_their_faults(rt: HostRuntime) -> Result<(), Fail> {
-    let cases = [
-        ("p sp 2 0\na 1 2 1", LineKind::CountWrong, 2),
-        ("a 1 2 1", LineKind::NoProblem, 1),
-        ("p sp 2 1\np sp 2 1", LineKind::SecondProblem, 2),
-        ("p sp 2 1\na 1 3 4294967296", LineKind::NodeRange, 2),
-        ("p sp 0 1", LineKind::SizeRange, 1),
-        ("", LineKind::NoProblem, 1),
-    ];
-    for (text, kind, line) in cases {
-        let want = Some(FileFault::Line { kind, line });
+    for (text, kind, line) in FAULTS {
+        let want = Some(FileFault::Line {
+            kind: *kind,
+            line: *line,
+        });
         for size in [1, usize::MAX] {
             assert!(rt; fault_of(rt.alloc(), text, WIDE, size)? == want, "{text:?}");
         }
@@ -54,25 +59,34 @@ fn texts_have_their_faults(rt: HostRuntime) -> Result<(), Fail> {
     Ok(())
 }
 
+const SHORT_LINES: FileLimits = FileLimits {
+    line: 8,
+    file: 1 << 29,
+};
+
+const SHORT_FILE: FileLimits = FileLimits {
+    line: 65536,
+    file: 9,
+};
+
 #[test]
-fn limits_are_met(rt: HostRuntime) -> Result<(), Fail> {
-    let alloc = rt.alloc();
+fn lines_have_a_limit(rt: HostRuntime) -> Result<(), Fail> {
+    let kind = LineKind::LineTooLong;
+    let want = Some(FileFault::Line { kind, line: 2 });
     for size in [1, usize::MAX] {
-        let narrow = FileLimits {
-            line: 8,
-            file: 1 << 29,
-        };
-        let kind = LineKind::LineTooLong;
-        let want = Some(FileFault::Line { kind, line: 2 });
-        assert!(rt; fault_of(alloc, "p sp 1 0\nc 3456789", narrow, size)? == want);
-        let short = FileLimits {
-            line: 65536,
-            file: 9,
-        };
-        assert!(rt; fault_of(alloc, "p sp 1 0\n", short, size)? == None);
-        let kind = LineKind::FileTooLong;
-        let want = Some(FileFault::Line { kind, line: 2 });
-        assert!(rt; fault_of(alloc, "p sp 1 0\n\n", short, size)? == want);
+        let fault = fault_of(rt.alloc(), "p sp 1 0\nc 3456789", SHORT_LINES, size)?;
+        assert!(rt; fault == want);
+    }
+    Ok(())
+}
+
+#[test]
+fn files_have_a_limit(rt: HostRuntime) -> Result<(), Fail> {
+    let kind = LineKind::FileTooLong;
+    let want = Some(FileFault::Line { kind, line: 2 });
+    for size in [1, usize::MAX] {
+        assert!(rt; fault_of(rt.alloc(), "p sp 1 0\n", SHORT_FILE, size)? == None);
+        assert!(rt; fault_of(rt.alloc(), "p sp 1 0\n\n", SHORT_FILE, size)? == want);
     }
     Ok(())
 }

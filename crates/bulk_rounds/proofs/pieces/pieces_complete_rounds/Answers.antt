@@ -1,4 +1,4 @@
-use Rattle.bulk_rounds.proofs.PieceLaws.{pieces_complete}
+use Rattle.bulk_rounds.proofs.CompletesLaws.{pieces_complete}
 use Rattle.bulk_rounds.proofs.pieces.pieces_complete_rounds.Goals as goal
 
 pub returns : goal.returns

@@ -1,8 +1,5 @@
-use Rattle.bulk_rounds.proofs.BudgetLaws.{passes_where_more, within_where_none_stays}
+use Rattle.bulk_rounds.proofs.RoundLaws.{passes_where_more, within_where_none_stays}
 use Rattle.bulk_rounds.proofs.rounds.rounds_tell_the_budget.Goals as goal
 
-pub returns-clause-passes : goal.returns-clause-passes
-returns-clause-passes c = λ task s budget is reached. passes_where_more task is s reached budget
-
-pub returns-clause-stays_within : goal.returns-clause-stays_within
-returns-clause-stays_within c = λ task s budget is reached. within_where_none_stays task is s reached budget
+pub returns : goal.returns
+returns c = search (passes_where_more, within_where_none_stays)

@@ -1,8 +1,8 @@
 use Rattle.event_machine.proofs.Keeping.{settled_stays, entries_stand}
 use Rattle.event_machine.proofs.finality.entries_below_settled_labels_stand.Goals as goal
 
-pub returns-clause-settled : goal.returns-clause-settled
-returns-clause-settled c = λ task s next event l is reached. settled_stays task is s reached next event l
-
-pub returns-clause-entries : goal.returns-clause-entries
-returns-clause-entries c = λ task s next event l y is reached. entries_stand task is s reached next event l y
+pub returns : goal.returns
+returns c = record {
+  settled = λ task s next event l is reached. settled_stays task is s reached next event l;
+  entries = λ task s next event l y is reached. entries_stand task is s reached next event l y;
+}

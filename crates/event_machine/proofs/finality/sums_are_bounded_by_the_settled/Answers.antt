@@ -1,5 +1,5 @@
 use Rattle.event_machine.proofs.Keeping.{sound_if_reached}
-use Rattle.event_machine.proofs.Bounding.{known_is_bounded}
+use Rattle.event_machine.proofs.Sound.{known_is_bounded}
 use Rattle.event_machine.proofs.finality.sums_are_bounded_by_the_settled.Goals as goal
 
 pub returns : goal.returns

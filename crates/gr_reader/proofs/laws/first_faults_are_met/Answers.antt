@@ -2,4 +2,4 @@ use Rattle.gr_reader.proofs.LawsLemmas.{first_faults_are_met}
 use Rattle.gr_reader.proofs.laws.first_faults_are_met.Goals as goal
 
 pub returns : goal.returns
-returns c = first_faults_are_met
+returns g c = first_faults_are_met g.G.Grammar.rules

@@ -6,7 +6,7 @@ pub returns-clause-first_part : goal.returns-clause-first_part
 returns-clause-first_part c = λ net p q s v t b cost is. front_is_backward_least net is p q s v t b cost
 
 pub returns-clause-last_arc : goal.returns-clause-last_arc
-returns-clause-last_arc c = λ net p q s v k j cost is. last_arc_is_least net is p q s v k j cost
+returns-clause-last_arc c = last_arc_is_least
 
 pub returns-clause-one_arc_more : goal.returns-clause-one_arc_more
 returns-clause-one_arc_more c = λ net p s u v k b w is. with_last_arc net is p s u v k b w

@@ -11,4 +11,4 @@ pub returns-clause-before_arc : goal.returns-clause-before_arc
 returns-clause-before_arc c = λ net p s u v k b w is. best_before net is p s u v k b w
 
 pub returns-clause-at_the_start : goal.returns-clause-at_the_start
-returns-clause-at_the_start c = λ net s t limit is. start_is_relevant net is s t limit
+returns-clause-at_the_start c = start_is_relevant

@@ -1,7 +1,7 @@
 use Rattle.std.proofs.Common.{arith}
 use Rattle.std.proofs.lemmas.Result.{err_from_is_err_and}
 use Rattle.route_top.proofs.SentFirst.{all_sent, more_sent, cut_at}
-use Rattle.route_top.specs.Texts.{and_number}
+use Rattle.answer_writer.specs.Replies.{and_number}
 use Rattle.route_top.proofs.pieces.put_components.Goals as goal
 
 pub loop-place-preserved : goal.loop-place-preserved

@@ -1,5 +1,5 @@
 use Rattle.route_top.proofs.SentFirst.{SentFirst}
-use Rattle.route_top.specs.Texts.{and_number}
+use Rattle.answer_writer.specs.Replies.{and_number}
 use Rattle.route_top.proofs.pieces.put_components.Given as goal
 
 -- the components so far were sent

@@ -2,7 +2,7 @@ use Rattle.std.proofs.Common.{ℕ, List, ◌++◌, codes, length}
 use Rattle.std.specs.List.{flat_map}
 use Rattle.std.proofs.lemmas.Result.{err_from_is_err_and}
 use Rattle.route_io.proofs.SendsLemmas.{Sends-then, Sends-cut}
-use Rattle.route_top.specs.Texts.{and_number, cost_line, end_line}
+use Rattle.answer_writer.specs.Replies.{and_number, cost_line, end_line}
 use Rattle.route_top.proofs.reply.put_costs.Goals as goal
 
 -- the first line of the answer

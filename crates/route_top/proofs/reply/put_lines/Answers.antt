@@ -1,7 +1,7 @@
 use Rattle.std.proofs.Common.{arith}
 use Rattle.std.proofs.lemmas.Result.{err_from_is_err_and}
 use Rattle.route_top.proofs.SentFirst.{all_sent, more_sent, cut_at}
-use Rattle.route_top.specs.Texts.{cost_line}
+use Rattle.answer_writer.specs.Replies.{cost_line}
 use Rattle.route_top.proofs.reply.put_lines.Goals as goal
 
 pub loop-cost-preserved : goal.loop-cost-preserved

@@ -1,5 +1,5 @@
 use Rattle.route_top.proofs.SentFirst.{SentFirst}
-use Rattle.route_top.specs.Texts.{cost_line}
+use Rattle.answer_writer.specs.Replies.{cost_line}
 use Rattle.route_top.proofs.reply.put_lines.Given as goal
 
 -- the lines so far were sent

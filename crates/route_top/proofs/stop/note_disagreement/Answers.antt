@@ -1,5 +1,5 @@
 use Rattle.std.proofs.Common.{◌≡◌, ◌++◌, ◌∙◌, ℕ, List, append_assoc, codes, decimal}
-use Rattle.route_top.specs.Texts.{and_number, end_line}
+use Rattle.answer_writer.specs.Replies.{and_number, end_line}
 use Rattle.route_top.proofs.stop.note_disagreement.Goals as goal
 
 regroup : (a b c d : List ℕ) → ((a ++ b) ++ c) ++ d ≡ a ++ (b ++ (c ++ d))

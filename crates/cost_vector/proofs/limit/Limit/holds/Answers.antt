@@ -18,7 +18,7 @@ Decides-is_allowed (Some most) x = (leb-true x most, le-leb x most)
 
 pub returns : goal.returns
 returns c =
-    Decides-stored IsAllowed None 0 tt (λ p. is_allowed p.0 p.1) Decides-is_allowed
+    Decides-stored IsAllowed tt (λ p. is_allowed p.0 p.1) Decides-is_allowed
     (are_stored c.self.invariant c.cost.invariant c.self.view_is c.cost.view_is c.requires) _
     (all_from_yields_List (λ p. is_allowed p.0 p.1) c.all.new.self _ _ c.all.ensures.ran
     (YieldsList-from_zip (YieldsList-from_slice c.self.inside.places cc) (YieldsList-from_slice c.cost.inside.places cc))

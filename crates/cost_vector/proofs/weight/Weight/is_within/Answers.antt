@@ -7,7 +7,7 @@ use Rattle.cost_vector.proofs.weight.Weight.is_within.Goals as goal
 
 pub returns : goal.returns
 returns c =
-    Decides-stored ◌≤◌ 0 0 (lit≤ tt) (λ p. nat_le p.0 p.1) (λ x y. (leb-true x y, le-leb x y))
+    Decides-stored ◌≤◌ (lit≤ tt) (λ p. nat_le p.0 p.1) (λ x y. (leb-true x y, le-leb x y))
     (are_stored c.self.invariant c.cost.invariant c.self.view_is c.cost.view_is c.requires) _
     (all_from_yields_List (λ p. nat_le p.0 p.1) c.all.new.self _ _ c.all.ensures.ran
     (YieldsList-from_zip (YieldsList-from_slice c.self.inside.places cc) (YieldsList-from_slice c.cost.inside.places cc))

@@ -1,0 +1,2 @@
+pub mod GathersLemmas
+pub mod RouteLemmas

@@ -1,0 +1,4 @@
+pub mod Replies
+pub mod Forms
+pub mod Pages
+pub mod Pieces

@@ -1,0 +1,12 @@
+//! The replies to queries as texts: answers of costs and of walks, and refusals.
+#![tactic(auto)]
+
+mod answer;
+mod form;
+mod page;
+mod piece;
+mod refusal;
+
+pub use answer::put_answer;
+pub use form::Form;
+pub use refusal::put_refusal;

@@ -1,0 +1,5 @@
+mod faults;
+mod many;
+mod rows;
+mod stores;
+mod threads;

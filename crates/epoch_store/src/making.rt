@@ -1,0 +1,114 @@
+//! How a store is made.
+ghost use Rattle.std.specs.Prelude.{◌≡◌, ◌≤◌, ◌<◌, [], All, IfOk, vec_len};
+ghost use Rattle.epoch_store.specs.Origin.{max_readers};
+ghost use Rattle.epoch_store.specs.Standing.{opening_of};
+
+use crate::chronicle::{Chronicle, Witness};
+use crate::operator::Operator;
+use crate::published::Published;
+use crate::reader::{EpochReader, Shown};
+use crate::rule::StoreWriter;
+use crate::store::Store;
+use arc_graph::Weights;
+use cost_vector::OutOfMemory;
+use std::alloc::Global;
+use std::mem::ManuallyDrop;
+
+/// Makes a store with an operator and so many readers, 1 to 16. The current epoch has the first number and these
+/// weights. A reader that is refused its place counts as want of memory; the memory of the store is lost then.
+pub fn make<S: Store>(
+    alloc: Global,
+    chronicle: Chronicle,
+    first: u32,
+    weights: Weights,
+    readers: u32,
+) -> Result<(Operator<S>, Vec<EpochReader<S>>), OutOfMemory>
+    requires chronicle { chronicle ≡ S.origin.chronicle }
+    requires first { first ≡ S.origin.first }
+    requires weights { weights ≡ S.origin.base }
+    requires one { 1 ≤ readers }
+    requires most { readers ≤ max_readers }
+    ensures operator { IfOk result (λ r. r.0 ≡ record { published = []; pending = [] }) }
+    ensures readers { IfOk result (λ r. vec_len r.1 ≡ readers) }
+    ensures unread { IfOk result (λ r. All (λ h. h ≡ []) r.1.items) }
+{
+    let keeper = chronicle.into_keeper::<S>();
+    let history = keeper.last();
+    let shown = snapshots(alloc, first, &weights, &history, readers)?;
+    let places = Vec::with_capacity(alloc, shown.len())?;
+    let second = opening(alloc, first, weights.try_copy()?, &history)?;
+    let writer = StoreWriter::new(
+        alloc,
+        opening(alloc, first, weights, &history)?,
+        second,
+        readers as usize,
+    )?;
+    match seat_readers(&writer, shown, places) {
+        Ok(seated) => Ok((Operator::new(alloc, first, keeper, writer), seated)),
+        Err(_) => {
+            let _lost = unsafe { ManuallyDrop::new_unchecked(writer) };
+            Err(OutOfMemory)
+        }
+    }
+}
+
+/// What readers find before the first publication.
+fn opening<S: Store>(
+    alloc: Global,
+    first: u32,
+    weights: Weights,
+    history: &Witness<S>,
+) -> Result<Published<S>, OutOfMemory>
+    requires weights { weights ≡ S.origin.base }
+    requires nothing { history.now ≡ [] }
+    ensures { IfOk result (λ p. p ≡ opening_of S.origin first) }
+{
+    let pages = vec![in alloc; first; weights.pages()]?;
+    Ok(Published {
+        number: first,
+        closed: false,
+        weights,
+        pages,
+        history: history.again(),
+    })
+}
+
+/// A snapshot of the first epoch for each reader.
+fn snapshots<S: Store>(
+    alloc: Global,
+    first: u32,
+    weights: &Weights,
+    history: &Witness<S>,
+    readers: u32,
+) -> Result<Vec<Shown<S>>, OutOfMemory>
+    requires first { first ≡ S.origin.first }
+    requires weights { weights.now ≡ S.origin.base }
+    requires nothing { history.now ≡ [] }
+    ensures readers { IfOk result (λ v. vec_len v ≡ readers) }
+    ensures unread { IfOk result (λ v. All (λ h. h ≡ []) v.items) }
+{
+    let mut all = Vec::with_capacity(alloc, readers as usize)?;
+    for _ in 0..readers {
+        all.push(Shown::first(first, weights.try_copy()?, history.again()))?;
+    }
+    Ok(all)
+}
+
+/// Gives each snapshot a reader of its own, in these places.
+fn seat_readers<S: Store>(
+    writer: &StoreWriter<S>,
+    snapshots: Vec<Shown<S>>,
+    places: Vec<EpochReader<S>>,
+) -> Result<Vec<EpochReader<S>>, OutOfMemory>
+    requires unread { All (λ h. h ≡ []) snapshots.items }
+    requires vacant { vec_len places ≡ 0 }
+    ensures readers { IfOk result (λ v. vec_len v ≡ vec_len snapshots) }
+    ensures unread { IfOk result (λ v. All (λ h. h ≡ []) v.items) }
+{
+    let mut rest = snapshots;
+    let mut seated = places;
+    while let Some(shown) = rest.pop() {
+        seated.push(EpochReader::new(writer.factory().reader()?, shown))?;
+    }
+    Ok(seated)
+}

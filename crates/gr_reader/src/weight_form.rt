@@ -1,0 +1,62 @@
+ghost use Rattle.std.specs.Prelude.{◌≡◌, ◌∷◌};
+ghost use Rattle.line_text.specs.Fields.{fields_of};
+ghost use Rattle.gr_reader.specs.Grammar.{arc_from, problem_from, weights_form};
+ghost use Rattle.gr_reader.specs.WeightForms.{as_form, capped, or_malformed};
+
+use crate::fields::{number, three_fields};
+use line_text::next_field;
+
+/// What a line of a weight file says that isn't ignored, or that it has none of the forms.
+#[derive(Drop)]
+pub(crate) enum Form {
+    Problem { nodes: u64, arcs: u64 },
+    Arc { tail: u64, head: u64, weight: u64 },
+    Malformed,
+}
+
+/// What a line says.
+pub(crate) fn form_of(line: &[u8]) -> Form
+    ensures { as_form result ≡ capped (weights_form (fields_of line.now)) }
+{
+    match next_field(line) {
+        None => Form::Malformed,
+        Some((word, rest)) => form_behind(word, rest).unwrap_or(Form::Malformed),
+    }
+}
+
+/// What a line says whose first field is this word.
+fn form_behind(word: &[u8], rest: &[u8]) -> Option<Form>
+    ensures { or_malformed result ≡ capped (weights_form (word.now ∷ fields_of rest.now)) }
+{
+    if word == b"a".as_slice() {
+        arc_behind(rest)
+    } else if word == b"p".as_slice() {
+        problem_behind(rest)
+    } else {
+        None
+    }
+}
+
+/// The arc that three numbers say.
+fn arc_behind(text: &[u8]) -> Option<Form>
+    ensures { or_malformed result ≡ capped (arc_from (fields_of text.now)) }
+{
+    let (tail, head, weight) = three_fields(text)?;
+    let tail = number(tail)?;
+    let head = number(head)?;
+    let weight = number(weight)?;
+    Some(Form::Arc { tail, head, weight })
+}
+
+/// What the word `sp` and two numbers say of the file's size.
+fn problem_behind(text: &[u8]) -> Option<Form>
+    ensures { or_malformed result ≡ capped (problem_from (fields_of text.now)) }
+{
+    let (word, nodes, arcs) = three_fields(text)?;
+    if word != b"sp".as_slice() {
+        return None;
+    }
+    let nodes = number(nodes)?;
+    let arcs = number(arcs)?;
+    Some(Form::Problem { nodes, arcs })
+}

@@ -1,0 +1,172 @@
+-- Blocks of entries, and their corners.
+use Rattle.std.proofs.Common.{◌≡◌, ℕ, ◌+◌, ◌-◌, ◌*◌, ◌/◌, ◌<◌, ◌≤◌, inl, inr, List, [], ◌∷◌, ◌++◌, length, take, drop, get_or, set, min, refl, sym, ap}
+use Rattle.std.proofs.Common.{subst, ◌∙◌, arith}
+use Rattle.std.specs.Prelude.{All}
+use Rattle.std.proofs.Math.Nat.{div-lt_iff_lt-mul}
+use Rattle.std.proofs.lemmas.Bool.{cases_lt, cases_eq}
+use Rattle.std.proofs.lemmas.Nat.{div-mul-add}
+use Rattle.std.proofs.lemmas.List.{get_or-take, get_or-drop, get_or_append_left, get_or_push, get_or-set_same, get_or-set_other}
+use Rattle.std.proofs.lemmas.List.{take_all, length-take, length-drop, length-set, length_push}
+use Rattle.cost_vector.specs.Costs.{AtMost}
+use Rattle.cost_vector.proofs.Vectors.{AtMost-refl, AtMost-trans}
+use Rattle.compact_labels.specs.declared.cost.CompactCost.{CompactCost}
+use Rattle.pareto_front.specs.declared.front.FrontEntry.{FrontEntry}
+use Rattle.pareto_front.specs.Blocks.{CoversAt, CoversNone, HaveCorners}
+
+-- an element of a part of a list
+module _ {X : Type 0} (n m : ℕ) (xs : List X) (k : ℕ) (inside : k < length (take n (drop m xs))) where
+  pub within_part : k < n
+  within_part = omega (arith, inside, length-take n (drop m xs))
+
+  pub within_whole : m + k < length xs
+  within_whole = omega (arith, inside, length-take n (drop m xs), length-drop m xs)
+
+  pub get_or-part : (d : X) → get_or (take n (drop m xs)) k d ≡ get_or xs (m + k) d
+  get_or-part d = get_or-take n (drop m xs) k d within_part ∙ get_or-drop m xs k d
+
+-- what holds of a part and of all before it
+all_more : {X : Type 0} (P : X → Type 0) (n m : ℕ) (xs : List X) → All P (take m xs) → All P (take n (drop m xs)) → All P (take (m + n) xs)
+all_more P n m xs front part = λ k d within.
+    let long = length-take (m + n) xs in
+    elim (cases_lt k m) [
+      | inl before ↦
+          let inside : k < length (take m xs) = omega (arith, within, long, length-take m xs) in
+          subst P (get_or-take m xs k d before ∙ sym (get_or-take (m + n) xs k d (omega arith))) (front k d inside)
+      | inr behind ↦
+          let i : ℕ = k - m in
+          let inside : i < length (take n (drop m xs)) = omega (arith, within, long, length-take n (drop m xs), length-drop m xs) in
+          let there : get_or xs (m + i) d ≡ get_or xs k d = ap (λ j. get_or xs j d) (omega arith) in
+          subst P (get_or-part n m xs i inside d ∙ there ∙ sym (get_or-take (m + n) xs k d (omega (arith, within, long)))) (part i d inside)
+    ]
+
+-- a block more without an entry that is at most a cost, and all blocks
+pub none_more : {D : ℕ} (size b : ℕ) (list : List (FrontEntry D)) (c : List ℕ) → CoversNone (take (b * size) list) c
+    → CoversNone (take size (drop (b * size) list)) c → CoversNone (take ((b + 1) * size) list) c
+none_more {D} size b list c before block =
+    let more : b * size + size ≡ (b + 1) * size = omega arith in
+    subst (λ n. CoversNone (take n list) c) more (all_more (λ (e : FrontEntry D). ¬ AtMost e.cost.0 c) size (b * size) list before block)
+
+pub none_at_all : {D : ℕ} (n : ℕ) (list : List (FrontEntry D)) (c : List ℕ) → length list ≤ n → CoversNone (take n list) c → CoversNone list c
+none_at_all n list c past none = subst (λ l. CoversNone l c) (take_all n list past) none
+
+-- an entry of a part that is at most a cost
+pub covers_in_part : {D : ℕ} (n m : ℕ) (list : List (FrontEntry D)) (c : List ℕ) (i : ℕ) → CoversAt (take n (drop m list)) c i → CoversAt list c (m + i)
+covers_in_part {D} n m list c i there = record {
+  within = within_whole n m list i there.within;
+  at_most = λ e. subst (λ (x : FrontEntry D). AtMost x.cost.0 c) (get_or-part n m list i there.within e) (there.at_most e);
+}
+
+module _ {D : ℕ} (size : ℕ) {settled : List (FrontEntry D)} {corners : List (CompactCost D)} (have : HaveCorners size settled corners) where
+  -- a block whose corner isn't at most a cost has no entry that is
+  pub passed_over : (c : List ℕ) (b : ℕ) (corner : CompactCost D) → corner ≡ get_or corners b corner → ¬ AtMost corner.0 c
+      → CoversNone (take size (drop (b * size) settled)) c
+  passed_over c b corner is above = λ k d inside below.
+      let j : ℕ = b * size + k in
+      let near = within_part size (b * size) settled k inside in
+      let corner_is : get_or corners (j / size) corner ≡ corner = ap (λ i. get_or corners i corner) (div-mul-add b size k near) ∙ sym is in
+      let under : AtMost corner.0 (get_or settled j d).cost.0 =
+      subst (λ (x : CompactCost D). AtMost x.0 (get_or settled j d).cost.0) corner_is
+      (have.at_most j d corner (within_whole size (b * size) settled k inside)) in
+      let there = subst (λ (x : FrontEntry D). AtMost x.cost.0 c) (get_or-part size (b * size) settled k inside d) below in
+      above (AtMost-trans corner.0 (get_or settled j d).cost.0 c under there)
+
+  -- corners are about costs alone
+  pub corners_relabelled : (i : ℕ) (x : FrontEntry D) → ((d : FrontEntry D) → (get_or settled i d).cost ≡ x.cost)
+      → HaveCorners size (set settled i x) corners
+  corners_relabelled i x same = record {
+    enough = omega (arith, have.enough, length-set settled i x);
+    no_more = omega (arith, have.no_more, length-set settled i x);
+    at_most = λ j e c inside.
+        let old : j < length settled = omega (arith, inside, length-set settled i x) in
+        let corner : CompactCost D = get_or corners (j / size) c in
+        elim (cases_eq j i) [
+          | inl here ↦
+              let is : get_or (set settled i x) j e ≡ x =
+              ap (λ k. get_or (set settled i x) k e) here ∙ get_or-set_same settled i x e (omega (arith, here, old)) in
+              let cost_is : (get_or settled j e).cost ≡ x.cost = ap (λ k. (get_or settled k e).cost) here ∙ same e in
+              rw is (subst (λ (y : CompactCost D). AtMost corner.0 y.0) cost_is (have.at_most j e c old))
+          | inr other ↦ rw (get_or-set_other settled i j x e other) (have.at_most j e c old)
+        ];
+  }
+
+  -- one entry more: its block has a corner, or it begins a block
+  module _ (some : 0 < size) (entry : FrontEntry D) where
+    long : length (settled ++ entry ∷ []) ≡ length settled + 1
+    long = length_push settled entry
+
+    pub corner_met : (corner met : CompactCost D) → length settled / size < length corners → corner ≡ get_or corners (length settled / size) corner
+        → AtMost met.0 corner.0 → AtMost met.0 entry.cost.0 → HaveCorners size (settled ++ entry ∷ []) (set corners (length settled / size) met)
+    corner_met corner met within is under_corner under_entry = record {
+      enough = omega (arith, (div-lt_iff_lt-mul some).0 within, as_many, long);
+      no_more = omega (arith, have.no_more, as_many, long);
+      at_most = λ j e c inside.
+          let met_there : get_or (set corners b met) b c ≡ met = get_or-set_same corners b met c within in
+          elim (cases_lt j (length settled)) [
+            | inl old ↦ rw (get_or_append_left settled (entry ∷ []) e j old) (elim (cases_eq (j / size) b) [
+              | inl here ↦
+                  let below : AtMost corner.0 (get_or settled j e).cost.0 =
+                  subst (λ (x : CompactCost D). AtMost x.0 (get_or settled j e).cost.0) (ap (λ i. get_or corners i corner) here ∙ sym is)
+                  (have.at_most j e corner old) in
+                  rw (here, met_there) (AtMost-trans met.0 corner.0 (get_or settled j e).cost.0 under_corner below)
+              | inr other ↦ rw (get_or-set_other corners b (j / size) met c other) (have.at_most j e c old)
+            ])
+            | inr last ↦
+                let here : j ≡ length settled = omega (arith, inside, long) in
+                rw (here, get_or_push settled entry e (length settled) refl, met_there) under_entry
+          ];
+    } where
+      b : ℕ
+      b = length settled / size
+
+      as_many : length (set corners b met) * size ≡ length corners * size
+      as_many = ap (λ n. n * size) (length-set corners b met)
+
+    pub corner_begun : length corners ≤ length settled / size → HaveCorners size (settled ++ entry ∷ []) (corners ++ entry.cost ∷ [])
+    corner_begun none = record {
+      enough = omega (arith, have.enough, some, one_more, long);
+      no_more = omega (arith, full, one_more, long);
+      at_most = λ j e c inside.
+          elim (cases_lt j (length settled)) [
+            | inl old ↦
+                let block : j / size < length corners = (div-lt_iff_lt-mul some).1 (omega (arith, old, have.enough)) in
+                rw (get_or_append_left settled (entry ∷ []) e j old, get_or_append_left corners (entry.cost ∷ []) c (j / size) block)
+                (have.at_most j e c old)
+            | inr last ↦
+                let here : j ≡ length settled = omega (arith, inside, long) in
+                rw (here, get_or_push settled entry e (length settled) refl, get_or_push corners entry.cost c (length settled / size) begins)
+                (AtMost-refl entry.cost.0)
+          ];
+    } where
+      one_more : length (corners ++ entry.cost ∷ []) * size ≡ length corners * size + size
+      one_more = ap (λ n. n * size) (length_push corners entry.cost) ∙ omega arith
+
+      full : length corners * size ≤ length settled
+      full = elim (cases_lt (length settled) (length corners * size)) [
+        | inl short ↦ absurd (omega (arith, none, (div-lt_iff_lt-mul some).1 short))
+        | inr past ↦ past
+      ]
+
+      begins : length corners ≡ length settled / size
+      begins =
+          let next : length settled < (length corners + 1) * size = omega (arith, have.enough, some) in
+          let below : length settled / size < length corners + 1 = (div-lt_iff_lt-mul some).1 next in
+          omega (arith, none, below)
+
+-- the corners of a wide block, which has 8 blocks of 16
+pub corners_of_part : {D : ℕ} (b : ℕ) {settled : List (FrontEntry D)} {corners : List (CompactCost D)} → HaveCorners 16 settled corners
+    → HaveCorners 16 (take 128 (drop (b * 128) settled)) (take 8 (drop (b * 8) corners))
+corners_of_part {D} b {settled} {corners} have = record {
+  enough = omega (arith, have.enough, part, inner);
+  no_more = omega (arith, have.no_more, part, inner);
+  at_most = λ j e c inside.
+      let i : ℕ = b * 128 + j in
+      let block : b * 8 + j / 16 ≡ i / 16 = omega arith in
+      let there = within_whole 128 (b * 128) settled j inside in
+      let near : j / 16 < length (take 8 (drop (b * 8) corners)) = omega (arith, have.enough, have.no_more, part, inner, inside, there) in
+      rw (get_or-part 128 (b * 128) settled j inside e, get_or-part 8 (b * 8) corners (j / 16) near c, block) (have.at_most i e c there);
+} where
+  part : length (take 128 (drop (b * 128) settled)) ≡ min 128 (length settled - b * 128)
+  part = length-take 128 (drop (b * 128) settled) ∙ ap (min 128) (length-drop (b * 128) settled)
+
+  inner : length (take 8 (drop (b * 8) corners)) ≡ min 8 (length corners - b * 8)
+  inner = length-take 8 (drop (b * 8) corners) ∙ ap (min 8) (length-drop (b * 8) corners)

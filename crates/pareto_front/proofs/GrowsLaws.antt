@@ -1,0 +1,130 @@
+-- Lists to which the spots of a kind are added one by one.
+use Rattle.std.proofs.Common.{◌≡◌, ◌≢◌, ◌↔◌, ◌⊎◌, inl, inr, ℕ, ◌+◌, ◌<◌, ◌≤◌, List, [], ◌∷◌, ◌++◌, length, map, take, get_or, sym, ap, subst, ◌∙◌, append_assoc}
+use Rattle.std.specs.Prelude.{AllPairs, Contains}
+use Rattle.std.proofs.lemmas.List.{append-nil, map_push, take_all, take_more, take-map}
+use Rattle.std.proofs.lemmas.List.Elements.{All-nil, All-push, Contains-append_left, Contains-push}
+use Rattle.cost_vector.specs.Costs.{Dominates}
+use Rattle.cost_vector.proofs.Vectors.{AtMost-refl}
+use Rattle.compact_labels.specs.declared.label.CompactSpot.{CompactSpot}
+use Rattle.list_laws.specs.Sets.{ListsOnce}
+use Rattle.list_laws.proofs.Members.{in_none, in_first, cases_push}
+use Rattle.list_laws.proofs.Pairs.{pairs_none, pairs_push, pairs_take}
+use Rattle.pareto_front.specs.declared.front.FrontEntry.{FrontEntry}
+use Rattle.pareto_front.specs.Fronts.{Entry, AreIncomparable, HasCost}
+use Rattle.pareto_front.specs.Calls.{GrowsBy, told_entry}
+use Rattle.pareto_front.proofs.FrontLaws.{pairs_across}
+
+-- one thing more is of a kind
+lists_more : {X : Type 0} (P Q : X → Type 0) (xs : List X) (y : X) → ListsOnce P xs → ¬ P y → ((x : X) → Q x ↔ (P x ⊎ (x ≡ y))) → ListsOnce Q (xs ++ y ∷ [])
+lists_more P Q xs y lists new alike = record {
+  exact = λ x. (
+    λ h. (alike x).1 (elim (cases_push xs y x h) [ inl old ↦ inl ((lists.exact x).0 old) | inr last ↦ inr last ]),
+    λ h. elim ((alike x).0 h) [
+      | inl old ↦ Contains-append_left xs (y ∷ []) x ((lists.exact x).1 old)
+      | inr last ↦ subst (Contains (xs ++ y ∷ [])) (sym last) (Contains-push xs y)
+    ],
+  );
+  once = pairs_push ◌≢◌ xs y lists.once (λ x h same. new (subst P same ((lists.exact x).0 h)));
+}
+
+module _ {D : ℕ} (v : ℕ) (P Q : List ℕ → Type 0) (xs ys : List (CompactSpot D)) where
+  -- nothing is of the kind
+  pub grows_none : ((c : List ℕ) → ¬ P c) → GrowsBy v P xs xs
+  grows_none none = record {
+    more = [];
+    appended = sym (append-nil xs);
+    node = All-nil (λ (s : CompactSpot D). s.node.0 ≡ v);
+    costs = record { exact = λ c. (λ h. absurd (in_none c h), λ h. absurd (none c h)); once = pairs_none ◌≢◌ };
+  }
+
+  -- the same is of another kind
+  pub grows_as : ((c : List ℕ) → P c ↔ Q c) → GrowsBy v P xs ys → GrowsBy v Q xs ys
+  grows_as alike grown = record {
+    more = grown.more;
+    appended = grown.appended;
+    node = grown.node;
+    costs = record {
+      exact = λ c. (λ h. (alike c).0 ((grown.costs.exact c).0 h), λ h. (grown.costs.exact c).1 ((alike c).1 h));
+      once = grown.costs.once;
+    };
+  }
+
+  -- one cost more is of the kind
+  pub grows_more : GrowsBy v P xs ys → (s : CompactSpot D) → s.node.0 ≡ v → ¬ P s.cost.0 → ((c : List ℕ) → Q c ↔ (P c ⊎ (c ≡ s.cost.0)))
+      → GrowsBy v Q xs (ys ++ s ∷ [])
+  grows_more grown s there new alike = record {
+    more = grown.more ++ s ∷ [];
+    appended = ap (λ l. l ++ s ∷ []) grown.appended ∙ append_assoc xs grown.more (s ∷ []);
+    node = All-push (λ (t : CompactSpot D). t.node.0 ≡ v) grown.more s grown.node there;
+    costs = rw (map_push (λ (t : CompactSpot D). t.cost.0) grown.more s)
+        (lists_more P Q (map (λ (t : CompactSpot D). t.cost.0) grown.more) s.cost.0 grown.costs new alike);
+  }
+
+-- the costs of the entries up to a place, and that of the next one
+module _ {D : ℕ} (list : List (FrontEntry D)) (i : ℕ) (x : FrontEntry D) (within : i < length list) (is : x ≡ get_or list i x) where
+  one_more : map told_entry (take (i + 1) list) ≡ map told_entry (take i list) ++ told_entry x ∷ []
+  one_more =
+      ap (map told_entry) (take_more list i x within ∙ ap (λ y. take i list ++ y ∷ []) (sym is)) ∙ map_push told_entry (take i list) x
+
+  pub has_cost_more : (c : List ℕ) → HasCost (map told_entry (take (i + 1) list)) c ↔ (HasCost (map told_entry (take i list)) c ⊎ (c ≡ x.cost.0))
+  has_cost_more c = (
+    λ h. elim (cases_push (map told_entry (take i list)) (told_entry x) (record { cost = c; arc = h.arc })
+        (subst (λ l. Contains l (record { cost = c; arc = h.arc })) one_more h.contains)) [
+          | inl old ↦ inl (record { arc = h.arc; contains = old })
+          | inr last ↦ inr (ap (λ (e : Entry). e.cost) last)
+        ],
+    λ either. elim either [
+      | inl old ↦ record {
+        arc = old.arc;
+        contains = rw one_more (Contains-append_left (map told_entry (take i list)) (told_entry x ∷ []) (record { cost = c; arc = old.arc }) old.contains);
+      }
+      | inr last ↦ record {
+        arc = x.arc.0;
+        contains = rw (one_more, last) (Contains-push (map told_entry (take i list)) (told_entry x));
+      }
+    ],
+  )
+
+  pub not_before : AllPairs AreIncomparable (map told_entry list) → ¬ HasCost (map told_entry (take i list)) x.cost.0
+  not_before pairs h =
+      let front = subst (AllPairs AreIncomparable) (take-map told_entry (i + 1) list ∙ one_more)
+      (pairs_take AreIncomparable (i + 1) (map told_entry list) pairs) in
+      (pairs_across AreIncomparable (map told_entry (take i list)) (told_entry x ∷ []) front (record { cost = x.cost.0; arc = h.arc }) (told_entry x) h.contains
+      (in_first (told_entry x) [])).one_way (AtMost-refl x.cost.0)
+
+-- the costs of the entries before a place that a cost dominates
+abbrev pub DominatedBefore : {D : ℕ} → List ℕ → List (FrontEntry D) → ℕ → List ℕ → Type 0
+DominatedBefore by list i c = HasCost (map told_entry (take i list)) c × Dominates by c
+
+-- one place on, at the entry x
+module _ {D : ℕ} (v : ℕ) (by : List ℕ) (list : List (FrontEntry D)) (i : ℕ) (x : FrontEntry D) (within : i < length list) (is : x ≡ get_or list i x)
+    (xs ys : List (CompactSpot D)) (grown : GrowsBy v (DominatedBefore by list i) xs ys) where
+  pub finds_more : AllPairs AreIncomparable (map told_entry list) → Dominates by x.cost.0 → (s : CompactSpot D) → s.node.0 ≡ v → s.cost.0 ≡ x.cost.0
+      → GrowsBy v (DominatedBefore by list (i + 1)) xs (ys ++ s ∷ [])
+  finds_more pairs dominated s there same =
+      grows_more v (DominatedBefore by list i) (DominatedBefore by list (i + 1)) xs ys grown s there
+      (λ h. not_before list i x within is pairs (subst (HasCost (map told_entry (take i list))) same h.0))
+      (λ c. (
+        λ h. elim ((has_cost_more list i x within is c).0 h.0) [ inl old ↦ inl (old, h.1) | inr last ↦ inr (last ∙ sym same) ],
+        λ either. elim either [
+          | inl old ↦ ((has_cost_more list i x within is c).1 (inl old.0), old.1)
+          | inr last ↦ ((has_cost_more list i x within is c).1 (inr (last ∙ same)), subst (Dominates by) (sym (last ∙ same)) dominated)
+        ],
+      ))
+
+  pub finds_no_more : ¬ Dominates by x.cost.0 → GrowsBy v (DominatedBefore by list (i + 1)) xs ys
+  finds_no_more spared =
+      grows_as v (DominatedBefore by list i) (DominatedBefore by list (i + 1)) xs ys
+      (λ c. (
+        λ h. ((has_cost_more list i x within is c).1 (inl h.0), h.1),
+        λ h. elim ((has_cost_more list i x within is c).0 h.0) [
+          | inl old ↦ (old, h.1)
+          | inr last ↦ absurd (spared (subst (Dominates by) last h.1))
+        ],
+      )) grown
+
+-- all entries stand before the place
+pub finds_all : {D : ℕ} (v : ℕ) (by : List ℕ) (list : List (FrontEntry D)) (i : ℕ) (xs ys : List (CompactSpot D)) → length list ≤ i
+    → GrowsBy v (DominatedBefore by list i) xs ys → GrowsBy v (λ c. HasCost (map told_entry list) c × Dominates by c) xs ys
+finds_all {D} v by list i xs ys past grown =
+    subst (λ (l : List (FrontEntry D)). GrowsBy v (λ c. HasCost (map told_entry l) c × Dominates by c) xs ys) (take_all i list past) grown

@@ -1,0 +1,24 @@
+-- What `retain` keeps of a list.
+use Rattle.std.proofs.Common.{◌⊎◌, inl, inr, Bool, List, map, sym, subst}
+use Rattle.std.specs.Prelude.{AllPairs, Contains}
+use Rattle.std.specs.List.Retain.{IsFiltered}
+use Rattle.std.proofs.lemmas.List.Elements.{All-map, All-weaker}
+use Rattle.list_laws.specs.Without.{IsWithout}
+use Rattle.list_laws.proofs.Members.{in_map}
+use Rattle.pareto_front.proofs.Marks.{pairs_marked}
+
+-- any two of those that are kept stood in the list
+pub pairs_by_retain : {F X : Type 0} {R : F → X → Bool → F → Type 0} {f : F} {xs ys : List X} → IsFiltered R f xs ys → (S : X → X → Type 0)
+    → AllPairs S xs → AllPairs S ys
+pairs_by_retain {xs = xs} filtered S pairs = subst (AllPairs S) (sym filtered.4) (pairs_marked S filtered.0 xs pairs)
+
+-- the images of a list without some of its members
+pub without_images : {X Y : Type 0} (f : X → Y) (P : Y → Type 0) (before after : List X) → IsWithout (λ x. P (f x)) before after
+    → IsWithout P (map f before) (map f after)
+without_images f P before after out = record {
+  old = All-map (Contains (map f before)) f after (All-weaker (Contains before) (λ x. Contains (map f before) (f x)) (in_map f before) after out.old);
+  kept = All-map (λ y. P y ⊎ Contains (map f after) y) f before
+      (All-weaker (λ x. P (f x) ⊎ Contains after x) (λ x. P (f x) ⊎ Contains (map f after) (f x))
+      (λ x either. elim either [ inl holds ↦ inl holds | inr there ↦ inr (in_map f after x there) ]) before out.kept);
+  gone = All-map (λ y. ¬ P y) f after out.gone;
+}

@@ -1,0 +1,13 @@
+pub mod Cuts
+pub mod Marks
+pub mod Neighbours
+pub mod Changes
+pub mod Entering
+pub mod Finding
+pub mod Listing
+pub mod FrontLaws
+pub mod FrontChanges
+pub mod KeptLaws
+pub mod GrowsLaws
+pub mod BlockLaws
+pub mod ToldLaws

@@ -1,0 +1,164 @@
+-- Lists with marks: the marked elements, and the others.
+use Rattle.std.proofs.Common.{◌≡◌, ℕ, zero, suc, ◌+◌, ◌<◌, ◌≤◌, Bool, true, false, not, List, [], ◌∷◌, ◌++◌, length, map, take, drop, set, get_or, inl, inr, refl, sym, ap, subst, ◌∙◌, arith}
+use Rattle.std.specs.Prelude.{AllPairs, Contains}
+use Rattle.std.specs.List.{items_where_true}
+use Rattle.std.proofs.lemmas.Bool.{false≢true}
+use Rattle.std.proofs.lemmas.List.{append-nil, take_more, drop_more, take_all, length-set, length-take, take-set-le, get_or-set_same, drop-set-lt}
+use Rattle.list_laws.proofs.Members.{in_none, in_rest, in_front, cases_in}
+use Rattle.list_laws.proofs.Pairs.{pairs_none, pairs_rest, pairs_cons, pair_with_first}
+
+-- x stands at a place whose mark is b
+pub record IsMarked {X : Type 0} (b : Bool) (bs : List Bool) (xs : List X) (x : X) : Type 0 where
+  pub place : ℕ
+  pub within : place < length xs
+  pub mark : get_or bs place false ≡ b
+  pub is : get_or xs place x ≡ x
+
+module _ {X : Type 0} where
+  -- of two lists one behind the other
+  pub marked-append : (bs : List Bool) (xs : List X) (cs : List Bool) (ys : List X) → length bs ≡ length xs
+      → items_where_true (bs ++ cs) (xs ++ ys) ≡ items_where_true bs xs ++ items_where_true cs ys
+  marked-append [] [] cs ys e = refl
+  marked-append [] (x ∷ xs) cs ys e = absurd (omega arith)
+  marked-append (b ∷ bs) [] cs ys e = absurd (omega arith)
+  marked-append (true ∷ bs) (x ∷ xs) cs ys e = ap (λ zs. x ∷ zs) (marked-append bs xs cs ys (omega arith))
+  marked-append (false ∷ bs) (x ∷ xs) cs ys e = marked-append bs xs cs ys (omega arith)
+
+  later : {b c : Bool} {bs : List Bool} {xs : List X} {x : X} (y : X) → IsMarked b bs xs x → IsMarked b (c ∷ bs) (y ∷ xs) x
+  later y m = record { place = suc m.place; within = omega (arith, m.within); mark = m.mark; is = m.is }
+
+  -- the marked elements
+  pub of_marked : (bs : List Bool) (xs : List X) (x : X) → Contains (items_where_true bs xs) x → IsMarked true bs xs x
+  of_marked [] xs x h = absurd (in_none x h)
+  of_marked (b ∷ bs) [] x h = absurd (in_none x h)
+  of_marked (true ∷ bs) (y ∷ xs) x h = elim (cases_in y (items_where_true bs xs) x h) [
+    | inl same ↦ record { place = 0; within = omega arith; mark = refl; is = sym same }
+    | inr more ↦ later y (of_marked bs xs x more)
+  ]
+  of_marked (false ∷ bs) (y ∷ xs) x h = later y (of_marked bs xs x h)
+
+  at_marked : (bs : List Bool) (xs : List X) (x : X) (k : ℕ) → k < length xs → get_or bs k false ≡ true → get_or xs k x ≡ x
+      → Contains (items_where_true bs xs) x
+  at_marked bs [] x k within mark is = absurd (omega arith)
+  at_marked [] (y ∷ xs) x k within mark is = absurd (false≢true mark)
+  at_marked (true ∷ bs) (y ∷ xs) x zero within mark is = in_front y (items_where_true bs xs) x (sym is)
+  at_marked (false ∷ bs) (y ∷ xs) x zero within mark is = absurd (false≢true mark)
+  at_marked (true ∷ bs) (y ∷ xs) x (suc k) within mark is = in_rest y (items_where_true bs xs) x (at_marked bs xs x k (omega arith) mark is)
+  at_marked (false ∷ bs) (y ∷ xs) x (suc k) within mark is = at_marked bs xs x k (omega arith) mark is
+
+  pub in_marked : (bs : List Bool) (xs : List X) (x : X) → IsMarked true bs xs x → Contains (items_where_true bs xs) x
+  in_marked bs xs x m = at_marked bs xs x m.place m.within m.mark m.is
+
+  -- the others
+  pub of_unmarked : (bs : List Bool) (xs : List X) (x : X) → Contains (items_where_true (map not bs) xs) x → IsMarked false bs xs x
+  of_unmarked [] xs x h = absurd (in_none x h)
+  of_unmarked (b ∷ bs) [] x h = absurd (in_none x (subst (λ zs. Contains zs x) (none b bs) h)) where
+    none : (b : Bool) (bs : List Bool) → items_where_true {X = X} (map not (b ∷ bs)) [] ≡ []
+    none b bs = refl
+  of_unmarked (false ∷ bs) (y ∷ xs) x h = elim (cases_in y (items_where_true (map not bs) xs) x h) [
+    | inl same ↦ record { place = 0; within = omega arith; mark = refl; is = sym same }
+    | inr more ↦ later y (of_unmarked bs xs x more)
+  ]
+  of_unmarked (true ∷ bs) (y ∷ xs) x h = later y (of_unmarked bs xs x h)
+
+  at_unmarked : (bs : List Bool) (xs : List X) (x : X) (k : ℕ) → length bs ≡ length xs → k < length xs → get_or bs k false ≡ false → get_or xs k x ≡ x
+      → Contains (items_where_true (map not bs) xs) x
+  at_unmarked bs [] x k long within mark is = absurd (omega arith)
+  at_unmarked [] (y ∷ xs) x k long within mark is = absurd (omega arith)
+  at_unmarked (false ∷ bs) (y ∷ xs) x zero long within mark is = in_front y (items_where_true (map not bs) xs) x (sym is)
+  at_unmarked (true ∷ bs) (y ∷ xs) x zero long within mark is = absurd (false≢true (sym mark))
+  at_unmarked (false ∷ bs) (y ∷ xs) x (suc k) long within mark is =
+      in_rest y (items_where_true (map not bs) xs) x (at_unmarked bs xs x k (omega arith) (omega arith) mark is)
+  at_unmarked (true ∷ bs) (y ∷ xs) x (suc k) long within mark is = at_unmarked bs xs x k (omega arith) (omega arith) mark is
+
+  pub in_unmarked : (bs : List Bool) (xs : List X) (x : X) → length bs ≡ length xs → IsMarked false bs xs x → Contains (items_where_true (map not bs) xs) x
+  in_unmarked bs xs x long m = at_unmarked bs xs x m.place long m.within m.mark m.is
+
+  -- what holds of any two elements holds of any two marked ones
+  pub pairs_marked : (R : X → X → Type 0) (bs : List Bool) (xs : List X) → AllPairs R xs → AllPairs R (items_where_true bs xs)
+  pairs_marked R [] xs pairs = pairs_none R
+  pairs_marked R (b ∷ bs) [] pairs = pairs_none R
+  pairs_marked R (true ∷ bs) (x ∷ xs) pairs =
+      pairs_cons R x (items_where_true bs xs) (λ y h. pair_with_first R x xs pairs y (member (of_marked bs xs y h)))
+      (pairs_marked R bs xs (pairs_rest R x xs pairs))
+    where
+      member : {b : Bool} {bs : List Bool} {xs : List X} {x : X} → IsMarked b bs xs x → Contains xs x
+      member m = (m.place, m.within, m.is)
+  pairs_marked R (false ∷ bs) (x ∷ xs) pairs = pairs_marked R bs xs (pairs_rest R x xs pairs)
+
+  -- marks alone tell how many elements are marked
+  pub length-marked_set : (bs : List Bool) (xs : List X) (i : ℕ) (y : X) → length (items_where_true bs (set xs i y)) ≡ length (items_where_true bs xs)
+  length-marked_set [] xs i y = refl
+  length-marked_set (b ∷ bs) [] i y = refl
+  length-marked_set (true ∷ bs) (x ∷ xs) zero y = refl
+  length-marked_set (false ∷ bs) (x ∷ xs) zero y = refl
+  length-marked_set (true ∷ bs) (x ∷ xs) (suc i) y = ap suc (length-marked_set bs xs i y)
+  length-marked_set (false ∷ bs) (x ∷ xs) (suc i) y = length-marked_set bs xs i y
+
+  -- one mark more
+  pub length-mark_more : (bs : List Bool) (xs : List X) (i : ℕ) → length bs ≡ length xs → i < length xs → get_or bs i false ≡ false
+      → length (items_where_true (set bs i true) xs) ≡ length (items_where_true bs xs) + 1
+  length-mark_more bs [] i long within mark = absurd (omega arith)
+  length-mark_more [] (x ∷ xs) i long within mark = absurd (omega arith)
+  length-mark_more (false ∷ bs) (x ∷ xs) zero long within mark = omega arith
+  length-mark_more (true ∷ bs) (x ∷ xs) zero long within mark = absurd (false≢true (sym mark))
+  length-mark_more (true ∷ bs) (x ∷ xs) (suc i) long within mark = omega (arith, length-mark_more bs xs i (omega arith) (omega arith) mark)
+  length-mark_more (false ∷ bs) (x ∷ xs) (suc i) long within mark = length-mark_more bs xs i (omega arith) (omega arith) mark
+
+  pub length-marked_le : (bs : List Bool) (xs : List X) → length (items_where_true bs xs) ≤ length xs
+  length-marked_le [] xs = omega arith
+  length-marked_le (b ∷ bs) [] = omega arith
+  length-marked_le (true ∷ bs) (x ∷ xs) = omega (arith, length-marked_le bs xs)
+  length-marked_le (false ∷ bs) (x ∷ xs) = omega (arith, length-marked_le bs xs)
+
+-- ys began as xs. The marked of the first i of xs stand in the first k places of ys, and from i on ys is as it was.
+pub record KeepsInPlace {X : Type 0} (bs : List Bool) (xs ys : List X) (k i : ℕ) : Type 0 where
+  pub front : take k ys ≡ items_where_true (take i bs) (take i xs)
+  pub rest : drop i ys ≡ drop i xs
+  pub behind : k ≤ i
+  pub long : length ys ≡ length xs
+  pub marked : length bs ≡ length xs
+
+module _ {X : Type 0} {bs : List Bool} {xs ys : List X} {k i : ℕ} (h : KeepsInPlace bs xs ys k i) where
+  pub keeps_all : length xs ≤ i → take k ys ≡ items_where_true bs xs
+  keeps_all past = h.front ∙ (λ t. items_where_true (take_all i bs (omega arith) t) (take_all i xs past t))
+
+  module _ (x : X) (within : i < length ys) (is : x ≡ get_or ys i x) where
+    both : x ∷ drop (i + 1) ys ≡ get_or xs i x ∷ drop (i + 1) xs
+    both = ap (λ y. y ∷ drop (i + 1) ys) is ∙ sym (drop_more ys i x within) ∙ h.rest ∙ drop_more xs i x (omega arith)
+
+    read : get_or xs i x ≡ x
+    read = sym (ap (λ l. get_or l 0 x) both)
+
+    step : (b : Bool) → get_or bs i false ≡ b
+        → items_where_true (take (i + 1) bs) (take (i + 1) xs) ≡ take k ys ++ items_where_true (b ∷ []) (x ∷ [])
+    step b mark =
+        let inside : i < length xs = omega (arith, within, h.long) in
+        let inside_too : i < length bs = omega (arith, inside, h.marked) in
+        let long : length (take i bs) ≡ length (take i xs) = omega (arith, length-take i bs, length-take i xs, h.marked) in
+        (λ t. items_where_true (take_more bs i false inside_too t) (take_more xs i x inside t))
+        ∙ marked-append (take i bs) (take i xs) (get_or bs i false ∷ []) (get_or xs i x ∷ []) long
+        ∙ (λ t. sym h.front t ++ items_where_true (mark t ∷ []) (read t ∷ []))
+
+    pub keeps_none : get_or bs i false ≡ false → KeepsInPlace bs xs ys k (i + 1)
+    keeps_none mark = record {
+      front = sym (step false mark ∙ append-nil (take k ys));
+      rest = ap (drop 1) both;
+      behind = omega (arith, h.behind);
+      long = h.long;
+      marked = h.marked;
+    }
+
+    pub keeps_more : get_or bs i false ≡ true → KeepsInPlace bs xs (set ys k x) (k + 1) (i + 1)
+    keeps_more mark =
+        let behind = h.behind in
+        let inside : k < length ys = omega (arith, behind, within) in
+        let long = length-set ys k x in record {
+          front = take_more (set ys k x) k x (omega (arith, long, inside))
+              ∙ (λ t. take-set-le k ys k x (omega arith) t ++ get_or-set_same ys k x x inside t ∷ [])
+              ∙ sym (step true mark);
+          rest = drop-set-lt (i + 1) ys k x (omega (arith, behind)) ∙ ap (drop 1) both;
+          behind = omega (arith, behind);
+          long = long ∙ h.long;
+          marked = h.marked;
+        }

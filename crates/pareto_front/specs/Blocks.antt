@@ -1,0 +1,56 @@
+-- How a front of three or four criteria lies in memory, with its settled entries in blocks.
+use Rattle.std.specs.Prelude.{ℕ, ◌+◌, ◌-◌, ◌*◌, ◌/◌, ◌<◌, ◌≤◌, List, length, map, slice_index_or, min, All}
+use Rattle.cost_vector.specs.Costs.{AtMost}
+use Rattle.compact_labels.specs.declared.cost.CompactCost.{CompactCost}
+use Rattle.pareto_front.specs.declared.front.FrontEntry.{FrontEntry}
+use Rattle.pareto_front.specs.Fronts.{Front, IsFront}
+use Rattle.pareto_front.specs.Calls.{told_entry}
+
+-- a front, and for how many entries more it has room
+pub record Held : Type 0 where
+  pub front : Front
+  pub spare : ℕ
+
+-- the front of these entries
+abbrev pub told_front : {D : ℕ} → List (FrontEntry D) → List (FrontEntry D) → Front
+told_front settled unsettled = record { settled = map told_entry settled; unsettled = map told_entry unsettled }
+
+-- how many settled entries a corner speaks of, and a wide corner
+abbrev pub block_size : ℕ
+block_size = 16
+
+abbrev pub wide_block_size : ℕ
+wide_block_size = 128
+
+-- the entry at the place i is at most the cost
+pub record CoversAt {D : ℕ} (entries : List (FrontEntry D)) (c : List ℕ) (i : ℕ) : Type 0 where
+  pub within : i < length entries
+  pub at_most : (e : FrontEntry D) → AtMost (slice_index_or entries i e).cost.0 c
+
+-- no entry is at most the cost
+abbrev pub CoversNone : {D : ℕ} → List (FrontEntry D) → List ℕ → Type 0
+CoversNone entries c = All (λ e. ¬ AtMost e.cost.0 c) entries
+
+-- each block of so many entries has a corner, a cost that is at most that of each entry of the block
+pub record HaveCorners {D : ℕ} (size : ℕ) (entries : List (FrontEntry D)) (corners : List (CompactCost D)) : Type 0 where
+  pub enough : length entries ≤ length corners * size
+  pub no_more : length corners * size < length entries + size
+  pub at_most : (j : ℕ) (e : FrontEntry D) (c : CompactCost D) → j < length entries
+      → AtMost (slice_index_or corners (j / size) c).0 (slice_index_or entries j e).cost.0
+
+-- Both lists together are a front, and the settled entries have corners and wide corners. There is room to settle all
+-- entries.
+pub record AreBlocks {D : ℕ} (settled : List (FrontEntry D)) (corners wide_corners : List (CompactCost D))
+    (unsettled : List (FrontEntry D)) (room : ℕ) : Type 0 where
+  pub front : IsFront D (told_front settled unsettled)
+  pub cornered : HaveCorners block_size settled corners
+  pub wide_cornered : HaveCorners wide_block_size settled wide_corners
+  pub fits : length settled + length unsettled ≤ room
+
+-- how many entries can be settled, by the room for them and for their corners
+abbrev pub settled_room : ℕ → ℕ → ℕ → ℕ
+settled_room entries corners wide_corners = min entries (min (block_size * corners) (wide_block_size * wide_corners))
+
+-- for how many entries more there is room, among the unsettled ones and to settle all
+abbrev pub spare_of : ℕ → ℕ → ℕ → ℕ → ℕ
+spare_of settled unsettled room unsettled_room = min (unsettled_room - unsettled) (room - (settled + unsettled))

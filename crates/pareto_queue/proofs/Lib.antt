@@ -1,0 +1,5 @@
+mod ExtractionLemmas
+mod OrderLemmas
+mod QueueLemmas
+mod RetainedLemmas
+mod ShadowLemmas

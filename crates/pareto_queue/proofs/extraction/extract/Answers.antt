@@ -1,0 +1,37 @@
+use Rattle.std.proofs.Common.{rules, ◌+◌, take, subst, sym, ◌∙◌}
+use Rattle.std.proofs.lemmas.Bool.{false≢true}
+use Rattle.std.proofs.lemmas.List.{take_all}
+use Rattle.pareto_queue.specs.Queues.{IsDominatedBy}
+use Rattle.pareto_queue.specs.Shadows.{IsExtracted}
+use Rattle.pareto_queue.proofs.ExtractionLemmas.{none_extracted, left, took, all_extracted}
+use Rattle.pareto_queue.proofs.extraction.extract.Goals as goal
+use Rattle.pareto_queue.proofs.extraction.extract.Goals.{then-is_dominated+in_ok-push, else-is_dominated+in_ok-cast+in_ok-push-2}
+
+pub loop-spot-init : goal.loop-spot-init
+loop-spot-init g c = rw (c.clear.ensures.items, c.clear-2.ensures.items, c.clear-3.ensures.items) (none_extracted c.args.spots.now)
+
+pub loop-spot-preserved : goal.loop-spot-preserved
+loop-spot-preserved g c =
+    let spots = c.args.spots.now in
+    let i = c.loop-spot.spot-index in
+    let s = c.spot-item.result in
+    let costs = c.loop-spot.shadow.items in
+    let taken = c.loop-spot.taken.items in
+    let rest = c.loop-spot.rest.items in
+    elim c.if-is_dominated.branch [
+      | then-is_dominated+in_ok-push w ↦
+          rw (w.shadow-is, w.taken-is, w.rest-is)
+          (left spots i costs taken rest s c.requires c.loop-spot-test.true c.spot-item.is c.loop-spot.invariant _
+          (subst (λ ys. IsDominatedBy ys s.cost.0) c.deref.ensures.value (c.is_dominated.ensures.0 w.if-is_dominated.true)) w.in_ok-push.ensures.items)
+      | else-is_dominated+in_ok-cast+in_ok-push-2 w ↦
+          rw (w.shadow-is, w.taken-is, w.rest-is)
+          (took spots i costs taken rest s c.requires c.loop-spot-test.true c.spot-item.is c.loop-spot.invariant _ _
+          (λ by. false≢true (sym w.if-is_dominated.false ∙ c.is_dominated.ensures.1 (subst (λ ys. IsDominatedBy ys s.cost.0) (sym c.deref.ensures.value) by)))
+          w.in_ok-cast.ensures w.in_ok-push-2.ensures.items)
+    ]
+
+pub returns-clause-taken : goal.returns-clause-taken
+returns-clause-taken g c =
+    let spots = c.args.spots.now in
+    all_extracted spots c.loop-spot.shadow.items c.loop-spot.taken.items c.loop-spot.rest.items
+    (rw (take_all c.loop-spot.spot-index spots c.loop-spot-test.false) at c.loop-spot.invariant)

@@ -1,0 +1,35 @@
+-- The shadow of an ascending list of spots: few of their costs, which tell of each later cost whether one of all dominates it.
+use Rattle.std.specs.Prelude.{◌≡◌, ℕ, ◌↔◌, ◌⊎◌, List, [], ◌∷◌, AllPairs, Contains}
+use Rattle.cost_vector.specs.Costs.{AtMost, Dominates, LexLess}
+use Rattle.compact_labels.specs.declared.cost.CompactCost.{CompactCost}
+use Rattle.compact_labels.specs.declared.label.CompactSpot.{CompactSpot}
+use Rattle.pareto_queue.specs.Queues.{IsDominatedBy, IsUndominated, SpotLess}
+
+-- the cost with zero as its first component
+abbrev pub grounded : List ℕ → List ℕ
+grounded [] = []
+grounded (x ∷ xs) = 0 ∷ xs
+
+module _ {D : ℕ} where
+  -- c joins the shadow, and those leave of which no component but the first is less than c's
+  abbrev pub Joins : List (CompactCost D) → CompactCost D → List (CompactCost D) → Type 0
+  Joins before c after = (x : CompactCost D) → Contains after x ↔ ((Contains before x × ¬ AtMost (grounded c.0) x.0) ⊎ (x ≡ c))
+
+  -- no spot of the list comes after a cost of its own
+  abbrev pub IsLater : List (CompactSpot D) → List ℕ → Type 0
+  IsLater seen c = (s : CompactSpot D) → Contains seen s → ¬ LexLess c s.cost.0
+
+  -- Each cost of the shadow is a spot's, and of the costs that come before no spot's cost, it dominates those that some spot's
+  -- cost dominates.
+  pub record IsShadow (seen : List (CompactSpot D)) (shadow : List (CompactCost D)) : Type 0 where
+    pub from : (c : CompactCost D) → Contains shadow c → (s : CompactSpot D) × Contains seen s × (s.cost ≡ c)
+    pub dominates : (c : List ℕ) → IsLater seen c → (s : CompactSpot D) → Contains seen s → Dominates s.cost.0 c → IsDominatedBy shadow c
+
+  -- Of a queue's first spots those that no cost in the whole queue dominates are taken, and the others are left. Both ascend.
+  pub record IsExtracted (spots seen : List (CompactSpot D)) (costs : List (CompactCost D)) (took left : List (CompactSpot D)) : Type 0 where
+    pub shadow : IsShadow seen costs
+    pub each : (x : CompactSpot D) → Contains seen x → Contains took x ⊎ Contains left x
+    pub taken : (x : CompactSpot D) → Contains took x → Contains seen x × IsUndominated spots x.cost.0
+    pub rest : (x : CompactSpot D) → Contains left x → Contains seen x × ¬ IsUndominated spots x.cost.0
+    pub taken_ascends : AllPairs SpotLess took
+    pub rest_ascends : AllPairs SpotLess left

@@ -1,0 +1,4 @@
+pub mod Grammar
+pub mod PairForms
+pub mod Answers
+pub mod Laws

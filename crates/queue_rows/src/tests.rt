@@ -1,0 +1,3 @@
+mod changes;
+mod rounds;
+mod waiting;

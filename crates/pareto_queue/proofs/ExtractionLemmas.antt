@@ -38,7 +38,7 @@ module _ {D : ℕ} where
     pub here : Contains spots s
 
 module _ {D : ℕ} (spots seen : List (CompactSpot D)) (shadow : List (CompactCost D)) (taken rest : List (CompactSpot D)) (s : CompactSpot D)
-  (next : IsNext spots seen s) (is : IsExtracted spots seen shadow taken rest) where
+    (next : IsNext spots seen s) (is : IsExtracted spots seen shadow taken rest) where
   is_later : IsLater seen s.cost.0
   is_later x h = not_less x s (next.old x h).1
 
@@ -148,7 +148,7 @@ is_next {D} spots i d q within = record {
     ]
 
 module _ {D : ℕ} (spots : List (CompactSpot D)) (i : ℕ) (shadow : List (CompactCost D)) (taken rest : List (CompactSpot D)) (s : CompactSpot D)
-  (q : IsQueue spots) (within : i < length spots) (at : s ≡ get_or spots i s) (is : IsExtracted spots (take i spots) shadow taken rest) where
+    (q : IsQueue spots) (within : i < length spots) (at : s ≡ get_or spots i s) (is : IsExtracted spots (take i spots) shadow taken rest) where
   next : IsNext spots (take i spots) s
   next = subst (IsNext spots (take i spots)) (sym at) (is_next spots i s q within)
 

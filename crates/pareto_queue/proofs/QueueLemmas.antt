@@ -70,7 +70,7 @@ module _ {D : ℕ} where
   loses_by_remove before after s i q at is x =
       let within = slice_get_within before i s at in
       let moved : IsPermutation before (s ∷ after) =
-          subst (λ ys. IsPermutation before (s ∷ ys)) (sym is) (IsPermutation-remove before i s within (sym (get_or_from_slice_get before i s s at))) in
+      subst (λ ys. IsPermutation before (s ∷ ys)) (sym is) (IsPermutation-remove before i s within (sym (get_or_from_slice_get before i s s at))) in
       let gains = gains_by_permutation s after before (IsPermutation-sym before (s ∷ after) moved) x in (
         λ h. (gains.1 (inl h), λ same. pair_with_first ◌≢◌ s after (once_in_any_order before (s ∷ after) moved (once before q)) x h (sym same)),
         λ h. elim (gains.0 h.0) [ inl there ↦ there | inr same ↦ absurd (h.1 same) ],
@@ -81,7 +81,7 @@ module _ {D : ℕ} where
     pub queue_by_sort : All (λ s. ¬ Contains before s) more → AllPairs ◌≢◌ more → IsSorted spot_cmp after → IsQueue after
     queue_by_sort new each sorted =
         let all = pairs_append ◌≢◌ before more (once before q) each
-            (λ x y h k same. each_in (λ s. ¬ Contains before s) more new y k (subst (Contains before) same h)) in record {
+        (λ x y h k same. each_in (λ s. ¬ Contains before s) more new y k (subst (Contains before) same h)) in record {
           two = q.two;
           four = q.four;
           ascending = ascending_from_sorted after sorted (once_in_any_order (before ++ more) after moved all);

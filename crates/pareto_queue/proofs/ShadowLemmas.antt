@@ -45,10 +45,10 @@ module _ {D : ℕ} (seen : List (CompactSpot D)) (shadow : List (CompactCost D))
     dominates = λ c later x h below. elim (cases_push seen s x h) [
       | inl old ↦ is.dominates c (later_before c later) x old below
       | inr last ↦ record {
-          by = by.by;
-          contains = by.contains;
-          dominates = Dominates-trans by.by.0 s.cost.0 c by.dominates (subst (λ (z : CompactSpot D). Dominates z.cost.0 c) last below);
-        }
+        by = by.by;
+        contains = by.contains;
+        dominates = Dominates-trans by.by.0 s.cost.0 c by.dominates (subst (λ (z : CompactSpot D). Dominates z.cost.0 c) last below);
+      }
     ];
   }
 
@@ -58,13 +58,13 @@ module _ {D : ℕ} (seen : List (CompactSpot D)) (shadow : List (CompactCost D))
     still_dominated c later by = elim (cases_AtMost (grounded s.cost.0) by.by.0) [
       | inr stays ↦ record { by = by.by; contains = (joins by.by).1 (inl (by.contains, stays)); dominates = by.dominates }
       | inl leaves ↦ record {
-          by = s.cost;
-          contains = (joins s.cost).1 (inr refl);
-          dominates = record {
-            at_most = covers_on s.cost.0 by.by.0 c (later s (Contains-push seen s)) leaves by.dominates.at_most;
-            differs = λ same. free (record { by = by.by; contains = by.contains; dominates = subst (Dominates by.by.0) (sym same) by.dominates });
-          };
-        }
+        by = s.cost;
+        contains = (joins s.cost).1 (inr refl);
+        dominates = record {
+          at_most = covers_on s.cost.0 by.by.0 c (later s (Contains-push seen s)) leaves by.dominates.at_most;
+          differs = λ same. free (record { by = by.by; contains = by.contains; dominates = subst (Dominates by.by.0) (sym same) by.dominates });
+        };
+      }
     ]
 
     -- a spot is seen that it doesn't dominate, and joins it
@@ -77,10 +77,10 @@ module _ {D : ℕ} (seen : List (CompactSpot D)) (shadow : List (CompactCost D))
       dominates = λ c later x h below. elim (cases_push seen s x h) [
         | inl old ↦ still_dominated c later (is.dominates c (later_before c later) x old below)
         | inr last ↦ record {
-            by = s.cost;
-            contains = (joins s.cost).1 (inr refl);
-            dominates = subst (λ (z : CompactSpot D). Dominates z.cost.0 c) last below;
-          }
+          by = s.cost;
+          contains = (joins s.cost).1 (inr refl);
+          dominates = subst (λ (z : CompactSpot D). Dominates z.cost.0 c) last below;
+        }
       ];
     }
 

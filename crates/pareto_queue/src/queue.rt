@@ -117,11 +117,11 @@ impl<const D: usize> Queue<D> {
         self.rest.extend_from_slice(spots)?;
         self.rest.sort_unstable();
         let gone = &self.rest;
-        self.spots.retain(|spot| -> bool
-            ensures { AreSorted gone.entry.now.items → (IsTrue result ↔ ¬ Contains gone.entry.now.items spot.now) }
-        {
-            is_absent(gone, spot)
-        });
+        self.spots.retain(
+            |spot| -> bool
+                ensures { AreSorted gone.entry.now.items → (IsTrue result ↔ ¬ Contains gone.entry.now.items spot.now) }
+            { is_absent(gone, spot) },
+        );
         Ok(())
     }
 
@@ -129,23 +129,22 @@ impl<const D: usize> Queue<D> {
     pub fn drop_dominated(&mut self, by: &[CompactCost<D>])
         ensures { LosesWhere (λ s. IsDominatedBy by.now s.cost.0) self.old self.new }
     {
-        self.spots.retain(|spot| -> bool
-            ensures { IsTrue result ↔ ¬ IsDominatedBy by.entry.now spot.now.cost.0 }
-        {
-            !is_dominated(by, &spot.cost)
-        });
+        self.spots.retain(
+            |spot| -> bool
+                ensures { IsTrue result ↔ ¬ IsDominatedBy by.entry.now spot.now.cost.0 }
+            { !is_dominated(by, &spot.cost) },
+        );
     }
 
     /// Takes out the spots whose cost isn't within the limit.
     pub fn drop_beyond(&mut self, limit: &Limit)
-        requires { length limit.now ≡ D }
         ensures { LosesWhere (λ s. ¬ Within limit.now s.cost.0) self.old self.new }
     {
-        self.spots.retain(|spot| -> bool
-            ensures { IsTrue result ↔ Within limit.entry.now spot.now.cost.0 }
-        {
-            is_within(limit, &spot.cost)
-        });
+        self.spots.retain(
+            |spot| -> bool
+                ensures { IsTrue result ↔ Within limit.entry.now spot.now.cost.0 }
+            { is_within(limit, &spot.cost) },
+        );
     }
 
     /// Takes out the spots whose cost no cost in the queue dominates, all at once, and lists them in ascending order. What

@@ -37,11 +37,11 @@ pub(crate) fn cast<const D: usize>(
     ensures { IfOk result (λ _. Joins shadow.old.items cost.now shadow.new.items) }
 {
     let low = floor(cost);
-    shadow.retain(|other| -> bool
-        ensures { IsTrue result ↔ ¬ AtMost low.0 other.now.0 }
-    {
-        !low.at_most(other)
-    });
+    shadow.retain(
+        |other| -> bool
+            ensures { IsTrue result ↔ ¬ AtMost low.0 other.now.0 }
+        { !low.at_most(other) },
+    );
     shadow.push(*cost)?;
     Ok(())
 }

@@ -1,12 +1,8 @@
-ghost use Rattle.std.specs.Prelude.{◌≡◌, ◌<◌};
-
-use super::waiting::{spot, wait};
-use compact_labels::{CompactCost, CompactSpot};
+use super::waiting::{spot, take, wait};
+use compact_labels::CompactCost;
 use cost_vector::{Limit, OutOfMemory};
-use pareto_queue::{Queue, Steps};
+use pareto_queue::Queue;
 use std::alloc::Global;
-use std::marker::Brand;
-use std::sync::ledger::{Blank, Ledger};
 use std::test::Fail;
 
 /// A queue of spots at nodes 1, 2 and so on, of these costs.
@@ -20,31 +16,24 @@ fn queue_of(alloc: Global, costs: &[[u64; 2]]) -> Result<Queue<2>, OutOfMemory> 
     Ok(queue)
 }
 
-/// What one call takes.
-fn taken<L: Ledger>(
-    alloc: Global,
-    blank: Blank,
-    queue: &mut Queue<2>,
-) -> Result<Vec<CompactSpot<2>>, OutOfMemory>
-    requires name { blank.name ≡ L.name }
-    requires parts { blank.parts ≡ L.parts }
-    requires some { 0 < L.parts }
-{
-    let mut steps = Steps::<L>::new(blank);
-    let mut taken = Vec::new(alloc);
-    queue.take_undominated(&mut taken, &mut steps)?;
-    Ok(taken)
-}
-
 #[test]
 fn takes_equal_costs_together(rt: HostRuntime) -> Result<(), Fail> {
     let alloc = rt.alloc();
     let mut queue = queue_of(alloc, &[[4, 4], [5, 1], [4, 4], [4, 5], [4, 4]])?;
-    let first = taken::<Brand>(alloc, Blank::new(1), &mut queue)?;
-    let wanted = [spot([4, 4], 1), spot([4, 4], 3), spot([4, 4], 5), spot([5, 1], 2)];
+    let first = take(alloc, &mut queue)?;
+    let wanted = [
+        spot([4, 4], 1),
+        spot([4, 4], 3),
+        spot([4, 4], 5),
+        spot([5, 1], 2),
+    ];
     assert_eq!(rt; first.as_slice(), wanted.as_slice(), "the first round");
-    let second = taken::<Brand>(alloc, Blank::new(1), &mut queue)?;
-    assert_eq!(rt; second.as_slice(), [spot([4, 5], 4)].as_slice(), "the second");
+    let second = take(alloc, &mut queue)?;
+    assert_eq!(rt;
+        second.as_slice(),
+        [spot([4, 5], 4)].as_slice(),
+        "the second"
+    );
     assert!(rt; queue.is_empty());
     Ok(())
 }
@@ -68,9 +57,17 @@ fn removes_from_each_place(rt: HostRuntime) -> Result<(), Fail> {
 fn removes_many(rt: HostRuntime) -> Result<(), Fail> {
     let alloc = rt.alloc();
     let mut queue = queue_of(alloc, &[[1, 9], [2, 8], [3, 7], [4, 6]])?;
-    queue.remove_all(&[spot([4, 6], 4), spot([5, 5], 5), spot([1, 9], 1), spot([4, 6], 4)])?;
-    let left = taken::<Brand>(alloc, Blank::new(1), &mut queue)?;
-    assert_eq!(rt; left.as_slice(), [spot([2, 8], 2), spot([3, 7], 3)].as_slice());
+    queue.remove_all(&[
+        spot([4, 6], 4),
+        spot([5, 5], 5),
+        spot([1, 9], 1),
+        spot([4, 6], 4),
+    ])?;
+    let left = take(alloc, &mut queue)?;
+    assert_eq!(rt;
+        left.as_slice(),
+        [spot([2, 8], 2), spot([3, 7], 3)].as_slice()
+    );
     Ok(())
 }
 
@@ -81,7 +78,10 @@ fn drops_only_what_is_dominated_or_beyond(rt: HostRuntime) -> Result<(), Fail> {
     queue.drop_dominated(&[CompactCost([2, 8]), CompactCost([9, 9])]);
     assert_eq!(rt; queue.len(), 4, "a cost equal to a given one stays");
     queue.drop_beyond(&Limit::of_places(&[Some(4), Some(8)]));
-    let left = taken::<Brand>(alloc, Blank::new(1), &mut queue)?;
-    assert_eq!(rt; left.as_slice(), [spot([2, 8], 2), spot([4, 6], 4)].as_slice());
+    let left = take(alloc, &mut queue)?;
+    assert_eq!(rt;
+        left.as_slice(),
+        [spot([2, 8], 2), spot([4, 6], 4)].as_slice()
+    );
     Ok(())
 }

@@ -1,28 +1,20 @@
-ghost use Rattle.std.specs.Prelude.{◌≡◌, ◌<◌, ◌≤◌};
+ghost use Rattle.std.specs.Prelude.{◌≤◌};
 ghost use Rattle.cost_vector.specs.Costs.{max_criteria, min_criteria};
 
-use super::waiting::{draw_cost, draw_spots, spot, wait};
+use super::waiting::{draw_cost, draw_spots, spot, take, wait};
 use compact_labels::CompactSpot;
 use cost_vector::OutOfMemory;
-use pareto_queue::{Queue, Steps};
+use pareto_queue::Queue;
 use std::alloc::Global;
-use std::marker::Brand;
-use std::sync::ledger::{Blank, Ledger};
 use std::test::Fail;
 
 /// How many spots leave in one call, where so many wait of which none dominates another.
-fn antichain<L: Ledger>(alloc: Global, blank: Blank, count: u32) -> Result<usize, OutOfMemory>
-    requires name { blank.name ≡ L.name }
-    requires parts { blank.parts ≡ L.parts }
-    requires some { 0 < L.parts }
-{
+fn antichain(alloc: Global, count: u32) -> Result<usize, OutOfMemory> {
     let mut queue = Queue::<2>::new(alloc);
     for i in 0..count {
         wait(&mut queue, spot([u64::from(i), u64::from(count - i)], i))?;
     }
-    let mut steps = Steps::<L>::new(blank);
-    let mut taken = Vec::new(alloc);
-    queue.take_undominated(&mut taken, &mut steps)?;
+    let taken = take(alloc, &mut queue)?;
     Ok(taken.len())
 }
 
@@ -57,16 +49,9 @@ fn parted<const D: usize>(
 }
 
 /// After how many rounds a queue of random spots is empty, if each round takes what comparing all pairs gives.
-fn plain_rounds<const D: usize, L: Ledger>(
-    alloc: Global,
-    blank: Blank,
-    count: u32,
-) -> Result<Option<u32>, OutOfMemory>
+fn plain_rounds<const D: usize>(alloc: Global, count: u32) -> Result<Option<u32>, OutOfMemory>
     requires two { min_criteria ≤ D }
     requires four { D ≤ max_criteria }
-    requires name { blank.name ≡ L.name }
-    requires parts { blank.parts ≡ L.parts }
-    requires some { 0 < L.parts }
 {
     let mut queue = Queue::<D>::new(alloc);
     let mut waiting: Vec<CompactSpot<D>> = Vec::new(alloc);
@@ -78,14 +63,12 @@ fn plain_rounds<const D: usize, L: Ledger>(
             waiting.push(next)?;
         }
     }
-    let mut steps = Steps::<L>::new(blank);
-    let mut taken = Vec::new(alloc);
     for round in 0..count {
         if waiting.is_empty() {
             return Ok(if queue.is_empty() { Some(round) } else { None });
         }
         let parts = parted(alloc, &waiting)?;
-        queue.take_undominated(&mut taken, &mut steps)?;
+        let taken = take(alloc, &mut queue)?;
         if taken.as_slice() != parts.free.as_slice() {
             return Ok(None);
         }
@@ -95,28 +78,19 @@ fn plain_rounds<const D: usize, L: Ledger>(
 }
 
 /// In how many rounds so many random spots leave.
-fn rounds<const D: usize, L: Ledger>(
-    alloc: Global,
-    blank: Blank,
-    count: u32,
-) -> Result<Option<u32>, OutOfMemory>
+fn rounds<const D: usize>(alloc: Global, count: u32) -> Result<Option<u32>, OutOfMemory>
     requires two { min_criteria ≤ D }
     requires four { D ≤ max_criteria }
-    requires name { blank.name ≡ L.name }
-    requires parts { blank.parts ≡ L.parts }
-    requires some { 0 < L.parts }
 {
     let spots = draw_spots::<D>(alloc, count, 100_000)?;
     let mut queue = Queue::<D>::new(alloc);
     queue.put_all(&spots)?;
-    let mut steps = Steps::<L>::new(blank);
-    let mut taken = Vec::new(alloc);
     let mut left = spots.len();
     for round in 0..count {
         if queue.is_empty() {
             return Ok(if left == 0 { Some(round) } else { None });
         }
-        queue.take_undominated(&mut taken, &mut steps)?;
+        let taken = take(alloc, &mut queue)?;
         left = left.saturating_sub(taken.len());
     }
     Ok(None)
@@ -124,29 +98,29 @@ fn rounds<const D: usize, L: Ledger>(
 
 #[test]
 fn takes_an_antichain_at_once(rt: HostRuntime) -> Result<(), Fail> {
-    let taken = antichain::<Brand>(rt.alloc(), Blank::new(1), 200_000)?;
+    let taken = antichain(rt.alloc(), 200_000)?;
     assert_eq!(rt; taken, 200_000);
     Ok(())
 }
 
 #[test]
 fn takes_what_comparing_all_pairs_gives(rt: HostRuntime) -> Result<(), Fail> {
-    let two = plain_rounds::<2, Brand>(rt.alloc(), Blank::new(1), 400)?;
+    let two = plain_rounds::<2>(rt.alloc(), 400)?;
     assert!(rt; two.is_some(), "two criteria");
-    let three = plain_rounds::<3, Brand>(rt.alloc(), Blank::new(1), 400)?;
+    let three = plain_rounds::<3>(rt.alloc(), 400)?;
     assert!(rt; three.is_some(), "three criteria");
-    let four = plain_rounds::<4, Brand>(rt.alloc(), Blank::new(1), 400)?;
+    let four = plain_rounds::<4>(rt.alloc(), 400)?;
     assert!(rt; four.is_some(), "four criteria");
     Ok(())
 }
 
 #[test]
 fn empties_in_rounds(rt: HostRuntime) -> Result<(), Fail> {
-    let two = rounds::<2, Brand>(rt.alloc(), Blank::new(1), 100_000)?;
+    let two = rounds::<2>(rt.alloc(), 100_000)?;
     assert!(rt; two.is_some(), "two criteria");
-    let three = rounds::<3, Brand>(rt.alloc(), Blank::new(1), 100_000)?;
+    let three = rounds::<3>(rt.alloc(), 100_000)?;
     assert!(rt; three.is_some(), "three criteria");
-    let four = rounds::<4, Brand>(rt.alloc(), Blank::new(1), 100_000)?;
+    let four = rounds::<4>(rt.alloc(), 100_000)?;
     assert!(rt; four.is_some(), "four criteria");
     Ok(())
 }

@@ -3,8 +3,10 @@ ghost use Rattle.cost_vector.specs.Costs.{max_criteria};
 
 use compact_labels::{CompactCost, CompactSpot};
 use cost_vector::{NodeNo, OutOfMemory};
-use pareto_queue::Queue;
+use pareto_queue::{Queue, Steps};
 use std::alloc::Global;
+use std::marker::Brand;
+use std::sync::ledger::{Blank, Ledger};
 
 pub(super) fn spot<const D: usize>(cost: [u64; D], node: u32) -> CompactSpot<D>
     ensures { result.node.0 ≡ node }
@@ -65,4 +67,28 @@ pub(super) fn wait<const D: usize>(
     let there = queue.remove(&spot);
     queue.put(spot)?;
     Ok(there)
+}
+
+/// What one call takes, with a step counted in this ledger.
+fn counted<const D: usize, L: Ledger>(
+    alloc: Global,
+    blank: Blank,
+    queue: &mut Queue<D>,
+) -> Result<Vec<CompactSpot<D>>, OutOfMemory>
+    requires name { blank.name ≡ L.name }
+    requires parts { blank.parts ≡ L.parts }
+    requires some { 0 < L.parts }
+{
+    let mut steps = Steps::<L>::new(blank);
+    let mut taken = Vec::new(alloc);
+    queue.take_undominated(&mut taken, &mut steps)?;
+    Ok(taken)
+}
+
+/// What one call takes.
+pub(super) fn take<const D: usize>(
+    alloc: Global,
+    queue: &mut Queue<D>,
+) -> Result<Vec<CompactSpot<D>>, OutOfMemory> {
+    counted::<D, Brand>(alloc, Blank::new(1), queue)
 }

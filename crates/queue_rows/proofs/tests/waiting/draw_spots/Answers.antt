@@ -12,9 +12,9 @@ loop-node-preserved g c =
     let at : y.node.0 ≡ c.loop-node.node = c.spot.ensures in
     rw c.in_ok-push.ensures.items (
       pairs_push ◌≢◌ xs y c.loop-node.invariant.0 (λ x h same.
-      let below = c.loop-node.invariant.1 x h in
-      let tie : x.node.0 ≡ y.node.0 = ap (λ (z : CompactSpot g.row.D). z.node.0) same in
-      omega arith),
+          let below = c.loop-node.invariant.1 x h in
+          let tie : x.node.0 ≡ y.node.0 = ap (λ (z : CompactSpot g.row.D). z.node.0) same in
+          omega arith),
       λ x h. elim (cases_push xs y x h) [
         | inl old ↦ let below = c.loop-node.invariant.1 x old in omega arith
         | inr last ↦ let tie : x.node.0 ≡ y.node.0 = ap (λ (z : CompactSpot g.row.D). z.node.0) last in omega arith

@@ -1,4 +1,5 @@
--- What each state keeps to which events lead. So a label that may be taken is final, and the settled labels bound how great a cost can be.
+-- What each state keeps to which events lead. So no walk gets past the labels that are still to be worked on, a label that may be taken is final, and no
+-- cost is greater than the settled labels make it.
 use Rattle.std.proofs.Common.{◌≡◌, ◌≢◌, ℕ, List, ◌≤◌, ◌⊎◌, inl, inr, refl, sym, ap, ap₂, subst, ◌∙◌, arith, AllPairs, Contains, [], ◌∷◌, ◌++◌, length}
 use Rattle.std.proofs.Common.{replicate, reverse, zero, suc, ◌+◌, ◌<◌, sum, slice_index}
 use Rattle.std.proofs.lemmas.Bool.{cases_eq, cases_lt}

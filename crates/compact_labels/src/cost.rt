@@ -73,7 +73,8 @@ impl<const D: usize> CompactCost<D> {
     pub fn meet(&self, other: &CompactCost<D>) -> CompactCost<D>
         ensures below_this { AtMost result.0 self.now.0 }
         ensures below_other { AtMost result.0 other.now.0 }
-        ensures greatest { (c : List ℕ) → AtMost c self.now.0 → AtMost c other.now.0 → AtMost c result.0 }
+        ensures greatest { (c : List ℕ) → AtMost c self.now.0 → AtMost c other.now.0
+            → AtMost c result.0 }
     {
         let mut least = *self;
         for (i, component) in least.0.iter_mut().enumerate() {

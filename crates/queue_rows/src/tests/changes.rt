@@ -1,4 +1,4 @@
-use super::waiting::{spot, take, wait};
+use super::waiting::{spot, take_two, wait};
 use compact_labels::CompactCost;
 use cost_vector::{Limit, OutOfMemory};
 use pareto_queue::Queue;
@@ -20,7 +20,7 @@ fn queue_of(alloc: Global, costs: &[[u64; 2]]) -> Result<Queue<2>, OutOfMemory> 
 fn takes_equal_costs_together(rt: HostRuntime) -> Result<(), Fail> {
     let alloc = rt.alloc();
     let mut queue = queue_of(alloc, &[[4, 4], [5, 1], [4, 4], [4, 5], [4, 4]])?;
-    let first = take(alloc, &mut queue)?;
+    let first = take_two(alloc, &mut queue)?;
     let wanted = [
         spot([4, 4], 1),
         spot([4, 4], 3),
@@ -28,7 +28,7 @@ fn takes_equal_costs_together(rt: HostRuntime) -> Result<(), Fail> {
         spot([5, 1], 2),
     ];
     assert_eq!(rt; first.as_slice(), wanted.as_slice(), "the first round");
-    let second = take(alloc, &mut queue)?;
+    let second = take_two(alloc, &mut queue)?;
     assert_eq!(rt;
         second.as_slice(),
         [spot([4, 5], 4)].as_slice(),
@@ -63,7 +63,7 @@ fn removes_many(rt: HostRuntime) -> Result<(), Fail> {
         spot([1, 9], 1),
         spot([4, 6], 4),
     ])?;
-    let left = take(alloc, &mut queue)?;
+    let left = take_two(alloc, &mut queue)?;
     assert_eq!(rt;
         left.as_slice(),
         [spot([2, 8], 2), spot([3, 7], 3)].as_slice()
@@ -78,7 +78,7 @@ fn drops_only_what_is_dominated_or_beyond(rt: HostRuntime) -> Result<(), Fail> {
     queue.drop_dominated(&[CompactCost([2, 8]), CompactCost([9, 9])]);
     assert_eq!(rt; queue.len(), 4, "a cost equal to a given one stays");
     queue.drop_beyond(&Limit::of_places(&[Some(4), Some(8)]));
-    let left = take(alloc, &mut queue)?;
+    let left = take_two(alloc, &mut queue)?;
     assert_eq!(rt;
         left.as_slice(),
         [spot([2, 8], 2), spot([4, 6], 4)].as_slice()

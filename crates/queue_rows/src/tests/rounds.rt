@@ -1,11 +1,13 @@
-ghost use Rattle.std.specs.Prelude.{◌≤◌};
+ghost use Rattle.std.specs.Prelude.{◌≡◌, ◌<◌, ◌≤◌};
 ghost use Rattle.cost_vector.specs.Costs.{max_criteria, min_criteria};
 
-use super::waiting::{draw_cost, draw_spots, spot, take, wait};
+use super::waiting::{draw_cost, draw_spots, spot, take, take_two, wait};
 use compact_labels::CompactSpot;
 use cost_vector::OutOfMemory;
-use pareto_queue::Queue;
+use pareto_queue::{Queue, Steps};
 use std::alloc::Global;
+use std::marker::Brand;
+use std::sync::ledger::{Blank, Ledger};
 use std::test::Fail;
 
 /// How many spots leave in one call, where so many wait of which none dominates another.
@@ -14,7 +16,7 @@ fn antichain(alloc: Global, count: u32) -> Result<usize, OutOfMemory> {
     for i in 0..count {
         wait(&mut queue, spot([u64::from(i), u64::from(count - i)], i))?;
     }
-    let taken = take(alloc, &mut queue)?;
+    let taken = take_two(alloc, &mut queue)?;
     Ok(taken.len())
 }
 
@@ -49,7 +51,11 @@ fn parted<const D: usize>(
 }
 
 /// After how many rounds a queue of random spots is empty, if each round takes what comparing all pairs gives.
-fn plain_rounds<const D: usize>(alloc: Global, count: u32) -> Result<Option<u32>, OutOfMemory>
+fn plain_rounds<const D: usize, L: Ledger>(
+    alloc: Global,
+    steps: &mut Steps<L>,
+    count: u32,
+) -> Result<Option<u32>, OutOfMemory>
     requires two { min_criteria ≤ D }
     requires four { D ≤ max_criteria }
 {
@@ -68,7 +74,7 @@ fn plain_rounds<const D: usize>(alloc: Global, count: u32) -> Result<Option<u32>
             return Ok(if queue.is_empty() { Some(round) } else { None });
         }
         let parts = parted(alloc, &waiting)?;
-        let taken = take(alloc, &mut queue)?;
+        let taken = take(alloc, &mut queue, steps)?;
         if taken.as_slice() != parts.free.as_slice() {
             return Ok(None);
         }
@@ -78,7 +84,11 @@ fn plain_rounds<const D: usize>(alloc: Global, count: u32) -> Result<Option<u32>
 }
 
 /// In how many rounds so many random spots leave.
-fn rounds<const D: usize>(alloc: Global, count: u32) -> Result<Option<u32>, OutOfMemory>
+fn rounds<const D: usize, L: Ledger>(
+    alloc: Global,
+    steps: &mut Steps<L>,
+    count: u32,
+) -> Result<Option<u32>, OutOfMemory>
     requires two { min_criteria ≤ D }
     requires four { D ≤ max_criteria }
 {
@@ -90,7 +100,7 @@ fn rounds<const D: usize>(alloc: Global, count: u32) -> Result<Option<u32>, OutO
         if queue.is_empty() {
             return Ok(if left == 0 { Some(round) } else { None });
         }
-        let taken = take(alloc, &mut queue)?;
+        let taken = take(alloc, &mut queue, steps)?;
         left = left.saturating_sub(taken.len());
     }
     Ok(None)
@@ -103,24 +113,40 @@ fn takes_an_antichain_at_once(rt: HostRuntime) -> Result<(), Fail> {
     Ok(())
 }
 
+/// Whether queues of 2, 3 and 4 criteria give what comparing all pairs gives.
+fn are_as_plain<L: Ledger>(alloc: Global, blank: Blank, count: u32) -> Result<bool, OutOfMemory>
+    requires name { blank.name ≡ L.name }
+    requires parts { blank.parts ≡ L.parts }
+    requires some { 0 < L.parts }
+{
+    let mut steps = Steps::<L>::new(blank);
+    let two = plain_rounds::<2, L>(alloc, &mut steps, count)?;
+    let three = plain_rounds::<3, L>(alloc, &mut steps, count)?;
+    let four = plain_rounds::<4, L>(alloc, &mut steps, count)?;
+    Ok(two.is_some() && three.is_some() && four.is_some())
+}
+
+/// Whether queues of 2, 3 and 4 criteria become empty.
+fn all_leave<L: Ledger>(alloc: Global, blank: Blank, count: u32) -> Result<bool, OutOfMemory>
+    requires name { blank.name ≡ L.name }
+    requires parts { blank.parts ≡ L.parts }
+    requires some { 0 < L.parts }
+{
+    let mut steps = Steps::<L>::new(blank);
+    let two = rounds::<2, L>(alloc, &mut steps, count)?;
+    let three = rounds::<3, L>(alloc, &mut steps, count)?;
+    let four = rounds::<4, L>(alloc, &mut steps, count)?;
+    Ok(two.is_some() && three.is_some() && four.is_some())
+}
+
 #[test]
 fn takes_what_comparing_all_pairs_gives(rt: HostRuntime) -> Result<(), Fail> {
-    let two = plain_rounds::<2>(rt.alloc(), 400)?;
-    assert!(rt; two.is_some(), "two criteria");
-    let three = plain_rounds::<3>(rt.alloc(), 400)?;
-    assert!(rt; three.is_some(), "three criteria");
-    let four = plain_rounds::<4>(rt.alloc(), 400)?;
-    assert!(rt; four.is_some(), "four criteria");
+    assert!(rt; are_as_plain::<Brand>(rt.alloc(), Blank::new(1), 400)?);
     Ok(())
 }
 
 #[test]
 fn empties_in_rounds(rt: HostRuntime) -> Result<(), Fail> {
-    let two = rounds::<2>(rt.alloc(), 100_000)?;
-    assert!(rt; two.is_some(), "two criteria");
-    let three = rounds::<3>(rt.alloc(), 100_000)?;
-    assert!(rt; three.is_some(), "three criteria");
-    let four = rounds::<4>(rt.alloc(), 100_000)?;
-    assert!(rt; four.is_some(), "four criteria");
+    assert!(rt; all_leave::<Brand>(rt.alloc(), Blank::new(1), 100_000)?);
     Ok(())
 }

@@ -69,26 +69,34 @@ pub(super) fn wait<const D: usize>(
     Ok(there)
 }
 
-/// What one call takes, with a step counted in this ledger.
-fn counted<const D: usize, L: Ledger>(
+/// What one call takes.
+pub(super) fn take<const D: usize, L: Ledger>(
+    alloc: Global,
+    queue: &mut Queue<D>,
+    steps: &mut Steps<L>,
+) -> Result<Vec<CompactSpot<D>>, OutOfMemory> {
+    let mut taken = Vec::new(alloc);
+    queue.take_undominated(&mut taken, steps)?;
+    Ok(taken)
+}
+
+fn counted<L: Ledger>(
     alloc: Global,
     blank: Blank,
-    queue: &mut Queue<D>,
-) -> Result<Vec<CompactSpot<D>>, OutOfMemory>
+    queue: &mut Queue<2>,
+) -> Result<Vec<CompactSpot<2>>, OutOfMemory>
     requires name { blank.name ≡ L.name }
     requires parts { blank.parts ≡ L.parts }
     requires some { 0 < L.parts }
 {
     let mut steps = Steps::<L>::new(blank);
-    let mut taken = Vec::new(alloc);
-    queue.take_undominated(&mut taken, &mut steps)?;
-    Ok(taken)
+    take(alloc, queue, &mut steps)
 }
 
-/// What one call takes.
-pub(super) fn take<const D: usize>(
+/// What one call takes, where the steps aren't told.
+pub(super) fn take_two(
     alloc: Global,
-    queue: &mut Queue<D>,
-) -> Result<Vec<CompactSpot<D>>, OutOfMemory> {
-    counted::<D, Brand>(alloc, Blank::new(1), queue)
+    queue: &mut Queue<2>,
+) -> Result<Vec<CompactSpot<2>>, OutOfMemory> {
+    counted::<Brand>(alloc, Blank::new(1), queue)
 }

@@ -166,9 +166,17 @@ fn expect_row<F: ParetoFront<2> + Drop>(
 }
 
 fn expect_settled(rt: &impl Abort, name: &str, settled: &[FrontEntry<2>], wanted: &[Plain]) {
-    assert_eq!(rt; settled.len(), wanted.len(), "{name}: number of settled entries");
+    assert_eq!(rt;
+        settled.len(),
+        wanted.len(),
+        "{name}: number of settled entries"
+    );
     for (entry, (cost, arc)) in settled.iter().zip(wanted) {
-        assert_eq!(rt; (entry.cost.0, entry.arc.0), (*cost, *arc), "{name}: settled");
+        assert_eq!(rt;
+            (entry.cost.0, entry.arc.0),
+            (*cost, *arc),
+            "{name}: settled"
+        );
     }
 }
 

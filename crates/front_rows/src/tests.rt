@@ -1,0 +1,5 @@
+mod arriving;
+mod drawing;
+mod examples;
+mod plain;
+mod watching;

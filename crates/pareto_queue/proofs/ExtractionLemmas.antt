@@ -1,5 +1,5 @@
 -- The spots of a queue, extracted one after another in ascending order.
-use Rattle.std.proofs.Common.{◌≡◌, ◌≢◌, ℕ, suc, ◌+◌, ◌<◌, ◌≤◌, List, [], ◌∷◌, ◌++◌, take, drop, get_or, length, ◌⊎◌, ◌↔◌, inl, inr, refl, sym, ap, subst, ◌∙◌, arith, Less, length-take-le, length-take, take-append-drop}
+use Rattle.std.proofs.Common.{◌≡◌, ℕ, ◌+◌, ◌<◌, List, [], ◌∷◌, ◌++◌, take, drop, get_or, length, ◌⊎◌, inl, inr, sym, ap, subst, ◌∙◌, arith, length-take-le, length-take, take-append-drop}
 use Rattle.std.specs.Prelude.{All, AllPairs, Contains}
 use Rattle.std.proofs.lemmas.Bool.{cases_lt}
 use Rattle.std.proofs.lemmas.List.{get_or-take, get_or_default, take_more}
@@ -11,7 +11,7 @@ use Rattle.cost_vector.proofs.Vectors.{LexLess-irrefl, LexLess-trans, LexLess_fr
 use Rattle.list_laws.proofs.Members.{in_none, each_in, cases_push}
 use Rattle.list_laws.proofs.Pairs.{pairs_none, pairs_push}
 use Rattle.pareto_queue.specs.Queues.{IsDominatedBy, IsQueue, IsUndominated, SpotLess, TakesUndominated}
-use Rattle.pareto_queue.specs.Shadows.{IsExtracted, IsLater, IsShadow, Joins}
+use Rattle.pareto_queue.specs.Shadows.{IsExtracted, IsLater, Joins}
 use Rattle.pareto_queue.proofs.ShadowLemmas.{shadow_skip, shadow_cast}
 
 module _ {D : ℕ} where

@@ -1,5 +1,5 @@
 -- The order of spots.
-use Rattle.std.proofs.Common.{◌≡◌, ◌≢◌, ℕ, suc, ◌+◌, ◌<◌, ◌≤◌, Bool, true, false, List, [], ◌∷◌, ◌++◌, take, drop, get_or, length, length-take, length-drop, take-append-drop, Result, Ok, Err, Some, ◌⊎◌, ◌↔◌, inl, inr, refl, sym, ap, ap₂, subst, ◌∙◌, arith, Less, Equal, Greater}
+use Rattle.std.proofs.Common.{◌≡◌, ◌≢◌, ℕ, ◌+◌, ◌<◌, Bool, false, List, take, drop, get_or, length, length-take, length-drop, take-append-drop, Result, Ok, Err, Some, ◌⊎◌, ◌↔◌, inl, inr, refl, sym, ap, ap₂, subst, ◌∙◌, arith, Less, Equal, Greater}
 use Rattle.std.specs.declared.cmp.Ordering.{Ordering}
 use Rattle.std.specs.Ordering.{nat_cmp, ordering_then, ordering_reverse, is_lt}
 use Rattle.std.specs.Cmp.{IsTotalOrder, nat_cmp_total}
@@ -17,7 +17,7 @@ use Rattle.std.proofs.lemmas.Bool.Decides.{nat_tests}
 use Rattle.std.proofs.lemmas.Cmp.{tied_itself, then_total, on_total}
 use Rattle.compact_labels.specs.declared.label.CompactSpot.{CompactSpot}
 use Rattle.cost_vector.specs.Costs.{LexLess, lex_cmp}
-use Rattle.cost_vector.proofs.Vectors.{LexLess-irrefl, LexLess-trans, cases_LexLess, same_from_lex_cmp}
+use Rattle.cost_vector.proofs.Vectors.{LexLess-irrefl, LexLess-trans, same_from_lex_cmp}
 use Rattle.pareto_queue.specs.Queues.{AreSorted, IsGap, SpotLess}
 use Rattle.list_laws.proofs.Members.{each_in}
 

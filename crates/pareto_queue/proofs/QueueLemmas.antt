@@ -1,5 +1,5 @@
 -- What becomes of a queue.
-use Rattle.std.proofs.Common.{◌≡◌, ◌≢◌, ℕ, zero, suc, ◌+◌, ◌<◌, ◌≤◌, Bool, false, IsTrue, Result, Ok, Err, List, [], ◌∷◌, ◌++◌, take, drop, get_or, length, Some, ◌⊎◌, ◌↔◌, inl, inr, refl, sym, ap, subst, ◌∙◌, arith, take-append-drop}
+use Rattle.std.proofs.Common.{◌≡◌, ◌≢◌, ℕ, zero, suc, Bool, false, IsTrue, Result, Ok, Err, List, [], ◌∷◌, ◌++◌, take, drop, Some, ◌⊎◌, ◌↔◌, inl, inr, sym, subst, ◌∙◌}
 use Rattle.std.specs.Prelude.{All, AllPairs, Contains, IsPermutation, OnOk, slice_get}
 use Rattle.std.specs.Result.{is_err}
 use Rattle.std.proofs.lemmas.Bool.{false≢true}
@@ -19,7 +19,7 @@ use Rattle.list_laws.proofs.Members.{in_none, in_first, in_rest, in_one, cases_i
 use Rattle.list_laws.proofs.OnceLaws.{once_in_any_order, pairs_append}
 use Rattle.list_laws.proofs.Pairs.{pairs_none, pairs_cons, pairs_rest, pairs_take, pair_with_first}
 use Rattle.list_laws.proofs.SetLaws.{gains_by_permutation}
-use Rattle.pareto_queue.specs.Queues.{Gains, IsDominatedBy, IsGap, IsQueue, LosesWhere, SpotLess}
+use Rattle.pareto_queue.specs.Queues.{Gains, IsDominatedBy, IsGap, IsQueue, SpotLess}
 use Rattle.pareto_queue.proofs.OrderLemmas.{SpotLess-irrefl, SpotLess-trans, ascending_from_sorted, none_in_gap, spot_cmp}
 use Rattle.pareto_queue.proofs.RetainedLemmas.{pairs_by_retain}
 

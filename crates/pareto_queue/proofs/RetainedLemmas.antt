@@ -1,13 +1,12 @@
 -- What `retain` leaves of a list of spots.
-use Rattle.std.proofs.Common.{◌≡◌, ◌↔◌, ◌⊎◌, Bool, true, false, IsTrue, List, [], ◌∷◌, inl, inr, refl, sym, subst}
+use Rattle.std.proofs.Common.{◌↔◌, ◌⊎◌, Bool, true, false, IsTrue, List, [], ◌∷◌, inl, inr, refl, sym, subst}
 use Rattle.std.specs.Prelude.{AllPairs, Contains, MatchBool}
 use Rattle.std.specs.List.{items_where_true}
 use Rattle.std.specs.List.Retain.{IsFiltered}
 use Rattle.std.proofs.lemmas.Bool.{false≢true}
 use Rattle.list_laws.specs.Without.{IsWithout}
-use Rattle.list_laws.proofs.Members.{in_none, in_first, in_rest, in_front, cases_in, each_in}
+use Rattle.list_laws.proofs.Members.{in_none, in_rest, in_front, cases_in, each_in}
 use Rattle.list_laws.proofs.Pairs.{pairs_none, pairs_cons, pairs_rest, pair_with_first}
-use Rattle.list_laws.proofs.Retained.{Tells, without_by_retain}
 
 module _ {X : Type 0} where
   in_where_true : (bs : List Bool) (xs : List X) (x : X) → Contains (items_where_true bs xs) x → Contains xs x

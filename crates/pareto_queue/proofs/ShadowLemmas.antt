@@ -1,6 +1,6 @@
 -- The shadow of the costs taken so far.
-use Rattle.std.proofs.Common.{◌≡◌, ◌≢◌, ℕ, suc, ◌+◌, ◌<◌, ◌≤◌, List, [], ◌∷◌, ◌++◌, get_or, length, ◌⊎◌, ◌↔◌, inl, inr, refl, sym, ap, subst, ◌∙◌, arith, Less}
-use Rattle.std.specs.Prelude.{AllPairs, Contains}
+use Rattle.std.proofs.Common.{◌≡◌, ℕ, ◌<◌, List, [], ◌∷◌, ◌++◌, inl, inr, refl, sym, ap, subst, arith, Less}
+use Rattle.std.specs.Prelude.{Contains}
 use Rattle.std.specs.Ordering.{nat_cmp, ordering_then}
 use Rattle.std.proofs.lemmas.Bool.{cases_lt}
 use Rattle.std.proofs.lemmas.Bool.Decides.{nat_tests}
@@ -8,7 +8,7 @@ use Rattle.std.proofs.lemmas.List.Elements.{Contains-append_left, Contains-push}
 use Rattle.compact_labels.specs.declared.cost.CompactCost.{CompactCost}
 use Rattle.compact_labels.specs.declared.label.CompactSpot.{CompactSpot}
 use Rattle.cost_vector.specs.Costs.{AtMost, Dominates, LexLess, lex_cmp}
-use Rattle.cost_vector.proofs.Vectors.{AtMost-trans, AtMost-length, Dominates-trans, cases_AtMost, cases_same}
+use Rattle.cost_vector.proofs.Vectors.{AtMost-trans, Dominates-trans, cases_AtMost}
 use Rattle.list_laws.specs.Without.{IsWithout}
 use Rattle.list_laws.proofs.Members.{cases_push}
 use Rattle.pareto_queue.proofs.RetainedLemmas.{loses_by_without}

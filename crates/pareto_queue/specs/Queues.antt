@@ -1,6 +1,6 @@
 -- What a queue of spots holds, and what is taken from it. A queue is a list of spots without repeats that stands for a set.
 -- Source: P. Sanders and L. Mandow, "Parallel label-setting multi-objective shortest path search", IPDPS 2013.
-use Rattle.std.specs.Prelude.{◌≡◌, ◌≢◌, ℕ, ◌<◌, ◌≤◌, ◌⊎◌, ◌↔◌, List, length, take, drop, All, AllPairs, Contains}
+use Rattle.std.specs.Prelude.{◌≡◌, ℕ, ◌<◌, ◌≤◌, ◌⊎◌, ◌↔◌, List, length, take, drop, All, AllPairs, Contains}
 use Rattle.cost_vector.specs.Costs.{Dominates, LexLess, max_criteria, min_criteria}
 use Rattle.compact_labels.specs.declared.cost.CompactCost.{CompactCost}
 use Rattle.compact_labels.specs.declared.label.CompactSpot.{CompactSpot}

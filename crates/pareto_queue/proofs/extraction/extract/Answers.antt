@@ -1,8 +1,7 @@
-use Rattle.std.proofs.Common.{rules, ◌+◌, take, subst, sym, ◌∙◌}
+use Rattle.std.proofs.Common.{subst, sym, ◌∙◌}
 use Rattle.std.proofs.lemmas.Bool.{false≢true}
 use Rattle.std.proofs.lemmas.List.{take_all}
 use Rattle.pareto_queue.specs.Queues.{IsDominatedBy}
-use Rattle.pareto_queue.specs.Shadows.{IsExtracted}
 use Rattle.pareto_queue.proofs.ExtractionLemmas.{none_extracted, left, took, all_extracted}
 use Rattle.pareto_queue.proofs.extraction.extract.Goals as goal
 use Rattle.pareto_queue.proofs.extraction.extract.Goals.{then-is_dominated+in_ok-push, else-is_dominated+in_ok-cast+in_ok-push-2}

@@ -1,5 +1,5 @@
-use Rattle.std.proofs.Common.{◌++◌, subst, sym}
-use Rattle.std.specs.Prelude.{All, Contains, IsPermutation}
+use Rattle.std.proofs.Common.{subst}
+use Rattle.std.specs.Prelude.{IsPermutation}
 use Rattle.pareto_queue.proofs.QueueLemmas.{queue_by_sort, gains_by_sort, by_success}
 use Rattle.std.specs.List.Sorted.{IsSorted}
 use Rattle.pareto_queue.proofs.OrderLemmas.{spot_cmp}

@@ -122,9 +122,9 @@ impl<G: Grammar> RecordLines<G> {
             Stage::Whole => return Ok(None),
             Stage::Failed(fault) => return Err(fault),
         };
-        let count = G::count(&problem);
-        match read_record::<G, S>(&mut self.lines, source, &problem, count, come) {
+        match read_record::<G, S>(&mut self.lines, source, &problem, come) {
             Ok(Some(next)) => {
+                prove!(come < G::count(&problem));
                 let come = come + 1;
                 self.stage = Stage::Records { problem, come };
                 Ok(Some(next))
@@ -176,12 +176,10 @@ fn read_record<G: Grammar, S: Source>(
     lines: &mut Lines,
     source: &mut S,
     problem: &G::Problem,
-    count: u32,
     come: u32,
 ) -> Result<Option<G::Record>, FileFault>
     requires fits { lines.old.limits.total ≤ 2 ^ 63 }
     requires at_stage { IsStage G.rules lines.old (Stage.Records problem.now come) }
-    requires count { count ≡ G.rules.count problem.now }
 
     // Where the source tells its bytes, the answer is that of the file's text, and no byte is lost.
     ensures tells { RecordTells G.rules (Some problem.now) come
@@ -197,7 +195,7 @@ fn read_record<G: Grammar, S: Source>(
     ensures source { ReadsFrom (S.state source.old) (S.state source.new) (file_failed result) }
 {
     if !next_line::<G, S>(lines, source)? {
-        return if come < count {
+        return if come < G::count(problem) {
             Err(behind(lines, LineKind::CountWrong))
         } else {
             Ok(None)

@@ -8,7 +8,7 @@ use Rattle.line_text.specs.Lines.{without_cr, lines_of}
 use Rattle.gr_reader.specs.declared.fault.FileLimits.{FileLimits}
 use Rattle.gr_reader.specs.declared.fault.LineKind.{LineKind}
 use Rattle.gr_reader.specs.declared.fault.LineKind.TheVariants.{SizeRange, CountWrong, NodeRange, WeightRange}
-use Rattle.gr_reader.specs.Rules.{Form, Rules, IsInRange, form_of}
+use Rattle.gr_reader.specs.Rules.{Form, Rules, IsWithinRange, form_of}
 use Rattle.gr_reader.specs.Rules.Form.{Problem, Record, Malformed}
 use Rattle.gr_reader.specs.Table.{State, form_kind, lacking, line_kind}
 use Rattle.gr_reader.specs.Rest.{Told, past, ends, with_line, read_lines, read_rest, at_start}
@@ -29,11 +29,11 @@ head_is form other forms others e = (cc, cc)
 module _ {P R : Type 0} (rules : Rules P R) where
   -- an accepted record was due and is in range
   record_accepted : (known : P) (come : ℕ) (r : R) → form_kind rules (Some known) come (Record r) ≡ None
-      → (come < rules.count known) × IsInRange rules known r
+      → (come < rules.count known) × IsWithinRange rules known r
   record_accepted known come r e = by_tests (nat_le (rules.count known) come) refl e where
     by_tests : (full : Bool) → nat_le (rules.count known) come ≡ full
         → cond full (Some CountWrong) (cond (not (rules.has_nodes known r)) (Some NodeRange) (cond (not (rules.has_weight r)) (Some WeightRange) None)) ≡ None
-        → (come < rules.count known) × IsInRange rules known r
+        → (come < rules.count known) × IsWithinRange rules known r
     by_tests true full e = absurd cc
     by_tests false full e =
         let nodes = passed_test NodeRange _ (rules.has_nodes known r) e in
@@ -41,7 +41,7 @@ module _ {P R : Type 0} (rules : Rules P R) where
         (due, record { nodes = nodes.0; weight = (passed_test WeightRange _ (rules.has_weight r) nodes.1).0 })
 
   -- such a record is accepted
-  record_fits : (known : P) (come : ℕ) (r : R) → come < rules.count known → IsInRange rules known r → form_kind rules (Some known) come (Record r) ≡ None
+  record_fits : (known : P) (come : ℕ) (r : R) → come < rules.count known → IsWithinRange rules known r → form_kind rules (Some known) come (Record r) ≡ None
   record_fits known come r due fits =
       let more : nat_le (rules.count known) come ≡ false = grind (arith, nat_tests) in
       rw (more, fits.nodes, fits.weight) refl
@@ -71,7 +71,7 @@ module _ {P R : Type 0} (rules : Rules P R) where
       knows : Knows state.problem known
       forms : forms_of rules lines ≡ header state.problem known ++ map Record records
       count : state.come + length records ≡ rules.count known
-      fit : AllByRecursion (IsInRange rules known) records
+      fit : AllByRecursion (IsWithinRange rules known) records
 
     -- what is told from the state on is such a rest
     abbrev Accepted : State P → List (List ℕ) → Told P R → Type 0
@@ -113,7 +113,7 @@ module _ {P R : Type 0} (rules : Rules P R) where
         let due = record_accepted known come r k in
         let rest = later (Some known) (come + 1) (number + 1) _ (omega (arith, due.0)) accepted in
         let ends = rest.2 in
-        let fits = subst (λ p. IsInRange rules p r) ends.knows due.1 in
+        let fits = subst (λ p. IsWithinRange rules p r) ends.knows due.1 in
         let forms = ap (λ forms. Record r ∷ forms) ends.forms in
         let count = ends.count in
         (rest.0, rest.1, record { unbroken = (limit, ends.unbroken); knows = ends.knows; forms = rw f forms; count = omega arith; fit = (fits, ends.fit) })
@@ -198,7 +198,7 @@ module _ {P R : Type 0} (rules : Rules P R) where
             lines = ends.forms;
             right_size = ends.knows;
             counted = omega (arith, ends.count);
-            in_range = All-from_recursion (IsInRange rules told.0) _ ends.fit;
+            in_range = All-from_recursion (IsWithinRange rules told.0) _ ends.fit;
           },
         )
 
@@ -213,5 +213,5 @@ module _ {P R : Type 0} (rules : Rules P R) where
           knows = file.right_size;
           forms = file.lines;
           count = omega (arith, file.counted);
-          fit = recursion_from_All (IsInRange rules problem) records file.in_range;
+          fit = recursion_from_All (IsWithinRange rules problem) records file.in_range;
         })

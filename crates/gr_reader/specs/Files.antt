@@ -5,7 +5,7 @@ use Rattle.std.specs.List.{filter_map}
 use Rattle.line_text.specs.Lines.{lines_of, without_cr}
 use Rattle.gr_reader.specs.declared.fault.FileLimits.{FileLimits}
 use Rattle.gr_reader.specs.declared.fault.LineKind.{LineKind}
-use Rattle.gr_reader.specs.Rules.{Form, Rules, form_of, IsInRange}
+use Rattle.gr_reader.specs.Rules.{Form, Rules, form_of, IsWithinRange}
 use Rattle.gr_reader.specs.Rules.Form.{Problem, Record, Malformed}
 use Rattle.gr_reader.specs.Table.{State, line_kind, end_kind}
 
@@ -36,7 +36,7 @@ module _ {P R : Type 0} (rules : Rules P R) where
     pub lines : forms_of (lines_of bytes) ≡ Problem problem ∷ map Record records
     pub right_size : rules.is_size problem ≡ true
     pub counted : length records ≡ rules.count problem
-    pub in_range : All (IsInRange rules problem) records
+    pub in_range : All (IsWithinRange rules problem) records
 
   -- the state behind these first lines of a file of so many bytes
   abbrev pub state_behind : ℕ → List (List ℕ) → State P

@@ -11,7 +11,7 @@ use Rattle.gr_reader.specs.declared.fault.LineKind.{LineKind}
 use Rattle.gr_reader.specs.declared.fault.LineKind.TheVariants.{WeightRange}
 use Rattle.gr_reader.specs.declared.record_lines.Stage.{Stage}
 use Rattle.gr_reader.specs.declared.record_lines.Stage.TheVariants.{Unread, Records, Whole, Failed}
-use Rattle.gr_reader.specs.Rules.{Rules, IsInRange}
+use Rattle.gr_reader.specs.Rules.{Rules, IsWithinRange}
 use Rattle.gr_reader.specs.Rules.Form.{Record}
 use Rattle.gr_reader.specs.Table.{State, line_limits}
 use Rattle.gr_reader.specs.Rest.{Fault, Told, read_rest, with_line}
@@ -133,7 +133,7 @@ module _ {P R : Type 0} (rules : Rules P R) where
 
   -- A record is answered that was due and is in range, or none where all have come.
   abbrev pub IsNext : P → ℕ → Result (Option R) FileFault → Type 0
-  IsNext problem come (Ok (Some r)) = (come < rules.count problem) × IsInRange rules problem r
+  IsNext problem come (Ok (Some r)) = (come < rules.count problem) × IsWithinRange rules problem r
   IsNext problem come (Ok None) = come ≡ rules.count problem
   IsNext problem come (Err fault) = ⊤
 

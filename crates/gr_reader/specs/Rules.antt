@@ -47,6 +47,6 @@ module _ {P R : Type 0} (rules : Rules P R) where
   form_of line = if is_ignored (fields_of line) then None else Some (form_in line)
 
   -- the record's ends are nodes, and its weight is in range
-  pub record IsInRange (problem : P) (r : R) : Type 0 where
+  pub record IsWithinRange (problem : P) (r : R) : Type 0 where
     pub nodes : rules.has_nodes problem r ≡ true
     pub weight : rules.has_weight r ≡ true

@@ -6,7 +6,7 @@ use Rattle.arc_graph.specs.Joiner.{Joiner}
 use Rattle.arc_graph.specs.StandsFor.{StandsFor}
 use Rattle.gr_reader.specs.declared.fault.FileFault.{FileFault}
 use Rattle.gr_reader.specs.declared.fault.FileLimits.{FileLimits}
-use Rattle.gr_reader.specs.Rules.{Rules, IsInRange}
+use Rattle.gr_reader.specs.Rules.{Rules, IsWithinRange}
 use Rattle.gr_reader.specs.Grammar.{IsGr, weights}
 use Rattle.gr_reader.specs.Reader.{IsFirstFault}
 
@@ -20,7 +20,7 @@ pub record IsDue
   pub taken : HasTaken before now problem records
   pub right_size : rules.is_size problem ≡ true
   pub due : length records < rules.count problem
-  pub in_range : IsInRange rules problem r
+  pub in_range : IsWithinRange rules problem r
 
 -- a joiner takes one more file
 pub record JoinerIsReady (joiner : Joiner) : Type 0 where

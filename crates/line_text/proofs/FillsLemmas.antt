@@ -9,10 +9,10 @@ use Rattle.std.proofs.lemmas.Slice.{between_is}
 use Rattle.route_io.specs.declared.fault.Failed.{Failed}
 use Rattle.route_io.specs.Sources.{SourceState, Reads}
 use Rattle.line_text.specs.declared.lines.Span.{Span}
-use Rattle.line_text.specs.Pieces.{Fills, IsIn, Took, part_of}
+use Rattle.line_text.specs.Pieces.{Fills, LiesIn, Took, part_of}
 
 -- The part was moved within the buffer, and then what stands before its end stayed.
-module _ (moved new was : List ℕ) (held : Span) (kept : part_of moved held ≡ was) (place : IsIn (length moved) held)
+module _ (moved new was : List ℕ) (held : Span) (kept : part_of moved held ≡ was) (place : LiesIn (length moved) held)
     (front : take held.end new ≡ take held.end moved) where
   grown : (end n : ℕ) → end ≡ held.end + n → slice_range new held.start end ≡ was ++ take n (drop held.end new)
   grown end n more =

@@ -15,7 +15,7 @@ abbrev pub part_of : List ℕ → Span → List ℕ
 part_of bytes span = slice_range bytes span.start span.end
 
 -- The part lies in a buffer of so many bytes.
-pub record IsIn (size : ℕ) (span : Span) : Type 0 where
+pub record LiesIn (size : ℕ) (span : Span) : Type 0 where
   pub ordered : span.start ≤ span.end
   pub within : span.end ≤ size
 

@@ -5,7 +5,7 @@ ghost use Rattle.std.specs.Result.{result_err};
 ghost use Rattle.route_io.specs.Sources.{Reads, ReadsFrom};
 ghost use Rattle.line_text.specs.Lines.{first_lf, without_cr};
 ghost use Rattle.line_text.specs.Marks.{first_fault, line_fault};
-ghost use Rattle.line_text.specs.Pieces.{Fills, IsIn, TakesHeld, part_of, past_line};
+ghost use Rattle.line_text.specs.Pieces.{Fills, LiesIn, TakesHeld, part_of, past_line};
 ghost use Rattle.line_text.specs.Reading.{Advances, InLimits, begun, max_held, max_line, line_failed};
 
 use crate::{LineFault, LineLimits};
@@ -46,7 +46,7 @@ pub struct Lines {
 impl Model for Lines {
     ghost use Rattle.std.specs.Prelude.{◌≡◌, ◌≢◌, ◌-◌, Some, vec_len};
     ghost use Rattle.line_text.specs.declared.limits.LineFault.TheVariants.{OutOfMemory};
-    ghost use Rattle.line_text.specs.Pieces.{InBounds, IsIn, part_of};
+    ghost use Rattle.line_text.specs.Pieces.{InBounds, LiesIn, part_of};
     ghost use Rattle.line_text.specs.Reading.{Lines, max_held};
 
     ghost Value = { Lines };
@@ -61,7 +61,7 @@ impl Model for Lines {
     } };
 
     ghost invariant = { λ lines. (vec_len lines.buffer ≡ max_held)
-        × IsIn max_held lines.text × IsIn max_held lines.held
+        × LiesIn max_held lines.text × LiesIn max_held lines.held
         × InBounds lines.limits (lines.text.end - lines.text.start)
         (lines.held.end - lines.held.start) lines.number lines.passed
         × (lines.fault ≢ Some OutOfMemory) };
@@ -299,10 +299,10 @@ fn fill<S: Source>(
     held: &mut Span,
     most: usize,
 ) -> Result<bool, Failed>
-    requires place { IsIn (length buffer.old) held.old }
+    requires place { LiesIn (length buffer.old) held.old }
     requires short { held.old.end - held.old.start < length buffer.old }
     requires some { 0 < most }
-    ensures place { IsIn (length buffer.new) held.new }
+    ensures place { LiesIn (length buffer.new) held.new }
     ensures at_most { held.new.end - held.new.start ≤ held.old.end - held.old.start + most }
     ensures reads { Fills (part_of buffer.old held.old) (part_of buffer.new held.new)
         (S.state source.old) (S.state source.new) result }
@@ -315,11 +315,11 @@ fn fill<S: Source>(
 
 /// Leaves room behind the bytes that are held. They are moved to the front only where they reach the buffer's end.
 fn make_room(buffer: &mut [u8], held: &mut Span)
-    requires place { IsIn (length buffer.old) held.old }
+    requires place { LiesIn (length buffer.old) held.old }
     requires short { held.old.end - held.old.start < length buffer.old }
     ensures kept { part_of buffer.new held.new ≡ part_of buffer.old held.old }
     ensures size { held.new.end - held.new.start ≡ held.old.end - held.old.start }
-    ensures place { IsIn (length buffer.new) held.new }
+    ensures place { LiesIn (length buffer.new) held.new }
     ensures room { held.new.end < length buffer.new }
 {
     if held.start < held.end && held.end < buffer.len() {

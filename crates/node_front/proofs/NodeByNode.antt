@@ -1,6 +1,6 @@
 -- How the deltas of many nodes come about, node by node, and that the order of the candidates makes no difference.
 use Rattle.std.proofs.Common.{◌≡◌, ◌≢◌, ◌↔◌, ℕ, ◌<◌, ◌≤◌, nat_eq, List, [], ◌∷◌, ◌++◌, map, inl, inr, refl, sym, ap, subst, ◌∙◌, arith}
-use Rattle.std.specs.Prelude.{All, AllPairs, Contains, IsPermutation, filter}
+use Rattle.std.specs.Prelude.{AllPairs, Contains, filter}
 use Rattle.std.proofs.lemmas.List.{append-nil, map-append}
 use Rattle.std.proofs.lemmas.List.Elements.{filter-append, All-nil, All-append}
 use Rattle.list_laws.specs.Sets.{ListsOnce}

@@ -1,13 +1,17 @@
 -- What is found in the fronts of all nodes, of which one has given up its settled entries.
-use Rattle.std.proofs.Common.{◌≡◌, ◌≢◌, ◌⊎◌, ◌↔◌, ℕ, zero, suc, ◌-◌, ◌^◌, min, take, Bool, true, nat_eq, ◌+◌, ◌<◌, ◌≤◌, List, [], ◌∷◌, ◌++◌, Some, None, Option, length, map, get_or, inl, inr, refl, sym, ap, subst, ◌∙◌, arith, option_map}
+use Rattle.std.proofs.Common.{◌≡◌, ◌≢◌, ◌⊎◌, ◌↔◌, ℕ, zero, suc, ◌-◌, ◌^◌, min, take, ◌+◌, ◌<◌, ◌≤◌, List, [], ◌∷◌, ◌++◌, Some, None, Option, length, map, get_or, inl, inr, refl, sym, ap, subst, ◌∙◌, arith, option_map, Ordering, Less, Equal, Greater}
 use Rattle.std.specs.Prelude.{AllPairs, Contains, slice_get}
-use Rattle.std.specs.Cmp.Lexicographic.{pointwise, bytes_decides}
+use Rattle.std.specs.Cmp.Lexicographic.{nat_list_cmp_total}
+use Rattle.std.specs.List.Sorted.{IsNonDecreasingBy, IsPartitionPoint}
+use Rattle.std.specs.Ordering.{ordering_index}
+use Rattle.std.proofs.lemmas.Bool.{cases_lt}
+use Rattle.std.proofs.lemmas.Cmp.{tied_itself}
 use Rattle.std.proofs.lemmas.List.{length-append, length-map, take_more}
 use Rattle.std.proofs.lemmas.List.Elements.{All-nil}
 use Rattle.std.proofs.lemmas.Option.{slice_get-map, slice_get-get_or}
-use Rattle.cost_vector.specs.Costs.{LexLess, min_criteria, max_criteria}
+use Rattle.cost_vector.specs.Costs.{LexLess, lex_cmp, min_criteria, max_criteria}
 use Rattle.cost_vector.specs.declared.label.ArcNo.{ArcNo}
-use Rattle.cost_vector.proofs.Vectors.{LexLess-irrefl}
+use Rattle.cost_vector.proofs.Vectors.{LexLess-irrefl, LexLess-trans, same_from_lex_cmp}
 use Rattle.list_laws.proofs.Members.{in_none, cases_in, in_map, of_map}
 use Rattle.list_laws.proofs.Pairs.{pairs_none, pairs_rest, pair_with_first, pairs_map}
 use Rattle.list_laws.proofs.OnceLaws.{in_append, pairs_append}
@@ -151,6 +155,46 @@ arc_missing {D} list c none arc = (
       absurd (none y_in.0 y y_in.1 (ap (λ (z : FrontEntry D). z.cost.0) y_in.2 ∙ sym (ap (λ (e : Entry). e.cost) is))),
 )
 
+-- what a greater cost stands to another, a lesser one does too, or is less than that
+rises_to : (a b c : List ℕ) → LexLess a b → ordering_index (lex_cmp a c) ≤ ordering_index (lex_cmp b c)
+rises_to a b c less = by (lex_cmp b c) refl where
+  low : (o : Ordering) → o ≡ Less → (n : ℕ) → ordering_index o ≤ n
+  low o is n = omega (arith, ap ordering_index is)
+
+  high : (o : Ordering) → ordering_index o ≤ 2
+  high Less = omega arith
+  high Equal = omega arith
+  high Greater = omega arith
+
+  by : (o : Ordering) → lex_cmp b c ≡ o → ordering_index (lex_cmp a c) ≤ ordering_index (lex_cmp b c)
+  by Less is = low (lex_cmp a c) (LexLess-trans a b c less is) (ordering_index (lex_cmp b c))
+  by Equal is = low (lex_cmp a c) (subst (LexLess a) (same_from_lex_cmp b c is) less) (ordering_index (lex_cmp b c))
+  by Greater is = let top = high (lex_cmp a c) in omega (arith, top, ap ordering_index is)
+
+-- where a search for a cost among ascending ones ends between lesser and greater ones, no entry has it
+pub none_between : {D : ℕ} (list : List (FrontEntry D)) → AllPairs LexLess (map (λ (e : FrontEntry D). e.cost.0) list) → (c : List ℕ) (i : ℕ)
+    → (IsNonDecreasingBy (λ (e : FrontEntry D). ordering_index (lex_cmp e.cost.0 c)) list
+    → IsPartitionPoint (λ (e : FrontEntry D). lex_cmp e.cost.0 c ≡ Less) (λ (e : FrontEntry D). lex_cmp e.cost.0 c ≡ Greater) list i)
+    → (k : ℕ) (d : FrontEntry D) → k < length list → (get_or list k d).cost.0 ≢ c
+none_between {D} list ascending c i splits k d within same = elim (cases_lt k i) [
+  | inl before ↦ not_itself Less (subst (λ a. lex_cmp a c ≡ Less) same (parts.0 k d (omega arith) before)) (λ is. cc)
+  | inr behind ↦ not_itself Greater (subst (λ a. lex_cmp a c ≡ Greater) same (parts.1 k d behind within)) (λ is. cc)
+] where
+  rises : IsNonDecreasingBy (λ (e : FrontEntry D). ordering_index (lex_cmp e.cost.0 c)) list
+  rises a b e upto inside = elim (cases_lt a b) [
+    | inl less ↦ rises_to (get_or list a e).cost.0 (get_or list b e).cost.0 c
+        (pairs_unmap LexLess (λ (x : FrontEntry D). x.cost.0) list ascending a b e less inside)
+    | inr not_less ↦
+        let one : a ≡ b = omega (arith, upto, not_less) in
+        subst (λ n. ordering_index (lex_cmp (get_or list a e).cost.0 c) ≤ ordering_index (lex_cmp (get_or list n e).cost.0 c)) one (omega arith)
+  ]
+
+  parts : IsPartitionPoint (λ (e : FrontEntry D). lex_cmp e.cost.0 c ≡ Less) (λ (e : FrontEntry D). lex_cmp e.cost.0 c ≡ Greater) list i
+  parts = splits rises
+
+  not_itself : (o : Ordering) → lex_cmp c c ≡ o → ¬ (Equal ≡ o) → ⊥
+  not_itself o is other = let tied = tied_itself nat_list_cmp_total c in other (cc)
+
 -- the cost at a place
 pub cost_found : {D : ℕ} (list : List (FrontEntry D)) (i : ℕ) (x : FrontEntry D) → i < length list → x ≡ get_or list i x
     → slice_get (map (λ (e : Entry). e.cost) (map (told_entry {D = D}) list)) i ≡ Some x.cost.0
@@ -279,10 +323,6 @@ module _ (d start target : ℕ) (before after : Fronts) (list : List (FrontEntry
                 absurd (none_taken e (subst (λ u. Contains (front_at after u).settled e) is e_in))
           ],
     )
-
--- what a test of two costs says
-pub same_lists_by_test : (a b : List ℕ) (test : Bool) → test ≡ pointwise nat_eq a b → test ≡ true → a ≡ b
-same_lists_by_test a b test is passes = (bytes_decides a b).0 (sym is ∙ passes)
 
 -- a front without entries is one
 pub empty_is_front : (d : ℕ) → min_criteria ≤ d → d ≤ max_criteria → IsFront d empty_front

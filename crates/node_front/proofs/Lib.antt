@@ -10,4 +10,5 @@ pub mod MergingLemmas
 pub mod DeltaLemmas
 pub mod MergeLaws
 pub mod RoundLemmas
+pub mod NodeByNode
 pub mod FoundLemmas

@@ -25,10 +25,10 @@ use Rattle.node_front.proofs.MergeLaws.{merged_none, merged_by_delta, brought_ca
 test_same : (a b : ℕ) → nat_eq a b ≡ true → a ≡ b
 test_same a b test = grind (arith, nat_tests)
 
-same_test : (a b : ℕ) → a ≡ b → nat_eq a b ≡ true
+pub same_test : (a b : ℕ) → a ≡ b → nat_eq a b ≡ true
 same_test a b same = grind (arith, nat_tests)
 
-other_test : (a b : ℕ) → a ≢ b → nat_eq a b ≡ false
+pub other_test : (a b : ℕ) → a ≢ b → nat_eq a b ≡ false
 other_test a b other = elim (cases_Bool (nat_eq a b)) [ inl passes ↦ absurd (other (test_same a b passes)) | inr fails ↦ fails ]
 
 -- what a test of two numbers says
@@ -39,7 +39,7 @@ pub other_numbers : (a b : ℕ) (test : Bool) → test ≡ nat_eq a b → test �
 other_numbers a b test is fails same = false≢true (sym fails ∙ is ∙ same_test a b same)
 
 module _ {D : ℕ} where
-  at_append : (v : ℕ) (ls ms : List (CompactLabel D)) → told_at v (ls ++ ms) ≡ told_at v ls ++ told_at v ms
+  pub at_append : (v : ℕ) (ls ms : List (CompactLabel D)) → told_at v (ls ++ ms) ≡ told_at v ls ++ told_at v ms
   at_append v ls ms =
       ap (map (entry_of {D = D})) (filter-append (λ (l : CompactLabel D). nat_eq l.node.0 v) ls ms)
       ∙ map-append (entry_of {D = D}) (filter (λ (l : CompactLabel D). nat_eq l.node.0 v) ls) (filter (λ (l : CompactLabel D). nat_eq l.node.0 v) ms)

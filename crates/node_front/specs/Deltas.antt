@@ -1,5 +1,5 @@
 -- What candidates make of the fronts of nodes.
-use Rattle.std.specs.Prelude.{◌≡◌, ℕ, ◌≤◌, List, ◌++◌, length, map, filter, nat_eq, All, AllPairs}
+use Rattle.std.specs.Prelude.{◌≡◌, ℕ, ◌<◌, ◌≤◌, List, [], ◌++◌, length, map, filter, nat_eq, All, AllPairs, IsPermutation}
 use Rattle.compact_labels.specs.declared.label.CompactLabel.{CompactLabel}
 use Rattle.compact_labels.specs.declared.label.CompactSpot.{CompactSpot}
 use Rattle.pareto_front.specs.Calls.{entry_of}
@@ -14,6 +14,16 @@ pub record Deltas (D : ℕ) : Type 0 where
   pub added : List (CompactLabel D)
   pub removed : List (CompactSpot D)
   pub lowered : List (CompactLabel D)
+
+-- no differences
+abbrev pub no_deltas : (D : ℕ) → Deltas D
+no_deltas D = record { added = []; removed = []; lowered = [] }
+
+-- those of `more` were appended
+pub record AppendsDeltas {D : ℕ} (before more after : Deltas D) : Type 0 where
+  pub added : after.added ≡ before.added ++ more.added
+  pub removed : after.removed ≡ before.removed ++ more.removed
+  pub lowered : after.lowered ≡ before.lowered ++ more.lowered
 
 -- the label of an entry of the node v
 abbrev pub label_told : {D : ℕ} → ℕ → Entry → CompactLabel D
@@ -64,3 +74,23 @@ pub record MergesAll {D : ℕ} (before : Fronts) (candidates : List (CompactLabe
 -- each front has room for the new entries of its node
 abbrev pub HasRoom : {D : ℕ} → Fronts → List (CompactLabel D) → Type 0
 HasRoom f added = (v : ℕ) → length (told_at v added) ≤ spare_at f v
+
+-- ---- how they come about
+
+-- more candidates, all of the node v, which stands behind the nodes of the others
+pub record ComeNext {D : ℕ} (f : Fronts) (candidates : List (CompactLabel D)) (v : ℕ) (more : List (CompactLabel D)) : Type 0 where
+  pub node : IsNode f.nodes v
+  pub behind : All (λ l. l.node.0 < v) candidates
+  pub at_node : All (λ l. l.node.0 ≡ v) more
+  pub spares : All (λ l. SparesSettled (front_at f v) l.cost.0) more
+
+-- behind the deltas of some candidates, what the candidates of a later node make of its front makes the deltas of all
+abbrev pub GrowNodeByNode : ℕ → Fronts → Type 0
+GrowNodeByNode D f = (candidates : List (CompactLabel D)) (v : ℕ) (more : List (CompactLabel D)) (before after : Deltas D)
+    → AreDeltas f candidates before → ComeNext f candidates v more
+    → AppendsDelta v (front_at f v) (map entry_of more) before after → AreDeltas f (candidates ++ more) after
+
+-- the order of the candidates makes no difference
+abbrev pub FitAnyOrder : ℕ → Fronts → Type 0
+FitAnyOrder D f = (candidates others : List (CompactLabel D)) (d : Deltas D) → IsPermutation candidates others
+    → AreDeltas f candidates d → AreDeltas f others d

@@ -1,7 +1,9 @@
-ghost use Rattle.std.specs.Prelude.{◌≡◌, []};
+ghost use Rattle.std.specs.Prelude.{◌≡◌, [], OnOk};
+ghost use Rattle.node_front.specs.Deltas.{AppendsDeltas};
 
 use crate::merging::Survivor;
 use compact_labels::{CompactLabel, CompactSpot};
+use cost_vector::OutOfMemory;
 use std::alloc::Global;
 use std::marker::Model;
 
@@ -53,6 +55,16 @@ impl<const D: usize> Deltas<D> {
         self.added.clear();
         self.removed.clear();
         self.lowered.clear();
+    }
+
+    /// Appends all differences that another list tells.
+    pub fn append(&mut self, more: &Deltas<D>) -> Result<(), OutOfMemory>
+        ensures { OnOk result (AppendsDeltas self.old more.now self.new) }
+    {
+        self.added.extend_from_slice(&more.added)?;
+        self.removed.extend_from_slice(&more.removed)?;
+        self.lowered.extend_from_slice(&more.lowered)?;
+        Ok(())
     }
 
     /// The labels of the new entries.

@@ -107,10 +107,14 @@ fn arc_of<const D: usize>(entries: &[FrontEntry<D>], cost: &CompactCost<D>) -> O
     ensures { (arc : ArcNo) → (result ≡ Some arc) ↔ Contains (map told_entry entries.now)
         (record { cost = cost.now.0; arc = arc.0 }) }
 {
-    for entry in entries {
-        if entry.cost == *cost {
-            return Some(entry.arc);
-        }
+    let found = entries.binary_search_by_key(
+        cost,
+        |entry| -> CompactCost<D>
+            ensures { result ≡ entry.now.cost }
+        { entry.cost },
+    );
+    match found {
+        Ok(place) => Some(entries[place].arc),
+        Err(_) => None,
     }
-    None
 }

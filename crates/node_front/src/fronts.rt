@@ -1,6 +1,6 @@
 ghost use Rattle.std.specs.Prelude.{◌≡◌, ◌≢◌, ◌↔◌, ℕ, ◌≤◌, ◌+◌, ◌<◌, List, [], ◌∷◌, map, length, slice_index, IsTrue, IfOk, OnOk, OnErr, All, AllPairs, Contains, Some};
 ghost use Rattle.cost_vector.specs.Costs.{max_criteria, min_criteria};
-ghost use Rattle.node_front.specs.Deltas.{AppendsDelta, AreDeltas, AreSomeDeltas, HasRoom, MergesAll};
+ghost use Rattle.node_front.specs.Deltas.{AppendsDelta, AreDeltas, AreSomeDeltas, FitAnyOrder, GrowNodeByNode, HasRoom, MergesAll, no_deltas};
 ghost use Rattle.pareto_front.specs.Calls.{Enters, GrowsBy, ListsSettled, Relabels, Settles, entry_of};
 ghost use Rattle.pareto_front.specs.Fronts.{HasCost, IsCovered, IsFront, SparesSettled, empty_front, entries};
 ghost use Rattle.pareto_front.specs.Merging.{IsMerged, IsAdded, IsRemoved};
@@ -111,7 +111,7 @@ impl<const D: usize, F: ParetoFront<D> + Drop> Fronts<D, F> {
         self.fronts[place].settle(&spot.cost);
     }
 
-    /// AppendsDelta what the candidates, which are all of one node, make of its front.
+    /// Appends what the candidates, which are all of one node, make of its front.
     pub fn merge(
         &self,
         node: NodeNo,
@@ -128,6 +128,15 @@ impl<const D: usize, F: ParetoFront<D> + Drop> Fronts<D, F> {
     {
         let _kept = &self.places;
         merging::merge(self.front(node), node, candidates, deltas)
+    }
+
+    /// How the deltas of these fronts come about; it does nothing.
+    pub fn deltas_grow_node_by_node(&self)
+        ensures none { AreDeltas self.now [] (no_deltas D) }
+        ensures grow { GrowNodeByNode D self.now }
+        ensures any_order { FitAnyOrder D self.now }
+    {
+        let _kept = &self.places;
     }
 
     /// Makes the room that `apply` needs, and begins the fronts of nodes that are newly reached.

@@ -58,7 +58,7 @@ pub(crate) struct Survivor<const D: usize> {
     pub(crate) is_new: bool,
 }
 
-/// AppendsDelta what the candidates, which are all of one node, make of its front.
+/// Appends what the candidates, which are all of one node, make of its front.
 pub fn merge<const D: usize, F: ParetoFront<D>>(
     front: &F,
     node: NodeNo,
@@ -189,7 +189,7 @@ fn is_needless<const D: usize>(label: &CompactLabel<D>, beside: &CompactLabel<D>
     beside.cost.at_most(&label.cost) && (beside.cost != label.cost || beside.arc <= label.arc)
 }
 
-/// AppendsDelta the spots of the entries that survivors dominate.
+/// Appends the spots of the entries that survivors dominate.
 fn find_removed<const D: usize, F: ParetoFront<D>>(
     front: &F,
     node: NodeNo,
@@ -218,7 +218,7 @@ fn find_removed<const D: usize, F: ParetoFront<D>>(
     Ok(())
 }
 
-/// AppendsDelta the spots whose costs none of the survivors dominates.
+/// Appends the spots whose costs none of the survivors dominates.
 fn append_others<const D: usize>(
     found: &[CompactSpot<D>],
     survivors: &[Survivor<D>],
@@ -247,7 +247,7 @@ fn any_dominates<const D: usize>(survivors: &[Survivor<D>], spot: &CompactSpot<D
     )
 }
 
-/// AppendsDelta the labels of the survivors, by their marks.
+/// Appends the labels of the survivors, by their marks.
 fn put_survivors<const D: usize>(
     survivors: &[Survivor<D>],
     added: &mut Vec<CompactLabel<D>>,

@@ -1,15 +1,15 @@
 -- What an operator keeps, by what it does.
 use Rattle.std.proofs.Common.{◌≡◌, ℕ, ◌+◌, ◌<◌, ◌≤◌, inl, inr, List, [], ◌∷◌, ◌++◌, length-append, refl, ap, arith}
-use Rattle.std.specs.Prelude.{sum}
+use Rattle.std.specs.Prelude.{length, sum}
 use Rattle.std.proofs.lemmas.Bool.{cases_lt}
 use Rattle.std.proofs.lemmas.List.{map-append}
 use Rattle.std.proofs.lemmas.List.Sums.{sum_by-cons}
 use Rattle.std.proofs.lemmas.List.Elements.{All-nil, All-cons, All-push}
-use Rattle.arc_graph.proofs.HistoryLemmas.{count_with_set}
+use Rattle.arc_graph.proofs.HistoryLemmas.{count_with_set, sets_closed}
 use Rattle.arc_graph.proofs.OperatorLemmas.{operator_published, operator_closed}
 use Rattle.arc_graph.specs.declared.change.Change.{Change}
-use Rattle.arc_graph.specs.History.{IsChange, Operator, max_epoch, sets_of, with_none_pending, with_pending}
-use Rattle.arc_graph.specs.History.HistoryEntry.{Changes}
+use Rattle.arc_graph.specs.History.{History, IsChange, Operator, max_epoch, sets_of, with_none_pending, with_pending}
+use Rattle.arc_graph.specs.History.HistoryEntry.{Changes, Closed}
 use Rattle.epoch_store.specs.Faults.{MayPend, IsZero}
 use Rattle.epoch_store.specs.Origin.{Origin, IsOperatorIn, arcs_of, criteria_of, last_number}
 use Rattle.epoch_store.specs.Published.{Published, closing_of, epoch_of, of_sets}
@@ -88,3 +88,7 @@ module _ (o : Origin) (css : List (List Change)) (cs : List Change) (n : ℕ)
   end_follows p shown =
       closing_follows o p (of_sets css) n shown number
       (operator_closed (arcs_of o) (criteria_of o) o.first (record { published = of_sets css; pending = cs }) is)
+
+-- the closed history has the last epoch that was published
+pub closed_last : (o : Origin) (h : History) → last_number o (h ++ Closed ∷ []) ≡ last_number o h
+closed_last o h = ap (λ (css : List (List Change)). o.first + length css) (sets_closed h)

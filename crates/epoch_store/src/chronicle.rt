@@ -67,16 +67,18 @@ impl Model for Chronicle {
     ghost invariant = { λ c. (c.seen.log ≡ []) × (c.count ≡ count_of c.seen.book) };
 }
 
-impl Chronicle {
+impl Default for Chronicle {
     /// A new one. It takes no memory.
-    pub fn new() -> Chronicle {
+    fn default() -> Chronicle {
         let (seen, mut first, _second) = Seen::open(Start::alone(), 0, 0);
         Chronicle {
             count: Word::tracked(0, &mut first),
             seen,
         }
     }
+}
 
+impl Chronicle {
     /// The chronicle of the store that has it, with the right to add to it.
     pub(crate) fn into_keeper<S: Store>(self) -> Keeper<S>
         requires { self ≡ S.origin.chronicle }

@@ -74,6 +74,8 @@ pub struct Ended<S: Store>
 where
     Published<S>: Absorb<Publication<S>, State = Published<S>>,
 {
+    /// The number of the last epoch.
+    last: u32,
     pub(crate) writer: StoreWriter<S>,
 }
 
@@ -81,11 +83,15 @@ impl<S: Store> Model for Ended<S>
 where
     Published<S>: Absorb<Publication<S>, State = Published<S>>,
 {
+    ghost use Rattle.std.specs.Prelude.{◌≡◌};
     ghost use Rattle.arc_graph.specs.History.{History};
+    ghost use Rattle.epoch_store.specs.Origin.{last_number};
 
     ghost Value = { History };
 
     ghost view = { λ e. e.writer.desk.shown.value.history };
+
+    ghost invariant = { λ e. e.last ≡ last_number S.origin e.writer.desk.shown.value.history };
 }
 
 impl<S: Store> Operator<S> {
@@ -236,7 +242,10 @@ impl<S: Store> Operator<S> {
             mut writer,
         } = self;
         match end_history(rt, alloc, number, &draft, &mut keeper, &mut writer) {
-            Ok(()) => Ok(Ended { writer }),
+            Ok(()) => Ok(Ended {
+                last: number,
+                writer,
+            }),
             Err(_) => Err(CloseRefused {
                 operator: Operator {
                     alloc,
@@ -274,10 +283,14 @@ impl<S: Store> Operator<S> {
 }
 
 impl<S: Store> Ended<S> {
-    /// Gives the store's memory back, but for what its readers hold. It takes no memory, and may wait for readers.
-    pub fn end<R: Wait>(self, rt: &R) {
-        let Ended { writer } = self;
+    /// Gives the store's memory back, but for what its readers hold, and answers the number of the last epoch. It takes no
+    /// memory, and may wait for readers.
+    pub fn end<R: Wait>(self, rt: &R) -> u32
+        ensures { result ≡ last_number S.origin self }
+    {
+        let Ended { last, writer } = self;
         writer.take(rt);
+        last
     }
 }
 

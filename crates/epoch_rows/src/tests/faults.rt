@@ -15,7 +15,7 @@ use std::test::Fail;
 fn the_first_fault_is_told(rt: HostRuntime) -> Result<(), Fail> {
     let alloc = rt.alloc();
     let weights = six_arcs(alloc)?;
-    refuse_all::<Brand, _>(&rt, alloc, Chronicle::new(), weights)
+    refuse_all::<Brand, _>(&rt, alloc, Chronicle::default(), weights)
 }
 
 fn refuse_all<S: Store, R: Wait + Abort>(

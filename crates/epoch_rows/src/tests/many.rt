@@ -15,7 +15,7 @@ use std::test::Fail;
 fn a_read_copies_changed_pages_alone(rt: HostRuntime) -> Result<(), Fail> {
     let alloc = rt.alloc();
     let weights = weights(alloc, 4, 4194304, &|_file, arc| arc % 89 + 1)?;
-    publish_often::<Brand, _>(&rt, alloc, Chronicle::new(), weights)
+    publish_often::<Brand, _>(&rt, alloc, Chronicle::default(), weights)
 }
 
 fn publish_often<S: Store, R: Wait + Abort>(

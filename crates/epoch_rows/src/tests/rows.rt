@@ -41,7 +41,7 @@ const SETS: [&[Asked]; 6] = [
 fn readers_find_each_epoch_whole(rt: HostRuntime) -> Result<(), Fail> {
     let alloc = rt.alloc();
     let weights = weights(alloc, 2, 4100, &|_file, arc| arc % 89 + 1)?;
-    publish_over_a_page::<Brand, _>(&rt, alloc, Chronicle::new(), weights)
+    publish_over_a_page::<Brand, _>(&rt, alloc, Chronicle::default(), weights)
 }
 
 fn publish_over_a_page<S: Store, R: Wait + Abort>(
@@ -136,7 +136,7 @@ pub(super) fn six_arcs(alloc: Global) -> Result<Weights, Fail>
 fn a_reader_that_was_told_sees_the_epoch(rt: HostRuntime) -> Result<(), Fail> {
     let alloc = rt.alloc();
     let weights = six_arcs(alloc)?;
-    publish_and_close::<Brand, _>(&rt, alloc, Chronicle::new(), weights)
+    publish_and_close::<Brand, _>(&rt, alloc, Chronicle::default(), weights)
 }
 
 fn publish_and_close<S: Store, R: Wait + Abort>(

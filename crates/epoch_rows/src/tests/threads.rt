@@ -43,7 +43,7 @@ fn changes_of(k: u32) -> [Change; 3]
 fn readers_at_once_find_whole_epochs(rt: HostRuntime) -> Result<(), Fail> {
     let alloc = rt.alloc();
     let weights = weights(alloc, 2, 4200, &|file, arc| arc % 89 + file % 4 + 1)?;
-    publish_beside_readers::<Brand, _>(&rt, alloc, Chronicle::new(), weights)
+    publish_beside_readers::<Brand, _>(&rt, alloc, Chronicle::default(), weights)
 }
 
 fn publish_beside_readers<S: Store + Send + Sync, R: Threads + Wait + Abort + Sync>(

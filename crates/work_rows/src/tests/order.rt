@@ -1,8 +1,8 @@
 ghost use Rattle.std.specs.Prelude.{◌≡◌, ◌*◌, ◌^◌, ◌<◌};
 
+use super::counting::Counting;
 use cost_vector::OutOfMemory;
-use route_io::{Gate, Phase};
-use std::sync::atomic::{AtomicU64, Ordering};
+use route_io::Phase;
 use std::test::Fail;
 use work_claim::{Crew, Job, run_pieces};
 
@@ -22,20 +22,6 @@ impl Job for Squares {
     }
 }
 
-/// Counts the pieces that pass, and adds up their numbers.
-#[derive(Drop)]
-struct Counting {
-    passed: AtomicU64,
-    sum: AtomicU64,
-}
-
-impl Gate for Counting {
-    fn pass(&self, _phase: Phase, piece: u64) {
-        self.passed.fetch_add(1, Ordering::SeqCst);
-        self.sum.fetch_add(piece, Ordering::SeqCst);
-    }
-}
-
 /// How many pieces, the last ones' results, and the sum of their numbers.
 const CASES: [(usize, &[usize], u64); 4] = [
     (0, &[], 0),
@@ -48,10 +34,7 @@ const CASES: [(usize, &[usize], u64); 4] = [
 fn results_stand_in_the_order_of_their_pieces(rt: HostRuntime) -> Result<(), Fail> {
     for workers in [1, 3, 64] {
         for (pieces, last, sum) in CASES {
-            let gate = Counting {
-                passed: AtomicU64::new(0),
-                sum: AtomicU64::new(0),
-            };
+            let gate = Counting::new();
             let crew = Crew {
                 rt: &rt,
                 workers,
@@ -60,8 +43,12 @@ fn results_stand_in_the_order_of_their_pieces(rt: HostRuntime) -> Result<(), Fai
             let outs = run_pieces(&crew, rt.alloc(), pieces, Phase::Relax, &Squares)?;
             assert_eq!(rt; outs.len(), pieces, "{pieces} pieces, {workers} workers");
             assert!(rt; outs.ends_with(last), "{pieces} pieces, {workers} workers");
-            assert_eq!(rt; gate.passed.load(Ordering::SeqCst), pieces as u64);
-            assert_eq!(rt; gate.sum.load(Ordering::SeqCst), sum);
+            assert_eq!(rt;
+                gate.passed(),
+                pieces as u64,
+                "{pieces} pieces, {workers} workers"
+            );
+            assert_eq!(rt; gate.sum(), sum, "{pieces} pieces, {workers} workers");
         }
     }
     Ok(())

@@ -7,6 +7,7 @@ use Rattle.event_machine.specs.Machine.{Task, IsTask, Label, SearchState, start_
 use Rattle.event_machine.specs.Events.{IsReached}
 use Rattle.pareto_front.specs.Fronts.{Entry}
 use Rattle.node_front.specs.NodeFronts.{Fronts, front_at}
+use Rattle.round_core.specs.Unsettled.{IsUnsettled}
 
 -- What is searched and within which budget, the fronts of all nodes, the spots of the labels that wait, which stand for a
 -- set, and the spots of those that the open round has taken, in ascending order. Between rounds none is taken.
@@ -41,9 +42,9 @@ as_compact y = record { node = record { 0 = y.node }; cost = record { 0 = y.cost
 pub record StandsFor {D : ℕ} (net : Network) (core : Core D) (s : SearchState) : Type 0 where
   pub settled : (y : Label) → Contains s.settled y ↔ Contains (front_at core.fronts y.node).settled (as_entry y)
   pub dropped : (y : Label) → Contains s.dropped y
-      ↔ (Contains (front_at core.fronts y.node).unsettled (as_entry y) × (¬ Contains core.waiting (as_spot y)))
+      ↔ (IsUnsettled (front_at core.fronts y.node) (as_entry y) × (¬ Contains core.waiting (as_spot y)))
   pub waiting : (y : Label) → Contains s.waiting y
-      ↔ (Contains (front_at core.fronts y.node).unsettled (as_entry y) × Contains core.waiting (as_spot y))
+      ↔ (IsUnsettled (front_at core.fronts y.node) (as_entry y) × Contains core.waiting (as_spot y))
   pub unrelaxed : (p : Label × ℕ) → Contains s.unrelaxed p
       ↔ (Contains s.settled p.0 × Contains core.taken (as_spot p.0) × LeadsOn net p.0.node p.1)
   pub candidates : s.candidates ≡ []

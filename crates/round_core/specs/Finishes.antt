@@ -9,6 +9,7 @@ use Rattle.event_machine.specs.Orders.{IsArrival, Completes}
 use Rattle.pareto_front.specs.Fronts.{HasCost, entries}
 use Rattle.node_front.specs.Deltas.{MergesAll}
 use Rattle.node_front.specs.NodeFronts.{front_at}
+use Rattle.round_core.specs.Arriving.{WaitsAsMerged}
 use Rattle.round_core.specs.Cores.{Core, StandsFor, IsAt, SameSearch, as_compact}
 
 -- the candidates are what the labels of the open round give along the arcs that lead on from them
@@ -20,9 +21,7 @@ AreArrivals net s candidates = (x : Label) → Contains candidates (as_compact x
 pub record MergesRound {D : ℕ} (candidates : List (CompactLabel D)) (before after : Core D) : Type 0 where
   pub same_search : SameSearch before after
   pub fronts : MergesAll before.fronts candidates after.fronts
-  pub waiting : (x : CompactSpot D) → Contains after.waiting x
-      ↔ (HasCost (front_at after.fronts x.node.0).unsettled x.cost.0
-      × (Contains before.waiting x ⊎ (¬ HasCost (entries (front_at before.fronts x.node.0)) x.cost.0)))
+  pub waiting : WaitsAsMerged before.fronts before.waiting after.fronts (Contains after.waiting)
   pub none_taken : after.taken ≡ []
 
 -- Where these candidates arrive, each list of events that relaxes each arc and merges each candidate once, after it was

@@ -1,3 +1,5 @@
+pub mod Unsettled
+pub mod Arriving
 pub mod Cores
 pub mod Begins
 pub mod Finishes

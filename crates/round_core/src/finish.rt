@@ -1,15 +1,20 @@
-ghost use Rattle.std.specs.Prelude.{◌≡◌, ◌≤◌, List, IfOk, All};
+ghost use Rattle.std.specs.Prelude.{◌≡◌, List, [], ◌∷◌, IfOk, OnOk, All};
 ghost use Rattle.compact_labels.specs.declared.label.CompactLabel.{CompactLabel as LabelTold};
 ghost use Rattle.node_front.specs.Deltas.{AreDeltas, AreSomeDeltas};
-ghost use Rattle.node_front.specs.NodeFronts.{front_at};
-ghost use Rattle.pareto_front.specs.Fronts.{SparesSettled};
+ghost use Rattle.node_front.specs.NodeFronts.{SameElsewhere, front_at};
+ghost use Rattle.pareto_front.specs.Calls.{GrowsBy, entry_of};
+ghost use Rattle.pareto_front.specs.Fronts.{IsCovered, SparesSettled, entries};
+ghost use Rattle.pareto_front.specs.Merging.{IsMerged, IsRemoved};
 ghost use Rattle.road_network.specs.Network.{IsNode};
+ghost use Rattle.round_core.specs.Arriving.{AddsIfNew, spot_at};
 ghost use Rattle.round_core.specs.Finishes.{FinishesRound, MergesRound};
+ghost use Rattle.round_core.specs.Waiting.{all_waiting};
 
 use crate::Core;
+use crate::waiting::Waiting;
 use compact_labels::{CompactLabel, CompactSpot};
 use cost_vector::OutOfMemory;
-use node_front::Deltas;
+use node_front::{Deltas, Fronts};
 use pareto_front::ParetoFront;
 
 impl<const D: usize, F: ParetoFront<D> + Drop> Core<D, F> {
@@ -42,26 +47,45 @@ impl<const D: usize, F: ParetoFront<D> + Drop> Core<D, F> {
     {
         self.removed.clear();
         for label in candidates {
-            self.arrive(label)?;
+            arrive(&mut self.fronts, &mut self.waiting, &mut self.removed, label)?;
         }
         self.waiting.remove(&self.removed)?;
         self.taken.clear();
         Ok(self)
     }
+}
 
-    /// Takes a label into the front of its node; it waits, where it is a new entry. The spots of the entries that are gone
-    /// are appended to `removed`.
-    pub(crate) fn arrive(&mut self, label: &CompactLabel<D>) -> Result<(), OutOfMemory> {
-        if self.fronts.arrive(label, &mut self.removed)? {
-            self.waiting.add(spot_of(label))?;
-        }
-        Ok(())
+/// Takes a label into the front of its node; it waits, where it is a new entry. The spots of the entries that are gone are
+/// appended to `removed`, and still wait.
+pub(crate) fn arrive<const D: usize, F: ParetoFront<D> + Drop>(
+    fronts: &mut Fronts<D, F>,
+    waiting: &mut Waiting<D>,
+    removed: &mut Vec<CompactSpot<D>>,
+    label: &CompactLabel<D>,
+) -> Result<(), OutOfMemory>
+    requires node { IsNode fronts.old.nodes label.now.node.0 }
+    requires spares { SparesSettled (front_at fronts.old label.now.node.0) label.now.cost.0 }
+    requires waits { All (λ x. IsCovered (entries (front_at fronts.old x.node.0)) x.cost.0)
+        (all_waiting waiting.old) }
+    ensures elsewhere { SameElsewhere label.now.node.0 fronts.old fronts.new }
+    ensures merged { OnOk result (IsMerged (front_at fronts.old label.now.node.0)
+        (entry_of label.now ∷ []) (front_at fronts.new label.now.node.0)) }
+    ensures removed { OnOk result (GrowsBy label.now.node.0
+        (IsRemoved (front_at fronts.old label.now.node.0) (entry_of label.now ∷ []))
+        removed.old.items removed.new.items) }
+    ensures queued { waiting.new.queued ≡ waiting.old.queued }
+    ensures fresh { OnOk result (AddsIfNew (front_at fronts.old label.now.node.0) label.now
+        waiting.old.fresh waiting.new.fresh) }
+{
+    if fronts.arrive(label, removed)? {
+        waiting.add(spot_of(label))?;
     }
+    Ok(())
 }
 
 /// The label's node and cost.
 fn spot_of<const D: usize>(label: &CompactLabel<D>) -> CompactSpot<D>
-    ensures { result ≡ record { cost = label.now.cost; node = label.now.node } }
+    ensures { result ≡ spot_at label.now }
 {
     CompactSpot {
         cost: label.cost,

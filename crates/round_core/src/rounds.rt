@@ -7,6 +7,7 @@ ghost use Rattle.road_network.specs.Network.{IsNode};
 ghost use Rattle.round_core.specs.Cores.{IsAt, IsNewSearch};
 
 use crate::bounds::Bounds;
+use crate::finish::arrive;
 use crate::waiting::Waiting;
 use compact_labels::{CompactCost, CompactLabel, CompactSpot};
 use cost_vector::{ArcNo, Limit, NodeNo, OutOfMemory};
@@ -97,7 +98,7 @@ impl<const D: usize, F: ParetoFront<D> + Drop> Core<D, F> {
             cost: CompactCost::zero(),
             arc: ArcNo(0),
         };
-        self.arrive(&label)?;
+        arrive(&mut self.fronts, &mut self.waiting, &mut self.removed, &label)?;
         Ok(self)
     }
 

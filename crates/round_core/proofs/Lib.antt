@@ -1,0 +1,2 @@
+pub mod UnsettledLemmas
+pub mod OutcomeLemmas

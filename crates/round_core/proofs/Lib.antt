@@ -1,2 +1,3 @@
 pub mod UnsettledLemmas
 pub mod OutcomeLemmas
+pub mod ArrivingLemmas

@@ -6,10 +6,13 @@ use Rattle.list_laws.proofs.Members.{in_none, in_filter, in_map}
 use Rattle.list_laws.proofs.OnceLaws.{in_append}
 use Rattle.list_laws.proofs.SetLaws.{none_of_empty}
 use Rattle.compact_labels.specs.declared.label.CompactLabel.{CompactLabel}
-use Rattle.event_machine.specs.Machine.{Task, Label, IsSamePair, SearchState, IsEntry, Beats, settled, dropped, waiting}
+use Rattle.event_machine.specs.Machine.{Task, Label, IsSamePair, SearchState, IsEntry, Beats, settled, dropped, waiting, start_state}
+use Rattle.event_machine.specs.Events.{Event, Runs, merge}
+use Rattle.event_machine.specs.Rounds.{relaxing}
 use Rattle.event_machine.specs.Orders.{IsArrival, IsOutcome, Survives, HasPair, Belongs}
+use Rattle.event_machine.proofs.Running.{runs_on}
 use Rattle.event_machine.proofs.Keeping.{sound_if_reached}
-use Rattle.bulk_rounds.proofs.CompletesLaws.{completes_to_outcome}
+use Rattle.bulk_rounds.proofs.CompletesLaws.{completes_to_outcome, finishes_is_outcome}
 use Rattle.pareto_front.specs.Calls.{entry_of}
 use Rattle.pareto_front.specs.Fronts.{Entry, Front, HasCost, IsDominated, entries}
 use Rattle.pareto_front.specs.Merging.{Stays, IsMerged}
@@ -19,7 +22,7 @@ use Rattle.node_front.specs.NodeFronts.{front_at}
 use Rattle.node_front.proofs.MergedLemmas.{merged_apart}
 use Rattle.node_front.proofs.NeedlessLemmas.{told_has_cost}
 use Rattle.node_front.proofs.RoundLemmas.{of_at}
-use Rattle.round_core.specs.Cores.{Core, StandsFor, as_compact, as_entry, as_spot}
+use Rattle.round_core.specs.Cores.{Core, IsAt, IsSearchOf, SameSearch, StandsFor, as_compact, as_entry, as_spot}
 use Rattle.round_core.specs.Finishes.{AreArrivals, FinishesRound, MergesRound}
 use Rattle.round_core.specs.Unsettled.{HasUnsettled, IsUnsettled}
 use Rattle.round_core.proofs.UnsettledLemmas.{settled_by_cost, cases_settled, settled_has_cost, spot_by_parts, told_spot}
@@ -204,12 +207,40 @@ module _ {D : ℕ} (task : Task) (before after : Core D) (s end : SearchState) (
         λ h. absurd (none_of_empty after.taken merges.none_taken (as_spot p.0) h.1),
       );
       candidates = outcome.candidates;
+      taken = λ x there. absurd (none_of_empty after.taken merges.none_taken x there);
     }
+
+-- a core of the same search searches for the same tasks
+pub same_task : {D : ℕ} (task : Task) (before after : Core D) → SameSearch before after → IsSearchOf task before → IsSearchOf task after
+same_task task before after same is = record {
+  is_task = is.is_task;
+  nodes = is.nodes ∙ sym same.nodes;
+  criteria = is.criteria;
+  start = is.start ∙ sym same.start;
+  target = is.target ∙ sym same.target;
+  limit = is.limit ∙ sym same.limit;
+}
 
 -- where the candidates of a round were merged, the core stands for the state to which its events lead
 pub finishes_by_merge : {D : ℕ} (candidates : List (CompactLabel D)) (before after : Core D) → ((v : ℕ) → AreApart (entries (front_at before.fronts v)))
     → MergesRound candidates before after → FinishesRound candidates before after
-finishes_by_merge candidates before after apart merges task s end events at arrivals completes run =
-    let is = at.search.is_task in
-    stands_after task before after s end candidates at.stands apart arrivals merges
-    ((completes_to_outcome task is s (sound_if_reached task is s at.reached) events completes end).0 run)
+finishes_by_merge candidates before after apart merges = record {
+  outcome = λ task s end at arrivals outcome.
+      let sound = sound_if_reached task at.search.is_task s at.reached in
+      let f = (finishes_is_outcome task at.search.is_task s sound end).1 outcome in
+      let run = runs_on task s f.relaxed end (map relaxing f.relaxes) (map (λ x. merge x) f.merges) f.relaxing_all f.merging_all in
+      at_end task s end (map relaxing f.relaxes ++ map (λ x. merge x) f.merges) at arrivals outcome run;
+  each_order = λ task s end events at arrivals completes run.
+      let sound = sound_if_reached task at.search.is_task s at.reached in
+      at_end task s end events at arrivals ((completes_to_outcome task at.search.is_task s sound events completes end).0 run) run;
+} where
+  at_end : (task : Task) (s end : SearchState) (events : List Event) → IsAt task before s → AreArrivals task.network s candidates
+      → IsOutcome task.network s end → Runs task s events end → IsAt task after end
+  at_end task s end events at arrivals outcome run = record {
+    search = same_task task before after merges.same_search at.search;
+    reached = record {
+      events = at.reached.events ++ events;
+      run = runs_on task (start_state task) s end at.reached.events events at.reached.run run;
+    };
+    stands = stands_after task before after s end candidates at.stands apart arrivals merges outcome;
+  }

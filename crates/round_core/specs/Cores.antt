@@ -48,6 +48,7 @@ pub record StandsFor {D : ℕ} (net : Network) (core : Core D) (s : SearchState)
   pub unrelaxed : (p : Label × ℕ) → Contains s.unrelaxed p
       ↔ (Contains s.settled p.0 × Contains core.taken (as_spot p.0) × LeadsOn net p.0.node p.1)
   pub candidates : s.candidates ≡ []
+  pub taken : (x : CompactSpot D) → Contains core.taken x → (y : Label) × Contains s.settled y × (as_spot y ≡ x)
 
 -- the core searches for this task
 pub record IsSearchOf {D : ℕ} (task : Task) (core : Core D) : Type 0 where

@@ -25,9 +25,3 @@ pub fn taken_labels_have_small_costs()
         → IsAt task core s → AreSmall task.network.states → ¬ HasMoreThan n s.settled
         → Contains core.taken x → IsSumOf n x.cost.0 }
 {}
-
-pub fn probe() -> u8
-    ensures { result ≡ 0 }
-{
-    0
-}

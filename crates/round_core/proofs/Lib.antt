@@ -1,3 +1,4 @@
 pub mod UnsettledLemmas
 pub mod OutcomeLemmas
 pub mod ArrivingLemmas
+pub mod BoundsLemmas

@@ -1,6 +1,6 @@
 -- What keeps a label from being taken.
-use Rattle.std.specs.Prelude.{ℕ, ◌⊎◌, List, Option}
-use Rattle.cost_vector.specs.Costs.{Within}
+use Rattle.std.specs.Prelude.{◌≡◌, ℕ, ◌^◌, ◌<◌, ◌≤◌, ◌⊎◌, ◌↔◌, List, [], Option, None, length, slice_index, slice_index_or}
+use Rattle.cost_vector.specs.Costs.{IsAllowed, Within}
 use Rattle.compact_labels.specs.declared.cost.CompactCost.{CompactCost}
 use Rattle.pareto_front.specs.Fronts.{Front, IsDominated, entries}
 
@@ -10,6 +10,16 @@ pub record Bounds (D : ℕ) : Type 0 where
   pub front : Front
   pub spare : ℕ
   pub news : List (CompactCost D)
+
+-- at each place just those numbers of 64 bits are allowed that are at most the one here
+pub record IsGreatestWithin (limit : List (Option ℕ)) (most : List ℕ) : Type 0 where
+  pub long : length most ≡ length limit
+  pub allowed : (k x : ℕ) → k < length limit → x < 2 ^ 64 → IsAllowed (slice_index_or limit k None) x ↔ (x ≤ slice_index most k)
+
+-- the greatest cost tells what is within the limit, and all entries of the front are settled
+pub record AreBounds (limit : List (Option ℕ)) (most : List ℕ) (front : Front) : Type 0 where
+  pub greatest : IsGreatestWithin limit most
+  pub all_settled : front.unsettled ≡ []
 
 -- a label of this cost is of no use: it isn't within the limit, or a settled cost of the target dominates it
 abbrev pub IsUseless : {D : ℕ} → Bounds D → List ℕ → Type 0

@@ -54,7 +54,7 @@ impl<const D: usize, F: ParetoFront<D>> Model for Core<D, F> {
     } };
 
     ghost invariant = { λ c.
-        IsKept D c.start.0 c.target.0 c.budget c.bounds c.fronts c.waiting c.taken.items c.settled };
+        IsKept D c.start.0 c.target.0 c.budget c.bounds c.fronts c.waiting c.settled };
 }
 
 impl<const D: usize, F: ParetoFront<D> + Drop> Core<D, F> {

@@ -3,3 +3,4 @@ pub mod OutcomeLemmas
 pub mod ArrivingLemmas
 pub mod WaitingLists
 pub mod BoundsLemmas
+pub mod FinishLemmas

@@ -244,3 +244,13 @@ finishes_by_merge candidates before after apart merges = record {
     };
     stands = stands_after task before after s end candidates at.stands apart arrivals merges outcome;
   }
+
+-- the same of a core that was read at another name
+pub merges_at : {D : ℕ} (candidates : List (CompactLabel D)) (was before after : Core D) → was ≡ before → MergesRound candidates was after
+    → MergesRound candidates before after
+merges_at {D} candidates was before after same merges = subst (λ (b : Core D). MergesRound candidates b after) same merges
+
+pub finishes_at : {D : ℕ} (candidates : List (CompactLabel D)) (was before after : Core D) → was ≡ before
+    → ((v : ℕ) → AreApart (entries (front_at was.fronts v))) → MergesRound candidates was after → FinishesRound candidates before after
+finishes_at {D} candidates was before after same apart merges =
+    subst (λ (b : Core D). FinishesRound candidates b after) same (finishes_by_merge candidates was after apart merges)

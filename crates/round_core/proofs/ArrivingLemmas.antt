@@ -108,7 +108,8 @@ module _ (before after : Front) (candidates : List Entry) (merged : IsMerged bef
 -- ---- all fronts
 
 module _ {D : ℕ} where
-  told_append : (v : ℕ) (ls ms : List (CompactLabel D)) → told_at v (ls ++ ms) ≡ told_at v ls ++ told_at v ms
+  -- what two lists of labels tell of a node
+  pub told_append : (v : ℕ) (ls ms : List (CompactLabel D)) → told_at v (ls ++ ms) ≡ told_at v ls ++ told_at v ms
   told_append v ls ms =
       ap (map (entry_of {D = D})) (filter-append (λ (l : CompactLabel D). nat_eq l.node.0 v) ls ms)
       ∙ map-append (entry_of {D = D}) (filter (λ (l : CompactLabel D). nat_eq l.node.0 v) ls) (filter (λ (l : CompactLabel D). nat_eq l.node.0 v) ms)

@@ -4,3 +4,4 @@ pub mod ArrivingLemmas
 pub mod WaitingLists
 pub mod BoundsLemmas
 pub mod FinishLemmas
+pub mod DeltaSpots

@@ -14,7 +14,8 @@ use Rattle.node_front.proofs.RemovedLemmas.{pairs_across}
 use Rattle.round_core.specs.Arriving.{AddsIfNew, spot_at}
 
 module _ {D : ℕ} where
-  abbrev AreOther : CompactLabel D → CompactLabel D → Type 0
+  -- their spots differ
+  abbrev pub AreOther : CompactLabel D → CompactLabel D → Type 0
   AreOther l m = spot_at l ≢ spot_at m
 
   -- the next label's spot doesn't wait yet

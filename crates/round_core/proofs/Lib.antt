@@ -5,3 +5,4 @@ pub mod WaitingLists
 pub mod BoundsLemmas
 pub mod FinishLemmas
 pub mod DeltaSpots
+pub mod FoundLaws

@@ -1,6 +1,8 @@
-ghost use Rattle.std.specs.Prelude.{◌≡◌, ◌≤◌, ◌↔◌, [], length, IfOk};
+ghost use Rattle.std.specs.Prelude.{◌≡◌, ◌≤◌, ◌↔◌, ℕ, [], length, IfOk, Contains};
 ghost use Rattle.cost_vector.specs.Costs.{max_criteria, min_criteria};
 ghost use Rattle.event_machine.specs.Machine.{Task, SearchState};
+ghost use Rattle.node_front.specs.NodeFronts.{front_at};
+ghost use Rattle.pareto_front.specs.Fronts.{Entry};
 ghost use Rattle.path_readback.specs.WellFound.{HasAllRelevant};
 ghost use Rattle.road_network.specs.Limits.{max_budget, max_nodes};
 ghost use Rattle.road_network.specs.Network.{IsNode};
@@ -124,6 +126,9 @@ impl<const D: usize, F: ParetoFront<D> + Drop> Core<D, F> {
         ensures target { result.target ≡ self.target }
         ensures nodes { result.nodes ≡ self.fronts.nodes }
         ensures criteria { result.criteria ≡ D }
+        ensures settled { (v : ℕ) (e : Entry)
+            → Contains result.settled (record { node = v; cost = e.cost; arc = e.arc })
+            ↔ Contains (front_at self.fronts v).settled e }
         ensures relevant { (task : Task) (s : SearchState) → IsAt task self s
             → HasAllRelevant task.network task.limit result }
     {

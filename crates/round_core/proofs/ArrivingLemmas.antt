@@ -7,6 +7,7 @@ use Rattle.cost_vector.specs.Costs.{Dominates}
 use Rattle.cost_vector.proofs.Vectors.{AtMost-Dominates, AtMost-refl, cases_same}
 use Rattle.list_laws.proofs.Members.{in_none, in_one, in_front, in_map, of_map, cases_push, all_from_in, each_in}
 use Rattle.list_laws.proofs.OnceLaws.{in_append}
+use Rattle.list_laws.proofs.SetLaws.{none_of_empty}
 use Rattle.compact_labels.specs.declared.label.CompactLabel.{CompactLabel}
 use Rattle.compact_labels.specs.declared.label.CompactSpot.{CompactSpot}
 use Rattle.pareto_queue.specs.Queues.{LosesWhere}
@@ -115,16 +116,16 @@ module _ {D : ℕ} where
       ∙ map-append (entry_of {D = D}) (filter (λ (l : CompactLabel D). nat_eq l.node.0 v) ls) (filter (λ (l : CompactLabel D). nat_eq l.node.0 v) ms)
 
   -- before any label comes
-  pub none_arrived : (before : Fronts) (waited : List (CompactSpot D)) → ((v : ℕ) → AreApart (entries (front_at before v)))
+  pub none_arrived : (before : Fronts) (waited removed : List (CompactSpot D)) → removed ≡ [] → ((v : ℕ) → AreApart (entries (front_at before v)))
       → ((x : CompactSpot D) → Contains waited x → HasUnsettled (front_at before x.node.0) x.cost.0)
-      → HaveArrived before waited [] before waited []
-  none_arrived before waited apart unsettled = record {
+      → HaveArrived before waited [] before waited removed
+  none_arrived before waited removed empty apart unsettled = record {
     nodes = refl;
     merged = record { merged = λ v. merged_none (front_at before v) (apart v) };
-    gone = λ x there. absurd (in_none x there);
+    gone = λ x there. absurd (none_of_empty removed empty x there);
     waits = λ x. (
       λ h. (unsettled x h.0, inl h.0),
-      λ h. (elim h.1 [ inl there ↦ there | inr new ↦ absurd (new h.0.entry) ], in_none x),
+      λ h. (elim h.1 [ inl there ↦ there | inr new ↦ absurd (new h.0.entry) ], none_of_empty removed empty x),
     );
   }
 
@@ -133,12 +134,12 @@ module _ {D : ℕ} where
       → HaveArrived before waited first now waiting removed → All (λ (x : CompactSpot D). IsCovered (entries (front_at now x.node.0)) x.cost.0) waiting
   waiting_covered before now waited waiting removed first arrived =
       all_from_in (λ (x : CompactSpot D). IsCovered (entries (front_at now x.node.0)) x.cost.0) waiting (λ x there.
-        elim (told_spot removed x) [
-          | inl gone ↦ let by = arrived.gone x gone in record { by = by.by; contains = by.contains; at_most = by.dominates.at_most }
-          | inr not ↦
-              let has = ((arrived.waits x).0 (there, not)).0.entry in
-              record { by = record { cost = x.cost.0; arc = has.arc }; contains = has.contains; at_most = AtMost-refl x.cost.0 }
-        ])
+      elim (told_spot removed x) [
+        | inl gone ↦ let by = arrived.gone x gone in record { by = by.by; contains = by.contains; at_most = by.dominates.at_most }
+        | inr not ↦
+            let has = ((arrived.waits x).0 (there, not)).0.entry in
+            record { by = record { cost = x.cost.0; arc = has.arc }; contains = has.contains; at_most = AtMost-refl x.cost.0 }
+      ])
 
   -- once the removed spots are taken out, just that waits which is to wait
   pub waits_without : (before now : Fronts) (waited queued fresh removed left_queued left_fresh : List (CompactSpot D)) (first : List (CompactLabel D))
@@ -158,9 +159,9 @@ module _ {D : ℕ} where
 
     module _ (merges : MergesAll now labels after) (nodes : after.nodes ≡ now.nodes)
         (goes : (x : CompactSpot D) → Contains more_removed x
-            ↔ (Contains removed x ⊎ IsRemoved (front_at now x.node.0) (told_at x.node.0 labels) x.cost.0))
+        ↔ (Contains removed x ⊎ IsRemoved (front_at now x.node.0) (told_at x.node.0 labels) x.cost.0))
         (comes : (x : CompactSpot D) → Contains more_waiting x
-            ↔ (Contains waiting x ⊎ HasAdded (front_at now x.node.0) (told_at x.node.0 labels) x.cost.0)) where
+        ↔ (Contains waiting x ⊎ HasAdded (front_at now x.node.0) (told_at x.node.0 labels) x.cost.0)) where
       still_gone : (x : CompactSpot D) → Contains more_removed x → IsDominated (entries (front_at after x.node.0)) x.cost.0
       still_gone x there =
           let v = x.node.0 in
@@ -190,7 +191,8 @@ module _ {D : ℕ} where
                 × (¬ HasCost (entries (front_at before v)) x.cost.0)
             new_cost h =
                 let (none, undominated) = added_is_new (front_at now v) (front_at after v) (told_at v labels) (merges.merged v) x.cost.0 h in
-                (none, undominated, λ has. none (cost_after (front_at before v) (front_at now v) (told_at v first) (arrived.merged.merged v) x.cost.0 has undominated))
+                let old = cost_after (front_at before v) (front_at now v) (told_at v first) (arrived.merged.merged v) x.cost.0 in
+                (none, undominated, λ has. none (old has undominated))
 
             parts : {W R U S X R' W' U' A G K H B : Type 0} → ((W × (¬ R)) ↔ (U × (S ⊎ (¬ B)))) → (R' ↔ (R ⊎ X)) → (W' ↔ (W ⊎ A))
                 → (U' ↔ ((U × (¬ G)) ⊎ A)) → (X → G) → (U → G → X) → (X → H) → (R → K) → (A → (¬ H) × (¬ K) × (¬ B))
@@ -308,8 +310,11 @@ module _ {D : ℕ} where
         λ (node, h). subst (λ es. IsRemoved (front_at now x.node.0) es x.cost.0) (sym (here x.node.0 node))
             (subst (λ u. IsRemoved (front_at now u) (entry_of l ∷ []) x.cost.0) (sym node) h),
         λ h. elim (cases_number x.node.0 l.node.0) [
-          | inl same ↦ (same, subst (λ u. IsRemoved (front_at now u) (entry_of l ∷ []) x.cost.0) same
-              (subst (λ es. IsRemoved (front_at now x.node.0) es x.cost.0) (here x.node.0 same) h))
+          | inl same ↦ (
+            same,
+            subst (λ u. IsRemoved (front_at now u) (entry_of l ∷ []) x.cost.0) same
+                (subst (λ es. IsRemoved (front_at now x.node.0) es x.cost.0) (here x.node.0 same) h),
+          )
           | inr other ↦ let by = (subst (λ es. IsRemoved (front_at now x.node.0) es x.cost.0) (not_here x.node.0 other) h).dominated in
               absurd (in_none by.by by.contains)
         ],
@@ -344,5 +349,6 @@ module _ {D : ℕ} where
         ]
 
       pub one_arrived : HaveArrived before waited (first ++ l ∷ []) after more_waiting more_removed
-      one_arrived = more_arrived before now after waited waiting removed more_waiting more_removed first (l ∷ []) arrived each_spares each_merged elsewhere.nodes
+      one_arrived = more_arrived before now after waited waiting removed more_waiting more_removed first (l ∷ []) arrived each_spares each_merged
+          elsewhere.nodes
           each_goes each_comes

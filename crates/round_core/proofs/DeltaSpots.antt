@@ -51,11 +51,11 @@ module _ {D : ℕ} where
   other_spots P alike [] once each = pairs_none AreOther
   other_spots P alike (l ∷ ls) once each = pairs_cons AreOther l ls
       (λ m m_in same.
-          let node : m.node.0 ≡ l.node.0 = ap (λ (s : CompactSpot D). s.node.0) (sym same) in
-          let one = alike l.node.0 (entry_of l) (entry_of m) (each l (in_first l ls))
-          (subst (λ v. P v (entry_of m)) node (each m (in_rest l ls m m_in))) (ap (λ (s : CompactSpot D). s.cost.0) same) in
-          let m_told = subst (λ v. Contains (told_at v ls) (entry_of m)) node (in_at ls m m_in) in
-          (apart l.node.0).1 (entry_of l) (in_at (l ∷ []) l (in_first l [])) (subst (Contains (told_at l.node.0 ls)) (sym one) m_told))
+      let node : m.node.0 ≡ l.node.0 = ap (λ (s : CompactSpot D). s.node.0) (sym same) in
+      let one = alike l.node.0 (entry_of l) (entry_of m) (each l (in_first l ls))
+      (subst (λ v. P v (entry_of m)) node (each m (in_rest l ls m m_in))) (ap (λ (s : CompactSpot D). s.cost.0) same) in
+      let m_told = subst (λ v. Contains (told_at v ls) (entry_of m)) node (in_at ls m m_in) in
+      (apart l.node.0).1 (entry_of l) (in_at (l ∷ []) l (in_first l [])) (subst (Contains (told_at l.node.0 ls)) (sym one) m_told))
       (other_spots P alike ls (λ v. (apart v).0) (λ m m_in. each m (in_rest l ls m m_in))) where
         apart : (v : ℕ) → AllPairs ◌≢◌ (told_at v ls) × ((x : Entry) → Contains (told_at v (l ∷ [])) x → ¬ Contains (told_at v ls) x)
         apart v = once_apart (told_at v (l ∷ [])) (told_at v ls) (subst (AllPairs ◌≢◌) (told_append v (l ∷ []) ls) (once v))
@@ -91,9 +91,9 @@ module _ {D : ℕ} where
     pub added_once : AllPairs AreOther d.added
     added_once = other_spots IsNew
         (λ v x y x_new y_new same.
-            let low = x_new.stays.least y y_new.stays.contains (sym same) in
-            let high = y_new.stays.least x x_new.stays.contains same in
-            same_entry x y same (omega (arith, low, high)))
+        let low = x_new.stays.least y y_new.stays.contains (sym same) in
+        let high = y_new.stays.least x x_new.stays.contains same in
+        same_entry x y same (omega (arith, low, high)))
         d.added (λ v. (are.exact v).added.once) each_new
 
     -- and don't wait
@@ -126,7 +126,7 @@ module _ {D : ℕ} where
         → LosesWhere (Contains d.removed) queued left_queued → LosesWhere (Contains d.removed) fresh left_fresh
         → WaitsAsMerged f (all_waiting waiting) after (Contains (left_queued ++ left_fresh))
     waits_by_deltas after waiting queued fresh left_queued left_fresh unsettled merges nodes same gains loses loses_too =
-        let start = none_arrived f (all_waiting waiting) apart
+        let start = none_arrived f (all_waiting waiting) [] refl apart
         (each_in (λ (x : CompactSpot D). HasUnsettled (front_at f x.node.0) x.cost.0) (all_waiting waiting) unsettled) in
         waits_without f after (all_waiting waiting) queued fresh d.removed left_queued left_fresh candidates
         (more_arrived f f after (all_waiting waiting) (all_waiting waiting) [] (queued ++ fresh) d.removed [] candidates start

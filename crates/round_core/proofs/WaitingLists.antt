@@ -29,12 +29,12 @@ module _ {D : ℕ} where
         | inl old ↦ none ((in_append queued fresh (spot_at l)).1 (inl (subst (λ (q : List (CompactSpot D)). Contains q (spot_at l)) same_queued old)))
         | inr later ↦ elim ((in_append fresh (map (spot_at {D = D}) (take i added)) (spot_at l)).0
             (subst (λ (q : List (CompactSpot D)). Contains q (spot_at l)) is_fresh later)) [
-          | inl old ↦ none ((in_append queued fresh (spot_at l)).1 (inr old))
-          | inr came ↦
-              let (m, m_in, same) = of_map (spot_at {D = D}) (take i added) (spot_at l) came in
-              let pairs = subst (AllPairs AreOther) more (pairs_take AreOther (i + 1) added once) in
-              pairs_across AreOther (take i added) (l ∷ []) pairs m l m_in (in_first l []) (sym same)
-        ]
+              | inl old ↦ none ((in_append queued fresh (spot_at l)).1 (inr old))
+              | inr came ↦
+                  let (m, m_in, same) = of_map (spot_at {D = D}) (take i added) (spot_at l) came in
+                  let pairs = subst (AllPairs AreOther) more (pairs_take AreOther (i + 1) added once) in
+                  pairs_across AreOther (take i added) (l ∷ []) pairs m l m_in (in_first l []) (sym same)
+            ]
       ]
 
   -- all of them have come

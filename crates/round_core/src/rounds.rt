@@ -100,7 +100,12 @@ impl<const D: usize, F: ParetoFront<D> + Drop> Core<D, F> {
             cost: CompactCost::zero(),
             arc: ArcNo(0),
         };
-        arrive(&mut self.fronts, &mut self.waiting, &mut self.removed, &label)?;
+        arrive(
+            &mut self.fronts,
+            &mut self.waiting,
+            &mut self.removed,
+            &label,
+        )?;
         Ok(self)
     }
 

@@ -23,8 +23,8 @@ loop-label-init g c =
     let f = c.args.fronts.now in
     let waited = all_waiting c.args.waiting.now in
     record {
-      arrived = subst (HaveArrived f waited [] f waited) (sym c.clear.ensures.items) (none_arrived f waited c.requires.apart
-          (each_in (λ (x : CompactSpot g.row.D). HasUnsettled (front_at f x.node.0) x.cost.0) waited c.requires.waits));
+      arrived = none_arrived f waited c.clear.new.self.items c.clear.ensures.items c.requires.apart
+          (each_in (λ (x : CompactSpot g.row.D). HasUnsettled (front_at f x.node.0) x.cost.0) waited c.requires.waits);
       queued = refl;
     }
 
@@ -81,10 +81,10 @@ returns-clause-waiting g c =
     let arrived = subst (HaveArrived before waited (take c.loop-label.label-index c.args.labels.now) now (all_waiting waiting)) (sym c.deref.ensures.value)
     c.loop-label.invariant.arrived in
     if_ok_both c.remove.result c.remove.ensures.queued c.remove.ensures.fresh (λ loses loses_too.
-        waits_without before now waited waiting.queued waiting.fresh c.deref.result.now left.queued left.fresh
-        (take c.loop-label.label-index c.args.labels.now) arrived loses loses_too)
+    waits_without before now waited waiting.queued waiting.fresh c.deref.result.now left.queued left.fresh
+    (take c.loop-label.label-index c.args.labels.now) arrived loses loses_too)
 
 pub returns-clause-queued : goal.returns-clause-queued
 returns-clause-queued g c =
     if_ok_both c.remove.result c.remove.ensures.queued c.remove.ensures.queued (λ loses loses_too.
-        loses_each c.args.waiting.now.queued c.loop-label.waiting.queued c.remove.new.self.queued (Contains c.deref.result.now) c.loop-label.invariant.queued loses)
+    loses_each c.args.waiting.now.queued c.loop-label.waiting.queued c.remove.new.self.queued (Contains c.deref.result.now) c.loop-label.invariant.queued loses)

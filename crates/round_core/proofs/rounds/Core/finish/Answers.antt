@@ -61,18 +61,8 @@ invariant_of-self g c =
 
 pub returns-clause-merged : goal.returns-clause-merged
 returns-clause-merged g c candidates are =
-    let i = c.self.inside in
-    let was : Core g.row.D = record {
-      start = i.start.0;
-      target = i.target.0;
-      limit = i.bounds.limit;
-      budget = i.budget;
-      fronts = i.fronts;
-      waiting = all_waiting i.waiting;
-      taken = i.taken.items;
-    } in
     let ends = ended g c candidates are in
-    merges_at candidates was c.args.self _ c.self.view_is (record {
+    merges_at candidates _ c.args.self _ c.self.view_is (record {
       same_search = record { start = refl; target = refl; limit = refl; budget = refl; nodes = ends.nodes };
       fronts = ends.merges;
       waiting = ends.waits;
@@ -81,18 +71,8 @@ returns-clause-merged g c candidates are =
 
 pub returns-clause-finished : goal.returns-clause-finished
 returns-clause-finished g c candidates are =
-    let i = c.self.inside in
-    let was : Core g.row.D = record {
-      start = i.start.0;
-      target = i.target.0;
-      limit = i.bounds.limit;
-      budget = i.budget;
-      fronts = i.fronts;
-      waiting = all_waiting i.waiting;
-      taken = i.taken.items;
-    } in
     let ends = ended g c candidates are in
-    finishes_at candidates was c.args.self _ c.self.view_is c.self.invariant.apart (record {
+    finishes_at candidates _ c.args.self _ c.self.view_is c.self.invariant.apart (record {
       same_search = record { start = refl; target = refl; limit = refl; budget = refl; nodes = ends.nodes };
       fronts = ends.merges;
       waiting = ends.waits;

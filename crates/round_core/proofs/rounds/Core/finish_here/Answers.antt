@@ -31,17 +31,7 @@ invariant_of-self g c =
 
 pub returns-clause-merged : goal.returns-clause-merged
 returns-clause-merged g c =
-    let i = c.self.inside in
-    let was : Core g.row.D = record {
-      start = i.start.0;
-      target = i.target.0;
-      limit = i.bounds.limit;
-      budget = i.budget;
-      fronts = i.fronts;
-      waiting = all_waiting i.waiting;
-      taken = i.taken.items;
-    } in
-    merges_at c.args.candidates.now was c.args.self _ c.self.view_is (record {
+    merges_at c.args.candidates.now _ c.args.self _ c.self.view_is (record {
       same_search = record { start = refl; target = refl; limit = refl; budget = refl; nodes = c.in_ok-arrive_all.ensures.nodes };
       fronts = c.in_ok-arrive_all.ensures.merged;
       waiting = c.in_ok-arrive_all.ensures.waiting;
@@ -50,17 +40,7 @@ returns-clause-merged g c =
 
 pub returns-clause-finished : goal.returns-clause-finished
 returns-clause-finished g c =
-    let i = c.self.inside in
-    let was : Core g.row.D = record {
-      start = i.start.0;
-      target = i.target.0;
-      limit = i.bounds.limit;
-      budget = i.budget;
-      fronts = i.fronts;
-      waiting = all_waiting i.waiting;
-      taken = i.taken.items;
-    } in
-    finishes_at c.args.candidates.now was c.args.self _ c.self.view_is c.self.invariant.apart (record {
+    finishes_at c.args.candidates.now _ c.args.self _ c.self.view_is c.self.invariant.apart (record {
       same_search = record { start = refl; target = refl; limit = refl; budget = refl; nodes = c.in_ok-arrive_all.ensures.nodes };
       fronts = c.in_ok-arrive_all.ensures.merged;
       waiting = c.in_ok-arrive_all.ensures.waiting;

@@ -6,3 +6,4 @@ pub mod BoundsLemmas
 pub mod FinishLemmas
 pub mod DeltaSpots
 pub mod FoundLaws
+pub mod StartLemmas

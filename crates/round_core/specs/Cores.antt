@@ -1,5 +1,5 @@
 -- A search by bulk rounds as contracts see it, and the state of the event machine for which it stands.
-use Rattle.std.specs.Prelude.{◌≡◌, ℕ, ◌↔◌, List, [], Option, Contains}
+use Rattle.std.specs.Prelude.{◌≡◌, ℕ, ◌↔◌, List, [], Option, replicate, Contains}
 use Rattle.compact_labels.specs.declared.label.CompactLabel.{CompactLabel}
 use Rattle.compact_labels.specs.declared.label.CompactSpot.{CompactSpot}
 use Rattle.road_network.specs.Network.{Network}
@@ -34,6 +34,12 @@ as_spot y = record { cost = record { 0 = y.cost }; node = record { 0 = y.node } 
 abbrev pub as_compact : {D : ℕ} → Label → CompactLabel D
 as_compact y = record { node = record { 0 = y.node }; cost = record { 0 = y.cost }; arc = record { 0 = y.arc } }
 
+-- the label of the walk without arcs from the start
+pub record IsStartLabel {D : ℕ} (start : ℕ) (l : CompactLabel D) : Type 0 where
+  pub node : l.node.0 ≡ start
+  pub cost : l.cost.0 ≡ replicate D 0
+  pub arc : l.arc.0 ≡ 0
+
 -- ---- what a core stands for
 
 -- The core stands for this state of the machine: its settled labels are settled in the fronts; of all others, those wait
@@ -59,7 +65,7 @@ pub record IsSearchOf {D : ℕ} (task : Task) (core : Core D) : Type 0 where
   pub target : task.target ≡ core.target
   pub limit : task.limit ≡ core.limit
 
--- it does, events lead from the start to the state, and the core stands for it
+-- the core searches for the task, events lead from its start to the state, and the core stands for it
 pub record IsAt {D : ℕ} (task : Task) (core : Core D) (s : SearchState) : Type 0 where
   pub search : IsSearchOf task core
   pub reached : IsReached task s
@@ -81,4 +87,4 @@ pub record IsNewSearch {D : ℕ} (nodes start target : ℕ) (limit : List (Optio
   pub limit_is : core.limit ≡ limit
   pub budget_is : core.budget ≡ budget
   pub none_taken : core.taken ≡ []
-  pub stands : (task : Task) → IsSearchOf task core → StandsFor task.network core (start_state task)
+  pub stands : (task : Task) → IsSearchOf task core → IsAt task core (start_state task)

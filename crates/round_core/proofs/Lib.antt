@@ -7,3 +7,5 @@ pub mod FinishLemmas
 pub mod DeltaSpots
 pub mod FoundLaws
 pub mod StartLemmas
+pub mod BarredLemmas
+pub mod BegunLemmas

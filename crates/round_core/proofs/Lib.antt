@@ -2,3 +2,4 @@ pub mod UnsettledLemmas
 pub mod OutcomeLemmas
 pub mod ArrivingLemmas
 pub mod BoundsLemmas
+pub mod WaitingLemmas

@@ -59,7 +59,7 @@ pub record IsSearchOf {D : ℕ} (task : Task) (core : Core D) : Type 0 where
   pub target : task.target ≡ core.target
   pub limit : task.limit ≡ core.limit
 
--- it does, events lead from the start to the state, and the core stands for it
+-- the core searches for the task, events lead from its start to the state, and the core stands for it
 pub record IsAt {D : ℕ} (task : Task) (core : Core D) (s : SearchState) : Type 0 where
   pub search : IsSearchOf task core
   pub reached : IsReached task s
@@ -81,4 +81,4 @@ pub record IsNewSearch {D : ℕ} (nodes start target : ℕ) (limit : List (Optio
   pub limit_is : core.limit ≡ limit
   pub budget_is : core.budget ≡ budget
   pub none_taken : core.taken ≡ []
-  pub stands : (task : Task) → IsSearchOf task core → StandsFor task.network core (start_state task)
+  pub stands : (task : Task) → IsSearchOf task core → IsAt task core (start_state task)

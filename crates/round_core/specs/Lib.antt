@@ -1,6 +1,7 @@
 pub mod Unsettled
 pub mod Arriving
 pub mod Cores
+pub mod Taking
 pub mod Begins
 pub mod Finishes
 pub mod Bounds

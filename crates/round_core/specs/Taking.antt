@@ -32,6 +32,7 @@ pub record DropsBarred {D : ℕ} (before after : Core D) : Type 0 where
   pub same_search : SameSearch before after
   pub fronts : after.fronts ≡ before.fronts
   pub waiting : (x : CompactSpot D) → Contains after.waiting x ↔ StaysIn before x
+  pub was_none : before.taken ≡ []
   pub none_taken : after.taken ≡ []
 
 -- the same waits, none is taken, and the fronts are as they were

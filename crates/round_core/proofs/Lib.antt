@@ -3,3 +3,4 @@ pub mod OutcomeLemmas
 pub mod ArrivingLemmas
 pub mod BoundsLemmas
 pub mod WaitingLemmas
+pub mod SettlingLemmas

@@ -1,5 +1,5 @@
 -- How a round begins, over each state of the machine at which a search may be between rounds.
-use Rattle.std.specs.Prelude.{◌≡◌, ◌≢◌, ℕ, ◌+◌, ◌<◌, ◌≤◌, ◌↔◌, Result, Ok, AllPairs, Contains, length}
+use Rattle.std.specs.Prelude.{◌≡◌, ◌≢◌, ℕ, ◌+◌, ◌<◌, ◌≤◌, ◌↔◌, [], Result, Ok, AllPairs, Contains, length}
 use Rattle.cost_vector.specs.declared.out_of_memory.OutOfMemory.{OutOfMemory}
 use Rattle.compact_labels.specs.declared.label.CompactSpot.{CompactSpot}
 use Rattle.list_laws.specs.Sets.{HasMoreThan}

@@ -45,7 +45,7 @@ pub record KeepsWaiting {D : ℕ} (before after : Core D) : Type 0 where
 -- the entries of these spots are settled, and all else is as it was
 pub record SettlesAll {D : ℕ} (before : Fronts) (spots : List (CompactSpot D)) (after : Fronts) : Type 0 where
   pub nodes : after.nodes ≡ before.nodes
-  pub entries : (v : ℕ) (e : Entry) → Contains (entries (front_at after v)) e ↔ Contains (entries (front_at before v)) e
+  pub same_entries : (v : ℕ) (e : Entry) → Contains (entries (front_at after v)) e ↔ Contains (entries (front_at before v)) e
   pub settled : (v : ℕ) (e : Entry) → Contains (front_at after v).settled e
       ↔ (Contains (front_at before v).settled e ⊎ (Contains (entries (front_at before v)) e × Contains spots (spot_told v e.cost)))
 

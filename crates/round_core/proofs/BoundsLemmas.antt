@@ -1,8 +1,10 @@
 -- The limit as a greatest cost, and the settled costs of the target as a front.
 use Rattle.std.proofs.Common.{below_more, ◌≡◌, ◌≢◌, ◌+◌, ℕ, ◌<◌, ◌≤◌, ◌^◌, ◌↔◌, ◌⊎◌, ◌++◌, List, []  , ◌∷◌, length, get_or, Option, None, zero, suc, inl, inr, refl, sym, ap, subst, ◌∙◌, arith}
-use Rattle.std.specs.Prelude.{Bool, true, false, ◌&&◌, IsTrue, Contains, slice_index}
+use Rattle.std.specs.Prelude.{Bool, true, false, ◌&&◌, All, IsTrue, Contains, slice_index}
 use Rattle.std.specs.List.{AllZip}
 use Rattle.cost_vector.specs.Costs.{IsAllowed, Within, Dominates, AtMost}
+use Rattle.compact_labels.specs.declared.cost.CompactCost.{CompactCost}
+use Rattle.list_laws.proofs.Members.{all_from_in, cases_push, each_in}
 use Rattle.list_laws.proofs.OnceLaws.{in_append, empty_if_none}
 use Rattle.list_laws.proofs.SetLaws.{none_of_empty}
 use Rattle.pareto_front.specs.declared.front.Standing.{Standing}
@@ -66,6 +68,14 @@ module _ (before entered after : Front) (e : Entry) (all_settled : before.unsett
       | inr same ↦ subst (HasCost (entries after)) (sym same) (record { arc = e.arc; contains = (after_is e).1 (inr refl) })
     ],
   )
+
+  -- so the news are settled costs still
+  pub news_on : {D : ℕ} (news : List (CompactCost D)) (cost : CompactCost D) → cost.0 ≡ e.cost → All (λ c. HasCost (entries before) c.0) news
+      → All (λ c. HasCost (entries after) c.0) (news ++ cost ∷ [])
+  news_on {D = D} news cost same settled = all_from_in (λ c. HasCost (entries after) c.0) (news ++ cost ∷ []) (λ c there. elim (cases_push news cost c there) [
+    | inl old ↦ (tightened c.0).1 (inl (each_in (λ k. HasCost (entries before) k.0) news settled c old))
+    | inr is ↦ (tightened c.0).1 (inr (ap (λ (k : CompactCost D). k.0) is ∙ same))
+  ])
 
 -- a cost stands to the entries as one that none dominates
 pub undominated : (d : ℕ) (f : Front) → IsFront d f → (c : List ℕ) (standing : Standing) → StandsTo f c standing → standing ≢ Dominated

@@ -9,3 +9,5 @@ pub mod FoundLaws
 pub mod StartLemmas
 pub mod BarredLemmas
 pub mod BegunLemmas
+pub mod WaitingLemmas
+pub mod SettlingLemmas

@@ -1,4 +1,4 @@
-ghost use Rattle.std.specs.Prelude.{◌≡◌, ℕ, ◌^◌, ◌<◌, ◌≤◌, ◌↔◌, ◌⊎◌, ◌+◌, ◌++◌, List, Option, [], ◌∷◌, length, IsTrue, OnOk};
+ghost use Rattle.std.specs.Prelude.{◌≡◌, ℕ, ◌^◌, ◌<◌, ◌≤◌, ◌↔◌, ◌⊎◌, ◌+◌, ◌++◌, List, Option, [], ◌∷◌, length, IsTrue, OnOk, All};
 ghost use Rattle.cost_vector.specs.Costs.{Within, max_criteria, min_criteria};
 ghost use Rattle.pareto_front.specs.Fronts.{HasCost, IsCovered, SparesSettled, empty_front, entries};
 ghost use Rattle.round_core.specs.Bounds.{IsGreatestWithin, IsUseless};
@@ -33,7 +33,7 @@ impl<const D: usize, F: ParetoFront<D>> Model for Bounds<D, F> {
       news = b.news.items;
     } };
 
-    ghost invariant = { λ b. AreBounds b.limit b.most.0 (F.state b.front) };
+    ghost invariant = { λ b. AreBounds b.limit b.most.0 (F.state b.front) b.news.items };
 }
 
 impl<const D: usize, F: ParetoFront<D> + Drop> Bounds<D, F> {
@@ -63,7 +63,8 @@ impl<const D: usize, F: ParetoFront<D> + Drop> Bounds<D, F> {
 
     /// The costs of the target that the last round has settled.
     pub(crate) fn news(&self) -> &[CompactCost<D>]
-        ensures { result.now ≡ self.now.news }
+        ensures value { result.now ≡ self.now.news }
+        ensures settled { All (λ c. HasCost (entries self.now.front) c.0) result.now }
     {
         &self.news
     }

@@ -1,12 +1,12 @@
-ghost use Rattle.std.specs.Prelude.{◌≡◌, ◌≢◌, ◌↔◌, ◌+◌, ◌≤◌, ◌++◌, [], ◌∷◌, length, IsTrue, IfOk, OnOk, OnErr, All, AllPairs, Contains};
+ghost use Rattle.std.specs.Prelude.{◌≡◌, ◌≢◌, ◌↔◌, ◌+◌, ◌≤◌, ◌++◌, [], ◌∷◌, IsTrue, IfOk, OnOk, OnErr, All, AllPairs, Contains};
 ghost use Rattle.cost_vector.specs.Costs.{max_criteria, min_criteria};
-ghost use Rattle.pareto_front.specs.Fronts.{HasCost, entries};
-ghost use Rattle.pareto_queue.specs.Queues.{Gains, IsDominatedBy, LosesWhere, TakesUndominated};
+ghost use Rattle.list_laws.specs.Sets.{SameMembers};
+ghost use Rattle.pareto_queue.specs.Queues.{AreSorted, Gains, IsDominatedBy, LosesWhere, TakesUndominated};
 ghost use Rattle.round_core.specs.Bounds.{IsUseless};
 ghost use Rattle.round_core.specs.Waiting.{all_waiting};
 
 use crate::bounds::Bounds;
-use compact_labels::CompactSpot;
+use compact_labels::{CompactCost, CompactSpot};
 use cost_vector::OutOfMemory;
 use pareto_front::ParetoFront;
 use pareto_queue::{Queue, Steps};
@@ -21,6 +21,8 @@ use std::sync::ledger::Ledger;
 pub(crate) struct Waiting<const D: usize> {
     queue: Queue<D>,
     fresh: Vec<CompactSpot<D>>,
+    /// Room for spots that are taken out, in ascending order.
+    gone: Vec<CompactSpot<D>>,
 }
 
 impl<const D: usize> Model for Waiting<D> {
@@ -38,19 +40,21 @@ impl<const D: usize> Waiting<D> {
     pub(crate) fn new(alloc: Global) -> Waiting<D>
         requires two { min_criteria ≤ D }
         requires four { D ≤ max_criteria }
-        ensures { all_waiting result ≡ [] }
+        ensures queued { result.queued ≡ [] }
+        ensures fresh { result.fresh ≡ [] }
     {
         Waiting {
             queue: Queue::new(alloc),
             fresh: Vec::new(alloc),
+            gone: Vec::new(alloc),
         }
     }
 
-    /// Whether the queue is empty.
+    /// Whether none waits.
     pub(crate) fn is_empty(&self) -> bool
-        ensures { IsTrue result ↔ (self.now.queued ≡ []) }
+        ensures { IsTrue result ↔ (all_waiting self.now ≡ []) }
     {
-        self.queue.is_empty()
+        self.queue.is_empty() && self.fresh.is_empty()
     }
 
     /// One more waits that didn't before.
@@ -70,23 +74,30 @@ impl<const D: usize> Waiting<D> {
         ensures fresh { OnOk result
             (LosesWhere (Contains spots.now) self.old.fresh self.new.fresh) }
     {
+        self.gone.clear();
+        self.gone.extend_from_slice(spots)?;
+        self.gone.sort_unstable();
         self.queue.remove_all(spots)?;
-        self.fresh.retain(|spot| !spots.contains(spot));
+        let gone = &self.gone;
+        self.fresh.retain(
+            |spot| -> bool
+                ensures { AreSorted gone.entry.now.items
+                    → (IsTrue result ↔ ¬ Contains gone.entry.now.items spot.now) }
+            { is_absent(gone, spot) },
+        );
         Ok(())
     }
 
     /// Takes out the spots that are of no use. The queue is compared with the new bounds alone.
     pub(crate) fn drop_useless<F: ParetoFront<D> + Drop>(&mut self, bounds: &Bounds<D, F>)
-        requires limit { length bounds.now.limit ≡ D }
-        requires queued { All (λ x. IsUseless bounds.now x.cost.0
+        requires { All (λ x. IsUseless bounds.now x.cost.0
             → IsDominatedBy bounds.now.news x.cost.0) self.old.queued }
-        requires news { All (λ c. HasCost (entries bounds.now.front) c.0) bounds.now.news }
         ensures queued { LosesWhere (λ x. IsUseless bounds.now x.cost.0)
             self.old.queued self.new.queued }
         ensures fresh { LosesWhere (λ x. IsUseless bounds.now x.cost.0)
             self.old.fresh self.new.fresh }
     {
-        self.queue.drop_dominated(bounds.news());
+        self.drop_dominated(bounds.news());
         self.fresh.retain(
             |spot| -> bool
                 ensures { IsTrue result ↔ ¬ IsUseless bounds.entry.now spot.now.cost.0 }
@@ -94,31 +105,51 @@ impl<const D: usize> Waiting<D> {
         );
     }
 
+    /// Takes out the queued spots that one of these costs dominates.
+    fn drop_dominated(&mut self, by: &[CompactCost<D>])
+        ensures queued { LosesWhere (λ x. IsDominatedBy by.now x.cost.0)
+            self.old.queued self.new.queued }
+        ensures fresh { self.new.fresh ≡ self.old.fresh }
+    {
+        if by.is_empty() {
+            return;
+        }
+        self.queue.drop_dominated(by);
+    }
+
+    /// Lets what is fresh into the queue, and takes the spots out of it whose cost no cost in it dominates.
+    pub(crate) fn take_undominated<L: Ledger>(
+        &mut self,
+        taken: &mut Vec<CompactSpot<D>>,
+        steps: &mut Steps<L>,
+    ) -> Result<(), OutOfMemory>
+        requires { taken.old.items ≡ [] }
+        ensures taken { IfOk result (λ _.
+            TakesUndominated (all_waiting self.old) taken.new.items (all_waiting self.new)) }
+        ensures none_fresh { OnOk result (self.new.fresh ≡ []) }
+        ensures same { OnErr result (SameMembers (all_waiting self.new) (all_waiting self.old)) }
+        ensures none_taken { OnErr result (taken.new.items ≡ []) }
+        ensures step { OnOk result (steps.new ≡ steps.old + 1) }
+        ensures no_less { steps.old ≤ steps.new }
+        ensures at_most_one { steps.new ≤ steps.old + 1 }
+    {
+        self.admit()?;
+        if self.queue.take_undominated(taken, steps).is_err() {
+            taken.clear();
+            return Err(OutOfMemory);
+        }
+        Ok(())
+    }
+
     /// Lets what is fresh into the queue.
-    pub(crate) fn admit(&mut self) -> Result<(), OutOfMemory>
-        ensures admitted { OnOk result (Gains self.old.queued self.old.fresh self.new.queued) }
+    fn admit(&mut self) -> Result<(), OutOfMemory>
+        ensures admitted { OnOk result (SameMembers self.new.queued (all_waiting self.old)) }
         ensures none_fresh { OnOk result (self.new.fresh ≡ []) }
         ensures same { OnErr result (self.new ≡ self.old) }
     {
         self.queue.put_all(&self.fresh)?;
         self.fresh.clear();
         Ok(())
-    }
-
-    /// Takes the spots out of the queue whose cost no cost in it dominates. What `taken` held before is gone.
-    pub(crate) fn take_undominated<L: Ledger>(
-        &mut self,
-        taken: &mut Vec<CompactSpot<D>>,
-        steps: &mut Steps<L>,
-    ) -> Result<(), OutOfMemory>
-        requires { self.old.fresh ≡ [] }
-        ensures fresh { self.new.fresh ≡ [] }
-        ensures taken { IfOk result (λ _.
-            TakesUndominated self.old.queued taken.new.items self.new.queued) }
-        ensures same { OnErr result (self.new ≡ self.old) }
-        ensures step { steps.new ≡ steps.old + 1 }
-    {
-        self.queue.take_undominated(taken, steps)
     }
 
     /// Takes back what was taken, as fresh spots.
@@ -132,4 +163,11 @@ impl<const D: usize> Waiting<D> {
     {
         mem::swap(&mut self.fresh, taken);
     }
+}
+
+/// Whether the spot isn't one of the list.
+fn is_absent<const D: usize>(spots: &[CompactSpot<D>], spot: &CompactSpot<D>) -> bool
+    ensures { AreSorted spots.now → (IsTrue result ↔ ¬ Contains spots.now spot.now) }
+{
+    spots.binary_search(spot).is_err()
 }

@@ -59,30 +59,32 @@ module _ {D : ℕ} (task : Task) (core : Core D) (s : SearchState) (at : IsAt ta
     },
   )
 
-  module _ (unsettled : (x : CompactSpot D) → Contains core.waiting x → HasUnsettled (front_at core.fronts x.node.0) x.cost.0) where
-    -- each waiting spot is a label's
-    pub label_of : (x : CompactSpot D) → Contains core.waiting x
+  module _ (unsettled : (x : CompactSpot D) → StaysIn core x → HasUnsettled (front_at core.fronts x.node.0) x.cost.0) where
+    -- each spot that stays is a label's
+    pub label_of : (x : CompactSpot D) → StaysIn core x
         → (y : Label) × IsUnsettled (front_at core.fronts y.node) (as_entry y) × (as_spot y ≡ x)
-    label_of x waits =
-        let has = unsettled x waits in
+    label_of x stays =
+        let has = unsettled x stays in
         let y : Label = record { node = x.node.0; cost = x.cost.0; arc = has.entry.arc } in
         (y, record { entry = has.entry.contains; unsettled = has.unsettled }, refl)
 
     pub label_stays : (x : CompactSpot D) → StaysIn core x → (y : Label) × Stays task s y × (as_spot y ≡ x)
     label_stays x stays =
-        let (y, not, same) = label_of x stays.waits in
+        let (y, not, same) = label_of x stays in
         (y, (stays_told y).1 (not, subst (StaysIn core) (sym same) stays), same)
 
     pub next_told : (y : Label) → IsNext task s y ↔ (IsUnsettled (front_at core.fronts y.node) (as_entry y) × IsNextIn core (as_spot y))
     next_told y = (
       λ h.
-          let (not, stays) = (stays_told y).0 h.stays in
-          (not, record {
-            stays = stays;
-            none_better = λ x x_stays less.
-                let (z, z_stays, same) = label_stays x x_stays in
-                h.none_better z z_stays (subst (λ (w : CompactSpot D). Dominates w.cost.0 y.cost) (sym same) less);
-          }),
+          let (not, stays) = (stays_told y).0 h.stays in (
+            not,
+            record {
+              stays = stays;
+              none_better = λ x x_stays less.
+                  let (z, z_stays, same) = label_stays x x_stays in
+                  h.none_better z z_stays (subst (λ (w : CompactSpot D). Dominates w.cost.0 y.cost) (sym same) less);
+            },
+          ),
       λ h. record {
         stays = (stays_told y).1 (h.0, h.1.stays);
         none_better = λ z z_stays less. h.1.none_better (as_spot z) ((stays_told z).0 z_stays).1 less;
@@ -91,5 +93,5 @@ module _ {D : ℕ} (task : Task) (core : Core D) (s : SearchState) (at : IsAt ta
 
     pub label_next : (x : CompactSpot D) → IsNextIn core x → (y : Label) × IsNext task s y × (as_spot y ≡ x)
     label_next x next =
-        let (y, not, same) = label_of x next.stays.waits in
+        let (y, not, same) = label_of x next.stays in
         (y, (next_told y).1 (not, subst (IsNextIn core) (sym same) next), same)

@@ -35,9 +35,3 @@ pub fn taken_labels_are_relevant()
         → IsAt task core s → Contains core.taken x
         → IsRelevant task.network task.start task.target task.limit x.node.0 x.cost.0 }
 {}
-
-pub fn probe() -> u8
-    ensures { result ≡ 0 }
-{
-    0
-}

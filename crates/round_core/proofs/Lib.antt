@@ -4,3 +4,4 @@ pub mod ArrivingLemmas
 pub mod BoundsLemmas
 pub mod WaitingLemmas
 pub mod SettlingLemmas
+pub mod KeptLemmas

@@ -11,3 +11,4 @@ pub mod BarredLemmas
 pub mod BegunLemmas
 pub mod WaitingLemmas
 pub mod SettlingLemmas
+pub mod KeptLemmas

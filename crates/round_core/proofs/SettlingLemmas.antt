@@ -1,8 +1,8 @@
 -- Entries that are settled one after another, and the bounds by those of the target.
-use Rattle.std.proofs.Common.{◌≡◌, ◌≢◌, ◌⊎◌, ◌↔◌, ◌+◌, ◌<◌, ◌≤◌, ℕ, List, [], ◌∷◌, ◌++◌, length, get_or, take, inl, inr, refl, sym, ap, subst, ◌∙◌, arith}
+use Rattle.std.proofs.Common.{length-take, ◌≡◌, ◌≢◌, ◌⊎◌, ◌↔◌, ◌+◌, ◌<◌, ◌≤◌, ℕ, List, [], ◌∷◌, ◌++◌, length, get_or, take, inl, inr, refl, sym, ap, subst, ◌∙◌, arith}
 use Rattle.std.specs.Prelude.{All, AllPairs, Contains}
 use Rattle.std.proofs.lemmas.Bool.{cases_eq}
-use Rattle.std.proofs.lemmas.List.{take_more}
+use Rattle.std.proofs.lemmas.List.{get_or-take}
 use Rattle.cost_vector.specs.Costs.{AtMost, Dominates}
 use Rattle.cost_vector.proofs.Vectors.{cases_same}
 use Rattle.compact_labels.specs.declared.cost.CompactCost.{CompactCost}
@@ -49,11 +49,13 @@ module _ (before after : Front) (c : List ℕ) (settles : Settles before c after
     -- the bounds with this cost are those of the front with it settled
     pub bounds_with : {D : ℕ} (b n : Bounds D) → AreBoundsOf b before → ((k : List ℕ) → HasCost (entries n.front) k ↔ (HasCost (entries b.front) k ⊎ (k ≡ c)))
         → AreBoundsOf n after
-    bounds_with b n are more k = let m = more k in let a = are k in let s = settled_costs k in grind arith
+    bounds_with b n are more k = by (more k) (are k) (settled_costs k) where
+      by : {A B C S E : Type 0} → (A ↔ (B ⊎ E)) → (B ↔ C) → (S ↔ (C ⊎ E)) → (A ↔ S)
+      by a b s = grind arith
 
 -- a cost that isn't settled may come to the bounds
 module _ {D : ℕ} (b : Bounds D) (f : Front) (c : List ℕ) (are : AreBoundsOf b f) (apart : AreApart (entries f)) (has : HasUnsettled f c) where
-  mine : Entry
+  abbrev mine : Entry
   mine = record { cost = c; arc = has.entry.arc }
 
   bound_entry : (e : Entry) → Contains (entries b.front) e → (x : Entry) × Contains f.settled x × (x.cost ≡ e.cost)
@@ -188,3 +190,9 @@ module _ {D : ℕ} where
   } where
     last : (k : List ℕ) → k ≡ cost.0 → Contains (b.news ++ cost ∷ []) (record { 0 = k })
     last k same = (in_append b.news (cost ∷ []) (record { 0 = k })).1 (inr (subst (λ l. Contains (cost ∷ []) (record { 0 = l })) (sym same) (in_first cost [])))
+
+-- what stands at a place didn't stand before, where nothing stands twice
+pub not_before : {X : Type 0} (xs : List X) (i : ℕ) (x : X) → AllPairs ◌≢◌ xs → i < length xs → x ≡ get_or xs i x → ¬ Contains (take i xs) x
+not_before xs i x once within is h =
+    let below : h.0 < i = omega (arith, h.1, length-take i xs) in
+    once h.0 i x below within (sym (get_or-take i xs h.0 x below) ∙ h.2 ∙ is)

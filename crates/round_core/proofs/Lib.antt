@@ -12,3 +12,4 @@ pub mod BegunLemmas
 pub mod WaitingLemmas
 pub mod SettlingLemmas
 pub mod KeptLemmas
+pub mod BeginLemmas

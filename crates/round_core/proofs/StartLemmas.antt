@@ -43,8 +43,15 @@ pub record HasOne {D : ℕ} (l : CompactLabel D) (f : Fronts) (waiting : List (C
   pub unsettled : (v : ℕ) (c : List ℕ) → ¬ HasCost (front_at f v).settled c
   pub waits : (x : CompactSpot D) → Contains waiting x ↔ (x ≡ spot_at l)
 
+-- nothing waits where both lists are empty
+pub nothing_waits : {D : ℕ} (w : Waiting D) → w.queued ≡ [] → w.fresh ≡ [] → (x : CompactSpot D) → ¬ Contains (all_waiting w) x
+nothing_waits w queued fresh x there = elim ((in_append w.queued w.fresh x).0 there) [
+  | inl old ↦ none_of_empty w.queued queued x old
+  | inr new ↦ none_of_empty w.fresh fresh x new
+]
+
 module _ {D : ℕ} (none one : Fronts) (before after : Waiting D) (l : CompactLabel D) (empty : (v : ℕ) → front_at none v ≡ empty_front)
-    (none_waits : all_waiting before ≡ []) (elsewhere : SameElsewhere l.node.0 none one)
+    (none_waits : (x : CompactSpot D) → ¬ Contains (all_waiting before) x) (elsewhere : SameElsewhere l.node.0 none one)
     (merged : IsMerged (front_at none l.node.0) (entry_of l ∷ []) (front_at one l.node.0)) (same : after.queued ≡ before.queued)
     (adds : AddsIfNew (front_at none l.node.0) l before.fresh after.fresh) where
   here : IsMerged empty_front (entry_of l ∷ []) (front_at one l.node.0)
@@ -84,7 +91,7 @@ module _ {D : ℕ} (none one : Fronts) (before after : Waiting D) (l : CompactLa
     )))),
   ) where
     no_old : ¬ (Contains before.queued x ⊎ Contains before.fresh x)
-    no_old old = none_of_empty (all_waiting before) none_waits x ((in_append before.queued before.fresh x).1 old)
+    no_old old = none_waits x ((in_append before.queued before.fresh x).1 old)
 
   -- where it is the first label to come
   pub one_came : HasOne l one (all_waiting after)
@@ -92,8 +99,7 @@ module _ {D : ℕ} (none one : Fronts) (before after : Waiting D) (l : CompactLa
 
   -- none is in the queue
   pub none_queued : (x : CompactSpot D) → ¬ Contains after.queued x
-  none_queued x waits = none_of_empty (all_waiting before) none_waits x
-      ((in_append before.queued before.fresh x).1 (inl (subst (λ (q : List (CompactSpot D)). Contains q x) same waits)))
+  none_queued x waits = none_waits x ((in_append before.queued before.fresh x).1 (inl (subst (λ (q : List (CompactSpot D)). Contains q x) same waits)))
 
 module _ {D : ℕ} (l : CompactLabel D) (f : Fronts) where
   -- ---- what is kept

@@ -13,11 +13,19 @@ tighten-requires g c =
     let same : c.args.spot.now.node.0 ≡ c.args.target.0 = grind (arith, nat_tests) in
     let f = front_at c.args.fronts.now c.args.target.0 in
     let k = c.args.spot.now.cost.0 in
-    let has = subst (λ v. HasUnsettled (front_at c.args.fronts.now v) k) same c.requires.unsettled in
-    (search rules, (search rules, (c.requires.room, (
-      new_to_bounds c.args.bounds.now f k c.requires.bounds_are c.requires.apart has,
-      spares_bounds c.args.bounds.now f k c.requires.bounds_are c.requires.apart has,
-    ))))
+    let has = subst (λ v. HasUnsettled (front_at c.args.fronts.now v) k) same c.requires.unsettled in (
+      search rules,
+      (
+        search rules,
+        (
+          c.requires.room,
+          (
+            new_to_bounds c.args.bounds.now f k c.requires.bounds_are c.requires.apart has,
+            spares_bounds c.args.bounds.now f k c.requires.bounds_are c.requires.apart has,
+          ),
+        ),
+      ),
+    )
 
 pub returns-then-eq-clause-bounds_are : goal.returns-then-eq-clause-bounds_are
 returns-then-eq-clause-bounds_are g c =

@@ -1,13 +1,12 @@
 use Rattle.std.proofs.Common.{sym, refl, subst, subst₂, ◌∙◌, arith}
 use Rattle.std.specs.Prelude.{Contains}
 use Rattle.list_laws.proofs.Members.{all_from_in, in_none}
-use Rattle.list_laws.proofs.SetLaws.{none_of_empty}
 use Rattle.compact_labels.specs.declared.label.CompactSpot.{CompactSpot}
 use Rattle.road_network.specs.Network.{IsNode}
 use Rattle.pareto_front.specs.Fronts.{Front, IsCovered, entries}
 use Rattle.node_front.specs.NodeFronts.{front_at}
 use Rattle.round_core.specs.Waiting.{all_waiting}
-use Rattle.round_core.proofs.StartLemmas.{at_start, kept_at_start, none_queued, one_came}
+use Rattle.round_core.proofs.StartLemmas.{at_start, kept_at_start, none_queued, nothing_waits, one_came}
 use Rattle.round_core.proofs.rounds.Core.new.Goals as goal
 
 pub arrive-requires : goal.arrive-requires
@@ -16,7 +15,7 @@ arrive-requires g c =
     let l = c.start_label-label.result in
     let node = subst₂ IsNode (sym c.in_ok-fronts.ensures.nodes) (sym c.start_label-label.ensures.node) c.requires.start in
     let waits = all_from_in (λ (x : CompactSpot g.row.D). IsCovered (entries (front_at f x.node.0)) x.cost.0) (all_waiting c.new-waiting.result)
-    (λ x there. absurd (none_of_empty (all_waiting c.new-waiting.result) c.new-waiting.ensures x there)) in (
+    (λ x there. absurd (nothing_waits c.new-waiting.result c.new-waiting.ensures.queued c.new-waiting.ensures.fresh x there)) in (
       omega arith,
       (
         omega arith,
@@ -36,9 +35,10 @@ invariant_of-result g c =
     let now = c.arrive.new.waiting in
     let l = c.start_label-label.result in
     let came = c.in_ok-arrive.ensures in
+    let none = nothing_waits was c.new-waiting.ensures.queued c.new-waiting.ensures.fresh in
     let empty = c.in_ok-fronts.ensures.empty in
-    let one = one_came c.in_ok-fronts.fronts c.arrive.new.fronts was now l empty c.new-waiting.ensures came.elsewhere came.merged came.queued came.fresh in
-    let queued = none_queued c.in_ok-fronts.fronts c.arrive.new.fronts was now l empty c.new-waiting.ensures came.elsewhere came.merged came.queued came.fresh in
+    let one = one_came c.in_ok-fronts.fronts c.arrive.new.fronts was now l empty none came.elsewhere came.merged came.queued came.fresh in
+    let queued = none_queued c.in_ok-fronts.fronts c.arrive.new.fronts was now l empty none came.elsewhere came.merged came.queued came.fresh in
     let nodes = sym (came.elsewhere.nodes ∙ c.in_ok-fronts.ensures.nodes) in
     kept_at_start l c.arrive.new.fronts c.args.start.0 c.args.target.0 c.args.budget c.new-2.result now one c.requires.two c.requires.four
     (subst (λ n. IsNode n c.args.start.0) nodes c.requires.start) (subst (λ n. IsNode n c.args.target.0) nodes c.requires.target) c.requires.budget
@@ -50,7 +50,8 @@ returns g c =
     let now = c.arrive.new.waiting in
     let l = c.start_label-label.result in
     let came = c.in_ok-arrive.ensures in
-    let one = one_came c.in_ok-fronts.fronts c.arrive.new.fronts was now l c.in_ok-fronts.ensures.empty c.new-waiting.ensures came.elsewhere came.merged
+    let none = nothing_waits was c.new-waiting.ensures.queued c.new-waiting.ensures.fresh in
+    let one = one_came c.in_ok-fronts.fronts c.arrive.new.fronts was now l c.in_ok-fronts.ensures.empty none came.elsewhere came.merged
     came.queued came.fresh in
     record {
       nodes_are = came.elsewhere.nodes ∙ c.in_ok-fronts.ensures.nodes;

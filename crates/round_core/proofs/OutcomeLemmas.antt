@@ -120,8 +120,8 @@ module _ {D : ℕ} (task : Task) (before after : Core D) (s end : SearchState) (
         let was = (stands.dropped h.label).0 h.member in
         let spot = spot_by_parts {D = D} (as_spot h.label) (as_spot y) h.same.node h.same.cost in (
           subst (λ v. HasUnsettled (front_at before.fronts v) y.cost) h.same.node
-          (subst (HasUnsettled (front_at before.fronts h.label.node)) h.same.cost
-          (record { entry = record { arc = h.label.arc; contains = was.0.entry }; unsettled = was.0.unsettled })),
+              (subst (HasUnsettled (front_at before.fronts h.label.node)) h.same.cost
+              (record { entry = record { arc = h.label.arc; contains = was.0.entry }; unsettled = was.0.unsettled })),
           λ waits. was.1 (subst (Contains before.waiting) (sym spot) waits),
         ),
     λ h.
@@ -149,18 +149,21 @@ module _ {D : ℕ} (task : Task) (before after : Core D) (s end : SearchState) (
         → (HasCost (front_at after.fronts y.node).settled y.cost ↔ HasCost (front_at before.fronts y.node).settled y.cost)
     settled_after y survives = (
       λ has. (((merges.fronts.merged y.node).settled y.cost).0 has).0,
-      λ has. ((merges.fronts.merged y.node).settled y.cost).1 (has, λ by. ((survives_told y).0 survives).nondominated (record {
-        by = by.by;
-        contains = (in_append (entries (front_at before.fronts y.node)) (told_at y.node candidates) by.by).1 (inr by.contains);
-        dominates = by.dominates;
-      })),
+      λ has. ((merges.fronts.merged y.node).settled y.cost).1 (
+        has,
+        λ by. ((survives_told y).0 survives).nondominated (record {
+          by = by.by;
+          contains = (in_append (entries (front_at before.fronts y.node)) (told_at y.node candidates) by.by).1 (inr by.contains);
+          dominates = by.dominates;
+        }),
+      ),
     )
 
     stands_settled : (y : Label) → Contains end.settled y ↔ Contains (front_at after.fronts y.node).settled (as_entry y)
     stands_settled y = both (outcome.entries settled y) (settled_pair y) (survives_after y) (settled_after y)
         (settled_by_cost (front_at after.fronts y.node) (as_entry y) (after_apart y.node)) where
-      both : {A S P B E G H : Type 0} → (A ↔ (S × P)) → (P ↔ B) → (S ↔ E) → (S → (G ↔ B)) → (H ↔ (E × G)) → (A ↔ H)
-      both f p e g h = grind arith
+          both : {A S P B E G H : Type 0} → (A ↔ (S × P)) → (P ↔ B) → (S ↔ E) → (S → (G ↔ B)) → (H ↔ (E × G)) → (A ↔ H)
+          both f p e g h = grind arith
 
     -- what survives and isn't settled waits, if it waited before or is new
     unsettled_told : (y : Label) → IsUnsettled (front_at after.fronts y.node) (as_entry y)
@@ -184,18 +187,18 @@ module _ {D : ℕ} (task : Task) (before after : Core D) (s end : SearchState) (
         ↔ (IsUnsettled (front_at after.fronts y.node) (as_entry y) × (¬ Contains after.waiting (as_spot y)))
     stands_dropped y = both (outcome.entries dropped y) (dropped_pair y) (unsettled_told y) (waits_told y)
         (unsettled_parts (front_at before.fronts y.node) y.cost) (told_has_cost (entries (front_at before.fronts y.node)) y.cost) where
-      both : {A S P U W V B N H : Type 0} → (A ↔ (S × P)) → (P ↔ (U × (¬ W))) → (V ↔ (S × (¬ B))) → (V → (N ↔ (W ⊎ (¬ H)))) → (U ↔ (H × (¬ B))) → (H ⊎ (¬ H))
-          → (A ↔ (V × (¬ N)))
-      both f p v n u told = grind arith
+          both : {A S P U W V B N H : Type 0} → (A ↔ (S × P)) → (P ↔ (U × (¬ W))) → (V ↔ (S × (¬ B))) → (V → (N ↔ (W ⊎ (¬ H)))) → (U ↔ (H × (¬ B)))
+              → (H ⊎ (¬ H)) → (A ↔ (V × (¬ N)))
+          both f p v n u told = grind arith
 
     stands_waiting : (y : Label) → Contains end.waiting y
         ↔ (IsUnsettled (front_at after.fronts y.node) (as_entry y) × Contains after.waiting (as_spot y))
     stands_waiting y = both (outcome.entries waiting y) (settled_pair y) (dropped_pair y) (unsettled_told y) (waits_told y)
         (unsettled_parts (front_at before.fronts y.node) y.cost) (told_has_cost (entries (front_at before.fronts y.node)) y.cost)
         (told_spot before.waiting (as_spot y)) where
-      both : {A S P Q U W V B N H : Type 0} → (A ↔ (S × ((¬ Q) × (¬ P)))) → (Q ↔ B) → (P ↔ (U × (¬ W))) → (V ↔ (S × (¬ B)))
-          → (V → (N ↔ (W ⊎ (¬ H)))) → (U ↔ (H × (¬ B))) → (H ⊎ (¬ H)) → (W ⊎ (¬ W)) → (A ↔ (V × N))
-      both f q p v n u told told_too = grind arith
+          both : {A S P Q U W V B N H : Type 0} → (A ↔ (S × ((¬ Q) × (¬ P)))) → (Q ↔ B) → (P ↔ (U × (¬ W))) → (V ↔ (S × (¬ B)))
+              → (V → (N ↔ (W ⊎ (¬ H)))) → (U ↔ (H × (¬ B))) → (H ⊎ (¬ H)) → (W ⊎ (¬ W)) → (A ↔ (V × N))
+          both f q p v n u told told_too = grind arith
 
     pub stands_after : StandsFor task.network after end
     stands_after = record {
@@ -244,3 +247,13 @@ finishes_by_merge candidates before after apart merges = record {
     };
     stands = stands_after task before after s end candidates at.stands apart arrivals merges outcome;
   }
+
+-- the same of a core that was read at another name
+pub merges_at : {D : ℕ} (candidates : List (CompactLabel D)) (was before after : Core D) → was ≡ before → MergesRound candidates was after
+    → MergesRound candidates before after
+merges_at {D} candidates was before after same merges = subst (λ (b : Core D). MergesRound candidates b after) same merges
+
+pub finishes_at : {D : ℕ} (candidates : List (CompactLabel D)) (was before after : Core D) → was ≡ before
+    → ((v : ℕ) → AreApart (entries (front_at was.fronts v))) → MergesRound candidates was after → FinishesRound candidates before after
+finishes_at {D} candidates was before after same apart merges =
+    subst (λ (b : Core D). FinishesRound candidates b after) same (finishes_by_merge candidates was after apart merges)

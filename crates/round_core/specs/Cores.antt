@@ -1,5 +1,5 @@
 -- A search by bulk rounds as contracts see it, and the state of the event machine for which it stands.
-use Rattle.std.specs.Prelude.{◌≡◌, ℕ, ◌↔◌, List, [], Option, Contains}
+use Rattle.std.specs.Prelude.{◌≡◌, ℕ, ◌↔◌, List, [], Option, replicate, Contains}
 use Rattle.compact_labels.specs.declared.label.CompactLabel.{CompactLabel}
 use Rattle.compact_labels.specs.declared.label.CompactSpot.{CompactSpot}
 use Rattle.road_network.specs.Network.{Network}
@@ -33,6 +33,12 @@ as_spot y = record { cost = record { 0 = y.cost }; node = record { 0 = y.node } 
 -- all of it
 abbrev pub as_compact : {D : ℕ} → Label → CompactLabel D
 as_compact y = record { node = record { 0 = y.node }; cost = record { 0 = y.cost }; arc = record { 0 = y.arc } }
+
+-- the label of the walk without arcs from the start
+pub record IsStartLabel {D : ℕ} (start : ℕ) (l : CompactLabel D) : Type 0 where
+  pub node : l.node.0 ≡ start
+  pub cost : l.cost.0 ≡ replicate D 0
+  pub arc : l.arc.0 ≡ 0
 
 -- ---- what a core stands for
 

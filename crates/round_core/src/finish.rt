@@ -1,13 +1,16 @@
-ghost use Rattle.std.specs.Prelude.{◌≡◌, List, [], ◌∷◌, IfOk, OnOk, All};
+ghost use Rattle.std.specs.Prelude.{◌≡◌, ◌≢◌, ℕ, List, [], ◌∷◌, map, IfOk, OnOk, All, AllPairs, Contains};
 ghost use Rattle.compact_labels.specs.declared.label.CompactLabel.{CompactLabel as LabelTold};
-ghost use Rattle.node_front.specs.Deltas.{AreDeltas, AreSomeDeltas};
+ghost use Rattle.node_front.specs.Apart.{AreApart};
+ghost use Rattle.node_front.specs.Deltas.{AreDeltas, AreSomeDeltas, MergesAll};
 ghost use Rattle.node_front.specs.NodeFronts.{SameElsewhere, front_at};
 ghost use Rattle.pareto_front.specs.Calls.{GrowsBy, entry_of};
 ghost use Rattle.pareto_front.specs.Fronts.{IsCovered, SparesSettled, entries};
 ghost use Rattle.pareto_front.specs.Merging.{IsMerged, IsRemoved};
 ghost use Rattle.road_network.specs.Network.{IsNode};
-ghost use Rattle.round_core.specs.Arriving.{AddsIfNew, spot_at};
+ghost use Rattle.pareto_queue.specs.Queues.{Gains};
+ghost use Rattle.round_core.specs.Arriving.{AddsIfNew, WaitsAsMerged, spot_at};
 ghost use Rattle.round_core.specs.Finishes.{FinishesRound, MergesRound};
+ghost use Rattle.round_core.specs.Unsettled.{HasUnsettled};
 ghost use Rattle.round_core.specs.Waiting.{all_waiting};
 
 use crate::Core;
@@ -28,9 +31,7 @@ impl<const D: usize, F: ParetoFront<D> + Drop> Core<D, F> {
     {
         self.fronts.reserve(deltas)?;
         self.fronts.apply(deltas);
-        for label in deltas.added() {
-            self.waiting.add(spot_of(label))?;
-        }
+        wait_for(&mut self.waiting, deltas.added())?;
         self.waiting.remove(deltas.removed())?;
         self.taken.clear();
         Ok(self)
@@ -45,14 +46,57 @@ impl<const D: usize, F: ParetoFront<D> + Drop> Core<D, F> {
         ensures merged { IfOk result (MergesRound candidates.now self) }
         ensures finished { IfOk result (FinishesRound candidates.now self) }
     {
-        self.removed.clear();
-        for label in candidates {
-            arrive(&mut self.fronts, &mut self.waiting, &mut self.removed, label)?;
-        }
-        self.waiting.remove(&self.removed)?;
+        arrive_all(
+            &mut self.fronts,
+            &mut self.waiting,
+            &mut self.removed,
+            candidates,
+        )?;
         self.taken.clear();
         Ok(self)
     }
+}
+
+/// The labels are new entries: they wait.
+fn wait_for<const D: usize>(
+    waiting: &mut Waiting<D>,
+    added: &[CompactLabel<D>],
+) -> Result<(), OutOfMemory>
+    requires once { AllPairs (λ l m. spot_at l ≢ spot_at m) added.now }
+    requires new { All (λ l. ¬ Contains (all_waiting waiting.old) (spot_at l)) added.now }
+    ensures queued { waiting.new.queued ≡ waiting.old.queued }
+    ensures fresh { OnOk result (Gains waiting.old.fresh (map spot_at added.now) waiting.new.fresh) }
+{
+    for label in added {
+        waiting.add(spot_of(label))?;
+    }
+    Ok(())
+}
+
+/// Takes the labels into the fronts of their nodes, one after another; those wait that are new entries, and those no longer
+/// whose entries are gone.
+fn arrive_all<const D: usize, F: ParetoFront<D> + Drop>(
+    fronts: &mut Fronts<D, F>,
+    waiting: &mut Waiting<D>,
+    removed: &mut Vec<CompactSpot<D>>,
+    labels: &[CompactLabel<D>],
+) -> Result<(), OutOfMemory>
+    requires apart { (v : ℕ) → AreApart (entries (front_at fronts.old v)) }
+    requires waits { All (λ x. HasUnsettled (front_at fronts.old x.node.0) x.cost.0)
+        (all_waiting waiting.old) }
+    requires nodes { All (λ l. IsNode fronts.old.nodes l.node.0) labels.now }
+    requires spares { All (λ l. SparesSettled (front_at fronts.old l.node.0) l.cost.0) labels.now }
+    ensures nodes { OnOk result (fronts.new.nodes ≡ fronts.old.nodes) }
+    ensures merged { OnOk result (MergesAll fronts.old labels.now fronts.new) }
+    ensures waiting { OnOk result (WaitsAsMerged fronts.old (all_waiting waiting.old) fronts.new
+        (Contains (all_waiting waiting.new))) }
+    ensures queued { OnOk result (All (Contains waiting.old.queued) waiting.new.queued) }
+{
+    removed.clear();
+    for label in labels {
+        arrive(fronts, waiting, removed, label)?;
+    }
+    waiting.remove(removed)
 }
 
 /// Takes a label into the front of its node; it waits, where it is a new entry. The spots of the entries that are gone are

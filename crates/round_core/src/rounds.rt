@@ -1,10 +1,12 @@
-ghost use Rattle.std.specs.Prelude.{◌≡◌, ◌≤◌, ◌↔◌, [], length, IfOk};
+ghost use Rattle.std.specs.Prelude.{◌≡◌, ◌≤◌, ◌↔◌, ℕ, [], length, IfOk, Contains};
 ghost use Rattle.cost_vector.specs.Costs.{max_criteria, min_criteria};
 ghost use Rattle.event_machine.specs.Machine.{Task, SearchState};
+ghost use Rattle.node_front.specs.NodeFronts.{front_at};
+ghost use Rattle.pareto_front.specs.Fronts.{Entry};
 ghost use Rattle.path_readback.specs.WellFound.{HasAllRelevant};
 ghost use Rattle.road_network.specs.Limits.{max_budget, max_nodes};
 ghost use Rattle.road_network.specs.Network.{IsNode};
-ghost use Rattle.round_core.specs.Cores.{IsAt, IsNewSearch};
+ghost use Rattle.round_core.specs.Cores.{IsAt, IsNewSearch, IsStartLabel};
 
 use crate::bounds::Bounds;
 use crate::finish::arrive;
@@ -76,30 +78,22 @@ impl<const D: usize, F: ParetoFront<D> + Drop> Core<D, F> {
         requires budget { budget ≤ max_budget }
         ensures { IfOk result (IsNewSearch nodes start.0 target.0 limit.now budget) }
     {
-        let fronts = Fronts::new(alloc, nodes)?;
-        let core = Core {
+        let mut fronts = Fronts::new(alloc, nodes)?;
+        let mut waiting = Waiting::new(alloc);
+        let mut removed = Vec::new(alloc);
+        let label = start_label(start);
+        arrive(&mut fronts, &mut waiting, &mut removed, &label)?;
+        Ok(Core {
             start,
             target,
             budget,
             bounds: Bounds::new(alloc, limit),
             fronts,
-            waiting: Waiting::new(alloc),
+            waiting,
             taken: Vec::new(alloc),
             settled: 0,
-            removed: Vec::new(alloc),
-        };
-        core.with_start()
-    }
-
-    /// Lets the label of the start come.
-    fn with_start(mut self) -> Result<Core<D, F>, OutOfMemory> {
-        let label = CompactLabel {
-            node: self.start,
-            cost: CompactCost::zero(),
-            arc: ArcNo(0),
-        };
-        arrive(&mut self.fronts, &mut self.waiting, &mut self.removed, &label)?;
-        Ok(self)
+            removed,
+        })
     }
 
     /// The fronts of all nodes.
@@ -124,9 +118,23 @@ impl<const D: usize, F: ParetoFront<D> + Drop> Core<D, F> {
         ensures target { result.target ≡ self.target }
         ensures nodes { result.nodes ≡ self.fronts.nodes }
         ensures criteria { result.criteria ≡ D }
+        ensures settled { (v : ℕ) (e : Entry)
+            → Contains result.settled (record { node = v; cost = e.cost; arc = e.arc })
+            ↔ Contains (front_at self.fronts v).settled e }
         ensures relevant { (task : Task) (s : SearchState) → IsAt task self s
             → HasAllRelevant task.network task.limit result }
     {
         FoundFronts::of(self.start, self.target, self.fronts)
+    }
+}
+
+/// The label of the start, at no cost.
+fn start_label<const D: usize>(start: NodeNo) -> CompactLabel<D>
+    ensures { IsStartLabel start.0 result }
+{
+    CompactLabel {
+        node: start,
+        cost: CompactCost::zero(),
+        arc: ArcNo(0),
     }
 }

@@ -20,7 +20,7 @@ use Rattle.round_core.specs.Unsettled.{CountsSettled, HasUnsettled}
 use Rattle.round_core.specs.Waiting.{Waiting, all_waiting}
 use Rattle.round_core.proofs.SettlingLemmas.{apart_still, costs_settled, unsettled_still}
 use Rattle.round_core.proofs.UnsettledLemmas.{told_spot}
-use Rattle.round_core.proofs.WaitingLemmas.{told_dominated}
+use Rattle.round_core.proofs.WaitingLemmas.{none_fresh}
 
 -- the same costs dominate the same
 pub dominated_by_costs : (xs ys : List Entry) → ((k : List ℕ) → HasCost xs k → HasCost ys k) → (c : List ℕ) → IsDominated xs c → IsDominated ys c
@@ -156,3 +156,48 @@ module _ {D : ℕ} (f g : Fronts) (xs : List (CompactSpot D)) (all : SettlesAll 
         | inl old ↦ absurd (useful (inr (record { by = record { cost = by.by.cost; arc = old.arc }; contains = old.contains; dominates = by.dominates })))
         | inr new ↦ record { by = record { 0 = by.by.cost }; contains = new; dominates = by.dominates }
       ]
+
+-- ---- a core by its parts
+
+module _ {D : ℕ} (start target budget : ℕ) (f : Fronts) where
+  abbrev pub core_of : (b : Bounds D) (w : Waiting D) (taken : List (CompactSpot D)) → Core D
+  core_of b w taken =
+      record { start = start; target = target; limit = b.limit; budget = budget; fronts = f; waiting = all_waiting w; taken = taken }
+
+  -- what isn't barred is of use
+  pub free_all : (b : Bounds D) (w : Waiting D) (taken : List (CompactSpot D)) → AreBoundsOf b (front_at f target)
+      → All (λ x. ¬ IsBarred (core_of b w taken) x.cost.0) (all_waiting w) → (x : CompactSpot D) → Contains (all_waiting w) x → ¬ IsUseless b x.cost.0
+  free_all b w taken are free x there useless =
+      each_in (λ y. ¬ IsBarred (core_of b w taken) y.cost.0) (all_waiting w) free x there ((useless_barred b (front_at f target) are x.cost.0).0 useless)
+
+  -- the same waits
+  pub keeps_waiting : (b n : Bounds D) (w v : Waiting D) (taken none : List (CompactSpot D)) → n.limit ≡ b.limit → SameMembers (all_waiting v) (all_waiting w)
+      → none ≡ [] → KeepsWaiting (core_of b w taken) (core_of n v none)
+  keeps_waiting b n w v taken none limit same empty = record {
+    same_search = record { start = refl; target = refl; limit = limit; budget = refl; nodes = refl };
+    fronts = refl;
+    waiting = same;
+    none_taken = empty;
+  }
+
+-- what was taken waits again, fresh
+pub given_back_all : {D : ℕ} (old took : List (CompactSpot D)) (v gb : Waiting D) → TakesUndominated old took (all_waiting v) → v.fresh ≡ []
+    → gb.queued ≡ v.queued → gb.fresh ≡ took → SameMembers (all_waiting gb) old
+given_back_all {D} old took v gb takes none queued fresh =
+    subst (λ (xs : List (CompactSpot D)). SameMembers (gb.queued ++ xs) old) (sym fresh) (given_back old took (all_waiting v) takes gb.queued (λ x.
+        let same = none_fresh v.queued v.fresh none x in
+        subst (λ (xs : List (CompactSpot D)). Contains xs x ↔ Contains (all_waiting v) x) (sym queued) (same.1, same.0)))
+
+-- what was taken isn't in the queue that is left
+pub took_outside : {D : ℕ} (old took : List (CompactSpot D)) (v : Waiting D) → TakesUndominated old took (all_waiting v)
+    → All (λ x. ¬ Contains v.queued x) took
+took_outside old took v takes = all_from_in (λ x. ¬ Contains v.queued x) took
+    (λ x there queued. took_apart old took (all_waiting v) takes x there ((in_append v.queued v.fresh x).1 (inl queued)))
+
+pub took_unsettled : {D : ℕ} (f : Fronts) (old took left : List (CompactSpot D)) → TakesUndominated old took left
+    → All (λ x. HasUnsettled (front_at f x.node.0) x.cost.0) old → (x : CompactSpot D) → Contains took x → HasUnsettled (front_at f x.node.0) x.cost.0
+took_unsettled f old took left takes waits x there =
+    each_in (λ y. HasUnsettled (front_at f y.node.0) y.cost.0) old waits x (took_of_old old took left takes x there)
+
+pub bounds_alike : {D : ℕ} (b n : Bounds D) (f : Front) → n.front ≡ b.front → AreBoundsOf b f → AreBoundsOf n f
+bounds_alike b n f same = subst (λ (g : Front). (c : List ℕ) → HasCost (entries g) c ↔ HasCost f.settled c) (sym same)

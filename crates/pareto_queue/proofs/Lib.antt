@@ -1,5 +1,5 @@
-mod ExtractionLemmas
-mod OrderLemmas
-mod QueueLemmas
-mod RetainedLemmas
-mod ShadowLemmas
+pub mod ExtractionLemmas
+pub mod OrderLemmas
+pub mod QueueLemmas
+pub mod RetainedLemmas
+pub mod ShadowLemmas

@@ -1,0 +1,398 @@
+-- How a round begins: what a core changes at its spots are the drops and takes of the machine.
+use Rattle.std.proofs.Common.{◌≡◌, ◌≢◌, ◌⊎◌, ◌↔◌, ℕ, ◌+◌, ◌<◌, ◌≤◌, List, [], ◌++◌, length, map, inl, inr, refl, sym, ap, subst, ◌∙◌, arith}
+use Rattle.std.specs.Prelude.{AllPairs, Contains}
+use Rattle.std.proofs.lemmas.List.{length-append, length-map}
+use Rattle.list_laws.specs.Sets.{HasMoreThan, ListsOnce}
+use Rattle.list_laws.proofs.Ascending.{ascending_distinct}
+use Rattle.list_laws.proofs.Members.{each_in, in_map, of_map}
+use Rattle.list_laws.proofs.OnceLaws.{IsTold, empty_if_none, in_append, list_all, more_of_map, pairs_append}
+use Rattle.list_laws.proofs.Pairs.{pairs_map, pigeonhole}
+use Rattle.list_laws.proofs.SetLaws.{more_by_list, none_of_empty, same_by_permutation}
+use Rattle.compact_labels.specs.declared.label.CompactSpot.{CompactSpot}
+use Rattle.event_machine.specs.Machine.{Task, Label, SearchState, LeadsOn, IsSamePair, Place, settled, dropped, waiting, start_state}
+use Rattle.event_machine.specs.Events.{Event, drop, take, IsReached, MayDrop, Runs}
+use Rattle.event_machine.specs.Rounds.{IsBetweenRounds, NoneStays}
+use Rattle.event_machine.specs.Orders.{DropsAll, IsBegun, IsNext, Stays}
+use Rattle.event_machine.proofs.Running.{runs_on}
+use Rattle.event_machine.proofs.Sound.{IsSound, cases_label}
+use Rattle.event_machine.proofs.Keeping.{settled_once, sound_if_reached}
+use Rattle.bulk_rounds.proofs.BegunLaws.{all_drops, begins_is_begun, told_may_drop}
+use Rattle.pareto_front.specs.Fronts.{Entry, HasCost, entries}
+use Rattle.pareto_queue.specs.Queues.{SpotLess, TakesUndominated}
+use Rattle.pareto_queue.proofs.OrderLemmas.{SpotLess-irrefl, SpotLess-trans}
+use Rattle.node_front.specs.NodeFronts.{Fronts, front_at}
+use Rattle.round_core.specs.Begins.{DropsUseless, HasBegun, HasEnded, PassesBudget, SomeStay}
+use Rattle.round_core.specs.Cores.{Core, IsAt, StandsFor, as_entry, as_spot}
+use Rattle.round_core.specs.Taking.{DropsBarred, IsBarred, IsNextIn, KeepsWaiting, SettlesAll, StaysIn, TakesNext, WouldPass}
+use Rattle.round_core.specs.Unsettled.{CountsSettled, HasUnsettled, IsUnsettled}
+use Rattle.round_core.proofs.BarredLemmas.{barred_told, drop_told, label_next, label_stays, next_told, told_barred}
+use Rattle.round_core.proofs.OutcomeLemmas.{same_task}
+use Rattle.round_core.proofs.UnsettledLemmas.{settled_has_cost, told_spot}
+
+-- places differ
+settled_not_dropped : ¬ (settled ≡ dropped)
+settled_not_dropped same = cc
+
+waiting_not_dropped : ¬ (waiting ≡ dropped)
+waiting_not_dropped same = cc
+
+-- a spot stays by its parts
+stays_parts : {D : ℕ} (core : Core D) (x : CompactSpot D) → StaysIn core x ↔ (Contains core.waiting x × (¬ IsBarred core x.cost.0))
+stays_parts core x = (λ h. (h.waits, h.free), λ h. record { waits = h.0; free = h.1 })
+
+pair_by_spot : {D : ℕ} (x y : Label) → as_spot {D = D} x ≡ as_spot y → IsSamePair x y
+pair_by_spot {D} x y same = record { node = ap (λ (z : CompactSpot D). z.node.0) same; cost = ap (λ (z : CompactSpot D). z.cost.0) same }
+
+-- ---- between rounds
+
+module _ {D : ℕ} (task : Task) (before : Core D) (s : SearchState) (none : before.taken ≡ []) (at : IsAt task before s) where
+  sound : IsSound task s
+  sound = sound_if_reached task at.search.is_task s at.reached
+
+  none_unrelaxed : (p : Label × ℕ) → ¬ Contains s.unrelaxed p
+  none_unrelaxed p there = none_of_empty before.taken none (as_spot p.0) ((at.stands.unrelaxed p).0 there).1
+
+  pub between : IsBetweenRounds s
+  between = record { unrelaxed = empty_if_none s.unrelaxed none_unrelaxed; candidates = at.stands.candidates }
+
+  -- a settled label may not be dropped, and isn't next
+  settled_not_waiting : (y : Label) → Contains s.settled y → ¬ Contains s.waiting y
+  settled_not_waiting y there waits = let same : settled ≡ waiting = sound.apart.placed settled waiting y there waits in cc
+
+  -- ---- the drops
+
+  reached_by_drops : (left : SearchState) → DropsAll task s left → IsReached task left
+  reached_by_drops left all =
+      let (drops, each) = list_all cases_label (MayDrop task s) (told_may_drop task s) s.waiting (λ l may. may.waits) in
+      let run = ((all_drops task s sound drops each).1 left).1 all in
+      record {
+        events = at.reached.events ++ map (λ l. drop l) drops;
+        run = runs_on task (start_state task) s left at.reached.events
+            (map (λ l. drop l) drops) at.reached.run run;
+      }
+
+  reached_by_begins : (next : SearchState) → IsBegun task s next → IsReached task next
+  reached_by_begins next begun =
+      let h = (begins_is_begun task at.search.is_task s sound between next).1 begun in
+      let first = map (λ l. drop l) h.drops in
+      let second = map (λ l. take l) h.takes in
+      let run = runs_on task s h.left next first second h.dropping h.taking in
+      record {
+        events = at.reached.events ++ (first ++ second);
+        run = runs_on task (start_state task) s next at.reached.events (first ++ second) at.reached.run
+            run;
+      }
+
+  module _ (after : Core D) (drops : DropsBarred before after) (left : SearchState) (all : DropsAll task s left) where
+    stands_dropped : (y : Label) → Contains left.dropped y
+        ↔ (IsUnsettled (front_at before.fronts y.node) (as_entry y) × (¬ Contains after.waiting (as_spot y)))
+    stands_dropped y = both (all.entries dropped y) refl (at.stands.dropped y) (drop_told task before s at y) (drops.waiting (as_spot y))
+        (stays_parts before (as_spot y)) (told_spot before.waiting (as_spot y)) (told_barred before y.cost) where
+          both : {A S M Q U W B V N : Type 0} → (A ↔ ((S × (¬ M)) ⊎ (Q × M))) → Q → (S ↔ (U × (¬ W))) → (M ↔ (U × (W × B))) → (V ↔ N)
+              → (N ↔ (W × (¬ B))) → (W ⊎ (¬ W)) → (B ⊎ (¬ B)) → (A ↔ (U × (¬ V)))
+          both a q s m v n told told_too = grind arith
+
+    stands_waiting : (y : Label) → Contains left.waiting y
+        ↔ (IsUnsettled (front_at before.fronts y.node) (as_entry y) × Contains after.waiting (as_spot y))
+    stands_waiting y = both (all.entries waiting y) waiting_not_dropped (at.stands.waiting y) (drop_told task before s at y) (drops.waiting (as_spot y))
+        (stays_parts before (as_spot y)) where
+          both : {A S M Q U W B V N : Type 0} → (A ↔ ((S × (¬ M)) ⊎ (Q × M))) → ¬ Q → (S ↔ (U × W)) → (M ↔ (U × (W × B))) → (V ↔ N)
+              → (N ↔ (W × (¬ B))) → (A ↔ (U × V))
+          both a q s m v n = grind arith
+
+    stands_settled : (y : Label) → Contains left.settled y ↔ Contains (front_at before.fronts y.node).settled (as_entry y)
+    stands_settled y = both (all.entries settled y) settled_not_dropped (at.stands.settled y) (λ there may. settled_not_waiting y there may.waits) where
+      both : {A S M Q F : Type 0} → (A ↔ ((S × (¬ M)) ⊎ (Q × M))) → ¬ Q → (S ↔ F) → (S → ¬ M) → (A ↔ F)
+      both a q s m = grind arith
+
+    pub at_left : IsAt task after left
+    at_left = record {
+      search = same_task task before after drops.same_search at.search;
+      reached = reached_by_drops left all;
+      stands = record {
+        settled = λ y. subst (λ (f : Fronts). Contains left.settled y ↔ Contains (front_at f y.node).settled (as_entry y)) (sym drops.fronts) (stands_settled y);
+        dropped = λ y. subst (λ (f : Fronts). Contains left.dropped y ↔ (IsUnsettled (front_at f y.node) (as_entry y) × (¬ Contains after.waiting (as_spot y))))
+            (sym drops.fronts) (stands_dropped y);
+        waiting = λ y. subst (λ (f : Fronts). Contains left.waiting y ↔ (IsUnsettled (front_at f y.node) (as_entry y) × Contains after.waiting (as_spot y)))
+            (sym drops.fronts) (stands_waiting y);
+        unrelaxed = λ p. (
+          λ h. elim ((all.unrelaxed p).0 h) [ inl old ↦ absurd (none_unrelaxed p old) | inr new ↦ absurd new.1 ],
+          λ h. absurd (none_of_empty after.taken drops.none_taken (as_spot p.0) h.1),
+        );
+        candidates = empty_if_none left.candidates (λ x there. none_of_empty s.candidates at.stands.candidates x
+            ((same_by_permutation s.candidates left.candidates all.candidates x).0 there));
+        taken = λ x there. absurd (none_of_empty after.taken drops.none_taken x there);
+      };
+    }
+
+module _ {D : ℕ} (before mid : Core D) (drops : DropsBarred before mid) where
+  pub drops_useless : DropsUseless before mid
+  drops_useless task s left at all = at_left task before s drops.was_none at mid drops left all
+
+  -- what is kept waiting is dropped the same
+  pub drops_kept : (after : Core D) → KeepsWaiting mid after → DropsUseless before after
+  drops_kept after keeps task s left at all = at_left task before s drops.was_none at after (record {
+    same_search = record {
+      start = keeps.same_search.start ∙ drops.same_search.start;
+      target = keeps.same_search.target ∙ drops.same_search.target;
+      limit = keeps.same_search.limit ∙ drops.same_search.limit;
+      budget = keeps.same_search.budget ∙ drops.same_search.budget;
+      nodes = keeps.same_search.nodes ∙ drops.same_search.nodes;
+    };
+    fronts = keeps.fronts ∙ drops.fronts;
+    waiting = λ x. through (keeps.waiting x) (drops.waiting x);
+    was_none = drops.was_none;
+    none_taken = keeps.none_taken;
+  }) left all where
+    through : {A B C : Type 0} → (A ↔ B) → (B ↔ C) → (A ↔ C)
+    through f g = (λ a. g.0 (f.0 a), λ x. f.1 (g.1 x))
+
+  -- where none is left, all were barred
+  barred_if_gone : mid.waiting ≡ [] → (x : CompactSpot D) → Contains before.waiting x → IsBarred before x.cost.0
+  barred_if_gone gone x waits = elim (told_barred before x.cost.0) [
+    | inl barred ↦ barred
+    | inr free ↦ absurd (none_of_empty mid.waiting gone x ((drops.waiting x).1 (record { waits = waits; free = free })))
+  ]
+
+  pub ended : mid.waiting ≡ [] → HasEnded before mid
+  ended gone = record {
+    none_waits = gone;
+    all_barred = barred_if_gone gone;
+    none_stay = λ task s at l waits. record {
+      waits = waits;
+      useless = (barred_told task before s at l.cost).0 (barred_if_gone gone (as_spot l) ((at.stands.waiting l).0 waits).1);
+    };
+  }
+
+  -- ---- what is next
+
+  module _ (unsettled : (x : CompactSpot D) → Contains mid.waiting x → HasUnsettled (front_at mid.fronts x.node.0) x.cost.0) where
+    stays_unsettled : (x : CompactSpot D) → StaysIn before x → HasUnsettled (front_at before.fronts x.node.0) x.cost.0
+    stays_unsettled x stays = subst (λ (f : Fronts). HasUnsettled (front_at f x.node.0) x.cost.0) drops.fronts (unsettled x ((drops.waiting x).1 stays))
+
+    pub some_stay : (x : CompactSpot D) → Contains mid.waiting x → SomeStay before
+    some_stay x waits =
+        let stays = (drops.waiting x).0 waits in
+        record {
+          spot = x;
+          stays_in = stays;
+          stays = λ task s at. let (y, y_stays, _) = label_stays task before s at stays_unsettled x stays in (y, y_stays);
+        }
+
+    -- just the next spots are undominated among those that are left
+    next_in : (took rest : List (CompactSpot D)) → TakesUndominated mid.waiting took rest → (x : CompactSpot D) → Contains took x ↔ IsNextIn before x
+    next_in took rest takes x = (
+      λ there.
+          let (waits, undominated) = (takes.taken x).0 there in
+          record { stays = (drops.waiting x).0 waits; none_better = λ z stays. undominated z ((drops.waiting z).1 stays) },
+      λ next. (takes.taken x).1 ((drops.waiting x).1 next.stays, λ z waits. next.none_better z ((drops.waiting z).0 waits)),
+    )
+
+    -- ---- how many are settled then
+
+    module _ (took rest : List (CompactSpot D)) (takes : TakesUndominated mid.waiting took rest) (count : ℕ) (counts : CountsSettled D mid.fronts count)
+        (task : Task) (s next : SearchState) (at : IsAt task before s) (begun : IsBegun task s next) where
+      all_spots : List (CompactSpot D)
+      all_spots = counts.spots ++ took
+
+      settled_spot : (x : CompactSpot D) → Contains counts.spots x ↔ HasCost (front_at before.fronts x.node.0).settled x.cost.0
+      settled_spot x = subst (λ (f : Fronts). Contains counts.spots x ↔ HasCost (front_at f x.node.0).settled x.cost.0) drops.fronts (counts.once.exact x)
+
+      spots_once : AllPairs ◌≢◌ (counts.spots ++ took)
+      spots_once = pairs_append ◌≢◌ counts.spots took counts.once.once (ascending_distinct SpotLess SpotLess-irrefl SpotLess-trans took takes.ascending)
+          (λ x y x_in y_in same. (stays_unsettled y ((next_in took rest takes y).0 y_in).stays).unsettled
+          ((settled_spot y).0 (subst (Contains counts.spots) same x_in)))
+
+      -- the spots of the labels that are settled then
+      settled_then : (y : Label) → Contains next.settled y → Contains (counts.spots ++ took) (as_spot y)
+      settled_then y there = (in_append counts.spots took (as_spot y)).1 (elim ((begun.entries settled y).0 there) [
+        | inl (old, _, _) ↦ inl ((settled_spot (as_spot y)).1 (record { arc = y.arc; contains = (at.stands.settled y).0 old }))
+        | inr (inl (wrong, _)) ↦ absurd (settled_not_dropped wrong)
+        | inr (inr (_, is_next)) ↦ inr ((next_in took rest takes (as_spot y)).1 ((next_told task before s at stays_unsettled y).0 is_next).1)
+      ])
+
+      label_then : (x : CompactSpot D) → Contains (counts.spots ++ took) x → (y : Label) × Contains next.settled y × (as_spot y ≡ x)
+      label_then x there = elim ((in_append counts.spots took x).0 there) [
+        | inl old ↦
+            let has = (settled_spot x).0 old in
+            let y : Label = record { node = x.node.0; cost = x.cost.0; arc = has.arc } in
+            let was = (at.stands.settled y).1 has.contains in
+            let waits_not = settled_not_waiting task before s drops.was_none at y was in
+            (y, (begun.entries settled y).1 (inl (was, λ may. waits_not may.waits, λ is_next. waits_not is_next.stays.waits)), refl)
+        | inr new ↦
+            let (y, is_next, same) = label_next task before s at stays_unsettled x ((next_in took rest takes x).0 new) in
+            (y, (begun.entries settled y).1 (inr (inr (refl, is_next))), same)
+      ]
+
+      pub more_then : (budget : ℕ) → budget < count + length took → HasMoreThan budget next.settled
+      more_then budget beyond =
+          let whole = length-append counts.spots took in
+          more_of_map cases_label (λ (y : Label). as_spot {D = D} y) budget next.settled
+          (more_by_list budget (map (λ (y : Label). as_spot {D = D} y) next.settled) (counts.spots ++ took) spots_once
+          (λ x there. let (y, y_in, same) = label_then x there in
+          subst (Contains (map (λ (z : Label). as_spot {D = D} z) next.settled)) same (in_map (λ (z : Label). as_spot {D = D} z) next.settled y y_in))
+          (omega (arith, beyond, whole, counts.counted)))
+
+      pub within_then : (budget : ℕ) → IsReached task next → count + length took ≤ budget → ¬ HasMoreThan budget next.settled
+      within_then budget reached within more =
+          let spot : Label → CompactSpot D = λ y. as_spot y in
+          let apart : AllPairs (λ x y. spot x ≢ spot y) more.members = λ i j d before within same.
+          let there = more.each i d (omega (arith, before, within)) in
+          more.distinct i j d before within (settled_once task at.search.is_task next reached _ _ there (more.each j d within) (pair_by_spot _ _ same)) in
+          let images = pairs_map (λ x y. spot x ≢ spot y) ◌≢◌ spot (λ x y other. other) more.members apart in
+          let least = pigeonhole (map spot more.members) (counts.spots ++ took) images (λ x there.
+          let (y, y_in, same) = of_map spot more.members x there in
+          subst (Contains (counts.spots ++ took)) (sym same) (settled_then y (each_in (Contains next.settled) more.members more.each y y_in))) in
+          omega (arith, least, length-map more.members spot, more.more, length-append counts.spots took, counts.counted, within)
+
+    -- the budget is passed
+    pub passes : (x : CompactSpot D) → Contains mid.waiting x → WouldPass mid → PassesBudget before
+    passes x waits would = record {
+      some_stay = some_stay x waits;
+      more = λ task s next at begun. more_then would.took would.rest would.taken would.count would.counts task s next at begun before.budget
+          (subst (λ b. b < would.count + length would.took) drops.same_search.budget would.beyond);
+    }
+
+    -- ---- the round has begun
+
+    module _ (after : Core D) (takes : TakesNext mid after) where
+      settles : SettlesAll before.fronts after.taken after.fronts
+      settles = subst (λ (f : Fronts). SettlesAll f after.taken after.fronts) drops.fronts takes.settled
+
+      is_next : (x : CompactSpot D) → Contains after.taken x ↔ IsNextIn before x
+      is_next = next_in after.taken after.waiting takes.taken
+
+      taken_unsettled : (x : CompactSpot D) → Contains after.taken x → HasUnsettled (front_at before.fronts x.node.0) x.cost.0
+      taken_unsettled x there = stays_unsettled x ((is_next x).0 there).stays
+
+      -- what isn't settled afterwards wasn't before, and wasn't taken
+      unsettled_then : (y : Label) → IsUnsettled (front_at after.fronts y.node) (as_entry y)
+          ↔ (IsUnsettled (front_at before.fronts y.node) (as_entry y) × (¬ Contains after.taken (as_spot y)))
+      unsettled_then y = (
+        λ not.
+            let entry = (settles.same_entries y.node (as_entry y)).0 not.entry in (
+              record {
+                entry = entry;
+                unsettled = λ has. not.unsettled (record {
+                  arc = has.arc;
+                  contains = (settles.settled y.node (record { cost = y.cost; arc = has.arc })).1 (inl has.contains);
+                });
+              },
+              λ taken. not.unsettled (record { arc = y.arc; contains = (settles.settled y.node (as_entry y)).1 (inr (entry, taken)) }),
+            ),
+        λ h. record {
+          entry = (settles.same_entries y.node (as_entry y)).1 h.0.entry;
+          unsettled = λ has. elim ((settles.settled y.node (record { cost = y.cost; arc = has.arc })).0 has.contains) [
+            | inl old ↦ h.0.unsettled (record { arc = has.arc; contains = old })
+            | inr new ↦ h.1 new.1
+          ];
+        },
+      )
+
+      module _ (task : Task) (s next : SearchState) (at : IsAt task before s) (begun : IsBegun task s next) where
+        next_taken : (y : Label) → IsNext task s y ↔ (IsUnsettled (front_at before.fronts y.node) (as_entry y) × Contains after.taken (as_spot y))
+        next_taken y = both (next_told task before s at stays_unsettled y) (is_next (as_spot y)) where
+          both : {A U N T : Type 0} → (A ↔ (U × N)) → (T ↔ N) → (A ↔ (U × T))
+          both f g = grind arith
+
+        waits_then : (y : Label) → Contains after.waiting (as_spot y)
+            ↔ ((Contains before.waiting (as_spot y) × (¬ IsBarred before y.cost)) × (¬ Contains after.taken (as_spot y)))
+        waits_then y = both (takes.taken.rest (as_spot y)) (drops.waiting (as_spot y)) (stays_parts before (as_spot y)) where
+          both : {A M T N W B : Type 0} → (A ↔ (M × (¬ T))) → (M ↔ N) → (N ↔ (W × (¬ B))) → (A ↔ ((W × (¬ B)) × (¬ T)))
+          both f g h = grind arith
+
+        taken_waits : (y : Label) → Contains after.taken (as_spot y) → Contains before.waiting (as_spot y) × (¬ IsBarred before y.cost)
+        taken_waits y there = let stays = ((is_next (as_spot y)).0 there).stays in (stays.waits, stays.free)
+
+        old_settled : (y : Label) → Contains s.settled y → (¬ MayDrop task s y) × (¬ IsNext task s y)
+        old_settled y there =
+            let not = settled_not_waiting task before s drops.was_none at y there in (λ may. not may.waits, λ is. not is.stays.waits)
+
+        begun_settled : (y : Label) → Contains next.settled y ↔ Contains (front_at after.fronts y.node).settled (as_entry y)
+        begun_settled y = both (begun.entries settled y) settled_not_dropped refl (at.stands.settled y) (old_settled y) (next_taken y)
+            (settles.settled y.node (as_entry y)) (λ entry taken. record { entry = entry; unsettled = (taken_unsettled (as_spot y) taken).unsettled })
+            (λ not. not.entry) where
+              both : {A S M N Q R F U T G E : Type 0} → (A ↔ ((S × (¬ M) × (¬ N)) ⊎ ((Q × M) ⊎ (R × N)))) → ¬ Q → R → (S ↔ F) → (S → (¬ M) × (¬ N))
+                  → (N ↔ (U × T)) → (G ↔ (F ⊎ (E × T))) → (E → T → U) → (U → E) → (A ↔ G)
+              both a q r s m n g u e = grind arith
+
+        begun_dropped : (y : Label) → Contains next.dropped y
+            ↔ (IsUnsettled (front_at after.fronts y.node) (as_entry y) × (¬ Contains after.waiting (as_spot y)))
+        begun_dropped y = both (begun.entries dropped y) refl (λ wrong. cc) (at.stands.dropped y) (drop_told task before s at y) (next_taken y) (unsettled_then y)
+            (waits_then y) (taken_waits y) (told_spot before.waiting (as_spot y)) (told_barred before y.cost) where
+              both : {A S M N Q R U W B T V X : Type 0} → (A ↔ ((S × (¬ M) × (¬ N)) ⊎ ((Q × M) ⊎ (R × N)))) → Q → ¬ R → (S ↔ (U × (¬ W)))
+                  → (M ↔ (U × (W × B))) → (N ↔ (U × T)) → (V ↔ (U × (¬ T))) → (X ↔ ((W × (¬ B)) × (¬ T))) → (T → W × (¬ B)) → (W ⊎ (¬ W)) → (B ⊎ (¬ B))
+                  → (A ↔ (V × (¬ X)))
+              both a q r s m n v x t told told_too = grind arith
+
+        begun_waiting : (y : Label) → Contains next.waiting y
+            ↔ (IsUnsettled (front_at after.fronts y.node) (as_entry y) × Contains after.waiting (as_spot y))
+        begun_waiting y = both (begun.entries waiting y) waiting_not_dropped (λ wrong. cc) (at.stands.waiting y) (drop_told task before s at y) (next_taken y)
+            (unsettled_then y) (waits_then y) where
+              both : {A S M N Q R U W B T V X : Type 0} → (A ↔ ((S × (¬ M) × (¬ N)) ⊎ ((Q × M) ⊎ (R × N)))) → ¬ Q → ¬ R → (S ↔ (U × W))
+                  → (M ↔ (U × (W × B))) → (N ↔ (U × T)) → (V ↔ (U × (¬ T))) → (X ↔ ((W × (¬ B)) × (¬ T))) → (A ↔ (V × X))
+              both a q r s m n v x = (
+                λ there. elim (a.0 there) [
+                  | inl (old, no_drop, not_next) ↦
+                      let (u, w) = s.0 old in
+                      (v.1 (u, λ t. not_next (n.1 (u, t))), x.1 ((w, λ b. no_drop (m.1 (u, (w, b)))), λ t. not_next (n.1 (u, t))))
+                  | inr (inl z) ↦ absurd (q z.0)
+                  | inr (inr z) ↦ absurd (r z.0)
+                ],
+                λ h.
+                    let (u, no_t) = v.0 h.0 in
+                    let ((w, no_b), _) = x.0 h.1 in
+                    a.1 (inl (s.1 (u, w), λ may. no_b (m.0 may).1.1, λ is. no_t (n.0 is).1)),
+              )
+
+        begun_taken : (x : CompactSpot D) → Contains after.taken x → (y : Label) × Contains next.settled y × (as_spot y ≡ x)
+        begun_taken x there =
+            let (y, is, same) = label_next task before s at stays_unsettled x ((is_next x).0 there) in
+            (y, (begun.entries settled y).1 (inr (inr (refl, is))), same)
+
+        begun_unrelaxed : (p : Label × ℕ) → Contains next.unrelaxed p
+            ↔ (Contains next.settled p.0 × Contains after.taken (as_spot p.0) × LeadsOn task.network p.0.node p.1)
+        begun_unrelaxed p = (
+          λ h.
+              let (is, leads) = (begun.unrelaxed p).0 h in
+              ((begun.entries settled p.0).1 (inr (inr (refl, is))), ((next_taken p.0).0 is).1, leads),
+          λ (there, taken, leads). (begun.unrelaxed p).1 (
+            elim ((begun.entries settled p.0).0 there) [
+              | inl (old, _, _) ↦ absurd ((taken_unsettled (as_spot p.0) taken).unsettled (record { arc = p.0.arc; contains = (at.stands.settled p.0).0 old }))
+              | inr (inl (wrong, _)) ↦ absurd (settled_not_dropped wrong)
+              | inr (inr (_, is)) ↦ is
+            ],
+            leads,
+          ),
+        )
+
+        pub at_begun : IsAt task after next
+        at_begun = record {
+          search = same_task task mid after takes.same_search (same_task task before mid drops.same_search at.search);
+          reached = reached_by_begins task before s drops.was_none at next begun;
+          stands = record {
+            settled = begun_settled;
+            dropped = begun_dropped;
+            waiting = begun_waiting;
+            unrelaxed = begun_unrelaxed;
+            candidates = begun.candidates;
+            taken = begun_taken;
+          };
+        }
+
+      pub has_begun : (x : CompactSpot D) → Contains mid.waiting x → HasBegun before after
+      has_begun x waits =
+          let within : takes.count + length after.taken ≤ before.budget = subst (λ b. takes.count + length after.taken ≤ b) drops.same_search.budget takes.within in
+          record {
+            some_stay = some_stay x waits;
+            ascending = takes.taken.ascending;
+            few = omega (arith, within);
+            exact = is_next;
+            taken = λ task s at z. (
+              λ there. label_next task before s at stays_unsettled z ((is_next z).0 there),
+              λ (y, next, same). (is_next z).1 (subst (IsNextIn before) same ((next_told task before s at stays_unsettled y).0 next).1),
+            );
+            begun = at_begun;
+            within = λ task s next at begun. within_then after.taken after.waiting takes.taken takes.count takes.counts task s next at begun before.budget
+                (at_begun task s next at begun).reached within;
+          }

@@ -1,0 +1,15 @@
+pub mod UnsettledLemmas
+pub mod OutcomeLemmas
+pub mod ArrivingLemmas
+pub mod WaitingLists
+pub mod BoundsLemmas
+pub mod FinishLemmas
+pub mod DeltaSpots
+pub mod FoundLaws
+pub mod StartLemmas
+pub mod BarredLemmas
+pub mod BegunLemmas
+pub mod WaitingLemmas
+pub mod SettlingLemmas
+pub mod KeptLemmas
+pub mod BeginLemmas

@@ -1,0 +1,57 @@
+-- Settled and other entries of a front, told by costs.
+use Rattle.std.proofs.Common.{◌≡◌, ◌⊎◌, ◌↔◌, ℕ, List, inl, inr, refl, ap, subst, ◌∙◌}
+use Rattle.std.specs.Prelude.{Contains}
+use Rattle.list_laws.proofs.OnceLaws.{IsTold, in_append, told_as, told_both, told_in}
+use Rattle.compact_labels.specs.declared.label.CompactSpot.{CompactSpot}
+use Rattle.std.proofs.lemmas.Bool.{cases_eq}
+use Rattle.cost_vector.proofs.Vectors.{cases_same}
+use Rattle.pareto_front.specs.Fronts.{Entry, Front, HasCost, entries}
+use Rattle.node_front.specs.Apart.{AreApart}
+use Rattle.node_front.proofs.ApartLemmas.{AtMost-same, has_append}
+use Rattle.node_front.proofs.NeedlessLemmas.{told_has_cost}
+use Rattle.round_core.specs.Unsettled.{HasUnsettled, IsUnsettled}
+
+-- a spot by its parts
+pub spot_by_parts : {D : ℕ} (x y : CompactSpot D) → x.node.0 ≡ y.node.0 → x.cost.0 ≡ y.cost.0 → x ≡ y
+spot_by_parts {D} x y node cost =
+    ap (λ (v : ℕ). let z : CompactSpot D = record { cost = x.cost; node = record { 0 = v } } in z) node
+    ∙ ap (λ (c : List ℕ). let z : CompactSpot D = record { cost = record { 0 = c }; node = y.node } in z) cost
+
+pub cases_spot : {D : ℕ} (x y : CompactSpot D) → IsTold (x ≡ y)
+cases_spot {D} x y = told_as (λ h. spot_by_parts x y h.0 h.1)
+    (λ e. (ap (λ (z : CompactSpot D). z.node.0) e, ap (λ (z : CompactSpot D). z.cost.0) e))
+    (told_both (cases_eq x.node.0 y.node.0) (cases_same x.cost.0 y.cost.0))
+
+-- it can be told whether a spot stands in a list
+pub told_spot : {D : ℕ} (xs : List (CompactSpot D)) (x : CompactSpot D) → IsTold (Contains xs x)
+told_spot xs x = told_in cases_spot xs x
+
+-- an entry is settled exactly where one of its cost is
+pub settled_by_cost : (f : Front) (e : Entry) → AreApart (entries f) → Contains f.settled e ↔ (Contains (entries f) e × HasCost f.settled e.cost)
+settled_by_cost f e apart = (
+  λ there. ((in_append f.settled f.unsettled e).1 (inl there), record { arc = e.arc; contains = there }),
+  λ h.
+      let one : Entry = record { cost = e.cost; arc = h.1.arc } in
+      let same : one ≡ e = apart one e ((in_append f.settled f.unsettled one).1 (inl h.1.contains)) h.0 (AtMost-same e.cost e.cost refl) in
+      subst (Contains f.settled) same h.1.contains,
+)
+
+-- each entry is settled, or isn't
+pub cases_settled : (f : Front) (e : Entry) → AreApart (entries f) → Contains (entries f) e → Contains f.settled e ⊎ IsUnsettled f e
+cases_settled f e apart there = elim (told_has_cost f.settled e.cost) [
+  | inl has ↦ inl ((settled_by_cost f e apart).1 (there, has))
+  | inr none ↦ inr (record { entry = there; unsettled = none })
+]
+
+-- a settled cost is an entry's
+pub settled_has_cost : (f : Front) (c : List ℕ) → HasCost f.settled c → HasCost (entries f) c
+settled_has_cost f c has = (has_append f.settled f.unsettled c).1 (inl has)
+
+pub told_unsettled : (f : Front) (c : List ℕ) → IsTold (HasUnsettled f c)
+told_unsettled f c = elim (told_has_cost (entries f) c) [
+  | inr none ↦ inr (λ h. none h.entry)
+  | inl has ↦ elim (told_has_cost f.settled c) [
+    | inl settled ↦ inr (λ h. h.unsettled settled)
+    | inr not ↦ inl (record { entry = has; unsettled = not })
+  ]
+]

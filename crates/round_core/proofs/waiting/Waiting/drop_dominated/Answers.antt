@@ -1,0 +1,18 @@
+use Rattle.std.proofs.Common.{refl, subst}
+use Rattle.pareto_queue.specs.Queues.{IsDominatedBy, LosesWhere}
+use Rattle.round_core.specs.Waiting.{Waiting}
+use Rattle.round_core.proofs.WaitingLemmas.{empty_by_test, no_news, once_in_less}
+use Rattle.round_core.proofs.waiting.Waiting.drop_dominated.Goals as goal
+
+pub returns-then-is_empty-clause-queued : goal.returns-then-is_empty-clause-queued
+returns-then-is_empty-clause-queued g c =
+    no_news c.args.by.now _ _ (empty_by_test c.args.by.now c.is_empty.result c.is_empty.ensures c.if-is_empty.true) refl
+
+pub invariant_of-self : goal.invariant_of-self
+invariant_of-self g c = once_in_less (record { queued = c.self.inside.queue; fresh = c.self.inside.fresh.items }) c.drop_dominated.new.self c.self.invariant
+    (λ x there. ((c.drop_dominated.ensures x).0 there).0)
+
+pub returns-clause-queued : goal.returns-clause-queued
+returns-clause-queued g c =
+    subst (λ (v : Waiting g.row.D). LosesWhere (λ x. IsDominatedBy c.args.by.now x.cost.0) v.queued c.drop_dominated.new.self) c.self.view_is
+    c.drop_dominated.ensures

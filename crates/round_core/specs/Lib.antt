@@ -1,0 +1,9 @@
+pub mod Unsettled
+pub mod Arriving
+pub mod Cores
+pub mod Taking
+pub mod Begins
+pub mod Finishes
+pub mod Bounds
+pub mod Waiting
+pub mod Kept

@@ -1,4 +1,5 @@
-//! The outside as the program sees it: sources of bytes, sinks of bytes, and folders of named files.
+//! The outside as the program sees it: sources of bytes, sinks of bytes, and folders of named files; and the gate that
+//! pieces of work pass, by which tests see what runs side by side.
 //!
 //! Each trait counts its faults, so that a caller's contract can say that a failure was the outside's and not
 //! its own. The forms in memory tell their bytes to contracts; those of the host tell nothing.
@@ -8,7 +9,9 @@ mod calls;
 mod fault;
 mod folder;
 mod front;
+mod gate;
 pub mod host;
+mod link;
 pub mod memory;
 mod shelf;
 mod sink;
@@ -17,5 +20,7 @@ pub mod sure;
 
 pub use fault::{Failed, SinkFault, WriteFault};
 pub use folder::Folder;
+pub use gate::{Gate, OpenGate, Phase};
+pub use link::{Link, MemoryLink, SureLink};
 pub use sink::{Sink, put_all};
 pub use source::Source;

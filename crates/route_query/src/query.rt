@@ -7,7 +7,7 @@ pub struct Query {
     pub from: NodeNo,
     pub to: NodeNo,
     pub limit: Limit,
-    /// How many labels the search may make permanent.
+    /// How many labels the search may settle.
     pub budget: u32,
 }
 
@@ -22,7 +22,7 @@ pub enum SearchFault {
 
 impl From<OutOfMemory> for SearchFault {
     ghost use Rattle.std.specs.Prelude.{◌≡◌};
-    ghost use Rattle.plain_search.specs.declared.query.SearchFault.TheVariants as fault;
+    ghost use Rattle.route_query.specs.declared.query.SearchFault.TheVariants as fault;
 
     ghost from_gives = { λ _ e. e ≡ fault.OutOfMemory };
 

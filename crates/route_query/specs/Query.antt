@@ -3,7 +3,7 @@ use Rattle.std.specs.Prelude.{◌≡◌, ◌≤◌, length}
 use Rattle.road_network.specs.Limits.{max_budget}
 use Rattle.road_network.specs.Network.{IsNode}
 use Rattle.arc_graph.specs.Graph.{Graph, Weights, IsGraph, AreWeights, Match}
-use Rattle.plain_search.specs.declared.query.Query.{Query}
+use Rattle.route_query.specs.declared.query.Query.{Query}
 
 -- both ends are nodes of the graph, the limit has a place for each criterion, and the budget isn't beyond the greatest
 pub record IsQuery (g : Graph) (query : Query) : Type 0 where

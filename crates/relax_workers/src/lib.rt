@@ -1,0 +1,6 @@
+//! Relaxing the spots that a round of a bulk-synchronous Pareto search takes, by several workers.
+#![tactic(auto)]
+
+mod relaxing;
+
+pub use relaxing::relax_all;

@@ -2,17 +2,19 @@
 use Rattle.std.proofs.Common.{◌≡◌, ◌≢◌, ◌∙◌, ℕ, ap, ap₂, refl, subst, sym, true, List, [], Option, Some, None}
 use Rattle.std.specs.Prelude.{codes, if◌then◌else◌, option_and_then}
 use Rattle.std.specs.Str.{bytes_eq}
-use Rattle.clap.specs.Words.{App, Row, Text, fault_of, is_simple_and_free, matches_of}
+use Rattle.clap.specs.Words.{App, Row, Text, fault_of, first_of, is_simple_and_free, matches_of}
 use Rattle.command_words.specs.Apps.{app_for, word_of}
-use Rattle.command_words.specs.Words.{AreWords, Asked, Asks, AsksAs, AsksCosts, AsksQuery, CostsAsked, IsGiven, IsGivenOr, IsNamed, NamesFiles, QueryAsked, check, costs}
+use Rattle.command_words.specs.Words.{AreWords, Asked, Asks, AsksAs, AsksCosts, AsksGen, AsksPlan, AsksQuery, CostsAsked, GenAsked, IsGiven, IsGivenIf, IsGivenOr, IsNamed, NamesFiles, QueryAsked, check, costs, generate}
+use Rattle.graph_gen.specs.declared.GenPlan.{GenPlan}
 use Rattle.line_text.specs.declared.numerals.Numeral.TheVariants.{Value}
 use Rattle.command_words.specs.declared.apps.Name.{Name}
-use Rattle.command_words.specs.declared.apps.Name.TheVariants.{Check, Costs}
+use Rattle.command_words.specs.declared.apps.Name.TheVariants.{Check, Costs, Gen}
 
 -- each command's arguments are of the kind whose matches are a function of the words
 pub apps_simple : (name : Name) → is_simple_and_free (app_for name) ≡ true
 apps_simple Costs = refl
 apps_simple Check = refl
+apps_simple Gen = refl
 
 -- ---- the words name one command at most
 
@@ -21,11 +23,13 @@ abbrev name_for : Text → Option Name
 name_for word =
     if bytes_eq word (codes "costs") then Some Costs
     else if bytes_eq word (codes "check") then Some Check
+    else if bytes_eq word (codes "gen") then Some Gen
     else None
 
 named_back : (name : Name) → name_for (word_of name) ≡ Some name
 named_back Costs = refl
 named_back Check = refl
+named_back Gen = refl
 
 same_name : (words : List Text) (m n : Name) → IsNamed words m → IsNamed words n → m ≡ n
 same_name words m n a b =
@@ -73,6 +77,15 @@ same_number_or : (other least greatest m n : ℕ) (given : Option Text) → IsGi
 same_number_or other least greatest m n (Some text) a b = same_number least greatest m n (Some text) a b
 same_number_or other least greatest m n None a b = a ∙ sym b
 
+same_number_if : (least greatest : ℕ) (m n : Option ℕ) (given : Option Text) → IsGivenIf least greatest given m
+    → IsGivenIf least greatest given n → m ≡ n
+same_number_if least greatest (Some m) (Some n) (Some text) a b = ap Some (same_number least greatest m n (Some text) a b)
+same_number_if least greatest None n (Some text) a b = absurd a
+same_number_if least greatest (Some m) None (Some text) a b = absurd b
+same_number_if least greatest None None None a b = refl
+same_number_if least greatest (Some m) n None a b = absurd a
+same_number_if least greatest None (Some n) None a b = absurd b
+
 same_query : (rows : List Row) (a b : QueryAsked) → AsksQuery rows a → AsksQuery rows b → a ≡ b
 same_query rows a b x y =
     let from = same_number _ _ a.from b.from _ x.from y.from in
@@ -91,6 +104,30 @@ same_costs rows a b x y =
     let costs_of : QueryAsked → List Text → CostsAsked = λ q f. record { query = q; files = f } in
     ap₂ costs_of query files
 
+pub same_plan : (rows : List Row) (a b : GenPlan) → AsksPlan rows a → AsksPlan rows b → a ≡ b
+same_plan rows a b x y =
+    let start = same_number _ _ a.start b.start _ x.start y.start in
+    let side = same_number _ _ a.side b.side _ x.side y.side in
+    let criteria = same_number _ _ a.criteria b.criteria _ x.criteria y.criteria in
+    let pairs = same_number _ _ a.pairs b.pairs _ x.pairs y.pairs in
+    let plan : ℕ → ℕ → ℕ → ℕ → GenPlan = λ s n d p. record { start = s; side = n; criteria = d; pairs = p } in
+    let e : plan a.start a.side a.criteria a.pairs ≡ plan b.start b.side b.criteria b.pairs = cc in e
+
+-- the file is one of those of the plan that the words give
+file_of_plan : (rows : List Row) (a b : GenAsked) → a.plan ≡ b.plan → AsksGen rows a
+    → IsGivenIf 0 b.plan.criteria (first_of (codes "file") rows) a.file
+file_of_plan rows a b same x =
+    subst (λ (plan : GenPlan). IsGivenIf 0 plan.criteria (first_of (codes "file") rows) a.file) same x.file
+
+same_gen : (rows : List Row) (a b : GenAsked) → AsksGen rows a → AsksGen rows b → a ≡ b
+same_gen rows a b x y =
+    let plan = same_plan rows a.plan b.plan x.plan y.plan in
+    let file = same_number_if _ _ a.file b.file _ (file_of_plan rows a b plan x) y.file in
+    let budget = same_number_or _ _ _ a.budget b.budget _ x.budget y.budget in
+    let workers = same_number_or _ _ _ a.workers b.workers _ x.workers y.workers in
+    let asked : GenPlan → Option ℕ → ℕ → ℕ → GenAsked = λ p f n w. record { plan = p; file = f; budget = n; workers = w } in
+    let e : asked a.plan a.file a.budget a.workers ≡ asked b.plan b.file b.budget b.workers = cc in e
+
 costs_alone : (rows : List Row) (asked : Asked) → AsksAs Costs rows asked → (c : CostsAsked) × (costs c ≡ asked) × AsksCosts rows c
 costs_alone rows (costs c) values = (c, refl, values)
 costs_alone rows _ values = absurd values
@@ -98,6 +135,10 @@ costs_alone rows _ values = absurd values
 check_alone : (rows : List Row) (asked : Asked) → AsksAs Check rows asked → (files : List Text) × (check files ≡ asked) × NamesFiles rows files
 check_alone rows (check files) values = (files, refl, values)
 check_alone rows _ values = absurd values
+
+gen_alone : (rows : List Row) (asked : Asked) → AsksAs Gen rows asked → (g : GenAsked) × (generate g ≡ asked) × AsksGen rows g
+gen_alone rows (generate g) values = (g, refl, values)
+gen_alone rows _ values = absurd values
 
 same_values : (name : Name) (rows : List Row) (a b : Asked) → AsksAs name rows a → AsksAs name rows b → a ≡ b
 same_values Costs rows a b x y =
@@ -108,6 +149,10 @@ same_values Check rows a b x y =
     let (c, is_a, values) = check_alone rows a x in
     let (d, is_b, others) = check_alone rows b y in
     sym is_a ∙ ap check (same_files rows c d values others) ∙ is_b
+same_values Gen rows a b x y =
+    let (g, is_a, values) = gen_alone rows a x in
+    let (h, is_b, others) = gen_alone rows b y in
+    sym is_a ∙ ap generate (same_gen rows g h values others) ∙ is_b
 
 pub asks_one : (words : List Text) (a b : Asked) → Asks words a → Asks words b → a ≡ b
 asks_one words a b x y =

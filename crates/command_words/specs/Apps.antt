@@ -3,12 +3,13 @@ use Rattle.std.specs.Prelude.{Bool, true, false, Some, codes}
 use Rattle.clap.specs.Words.{App, Rule, Text, new_app, new_rule, with_rule}
 use Rattle.clap.specs.declared.builder.action.ArgAction.TheVariants.{Append, Set}
 use Rattle.command_words.specs.declared.apps.Name.{Name}
-use Rattle.command_words.specs.declared.apps.Name.TheVariants.{Check, Costs}
+use Rattle.command_words.specs.declared.apps.Name.TheVariants.{Check, Costs, Gen}
 
 -- the word that names a command
 abbrev pub word_of : Name → Text
 word_of Costs = codes "costs"
 word_of Check = codes "check"
+word_of Gen = codes "gen"
 
 -- an option with one value, `--name value` or `--name=value`, given at most once
 abbrev pub option_rule : Text → Bool → Rule
@@ -38,7 +39,19 @@ costs_app = with_rule (with_rule (with_rule (with_rule (bare_app (word_of Costs)
 abbrev pub check_app : App
 check_app = with_rule (bare_app (word_of Check)) files_rule
 
+-- the numbers of a plan: `gen --start N --side N --criteria D --pairs P`
+abbrev pub plan_app : App
+plan_app = with_rule (with_rule (with_rule (with_rule (bare_app (word_of Gen))
+    (option_rule (codes "start") true)) (option_rule (codes "side") true))
+    (option_rule (codes "criteria") true)) (option_rule (codes "pairs") true)
+
+-- and then `[--file J] [--budget B] [--workers W]`
+abbrev pub gen_app : App
+gen_app = with_rule (with_rule (with_rule plan_app (option_rule (codes "file") false))
+    (option_rule (codes "budget") false)) (option_rule (codes "workers") false)
+
 -- the arguments of a command
 abbrev pub app_for : Name → App
 app_for Costs = costs_app
 app_for Check = check_app
+app_for Gen = gen_app

@@ -1,5 +1,5 @@
 -- What the words of a command line ask for.
-use Rattle.std.specs.Prelude.{◌≡◌, ◌≤◌, ℕ, List, [], Option, Some, None, codes, length, map}
+use Rattle.std.specs.Prelude.{◌≡◌, ◌≤◌, ℕ, List, [], Option, Some, None, IfSome, IsSome, codes, length, map}
 use Rattle.std.specs.Prelude.{slice_get, String}
 use Rattle.std.specs.String.{string_bytes}
 use Rattle.clap.specs.Words.{Row, Text, all_of, fault_of, first_of, matches_of}
@@ -9,12 +9,15 @@ use Rattle.command_words.specs.declared.Command.{Command}
 use Rattle.command_words.specs.declared.Command.TheVariants as command
 use Rattle.command_words.specs.declared.CheckWords.{CheckWords}
 use Rattle.command_words.specs.declared.CostsWords.{CostsWords}
+use Rattle.command_words.specs.declared.GenWords.{GenWords}
 use Rattle.command_words.specs.declared.Query.{Query}
 use Rattle.command_words.specs.declared.apps.Name.{Name}
-use Rattle.command_words.specs.declared.apps.Name.TheVariants.{Check, Costs}
+use Rattle.command_words.specs.declared.apps.Name.TheVariants.{Check, Costs, Gen}
 use Rattle.line_text.specs.declared.numerals.Numeral.TheVariants.{Value}
+use Rattle.graph_gen.specs.declared.GenPlan.{GenPlan}
+use Rattle.graph_gen.specs.Plans.{IsPlan, max_pairs, max_side, min_pairs, min_side}
 use Rattle.road_network.specs.Limits.{max_budget}
-use Rattle.command_words.specs.Ranges.{default_budget, max_node, min_files, max_files}
+use Rattle.command_words.specs.Ranges.{default_budget, default_workers, max_node, max_start, max_workers, min_files, max_files}
 
 -- ---- what a command may be asked for
 
@@ -29,25 +32,35 @@ pub record CostsAsked : Type 0 where
   pub query : QueryAsked
   pub files : List Text
 
+-- the files of a plan, or one of them, of which budget and workers change nothing
+pub record GenAsked : Type 0 where
+  pub plan : GenPlan
+  pub file : Option ℕ
+  pub budget : ℕ
+  pub workers : ℕ
+
 -- one command and its values; `check` has the names of its files alone
 pub data Asked : Type 0 where
   costs : CostsAsked → Asked
   check : List Text → Asked
-
--- the names of a command's weight files
-abbrev pub files_of : Asked → List Text
-files_of (costs asked) = asked.files
-files_of (check files) = files
+  generate : GenAsked → Asked
 
 -- the names of all files that a command reads, in the order of its work
 abbrev pub names_of : Asked → List Text
 names_of (costs asked) = asked.files
 names_of (check files) = files
+names_of (generate asked) = []
 
 -- as many weight files as a network may have criteria
-pub record FilesInRange (asked : Asked) : Type 0 where
-  pub enough : min_files ≤ length (files_of asked)
-  pub not_more : length (files_of asked) ≤ max_files
+pub record CountInRange (files : List Text) : Type 0 where
+  pub enough : min_files ≤ length files
+  pub not_more : length files ≤ max_files
+
+-- a command that reads weight files reads as many
+abbrev pub FilesInRange : Asked → Type 0
+FilesInRange (costs asked) = CountInRange asked.files
+FilesInRange (check files) = CountInRange files
+FilesInRange (generate asked) = Unit {0}
 
 -- a query's budget is within its range
 pub record QueryInRange (asked : QueryAsked) : Type 0 where
@@ -58,6 +71,21 @@ pub record QueryInRange (asked : QueryAsked) : Type 0 where
 abbrev pub BudgetInRange : Asked → Type 0
 BudgetInRange (costs asked) = QueryInRange asked.query
 BudgetInRange (check files) = Unit {0}
+BudgetInRange (generate asked) = (1 ≤ asked.budget) × (asked.budget ≤ max_budget)
+
+-- The plan is one, and the file is one of its files. What is made of all files is to come.
+pub record GenInRange (asked : GenAsked) : Type 0 where
+  pub plan : IsPlan asked.plan
+  pub one_file : IsSome asked.file
+  pub file : IfSome asked.file (λ file. file ≤ asked.plan.criteria)
+  pub some_workers : 1 ≤ asked.workers
+  pub workers : asked.workers ≤ max_workers
+
+-- the plan of a command that has one is within its ranges
+abbrev pub PlanInRange : Asked → Type 0
+PlanInRange (costs asked) = Unit {0}
+PlanInRange (check files) = Unit {0}
+PlanInRange (generate asked) = GenInRange asked
 
 -- ---- the values that the words give, by rows that name the arguments
 
@@ -76,6 +104,13 @@ abbrev pub IsGivenOr : ℕ → ℕ → ℕ → Option Text → ℕ → Type 0
 IsGivenOr other least greatest (Some text) n = IsNumber least greatest text n
 IsGivenOr other least greatest None n = n ≡ other
 
+-- an option that may be left out gives such a number, or none
+abbrev pub IsGivenIf : ℕ → ℕ → Option Text → Option ℕ → Type 0
+IsGivenIf least greatest (Some text) (Some n) = IsNumber least greatest text n
+IsGivenIf least greatest (Some text) None = ⊥
+IsGivenIf least greatest None (Some n) = ⊥
+IsGivenIf least greatest None None = Unit {0}
+
 -- the names of the weight files, as many as a network may have criteria
 pub record NamesFiles (rows : List Row) (files : List Text) : Type 0 where
   pub all : all_of (codes "files") rows ≡ Some files
@@ -93,10 +128,26 @@ pub record AsksCosts (rows : List Row) (asked : CostsAsked) : Type 0 where
   pub query : AsksQuery rows asked.query
   pub files : NamesFiles rows asked.files
 
+-- the options give the plan
+pub record AsksPlan (rows : List Row) (plan : GenPlan) : Type 0 where
+  pub start : IsGiven 0 max_start (first_of (codes "start") rows) plan.start
+  pub side : IsGiven min_side max_side (first_of (codes "side") rows) plan.side
+  pub criteria : IsGiven min_files max_files (first_of (codes "criteria") rows) plan.criteria
+  pub pairs : IsGiven min_pairs max_pairs (first_of (codes "pairs") rows) plan.pairs
+
+-- The values are those of `gen`. A file is asked for, since what is made of all files is to come.
+pub record AsksGen (rows : List Row) (asked : GenAsked) : Type 0 where
+  pub plan : AsksPlan rows asked.plan
+  pub one_file : IsSome asked.file
+  pub file : IsGivenIf 0 asked.plan.criteria (first_of (codes "file") rows) asked.file
+  pub budget : IsGivenOr default_budget 1 max_budget (first_of (codes "budget") rows) asked.budget
+  pub workers : IsGivenOr default_workers 1 max_workers (first_of (codes "workers") rows) asked.workers
+
 -- the values are those of the command
 abbrev pub AsksAs : Name → List Row → Asked → Type 0
 AsksAs Costs rows (costs asked) = AsksCosts rows asked
 AsksAs Check rows (check files) = NamesFiles rows files
+AsksAs Gen rows (generate asked) = AsksGen rows asked
 AsksAs _ rows _ = ⊥
 
 -- ---- the words
@@ -134,7 +185,12 @@ costs_asked c = record { query = query_asked c.query; files = map (λ s. s.now) 
 abbrev pub check_asked : CheckWords → List Text
 check_asked c = map (λ s. s.now) c.files.items
 
+-- the words of `gen`, as what they ask for
+abbrev pub gen_asked : GenWords → GenAsked
+gen_asked g = record { plan = g.plan; file = g.file; budget = g.budget; workers = g.workers }
+
 -- a command, as what it asks for
 abbrev pub asked_of : Command → Asked
 asked_of (command.Costs c) = costs (costs_asked c)
 asked_of (command.Check c) = check (check_asked c)
+asked_of (command.Gen c) = generate (gen_asked c)

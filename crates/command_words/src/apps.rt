@@ -1,7 +1,8 @@
 //! The commands by name, and what `clap` is told of each.
 ghost use Rattle.std.specs.Prelude.{◌≡◌, IfOk};
 ghost use Rattle.clap.specs.Words.{app_of, with_rule};
-ghost use Rattle.command_words.specs.Apps.{bare_app, check_app, costs_app, files_rule, option_rule};
+ghost use Rattle.command_words.specs.Apps.{bare_app, check_app, costs_app};
+ghost use Rattle.command_words.specs.Apps.{files_rule, gen_app, option_rule};
 
 use clap::{Arg, ArgAction, Command};
 use std::alloc::{AllocError, Global};
@@ -11,6 +12,7 @@ use std::alloc::{AllocError, Global};
 pub(crate) enum Name {
     Costs,
     Check,
+    Gen,
 }
 
 impl Name {
@@ -23,6 +25,7 @@ impl Name {
         match self {
             Name::Costs => costs(alloc),
             Name::Check => check(alloc),
+            Name::Gen => generate(alloc),
         }
     }
 }
@@ -41,6 +44,19 @@ fn check<'a>(alloc: Global) -> Result<Command<'a>, AllocError>
     ensures { IfOk result (λ c. app_of c ≡ check_app) }
 {
     with_files(alloc, bare(alloc, "check"))
+}
+
+fn generate<'a>(alloc: Global) -> Result<Command<'a>, AllocError>
+    ensures { IfOk result (λ c. app_of c ≡ gen_app) }
+{
+    let command = bare(alloc, "gen");
+    let command = with_option(alloc, command, "start", true)?;
+    let command = with_option(alloc, command, "side", true)?;
+    let command = with_option(alloc, command, "criteria", true)?;
+    let command = with_option(alloc, command, "pairs", true)?;
+    let command = with_option(alloc, command, "file", false)?;
+    let command = with_option(alloc, command, "budget", false)?;
+    with_option(alloc, command, "workers", false)
 }
 
 // A command with no flags for help and the version.

@@ -4,7 +4,7 @@
 ghost use Rattle.std.specs.Prelude.{◌≡◌, ◌≢◌, ◌↔◌, IfOk, IfSome, IfNone, [], true};
 ghost use Rattle.clap.specs.Words.{app_of, fault_of, found_of, is_simple_and_free, kind_of};
 ghost use Rattle.clap.specs.Words.{matches_of, rows_of};
-ghost use Rattle.command_words.specs.Words.{AreWords, Asks, BudgetInRange, FilesInRange, IsNamed};
+ghost use Rattle.command_words.specs.Words.{AreWords, Asks, BudgetInRange, FilesInRange, IsNamed, PlanInRange};
 ghost use Rattle.command_words.specs.Words.{asked_of, texts_of};
 
 mod apps;
@@ -14,6 +14,7 @@ mod values;
 use apps::Name;
 use clap::ArgMatches;
 use clap::error::ErrorKind;
+use graph_gen::GenPlan;
 use std::alloc::{AllocError, Global};
 use thiserror::Error;
 
@@ -21,6 +22,12 @@ use thiserror::Error;
 pub const DEFAULT_BUDGET: u32 = 10_000_000;
 /// The greatest number that may stand for a node.
 pub const MAX_NODE: u32 = u32::MAX;
+/// The greatest number that a plan may start with.
+pub const MAX_START: u32 = u32::MAX;
+/// The workers of a command that gives none.
+pub const DEFAULT_WORKERS: u32 = 1;
+/// The most workers.
+pub const MAX_WORKERS: u32 = 64;
 /// The fewest weight files, of which each is one criterion.
 pub const MIN_FILES: usize = 2;
 /// The most weight files.
@@ -48,6 +55,16 @@ pub struct CheckWords<'a> {
     pub files: Vec<&'a str>,
 }
 
+/// The words of `gen`.
+#[derive(Clone, Copy, Debug, PartialEq, Eq)]
+pub struct GenWords {
+    pub plan: GenPlan,
+    /// The file of the plan that is to be sent.
+    pub file: Option<u32>,
+    pub budget: u32,
+    pub workers: u32,
+}
+
 /// What the words of a command line ask for.
 #[derive(Debug, Drop)]
 pub enum Command<'a> {
@@ -55,6 +72,8 @@ pub enum Command<'a> {
     Costs(CostsWords<'a>),
     /// Whether the files make up a network.
     Check(CheckWords<'a>),
+    /// A file of a plan.
+    Gen(GenWords),
 }
 
 /// Why no command was read.
@@ -104,6 +123,7 @@ pub fn read_words<'a>(alloc: Global, words: &'a [String]) -> Result<Command<'a>,
     ensures refused { result ≡ Err WordsFault.Refused → ¬ AreWords (texts_of words.entry.now) }
     ensures files { IfOk result (λ c. FilesInRange (asked_of c)) }
     ensures budget { IfOk result (λ c. BudgetInRange (asked_of c)) }
+    ensures plan { IfOk result (λ c. PlanInRange (asked_of c)) }
 {
     let name = name_of(words).ok_or(WordsFault::Refused)?;
     let matches = matches_of(name.app(alloc)?, words)?;
@@ -117,6 +137,7 @@ fn name_of(words: &[String]) -> Option<Name>
     match words.first()?.as_str() {
         "costs" => Some(Name::Costs),
         "check" => Some(Name::Check),
+        "gen" => Some(Name::Gen),
         _ => None,
     }
 }

@@ -1,16 +1,20 @@
 //! Reads the values that the words give to a command's arguments.
 ghost use Rattle.std.specs.Prelude.{◌≡◌, IfOk, IfNone, IfSome, codes, map, option_map};
-ghost use Rattle.clap.specs.Words.{all_of, found_of, rows_of};
-ghost use Rattle.command_words.specs.Words.{AsksAs, AsksCosts, AsksQuery, NamesFiles};
-ghost use Rattle.command_words.specs.Words.{asked_of, costs_asked, query_asked};
+ghost use Rattle.clap.specs.Words.{all_of, first_of, found_of, rows_of};
+ghost use Rattle.command_words.specs.Ranges.{default_budget};
+ghost use Rattle.command_words.specs.Words.{AsksAs, AsksCosts, AsksGen, AsksPlan};
+ghost use Rattle.command_words.specs.Words.{AsksQuery, IsGivenOr, NamesFiles};
+ghost use Rattle.command_words.specs.Words.{asked_of, costs_asked, gen_asked, query_asked};
+ghost use Rattle.road_network.specs.Limits.{max_budget};
 
 use crate::apps::Name;
-use crate::numbers::{number_or, required_number};
+use crate::numbers::{number_if, number_or, required_number};
 use crate::{
-    CheckWords, Command, CostsWords, DEFAULT_BUDGET, MAX_FILES, MAX_NODE, MIN_FILES, Query,
-    WordsFault,
+    CheckWords, Command, CostsWords, DEFAULT_BUDGET, DEFAULT_WORKERS, GenWords, MAX_FILES,
+    MAX_NODE, MAX_START, MAX_WORKERS, MIN_FILES, Query, WordsFault,
 };
 use clap::ArgMatches;
+use graph_gen::{GenPlan, MAX_PAIRS, MAX_SIDE, MIN_PAIRS, MIN_SIDE};
 use road_network::MAX_BUDGET;
 use std::alloc::Global;
 
@@ -29,6 +33,7 @@ pub(crate) fn read<'a>(
         Name::Check => Ok(Command::Check(CheckWords {
             files: read_files(alloc, matches)?,
         })),
+        Name::Gen => Ok(Command::Gen(read_gen(matches).ok_or(WordsFault::Refused)?)),
     }
 }
 
@@ -51,7 +56,43 @@ fn read_query(matches: &ArgMatches) -> Option<Query>
     Some(Query {
         from: required_number(matches, "from", 0, MAX_NODE)?,
         to: required_number(matches, "to", 0, MAX_NODE)?,
-        budget: number_or(DEFAULT_BUDGET, matches, "budget", 1, MAX_BUDGET)?,
+        budget: budget(matches)?,
+    })
+}
+
+fn read_gen(matches: &ArgMatches) -> Option<GenWords>
+    ensures asked { IfSome result (λ g. AsksGen (rows_of (found_of matches.now)) (gen_asked g)) }
+    ensures refused { IfNone result ((asked : _) →
+        ¬ AsksGen (rows_of (found_of matches.now)) asked) }
+{
+    let plan = read_plan(matches)?;
+    Some(GenWords {
+        plan,
+        file: Some(number_if(matches, "file", 0, plan.criteria)??),
+        budget: budget(matches)?,
+        workers: number_or(DEFAULT_WORKERS, matches, "workers", 1, MAX_WORKERS)?,
+    })
+}
+
+fn budget(matches: &ArgMatches) -> Option<u32>
+    ensures given { IfSome result (IsGivenOr default_budget 1 max_budget
+        (first_of (codes "budget") (rows_of (found_of matches.now)))) }
+    ensures refused { IfNone result ((n : _) → ¬ IsGivenOr default_budget 1 max_budget
+        (first_of (codes "budget") (rows_of (found_of matches.now))) n) }
+{
+    number_or(DEFAULT_BUDGET, matches, "budget", 1, MAX_BUDGET)
+}
+
+fn read_plan(matches: &ArgMatches) -> Option<GenPlan>
+    ensures asked { IfSome result (AsksPlan (rows_of (found_of matches.now))) }
+    ensures refused { IfNone result ((plan : _) →
+        ¬ AsksPlan (rows_of (found_of matches.now)) plan) }
+{
+    Some(GenPlan {
+        start: required_number(matches, "start", 0, MAX_START)?,
+        side: required_number(matches, "side", MIN_SIDE, MAX_SIDE)?,
+        criteria: required_number(matches, "criteria", MIN_FILES as u32, MAX_FILES as u32)?,
+        pairs: required_number(matches, "pairs", MIN_PAIRS, MAX_PAIRS)?,
     })
 }
 

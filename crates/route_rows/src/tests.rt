@@ -4,6 +4,7 @@ use std::alloc::{AllocError, Global};
 use std::process::Abort;
 use std::test::Fail;
 
+mod generated;
 mod readers;
 mod rows;
 
@@ -159,6 +160,14 @@ fn rows_have_their_output(rt: HostRuntime) -> Result<(), Fail> {
         for piece in [1, usize::MAX] {
             assert_row(&rt, rt.alloc(), row, piece)?;
         }
+    }
+    Ok(())
+}
+
+#[test]
+fn generated_files_have_their_bytes(rt: HostRuntime) -> Result<(), Fail> {
+    for row in generated::ROWS {
+        assert_row(&rt, rt.alloc(), row, 1)?;
     }
     Ok(())
 }

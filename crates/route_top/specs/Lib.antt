@@ -4,6 +4,7 @@ pub mod Outcome
 pub mod FilesRead
 pub mod Costs
 pub mod Check
+pub mod Gen
 pub mod Output
 pub mod Stops
 pub mod ReadResults

@@ -40,7 +40,7 @@ fn reply<'a, K: Sink>(alloc: Global, graph: &Graph, out: &mut K) -> Result<(), S
 {
     let mut text = SureSink::new(alloc);
     put_reply(graph, &mut text)?;
-    send(out, &text, Reply::Answer)
+    send(out, text.sent(), Reply::Answer)
 }
 
 /// Writes the sizes of a network.

@@ -56,7 +56,7 @@ fn reply<'a, K: Sink>(
 {
     let mut text = SureSink::new(alloc);
     let reply = put_reply(alloc, graph, weights, query, &mut text)?;
-    send(out, &text, reply)
+    send(out, text.sent(), reply)
 }
 
 /// Writes the reply to a query at epoch 0, and answers what it is.

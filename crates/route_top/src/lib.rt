@@ -4,13 +4,14 @@
 ghost use Rattle.std.specs.Prelude.{◌≡◌, ◌==◌, ◌⊎◌, ℕ, List, All};
 ghost use Rattle.route_io.specs.Causes.{IsCounted};
 ghost use Rattle.route_io.specs.Sources.{ReadsFrom};
-ghost use Rattle.command_words.specs.Words.{AreWords, BudgetInRange, FilesInRange};
+ghost use Rattle.command_words.specs.Words.{AreWords, BudgetInRange, FilesInRange, PlanInRange};
 ghost use Rattle.command_words.specs.Words.{asked_of, names_of, texts_of};
 ghost use Rattle.route_top.specs.Output.{Ends, IsAskedName, Output, Runs, EndsByWords};
 ghost use Rattle.route_top.specs.Stops.{run_outcome};
 
 mod check;
 mod costs;
+mod generate;
 mod network;
 mod pieces;
 mod reply;
@@ -99,6 +100,7 @@ fn carry_out<'a, F: Folder, K: Sink>(
     requires admitted { All F.admits (names_of (asked_of command.now)) }
     requires files { FilesInRange (asked_of command.now) }
     requires budget { BudgetInRange (asked_of command.now) }
+    requires plan { PlanInRange (asked_of command.now) }
     ensures { Runs (Ends (F.state folder.old).files (asked_of command.now))
         (F.state folder.old) (F.state folder.new) (K.state out.old) (K.state out.new)
         (run_outcome result) }
@@ -106,5 +108,6 @@ fn carry_out<'a, F: Folder, K: Sink>(
     match command {
         Command::Costs(asked) => costs::run(alloc, asked, folder, out),
         Command::Check(asked) => check::run(alloc, asked, folder, out),
+        Command::Gen(asked) => generate::run(alloc, asked, out),
     }
 }

@@ -10,7 +10,6 @@ use crate::pieces::{Piece, put_pieces};
 use crate::stop::Stop;
 use arc_graph::Graph;
 use cost_vector::{Cost, OutOfMemory};
-use route_io::sure::SureSink;
 use route_io::{Sink, WriteFault, put_all};
 
 /// The epoch of each reply, since nothing is published.
@@ -38,11 +37,11 @@ impl Reply {
 }
 
 /// Sends a reply that was made in memory.
-pub(crate) fn send<'a, K: Sink>(out: &mut K, text: &SureSink, reply: Reply) -> Result<(), Stop<'a>>
-    ensures { Replies (IsReply (reply_outcome reply) text.now.sent)
+pub(crate) fn send<'a, K: Sink>(out: &mut K, text: &[u8], reply: Reply) -> Result<(), Stop<'a>>
+    ensures { Replies (IsReply (reply_outcome reply) text.now)
         (K.state out.old) (K.state out.new) (run_outcome result) }
 {
-    match put_all(out, text.sent()) {
+    match put_all(out, text) {
         Ok(()) => reply.end(),
         Err(fault) => Err(Stop::Out(fault)),
     }

@@ -1,4 +1,4 @@
-use command_words::{Command, CostsWords, WordsFault, read_words};
+use command_words::{Command, CostsWords, GenWords, WordsFault, read_words};
 use std::alloc::{AllocError, Global};
 use std::process::Abort;
 use std::test::Fail;
@@ -19,12 +19,20 @@ fn shown(alloc: Global, command: &Command) -> Result<String, AllocError> {
     match command {
         Command::Costs(costs) => shown_costs(alloc, costs),
         Command::Check(check) => format!(in alloc; "check {:?}", check.files),
+        Command::Gen(asked) => shown_gen(alloc, asked),
     }
 }
 
 fn shown_costs(alloc: Global, costs: &CostsWords) -> Result<String, AllocError> {
     let (from, to, budget) = (costs.query.from, costs.query.to, costs.query.budget);
     format!(in alloc; "{from} {to} {budget} {:?}", costs.files)
+}
+
+fn shown_gen(alloc: Global, asked: &GenWords) -> Result<String, AllocError> {
+    let (plan, file) = (asked.plan, asked.file.unwrap_or(u32::MAX));
+    let (start, side, criteria, pairs) = (plan.start, plan.side, plan.criteria, plan.pairs);
+    let (budget, workers) = (asked.budget, asked.workers);
+    format!(in alloc; "{start} {side} {criteria} {pairs} {file} {budget} {workers}")
 }
 
 /// The words of the line ask for this.
@@ -89,6 +97,61 @@ fn reads_the_words_of_check(rt: HostRuntime) -> Result<(), Fail> {
     Ok(())
 }
 
+/// Words behind `gen`, and what they ask for: start, side, criteria, pairs, file, budget and workers.
+const ASKED_GEN: &[(&str, &str)] = &[
+    (
+        "--start 1 --side 2 --criteria 2 --pairs 1 --file 0",
+        "1 2 2 1 0 10000000 1",
+    ),
+    (
+        "--file=4 --pairs=500 --criteria=4 --side=1000 --start=4294967295",
+        "4294967295 1000 4 500 4 10000000 1",
+    ),
+    (
+        "--start 0 --side 2 --criteria 3 --pairs 1 --file 03 --workers 64 --budget 50000000",
+        "0 2 3 1 3 50000000 64",
+    ),
+    (
+        "--start 0 --side 2 --criteria 3 --pairs 1 --file 3 --workers 1 --budget 1",
+        "0 2 3 1 3 1 1",
+    ),
+];
+
+#[test]
+fn reads_the_words_of_gen(rt: HostRuntime) -> Result<(), Fail> {
+    let alloc = rt.alloc();
+    for (line, asked) in ASKED_GEN {
+        assert_read(&rt, alloc, &format!(in alloc; "gen {line}")?, asked)?;
+    }
+    Ok(())
+}
+
+/// Words behind `gen` that are those of no command.
+const OTHER_GEN: &[&str] = &[
+    "--start 1 --side 2 --criteria 2 --pairs 1",
+    "--start 1 --side 2 --criteria 2 --pairs 1 --file 3",
+    "--start 1 --side 2 --criteria 4 --pairs 1 --file 5",
+    "--start 1 --side 2 --criteria 2 --pairs 1 --file 0 A.gr",
+    "--start 1 --side 2 --criteria 2 --pairs 1 --file 0 --file 0",
+    "--start 1 --side 2 --criteria 2 --pairs 1 --file +0",
+    "--start 1 --side 2 --criteria 2 --pairs P --file 0",
+    "--start 4294967296 --side 2 --criteria 2 --pairs 1 --file 0",
+    "--start 1 --side 1 --criteria 2 --pairs 1 --file 0",
+    "--start 1 --side 1001 --criteria 2 --pairs 1 --file 0",
+    "--start 1 --side 2 --criteria 1 --pairs 1 --file 0",
+    "--start 1 --side 2 --criteria 5 --pairs 1 --file 0",
+    "--start 1 --side 2 --criteria 2 --pairs 0 --file 0",
+    "--start 1 --side 2 --criteria 2 --pairs 501 --file 0",
+    "--start 1 --side 2 --criteria 2 --pairs 1 --file 0 --budget 0",
+    "--start 1 --side 2 --criteria 2 --pairs 1 --file 0 --budget 50000001",
+    "--start 1 --side 2 --criteria 2 --pairs 1 --file 0 --workers 0",
+    "--start 1 --side 2 --criteria 2 --pairs 1 --file 0 --workers 65",
+    "--start 1 --side 2 --criteria 2 --file 0",
+    "--start 1 --side 2 --pairs 1 --file 0",
+    "--start 1 --criteria 2 --pairs 1 --file 0",
+    "--side 2 --criteria 2 --pairs 1 --file 0",
+];
+
 /// Words behind `costs` that are those of no command.
 const OTHER_COSTS: &[&str] = &[
     "--from 1 A B",
@@ -125,6 +188,15 @@ const REFUSED: &str = "the words are those of no command";
 fn refuses_other_words_of_costs(rt: HostRuntime) -> Result<(), Fail> {
     for line in OTHER_COSTS {
         assert_costs(&rt, rt.alloc(), line, REFUSED)?;
+    }
+    Ok(())
+}
+
+#[test]
+fn refuses_other_words_of_gen(rt: HostRuntime) -> Result<(), Fail> {
+    let alloc = rt.alloc();
+    for line in OTHER_GEN {
+        assert_read(&rt, alloc, &format!(in alloc; "gen {line}")?, REFUSED)?;
     }
     Ok(())
 }

@@ -13,4 +13,4 @@ returns-in_err-reply g c =
 
 pub returns : goal.returns
 returns g c = replies_so (CostsReplies (query_asked c.args.query.now) (network c.args.graph.now c.args.weights.now)) _ _ _ _ _
-    c.in_ok-reply.ensures c.send.ensures
+    c.in_ok-reply.ensures (rw c.sent.ensures at c.send.ensures)

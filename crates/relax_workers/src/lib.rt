@@ -2,5 +2,6 @@
 #![tactic(auto)]
 
 mod relaxing;
+mod spots;
 
 pub use relaxing::relax_all;

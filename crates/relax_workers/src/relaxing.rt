@@ -1,14 +1,16 @@
-ghost use Rattle.std.specs.Prelude.{◌≡◌, ◌^◌, ◌<◌, ◌≤◌, length, All, OnOk};
+ghost use Rattle.std.specs.Prelude.{◌≡◌, ◌^◌, ◌<◌, ◌≤◌, [], length, All, OnOk};
+ghost use Rattle.cost_vector.specs.Costs.{max_criteria};
 ghost use Rattle.arc_graph.specs.Graph.{Match};
 ghost use Rattle.relax_workers.specs.Candidates.{CanRelax, candidates_of};
 
+use crate::spots::TakenSpots;
 use arc_graph::{Graph, Weights};
 use compact_labels::{CompactLabel, CompactSpot};
 use cost_vector::OutOfMemory;
-use route_io::Gate;
+use route_io::{Gate, Phase};
 use std::alloc::Global;
 use std::thread::Threads;
-use work_claim::Crew;
+use work_claim::{Crew, run_pieces};
 
 /// The candidates that the taken spots give, in the order of the spots, for every number of workers. What the list held
 /// before is gone; it keeps its memory. Each run of 64 taken spots is a piece of work.
@@ -29,5 +31,62 @@ pub fn relax_all<const D: usize, R: Threads + Sync, G: Gate>(
     ensures { OnOk result
         (candidates.new.items ≡ candidates_of graph.now weights.now taken.now) }
 {
-    Err(OutOfMemory)
+    prove!(graph.criteria() == D);
+    candidates.clear();
+    let job = TakenSpots {
+        alloc,
+        graph,
+        weights,
+        taken,
+    };
+    if crew.workers == 1 {
+        return relax_alone(crew, &job, candidates);
+    }
+    relax_together(crew, alloc, &job, candidates)
+}
+
+/// Appends the candidates piece by piece.
+fn relax_alone<const D: usize, R, G: Gate>(
+    crew: &Crew<'_, R, G>,
+    job: &TakenSpots<'_, D>,
+    candidates: &mut Vec<CompactLabel<D>>,
+) -> Result<(), OutOfMemory>
+    requires empty { candidates.old.items ≡ [] }
+    requires weights { Match job.now.graph.now job.now.weights.now }
+    requires criteria { job.now.graph.now.criteria ≡ D }
+    requires four { D ≤ max_criteria }
+    requires taken { All (CanRelax job.now.graph.now job.now.weights.now) job.now.taken.now }
+    ensures { OnOk result (candidates.new.items
+        ≡ candidates_of job.now.graph.now job.now.weights.now job.now.taken.now) }
+{
+    for piece in 0..job.pieces() {
+        crew.gate.pass(Phase::Relax, piece as u64);
+        job.append_piece(piece, candidates)?;
+    }
+    Ok(())
+}
+
+/// Has the workers relax the pieces, and appends what comes of them.
+fn relax_together<const D: usize, R: Threads + Sync, G: Gate>(
+    crew: &Crew<'_, R, G>,
+    alloc: Global,
+    job: &TakenSpots<'_, D>,
+    candidates: &mut Vec<CompactLabel<D>>,
+) -> Result<(), OutOfMemory>
+    requires at_least_one { 1 ≤ crew.now.workers }
+    requires at_most_64 { crew.now.workers ≤ 64 }
+    requires empty { candidates.old.items ≡ [] }
+    requires weights { Match job.now.graph.now job.now.weights.now }
+    requires criteria { job.now.graph.now.criteria ≡ D }
+    requires four { D ≤ max_criteria }
+    requires few { length job.now.taken.now < 2 ^ 32 }
+    requires taken { All (CanRelax job.now.graph.now job.now.weights.now) job.now.taken.now }
+    ensures { OnOk result (candidates.new.items
+        ≡ candidates_of job.now.graph.now job.now.weights.now job.now.taken.now) }
+{
+    let lists = run_pieces(crew, alloc, job.pieces(), Phase::Relax, job)?;
+    for list in &lists {
+        candidates.extend_from_slice(list)?;
+    }
+    Ok(())
 }

@@ -1,0 +1,2 @@
+mod OutArcs
+mod PieceLemmas

@@ -1,0 +1,5 @@
+mod SeatSums
+mod ClaimLemmas
+mod EachOnce
+mod DoneLemmas
+mod OrderLemmas

@@ -1,0 +1,95 @@
+-- How the numbers of pieces are drawn from one counter: what always holds of the counter and of what was drawn.
+use Rattle.std.specs.Prelude.{◌≡◌, ℕ, ◌+◌, ◌-◌, ◌/◌, ◌<◌, ◌≤◌, ◌==◌, List, [], ◌∷◌, ◌++◌, Option, IfSome, IfNone, length, filter, All, if◌then◌else◌}
+use Rattle.std.specs.Bool.{nat_lt, nat_le}
+use Rattle.std.specs.List.{count_by, sum_by}
+use Rattle.atomic_table.specs.Table.{Me}
+use Rattle.atomic_table.specs.Seated.{TableId}
+use Rattle.list_laws.specs.Sets.{ListsOnce}
+
+-- the numbers that a seat has drawn, and for how many workers it draws
+pub record Draws : Type 0 where
+  pub numbers : List ℕ
+  pub workers : ℕ
+
+-- how often x stands in the list
+abbrev pub times : ℕ → List ℕ → ℕ
+times x numbers = count_by (λ y. y == x) numbers
+
+-- how many of the numbers are past the pieces
+abbrev pub past : ℕ → List ℕ → ℕ
+past pieces numbers = count_by (λ x. nat_le pieces x) numbers
+
+-- those of the numbers that are pieces'
+abbrev pub pieces_among : ℕ → List ℕ → List ℕ
+pieces_among pieces numbers = filter (λ x. nat_lt x pieces) numbers
+
+-- these are the numbers of all pieces, each once
+abbrev pub EachOnce : ℕ → List ℕ → Type 0
+EachOnce pieces = ListsOnce (λ i. i < pieces)
+
+-- each piece stands once among the numbers
+abbrev pub HoldsEachPieceOnce : ℕ → List ℕ → Type 0
+HoldsEachPieceOnce pieces numbers = EachOnce pieces (pieces_among pieces numbers)
+
+-- The rule: each number below the counter was drawn once, by one seat, and no other number by any. All seats together draw for
+-- so many workers, and each for at most one number past the pieces per worker. So the counter goes no further than pieces
+-- and workers together. A seat that draws for nobody has drawn nothing.
+pub record AreClaims (pieces workers : ℕ) (words : List ℕ) (seats : List Draws) : Type 0 where
+  pub counter : ℕ
+  pub word : words ≡ counter ∷ []
+  pub once : (x : ℕ) → sum_by (λ s. times x s.numbers) seats ≡ (if nat_lt x counter then 1 else 0)
+  pub count : sum_by (λ s. length s.numbers) seats ≡ counter
+  pub over : sum_by (λ s. past pieces s.numbers) seats ≡ counter - pieces
+  pub within : All (λ s. past pieces s.numbers ≤ s.workers) seats
+  pub shared : sum_by (λ s. s.workers) seats ≡ workers
+  pub idle : All (λ s. s.workers ≡ 0 → s.numbers ≡ []) seats
+
+-- the seat has drawn one number more
+abbrev pub with_drawn : ℕ → Draws → Draws
+with_drawn x s = record s { numbers = s.numbers ++ x ∷ [] }
+
+-- a claim draws the number that was found, which is no less than the count of those drawn before
+pub record Claims (before : Me (Unit {0}) Draws) (found : ℕ) (after : Me (Unit {0}) Draws) : Type 0 where
+  pub drawn : after ≡ (with_drawn found before.0, before.1)
+  pub ahead : length before.0.numbers ≤ found
+
+-- what stays with a seat that is cut in two
+abbrev pub left_half : Draws → Draws
+left_half s = record s { workers = s.workers - s.workers / 2 }
+
+-- what the new seat has
+abbrev pub right_half : Draws → Draws
+right_half s = record { numbers = []; workers = s.workers / 2 }
+
+-- what two seats have together
+abbrev pub joined : Draws → Draws → Draws
+joined s t = record { numbers = s.numbers ++ t.numbers; workers = s.workers + t.workers }
+
+-- what is left of a seat that another took in
+abbrev pub spent : Draws
+spent = record { numbers = []; workers = 0 }
+
+-- a counter, as its callers see it: which one it is, how many pieces there are, and how many workers
+pub record Counter : Type 0 where
+  pub table : TableId
+  pub pieces : ℕ
+  pub workers : ℕ
+
+-- a seat, as its callers see it: of which counter, and what it has drawn
+pub record ClaimSeat : Type 0 where
+  pub table : TableId
+  pub draws : Draws
+
+-- A number was drawn. The piece of this number is found, or none where it is past the pieces.
+pub record DrawsNext (pieces : ℕ) (before after : ClaimSeat) (piece : Option ℕ) : Type 0 where
+  pub number : ℕ
+  pub drawn : after ≡ record before { draws = with_drawn number before.draws }
+  pub ahead : length before.draws.numbers ≤ number
+  pub found : IfSome piece (λ i. (i ≡ number) × (number < pieces))
+  pub none : IfNone piece (pieces ≤ number)
+
+-- a seat of this counter for so many workers, none of whom has drawn yet
+pub record IsFresh (workers : ℕ) (counter : Counter) (seat : ClaimSeat) : Type 0 where
+  pub some : 1 ≤ workers
+  pub seated : seat.table ≡ counter.table
+  pub draws : seat.draws ≡ record { numbers = []; workers = workers }

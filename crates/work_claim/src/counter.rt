@@ -1,0 +1,122 @@
+//! The counter from which workers draw the numbers of pieces, and the five kinds of step that they make: it is made, a
+//! seat is cut in two, a number is drawn, two seats are joined, and it is closed.
+ghost use Rattle.std.specs.Prelude.{◌≡◌, ◌^◌, ◌<◌, ◌≤◌, [], IfOk};
+ghost use Rattle.work_claim.specs.Claims.{DrawsNext, HoldsEachPieceOnce, joined, left_half, past, right_half};
+
+use crate::rule::{Claim, Claiming, Draws, Halves, Plan, Together};
+use atomic_table::{Seat, Table};
+use cost_vector::OutOfMemory;
+use std::alloc::Global;
+use std::marker::Model;
+
+/// The counter.
+#[derive(Drop)]
+pub(crate) struct Counter {
+    pieces: usize,
+    table: Table<(), Draws, Plan, Claiming, Global>,
+}
+
+impl Model for Counter {
+    ghost use Rattle.std.specs.Prelude.{◌≡◌, ◌^◌, ◌<◌};
+    ghost use Rattle.work_claim.specs.Claims.{Counter};
+
+    ghost Value = { Counter };
+
+    ghost view = { λ c. record {
+      table = c.table.shared.table_id;
+      pieces = c.table.shared.key.pieces;
+      workers = c.table.shared.key.workers;
+    } };
+
+    ghost invariant = { λ c. (c.table.shared.table_id.words ≡ 1)
+        × (c.table.shared.table_id.slots ≡ 0)
+        × (c.pieces ≡ c.table.shared.key.pieces)
+        × (c.table.shared.key.pieces < 2 ^ 32)
+        × (c.table.shared.key.workers < 2 ^ 32) };
+}
+
+/// A seat at the counter, for one worker or several.
+#[derive(Drop)]
+pub(crate) struct ClaimSeat {
+    seat: Seat<(), Draws>,
+}
+
+impl Model for ClaimSeat {
+    ghost use Rattle.std.specs.Prelude.{◌≡◌, []};
+    ghost use Rattle.work_claim.specs.Claims.{ClaimSeat};
+
+    ghost Value = { ClaimSeat };
+
+    ghost view = { λ s. record { table = s.seat.table_id; draws = s.seat.me.0 } };
+
+    ghost invariant = { λ s. s.seat.me.1 ≡ [] };
+}
+
+impl Counter {
+    /// A counter that stands at 0, and a seat for all workers.
+    pub(crate) fn new(
+        alloc: Global,
+        pieces: usize,
+        workers: u32,
+    ) -> Result<(Counter, ClaimSeat), OutOfMemory>
+        requires { pieces < 2 ^ 32 }
+        ensures pieces { IfOk result (λ r. r.0.pieces ≡ pieces) }
+        ensures workers { IfOk result (λ r. r.0.workers ≡ workers) }
+        ensures seat { IfOk result (λ r. r.1
+            ≡ record { table = r.0.table; draws = record { numbers = []; workers = workers } }) }
+    {
+        let (table, seat) = Table::of_words(alloc, &[0], &Plan { pieces, workers })?;
+        Ok((Counter { pieces, table }, ClaimSeat { seat }))
+    }
+
+    /// Cuts a seat that hasn't drawn yet in two.
+    pub(crate) fn halve(&self, seat: &mut ClaimSeat) -> ClaimSeat
+        requires table { seat.old.table ≡ self.now.table }
+        requires fresh { seat.old.draws.numbers ≡ [] }
+        ensures left { seat.new ≡ record seat.old { draws = left_half seat.old.draws } }
+        ensures right { result ≡ record seat.old { draws = right_half seat.old.draws } }
+    {
+        ClaimSeat {
+            seat: self.table.shared.split_seat::<Halves>(&mut seat.seat),
+        }
+    }
+
+    /// Draws a number, and answers the piece of this number, or `None` where there is none.
+    pub(crate) fn draw(&self, seat: &mut ClaimSeat) -> Option<usize>
+        requires table { seat.old.table ≡ self.now.table }
+        requires may { past self.now.pieces seat.old.draws.numbers < seat.old.draws.workers }
+        ensures { DrawsNext self.now.pieces seat.old seat.new result }
+    {
+        let number = self.table.shared.fetch_add::<Claim>(&mut seat.seat, 0, 1) as usize;
+        if number < self.pieces {
+            Some(number)
+        } else {
+            None
+        }
+    }
+
+    /// Has a seat take in another.
+    pub(crate) fn join(&self, seat: &mut ClaimSeat, other: ClaimSeat)
+        requires table { seat.old.table ≡ self.now.table }
+        requires other { other.table ≡ self.now.table }
+        ensures { seat.new ≡ record seat.old { draws = joined seat.old.draws other.draws } }
+    {
+        let ClaimSeat { seat: other } = other;
+        self.table
+            .shared
+            .join_seat::<Together>(&mut seat.seat, other);
+    }
+
+    /// Closes the counter, where all workers have come together and each has drawn a number past the pieces.
+    pub(crate) fn close(self, seat: ClaimSeat)
+        requires table { seat.table ≡ self.table }
+        requires some { 1 ≤ self.workers }
+        requires all { seat.draws.workers ≡ self.workers }
+        requires done { past self.pieces seat.draws.numbers ≡ self.workers }
+        ensures { HoldsEachPieceOnce self.pieces seat.draws.numbers }
+    {
+        let Counter { pieces: _, table } = self;
+        let ClaimSeat { seat } = seat;
+        table.close_with(seat).free();
+    }
+}

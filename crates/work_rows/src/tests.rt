@@ -1,0 +1,4 @@
+mod counting;
+mod meeting;
+mod order;
+mod relaxing;

@@ -1,0 +1,134 @@
+ghost use Rattle.std.specs.Prelude.{◌^◌, ◌<◌, IfOk, IsTrue, All};
+ghost use Rattle.arc_graph.specs.Graph.{Match};
+ghost use Rattle.relax_workers.specs.Candidates.{CanRelax};
+
+use super::counting::Counting;
+use arc_graph::{ArcFile, ArcLine, Graph, Weights, join_files};
+use compact_labels::{CompactCost, CompactLabel, CompactSpot};
+use cost_vector::{ArcNo, NodeNo};
+use relax_workers::relax_all;
+use std::alloc::Global;
+use std::process::Abort;
+use std::test::Fail;
+use work_claim::Crew;
+
+/// Each arc's tail, head and two weights.
+const ARCS: [[u32; 4]; 6] = [
+    [1, 2, 1, 4],
+    [1, 3, 2, 1],
+    [2, 4, 1, 4],
+    [3, 4, 2, 1],
+    [2, 3, 1, 1],
+    [1, 4, 9, 9],
+];
+
+/// The node and the cost of each taken spot.
+const TAKEN: [(u32, [u64; 2]); 2] = [(2, [1, 4]), (3, [2, 1])];
+
+/// The node, the cost and the arc of each label that they give.
+const GIVEN: [(u32, [u64; 2], u32); 3] = [(4, [2, 8], 3), (3, [2, 5], 5), (4, [4, 2], 4)];
+
+fn file(rt: &impl Abort, alloc: Global, criterion: usize) -> Result<ArcFile, Fail> {
+    assert!(rt; criterion < 2);
+    let mut file = ArcFile::new(alloc, 4);
+    for arc in &ARCS {
+        assert!(rt; 1 <= arc[0] && arc[0] <= 4 && 1 <= arc[1] && arc[1] <= 4);
+        assert!(rt; file.arcs().len() < 100 && file.nodes() == 4);
+        file.push(ArcLine {
+            tail: arc[0],
+            head: arc[1],
+            weight: arc[2 + criterion],
+        })?;
+    }
+    Ok(file)
+}
+
+fn network(rt: &impl Abort, alloc: Global) -> Result<(Graph, Weights), Fail>
+    ensures { IfOk result (λ r. Match r.0 r.1) }
+{
+    let files = vec![in alloc; file(rt, alloc, 0)?, file(rt, alloc, 1)?]?;
+    Ok(join_files(alloc, files)?)
+}
+
+/// Whether each component is below 2^58, so that a weight may be added.
+fn is_small(cost: &[u64; 2]) -> bool
+    ensures { IsTrue result → All (λ x. x < 2 ^ 58) cost.now }
+{
+    cost.iter().all(|&x| x < 1 << 58)
+}
+
+/// A spot of the network, whose cost can be added to.
+fn spot(rt: &impl Abort, graph: &Graph, weights: &Weights, plain: (u32, [u64; 2])) -> CompactSpot<2>
+    ensures { CanRelax graph.now weights.now result }
+{
+    let (node, cost) = plain;
+    assert!(rt; graph.has_node(node));
+    assert!(rt; is_small(&cost));
+    weights.arcs();
+    CompactSpot {
+        cost: CompactCost(cost),
+        node: NodeNo(node),
+    }
+}
+
+/// The taken spots, so often one after another.
+fn taken(
+    rt: &impl Abort,
+    alloc: Global,
+    graph: &Graph,
+    weights: &Weights,
+    times: usize,
+) -> Result<Vec<CompactSpot<2>>, Fail>
+    ensures { IfOk result (λ v. All (CanRelax graph.now weights.now) v.items) }
+{
+    let mut spots = Vec::new(alloc);
+    for _ in 0..times {
+        for plain in TAKEN {
+            spots.push(spot(rt, graph, weights, plain))?;
+        }
+    }
+    Ok(spots)
+}
+
+fn label((node, cost, arc): (u32, [u64; 2], u32)) -> CompactLabel<2> {
+    CompactLabel {
+        node: NodeNo(node),
+        cost: CompactCost(cost),
+        arc: ArcNo(arc),
+    }
+}
+
+#[test]
+fn relaxes_in_the_order_of_the_spots(rt: HostRuntime) -> Result<(), Fail> {
+    let alloc = rt.alloc();
+    let (graph, weights) = network(&rt, alloc)?;
+    assert_eq!(rt; graph.criteria(), 2);
+    let mut candidates = vec![in alloc; label((1, [7, 7], 6))]?;
+    for workers in [1, 3, 64] {
+        for (times, pieces) in [(0, 0), (1, 1), (32, 1), (33, 2), (100, 4)] {
+            let gate = Counting::new();
+            let crew = Crew {
+                rt: &rt,
+                workers,
+                gate: &gate,
+            };
+            let spots = taken(&rt, alloc, &graph, &weights, times)?;
+            assert!(rt; spots.len() < 1000);
+            relax_all(&crew, alloc, &graph, &weights, &spots, &mut candidates)?;
+            assert_eq!(rt;
+                candidates.len(),
+                times * GIVEN.len(),
+                "{times}, {workers} workers"
+            );
+            for given in candidates.chunks(GIVEN.len()) {
+                assert_eq!(rt;
+                    given,
+                    GIVEN.map(label).as_slice(),
+                    "{times}, {workers} workers"
+                );
+            }
+            assert_eq!(rt; gate.passed(), pieces, "{times}, {workers} workers");
+        }
+    }
+    Ok(())
+}

@@ -58,7 +58,8 @@ pub(crate) fn number_if(
     }
 }
 
-fn value<'a>(matches: &ArgMatches<'a>, id: &str) -> Option<&'a str>
+/// The text that an option gives.
+pub(crate) fn value<'a>(matches: &ArgMatches<'a>, id: &str) -> Option<&'a str>
     ensures { option_map (λ s. s.now) result ≡ first_of id.now (rows_of (found_of matches.now)) }
 {
     matches.get_str(id)

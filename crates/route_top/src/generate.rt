@@ -3,7 +3,7 @@ ghost use Rattle.command_words.specs.Words.{GenInRange, gen_asked};
 ghost use Rattle.route_top.specs.Gen.{GenEnds};
 ghost use Rattle.route_top.specs.Stops.{Replies, run_outcome};
 
-use crate::reply::{Reply, send};
+use crate::reply::send;
 use crate::stop::Stop;
 use command_words::GenWords;
 use graph_gen::gen_file;
@@ -18,5 +18,5 @@ pub(crate) fn run<'a, K: Sink>(alloc: Global, asked: &GenWords, out: &mut K) -> 
 {
     let number = asked.file.unwrap();
     let file = gen_file(alloc, &asked.plan, number)?;
-    send(out, &file, Reply::Answer)
+    send(out, &file)
 }

@@ -2,30 +2,45 @@
 use Rattle.std.proofs.Common.{◌≡◌, ◌≢◌, ◌∙◌, ℕ, ap, ap₂, refl, subst, sym, true, List, [], Option, Some, None}
 use Rattle.std.specs.Prelude.{codes, if◌then◌else◌, option_and_then}
 use Rattle.std.specs.Str.{bytes_eq}
-use Rattle.clap.specs.Words.{App, Row, Text, fault_of, is_simple_and_free, matches_of}
+use Rattle.clap.specs.Words.{App, Row, Text, fault_of, first_of, is_simple_and_free, matches_of}
 use Rattle.command_words.specs.Apps.{app_for, word_of}
-use Rattle.command_words.specs.Words.{AreWords, Asked, Asks, AsksAs, AsksCosts, AsksQuery, CostsAsked, IsGiven, IsGivenOr, IsNamed, NamesFiles, QueryAsked, check, costs}
+use Rattle.command_words.specs.Words.{AreWords, Asked, Asks, AsksAs, AsksBatch, AsksEffort, AsksGen, AsksPlan, AsksQuery, AsksSingle, BatchAsked, GenAsked}
+use Rattle.command_words.specs.Words.{IsGiven, IsGivenIf, IsGivenOr, IsNamed, NamesFiles, SingleAsked, batch, check, generate, single}
+use Rattle.graph_gen.specs.declared.GenPlan.{GenPlan}
 use Rattle.line_text.specs.declared.numerals.Numeral.TheVariants.{Value}
 use Rattle.command_words.specs.declared.apps.Name.{Name}
-use Rattle.command_words.specs.declared.apps.Name.TheVariants.{Check, Costs}
+use Rattle.command_words.specs.declared.AnswerKind.{AnswerKind}
+use Rattle.command_words.specs.declared.AnswerKind.TheVariants.{Costs, Walks}
+use Rattle.command_words.specs.declared.Effort.{Effort}
+use Rattle.command_words.specs.declared.Query.{Query}
+use Rattle.command_words.specs.declared.apps.Name.TheVariants.{Batch, Check, Gen, Single}
 
 -- each command's arguments are of the kind whose matches are a function of the words
 pub apps_simple : (name : Name) → is_simple_and_free (app_for name) ≡ true
-apps_simple Costs = refl
+apps_simple (Single Costs) = refl
+apps_simple (Single Walks) = refl
 apps_simple Check = refl
+apps_simple Batch = refl
+apps_simple Gen = refl
 
 -- ---- the words name one command at most
 
 -- the command that a word names
 abbrev name_for : Text → Option Name
 name_for word =
-    if bytes_eq word (codes "costs") then Some Costs
+    if bytes_eq word (codes "costs") then Some (Single Costs)
+    else if bytes_eq word (codes "one") then Some (Single Walks)
     else if bytes_eq word (codes "check") then Some Check
+    else if bytes_eq word (codes "batch") then Some Batch
+    else if bytes_eq word (codes "gen") then Some Gen
     else None
 
 named_back : (name : Name) → name_for (word_of name) ≡ Some name
-named_back Costs = refl
+named_back (Single Costs) = refl
+named_back (Single Walks) = refl
 named_back Check = refl
+named_back Batch = refl
+named_back Gen = refl
 
 same_name : (words : List Text) (m n : Name) → IsNamed words m → IsNamed words n → m ≡ n
 same_name words m n a b =
@@ -73,41 +88,107 @@ same_number_or : (other least greatest m n : ℕ) (given : Option Text) → IsGi
 same_number_or other least greatest m n (Some text) a b = same_number least greatest m n (Some text) a b
 same_number_or other least greatest m n None a b = a ∙ sym b
 
-same_query : (rows : List Row) (a b : QueryAsked) → AsksQuery rows a → AsksQuery rows b → a ≡ b
+same_number_if : (least greatest : ℕ) (m n : Option ℕ) (given : Option Text) → IsGivenIf least greatest given m
+    → IsGivenIf least greatest given n → m ≡ n
+same_number_if least greatest (Some m) (Some n) (Some text) a b = ap Some (same_number least greatest m n (Some text) a b)
+same_number_if least greatest None n (Some text) a b = absurd a
+same_number_if least greatest (Some m) None (Some text) a b = absurd b
+same_number_if least greatest None None None a b = refl
+same_number_if least greatest (Some m) n None a b = absurd a
+same_number_if least greatest None (Some n) None a b = absurd b
+
+same_effort : (rows : List Row) (a b : Effort) → AsksEffort rows a → AsksEffort rows b → a ≡ b
+same_effort rows a b x y =
+    let budget = same_number_or _ _ _ a.budget b.budget _ x.budget y.budget in
+    let workers = same_number_or _ _ _ a.workers b.workers _ x.workers y.workers in
+    let effort : ℕ → ℕ → Effort = λ n w. record { budget = n; workers = w } in
+    ap₂ effort budget workers
+
+same_query : (rows : List Row) (a b : Query) → AsksQuery rows a → AsksQuery rows b → a ≡ b
 same_query rows a b x y =
     let from = same_number _ _ a.from b.from _ x.from y.from in
     let to = same_number _ _ a.to b.to _ x.to y.to in
-    let budget = same_number_or _ _ _ a.budget b.budget _ x.budget y.budget in
-    let query : ℕ → ℕ → ℕ → QueryAsked = λ f t n. record { from = f; to = t; budget = n } in
-    let e : query a.from a.to a.budget ≡ query b.from b.to b.budget = cc in e
+    let effort = same_effort rows a.effort b.effort x.effort y.effort in
+    let query : ℕ → ℕ → Effort → Query = λ f t n. record { from = f; to = t; effort = n } in
+    let e : query a.from a.to a.effort ≡ query b.from b.to b.effort = cc in e
 
 same_files : (rows : List Row) (a b : List Text) → NamesFiles rows a → NamesFiles rows b → a ≡ b
 same_files rows a b x y = let e : Some a ≡ Some b = sym x.all ∙ y.all in cc
 
-same_costs : (rows : List Row) (a b : CostsAsked) → AsksCosts rows a → AsksCosts rows b → a ≡ b
-same_costs rows a b x y =
+same_single : (rows : List Row) (a b : SingleAsked) → a.kind ≡ b.kind → AsksSingle rows a → AsksSingle rows b → a ≡ b
+same_single rows a b kind x y =
     let query = same_query rows a.query b.query x.query y.query in
     let files = same_files rows a.files b.files x.files y.files in
-    let costs_of : QueryAsked → List Text → CostsAsked = λ q f. record { query = q; files = f } in
-    ap₂ costs_of query files
+    let asked : AnswerKind → Query → List Text → SingleAsked = λ k q f. record { kind = k; query = q; files = f } in
+    let e : asked a.kind a.query a.files ≡ asked b.kind b.query b.files = cc in e
 
-costs_alone : (rows : List Row) (asked : Asked) → AsksAs Costs rows asked → (c : CostsAsked) × (costs c ≡ asked) × AsksCosts rows c
-costs_alone rows (costs c) values = (c, refl, values)
-costs_alone rows _ values = absurd values
+same_batch : (rows : List Row) (a b : BatchAsked) → AsksBatch rows a → AsksBatch rows b → a ≡ b
+same_batch rows a b x y =
+    let pairs : Some a.pairs ≡ Some b.pairs = sym x.pairs ∙ y.pairs in
+    let effort = same_effort rows a.effort b.effort x.effort y.effort in
+    let files = same_files rows a.files b.files x.files y.files in
+    let asked : Text → Effort → List Text → BatchAsked = λ p n f. record { pairs = p; effort = n; files = f } in
+    let e : asked a.pairs a.effort a.files ≡ asked b.pairs b.effort b.files = cc in e
+
+pub same_plan : (rows : List Row) (a b : GenPlan) → AsksPlan rows a → AsksPlan rows b → a ≡ b
+same_plan rows a b x y =
+    let start = same_number _ _ a.start b.start _ x.start y.start in
+    let side = same_number _ _ a.side b.side _ x.side y.side in
+    let criteria = same_number _ _ a.criteria b.criteria _ x.criteria y.criteria in
+    let pairs = same_number _ _ a.pairs b.pairs _ x.pairs y.pairs in
+    let plan : ℕ → ℕ → ℕ → ℕ → GenPlan = λ s n d p. record { start = s; side = n; criteria = d; pairs = p } in
+    let e : plan a.start a.side a.criteria a.pairs ≡ plan b.start b.side b.criteria b.pairs = cc in e
+
+-- the file is one of those of the plan that the words give
+file_of_plan : (rows : List Row) (a b : GenAsked) → a.plan ≡ b.plan → AsksGen rows a
+    → IsGivenIf 0 b.plan.criteria (first_of (codes "file") rows) a.file
+file_of_plan rows a b same x =
+    subst (λ (plan : GenPlan). IsGivenIf 0 plan.criteria (first_of (codes "file") rows) a.file) same x.file
+
+same_gen : (rows : List Row) (a b : GenAsked) → AsksGen rows a → AsksGen rows b → a ≡ b
+same_gen rows a b x y =
+    let plan = same_plan rows a.plan b.plan x.plan y.plan in
+    let file = same_number_if _ _ a.file b.file _ (file_of_plan rows a b plan x) y.file in
+    let effort = same_effort rows a.effort b.effort x.effort y.effort in
+    let asked : GenPlan → Option ℕ → Effort → GenAsked = λ p f n. record { plan = p; file = f; effort = n } in
+    let e : asked a.plan a.file a.effort ≡ asked b.plan b.file b.effort = cc in e
+
+-- ---- a command's values are of its own kind
+
+single_alone : (kind : AnswerKind) (rows : List Row) (asked : Asked) → AsksAs (Single kind) rows asked
+    → (c : SingleAsked) × (single c ≡ asked) × (c.kind ≡ kind) × AsksSingle rows c
+single_alone kind rows (single c) values = (c, refl, values.0, values.1)
+single_alone kind rows _ values = absurd values
 
 check_alone : (rows : List Row) (asked : Asked) → AsksAs Check rows asked → (files : List Text) × (check files ≡ asked) × NamesFiles rows files
 check_alone rows (check files) values = (files, refl, values)
 check_alone rows _ values = absurd values
 
+batch_alone : (rows : List Row) (asked : Asked) → AsksAs Batch rows asked → (b : BatchAsked) × (batch b ≡ asked) × AsksBatch rows b
+batch_alone rows (batch b) values = (b, refl, values)
+batch_alone rows _ values = absurd values
+
+gen_alone : (rows : List Row) (asked : Asked) → AsksAs Gen rows asked → (g : GenAsked) × (generate g ≡ asked) × AsksGen rows g
+gen_alone rows (generate g) values = (g, refl, values)
+gen_alone rows _ values = absurd values
+
 same_values : (name : Name) (rows : List Row) (a b : Asked) → AsksAs name rows a → AsksAs name rows b → a ≡ b
-same_values Costs rows a b x y =
-    let (c, is_a, values) = costs_alone rows a x in
-    let (d, is_b, others) = costs_alone rows b y in
-    sym is_a ∙ ap costs (same_costs rows c d values others) ∙ is_b
+same_values (Single kind) rows a b x y =
+    let (c, is_a, kind_c, values) = single_alone kind rows a x in
+    let (d, is_b, kind_d, others) = single_alone kind rows b y in
+    sym is_a ∙ ap single (same_single rows c d (kind_c ∙ sym kind_d) values others) ∙ is_b
 same_values Check rows a b x y =
     let (c, is_a, values) = check_alone rows a x in
     let (d, is_b, others) = check_alone rows b y in
     sym is_a ∙ ap check (same_files rows c d values others) ∙ is_b
+same_values Batch rows a b x y =
+    let (c, is_a, values) = batch_alone rows a x in
+    let (d, is_b, others) = batch_alone rows b y in
+    sym is_a ∙ ap batch (same_batch rows c d values others) ∙ is_b
+same_values Gen rows a b x y =
+    let (g, is_a, values) = gen_alone rows a x in
+    let (h, is_b, others) = gen_alone rows b y in
+    sym is_a ∙ ap generate (same_gen rows g h values others) ∙ is_b
 
 pub asks_one : (words : List Text) (a b : Asked) → Asks words a → Asks words b → a ≡ b
 asks_one words a b x y =

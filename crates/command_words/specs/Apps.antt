@@ -2,13 +2,17 @@
 use Rattle.std.specs.Prelude.{Bool, true, false, Some, codes}
 use Rattle.clap.specs.Words.{App, Rule, Text, new_app, new_rule, with_rule}
 use Rattle.clap.specs.declared.builder.action.ArgAction.TheVariants.{Append, Set}
+use Rattle.command_words.specs.declared.AnswerKind.TheVariants.{Costs, Walks}
 use Rattle.command_words.specs.declared.apps.Name.{Name}
-use Rattle.command_words.specs.declared.apps.Name.TheVariants.{Check, Costs}
+use Rattle.command_words.specs.declared.apps.Name.TheVariants.{Batch, Check, Gen, Single}
 
 -- the word that names a command
 abbrev pub word_of : Name → Text
-word_of Costs = codes "costs"
+word_of (Single Costs) = codes "costs"
+word_of (Single Walks) = codes "one"
 word_of Check = codes "check"
+word_of Batch = codes "batch"
+word_of Gen = codes "gen"
 
 -- an option with one value, `--name value` or `--name=value`, given at most once
 abbrev pub option_rule : Text → Bool → Rule
@@ -28,17 +32,37 @@ bare_app name = record (new_app name) {
   top = record (new_app name).top { disable_help_flag = true; disable_version_flag = true };
 }
 
--- `costs --from S --to T [--budget B] FILES`
-abbrev pub costs_app : App
-costs_app = with_rule (with_rule (with_rule (with_rule (bare_app (word_of Costs))
-    (option_rule (codes "from") true)) (option_rule (codes "to") true))
-    (option_rule (codes "budget") false)) files_rule
+-- and then `[--budget B] [--workers W]`
+abbrev pub with_effort : App → App
+with_effort app = with_rule (with_rule app (option_rule (codes "budget") false)) (option_rule (codes "workers") false)
+
+-- `WORD --from S --to T [--budget B] [--workers W] FILES`
+abbrev pub single_app : Text → App
+single_app word = with_rule (with_effort (with_rule (with_rule (bare_app word)
+    (option_rule (codes "from") true)) (option_rule (codes "to") true))) files_rule
 
 -- `check FILES`
 abbrev pub check_app : App
 check_app = with_rule (bare_app (word_of Check)) files_rule
 
+-- `batch --pairs P [--budget B] [--workers W] FILES`
+abbrev pub batch_app : App
+batch_app = with_rule (with_effort (with_rule (bare_app (word_of Batch))
+    (option_rule (codes "pairs") true))) files_rule
+
+-- the numbers of a plan: `gen --start N --side N --criteria D --pairs P`
+abbrev pub plan_app : App
+plan_app = with_rule (with_rule (with_rule (with_rule (bare_app (word_of Gen))
+    (option_rule (codes "start") true)) (option_rule (codes "side") true))
+    (option_rule (codes "criteria") true)) (option_rule (codes "pairs") true)
+
+-- and then `[--file J] [--budget B] [--workers W]`
+abbrev pub gen_app : App
+gen_app = with_effort (with_rule plan_app (option_rule (codes "file") false))
+
 -- the arguments of a command
 abbrev pub app_for : Name → App
-app_for Costs = costs_app
+app_for (Single kind) = single_app (word_of (Single kind))
 app_for Check = check_app
+app_for Batch = batch_app
+app_for Gen = gen_app

@@ -9,6 +9,18 @@ default_budget = 10000000
 abbrev pub max_node : ℕ
 max_node = 2 ^ 32 - 1
 
+-- the greatest number that a plan may start with
+abbrev pub max_start : ℕ
+max_start = 2 ^ 32 - 1
+
+-- the workers of a command that gives none
+abbrev pub default_workers : ℕ
+default_workers = 1
+
+-- the most workers
+abbrev pub max_workers : ℕ
+max_workers = 64
+
 -- the fewest weight files: each is one criterion
 abbrev pub min_files : ℕ
 min_files = 2

@@ -1,63 +1,99 @@
 -- What the words of a command line ask for.
-use Rattle.std.specs.Prelude.{◌≡◌, ◌≤◌, ℕ, List, [], Option, Some, None, codes, length, map}
+use Rattle.std.specs.Prelude.{◌≡◌, ◌≤◌, ◌++◌, ◌∷◌, ℕ, List, [], Option, Some, None, IfSome, IsSome, codes, length, map}
 use Rattle.std.specs.Prelude.{slice_get, String}
 use Rattle.std.specs.String.{string_bytes}
 use Rattle.clap.specs.Words.{Row, Text, all_of, fault_of, first_of, matches_of}
 use Rattle.command_words.specs.Apps.{app_for, word_of}
 use Rattle.line_text.specs.Numerals.{numeral_of}
+use Rattle.command_words.specs.declared.AnswerKind.{AnswerKind}
+use Rattle.command_words.specs.declared.BatchWords.{BatchWords}
+use Rattle.command_words.specs.declared.CheckWords.{CheckWords}
 use Rattle.command_words.specs.declared.Command.{Command}
 use Rattle.command_words.specs.declared.Command.TheVariants as command
-use Rattle.command_words.specs.declared.CheckWords.{CheckWords}
-use Rattle.command_words.specs.declared.CostsWords.{CostsWords}
+use Rattle.command_words.specs.declared.Effort.{Effort}
+use Rattle.command_words.specs.declared.GenWords.{GenWords}
 use Rattle.command_words.specs.declared.Query.{Query}
+use Rattle.command_words.specs.declared.SingleWords.{SingleWords}
 use Rattle.command_words.specs.declared.apps.Name.{Name}
-use Rattle.command_words.specs.declared.apps.Name.TheVariants.{Check, Costs}
+use Rattle.command_words.specs.declared.apps.Name.TheVariants.{Batch, Check, Gen, Single}
 use Rattle.line_text.specs.declared.numerals.Numeral.TheVariants.{Value}
+use Rattle.graph_gen.specs.declared.GenPlan.{GenPlan}
+use Rattle.graph_gen.specs.Plans.{IsPlan, max_pairs, max_side, min_pairs, min_side}
 use Rattle.road_network.specs.Limits.{max_budget}
-use Rattle.command_words.specs.Ranges.{default_budget, max_node, min_files, max_files}
+use Rattle.command_words.specs.Ranges.{default_budget, default_workers, max_node, max_start, max_workers, min_files, max_files}
 
 -- ---- what a command may be asked for
 
--- a query from one node to another, and how many labels it may settle
-pub record QueryAsked : Type 0 where
-  pub from : ℕ
-  pub to : ℕ
-  pub budget : ℕ
-
--- the costs of a query over the networks of the files
-pub record CostsAsked : Type 0 where
-  pub query : QueryAsked
+-- one query over the network of the files, and what its answer shows of each cost
+pub record SingleAsked : Type 0 where
+  pub kind : AnswerKind
+  pub query : Query
   pub files : List Text
+
+-- queries over the network of the files, between the pairs of a file
+pub record BatchAsked : Type 0 where
+  pub pairs : Text
+  pub effort : Effort
+  pub files : List Text
+
+-- the files of a plan, or one of them, which the effort doesn't change
+pub record GenAsked : Type 0 where
+  pub plan : GenPlan
+  pub file : Option ℕ
+  pub effort : Effort
 
 -- one command and its values; `check` has the names of its files alone
 pub data Asked : Type 0 where
-  costs : CostsAsked → Asked
+  single : SingleAsked → Asked
   check : List Text → Asked
-
--- the names of a command's weight files
-abbrev pub files_of : Asked → List Text
-files_of (costs asked) = asked.files
-files_of (check files) = files
+  batch : BatchAsked → Asked
+  generate : GenAsked → Asked
 
 -- the names of all files that a command reads, in the order of its work
 abbrev pub names_of : Asked → List Text
-names_of (costs asked) = asked.files
+names_of (single asked) = asked.files
 names_of (check files) = files
+names_of (batch asked) = asked.files ++ asked.pairs ∷ []
+names_of (generate asked) = []
 
 -- as many weight files as a network may have criteria
-pub record FilesInRange (asked : Asked) : Type 0 where
-  pub enough : min_files ≤ length (files_of asked)
-  pub not_more : length (files_of asked) ≤ max_files
+pub record CountInRange (files : List Text) : Type 0 where
+  pub enough : min_files ≤ length files
+  pub not_more : length files ≤ max_files
 
--- a query's budget is within its range
-pub record QueryInRange (asked : QueryAsked) : Type 0 where
-  pub positive : 1 ≤ asked.budget
-  pub not_more : asked.budget ≤ max_budget
+-- a command that reads weight files reads as many
+abbrev pub FilesInRange : Asked → Type 0
+FilesInRange (single asked) = CountInRange asked.files
+FilesInRange (check files) = CountInRange files
+FilesInRange (batch asked) = CountInRange asked.files
+FilesInRange (generate asked) = Unit {0}
 
--- the budget of a command that has one is within its range
-abbrev pub BudgetInRange : Asked → Type 0
-BudgetInRange (costs asked) = QueryInRange asked.query
-BudgetInRange (check files) = Unit {0}
+-- a budget and a number of workers are within their ranges
+pub record IsEffort (effort : Effort) : Type 0 where
+  pub some_budget : 1 ≤ effort.budget
+  pub budget : effort.budget ≤ max_budget
+  pub some_workers : 1 ≤ effort.workers
+  pub workers : effort.workers ≤ max_workers
+
+-- the effort of a command that has one is within its ranges
+abbrev pub EffortInRange : Asked → Type 0
+EffortInRange (single asked) = IsEffort asked.query.effort
+EffortInRange (check files) = Unit {0}
+EffortInRange (batch asked) = IsEffort asked.effort
+EffortInRange (generate asked) = IsEffort asked.effort
+
+-- The plan is one, and the file is one of its files. What is made of all files is to come.
+pub record GenInRange (asked : GenAsked) : Type 0 where
+  pub plan : IsPlan asked.plan
+  pub one_file : IsSome asked.file
+  pub file : IfSome asked.file (λ file. file ≤ asked.plan.criteria)
+
+-- the plan of a command that has one is within its ranges
+abbrev pub PlanInRange : Asked → Type 0
+PlanInRange (single asked) = Unit {0}
+PlanInRange (check files) = Unit {0}
+PlanInRange (batch asked) = Unit {0}
+PlanInRange (generate asked) = GenInRange asked
 
 -- ---- the values that the words give, by rows that name the arguments
 
@@ -76,27 +112,61 @@ abbrev pub IsGivenOr : ℕ → ℕ → ℕ → Option Text → ℕ → Type 0
 IsGivenOr other least greatest (Some text) n = IsNumber least greatest text n
 IsGivenOr other least greatest None n = n ≡ other
 
+-- an option that may be left out gives such a number, or none
+abbrev pub IsGivenIf : ℕ → ℕ → Option Text → Option ℕ → Type 0
+IsGivenIf least greatest (Some text) (Some n) = IsNumber least greatest text n
+IsGivenIf least greatest (Some text) None = ⊥
+IsGivenIf least greatest None (Some n) = ⊥
+IsGivenIf least greatest None None = Unit {0}
+
 -- the names of the weight files, as many as a network may have criteria
 pub record NamesFiles (rows : List Row) (files : List Text) : Type 0 where
   pub all : all_of (codes "files") rows ≡ Some files
   pub enough : min_files ≤ length files
   pub not_more : length files ≤ max_files
 
--- the options give the query
-pub record AsksQuery (rows : List Row) (asked : QueryAsked) : Type 0 where
-  pub from : IsGiven 0 max_node (first_of (codes "from") rows) asked.from
-  pub to : IsGiven 0 max_node (first_of (codes "to") rows) asked.to
-  pub budget : IsGivenOr default_budget 1 max_budget (first_of (codes "budget") rows) asked.budget
+-- the options give how a search is done
+pub record AsksEffort (rows : List Row) (effort : Effort) : Type 0 where
+  pub budget : IsGivenOr default_budget 1 max_budget (first_of (codes "budget") rows) effort.budget
+  pub workers : IsGivenOr default_workers 1 max_workers (first_of (codes "workers") rows) effort.workers
 
--- the values are those of `costs`
-pub record AsksCosts (rows : List Row) (asked : CostsAsked) : Type 0 where
+-- the options give the query
+pub record AsksQuery (rows : List Row) (query : Query) : Type 0 where
+  pub from : IsGiven 0 max_node (first_of (codes "from") rows) query.from
+  pub to : IsGiven 0 max_node (first_of (codes "to") rows) query.to
+  pub effort : AsksEffort rows query.effort
+
+-- the values are those of one query
+pub record AsksSingle (rows : List Row) (asked : SingleAsked) : Type 0 where
   pub query : AsksQuery rows asked.query
   pub files : NamesFiles rows asked.files
 
+-- the values are those of `batch`
+pub record AsksBatch (rows : List Row) (asked : BatchAsked) : Type 0 where
+  pub pairs : first_of (codes "pairs") rows ≡ Some asked.pairs
+  pub effort : AsksEffort rows asked.effort
+  pub files : NamesFiles rows asked.files
+
+-- the options give the plan
+pub record AsksPlan (rows : List Row) (plan : GenPlan) : Type 0 where
+  pub start : IsGiven 0 max_start (first_of (codes "start") rows) plan.start
+  pub side : IsGiven min_side max_side (first_of (codes "side") rows) plan.side
+  pub criteria : IsGiven min_files max_files (first_of (codes "criteria") rows) plan.criteria
+  pub pairs : IsGiven min_pairs max_pairs (first_of (codes "pairs") rows) plan.pairs
+
+-- The values are those of `gen`. A file is asked for, since what is made of all files is to come.
+pub record AsksGen (rows : List Row) (asked : GenAsked) : Type 0 where
+  pub plan : AsksPlan rows asked.plan
+  pub one_file : IsSome asked.file
+  pub file : IsGivenIf 0 asked.plan.criteria (first_of (codes "file") rows) asked.file
+  pub effort : AsksEffort rows asked.effort
+
 -- the values are those of the command
 abbrev pub AsksAs : Name → List Row → Asked → Type 0
-AsksAs Costs rows (costs asked) = AsksCosts rows asked
+AsksAs (Single kind) rows (single asked) = (asked.kind ≡ kind) × AsksSingle rows asked
 AsksAs Check rows (check files) = NamesFiles rows files
+AsksAs Batch rows (batch asked) = AsksBatch rows asked
+AsksAs Gen rows (generate asked) = AsksGen rows asked
 AsksAs _ rows _ = ⊥
 
 -- ---- the words
@@ -122,19 +192,25 @@ AreWords words = (asked : Asked) × Asks words asked
 
 -- ---- what the code's values say
 
--- the query that a `Query` stands for
-abbrev pub query_asked : Query → QueryAsked
-query_asked q = record { from = q.from; to = q.to; budget = q.budget }
-
--- the words of `costs`, as what they ask for
-abbrev pub costs_asked : CostsWords → CostsAsked
-costs_asked c = record { query = query_asked c.query; files = map (λ s. s.now) c.files.items }
+-- the words of one query, as what they ask for
+abbrev pub single_asked : SingleWords → SingleAsked
+single_asked c = record { kind = c.kind; query = c.query; files = map (λ s. s.now) c.files.items }
 
 -- the words of `check`, as the names of the files that they ask for
 abbrev pub check_asked : CheckWords → List Text
 check_asked c = map (λ s. s.now) c.files.items
 
+-- the words of `batch`, as what they ask for
+abbrev pub batch_asked : BatchWords → BatchAsked
+batch_asked b = record { pairs = b.pairs.now; effort = b.effort; files = map (λ s. s.now) b.files.items }
+
+-- the words of `gen`, as what they ask for
+abbrev pub gen_asked : GenWords → GenAsked
+gen_asked g = record { plan = g.plan; file = g.file; effort = g.effort }
+
 -- a command, as what it asks for
 abbrev pub asked_of : Command → Asked
-asked_of (command.Costs c) = costs (costs_asked c)
+asked_of (command.Single c) = single (single_asked c)
 asked_of (command.Check c) = check (check_asked c)
+asked_of (command.Batch b) = batch (batch_asked b)
+asked_of (command.Gen g) = generate (gen_asked g)

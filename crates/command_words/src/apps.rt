@@ -1,16 +1,20 @@
 //! The commands by name, and what `clap` is told of each.
 ghost use Rattle.std.specs.Prelude.{◌≡◌, IfOk};
 ghost use Rattle.clap.specs.Words.{app_of, with_rule};
-ghost use Rattle.command_words.specs.Apps.{bare_app, check_app, costs_app, files_rule, option_rule};
+ghost use Rattle.command_words.specs.Apps.{bare_app, batch_app, check_app, files_rule};
+ghost use Rattle.command_words.specs.Apps.{gen_app, option_rule, single_app, with_effort};
 
+use crate::AnswerKind;
 use clap::{Arg, ArgAction, Command};
 use std::alloc::{AllocError, Global};
 
 /// A command's name.
 #[derive(Clone, Copy)]
 pub(crate) enum Name {
-    Costs,
+    Single(AnswerKind),
     Check,
+    Batch,
+    Gen,
 }
 
 impl Name {
@@ -21,19 +25,22 @@ impl Name {
         ensures { IfOk result (λ c. app_of c ≡ app_for self) }
     {
         match self {
-            Name::Costs => costs(alloc),
+            Name::Single(AnswerKind::Costs) => single(alloc, "costs"),
+            Name::Single(AnswerKind::Walks) => single(alloc, "one"),
             Name::Check => check(alloc),
+            Name::Batch => batch(alloc),
+            Name::Gen => generate(alloc),
         }
     }
 }
 
-fn costs<'a>(alloc: Global) -> Result<Command<'a>, AllocError>
-    ensures { IfOk result (λ c. app_of c ≡ costs_app) }
+fn single<'a>(alloc: Global, name: &'a str) -> Result<Command<'a>, AllocError>
+    ensures { IfOk result (λ c. app_of c ≡ single_app name.entry.now) }
 {
-    let command = bare(alloc, "costs");
+    let command = bare(alloc, name);
     let command = with_option(alloc, command, "from", true)?;
     let command = with_option(alloc, command, "to", true)?;
-    let command = with_option(alloc, command, "budget", false)?;
+    let command = with_effort(alloc, command)?;
     with_files(alloc, command)
 }
 
@@ -43,6 +50,27 @@ fn check<'a>(alloc: Global) -> Result<Command<'a>, AllocError>
     with_files(alloc, bare(alloc, "check"))
 }
 
+fn batch<'a>(alloc: Global) -> Result<Command<'a>, AllocError>
+    ensures { IfOk result (λ c. app_of c ≡ batch_app) }
+{
+    let command = bare(alloc, "batch");
+    let command = with_option(alloc, command, "pairs", true)?;
+    let command = with_effort(alloc, command)?;
+    with_files(alloc, command)
+}
+
+fn generate<'a>(alloc: Global) -> Result<Command<'a>, AllocError>
+    ensures { IfOk result (λ c. app_of c ≡ gen_app) }
+{
+    let command = bare(alloc, "gen");
+    let command = with_option(alloc, command, "start", true)?;
+    let command = with_option(alloc, command, "side", true)?;
+    let command = with_option(alloc, command, "criteria", true)?;
+    let command = with_option(alloc, command, "pairs", true)?;
+    let command = with_option(alloc, command, "file", false)?;
+    with_effort(alloc, command)
+}
+
 // A command with no flags for help and the version.
 fn bare<'a>(alloc: Global, name: &'a str) -> Command<'a>
     ensures { app_of result ≡ bare_app name.entry.now }
@@ -50,6 +78,13 @@ fn bare<'a>(alloc: Global, name: &'a str) -> Command<'a>
     Command::new(alloc, name)
         .disable_help_flag(true)
         .disable_version_flag(true)
+}
+
+fn with_effort<'a>(alloc: Global, command: Command<'a>) -> Result<Command<'a>, AllocError>
+    ensures { IfOk result (λ c. app_of c ≡ with_effort (app_of command.entry)) }
+{
+    let command = with_option(alloc, command, "budget", false)?;
+    with_option(alloc, command, "workers", false)
 }
 
 fn with_option<'a>(

@@ -4,8 +4,8 @@
 ghost use Rattle.std.specs.Prelude.{◌≡◌, ◌≢◌, ◌↔◌, IfOk, IfSome, IfNone, [], true};
 ghost use Rattle.clap.specs.Words.{app_of, fault_of, found_of, is_simple_and_free, kind_of};
 ghost use Rattle.clap.specs.Words.{matches_of, rows_of};
-ghost use Rattle.command_words.specs.Words.{AreWords, Asks, BudgetInRange, FilesInRange, IsNamed};
-ghost use Rattle.command_words.specs.Words.{asked_of, texts_of};
+ghost use Rattle.command_words.specs.Words.{AreWords, Asks, EffortInRange, FilesInRange};
+ghost use Rattle.command_words.specs.Words.{IsNamed, PlanInRange, asked_of, texts_of};
 
 mod apps;
 mod numbers;
@@ -14,6 +14,7 @@ mod values;
 use apps::Name;
 use clap::ArgMatches;
 use clap::error::ErrorKind;
+use graph_gen::GenPlan;
 use std::alloc::{AllocError, Global};
 use thiserror::Error;
 
@@ -21,23 +22,47 @@ use thiserror::Error;
 pub const DEFAULT_BUDGET: u32 = 10_000_000;
 /// The greatest number that may stand for a node.
 pub const MAX_NODE: u32 = u32::MAX;
+/// The greatest number that a plan may start with.
+pub const MAX_START: u32 = u32::MAX;
+/// The workers of a command that gives none.
+pub const DEFAULT_WORKERS: u32 = 1;
+/// The most workers.
+pub const MAX_WORKERS: u32 = 64;
 /// The fewest weight files, of which each is one criterion.
 pub const MIN_FILES: usize = 2;
 /// The most weight files.
 pub const MAX_FILES: usize = 4;
+
+/// What an answer shows of each cost.
+#[derive(Clone, Copy, Debug, PartialEq, Eq)]
+pub enum AnswerKind {
+    /// The cost alone, as `costs` does.
+    Costs,
+    /// The cost with its walk, as `one` does.
+    Walks,
+}
+
+/// How a search is done.
+#[derive(Clone, Copy, Debug, PartialEq, Eq)]
+pub struct Effort {
+    /// The most labels that it may settle.
+    pub budget: u32,
+    /// How many workers share it.
+    pub workers: u32,
+}
 
 /// A query from one node to another.
 #[derive(Clone, Copy, Debug, PartialEq, Eq)]
 pub struct Query {
     pub from: u32,
     pub to: u32,
-    /// The most labels that the search may settle.
-    pub budget: u32,
+    pub effort: Effort,
 }
 
-/// The words of `costs`.
+/// The words of `costs` and of `one`.
 #[derive(Debug, Drop)]
-pub struct CostsWords<'a> {
+pub struct SingleWords<'a> {
+    pub kind: AnswerKind,
     pub query: Query,
     pub files: Vec<&'a str>,
 }
@@ -48,13 +73,36 @@ pub struct CheckWords<'a> {
     pub files: Vec<&'a str>,
 }
 
+/// The words of `batch`.
+#[derive(Debug, Drop)]
+pub struct BatchWords<'a> {
+    /// The name of the file of pairs.
+    pub pairs: &'a str,
+    /// How each query is searched.
+    pub effort: Effort,
+    pub files: Vec<&'a str>,
+}
+
+/// The words of `gen`.
+#[derive(Clone, Copy, Debug, PartialEq, Eq)]
+pub struct GenWords {
+    pub plan: GenPlan,
+    /// The file of the plan that is to be sent.
+    pub file: Option<u32>,
+    pub effort: Effort,
+}
+
 /// What the words of a command line ask for.
 #[derive(Debug, Drop)]
 pub enum Command<'a> {
-    /// The costs of one query.
-    Costs(CostsWords<'a>),
+    /// The answer to one query.
+    Single(SingleWords<'a>),
     /// Whether the files make up a network.
     Check(CheckWords<'a>),
+    /// The answers to many queries, with walks.
+    Batch(BatchWords<'a>),
+    /// A file of a plan.
+    Gen(GenWords),
 }
 
 /// Why no command was read.
@@ -103,7 +151,8 @@ pub fn read_words<'a>(alloc: Global, words: &'a [String]) -> Result<Command<'a>,
         → other ≡ asked_of c) }
     ensures refused { result ≡ Err WordsFault.Refused → ¬ AreWords (texts_of words.entry.now) }
     ensures files { IfOk result (λ c. FilesInRange (asked_of c)) }
-    ensures budget { IfOk result (λ c. BudgetInRange (asked_of c)) }
+    ensures effort { IfOk result (λ c. EffortInRange (asked_of c)) }
+    ensures plan { IfOk result (λ c. PlanInRange (asked_of c)) }
 {
     let name = name_of(words).ok_or(WordsFault::Refused)?;
     let matches = matches_of(name.app(alloc)?, words)?;
@@ -115,8 +164,11 @@ fn name_of(words: &[String]) -> Option<Name>
     ensures refused { IfNone result ((name : Name) → ¬ IsNamed (texts_of words.now) name) }
 {
     match words.first()?.as_str() {
-        "costs" => Some(Name::Costs),
+        "costs" => Some(Name::Single(AnswerKind::Costs)),
+        "one" => Some(Name::Single(AnswerKind::Walks)),
         "check" => Some(Name::Check),
+        "batch" => Some(Name::Batch),
+        "gen" => Some(Name::Gen),
         _ => None,
     }
 }

@@ -1,7 +1,7 @@
 //! Options whose values are numbers.
 ghost use Rattle.std.specs.Prelude.{◌≡◌, IfNone, IfSome, option_map};
 ghost use Rattle.clap.specs.Words.{first_of, found_of, rows_of};
-ghost use Rattle.command_words.specs.Words.{IsGiven, IsGivenOr, IsNumber};
+ghost use Rattle.command_words.specs.Words.{IsGiven, IsGivenIf, IsGivenOr, IsNumber};
 
 use clap::ArgMatches;
 use line_text::{Numeral, decimal};
@@ -40,7 +40,26 @@ pub(crate) fn number_or(
     }
 }
 
-fn value<'a>(matches: &ArgMatches<'a>, id: &str) -> Option<&'a str>
+/// The number that an option gives, if it is given.
+pub(crate) fn number_if(
+    matches: &ArgMatches,
+    id: &str,
+    least: u32,
+    greatest: u32,
+) -> Option<Option<u32>>
+    ensures given { IfSome result
+        (IsGivenIf least greatest (first_of id.now (rows_of (found_of matches.now)))) }
+    ensures refused { IfNone result ((n : _) →
+        ¬ IsGivenIf least greatest (first_of id.now (rows_of (found_of matches.now))) n) }
+{
+    match value(matches, id) {
+        Some(text) => Some(Some(number(text, least, greatest)?)),
+        None => Some(None),
+    }
+}
+
+/// The text that an option gives.
+pub(crate) fn value<'a>(matches: &ArgMatches<'a>, id: &str) -> Option<&'a str>
     ensures { option_map (λ s. s.now) result ≡ first_of id.now (rows_of (found_of matches.now)) }
 {
     matches.get_str(id)

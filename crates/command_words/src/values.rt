@@ -1,16 +1,18 @@
 //! Reads the values that the words give to a command's arguments.
 ghost use Rattle.std.specs.Prelude.{◌≡◌, IfOk, IfNone, IfSome, codes, map, option_map};
-ghost use Rattle.clap.specs.Words.{all_of, found_of, rows_of};
-ghost use Rattle.command_words.specs.Words.{AsksAs, AsksCosts, AsksQuery, NamesFiles};
-ghost use Rattle.command_words.specs.Words.{asked_of, costs_asked, query_asked};
+ghost use Rattle.clap.specs.Words.{all_of, first_of, found_of, rows_of};
+ghost use Rattle.command_words.specs.Words.{AsksAs, AsksBatch, AsksEffort, AsksGen, AsksPlan};
+ghost use Rattle.command_words.specs.Words.{AsksQuery, AsksSingle, NamesFiles};
+ghost use Rattle.command_words.specs.Words.{asked_of, batch_asked, gen_asked, single_asked};
 
 use crate::apps::Name;
-use crate::numbers::{number_or, required_number};
+use crate::numbers::{number_if, number_or, required_number, value};
 use crate::{
-    CheckWords, Command, CostsWords, DEFAULT_BUDGET, MAX_FILES, MAX_NODE, MIN_FILES, Query,
-    WordsFault,
+    AnswerKind, BatchWords, CheckWords, Command, DEFAULT_BUDGET, DEFAULT_WORKERS, Effort, GenWords,
+    MAX_FILES, MAX_NODE, MAX_START, MAX_WORKERS, MIN_FILES, Query, SingleWords, WordsFault,
 };
 use clap::ArgMatches;
+use graph_gen::{GenPlan, MAX_PAIRS, MAX_SIDE, MIN_PAIRS, MIN_SIDE};
 use road_network::MAX_BUDGET;
 use std::alloc::Global;
 
@@ -25,33 +27,92 @@ pub(crate) fn read<'a>(
         → (asked : _) → ¬ AsksAs name (rows_of (found_of matches.now)) asked }
 {
     match name {
-        Name::Costs => Ok(Command::Costs(read_costs(alloc, matches)?)),
+        Name::Single(kind) => Ok(Command::Single(read_single(alloc, kind, matches)?)),
         Name::Check => Ok(Command::Check(CheckWords {
             files: read_files(alloc, matches)?,
         })),
+        Name::Batch => Ok(Command::Batch(read_batch(alloc, matches)?)),
+        Name::Gen => Ok(Command::Gen(read_gen(matches).ok_or(WordsFault::Refused)?)),
     }
 }
 
-fn read_costs<'a>(alloc: Global, matches: &ArgMatches<'a>) -> Result<CostsWords<'a>, WordsFault>
-    ensures asked { IfOk result (λ c. AsksCosts (rows_of (found_of matches.now)) (costs_asked c)) }
+fn read_single<'a>(
+    alloc: Global,
+    kind: AnswerKind,
+    matches: &ArgMatches<'a>,
+) -> Result<SingleWords<'a>, WordsFault>
+    ensures kind { IfOk result (λ c. c.kind ≡ kind) }
+    ensures asked { IfOk result (λ c.
+        AsksSingle (rows_of (found_of matches.now)) (single_asked c)) }
     ensures refused { result ≡ Err WordsFault.Refused
-        → (asked : _) → ¬ AsksCosts (rows_of (found_of matches.now)) asked }
+        → (asked : _) → ¬ AsksSingle (rows_of (found_of matches.now)) asked }
 {
     let query = read_query(matches).ok_or(WordsFault::Refused)?;
     let files = read_files(alloc, matches)?;
-    Ok(CostsWords { query, files })
+    Ok(SingleWords { kind, query, files })
 }
 
 fn read_query(matches: &ArgMatches) -> Option<Query>
-    ensures asked { IfSome result (λ q.
-        AsksQuery (rows_of (found_of matches.now)) (query_asked q)) }
-    ensures refused { IfNone result ((asked : _) →
-        ¬ AsksQuery (rows_of (found_of matches.now)) asked) }
+    ensures asked { IfSome result (AsksQuery (rows_of (found_of matches.now))) }
+    ensures refused { IfNone result ((query : _) →
+        ¬ AsksQuery (rows_of (found_of matches.now)) query) }
 {
     Some(Query {
         from: required_number(matches, "from", 0, MAX_NODE)?,
         to: required_number(matches, "to", 0, MAX_NODE)?,
+        effort: read_effort(matches)?,
+    })
+}
+
+fn read_effort(matches: &ArgMatches) -> Option<Effort>
+    ensures asked { IfSome result (AsksEffort (rows_of (found_of matches.now))) }
+    ensures refused { IfNone result ((effort : _) →
+        ¬ AsksEffort (rows_of (found_of matches.now)) effort) }
+{
+    Some(Effort {
         budget: number_or(DEFAULT_BUDGET, matches, "budget", 1, MAX_BUDGET)?,
+        workers: number_or(DEFAULT_WORKERS, matches, "workers", 1, MAX_WORKERS)?,
+    })
+}
+
+fn read_batch<'a>(alloc: Global, matches: &ArgMatches<'a>) -> Result<BatchWords<'a>, WordsFault>
+    ensures asked { IfOk result (λ b. AsksBatch (rows_of (found_of matches.now)) (batch_asked b)) }
+    ensures refused { result ≡ Err WordsFault.Refused
+        → (asked : _) → ¬ AsksBatch (rows_of (found_of matches.now)) asked }
+{
+    let pairs = value(matches, "pairs").ok_or(WordsFault::Refused)?;
+    let effort = read_effort(matches).ok_or(WordsFault::Refused)?;
+    let files = read_files(alloc, matches)?;
+    Ok(BatchWords {
+        pairs,
+        effort,
+        files,
+    })
+}
+
+fn read_gen(matches: &ArgMatches) -> Option<GenWords>
+    ensures asked { IfSome result (λ g. AsksGen (rows_of (found_of matches.now)) (gen_asked g)) }
+    ensures refused { IfNone result ((asked : _) →
+        ¬ AsksGen (rows_of (found_of matches.now)) asked) }
+{
+    let plan = read_plan(matches)?;
+    Some(GenWords {
+        plan,
+        file: Some(number_if(matches, "file", 0, plan.criteria)??),
+        effort: read_effort(matches)?,
+    })
+}
+
+fn read_plan(matches: &ArgMatches) -> Option<GenPlan>
+    ensures asked { IfSome result (AsksPlan (rows_of (found_of matches.now))) }
+    ensures refused { IfNone result ((plan : _) →
+        ¬ AsksPlan (rows_of (found_of matches.now)) plan) }
+{
+    Some(GenPlan {
+        start: required_number(matches, "start", 0, MAX_START)?,
+        side: required_number(matches, "side", MIN_SIDE, MAX_SIDE)?,
+        criteria: required_number(matches, "criteria", MIN_FILES as u32, MAX_FILES as u32)?,
+        pairs: required_number(matches, "pairs", MIN_PAIRS, MAX_PAIRS)?,
     })
 }
 

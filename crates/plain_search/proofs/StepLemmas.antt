@@ -16,8 +16,8 @@ use Rattle.road_network.proofs.SumLaws.{sum_of_none, sum_of_more, sum_of_most, s
 use Rattle.road_network.proofs.WalkLaws.{length_of_arrival, node_of_arrival}
 use Rattle.arc_graph.specs.Graph.{Graph, Weights, SumsFit, relaxed, label_over}
 use Rattle.arc_graph.proofs.RelaxLaws.{network_of, label_in, label_of, sums_fit}
-use Rattle.plain_search.specs.declared.query.Query.{Query}
-use Rattle.plain_search.specs.Query.{IsPosed}
+use Rattle.route_query.specs.declared.query.Query.{Query}
+use Rattle.route_query.specs.Query.{IsPosed}
 use Rattle.plain_search.specs.Search.{Task, IsRelevantTo, task_of, spot_at, spot_of, Prunes, IsPruned, IsCovered, IsExpanded, IsOldOrNew, TakesOut, Adds, IsLeastOf, MayWait, IsBefore, IsSearch}
 use Rattle.plain_search.proofs.PrunesLemmas.{Prunes-refl, pruned_by, covered_after_settle, covered_after_add}
 use Rattle.plain_search.proofs.SearchLemmas.{least_may_wait, least_is_relevant, before_where_fresh}

@@ -9,7 +9,7 @@ use Rattle.road_network.specs.Network.{Network, Leads}
 use Rattle.road_network.specs.Walks.{Arrives, IsSumOf}
 use Rattle.road_network.specs.Answers.{IsRelevant}
 use Rattle.arc_graph.specs.Graph.{Graph, Weights, network}
-use Rattle.plain_search.specs.declared.query.Query.{Query}
+use Rattle.route_query.specs.declared.query.Query.{Query}
 
 -- what is sought: the best costs of a node within a limit, from another
 pub record Task : Type 0 where

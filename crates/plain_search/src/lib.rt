@@ -7,8 +7,7 @@
 #![tactic(auto)]
 
 mod martins;
-mod query;
 mod search;
 
 pub use martins::plain_search;
-pub use query::{Query, SearchFault};
+pub use route_query::{Query, SearchFault};

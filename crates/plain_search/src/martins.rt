@@ -2,12 +2,12 @@ ghost use Rattle.std.specs.Prelude.{◌≡◌, ◌≤◌, length, IfOk, OnOk, Is
 ghost use Rattle.arc_graph.specs.Graph.{Match, network};
 ghost use Rattle.road_network.specs.Walks.{IsSumOf};
 ghost use Rattle.road_network.specs.Answers.{AreBestCosts, Passes};
-ghost use Rattle.plain_search.specs.Query.{IsQuery};
+ghost use Rattle.route_query.specs.Query.{IsQuery};
 
-use crate::query::{Query, SearchFault};
 use crate::search::Search;
 use arc_graph::{Graph, Weights};
 use cost_vector::{Cost, Spot};
+use route_query::{Query, SearchFault};
 use std::alloc::Global;
 
 /// The nondominated costs of the walks from a node to a node within a limit, in strictly ascending lexicographic order.

@@ -1,12 +1,12 @@
 ghost use Rattle.std.specs.Prelude.{◌≡◌, ◌≤◌, ◌<◌, ◌⊎◌, ◌↔◌, [], ◌∷◌, ◌++◌, length, map, IsTrue, IfOk, OnOk, IfSome, IfNone, Contains, All};
 ghost use Rattle.cost_vector.specs.Costs.{LexLess};
 ghost use Rattle.road_network.specs.Limits.{max_budget};
-ghost use Rattle.plain_search.specs.Query.{IsPosed};
+ghost use Rattle.route_query.specs.Query.{IsPosed};
 ghost use Rattle.plain_search.specs.Search.{Prunes, IsPruned, IsLeastOf, TakesOut};
 
-use crate::query::Query;
 use arc_graph::{Graph, Weights, relax};
 use cost_vector::{Cost, Label, NodeNo, OutOfMemory, Spot};
+use route_query::Query;
 use std::alloc::Global;
 
 /// The spots that a search has come to.

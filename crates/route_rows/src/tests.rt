@@ -1,11 +1,17 @@
 use route_io::memory::{MemoryFolder, MemorySink, NamedFile};
+use route_io::{Gate, OpenGate};
 use route_top::route;
 use std::alloc::{AllocError, Global};
 use std::process::Abort;
 use std::test::Fail;
+use std::thread::Threads;
 
+mod batches;
+mod generated;
 mod readers;
 mod rows;
+mod walks;
+mod workers;
 
 /// A run: its words, separated by spaces, its files, and what is expected of it.
 struct Row {
@@ -55,10 +61,26 @@ impl Outside {
     }
 
     /// Runs the words, and gives the status.
-    fn run(&mut self, alloc: Global, words: &str) -> Result<u8, AllocError> {
+    fn run(
+        &mut self,
+        rt: &(impl Threads + Sync),
+        alloc: Global,
+        words: &str,
+    ) -> Result<u8, AllocError> {
+        self.run_through(rt, alloc, words, &OpenGate)
+    }
+
+    /// Runs the words, with this gate before each piece of work, and gives the status.
+    fn run_through(
+        &mut self,
+        rt: &(impl Threads + Sync),
+        alloc: Global,
+        words: &str,
+        gate: &impl Gate,
+    ) -> Result<u8, AllocError> {
         let words = words_of(alloc, words)?;
         let (out, err) = (&mut self.out, &mut self.err);
-        Ok(route(alloc, &words, &mut self.folder, out, err))
+        Ok(route(rt, alloc, &words, &mut self.folder, out, err, gate))
     }
 }
 
@@ -134,31 +156,56 @@ fn assert_status(rt: &impl Abort, got: u8, wanted: &Wanted, number: usize) {
 
 /// The run ends as is wanted. The number tells it from other runs of the same words.
 fn assert_run(
-    rt: &impl Abort,
+    rt: &(impl Abort + Threads + Sync),
     alloc: Global,
     wanted: &Wanted,
     number: usize,
     outside: &mut Outside,
 ) -> Result<(), AllocError> {
-    let status = outside.run(alloc, wanted.words)?;
+    let status = outside.run(rt, alloc, wanted.words)?;
     assert_out(rt, outside.out.sent(), wanted, number);
     assert_err(rt, outside.err.sent(), wanted, number);
     assert_status(rt, status, wanted, number);
     Ok(())
 }
 
-fn assert_row(rt: &impl Abort, alloc: Global, row: &Row, piece: usize) -> Result<(), AllocError> {
+fn assert_row(
+    rt: &(impl Abort + Threads + Sync),
+    alloc: Global,
+    row: &Row,
+    piece: usize,
+) -> Result<(), AllocError> {
     let folder = folder_of(alloc, row.files)?.with_piece(piece.max(1));
     let mut outside = Outside::of_folder(alloc, folder);
     assert_run(rt, alloc, &row.expected(), piece, &mut outside)
 }
 
+/// Each run ends as its row says, over a folder that gives one byte a read and over one that gives all.
+fn assert_rows(
+    rt: &(impl Abort + Threads + Sync),
+    alloc: Global,
+    rows: &[Row],
+) -> Result<(), AllocError> {
+    for row in rows {
+        for piece in [1, usize::MAX] {
+            assert_row(rt, alloc, row, piece)?;
+        }
+    }
+    Ok(())
+}
+
 #[test]
 fn rows_have_their_output(rt: HostRuntime) -> Result<(), Fail> {
-    for row in rows::ROWS {
-        for piece in [1, usize::MAX] {
-            assert_row(&rt, rt.alloc(), row, piece)?;
-        }
+    assert_rows(&rt, rt.alloc(), rows::ROWS)?;
+    assert_rows(&rt, rt.alloc(), walks::ROWS)?;
+    assert_rows(&rt, rt.alloc(), batches::ROWS)?;
+    Ok(())
+}
+
+#[test]
+fn generated_files_have_their_bytes(rt: HostRuntime) -> Result<(), Fail> {
+    for row in generated::ROWS {
+        assert_row(&rt, rt.alloc(), row, 1)?;
     }
     Ok(())
 }
@@ -193,7 +240,7 @@ fn cut_file(alloc: Global, length: usize, piece: usize) -> Result<Outside, Alloc
 }
 
 fn assert_told_cut(
-    rt: &impl Abort,
+    rt: &(impl Abort + Threads + Sync),
     alloc: Global,
     length: usize,
     outside: &mut Outside,
@@ -255,6 +302,39 @@ fn greatest_weights_add_up(rt: HostRuntime) -> Result<(), Fail> {
         words: "costs --from 1 --to 1001 P.gr P.gr",
         status: 0,
         out: b"r 0 1 1001 1\nv 4294967295000 4294967295000\n",
+        err: b"",
+    };
+    assert_run(
+        &rt,
+        alloc,
+        &wanted,
+        0,
+        &mut Outside::of_folder(alloc, folder),
+    )?;
+    Ok(())
+}
+
+/// The line of the walk over the path, which names each arc.
+fn walk_over_path(alloc: Global) -> Result<String, AllocError> {
+    let head = "r 0 1 1001 1\np 4294967295000 4294967295000 1000";
+    let mut text = String::from_str(alloc, head)?;
+    for arc in 1..1001 {
+        write!(text, " {arc}")?;
+    }
+    text.push('\n')?;
+    Ok(text)
+}
+
+#[test]
+fn a_long_walk_is_told(rt: HostRuntime) -> Result<(), Fail> {
+    let alloc = rt.alloc();
+    let text = greatest_path(alloc)?;
+    let folder = folder_of(alloc, &[("P.gr", text.as_str())])?;
+    let out = walk_over_path(alloc)?;
+    let wanted = Wanted {
+        words: "one --from 1 --to 1001 P.gr P.gr",
+        status: 0,
+        out: out.as_bytes(),
         err: b"",
     };
     assert_run(
@@ -363,7 +443,7 @@ fn long_line(alloc: Global, length: usize) -> Result<Outside, AllocError> {
 fn a_line_has_65536_bytes_at_most(rt: HostRuntime) -> Result<(), Fail> {
     for (length, status) in [(65_536, 0), (65_537, 5)] {
         let mut outside = long_line(rt.alloc(), length)?;
-        let got = outside.run(rt.alloc(), "check LONG B.gr")?;
+        let got = outside.run(&rt, rt.alloc(), "check LONG B.gr")?;
         assert_eq!(rt; got, status, "length {length}");
     }
     Ok(())
@@ -379,7 +459,7 @@ fn row_noting_to(alloc: Global, row: &Row, err: MemorySink) -> Result<Outside, A
 }
 
 fn assert_cut_note(
-    rt: &impl Abort,
+    rt: &(impl Abort + Threads + Sync),
     alloc: Global,
     row: &Row,
     bound: usize,
@@ -429,7 +509,11 @@ fn a_failing_err_cuts_the_note_alone(rt: HostRuntime) -> Result<(), Fail> {
     Ok(())
 }
 
-fn assert_noted_at_once(rt: &impl Abort, alloc: Global, row: &Row) -> Result<(), AllocError> {
+fn assert_noted_at_once(
+    rt: &(impl Abort + Threads + Sync),
+    alloc: Global,
+    row: &Row,
+) -> Result<(), AllocError> {
     let mut outside = row_noting_to(alloc, row, failing(alloc, 1)?)?;
     assert_run(rt, alloc, &row.expected(), 1, &mut outside)
 }

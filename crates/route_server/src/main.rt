@@ -4,7 +4,7 @@
 ghost use Rattle.std.specs.Prelude.{◌≡◌};
 
 use route_io::host::{HostFolder, HostSink};
-use route_io::{Sink, put_all};
+use route_io::{OpenGate, Sink, put_all};
 use route_top::{WANT_OF_MEMORY, route};
 use std::env::{self, Env};
 use std::io;
@@ -15,12 +15,13 @@ fn main(rt: HostRuntime) -> ExitCode {
     let words = words(&rt);
     let mut out = HostSink::new(rt.stdout());
     let mut err = HostSink::new(rt.stderr());
-    let mut folder = HostFolder::new(rt);
+    let mut folder = HostFolder::new(&rt);
+    let gate = OpenGate;
     let status = match words {
-        Ok(words) => route(alloc, &words, &mut folder, &mut out, &mut err),
+        Ok(words) => route(&rt, alloc, &words, &mut folder, &mut out, &mut err, &gate),
         Err(fault) if fault.kind() == io::ErrorKind::OutOfMemory => want_memory(&mut err),
         // An argument isn't text: the words are those of no command, as no words are.
-        Err(_) => route(alloc, &[], &mut folder, &mut out, &mut err),
+        Err(_) => route(&rt, alloc, &[], &mut folder, &mut out, &mut err, &gate),
     };
     ExitCode::from(status)
 }

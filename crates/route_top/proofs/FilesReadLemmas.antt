@@ -16,11 +16,13 @@ use Rattle.arc_graph.specs.Files.{ArcFile}
 use Rattle.arc_graph.specs.Joiner.{Joiner}
 use Rattle.arc_graph.specs.StandsFor.{StandsFor}
 use Rattle.gr_reader.specs.Sinks.{JoinerHasTaken, TakesFile}
-use Rattle.route_top.specs.FilesRead.{weight_limits, Tells, Says, FileStop, failed, faulty, starved, FilesStop, at_file, disagree, unjoined, FilesEnd, stops, goes_on, ReadAs}
+use Rattle.gr_reader.specs.declared.fault.LineKind.{LineKind}
+use Rattle.route_top.specs.FilesRead.{Tells, Says, FileStop, ReadingStop, FilesStop, FilesEnd, ReadAs}
+use Rattle.route_top.specs.FilesRead.{reading_limits, failed, faulty, starved, at_file, disagree, unjoined, stops, goes_on}
 use Rattle.route_top.specs.Outcome.{Outcome, status_of}
 use Rattle.route_top.specs.Output.{Runs}
 use Rattle.route_top.specs.ReadResults.{TakesNamed}
-use Rattle.route_top.specs.Stops.{Replies, outcome_of, stop_of}
+use Rattle.route_top.specs.Stops.{outcome_of, stop_of}
 use Rattle.route_top.proofs.RunsLemmas.{LeavesOut, nothing_sent, runs_then}
 
 -- what holds of the bytes of the file that was opened
@@ -32,7 +34,7 @@ tells (Some file_of) name left Holds opens holds =
 
 -- the joiner has taken the file that was opened
 pub takes_named : (files : Option FileMap) (name : List ℕ) (left : Option (List ℕ)) (before now : Joiner) → Opens files name left
-    → TakesFile weight_limits left (JoinerHasTaken before now) → TakesNamed files name before now
+    → TakesFile reading_limits left (JoinerHasTaken before now) → TakesNamed files name before now
 takes_named files name left before now opens takes =
     record { contents = takes.file; says = tells files name left _ opens takes.is_gr; taken = takes.taken }
 
@@ -98,10 +100,15 @@ not_joined files names joiner has (join.ZeroArc arc) is =
     disagree (record { contents = has.contents; read = has.read; fault_is = is (λ e. cc) })
 not_joined files names joiner has join.OutOfMemory is = unjoined
 
+-- what keeps a file from being read is nothing of the sink of replies
+pub reading_leaves_out : {Fault : ℕ → LineKind → Type 0} {bad : ℕ → LineKind → Outcome} {name : List ℕ} {outcome : Outcome}
+    → ((line : ℕ) (kind : LineKind) → LeavesOut (bad line kind)) → ReadingStop Fault bad name outcome → LeavesOut outcome
+reading_leaves_out bad_leaves failed = record { no_fault = refl; no_want = refl }
+reading_leaves_out bad_leaves (faulty {line} {kind} told) = bad_leaves line kind
+reading_leaves_out bad_leaves starved = record { no_fault = refl; no_want = refl }
+
 leaves_out : {files : Option FileMap} {names : List (List ℕ)} {outcome : Outcome} → FilesStop files names outcome → LeavesOut outcome
-leaves_out (at_file name comes failed) = record { no_fault = refl; no_want = refl }
-leaves_out (at_file name comes (faulty told)) = record { no_fault = refl; no_want = refl }
-leaves_out (at_file name comes starved) = record { no_fault = refl; no_want = refl }
+leaves_out (at_file name comes stop) = reading_leaves_out (λ line kind. record { no_fault = refl; no_want = refl }) stop
 leaves_out (disagree read) = record { no_fault = refl; no_want = refl }
 leaves_out unjoined = record { no_fault = refl; no_want = refl }
 
@@ -111,9 +118,8 @@ module _ (After : Network → Outcome → List ℕ → Type 0) (names : List (Li
       → Runs (FilesEnd After folder.files names) folder after out out outcome
   ends_at_files out stop reads = nothing_sent (FilesEnd After folder.files names) _ folder after out (leaves_out stop) (stops stop) reads
 
-  -- the run goes on over the network, and only replies
-  pub ends_over : (net : Network) (out replied : SinkState) (outcome : Outcome) → ReadAs folder.files names net → ReadsFrom folder after false
-      → Replies (After net) out replied outcome → Runs (FilesEnd After folder.files names) folder after out replied outcome
-  ends_over net out replied outcome read reads replies =
-      runs_then (After net) (FilesEnd After folder.files names) (λ o text then. goes_on net read then) folder after after out replied outcome reads
-      (replies after)
+  -- the run goes on over the network
+  pub ends_over : (net : Network) (mid : SourceState) (out replied : SinkState) (outcome : Outcome) → ReadAs folder.files names net
+      → ReadsFrom folder mid false → Runs (After net) mid after out replied outcome → Runs (FilesEnd After folder.files names) folder after out replied outcome
+  ends_over net mid out replied outcome read reads runs =
+      runs_then (After net) (FilesEnd After folder.files names) (λ o text then. goes_on net read then) folder mid after out replied outcome reads runs

@@ -1,4 +1,6 @@
 pub mod SentFirst
 pub mod RunsLemmas
+pub mod QueryLemmas
 pub mod FilesReadLemmas
+pub mod BatchLemmas
 pub mod OutputLemmas

@@ -16,13 +16,13 @@ use Rattle.route_top.specs.declared.stop.Disagreement.{Disagreement}
 use Rattle.route_top.specs.declared.stop.Disagreement.TheVariants.{Sizes, Ends, ZeroArc}
 use Rattle.route_top.specs.Outcome.{Outcome, folder_failed, bad_file, bad_files, no_memory}
 
--- the most bytes of a weight file
+-- the most bytes of a file
 abbrev pub max_file_size : ℕ
 max_file_size = 2 ^ 29
 
--- the limits of a weight file
-abbrev pub weight_limits : FileLimits
-weight_limits = record { line = max_line; file = max_file_size }
+-- the limits of each file that is read
+abbrev pub reading_limits : FileLimits
+reading_limits = record { line = max_line; file = max_file_size }
 
 -- there is a file of this name, and this holds of its bytes
 pub record HasFile (file_of : FileMap) (name : List ℕ) (Holds : List ℕ → Type 0) : Type 0 where
@@ -36,21 +36,25 @@ Tells files name Holds = IfSome files (λ file_of. HasFile file_of name Holds)
 
 -- the file of this name says this
 abbrev pub Says : Option FileMap → List ℕ → ArcFile → Type 0
-Says files name contents = Tells files name (λ bytes. IsGr weight_limits bytes contents.nodes contents.arcs)
+Says files name contents = Tells files name (λ bytes. IsGr reading_limits bytes contents.nodes contents.arcs)
 
 -- the first fault of the file of this name
 abbrev pub HasFirstFault : Option FileMap → List ℕ → ℕ → LineKind → Type 0
-HasFirstFault files name line kind = Tells files name (λ bytes. GrFault weight_limits bytes kind line)
+HasFirstFault files name line kind = Tells files name (λ bytes. GrFault reading_limits bytes kind line)
 
--- how the reading of the file of this name ends a run
-pub data FileStop (files : Option FileMap) (name : List ℕ) : Outcome → Type 0 where
+-- How the reading of the file of this name ends a run. `Fault` says which is its first faulty line, and `bad` how that
+-- ends it.
+pub data ReadingStop (Fault : ℕ → LineKind → Type 0) (bad : ℕ → LineKind → Outcome) (name : List ℕ) : Outcome → Type 0 where
   -- the folder failed
-  failed : FileStop files name (folder_failed name)
+  failed : ReadingStop Fault bad name (folder_failed name)
   -- the file isn't as its format says
-  faulty : {line : ℕ} {kind : LineKind} → HasFirstFault files name line kind
-      → FileStop files name (bad_file name line kind)
+  faulty : {line : ℕ} {kind : LineKind} → Fault line kind → ReadingStop Fault bad name (bad line kind)
   -- memory ran out
-  starved : FileStop files name no_memory
+  starved : ReadingStop Fault bad name no_memory
+
+-- the same of a weight file
+abbrev pub FileStop : Option FileMap → List ℕ → Outcome → Type 0
+FileStop files name = ReadingStop (HasFirstFault files name) (bad_file name) name
 
 -- A file comes after others that were all read.
 pub record ComesAfterRead (files : Option FileMap) (names : List (List ℕ)) (name : List ℕ) : Type 0 where

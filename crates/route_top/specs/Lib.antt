@@ -2,8 +2,11 @@ pub mod Texts
 pub mod Pieces
 pub mod Outcome
 pub mod FilesRead
-pub mod Costs
+pub mod Queries
+pub mod Searched
 pub mod Check
+pub mod Batch
+pub mod Gen
 pub mod Output
 pub mod Stops
 pub mod ReadResults

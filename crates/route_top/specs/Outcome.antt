@@ -8,7 +8,7 @@ use Rattle.answer_writer.specs.Replies.{and_number, end_line}
 
 -- the ways in which a run ends, each with what its note names
 pub data Outcome : Type 0 where
-  -- the reply was sent
+  -- what is asked for was sent
   done : Outcome
   -- the words are no command's words
   bad_words : Outcome
@@ -16,10 +16,12 @@ pub data Outcome : Type 0 where
   folder_failed : List ℕ → Outcome
   -- the sink of replies failed
   out_failed : Outcome
-  -- this file has a faulty line
+  -- this weight file has a faulty line
   bad_file : List ℕ → ℕ → LineKind → Outcome
   -- the files don't agree
   bad_files : Disagreement → Outcome
+  -- this file of pairs has a faulty line
+  bad_pairs : List ℕ → ℕ → LineKind → Outcome
   -- the query was refused by a reply of its own
   refused : Outcome
   -- memory ran out
@@ -35,6 +37,7 @@ status_of (folder_failed name) = 3
 status_of out_failed = 4
 status_of (bad_file name line kind) = 5
 status_of (bad_files way) = 6
+status_of (bad_pairs name line kind) = 7
 status_of refused = 8
 status_of no_memory = 9
 status_of out_wanted = 9
@@ -50,9 +53,10 @@ disagreement (Sizes file) = codes "sizes file" ++ and_number file
 disagreement (Ends arc file) = codes "ends arc" ++ and_number arc ++ codes " file" ++ and_number file
 disagreement (ZeroArc arc) = codes "zero arc" ++ and_number arc
 
--- the kind of a line's fault
-abbrev pub told_kind : LineKind → List ℕ
-told_kind kind = codes " kind" ++ and_number (kind_number kind)
+-- the place and the kind of a line's fault
+abbrev pub told_line : List ℕ → ℕ → LineKind → List ℕ
+told_line name line kind =
+    name ++ codes " line" ++ and_number line ++ codes " kind" ++ and_number (kind_number kind)
 
 -- a note of these words, as a line
 abbrev pub noted : List ℕ → List ℕ
@@ -64,8 +68,9 @@ note_of done = []
 note_of bad_words = noted (codes "words")
 note_of (folder_failed name) = noted (codes "folder " ++ name)
 note_of out_failed = noted (codes "out")
-note_of (bad_file name line kind) = noted (codes "file " ++ name ++ codes " line" ++ and_number line ++ told_kind kind)
+note_of (bad_file name line kind) = noted (codes "file " ++ told_line name line kind)
 note_of (bad_files way) = noted (codes "files " ++ disagreement way)
+note_of (bad_pairs name line kind) = noted (codes "pairs " ++ told_line name line kind)
 note_of refused = []
 note_of no_memory = noted (codes "memory")
 note_of out_wanted = noted (codes "memory")

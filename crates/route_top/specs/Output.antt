@@ -5,12 +5,14 @@ use Rattle.route_io.specs.Files.{FileMap}
 use Rattle.route_io.specs.Sinks.{SinkState, Sends, WritesTo}
 use Rattle.route_io.specs.Sources.{SourceState, ReadsFrom}
 use Rattle.route_io.specs.declared.fault.WriteFault.{WriteFault}
-use Rattle.command_words.specs.Words.{Asked, Asks, AreWords, check, costs, names_of}
+use Rattle.command_words.specs.Words.{Asked, Asks, AreWords, batch, check, generate, names_of, single}
+use Rattle.route_top.specs.Batch.{BatchReplies}
 use Rattle.route_top.specs.Check.{CheckReplies}
-use Rattle.route_top.specs.Costs.{CostsReplies}
 use Rattle.route_top.specs.FilesRead.{FilesEnd}
+use Rattle.route_top.specs.Gen.{GenEnds}
 use Rattle.route_top.specs.Outcome.{Outcome, bad_words, out_failed, no_memory, out_wanted}
 use Rattle.route_top.specs.Outcome.{status_of, note_of, out_has_wanted}
+use Rattle.route_top.specs.Queries.{QueryReplies}
 
 -- a name is one of those that the words ask for
 abbrev pub IsAskedName : List (List ℕ) → List ℕ → Type 0
@@ -18,8 +20,10 @@ IsAskedName words name = (asked : Asked) × Asks words asked × Contains (names_
 
 -- how a run of a command ends, and what it sends to `out`, where nothing cuts that short
 abbrev pub Ends : Option FileMap → Asked → Outcome → List ℕ → Type 0
-Ends files (costs asked) = FilesEnd (CostsReplies asked.query) files asked.files
+Ends files (single asked) = FilesEnd (QueryReplies asked.kind asked.query) files asked.files
 Ends files (check names) = FilesEnd CheckReplies files names
+Ends files (batch asked) = FilesEnd (BatchReplies files asked) files asked.files
+Ends files (generate asked) = GenEnds asked
 
 -- the same of the program, by its words
 pub data EndsByWords (words : List (List ℕ)) (files : Option FileMap) : Outcome → List ℕ → Type 0 where

@@ -1,5 +1,6 @@
 -- What the calls that read the named files answer.
 use Rattle.std.specs.Prelude.{ℕ, List, Option, Result, Ok, Err, length}
+use Rattle.std.specs.Global.{Vec}
 use Rattle.route_io.specs.Files.{FileMap}
 use Rattle.arc_graph.specs.declared.graph.Graph.{Graph}
 use Rattle.arc_graph.specs.declared.weights.Weights.{Weights}
@@ -7,7 +8,9 @@ use Rattle.arc_graph.specs.Files.{ArcFile}
 use Rattle.arc_graph.specs.Graph.{network}
 use Rattle.arc_graph.specs.Joiner.{Joiner}
 use Rattle.gr_reader.specs.Sinks.{JoinerHasTaken}
+use Rattle.query_reader.specs.declared.pairs.Pair.{Pair}
 use Rattle.route_top.specs.declared.stop.Stop.{Stop}
+use Rattle.route_top.specs.Batch.{PairsStop, SaysPairs}
 use Rattle.route_top.specs.FilesRead.{Says, ReadAs, FileStop, FilesStop}
 use Rattle.route_top.specs.Stops.{outcome_of}
 
@@ -26,3 +29,8 @@ pub record TakesNamed (files : Option FileMap) (name : List ℕ) (before now : J
 abbrev pub FileRead : {T : Type 0} → Option FileMap → List ℕ → Joiner → Joiner → Result T Stop → Type 0
 FileRead files name before now (Ok value) = TakesNamed files name before now
 FileRead files name before now (Err stop) = FileStop files name (outcome_of stop)
+
+-- the pairs that the file of this name says, or why it says none
+abbrev pub PairsRead : Option FileMap → List ℕ → Result (Vec Pair) Stop → Type 0
+PairsRead files name (Ok pairs) = SaysPairs files name pairs.items
+PairsRead files name (Err stop) = PairsStop files name (outcome_of stop)

@@ -2,8 +2,9 @@
 use Rattle.std.specs.Prelude.{◌≡◌, ℕ, List, Result, Ok, Err}
 use Rattle.arc_graph.specs.declared.join.JoinFault.{JoinFault}
 use Rattle.arc_graph.specs.declared.join.JoinFault.TheVariants as join
-use Rattle.route_io.specs.Sinks.{SinkState}
+use Rattle.route_io.specs.Sinks.{SinkState, Sends}
 use Rattle.route_io.specs.Sources.{SourceState}
+use Rattle.route_io.specs.declared.fault.WriteFault.{WriteFault}
 use Rattle.route_io.specs.declared.fault.WriteFault.TheVariants as write
 use Rattle.route_top.specs.declared.reply.Reply.{Reply}
 use Rattle.route_top.specs.declared.reply.Reply.TheVariants.{Answer, Refusal}
@@ -11,7 +12,7 @@ use Rattle.route_top.specs.declared.stop.Disagreement.TheVariants as files
 use Rattle.route_top.specs.declared.stop.Stop.{Stop}
 use Rattle.route_top.specs.declared.stop.Stop.TheVariants as stop
 use Rattle.route_top.specs.Outcome.{Outcome, done, bad_words, folder_failed, out_failed, bad_file, bad_files}
-use Rattle.route_top.specs.Outcome.{refused, no_memory, out_wanted}
+use Rattle.route_top.specs.Outcome.{bad_pairs, refused, no_memory, out_wanted}
 use Rattle.route_top.specs.Output.{Runs}
 
 -- the outcome that a reason is
@@ -22,6 +23,7 @@ outcome_of (stop.Out write.Failed) = out_failed
 outcome_of (stop.Out write.OutOfMemory) = out_wanted
 outcome_of (stop.File name line kind) = bad_file name.now line kind
 outcome_of (stop.Files way) = bad_files way
+outcome_of (stop.Pairs name line kind) = bad_pairs name.now line kind
 outcome_of stop.Refused = refused
 outcome_of stop.OutOfMemory = no_memory
 
@@ -49,3 +51,17 @@ IsReply end reply outcome text = (outcome ≡ end) × (text ≡ reply)
 -- what a call does to the sink of replies that leaves the folder alone
 abbrev pub Replies : (Outcome → List ℕ → Type 0) → SinkState → SinkState → Outcome → Type 0
 Replies Ending out replied outcome = (folder : SourceState) → Runs Ending folder folder out replied outcome
+
+-- A reply was sent, or at a fault a part of it from the front.
+pub record SendsReply (Ending : Outcome → List ℕ → Type 0) (out replied : SinkState) (reply : Reply)
+    (result : Result (Unit {0}) WriteFault) : Type 0 where
+  pub text : List ℕ
+  pub ends : Ending (reply_outcome reply) text
+  pub sent : Sends out replied text result
+
+-- what a call does that sends a reply and answers which, unless memory runs out before its first byte
+abbrev pub Replied : (Outcome → List ℕ → Type 0) → SinkState → SinkState → Result Reply Stop → Type 0
+Replied Ending out replied (Ok reply) = SendsReply Ending out replied reply (Ok tt)
+Replied Ending out replied (Err (stop.Out fault)) = (reply : Reply) × SendsReply Ending out replied reply (Err fault)
+Replied Ending out replied (Err stop.OutOfMemory) = replied ≡ out
+Replied Ending out replied (Err stop) = ⊥

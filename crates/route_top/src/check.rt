@@ -7,7 +7,7 @@ ghost use Rattle.route_top.specs.Stops.{Replies, run_outcome};
 ghost use Rattle.route_top.specs.Texts.{check_reply};
 
 use crate::network::read_network;
-use crate::reply::{Reply, kept, put_sizes, send};
+use crate::reply::{kept, put_sizes, send};
 use crate::stop::Stop;
 use arc_graph::Graph;
 use command_words::CheckWords;
@@ -40,7 +40,7 @@ fn reply<'a, K: Sink>(alloc: Global, graph: &Graph, out: &mut K) -> Result<(), S
 {
     let mut text = SureSink::new(alloc);
     put_reply(graph, &mut text)?;
-    send(out, &text, Reply::Answer)
+    send(out, text.sent())
 }
 
 /// Writes the sizes of a network.

@@ -4,27 +4,31 @@
 ghost use Rattle.std.specs.Prelude.{◌≡◌, ◌==◌, ◌⊎◌, ℕ, List, All};
 ghost use Rattle.route_io.specs.Causes.{IsCounted};
 ghost use Rattle.route_io.specs.Sources.{ReadsFrom};
-ghost use Rattle.command_words.specs.Words.{AreWords, BudgetInRange, FilesInRange};
+ghost use Rattle.command_words.specs.Words.{AreWords, EffortInRange, FilesInRange, PlanInRange};
 ghost use Rattle.command_words.specs.Words.{asked_of, names_of, texts_of};
 ghost use Rattle.route_top.specs.Output.{Ends, IsAskedName, Output, Runs, EndsByWords};
 ghost use Rattle.route_top.specs.Stops.{run_outcome};
 
+mod answerer;
+mod batch;
 mod check;
-mod costs;
+mod generate;
 mod network;
 mod pieces;
 mod reply;
+mod single;
 mod status;
 mod stop;
 
 use command_words::{Command, WordsFault, read_words};
-use route_io::{Folder, Sink};
+use route_io::{Folder, Gate, Sink};
 use status::DONE;
 pub use status::WANT_OF_MEMORY;
 use std::alloc::Global;
+use std::thread::Threads;
 use stop::Stop;
 
-/// The most bytes of a weight file.
+/// The most bytes of a file.
 pub const MAX_FILE_SIZE: u64 = 1 << 29;
 
 /// Runs the command that the words ask for over the folder's files, and answers the exit status. Replies go to `out`.
@@ -32,20 +36,23 @@ pub const MAX_FILE_SIZE: u64 = 1 << 29;
 ///
 /// | Status | Comes |
 /// |---|---|
-/// | 0 | the reply was sent |
+/// | 0 | what is asked for was sent |
 /// | 2 | the words are no command's words |
 /// | 3 | the folder failed |
 /// | 4 | `out` failed |
-/// | 5 | a file has a faulty line |
-/// | 6 | the files don't agree |
+/// | 5 | a weight file has a faulty line |
+/// | 6 | the weight files don't agree |
+/// | 7 | the file of pairs has a faulty line |
 /// | 8 | an end of the query is no node, or the query passes its budget; a line on `out` says which |
 /// | 9 | memory ran out |
-pub fn route<F: Folder, K: Sink, E: Sink>(
+pub fn route<R: Threads + Sync, G: Gate, F: Folder, K: Sink, E: Sink>(
+    rt: &R,
     alloc: Global,
     words: &[String],
     folder: &mut F,
     out: &mut K,
     err: &mut E,
+    gate: &G,
 ) -> u8
     requires { (name : List ℕ) → IsAskedName (texts_of words.now) name → F.admits name }
 
@@ -61,7 +68,7 @@ pub fn route<F: Folder, K: Sink, E: Sink>(
     ensures folder { ReadsFrom (F.state folder.old) (F.state folder.new) (result == 3) }
     ensures out { IsCounted (result == 4) (K.state out.old).faults (K.state out.new).faults }
 {
-    match run(alloc, words, folder, out) {
+    match run(rt, alloc, words, folder, out, gate) {
         Ok(()) => DONE,
         Err(stop) => {
             let _ = stop.note(alloc, err);
@@ -71,11 +78,13 @@ pub fn route<F: Folder, K: Sink, E: Sink>(
 }
 
 /// Runs the command, and says why where it isn't done.
-fn run<'a, F: Folder, K: Sink>(
+fn run<'a, R: Threads + Sync, G: Gate, F: Folder, K: Sink>(
+    rt: &R,
     alloc: Global,
     words: &'a [String],
     folder: &mut F,
     out: &mut K,
+    gate: &G,
 ) -> Result<(), Stop<'a>>
     requires { (name : List ℕ) → IsAskedName (texts_of words.now) name → F.admits name }
     ensures { Runs (EndsByWords (texts_of words.entry.now) (F.state folder.old).files)
@@ -83,28 +92,33 @@ fn run<'a, F: Folder, K: Sink>(
         (run_outcome result) }
 {
     match read_words(alloc, words) {
-        Ok(command) => carry_out(alloc, &command, folder, out),
+        Ok(command) => carry_out(rt, alloc, &command, folder, out, gate),
         Err(WordsFault::Refused) => Err(Stop::Words),
         Err(WordsFault::OutOfMemory) => Err(Stop::OutOfMemory),
     }
 }
 
 /// Carries out a command that words ask for.
-fn carry_out<'a, F: Folder, K: Sink>(
+fn carry_out<'a, R: Threads + Sync, G: Gate, F: Folder, K: Sink>(
+    rt: &R,
     alloc: Global,
     command: &Command<'a>,
     folder: &mut F,
     out: &mut K,
+    gate: &G,
 ) -> Result<(), Stop<'a>>
     requires admitted { All F.admits (names_of (asked_of command.now)) }
     requires files { FilesInRange (asked_of command.now) }
-    requires budget { BudgetInRange (asked_of command.now) }
+    requires effort { EffortInRange (asked_of command.now) }
+    requires plan { PlanInRange (asked_of command.now) }
     ensures { Runs (Ends (F.state folder.old).files (asked_of command.now))
         (F.state folder.old) (F.state folder.new) (K.state out.old) (K.state out.new)
         (run_outcome result) }
 {
     match command {
-        Command::Costs(asked) => costs::run(alloc, asked, folder, out),
+        Command::Single(asked) => single::run(rt, alloc, asked, folder, out, gate),
         Command::Check(asked) => check::run(alloc, asked, folder, out),
+        Command::Batch(asked) => batch::run(rt, alloc, asked, folder, out, gate),
+        Command::Gen(asked) => generate::run(alloc, asked, out),
     }
 }

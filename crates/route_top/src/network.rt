@@ -1,6 +1,7 @@
 //! Reads the named files and joins them.
 ghost use Rattle.std.specs.Prelude.{◌≤◌, ◌==◌, length, IfOk, All, map};
-ghost use Rattle.arc_graph.specs.Graph.{Match};
+ghost use Rattle.arc_graph.specs.Graph.{Match, network};
+ghost use Rattle.road_network.specs.Network.{IsNetwork};
 ghost use Rattle.command_words.specs.Ranges.{max_files, min_files};
 ghost use Rattle.gr_reader.specs.Sinks.{JoinerIsReady};
 ghost use Rattle.route_io.specs.Sources.{ReadsFrom};
@@ -16,8 +17,8 @@ use line_text::MAX_LINE;
 use route_io::Folder;
 use std::alloc::Global;
 
-/// The limits of a weight file.
-const LIMITS: FileLimits = FileLimits {
+/// The limits of each file.
+pub(crate) const LIMITS: FileLimits = FileLimits {
     line: MAX_LINE,
     file: MAX_FILE_SIZE,
 };
@@ -31,6 +32,7 @@ pub(crate) fn read_network<'a, F: Folder>(
     requires admitted { All F.admits (map (λ name. name.now) names.now) }
     requires two { min_files ≤ length names.now }
     requires four { length names.now ≤ max_files }
+    ensures is_network { IfOk result (λ r. IsNetwork (network r.0 r.1)) }
     ensures matched { IfOk result (λ r. Match r.0 r.1) }
     ensures read { NetworkRead (F.state folder.old).files
         (map (λ name. name.now) names.now) result }

@@ -1,10 +1,8 @@
 //! Lines that are made of pieces.
-ghost use Rattle.std.specs.List.{flat_map};
 ghost use Rattle.route_io.specs.Sinks.{Sends};
 ghost use Rattle.route_top.specs.Pieces.{line_of, text_of};
 ghost use Rattle.answer_writer.specs.Replies.{and_number};
 
-use cost_vector::Cost;
 use line_text::put_decimal;
 use route_io::sure::SureSink;
 use route_io::{Sink, WriteFault, put_all};
@@ -16,8 +14,6 @@ pub(crate) enum Piece<'a> {
     Text(&'a str),
     /// A space and a number in decimal.
     Number(u64),
-    /// Each component of a cost as such a number.
-    Cost(&'a Cost),
 }
 
 /// Sends the pieces at once, or in order where memory for the whole line is wanting.
@@ -53,18 +49,7 @@ fn put_piece<K: Sink>(sink: &mut K, piece: &Piece<'_>) -> Result<(), WriteFault>
     match piece {
         Piece::Text(text) => put_all(sink, text.as_bytes()),
         Piece::Number(number) => put_number(sink, *number),
-        Piece::Cost(cost) => put_components(sink, cost),
     }
-}
-
-/// Sends each component of a cost.
-fn put_components<K: Sink>(sink: &mut K, cost: &Cost) -> Result<(), WriteFault>
-    ensures { Sends (K.state sink.old) (K.state sink.new) (flat_map and_number cost.now) result }
-{
-    for place in 0..cost.count() {
-        put_number(sink, cost.component(place))?;
-    }
-    Ok(())
 }
 
 /// Sends a space and a number in decimal.

@@ -1,6 +1,6 @@
 //! The exit statuses.
 
-/// The reply was sent.
+/// What is asked for was sent.
 pub const DONE: u8 = 0;
 /// The words are no command's words.
 pub const BAD_WORDS: u8 = 2;
@@ -8,10 +8,12 @@ pub const BAD_WORDS: u8 = 2;
 pub const FOLDER_FAILED: u8 = 3;
 /// `out` failed.
 pub const OUT_FAILED: u8 = 4;
-/// A file has a faulty line.
+/// A weight file has a faulty line.
 pub const BAD_FILE: u8 = 5;
 /// The files don't agree.
 pub const BAD_FILES: u8 = 6;
+/// The file of pairs has a faulty line.
+pub const BAD_PAIRS: u8 = 7;
 /// An end of the query is no node, or the query passes its budget; a line on `out` says which.
 pub const REFUSED: u8 = 8;
 /// Memory ran out.

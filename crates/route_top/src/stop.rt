@@ -1,11 +1,12 @@
 //! Why a run isn't done, with its exit status and its note.
-ghost use Rattle.std.specs.Prelude.{◌≡◌};
+ghost use Rattle.std.specs.Prelude.{◌≡◌, ◌++◌};
 ghost use Rattle.route_io.specs.Sinks.{Sends};
-ghost use Rattle.route_top.specs.Outcome.{bad_file, bad_files, note_of, status_of};
+ghost use Rattle.answer_writer.specs.Replies.{end_line};
+ghost use Rattle.route_top.specs.Outcome.{bad_files, note_of, status_of, told_line};
 
 use crate::pieces::{Piece, put_line};
 use crate::status::{
-    BAD_FILE, BAD_FILES, BAD_WORDS, FOLDER_FAILED, OUT_FAILED, REFUSED, WANT_OF_MEMORY,
+    BAD_FILE, BAD_FILES, BAD_PAIRS, BAD_WORDS, FOLDER_FAILED, OUT_FAILED, REFUSED, WANT_OF_MEMORY,
 };
 use arc_graph::JoinFault;
 use cost_vector::OutOfMemory;
@@ -34,13 +35,19 @@ pub(crate) enum Stop<'a> {
     },
     /// `out` failed or wanted memory.
     Out(WriteFault),
-    /// This file has a faulty line.
+    /// This weight file has a faulty line.
     File {
         name: &'a str,
         line: u64,
         kind: LineKind,
     },
     Files(Disagreement),
+    /// This file of pairs has a faulty line.
+    Pairs {
+        name: &'a str,
+        line: u64,
+        kind: LineKind,
+    },
     /// A line on `out` says why.
     Refused,
     OutOfMemory,
@@ -59,6 +66,7 @@ impl Stop<'_> {
             Stop::Out(WriteFault::Failed) => OUT_FAILED,
             Stop::File { .. } => BAD_FILE,
             Stop::Files(_) => BAD_FILES,
+            Stop::Pairs { .. } => BAD_PAIRS,
             Stop::Refused => REFUSED,
             Stop::Out(WriteFault::OutOfMemory) | Stop::OutOfMemory => WANT_OF_MEMORY,
         }
@@ -80,8 +88,13 @@ impl Stop<'_> {
                 )
             }
             Stop::Out(WriteFault::Failed) => put_all(err, b"route: out\n"),
-            Stop::File { name, line, kind } => note_line(alloc, err, name, *line, *kind),
+            Stop::File { name, line, kind } => {
+                note_line(alloc, err, "route: file ", name, *line, *kind)
+            }
             Stop::Files(way) => note_disagreement(alloc, err, *way),
+            Stop::Pairs { name, line, kind } => {
+                note_line(alloc, err, "route: pairs ", name, *line, *kind)
+            }
             Stop::Refused => Ok(()),
             Stop::Out(WriteFault::OutOfMemory) | Stop::OutOfMemory => {
                 put_all(err, b"route: memory\n")
@@ -90,23 +103,24 @@ impl Stop<'_> {
     }
 }
 
-/// Sends the note on a faulty line.
-fn note_line<E: Sink>(
+/// Sends the note on a faulty line, which begins with this head.
+fn note_line<'x, E: Sink>(
     alloc: Global,
     err: &mut E,
-    name: &str,
+    head: &'x str,
+    name: &'x str,
     line: u64,
     kind: LineKind,
 ) -> Result<(), WriteFault>
     ensures { Sends (E.state err.old) (E.state err.new)
-        (note_of (bad_file name.now line kind)) result }
+        (head.now ++ told_line name.now line kind ++ end_line) result }
 {
     use Piece::{Number, Text};
     put_line(
         alloc,
         err,
         &[
-            Text("route: file "),
+            Text(head),
             Text(name),
             Text(" line"),
             Number(line),
@@ -156,6 +170,17 @@ fn note_disagreement<E: Sink>(
                 Text("\n"),
             ],
         ),
+    }
+}
+
+impl From<WriteFault> for Stop<'_> {
+    ghost use Rattle.std.specs.Prelude.{◌≡◌};
+    ghost use Rattle.route_top.specs.declared.stop.Stop.TheVariants as stop;
+
+    ghost from_gives = { λ fault s. s ≡ stop.Out fault };
+
+    fn from(fault: WriteFault) -> Self {
+        Stop::Out(fault)
     }
 }
 

@@ -1,4 +1,6 @@
-use command_words::{Command, CostsWords, WordsFault, read_words};
+use command_words::{
+    AnswerKind, BatchWords, Command, GenWords, SingleWords, WordsFault, read_words,
+};
 use std::alloc::{AllocError, Global};
 use std::process::Abort;
 use std::test::Fail;
@@ -17,14 +19,36 @@ fn read(alloc: Global, line: &str) -> Result<String, AllocError> {
 
 fn shown(alloc: Global, command: &Command) -> Result<String, AllocError> {
     match command {
-        Command::Costs(costs) => shown_costs(alloc, costs),
+        Command::Single(asked) => shown_single(alloc, asked),
         Command::Check(check) => format!(in alloc; "check {:?}", check.files),
+        Command::Batch(asked) => shown_batch(alloc, asked),
+        Command::Gen(asked) => shown_gen(alloc, asked),
     }
 }
 
-fn shown_costs(alloc: Global, costs: &CostsWords) -> Result<String, AllocError> {
-    let (from, to, budget) = (costs.query.from, costs.query.to, costs.query.budget);
-    format!(in alloc; "{from} {to} {budget} {:?}", costs.files)
+fn shown_single(alloc: Global, asked: &SingleWords) -> Result<String, AllocError> {
+    let shown = match asked.kind {
+        AnswerKind::Costs => "costs",
+        AnswerKind::Walks => "walks",
+    };
+    let (from, to, effort) = (asked.query.from, asked.query.to, asked.query.effort);
+    let (budget, workers) = (effort.budget, effort.workers);
+    format!(in alloc; "{shown} {from} {to} {budget} {workers} {:?}", asked.files)
+}
+
+fn shown_batch(alloc: Global, asked: &BatchWords) -> Result<String, AllocError> {
+    let (budget, workers) = (asked.effort.budget, asked.effort.workers);
+    format!(in alloc;
+        "batch {:?} {budget} {workers} {:?}",
+        asked.pairs, asked.files
+    )
+}
+
+fn shown_gen(alloc: Global, asked: &GenWords) -> Result<String, AllocError> {
+    let (plan, file) = (asked.plan, asked.file.unwrap_or(u32::MAX));
+    let (start, side, criteria, pairs) = (plan.start, plan.side, plan.criteria, plan.pairs);
+    let (budget, workers) = (asked.effort.budget, asked.effort.workers);
+    format!(in alloc; "{start} {side} {criteria} {pairs} {file} {budget} {workers}")
 }
 
 /// The words of the line ask for this.
@@ -34,41 +58,43 @@ fn assert_read(rt: &impl Abort, alloc: Global, line: &str, asked: &str) -> Resul
     Ok(())
 }
 
-/// `costs` and the words of the line ask for this.
-fn assert_costs(rt: &impl Abort, alloc: Global, line: &str, asked: &str) -> Result<(), AllocError> {
-    let line = format!(in alloc; "costs {line}")?;
-    assert_read(rt, alloc, &line, asked)
-}
-
-/// Words behind `costs`, and what they ask for.
-const ASKED_COSTS: &[(&str, &str)] = &[
+/// Words behind `costs` and `one`, and what they ask for: the ends, the budget, the workers and the files.
+const ASKED_SINGLE: &[(&str, &str)] = &[
     (
         "--from 1 --to 4 A.gr B.gr",
-        r#"1 4 10000000 ["A.gr", "B.gr"]"#,
+        r#"1 4 10000000 1 ["A.gr", "B.gr"]"#,
     ),
     (
         "--to=4 --from=01 A.gr B.gr",
-        r#"1 4 10000000 ["A.gr", "B.gr"]"#,
+        r#"1 4 10000000 1 ["A.gr", "B.gr"]"#,
     ),
     (
         "A --budget 7 B --to 4 C --from 1 D",
-        r#"1 4 7 ["A", "B", "C", "D"]"#,
+        r#"1 4 7 1 ["A", "B", "C", "D"]"#,
     ),
     (
         "--from 1 --to 4 -- -x.gr --",
-        r#"1 4 10000000 ["-x.gr", "--"]"#,
+        r#"1 4 10000000 1 ["-x.gr", "--"]"#,
     ),
-    ("--from 1 --to 4 - ", r#"1 4 10000000 ["-", ""]"#),
+    ("--from 1 --to 4 - ", r#"1 4 10000000 1 ["-", ""]"#),
     (
         "--from 4294967295 --to 0 --budget 50000000 A B",
-        r#"4294967295 0 50000000 ["A", "B"]"#,
+        r#"4294967295 0 50000000 1 ["A", "B"]"#,
+    ),
+    (
+        "--workers 64 A B --from 1 --to 1 --budget 1",
+        r#"1 1 1 64 ["A", "B"]"#,
     ),
 ];
 
 #[test]
-fn reads_the_words_of_costs(rt: HostRuntime) -> Result<(), Fail> {
-    for (line, asked) in ASKED_COSTS {
-        assert_costs(&rt, rt.alloc(), line, asked)?;
+fn reads_the_words_of_one_query(rt: HostRuntime) -> Result<(), Fail> {
+    let alloc = rt.alloc();
+    for (line, asked) in ASKED_SINGLE {
+        let costs = format!(in alloc; "costs {asked}")?;
+        assert_read(&rt, alloc, &format!(in alloc; "costs {line}")?, &costs)?;
+        let walks = format!(in alloc; "walks {asked}")?;
+        assert_read(&rt, alloc, &format!(in alloc; "one {line}")?, &walks)?;
     }
     Ok(())
 }
@@ -89,8 +115,85 @@ fn reads_the_words_of_check(rt: HostRuntime) -> Result<(), Fail> {
     Ok(())
 }
 
-/// Words behind `costs` that are those of no command.
-const OTHER_COSTS: &[&str] = &[
+/// Words behind `batch`, and what they ask for: the file of pairs, the budget, the workers and the files.
+const ASKED_BATCH: &[(&str, &str)] = &[
+    (
+        "--pairs P A.gr B.gr",
+        r#"batch "P" 10000000 1 ["A.gr", "B.gr"]"#,
+    ),
+    (
+        "A B --workers=3 C --budget=4 --pairs=17 D",
+        r#"batch "17" 4 3 ["A", "B", "C", "D"]"#,
+    ),
+    ("--pairs= -- A -B", r#"batch "" 10000000 1 ["A", "-B"]"#),
+];
+
+#[test]
+fn reads_the_words_of_batch(rt: HostRuntime) -> Result<(), Fail> {
+    let alloc = rt.alloc();
+    for (line, asked) in ASKED_BATCH {
+        assert_read(&rt, alloc, &format!(in alloc; "batch {line}")?, asked)?;
+    }
+    Ok(())
+}
+
+/// Words behind `gen`, and what they ask for: start, side, criteria, pairs, file, budget and workers.
+const ASKED_GEN: &[(&str, &str)] = &[
+    (
+        "--start 1 --side 2 --criteria 2 --pairs 1 --file 0",
+        "1 2 2 1 0 10000000 1",
+    ),
+    (
+        "--file=4 --pairs=500 --criteria=4 --side=1000 --start=4294967295",
+        "4294967295 1000 4 500 4 10000000 1",
+    ),
+    (
+        "--start 0 --side 2 --criteria 3 --pairs 1 --file 03 --workers 64 --budget 50000000",
+        "0 2 3 1 3 50000000 64",
+    ),
+    (
+        "--start 0 --side 2 --criteria 3 --pairs 1 --file 3 --workers 1 --budget 1",
+        "0 2 3 1 3 1 1",
+    ),
+];
+
+#[test]
+fn reads_the_words_of_gen(rt: HostRuntime) -> Result<(), Fail> {
+    let alloc = rt.alloc();
+    for (line, asked) in ASKED_GEN {
+        assert_read(&rt, alloc, &format!(in alloc; "gen {line}")?, asked)?;
+    }
+    Ok(())
+}
+
+/// Words behind `gen` that are those of no command.
+const OTHER_GEN: &[&str] = &[
+    "--start 1 --side 2 --criteria 2 --pairs 1",
+    "--start 1 --side 2 --criteria 2 --pairs 1 --file 3",
+    "--start 1 --side 2 --criteria 4 --pairs 1 --file 5",
+    "--start 1 --side 2 --criteria 2 --pairs 1 --file 0 A.gr",
+    "--start 1 --side 2 --criteria 2 --pairs 1 --file 0 --file 0",
+    "--start 1 --side 2 --criteria 2 --pairs 1 --file +0",
+    "--start 1 --side 2 --criteria 2 --pairs P --file 0",
+    "--start 4294967296 --side 2 --criteria 2 --pairs 1 --file 0",
+    "--start 1 --side 1 --criteria 2 --pairs 1 --file 0",
+    "--start 1 --side 1001 --criteria 2 --pairs 1 --file 0",
+    "--start 1 --side 2 --criteria 1 --pairs 1 --file 0",
+    "--start 1 --side 2 --criteria 5 --pairs 1 --file 0",
+    "--start 1 --side 2 --criteria 2 --pairs 0 --file 0",
+    "--start 1 --side 2 --criteria 2 --pairs 501 --file 0",
+    "--start 1 --side 2 --criteria 2 --pairs 1 --file 0 --budget 0",
+    "--start 1 --side 2 --criteria 2 --pairs 1 --file 0 --budget 50000001",
+    "--start 1 --side 2 --criteria 2 --pairs 1 --file 0 --workers 0",
+    "--start 1 --side 2 --criteria 2 --pairs 1 --file 0 --workers 65",
+    "--start 1 --side 2 --criteria 2 --file 0",
+    "--start 1 --side 2 --pairs 1 --file 0",
+    "--start 1 --criteria 2 --pairs 1 --file 0",
+    "--side 2 --criteria 2 --pairs 1 --file 0",
+];
+
+/// Words behind `costs` and `one` that are those of no command.
+const OTHER_SINGLE: &[&str] = &[
     "--from 1 A B",
     "--from 1 --to 4 A",
     "--from 1 --to 4 A B C D E",
@@ -104,6 +207,9 @@ const OTHER_COSTS: &[&str] = &[
     "--from 1 --to 4 -x A B",
     "--from -1 --to 4 A B",
     "--from 1 --to 4 --help A B",
+    "--from 1 --to 4 --workers 0 A B",
+    "--from 1 --to 4 --workers 65 A B",
+    "--from 1 --to 4 --pairs P A B",
 ];
 
 /// Words that are those of no command.
@@ -115,16 +221,36 @@ const OTHERS: &[&str] = &[
     "check --help A B",
     "Check A B",
     "path A.gr B.gr",
+    "check --workers 2 A B",
     "Costs --from 1 --to 4 A B",
+    "batch A B",
+    "batch --pairs P A",
+    "batch --pairs P A B C D E",
+    "batch --pairs P --pairs Q A B",
+    "batch --pairs P --from 1 A B",
+    "batch --pairs P --workers 65 A B",
+    "batch --pairs P --budget 0 A B",
+    "batch --pairs -x A B",
     "",
 ];
 
 const REFUSED: &str = "the words are those of no command";
 
 #[test]
-fn refuses_other_words_of_costs(rt: HostRuntime) -> Result<(), Fail> {
-    for line in OTHER_COSTS {
-        assert_costs(&rt, rt.alloc(), line, REFUSED)?;
+fn refuses_other_words_of_one_query(rt: HostRuntime) -> Result<(), Fail> {
+    let alloc = rt.alloc();
+    for line in OTHER_SINGLE {
+        assert_read(&rt, alloc, &format!(in alloc; "costs {line}")?, REFUSED)?;
+        assert_read(&rt, alloc, &format!(in alloc; "one {line}")?, REFUSED)?;
+    }
+    Ok(())
+}
+
+#[test]
+fn refuses_other_words_of_gen(rt: HostRuntime) -> Result<(), Fail> {
+    let alloc = rt.alloc();
+    for line in OTHER_GEN {
+        assert_read(&rt, alloc, &format!(in alloc; "gen {line}")?, REFUSED)?;
     }
     Ok(())
 }

@@ -7,10 +7,25 @@ pub(super) const A: &str = "p sp 4 6\na 1 2 1\na 1 3 2\na 2 4 1\na 3 4 2\na 2 3 
 pub(super) const B: &str = "p sp 4 6\na 1 2 4\na 1 3 1\na 2 4 4\na 3 4 1\na 2 3 1\na 1 4 9\n";
 
 /// The same arcs, each of weight 1.
-const ONES: &str = "p sp 4 6\na 1 2 1\na 1 3 1\na 2 4 1\na 3 4 1\na 2 3 1\na 1 4 1\n";
+pub(super) const ONES: &str = "p sp 4 6\na 1 2 1\na 1 3 1\na 2 4 1\na 3 4 1\na 2 3 1\na 1 4 1\n";
 
 /// `B` with two of its arcs exchanged.
-const EXCHANGED: &str = "p sp 4 6\na 1 2 4\na 2 4 4\na 1 3 1\na 3 4 1\na 2 3 1\na 1 4 9\n";
+pub(super) const EXCHANGED: &str =
+    "p sp 4 6\na 1 2 4\na 2 4 4\na 1 3 1\na 3 4 1\na 2 3 1\na 1 4 9\n";
+
+/// `A` as the challenge writes files: CRLF, comments, a blank line, tabs, blanks at a line's end and leading zeros.
+pub(super) const DRESSED: &str = "\
+c 9th DIMACS Implementation Challenge: Shortest Paths\r\n\
+c\r\n\
+\r\n\
+p sp 4 6\r\n\
+c six arcs\r\n\
+a\t1\t2\t0001\r\n\
+a 1 3 2 \r\n\
+\x20 a 2  4 1\r\n\
+a 3 4 2\r\n\
+a 2 3 1\r\n\
+a 1 4 9\r\n";
 
 /// The two files of the six arcs.
 pub(super) const SIX_ARCS: &[(&str, &str)] = &[("A.gr", A), ("B.gr", B)];
@@ -186,16 +201,10 @@ pub(super) const ROWS: &[Row] = &[
         out: "r 0 1 1 1\nv 0 0\n",
         err: "",
     },
-    // A file as the challenge has them: CRLF, comments, a blank line, tabs, blanks at a line's end and leading zeros.
+    // A file as the challenge has them.
     Row {
         words: FIRST,
-        files: &[
-            (
-                "A.gr",
-                "c 9th DIMACS Implementation Challenge: Shortest Paths\r\nc\r\n\r\np sp 4 6\r\nc six arcs\r\na\t1\t2\t0001\r\na 1 3 2 \r\n  a 2  4 1\r\na 3 4 2\r\na 2 3 1\r\na 1 4 9\r\n",
-            ),
-            ("B.gr", B),
-        ],
+        files: &[("A.gr", DRESSED), ("B.gr", B)],
         status: 0,
         out: "r 0 1 4 2\nv 2 8\nv 4 2\n",
         err: "",
@@ -464,7 +473,7 @@ pub(super) const ROWS: &[Row] = &[
         err: "route: words\n",
     },
     Row {
-        words: "costs --from 1 --to 4 --workers 2 A.gr B.gr",
+        words: "costs --from 1 --to 4 --workers 65 A.gr B.gr",
         files: SIX_ARCS,
         status: 2,
         out: "",
@@ -485,7 +494,7 @@ pub(super) const ROWS: &[Row] = &[
         err: "route: words\n",
     },
     Row {
-        words: "one --from 1 --to 4 A.gr B.gr",
+        words: "batch A.gr B.gr",
         files: SIX_ARCS,
         status: 2,
         out: "",

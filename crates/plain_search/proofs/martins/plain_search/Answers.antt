@@ -1,7 +1,7 @@
 use Rattle.std.proofs.Common.{◌≢◌, [], refl, rules, inl, inr}
 use Rattle.std.proofs.lemmas.Bool.{false≢true}
 use Rattle.arc_graph.proofs.RelaxLaws.{network_of}
-use Rattle.plain_search.specs.Query.{IsPosed}
+use Rattle.route_query.specs.Query.{IsPosed}
 use Rattle.plain_search.specs.Search.{task_of}
 use Rattle.plain_search.proofs.StepLemmas.{search_begins}
 use Rattle.plain_search.proofs.SearchLemmas.{answer, passed}

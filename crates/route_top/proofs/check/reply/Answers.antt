@@ -12,4 +12,4 @@ returns-in_err-put_reply g c =
 
 pub returns : goal.returns
 returns g c = replies_so (TellsSizes c.args.graph.now.nodes (length c.args.graph.now.ends) c.args.graph.now.criteria) done _ _ _ _
-    c.in_ok-put_reply.ensures c.send.ensures
+    c.in_ok-put_reply.ensures (rw c.sent.ensures at c.send.ensures)

@@ -12,4 +12,4 @@ returns-in_err-graph g c =
 pub returns : goal.returns
 returns g c =
     let read = rw c.deref.ensures.value at c.in_ok-graph.ensures.read in
-    ends_over CheckReplies _ _ _ _ _ _ _ read c.in_ok-graph.ensures.folder c.reply.ensures
+    ends_over CheckReplies _ _ _ _ _ _ _ _ read c.in_ok-graph.ensures.folder (c.reply.ensures _)

@@ -1,11 +1,12 @@
-use Rattle.route_top.specs.Stops.{reply_outcome}
-use Rattle.route_top.proofs.RunsLemmas.{sent_reply, sent_part}
+use Rattle.std.proofs.lemmas.Result.{err_from_is_err_and}
+use Rattle.route_top.specs.Outcome.{done}
+use Rattle.route_top.proofs.RunsLemmas.{sent_done, sent_part}
 use Rattle.route_top.proofs.reply.send.Goals as goal
 
-pub returns-in-Ok : goal.returns-in-Ok
-returns-in-Ok g c =
-    rw c.end.ensures (sent_reply c.args.reply c.args.text.now.sent _ _ (rw (c.in-Ok.is, c.sent.ensures) at c.put_all.ensures))
+pub returns-in_err-put_all : goal.returns-in_err-put_all
+returns-in_err-put_all g c =
+    let p = err_from_is_err_and c.from_residual.result c.from_residual.ensures.1 in
+    rw (p.1, p.2) (sent_part done c.args.text.now _ _ _ c.in_err-put_all.ensures)
 
-pub returns-in-Err : goal.returns-in-Err
-returns-in-Err g c =
-    sent_part (reply_outcome c.args.reply) c.args.text.now.sent _ _ c.in-Err.fault (rw (c.in-Err.is, c.sent.ensures) at c.put_all.ensures)
+pub returns : goal.returns
+returns g c = sent_done c.args.text.now _ _ c.in_ok-put_all.ensures

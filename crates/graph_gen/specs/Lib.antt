@@ -1,0 +1,5 @@
+pub mod Plans
+pub mod Grids
+pub mod Sequence
+pub mod Texts
+pub mod Writing

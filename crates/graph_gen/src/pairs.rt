@@ -1,0 +1,51 @@
+//! The file of pairs.
+ghost use Rattle.std.specs.Prelude.{◌≡◌, ◌≤◌, ◌++◌, IfOk, OnOk};
+ghost use Rattle.graph_gen.specs.Grids.{IsOnGrid};
+ghost use Rattle.graph_gen.specs.Plans.{IsPlan};
+ghost use Rattle.graph_gen.specs.Texts.{diagonal_node, pair_line, pairs_text, reach, start_row};
+
+use crate::GenPlan;
+use crate::grid::Place;
+use crate::line::put_line;
+use cost_vector::OutOfMemory;
+use std::alloc::Global;
+
+/// Room for the longest line: the word, two nodes of up to seven digits, two blanks and the LF; also for the first line.
+const LINE_ROOM: usize = 18;
+
+/// The most rows, and columns, that a pair leads on.
+const MAX_REACH: u32 = 4;
+
+/// Makes the file of pairs.
+pub(crate) fn pairs_file(alloc: Global, plan: &GenPlan) -> Result<Vec<u8>, OutOfMemory>
+    requires { IsPlan plan.now }
+    ensures { IfOk result (λ file. file.items ≡ pairs_text plan.now) }
+{
+    let mut text = Vec::with_capacity(alloc, LINE_ROOM * (1 + plan.pairs as usize))?;
+    put_line(&mut text, b"p aux sp p2p", &[plan.pairs])?;
+    for number in 1..plan.pairs + 1 {
+        put_pair(&mut text, plan, number)?;
+    }
+    Ok(text)
+}
+
+/// Puts the pair of this number, from 1.
+fn put_pair(text: &mut Vec<u8>, plan: &GenPlan, number: u32) -> Result<(), OutOfMemory>
+    requires plan { IsPlan plan.now }
+    requires some { 1 ≤ number }
+    requires number { number ≤ plan.now.pairs }
+    ensures { OnOk result (text.new.items ≡ text.old.items ++ pair_line plan.now number) }
+{
+    let reach = MAX_REACH.min(plan.side - 1);
+    let start = (number - 1) * (plan.side - 1 - reach) / plan.pairs;
+    let (from, to) = (on_diagonal(start), on_diagonal(start + reach));
+    put_line(text, b"q", &[from.node(plan.side), to.node(plan.side)])
+}
+
+/// The place in this row and column.
+fn on_diagonal(row: u32) -> Place
+    ensures row { result.row ≡ row }
+    ensures column { result.column ≡ row }
+{
+    Place { row, column: row }
+}

@@ -1,0 +1,12 @@
+//! One query, answered by bulk rounds (Sanders and Mandow 2013) whose work any number of workers share.
+//!
+//! Each round settles all labels that no waiting label dominates. Their arcs are relaxed, and what comes of that is merged
+//! into the fronts of the nodes, piece by piece, by whoever draws the piece: the answer is the same for every number of
+//! workers and whichever of them does which piece.
+#![tactic(auto)]
+
+mod findings;
+mod query;
+
+pub use findings::Findings;
+pub use query::{search, search_counted};

@@ -1,0 +1,192 @@
+//! The rows of batches, and each failing call of a batch.
+use super::rows::{A, B, EXCHANGED};
+use super::{Outside, Row, Wanted, ample, assert_run, bounded, failing, files_of, folder_of};
+use route_io::memory::{MemoryFolder, MemorySink};
+use std::alloc::{AllocError, Global};
+use std::test::Fail;
+
+/// The words of a batch over the six arcs.
+const WORDS: &str = "batch --pairs P A.gr B.gr";
+
+/// Three pairs, of which the last has an end that is no node.
+const PAIRS: &str = "p aux sp p2p 3\nq 1 4\nq 4 1\nq 9 1\n";
+
+/// The six arcs and the three pairs.
+const FILES: &[(&str, &str)] = &[("A.gr", A), ("B.gr", B), ("P", PAIRS)];
+
+/// The replies to the three pairs.
+const REPLIES: [&str; 3] = [
+    "r 0 1 4 2\np 2 8 2 1 3\np 4 2 2 2 4\n",
+    "r 0 4 1 0\n",
+    "x 0 9 1 node\n",
+];
+
+/// All of them.
+const OUT: &str = "r 0 1 4 2\np 2 8 2 1 3\np 4 2 2 2 4\nr 0 4 1 0\nx 0 9 1 node\n";
+
+pub(super) const ROWS: &[Row] = &[
+    Row {
+        words: WORDS,
+        files: FILES,
+        status: 0,
+        out: OUT,
+        err: "",
+    },
+    // A refused pair ends nothing: the first passes the budget.
+    Row {
+        words: "batch --pairs P --budget 4 A.gr B.gr",
+        files: &[
+            ("A.gr", A),
+            ("B.gr", B),
+            ("P", "p aux sp p2p 2\nq 1 4\nq 4 1\n"),
+        ],
+        status: 0,
+        out: "x 0 1 4 budget\nr 0 4 1 0\n",
+        err: "",
+    },
+    // A pair that comes twice, and no pair at all.
+    Row {
+        words: WORDS,
+        files: &[
+            ("A.gr", A),
+            ("B.gr", B),
+            ("P", "c two\np aux sp p2p 2\nq 2 2\n\nq 2 2"),
+        ],
+        status: 0,
+        out: "r 0 2 2 1\np 0 0 0\nr 0 2 2 1\np 0 0 0\n",
+        err: "",
+    },
+    Row {
+        words: WORDS,
+        files: &[("A.gr", A), ("B.gr", B), ("P", "p aux sp p2p 0\n")],
+        status: 0,
+        out: "",
+        err: "",
+    },
+    // Faulty files of pairs: cut, a node that is none, and a file of weights.
+    Row {
+        words: WORDS,
+        files: &[("A.gr", A), ("B.gr", B), ("P", "p aux sp p2p 2\nq 1 4\n")],
+        status: 7,
+        out: "",
+        err: "route: pairs P line 3 kind 7\n",
+    },
+    Row {
+        words: WORDS,
+        files: &[
+            ("A.gr", A),
+            ("B.gr", B),
+            ("P", "p aux sp p2p 2\nq 1 4\nq 0 1\n"),
+        ],
+        status: 7,
+        out: "",
+        err: "route: pairs P line 3 kind 5\n",
+    },
+    Row {
+        words: "batch --pairs A.gr A.gr B.gr",
+        files: FILES,
+        status: 7,
+        out: "",
+        err: "route: pairs A.gr line 1 kind 1\n",
+    },
+    // The weight files come before the file of pairs, and so does that they agree.
+    Row {
+        words: "batch --pairs N A.gr P",
+        files: FILES,
+        status: 5,
+        out: "",
+        err: "route: file P line 1 kind 1\n",
+    },
+    Row {
+        words: "batch --pairs N A.gr C.gr",
+        files: &[("A.gr", A), ("C.gr", EXCHANGED)],
+        status: 6,
+        out: "",
+        err: "route: files ends arc 2 file 2\n",
+    },
+    Row {
+        words: "batch --pairs N A.gr B.gr",
+        files: FILES,
+        status: 3,
+        out: "",
+        err: "route: folder N\n",
+    },
+];
+
+/// The batch over a folder whose call of this number fails.
+fn failing_folder(alloc: Global, call: u64) -> Result<Outside, AllocError> {
+    let folder = MemoryFolder::new(files_of(alloc, FILES)?, vec![in alloc; call]?);
+    Ok(Outside::of_folder(alloc, folder))
+}
+
+/// What is wanted where the call of this number fails: each of three files is selected, read, and read to its end.
+fn wanted_of_call(call: u64) -> Wanted<'static> {
+    let note = match call {
+        0..=2 => "route: folder A.gr\n",
+        3..=5 => "route: folder B.gr\n",
+        6..=8 => "route: folder P\n",
+        _ => return wanted(0, OUT, ""),
+    };
+    wanted(3, "", note)
+}
+
+/// What is wanted of the batch.
+fn wanted<'a>(status: u8, out: &'a str, err: &'a str) -> Wanted<'a> {
+    Wanted {
+        words: WORDS,
+        status,
+        out: out.as_bytes(),
+        err: err.as_bytes(),
+    }
+}
+
+#[test]
+fn each_failing_call_of_the_folder_is_told(rt: HostRuntime) -> Result<(), Fail> {
+    for call in 0..20u64 {
+        let mut outside = failing_folder(rt.alloc(), call)?;
+        let wanted = wanted_of_call(call);
+        assert_run(&rt, rt.alloc(), &wanted, call as usize, &mut outside)?;
+    }
+    Ok(())
+}
+
+/// The batch with this sink for its replies.
+fn batch_to(alloc: Global, out: MemorySink) -> Result<Outside, AllocError> {
+    Ok(Outside {
+        folder: folder_of(alloc, FILES)?,
+        out,
+        err: ample(alloc),
+    })
+}
+
+#[test]
+fn a_full_out_has_the_front_of_the_replies(rt: HostRuntime) -> Result<(), Fail> {
+    for bound in 0..OUT.len() {
+        let mut outside = batch_to(rt.alloc(), bounded(rt.alloc(), bound))?;
+        let wanted = Wanted {
+            words: WORDS,
+            status: 4,
+            out: &OUT.as_bytes()[..bound],
+            err: b"route: out\n",
+        };
+        assert_run(&rt, rt.alloc(), &wanted, bound, &mut outside)?;
+    }
+    Ok(())
+}
+
+#[test]
+fn each_failing_call_of_out_is_told(rt: HostRuntime) -> Result<(), Fail> {
+    let mut sent = 0;
+    for (call, reply) in REPLIES.iter().enumerate() {
+        let mut outside = batch_to(rt.alloc(), failing(rt.alloc(), call as u64)?)?;
+        let wanted = Wanted {
+            words: WORDS,
+            status: 4,
+            out: &OUT.as_bytes()[..sent],
+            err: b"route: out\n",
+        };
+        assert_run(&rt, rt.alloc(), &wanted, call, &mut outside)?;
+        sent += reply.len();
+    }
+    Ok(())
+}

@@ -1,0 +1,104 @@
+//! The command `batch`.
+ghost use Rattle.std.specs.Prelude.{◌≡◌, ◌==◌, All};
+ghost use Rattle.road_network.specs.Network.{IsNetwork};
+ghost use Rattle.arc_graph.specs.Graph.{Match, network};
+ghost use Rattle.command_words.specs.Words.{FilesInRange, IsEffort, batch, batch_asked, names_of};
+ghost use Rattle.route_io.specs.Sources.{ReadsFrom};
+ghost use Rattle.route_top.specs.Batch.{PairsReplies, query_between};
+ghost use Rattle.route_top.specs.Outcome.{status_of};
+ghost use Rattle.route_top.specs.Output.{Ends, Runs};
+ghost use Rattle.route_top.specs.ReadResults.{PairsRead};
+ghost use Rattle.route_top.specs.Stops.{Replies, run_outcome};
+
+use crate::answerer::Answerer;
+use crate::network::{LIMITS, read_network};
+use crate::stop::Stop;
+use command_words::{AnswerKind, BatchWords, Effort, Query};
+use gr_reader::FileFault;
+use path_readback::Room;
+use query_reader::{Pair, read_p2p};
+use route_io::{Folder, Gate, Sink};
+use std::alloc::Global;
+use std::thread::Threads;
+
+/// Answers a query for each pair of the file of pairs over the named files.
+pub(crate) fn run<'a, R: Threads + Sync, G: Gate, F: Folder, K: Sink>(
+    rt: &R,
+    alloc: Global,
+    asked: &BatchWords<'a>,
+    folder: &mut F,
+    out: &mut K,
+    gate: &G,
+) -> Result<(), Stop<'a>>
+    requires admitted { All F.admits (names_of (batch (batch_asked asked.now))) }
+    requires files { FilesInRange (batch (batch_asked asked.now)) }
+    requires effort { IsEffort asked.now.effort }
+    ensures { Runs (Ends (F.state folder.old).files (batch (batch_asked asked.now)))
+        (F.state folder.old) (F.state folder.new) (K.state out.old) (K.state out.new)
+        (run_outcome result) }
+{
+    let (graph, weights) = read_network(alloc, folder, &asked.files)?;
+    let mut room = Room::with(alloc, 0)?;
+    let pairs = read_pairs(alloc, folder, asked.pairs)?;
+    let answerer = Answerer {
+        rt,
+        alloc,
+        gate,
+        graph: &graph,
+        weights: &weights,
+    };
+    answerer.reply_each(asked.effort, &pairs, &mut room, out)
+}
+
+/// Reads the file of pairs.
+fn read_pairs<'a, F: Folder>(
+    alloc: Global,
+    folder: &mut F,
+    name: &'a str,
+) -> Result<Vec<Pair>, Stop<'a>>
+    requires { F.admits name.now }
+    ensures read { PairsRead (F.state folder.old).files name.now result }
+    ensures folder { ReadsFrom (F.state folder.old) (F.state folder.new)
+        (status_of (run_outcome result) == 3) }
+{
+    let Ok(()) = folder.select(name) else {
+        return Err(Stop::Folder { name });
+    };
+    match read_p2p(alloc, folder, LIMITS) {
+        Ok(pairs) => Ok(pairs),
+        Err(FileFault::Line { kind, line }) => Err(Stop::Pairs { name, line, kind }),
+        Err(FileFault::Read) => Err(Stop::Folder { name }),
+        Err(FileFault::OutOfMemory) => Err(Stop::OutOfMemory),
+    }
+}
+
+impl<R: Threads + Sync, G: Gate> Answerer<'_, R, G> {
+    /// Sends the reply to each pair in order. A refused pair ends nothing, and the room serves all pairs.
+    fn reply_each<'a, K: Sink>(
+        &self,
+        effort: Effort,
+        pairs: &[Pair],
+        room: &mut Room,
+        out: &mut K,
+    ) -> Result<(), Stop<'a>>
+        requires network { IsNetwork (network self.now.graph.now self.now.weights.now) }
+        requires matched { Match self.now.graph.now self.now.weights.now }
+        requires effort { IsEffort effort }
+        ensures { Replies (PairsReplies effort (network self.now.graph.now self.now.weights.now)
+            pairs.now) (K.state out.old) (K.state out.new) (run_outcome result) }
+    {
+        for pair in pairs {
+            let query = query_between(effort, *pair);
+            self.reply(AnswerKind::Walks, &query, room, out)?;
+        }
+        Ok(())
+    }
+}
+
+/// The query from one node of a pair to the other.
+fn query_between(effort: Effort, pair: Pair) -> Query
+    ensures { result ≡ query_between effort pair }
+{
+    let (from, to) = (pair.from, pair.to);
+    Query { from, to, effort }
+}

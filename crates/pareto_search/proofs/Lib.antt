@@ -1,1 +1,5 @@
 pub mod TaskLemmas
+pub mod EndLemmas
+pub mod RelaxLemmas
+pub mod RunLemmas
+pub mod LoopLemmas

@@ -1,2 +1,3 @@
 pub mod Findings
 pub mod Counting
+pub mod Rounds

@@ -6,7 +6,10 @@
 #![tactic(auto)]
 
 mod findings;
+mod pieces;
 mod query;
+mod rounds;
 
 pub use findings::Findings;
+pub use pieces::rounds_end_alike_for_all_pieces;
 pub use query::{search, search_counted};

@@ -1,0 +1,275 @@
+-- The search round by round: where it stands after each round, and what is known when it ends.
+use Rattle.std.proofs.Common.{◌≡◌, ◌≢◌, ℕ, ◌+◌, ◌<◌, ◌≤◌, List, [], ◌∷◌, Result, Ok, Err, inl, inr, refl, sym, ap, subst, ◌∙◌, arith}
+use Rattle.std.proofs.Common.{Contains}
+use Rattle.std.specs.Result.{IsErr, IsErrAnd}
+use Rattle.std.proofs.lemmas.Bool.{cases_lt}
+use Rattle.cost_vector.specs.declared.out_of_memory.OutOfMemory.{OutOfMemory}
+use Rattle.list_laws.specs.Sets.{HasMoreThan}
+use Rattle.list_laws.proofs.Members.{in_none, cases_in, all_from_in}
+use Rattle.list_laws.proofs.Pairs.{pairs_none, pairs_cons}
+use Rattle.list_laws.proofs.SetLaws.{longer, more_on, none_of_empty}
+use Rattle.list_laws.proofs.OnceLaws.{empty_if_none}
+use Rattle.road_network.specs.Answers.{Passes}
+use Rattle.road_network.specs.Limits.{max_budget}
+use Rattle.event_machine.specs.Machine.{Task, IsTask, Label, SearchState, start_state, settled}
+use Rattle.event_machine.specs.Events.{IsReached}
+use Rattle.event_machine.specs.Orders.{IsBegun, IsOutcome}
+use Rattle.event_machine.specs.Rounds.{IsBetweenRounds, Begins, Finishes, CountedRound, GoRounds, Rounds}
+use Rattle.event_machine.proofs.Running.{same_itself}
+use Rattle.pareto_search.proofs.RunLemmas.{run_of_begins, run_of_finishes, reached_by_run, settled_through}
+use Rattle.event_machine.proofs.Keeping.{sound_if_reached, settled_once}
+use Rattle.bulk_rounds.proofs.BegunLaws.{all_drops, some_begun, begins_is_begun}
+use Rattle.bulk_rounds.proofs.CompletesLaws.{some_outcome, finishes_is_outcome}
+use Rattle.bulk_rounds.proofs.RoundLaws.{counted, settles, some_number, at_most_all, round_after_all, more_to_come, passes_where_more, within_where_none_stays}
+use Rattle.path_readback.specs.Found.{Found}
+use Rattle.path_readback.specs.WellFound.{HasAllRelevant}
+use Rattle.arc_graph.specs.Graph.{Graph, Weights}
+use Rattle.route_query.specs.declared.query.Query.{Query}
+use Rattle.route_query.specs.declared.query.SearchFault.{SearchFault}
+use Rattle.route_query.specs.declared.query.SearchFault.TheVariants as fault
+use Rattle.round_core.specs.Cores.{Core, IsAt, IsSearchOf, IsNewSearch, SameSearch, as_spot}
+use Rattle.round_core.specs.Begins.{DropsUseless, SomeStay, HasBegun, HasEnded, PassesBudget, CountsRound}
+use Rattle.round_core.specs.declared.begin.Begun.{Begun}
+use Rattle.round_core.specs.declared.begin.Begun.TheVariants.{Taken, Done, Budget}
+use Rattle.pareto_search.specs.Counting.{CountsRounds, task_of}
+use Rattle.pareto_search.specs.Rounds.{HasSoMany, IsAfter, IsOpen, EndsOver, IsAnswer}
+
+-- ---- so many things
+
+no_member : {X : Type 0} (xs : List X) → HasSoMany 0 xs
+no_member xs = record { members = []; count = refl; distinct = pairs_none ◌≢◌; each = λ x there. absurd (in_none x there) }
+
+-- one thing more, which wasn't there before
+one_member_more : {X : Type 0} (n : ℕ) (xs ys : List X) (y : X) → HasSoMany n xs → ((x : X) → Contains xs x → Contains ys x)
+    → Contains ys y → ¬ Contains xs y → HasSoMany (n + 1) ys
+one_member_more n xs ys y many kept there new = record {
+  members = y ∷ many.members;
+  count = omega (arith, many.count);
+  distinct = pairs_cons ◌≢◌ y many.members (λ x old same. new (subst (Contains xs) (sym same) (many.each x old))) many.distinct;
+  each = λ x here. elim (cases_in y many.members x here) [
+    | inl same ↦ subst (Contains ys) (sym same) there
+    | inr old ↦ kept x (many.each x old)
+  ];
+}
+
+-- ---- between rounds
+
+between : {D : ℕ} (task : Task) (core : Core D) (s : SearchState) → IsAt task core s → core.taken ≡ [] → IsBetweenRounds s
+between task core s at none = record {
+  unrelaxed = empty_if_none s.unrelaxed (λ p there.
+      let (_, taken, _) = (at.stands.unrelaxed p).0 there in none_of_taken p taken);
+  candidates = at.stands.candidates;
+} where
+  none_of_taken : (p : Label × ℕ) → ¬ Contains core.taken (as_spot p.0)
+  none_of_taken p = none_of_empty core.taken none (as_spot p.0)
+
+-- no round was made
+at_start : {D : ℕ} (task : Task) (budget : ℕ) (core : Core D) → IsSearchOf task core → core.budget ≡ budget → core.taken ≡ []
+    → IsAt task core (start_state task) → IsAfter task budget 0 core
+at_start task budget core search budget_is none at = record {
+  budget_is = budget_is;
+  none_taken = none;
+  state = start_state task;
+  at = at;
+  go = same_itself (start_state task);
+  settles = no_member [];
+  within = λ more. omega (arith, longer budget [] more);
+}
+
+-- ---- a round
+
+-- a new search for a query is at the start of its task
+pub after_none : {D : ℕ} (g : Graph) (w : Weights) (query : Query) (core : Core D) → IsTask (task_of g w query) → g.criteria ≡ D
+    → IsNewSearch g.nodes query.from.0 query.to.0 query.limit query.budget core → IsAfter (task_of g w query) query.budget 0 core
+after_none g w query core is criteria new =
+    let task = task_of g w query in
+    let search : IsSearchOf task core = record {
+      is_task = is;
+      nodes = sym new.nodes_are;
+      criteria = criteria;
+      start = sym new.start_is;
+      target = sym new.target_is;
+      limit = sym new.limit_is;
+    } in
+    at_start task query.budget core search new.budget_is new.none_taken (new.stands task search)
+
+module _ {D : ℕ} (task : Task) (is : IsTask task) (budget k : ℕ) (before : Core D) (after : IsAfter task budget k before) where
+  abbrev s : SearchState
+  s = after.state
+
+  reached : IsReached task s
+  reached = after.at.reached
+
+  s_between : IsBetweenRounds s
+  s_between = between task before s after.at after.none_taken
+
+  -- the state in which the next labels are settled
+  abbrev begun : (b : SearchState) × IsBegun task s b
+  begun = some_begun task is s (sound_if_reached task is s reached) s_between
+
+  abbrev begins : Begins task s begun.0
+  begins = (begins_is_begun task is s (sound_if_reached task is s reached) s_between begun.0).1 begun.1
+
+  -- a round is open
+  pub is_open : (core : Core D) → SameSearch before core → HasBegun before core → budget ≤ max_budget → IsOpen task.network core
+  is_open core same h most = record {
+    task = task;
+    over = refl;
+    state = begun.0;
+    at = h.begun task s begun.0 after.at begun.1;
+    within = subst (λ n. ¬ HasMoreThan n begun.0.settled) (sym same.budget) (h.within task s begun.0 after.at begun.1);
+    few = omega (arith, h.few, same.budget);
+    most = omega (arith, most, same.budget, after.budget_is);
+  }
+
+  -- the next labels are settled in a state that is reached
+  begun_reached : IsReached task begun.0
+  begun_reached = reached_by_run task s begun.0 reached (run_of_begins task s begun.0 begins)
+
+  -- where some label stays after the drops, a round leads on
+  module _ (stays : SomeStay before) (end : SearchState) (outcome : IsOutcome task.network begun.0 end) where
+    finishes : Finishes task begun.0 end
+    finishes = (finishes_is_outcome task is begun.0 (sound_if_reached task is begun.0 begun_reached) end).1 outcome
+
+    round : CountedRound task s end
+    round =
+        let (l, there) = stays.stays task s after.at in
+        counted task is s end reached (record { between = s_between; begun = begun.0; begins = begins; finishes = finishes }) l there
+
+    goes_on : GoRounds task budget (k + 1) (start_state task) end
+    goes_on = round_after_all task is budget k s end after.go after.within round
+
+    end_reached : IsReached task end
+    end_reached = reached_by_run task begun.0 end begun_reached (run_of_finishes task begun.0 end finishes)
+
+    -- it keeps what is settled
+    settled_before : (l : Label) → Contains begun.0.settled l → Contains end.settled l
+    settled_before l = settled_through task is begun.0 end begun_reached (run_of_finishes task begun.0 end finishes) l
+
+    settled_first : (l : Label) → Contains s.settled l → Contains end.settled l
+    settled_first l there = settled_before l (settled_through task is s begun.0 reached (run_of_begins task s begun.0 begins) l there)
+
+    one_more_settled : HasSoMany (k + 1) end.settled
+    one_more_settled =
+        let (l, there, new) = settles task is s end reached round in
+        one_member_more k s.settled end.settled l after.settles settled_first there new
+
+    -- and settles no label that wasn't taken
+    settled_after : (l : Label) → Contains end.settled l → Contains begun.0.settled l
+    settled_after l there =
+        let (_, pair) = (outcome.entries settled l).0 there in
+        let same = settled_once task is end end_reached pair.label l (settled_before pair.label pair.member) there pair.same in
+        subst (Contains begun.0.settled) same pair.member
+
+  -- the round has ended
+  pub at_next : (core next : Core D) → SameSearch before core → HasBegun before core → EndsOver task.network core next
+      → IsAfter task budget (k + 1) next
+  at_next core next same h ends =
+      let (end, outcome) = some_outcome task is begun.0 (sound_if_reached task is begun.0 begun_reached) in
+      let few = subst (λ n. ¬ HasMoreThan n begun.0.settled) after.budget_is (h.within task s begun.0 after.at begun.1) in
+      record {
+        budget_is = ends.same_search.budget ∙ same.budget ∙ after.budget_is;
+        none_taken = ends.none_taken;
+        state = end;
+        at = ends.outcome task begun.0 end refl (h.begun task s begun.0 after.at begun.1) outcome;
+        go = goes_on h.some_stay end outcome;
+        settles = one_more_settled h.some_stay end outcome;
+        within = λ more. few (more_on budget end.settled begun.0.settled (settled_after h.some_stay end outcome) more);
+      }
+
+  -- ---- the search ends
+
+  -- it has found all
+  pub has_found : (core : Core D) (f : Found) → SameSearch before core → HasEnded before core → DropsUseless before core
+      → f.start ≡ core.start → f.target ≡ core.target → f.nodes ≡ core.fronts.nodes → f.criteria ≡ D
+      → ((task : Task) (s : SearchState) → IsAt task core s → HasAllRelevant task.network task.limit f) → IsAnswer task budget f
+  has_found core f same ended drops start target nodes criteria relevant =
+      let dropped = (all_drops task s (sound_if_reached task is s reached) begins.drops begins.each_drop).1 begins.left in
+      record {
+        start = start ∙ same.start ∙ sym after.at.search.start;
+        target = target ∙ same.target ∙ sym after.at.search.target;
+        nodes = nodes ∙ same.nodes ∙ sym after.at.search.nodes;
+        criteria = criteria ∙ sym after.at.search.criteria;
+        relevant = relevant task begins.left (drops task s begins.left after.at (dropped.0 begins.dropping));
+        in_budget = within_where_none_stays task is s reached budget s_between (ended.none_stay task s after.at) after.within;
+      }
+
+  -- so many rounds were made in all
+  pub all_rounds : (core : Core D) → HasEnded before core → Rounds task budget k
+  all_rounds core ended = record { last = s; rounds = after.go; stops = inr (ended.none_stay task s after.at) }
+
+  -- with one round more the budget is passed
+  module _ (h : PassesBudget before) where
+    more_than_budget : HasMoreThan budget begun.0.settled
+    more_than_budget = subst (λ n. HasMoreThan n begun.0.settled) after.budget_is (h.more task s begun.0 after.at begun.1)
+
+    pub passes_budget : Passes task.network task.start task.target task.limit budget
+    passes_budget = passes_where_more task is begun.0 begun_reached budget more_than_budget
+
+    pub one_round_more : Rounds task budget (k + 1)
+    one_round_more =
+        let (end, outcome) = some_outcome task is begun.0 (sound_if_reached task is begun.0 begun_reached) in
+        let more = more_on budget begun.0.settled end.settled (settled_before h.some_stay end outcome) more_than_budget in
+        record { last = end; rounds = goes_on h.some_stay end outcome; stops = inl more }
+
+  -- a round is to come, where some label stays
+  pub round_to_come : (n : ℕ) → SomeStay before → Rounds task budget n → k < n
+  round_to_come n stays all = let (l, there) = stays.stays task s after.at in more_to_come task is budget k n s l after.go after.within there all
+
+  -- ---- steps
+
+  -- no more steps are counted than there are rounds, where a round begins
+  pub steps_when_beginning : (result : Result Begun OutOfMemory) (first old new : ℕ) → CountsRound before result old new → old ≡ first + k
+      → (n : ℕ) → Rounds task budget n → new ≤ first + n
+  steps_when_beginning result first old new counts counted n all = elim (cases_lt old new) [
+    | inl less ↦ omega (arith, counts.at_most_one, counted, round_to_come n (counts.some_stay less) all)
+    | inr not ↦ omega (arith, not, counted, at_most_all task is budget k n s after.go all)
+  ]
+
+  -- and where it is open
+  pub steps_when_open : (result : Result Begun OutOfMemory) (first old new : ℕ) → CountsRound before result old new → old ≡ first + k
+      → SomeStay before → (n : ℕ) → Rounds task budget n → new ≤ first + n
+  steps_when_open result first old new counts counted stays n all = omega (arith, counts.at_most_one, counted, round_to_come n stays all)
+
+  -- there are no more rounds than the budget and one
+  pub no_round_more : ¬ (k ≡ budget + 1)
+  no_round_more full = after.within (record {
+    members = after.settles.members;
+    more = after.settles.count ∙ full;
+    distinct = after.settles.distinct;
+    each = all_from_in (Contains s.settled) after.settles.members after.settles.each;
+  })
+
+-- ---- what was counted
+
+module _ {Answer : Type 0} (task : Task) (budget : ℕ) (result : Result Answer SearchFault) (old new : ℕ) where
+  -- all rounds were
+  pub counts_all : (k : ℕ) → Rounds task budget k → new ≡ old + k → CountsRounds task budget result old new
+  counts_all k all counted = record { rounds = k; all = all; at_most = omega (arith, counted); exact = λ _. counted }
+
+  -- no more than these, and memory ran out
+  pub counts_some : IsTask task → result ≡ Err fault.OutOfMemory → ((n : ℕ) → Rounds task budget n → new ≤ old + n)
+      → CountsRounds task budget result old new
+  counts_some is out most =
+      let (n, all) = some_number task is budget in
+      record { rounds = n; all = all; at_most = most n all; exact = λ not. absurd (not out) }
+
+-- an error that want of memory was turned into
+pub out_of_memory : {Answer : Type 0} (result : Result Answer SearchFault) → IsErr result → IsErrAnd result (λ e. e ≡ fault.OutOfMemory)
+    → result ≡ Err fault.OutOfMemory
+out_of_memory (Ok x) err and = absurd (cc)
+out_of_memory (Err e) err and = ap (λ f. Err f) and
+
+-- ---- the answers to a round's beginning differ
+
+pub done_not_taken : Done ≢ Taken
+done_not_taken = λ same. absurd (cc)
+
+pub taken_not_done : Taken ≢ Done
+taken_not_done = λ same. absurd (cc)
+
+pub budget_not_done : Budget ≢ Done
+budget_not_done = λ same. absurd (cc)
+
+pub is_other : (result : Result Begun OutOfMemory) (given x y : Begun) → result ≡ Ok given → given ≡ x → x ≢ y → result ≢ Ok y
+is_other result given x y is arm differs = λ other. differs cc

@@ -1,0 +1,100 @@
+use Rattle.std.proofs.Common.{rules, arith, ◌≡◌, ◌+◌, ◌∙◌}
+use Rattle.round_core.specs.declared.begin.Begun.TheVariants.{Taken, Done, Budget}
+use Rattle.pareto_search.proofs.TaskLemmas.{task_is}
+use Rattle.pareto_search.proofs.LoopLemmas.{after_none, is_open, at_next, has_found, all_rounds, passes_budget, one_round_more, no_round_more}
+use Rattle.pareto_search.proofs.LoopLemmas.{counts_all, counts_some, steps_when_beginning, steps_when_open, out_of_memory, is_other, done_not_taken, taken_not_done, budget_not_done}
+use Rattle.pareto_search.proofs.rounds.find.Goals as goal
+
+pub returns-in_err-rounds-clause-rounds : goal.returns-in_err-rounds-clause-rounds
+returns-in_err-rounds-clause-rounds g c =
+    let is = task_is c.args.graph.now c.args.weights.now c.args.query.now c.nodes.ensures.graph c.arcs-2.ensures.states c.requires.weights c.requires.query in
+    counts_some _ _ _ _ _ is (out_of_memory _ c.from_residual.ensures.0 c.from_residual.ensures.1) (λ n all. omega arith)
+
+pub rounds-init : goal.rounds-init
+rounds-init g c =
+    let is = task_is c.args.graph.now c.args.weights.now c.args.query.now c.nodes.ensures.graph c.arcs-2.ensures.states c.requires.weights c.requires.query in
+    record { after = after_none c.args.graph.now c.args.weights.now c.args.query.now _ is c.requires.criteria c.in_ok-rounds.ensures; counted = omega arith }
+
+pub begin-requires : goal.begin-requires
+begin-requires g c = (search rules, c.rounds.invariant.after.none_taken)
+
+pub returns-in_err-begin-clause-rounds : goal.returns-in_err-begin-clause-rounds
+returns-in_err-begin-clause-rounds g c =
+    let is = task_is c.args.graph.now c.args.weights.now c.args.query.now c.nodes.ensures.graph c.arcs-2.ensures.states c.requires.weights c.requires.query in
+    let out = out_of_memory _ c.from_residual-in_err-begin.ensures.0 c.from_residual-in_err-begin.ensures.1 in
+    counts_some _ _ _ _ _ is out
+    (steps_when_beginning _ is _ _ _ c.rounds.invariant.after _ _ _ _ c.begin.ensures.steps c.rounds.invariant.counted)
+
+pub returns-in-Done-clause-found : goal.returns-in-Done-clause-found
+returns-in-Done-clause-found g c =
+    let is = task_is c.args.graph.now c.args.weights.now c.args.query.now c.nodes.ensures.graph c.arcs-2.ensures.states c.requires.weights c.requires.query in
+    let ended = rw c.in-Done.is at c.in_ok-begin.ensures.begun in
+    let done = is_other _ _ Done Taken c.in_ok-begin.was c.in-Done.is done_not_taken in
+    has_found _ is _ _ _ c.rounds.invariant.after _ _ c.begin.ensures.same_search ended (c.begin.ensures.only_drops done) c.into_found.ensures.start
+    c.into_found.ensures.target c.into_found.ensures.nodes c.into_found.ensures.criteria c.into_found.ensures.relevant
+
+pub returns-in-Done-clause-rounds : goal.returns-in-Done-clause-rounds
+returns-in-Done-clause-rounds g c =
+    let is = task_is c.args.graph.now c.args.weights.now c.args.query.now c.nodes.ensures.graph c.arcs-2.ensures.states c.requires.weights c.requires.query in
+    let ended = rw c.in-Done.is at c.in_ok-begin.ensures.begun in
+    let done = rw c.in-Done.is at c.in_ok-begin.was in
+    let stands : c.begin.new._steps ≡ c.rounds.steps = c.begin.ensures.steps.uncounted done in
+    counts_all _ _ _ _ _ _ (all_rounds _ is _ _ _ c.rounds.invariant.after _ ended) (stands ∙ c.rounds.invariant.counted)
+
+pub returns-in-Budget-clause-budget : goal.returns-in-Budget-clause-budget
+returns-in-Budget-clause-budget g c =
+    let is = task_is c.args.graph.now c.args.weights.now c.args.query.now c.nodes.ensures.graph c.arcs-2.ensures.states c.requires.weights c.requires.query in
+    let passes = rw c.in-Budget.is at c.in_ok-begin.ensures.begun in
+    λ _. passes_budget _ is _ _ _ c.rounds.invariant.after passes
+
+pub returns-in-Budget-clause-rounds : goal.returns-in-Budget-clause-rounds
+returns-in-Budget-clause-rounds g c =
+    let is = task_is c.args.graph.now c.args.weights.now c.args.query.now c.nodes.ensures.graph c.arcs-2.ensures.states c.requires.weights c.requires.query in
+    let passes = rw c.in-Budget.is at c.in_ok-begin.ensures.begun in
+    let over = rw c.in-Budget.is at c.in_ok-begin.was in
+    let rose : c.begin.new._steps ≡ c.rounds.steps + 1 = c.begin.ensures.steps.counted Budget over budget_not_done in
+    counts_all _ _ _ _ _ _ (one_round_more _ is _ _ _ c.rounds.invariant.after passes) (omega (arith, rose, c.rounds.invariant.counted))
+
+pub finish-requires-after_bounds : goal.finish-requires-after_bounds
+finish-requires-after_bounds g c κs within =
+    let is = task_is c.args.graph.now c.args.weights.now c.args.query.now c.nodes.ensures.graph c.arcs-2.ensures.states c.requires.weights c.requires.query in
+    let begun = rw c.in-Taken.is at c.in_ok-begin.ensures.begun in (
+      search rules,
+      (
+        c.requires.at_least_one,
+        (
+          c.requires.at_most_64,
+          (
+            c.requires.weights,
+            (
+              c.requires.criteria,
+              is_open _ is _ _ _ c.rounds.invariant.after _ c.begin.ensures.same_search begun c.requires.query.budget,
+            ),
+          ),
+        ),
+      ),
+    )
+
+pub returns-in_err-rounds-in-Taken-clause-rounds : goal.returns-in_err-rounds-in-Taken-clause-rounds
+returns-in_err-rounds-in-Taken-clause-rounds g c =
+    let is = task_is c.args.graph.now c.args.weights.now c.args.query.now c.nodes.ensures.graph c.arcs-2.ensures.states c.requires.weights c.requires.query in
+    let begun = rw c.in-Taken.is at c.in_ok-begin.ensures.begun in
+    let out = out_of_memory _ c.from_residual-in_err-rounds-in-Taken.ensures.0 c.from_residual-in_err-rounds-in-Taken.ensures.1 in
+    counts_some _ _ _ _ _ is out
+    (steps_when_open _ is _ _ _ c.rounds.invariant.after _ _ _ _ c.begin.ensures.steps c.rounds.invariant.counted begun.some_stay)
+
+pub rounds-preserved : goal.rounds-preserved
+rounds-preserved g c =
+    let is = task_is c.args.graph.now c.args.weights.now c.args.query.now c.nodes.ensures.graph c.arcs-2.ensures.states c.requires.weights c.requires.query in
+    let begun = rw c.in-Taken.is at c.in_ok-begin.ensures.begun in
+    let taken = rw c.in-Taken.is at c.in_ok-begin.was in
+    let rose : c.begin.new._steps ≡ c.rounds.steps + 1 = c.begin.ensures.steps.counted Taken taken taken_not_done in
+    record {
+      after = at_next _ is _ _ _ c.rounds.invariant.after _ _ c.begin.ensures.same_search begun c.in_ok-rounds-in-Taken.ensures;
+      counted = omega (arith, rose, c.rounds.invariant.counted);
+    }
+
+pub unreachable-requires : goal.unreachable-requires
+unreachable-requires g c =
+    let is = task_is c.args.graph.now c.args.weights.now c.args.query.now c.nodes.ensures.graph c.arcs-2.ensures.states c.requires.weights c.requires.query in
+    no_round_more _ is _ _ _ c.rounds.invariant.after (omega arith)

@@ -1,0 +1,17 @@
+ghost use Rattle.std.specs.Prelude.{ℕ, ◌↔◌, List, ◌++◌};
+ghost use Rattle.event_machine.specs.Machine.{Task, IsTask, Label, SearchState};
+ghost use Rattle.event_machine.specs.Events.{Event, IsReached, Runs};
+ghost use Rattle.event_machine.specs.Orders.{IsOutcome};
+ghost use Rattle.event_machine.specs.Pieces.{AreDoneInPieces, AreMergePieces, AreRelaxPieces, merges_of};
+
+/// However a round's relaxing and then its merging are cut into pieces, and in whatever order workers draw these and do
+/// what is in them, that is a run, and it ends in the state for which the search stands after the round.
+pub fn rounds_end_alike_for_all_pieces()
+    ensures { (task : Task) (s end : SearchState) (labels arrivals : List (List Label))
+        (relaxes : List (List Event)) (drawn drawn_next : List ℕ) (first second : List Event)
+        → IsTask task → IsReached task s
+        → AreRelaxPieces s labels relaxes → AreDoneInPieces relaxes drawn first
+        → AreMergePieces task.network s arrivals
+        → AreDoneInPieces (merges_of arrivals) drawn_next second
+        → (Runs task s (first ++ second) end ↔ IsOutcome task.network s end) }
+{}

@@ -7,4 +7,5 @@ use Rattle.relax_workers.proofs.relaxing.relax_alone.Goals as goal
 pub loop-piece-preserved : goal.loop-piece-preserved
 loop-piece-preserved g c =
     let job = c.args.job.now in
-    c.in_ok-append_piece.ensures ∙ next_piece (candidates_from job.graph.now job.weights.now) job.taken.now c.loop-piece.piece piece_size _ c.loop-piece.invariant
+    c.in_ok-append_piece.ensures
+    ∙ next_piece (candidates_from job.graph.now job.weights.now) job.taken.now c.loop-piece.piece piece_size _ c.loop-piece.invariant

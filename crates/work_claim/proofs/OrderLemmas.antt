@@ -58,7 +58,7 @@ module _ {Out : Type 0} where
               let number : d.piece ≡ i = sym (get_or_from_slice_get (pieces_of ys) i d.piece 0 (slice_get-map piece ys i ∙ ap (option_map piece) is))
               ∙ (ap (λ is. get_or is i 0) all ∙ get_or-range_with_len 0 pieces i 0 (omega (arith, within, long)) ∙ zero-add i) in
               Contains-permutation ys xs (record { piece = i; out = out }) (IsPermutation-sym xs ys moved)
-              (subst (Contains ys) (ap₂ (λ p o. record { piece = p; out = o }) number its) (i, within, got))
+              (subst (Contains ys) {x = d} (ap₂ (λ p o. record { piece = p; out = o }) number its) (i, within, got))
         ];
       }
 

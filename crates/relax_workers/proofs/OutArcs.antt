@@ -14,6 +14,7 @@ pub record IsOutArc (g : Graph) (w : Weights) (c : List ℕ) (a : ArcNo) : Type 
   pub weighed : a.0 ≤ length w.states
   pub fits : IfSome (arc_state w a) (λ by. Fits (plus c by))
 
+-- each of the arcs that lead from the node is such
 pub out_arc : (g : Graph) (w : Weights) (u : ℕ) (c : List ℕ) (arcs : List ArcNo) (i : ℕ) (d : ArcNo) → Match g w → SumsFit g w u c → arcs ≡ out_arcs_of g u
     → i < length arcs → IsOutArc g w c (get_or arcs i d)
 out_arc g w u c arcs i d matched fits all within =
@@ -25,5 +26,6 @@ out_arc g w u c arcs i d matched fits all within =
     }
 
 -- what is added to along one that isn't shut
-pub sum_fits : (g : Graph) (w : Weights) (c : List ℕ) (a : ArcNo) (o : Option (List ℕ)) (by : List ℕ) → IsOutArc g w c a → o ≡ arc_state w a → o ≡ Some by → Fits (plus c by)
+pub sum_fits : (g : Graph) (w : Weights) (c : List ℕ) (a : ArcNo) (o : Option (List ℕ)) (by : List ℕ)
+    → IsOutArc g w c a → o ≡ arc_state w a → o ≡ Some by → Fits (plus c by)
 sum_fits g w c a o by arc state is = subst (λ s. IfSome s (λ y. Fits (plus c y))) (sym state ∙ is) arc.fits

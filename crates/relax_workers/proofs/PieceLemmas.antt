@@ -1,22 +1,26 @@
 -- Lists that are cut into pieces.
-use Rattle.std.proofs.Common.{◌≡◌, ℕ, ◌+◌, ◌-◌, ◌*◌, ◌<◌, ◌≤◌, ◌++◌, min, List, length, take, drop, refl, sym, ap, ◌∙◌, arith, take_all, take-add, length-drop, get_or, subst, add-mul, one-mul}
+use Rattle.std.proofs.Common.{◌≡◌, ℕ, ◌+◌, ◌-◌, ◌*◌, ◌<◌, ◌≤◌, ◌++◌, min, List, length, take, drop, sym, ap, ◌∙◌, arith, take_all, take-add, length-drop, get_or, subst, add-mul, one-mul}
 use Rattle.std.specs.Prelude.{All, flat_map}
 use Rattle.std.proofs.lemmas.List.Elements.{All-take, All-drop}
 use Rattle.std.proofs.lemmas.List.Concat.{flat_map-append}
 use native.Mathlib.Decide.{dec_le}
 
 -- a piece that ends with the list, or after so many
-pub piece_cut : {X : Type 0} (xs : List X) (start size : ℕ) → start ≤ length xs → take (min (length xs) (start + size) - start) (drop start xs) ≡ take size (drop start xs)
+pub piece_cut : {X : Type 0} (xs : List X) (start size : ℕ) → start ≤ length xs
+    → take (min (length xs) (start + size) - start) (drop start xs) ≡ take size (drop start xs)
 piece_cut xs start size within = elim (dec_le (start + size) (length xs)) [
   | yes whole ↦ (let same : min (length xs) (start + size) - start ≡ size = omega (arith, whole) in ap (λ n. take n (drop start xs)) same)
   | no short ↦
       let same : min (length xs) (start + size) - start ≡ length xs - start = omega (arith, short) in
       let long = length-drop start xs in
-      ap (λ n. take n (drop start xs)) same ∙ (take_all (length xs - start) (drop start xs) (omega (arith, long)) ∙ sym (take_all size (drop start xs) (omega (arith, long, short))))
+      let all = take_all (length xs - start) (drop start xs) (omega (arith, long)) in
+      let all_too = take_all size (drop start xs) (omega (arith, long, short)) in
+      ap (λ n. take n (drop start xs)) same ∙ (all ∙ sym all_too)
 ]
 
 -- what comes of one piece more
-pub piece_more : {X Y : Type 0} (f : X → List Y) (xs : List X) (start size : ℕ) → flat_map f (take start xs) ++ flat_map f (take size (drop start xs)) ≡ flat_map f (take (start + size) xs)
+pub piece_more : {X Y : Type 0} (f : X → List Y) (xs : List X) (start size : ℕ)
+    → flat_map f (take start xs) ++ flat_map f (take size (drop start xs)) ≡ flat_map f (take (start + size) xs)
 piece_more f xs start size = sym (flat_map-append f (take start xs) (take size (drop start xs))) ∙ ap (flat_map f) (sym (take-add start size xs))
 
 -- what comes of so many pieces, and of the next

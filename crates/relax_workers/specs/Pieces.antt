@@ -14,10 +14,14 @@ module _ {D : ℕ} where
   abbrev pub spots_of : List (CompactSpot D) → ℕ → List (CompactSpot D)
   spots_of taken piece = take piece_size (drop (piece * piece_size) taken)
 
-  -- there is such a piece, and its spots can be relaxed
-  pub record CanDo (g : Graph) (w : Weights) (taken : List (CompactSpot D)) (piece : ℕ) : Type 0 where
+  -- the weights are the graph's, the costs have its criteria, and each spot can be relaxed
+  pub record AreReady (g : Graph) (w : Weights) (taken : List (CompactSpot D)) : Type 0 where
     pub weights : Match g w
     pub criteria : g.criteria ≡ D
     pub four : D ≤ max_criteria
-    pub there : piece * piece_size < length taken
     pub each : All (CanRelax g w) taken
+
+  -- there is such a piece of them
+  pub record CanDo (g : Graph) (w : Weights) (taken : List (CompactSpot D)) (piece : ℕ) : Type 0 where
+    pub ready : AreReady g w taken
+    pub there : piece * piece_size < length taken

@@ -1,7 +1,7 @@
 ghost use Rattle.std.specs.Prelude.{◌≡◌, ◌^◌, ◌<◌, ◌≤◌, [], length, All, OnOk};
-ghost use Rattle.cost_vector.specs.Costs.{max_criteria};
 ghost use Rattle.arc_graph.specs.Graph.{Match};
 ghost use Rattle.relax_workers.specs.Candidates.{CanRelax, candidates_of};
+ghost use Rattle.relax_workers.specs.Pieces.{AreReady};
 
 use crate::spots::TakenSpots;
 use arc_graph::{Graph, Weights};
@@ -52,10 +52,7 @@ fn relax_alone<const D: usize, R, G: Gate>(
     candidates: &mut Vec<CompactLabel<D>>,
 ) -> Result<(), OutOfMemory>
     requires empty { candidates.old.items ≡ [] }
-    requires weights { Match job.now.graph.now job.now.weights.now }
-    requires criteria { job.now.graph.now.criteria ≡ D }
-    requires four { D ≤ max_criteria }
-    requires taken { All (CanRelax job.now.graph.now job.now.weights.now) job.now.taken.now }
+    requires ready { AreReady job.now.graph.now job.now.weights.now job.now.taken.now }
     ensures { OnOk result (candidates.new.items
         ≡ candidates_of job.now.graph.now job.now.weights.now job.now.taken.now) }
 {
@@ -76,11 +73,8 @@ fn relax_together<const D: usize, R: Threads + Sync, G: Gate>(
     requires at_least_one { 1 ≤ crew.now.workers }
     requires at_most_64 { crew.now.workers ≤ 64 }
     requires empty { candidates.old.items ≡ [] }
-    requires weights { Match job.now.graph.now job.now.weights.now }
-    requires criteria { job.now.graph.now.criteria ≡ D }
-    requires four { D ≤ max_criteria }
     requires few { length job.now.taken.now < 2 ^ 32 }
-    requires taken { All (CanRelax job.now.graph.now job.now.weights.now) job.now.taken.now }
+    requires ready { AreReady job.now.graph.now job.now.weights.now job.now.taken.now }
     ensures { OnOk result (candidates.new.items
         ≡ candidates_of job.now.graph.now job.now.weights.now job.now.taken.now) }
 {

@@ -59,7 +59,7 @@ impl<'g, const D: usize> TakenSpots<'g, D> {
         requires { CanDo self.now.graph.now self.now.weights.now self.now.taken.now piece }
         ensures { OnOk result (candidates.new.items ≡ candidates.old.items
             ++ candidates_of self.now.graph.now self.now.weights.now
-                (spots_of self.now.taken.now piece)) }
+            (spots_of self.now.taken.now piece)) }
     {
         for spot in piece_of(self.taken, piece) {
             relax_into(self.graph, self.weights, spot, candidates)?;
@@ -78,8 +78,8 @@ fn piece_of<const D: usize>(taken: &[CompactSpot<D>], piece: usize) -> &[Compact
     &taken[start..end]
 }
 
-/// Appends the candidates that a spot gives: for each arc that leads from its node and isn't shut, in ascending order, the
-/// arc's head at the cost with the arc's vector added.
+/// Appends the candidates that a spot gives: for each arc that leads from its node and isn't shut, in ascending order,
+/// the arc's head at the cost with the arc's vector added.
 fn relax_into<const D: usize>(
     graph: &Graph,
     weights: &Weights,

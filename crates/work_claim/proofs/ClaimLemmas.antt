@@ -118,7 +118,8 @@ join_allowed pieces workers id other s u t rule seated apart beside =
       once = λ x. same (times x) refl (counts (λ y. eqb y x)) ∙ rule.once x;
       count = same length refl (length-append s.numbers u.numbers) ∙ rule.count;
       over = same (past pieces) refl (counts (leb pieces)) ∙ rule.over;
-      within = All-set Within seats other spent (omega arith) (All-set Within t.views id (joined s u) (omega (arith, within_s, within_u, counts (leb pieces))) rule.within);
+      within = All-set Within seats other spent (omega arith)
+          (All-set Within t.views id (joined s u) (omega (arith, within_s, within_u, counts (leb pieces))) rule.within);
       shared = omega (arith, rule.shared, sum_set (λ v. v.workers) t.views id s (joined s u) seated, sum_set (λ v. v.workers) seats other u spent beside);
       idle = All-set Idle seats other spent (λ _. refl)
           (All-set Idle t.views id (joined s u) (λ none. ap₂ ◌++◌ (idle_s (omega (arith, none))) (idle_u (omega (arith, none)))) rule.idle);

@@ -1,5 +1,4 @@
 mod SeatSums
 mod ClaimLemmas
 mod EachOnce
-mod DoneLemmas
 mod OrderLemmas

@@ -1,5 +1,6 @@
 -- What came of all pieces, put in their order.
-use Rattle.std.proofs.Common.{◌≡◌, ℕ, ◌+◌, ◌<◌, ◌≤◌, List, [], ◌∷◌, ◌++◌, Some, None, length, get_or, sym, ap, ap₂, ◌∙◌, subst, subst₂, inl, inr, arith, length-append, zero-add, lt_irrefl}
+use Rattle.std.proofs.Common.{◌≡◌, ℕ, ◌+◌, ◌<◌, ◌≤◌, List, [], ◌∷◌, ◌++◌, Some, None, length, get_or}
+use Rattle.std.proofs.Common.{sym, ap, ap₂, ◌∙◌, subst, subst₂, inl, inr, arith, length-append, zero-add, lt_irrefl}
 use Rattle.std.specs.Prelude.{AllPairs, Contains, IsPermutation, map}
 use Rattle.std.specs.List.{range_with_len}
 use Rattle.std.specs.List.Sorted.{IsNonDecreasingBy}
@@ -24,7 +25,8 @@ numbered pieces is each rising =
     let ascends : AllPairs ◌<◌ is = λ i j d before within.
     let apart = each.once i j d before within in omega (arith, apart, rising i j d before within) in
     let counted : AllPairs ◌<◌ (range_with_len 0 pieces) = λ i j d before within.
-    omega (arith, before, get_or-range_with_len 0 pieces i d (omega (arith, before, within, long)), get_or-range_with_len 0 pieces j d (omega (arith, within, long))) in
+    let first = get_or-range_with_len 0 pieces i d (omega (arith, before, within, long)) in
+    let second = get_or-range_with_len 0 pieces j d (omega (arith, within, long)) in omega (arith, before, first, second) in
     ascending_same ◌<◌ (λ x. lt_irrefl x) (λ x y z below above. omega (arith, below, above)) is (range_with_len 0 pieces) ascends counted
     (same_by (λ i. i < pieces) is (range_with_len 0 pieces) each.exact (range_once pieces).exact)
 
@@ -41,8 +43,10 @@ module _ {Out : Type 0} where
   placed pieces xs ys each moved rising =
       let piece : Done Out → ℕ = λ d. d.piece in
       let result : Done Out → Out = λ d. d.out in
-      let each_too : EachOnce pieces (pieces_of ys) = lists_in_any_order (λ i. i < pieces) (pieces_of xs) (pieces_of ys) (IsPermutation-map piece xs ys moved) each in
-      let rises = pairs_map (λ a b. piece a ≤ piece b) ◌≤◌ piece (λ a b at_most. at_most) ys (λ i j d before within. rising i j d (omega (arith, before)) within) in
+      let moved_too = IsPermutation-map piece xs ys moved in
+      let each_too : EachOnce pieces (pieces_of ys) = lists_in_any_order (λ i. i < pieces) (pieces_of xs) (pieces_of ys) moved_too each in
+      let rises = pairs_map (λ a b. piece a ≤ piece b) ◌≤◌ piece (λ a b at_most. at_most) ys
+      (λ i j d before within. rising i j d (omega (arith, before)) within) in
       let all : pieces_of ys ≡ range_with_len 0 pieces = numbered pieces (pieces_of ys) each_too rises in
       let long : length ys ≡ pieces = sym (length-map ys piece) ∙ (ap length all ∙ length-range_with_len 0 pieces) in
       record {
@@ -54,7 +58,7 @@ module _ {Out : Type 0} where
               let number : d.piece ≡ i = sym (get_or_from_slice_get (pieces_of ys) i d.piece 0 (slice_get-map piece ys i ∙ ap (option_map piece) is))
               ∙ (ap (λ is. get_or is i 0) all ∙ get_or-range_with_len 0 pieces i 0 (omega (arith, within, long)) ∙ zero-add i) in
               Contains-permutation ys xs (record { piece = i; out = out }) (IsPermutation-sym xs ys moved)
-              (subst (Contains ys) (ap₂ (λ p o. record { piece = p; out = o }) number its) (i, within, got))
+              (subst (Contains ys) {x = d} (ap₂ (λ p o. record { piece = p; out = o }) number its) (i, within, got))
         ];
       }
 

@@ -26,7 +26,8 @@ module _ {Out : Type 0} where
 
   -- So many workers have come to their end at this counter: each has drawn one number past the pieces, and what came of the
   -- pieces that they drew is there, unless memory ran out.
-  pub record HaveEnded (gives : ℕ → Out → Type 0) (counter : Counter) (workers : ℕ) (seat : ClaimSeat) (done : Result (Vec (Done Out)) OutOfMemory) : Type 0 where
+  pub record HaveEnded (gives : ℕ → Out → Type 0) (counter : Counter) (workers : ℕ)
+      (seat : ClaimSeat) (done : Result (Vec (Done Out)) OutOfMemory) : Type 0 where
     pub seated : seat.table ≡ counter.table
     pub all : seat.draws.workers ≡ workers
     pub ended : past counter.pieces seat.draws.numbers ≡ workers

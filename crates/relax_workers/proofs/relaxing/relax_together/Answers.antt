@@ -1,4 +1,4 @@
-use Rattle.std.proofs.Common.{◌≡◌, ◌∙◌, ◌++◌, Some, length, ap, refl, subst}
+use Rattle.std.proofs.Common.{◌≡◌, Some, length, refl, subst}
 use Rattle.std.specs.Prelude.{slice_get}
 use Rattle.std.proofs.lemmas.Option.{slice_get_read}
 use Rattle.relax_workers.specs.Candidates.{candidates_from}
@@ -14,5 +14,5 @@ loop-list-preserved g c =
     let lists = c.deref-list-items.result.now in
     let read = slice_get_read lists (length lists) piece list refl c.loop-list-test.true c.list-item.is in
     let given = c.in_ok-lists.ensures.each piece list (subst (λ ls. slice_get ls piece ≡ Some list) c.deref-list-items.ensures.value read) in
-    c.in_ok-extend_from_slice.ensures.items ∙ (ap (λ ys. c.loop-list.candidates.items ++ ys) (c.deref.ensures.value ∙ given)
-        ∙ next_piece (candidates_from job.graph.now job.weights.now) job.taken.now piece piece_size _ c.loop-list.invariant)
+    rw (c.in_ok-extend_from_slice.ensures.items, c.deref.ensures.value, given)
+    (next_piece (candidates_from job.graph.now job.weights.now) job.taken.now piece piece_size c.loop-list.candidates.items c.loop-list.invariant)

@@ -1,5 +1,5 @@
 use Rattle.std.proofs.Common.{rules}
-use Rattle.relax_workers.proofs.OutArcs.{IsOutArc, out_arc, sum_fits}
+use Rattle.relax_workers.proofs.OutArcs.{out_arc, sum_fits}
 use Rattle.relax_workers.proofs.spots.relax_into.Goals as goal
 
 pub get-requires-clause-counted : goal.get-requires-clause-counted
@@ -24,6 +24,7 @@ plus-requires g c = (
   (
     search rules,
     sum_fits c.args.graph.now c.args.weights.now c.args.spot.now.cost.0 _ c.get.result c.in-Some.weight
-        (out_arc _ _ _ _ _ c.loop-arc.arc-index _ c.requires.weights c.requires.spot.fits c.out_arcs-arcs.ensures c.loop-arc-test.true) c.get.ensures.state c.in-Some.is,
+        (out_arc _ _ _ _ _ c.loop-arc.arc-index _ c.requires.weights c.requires.spot.fits c.out_arcs-arcs.ensures c.loop-arc-test.true)
+        c.get.ensures.state c.in-Some.is,
   ),
 )

@@ -11,7 +11,9 @@ returns g c = λ pieces each.
     let done = c.sort_by_key.new.self.items in
     let sorted = c.in_ok-sort_by_key.ensures in
     let road = YieldsList-from_vec {s = c.into_iter-one-iterator.result} done (search rules) (search rules) in
-    let end = YieldsList-end road c.loop-one.yielded c.loop-one.one-iterator c.loop-one.yielded_by c.next.result c.next.new.self c.in-None.is c.next.ensures.steps in
+    let end = YieldsList-end road c.loop-one.yielded c.loop-one.one-iterator c.loop-one.yielded_by
+    c.next.result c.next.new.self c.in-None.is c.next.ensures.steps in
     let all : c.loop-one.outs.items ≡ map (λ d. d.out) done = c.loop-one.invariant ∙ ap (map (λ d. d.out)) (sym (map-id c.loop-one.yielded) ∙ end.0) in
+    let rises = IsNonDecreasingBy-from_sort_by_key (λ d. d.piece) done sorted.sorted (λ a r q k. search rules) in
     subst (ArePlaced pieces c.args.done.items) (sym all)
-    (placed pieces c.args.done.items done each sorted.permutation (IsNonDecreasingBy-from_sort_by_key (λ d. d.piece) done sorted.sorted (λ a r q k. search rules)))
+    (placed pieces c.args.done.items done each sorted.permutation rises)

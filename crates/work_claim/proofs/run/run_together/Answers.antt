@@ -10,7 +10,9 @@ returns g c =
     let counter = c.in_ok-counter.counter in
     let done = c.in_ok-report.field-0.items in
     let numbers = c.run-report.result.seat.draws.numbers in
-    let all : AreDone gives counter.pieces numbers done = IfOk-at_ok (λ d. AreDone gives counter.pieces numbers d.items) c.in_ok-report.was c.run-report.ensures.results in
+    let all : AreDone gives counter.pieces numbers done =
+    IfOk-at_ok (λ d. AreDone gives counter.pieces numbers d.items) c.in_ok-report.was c.run-report.ensures.results in
     let placed = c.in_order.ensures counter.pieces (done_once gives counter.pieces numbers done all c.close.ensures) in
-    rw (sym c.in_ok-counter.ensures.pieces) (IfOk-weaker c.in_order.result (λ outs. ArePlaced counter.pieces done outs.items) (λ outs. GivesAll gives counter.pieces outs.items)
+    rw (sym c.in_ok-counter.ensures.pieces)
+    (IfOk-weaker c.in_order.result (λ outs. ArePlaced counter.pieces done outs.items) (λ outs. GivesAll gives counter.pieces outs.items)
     (λ outs. gives_placed gives counter.pieces numbers done all outs.items) placed)

@@ -2,4 +2,5 @@ mod arriving;
 mod drawing;
 mod examples;
 mod plain;
+mod rounds;
 mod watching;

@@ -45,7 +45,7 @@ fn take_all<const D: usize, F: ParetoFront<D>>(
 }
 
 /// Each label that was drawn stands to the front as it stands to all that came.
-fn expect_standings<const D: usize, F: ParetoFront<D>>(
+pub(super) fn expect_standings<const D: usize, F: ParetoFront<D>>(
     rt: &impl Abort,
     front: &F,
     came: &[CompactLabel<D>],
@@ -116,20 +116,23 @@ const TWO: Plan = Plan {
     count: 1500,
     bound: 1000,
     sum: 2000,
+    nodes: 1,
 };
 
 const THREE: Plan = Plan {
     seed: 2,
-    count: 2500,
-    bound: 64,
-    sum: 192,
+    count: 3500,
+    bound: 400,
+    sum: 1200,
+    nodes: 1,
 };
 
 const FOUR: Plan = Plan {
     seed: 3,
-    count: 2500,
-    bound: 16,
-    sum: 64,
+    count: 3500,
+    bound: 60,
+    sum: 240,
+    nodes: 1,
 };
 
 #[test]
@@ -140,12 +143,12 @@ fn fronts_of_two_criteria_are_plain_filters(rt: HostRuntime) -> Result<(), Fail>
 
 #[test]
 fn fronts_of_three_criteria_are_plain_filters(rt: HostRuntime) -> Result<(), Fail> {
-    expect_front::<3, BlockFront<3>>(&rt, rt.alloc(), &THREE, 1000)?;
+    expect_front::<3, BlockFront<3>>(&rt, rt.alloc(), &THREE, 3000)?;
     Ok(())
 }
 
 #[test]
 fn fronts_of_four_criteria_are_plain_filters(rt: HostRuntime) -> Result<(), Fail> {
-    expect_front::<4, BlockFront<4>>(&rt, rt.alloc(), &FOUR, 1000)?;
+    expect_front::<4, BlockFront<4>>(&rt, rt.alloc(), &FOUR, 3000)?;
     Ok(())
 }

@@ -2,16 +2,18 @@ use compact_labels::{CompactCost, CompactLabel};
 use cost_vector::{ArcNo, NodeNo, OutOfMemory};
 use std::alloc::Global;
 
-/// The node of all drawn labels.
+/// The node of labels that are drawn for one node.
 pub(super) const NODE: NodeNo = NodeNo(1);
 
 /// Which labels are drawn: how many, below which bound the components are but for the last one, and the least sum of the
-/// components. The sum of each is that or up to two more, so that many are equal or nearly so.
+/// components. The sum of each is that or up to two more, so that many are equal or nearly so. They are drawn for so many
+/// nodes.
 pub(super) struct Plan {
     pub seed: u64,
     pub count: u32,
     pub bound: u64,
     pub sum: u64,
+    pub nodes: u32,
 }
 
 /// Draws numbers, the same ones for each seed.
@@ -49,7 +51,7 @@ pub(super) fn draw_labels<const D: usize>(
     for _ in 0..plan.count {
         let cost = draw_cost(&mut draws, plan);
         let arc = ArcNo((draws.next() % 100) as u32);
-        let node = NODE;
+        let node = NodeNo(1 + arc.0 % plan.nodes.max(1));
         labels.push(CompactLabel { node, cost, arc })?;
     }
     Ok(labels)

@@ -2,32 +2,32 @@
 use Rattle.std.proofs.Common.{◌≡◌, ◌≢◌, ◌⊎◌, ◌↔◌, ℕ, ◌+◌, ◌<◌, ◌≤◌, List, [], ◌++◌, length, map, inl, inr, refl, sym, ap, subst, ◌∙◌, arith}
 use Rattle.std.specs.Prelude.{AllPairs, Contains}
 use Rattle.std.proofs.lemmas.List.{length-append, length-map}
-use Rattle.list_laws.specs.Sets.{HasMoreThan, ListsOnce}
+use Rattle.list_laws.specs.Sets.{HasMoreThan}
 use Rattle.list_laws.proofs.Ascending.{ascending_distinct}
 use Rattle.list_laws.proofs.Members.{each_in, in_map, of_map}
-use Rattle.list_laws.proofs.OnceLaws.{IsTold, empty_if_none, in_append, list_all, more_of_map, pairs_append}
+use Rattle.list_laws.proofs.OnceLaws.{empty_if_none, in_append, list_all, more_of_map, pairs_append}
 use Rattle.list_laws.proofs.Pairs.{pairs_map, pigeonhole}
 use Rattle.list_laws.proofs.SetLaws.{more_by_list, none_of_empty, same_by_permutation}
 use Rattle.compact_labels.specs.declared.label.CompactSpot.{CompactSpot}
-use Rattle.event_machine.specs.Machine.{Task, Label, SearchState, LeadsOn, IsSamePair, Place, settled, dropped, waiting, start_state}
-use Rattle.event_machine.specs.Events.{Event, drop, take, IsReached, MayDrop, Runs}
-use Rattle.event_machine.specs.Rounds.{IsBetweenRounds, NoneStays}
-use Rattle.event_machine.specs.Orders.{DropsAll, IsBegun, IsNext, Stays}
+use Rattle.event_machine.specs.Machine.{Task, Label, SearchState, LeadsOn, IsSamePair, settled, dropped, waiting, start_state}
+use Rattle.event_machine.specs.Events.{drop, take, IsReached, MayDrop}
+use Rattle.event_machine.specs.Rounds.{IsBetweenRounds}
+use Rattle.event_machine.specs.Orders.{DropsAll, IsBegun, IsNext}
 use Rattle.event_machine.proofs.Running.{runs_on}
 use Rattle.event_machine.proofs.Sound.{IsSound, cases_label}
 use Rattle.event_machine.proofs.Keeping.{settled_once, sound_if_reached}
 use Rattle.bulk_rounds.proofs.BegunLaws.{all_drops, begins_is_begun, told_may_drop}
-use Rattle.pareto_front.specs.Fronts.{Entry, HasCost, entries}
+use Rattle.pareto_front.specs.Fronts.{HasCost}
 use Rattle.pareto_queue.specs.Queues.{SpotLess, TakesUndominated}
 use Rattle.pareto_queue.proofs.OrderLemmas.{SpotLess-irrefl, SpotLess-trans}
 use Rattle.node_front.specs.NodeFronts.{Fronts, front_at}
 use Rattle.round_core.specs.Begins.{DropsUseless, HasBegun, HasEnded, PassesBudget, SomeStay}
-use Rattle.round_core.specs.Cores.{Core, IsAt, StandsFor, as_entry, as_spot}
+use Rattle.round_core.specs.Cores.{Core, IsAt, as_entry, as_spot}
 use Rattle.round_core.specs.Taking.{DropsBarred, IsBarred, IsNextIn, KeepsWaiting, SettlesAll, StaysIn, TakesNext, WouldPass}
 use Rattle.round_core.specs.Unsettled.{CountsSettled, HasUnsettled, IsUnsettled}
 use Rattle.round_core.proofs.BarredLemmas.{barred_told, drop_told, label_next, label_stays, next_told, told_barred}
 use Rattle.round_core.proofs.OutcomeLemmas.{same_task}
-use Rattle.round_core.proofs.UnsettledLemmas.{settled_has_cost, told_spot}
+use Rattle.round_core.proofs.UnsettledLemmas.{told_spot}
 
 -- places differ
 settled_not_dropped : ¬ (settled ≡ dropped)

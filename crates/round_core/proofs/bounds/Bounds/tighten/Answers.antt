@@ -1,4 +1,4 @@
-use Rattle.std.proofs.Common.{rules, ◌≡◌, ◌⊎◌, ◌↔◌, List, ℕ, [], sym, ap, subst, refl}
+use Rattle.std.proofs.Common.{rules, ◌≡◌, ◌⊎◌, ◌↔◌, ap, subst, refl}
 use Rattle.pareto_front.specs.Fronts.{Entry, Front, HasCost, entries}
 use Rattle.round_core.specs.Bounds.{Bounds}
 use Rattle.round_core.proofs.BoundsLemmas.{has_entered, news_on, still_all_settled, tightened}

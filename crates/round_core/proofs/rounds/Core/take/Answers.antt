@@ -9,7 +9,7 @@ use Rattle.round_core.specs.Bounds.{IsUseless}
 use Rattle.round_core.specs.Kept.{IsKept}
 use Rattle.round_core.specs.Taking.{IsBarred, KeepsWaiting, SettlesAll, TakesNext, WouldPass}
 use Rattle.round_core.specs.Unsettled.{HasUnsettled}
-use Rattle.round_core.specs.Waiting.{Waiting, all_waiting}
+use Rattle.round_core.specs.Waiting.{all_waiting}
 use Rattle.round_core.proofs.KeptLemmas.{bounds_alike, core_of, free_all, given_back_all, keeps_waiting, kept_on, kept_settled, took_once, took_outside}
 use Rattle.round_core.proofs.KeptLemmas.{took_unsettled, useless_alike}
 use Rattle.round_core.proofs.rounds.Core.take.Goals as goal
@@ -37,17 +37,31 @@ pub give_back-requires : goal.give_back-requires
 give_back-requires g c =
     let was = c.in_ok-take_undominated.ensures in
     let old = all_waiting c.self.inside.waiting in
-    let took = c.take_undominated.new.taken.items in
-    (search rules, (search rules, (was.none_fresh,
-    (took_once old took (all_waiting c.take_undominated.new.self) was.taken, took_outside old took c.take_undominated.new.self was.taken))))
+    let took = c.take_undominated.new.taken.items in (
+      search rules,
+      (
+        search rules,
+        (
+          was.none_fresh,
+          (took_once old took (all_waiting c.take_undominated.new.self) was.taken, took_outside old took c.take_undominated.new.self was.taken),
+        ),
+      ),
+    )
 
 pub give_back-requires-then-is_err : goal.give_back-requires-then-is_err
 give_back-requires-then-is_err g c =
     let was = c.in_ok-take_undominated.ensures in
     let old = all_waiting c.self.inside.waiting in
-    let took = c.take_undominated.new.taken.items in
-    (search rules, (search rules, (was.none_fresh,
-    (took_once old took (all_waiting c.take_undominated.new.self) was.taken, took_outside old took c.take_undominated.new.self was.taken))))
+    let took = c.take_undominated.new.taken.items in (
+      search rules,
+      (
+        search rules,
+        (
+          was.none_fresh,
+          (took_once old took (all_waiting c.take_undominated.new.self) was.taken, took_outside old took c.take_undominated.new.self was.taken),
+        ),
+      ),
+    )
 
 pub invariant_of-self-then-count-self : goal.invariant_of-self-then-count-self
 invariant_of-self-then-count-self g c =

@@ -1,12 +1,12 @@
-use Rattle.std.proofs.Common.{IsTrue, ◌↔◌, rules, sym, subst, ap, ◌≡◌, ◌≢◌, List, ◌∙◌}
-use Rattle.std.specs.Prelude.{All, AllPairs, Contains}
+use Rattle.std.proofs.Common.{IsTrue, ◌↔◌, rules, subst, ap, ◌≢◌, List, ◌∙◌}
+use Rattle.std.specs.Prelude.{All}
 use Rattle.compact_labels.specs.declared.cost.CompactCost.{CompactCost}
 use Rattle.compact_labels.specs.declared.label.CompactSpot.{CompactSpot}
 use Rattle.pareto_front.specs.Fronts.{HasCost, entries}
 use Rattle.pareto_queue.specs.Queues.{IsDominatedBy, LosesWhere}
 use Rattle.pareto_queue.proofs.RetainedLemmas.{pairs_by_retain}
 use Rattle.round_core.specs.Bounds.{IsUseless}
-use Rattle.round_core.specs.Waiting.{AreOnce, Waiting, all_waiting}
+use Rattle.round_core.specs.Waiting.{Waiting}
 use Rattle.round_core.proofs.WaitingLemmas.{left_by_retain, once_left, told_useless, useless_by_news}
 use Rattle.round_core.proofs.waiting.Waiting.drop_useless.Goals as goal
 

@@ -13,7 +13,7 @@ use Rattle.compact_labels.specs.declared.label.CompactSpot.{CompactSpot}
 use Rattle.pareto_queue.specs.Queues.{LosesWhere}
 use Rattle.pareto_front.specs.Calls.{GrowsBy, entry_of}
 use Rattle.pareto_front.specs.Fronts.{Entry, Front, HasCost, IsCovered, IsDominated, SparesSettled, entries}
-use Rattle.pareto_front.specs.Merging.{IsAdded, IsMerged, IsRemoved, Stays}
+use Rattle.pareto_front.specs.Merging.{IsAdded, IsMerged, IsRemoved}
 use Rattle.node_front.specs.Apart.{AreApart}
 use Rattle.node_front.specs.Deltas.{MergesAll, told_at}
 use Rattle.node_front.specs.NodeFronts.{Fronts, SameElsewhere, front_at}

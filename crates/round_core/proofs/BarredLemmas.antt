@@ -1,5 +1,5 @@
 -- What stays and what is taken next, told by the spots of a core and by the labels of the machine.
-use Rattle.std.proofs.Common.{◌≡◌, ◌⊎◌, ◌↔◌, ℕ, List, Option, inl, inr, refl, sym, ap, subst, arith}
+use Rattle.std.proofs.Common.{◌≡◌, ◌⊎◌, ◌↔◌, ℕ, List, Option, inl, inr, refl, sym, subst, arith}
 use Rattle.std.specs.Prelude.{Contains}
 use Rattle.cost_vector.specs.Costs.{Dominates, Within}
 use Rattle.cost_vector.proofs.Vectors.{cases_Dominates, cases_Within}
@@ -8,7 +8,7 @@ use Rattle.compact_labels.specs.declared.label.CompactSpot.{CompactSpot}
 use Rattle.event_machine.specs.Machine.{Task, Label, SearchState, IsBeatenAtTarget}
 use Rattle.event_machine.specs.Events.{MayDrop}
 use Rattle.event_machine.specs.Orders.{IsNext, Stays}
-use Rattle.pareto_front.specs.Fronts.{Entry, IsDominated}
+use Rattle.pareto_front.specs.Fronts.{Entry}
 use Rattle.node_front.specs.NodeFronts.{front_at}
 use Rattle.round_core.specs.Cores.{Core, IsAt, as_entry, as_spot}
 use Rattle.round_core.specs.Taking.{IsBarred, IsNextIn, StaysIn}

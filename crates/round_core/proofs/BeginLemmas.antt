@@ -1,5 +1,5 @@
 -- What the answers of `begin` say, by what was dropped and what was taken.
-use Rattle.std.proofs.Common.{◌≡◌, ◌≢◌, ℕ, ◌+◌, ◌<◌, ◌≤◌, List, [], ◌∷◌, Option, inl, inr, sym, subst, refl, ◌∙◌, arith}
+use Rattle.std.proofs.Common.{◌≡◌, ◌≢◌, ℕ, ◌+◌, ◌≤◌, List, [], ◌∷◌, Option, inl, inr, subst, refl, ◌∙◌, arith}
 use Rattle.std.specs.Prelude.{All, Contains, Result, Ok, Err, IfOk, OnOk}
 use Rattle.list_laws.proofs.Members.{all_from_in, each_in, in_first}
 use Rattle.cost_vector.specs.Costs.{Within}

@@ -2,32 +2,32 @@
 use Rattle.std.proofs.Common.{◌≡◌, ◌≢◌, ◌⊎◌, ◌↔◌, ℕ, ◌+◌, ◌<◌, ◌≤◌, List, [], ◌++◌, length, map, inl, inr, refl, sym, ap, subst, ◌∙◌, arith}
 use Rattle.std.specs.Prelude.{AllPairs, Contains}
 use Rattle.std.proofs.lemmas.List.{length-append, length-map}
-use Rattle.list_laws.specs.Sets.{HasMoreThan, ListsOnce}
+use Rattle.list_laws.specs.Sets.{HasMoreThan}
 use Rattle.list_laws.proofs.Ascending.{ascending_distinct}
 use Rattle.list_laws.proofs.Members.{each_in, in_map, of_map}
-use Rattle.list_laws.proofs.OnceLaws.{IsTold, empty_if_none, in_append, list_all, more_of_map, pairs_append}
+use Rattle.list_laws.proofs.OnceLaws.{empty_if_none, in_append, list_all, more_of_map, pairs_append}
 use Rattle.list_laws.proofs.Pairs.{pairs_map, pigeonhole}
 use Rattle.list_laws.proofs.SetLaws.{more_by_list, none_of_empty, same_by_permutation}
 use Rattle.compact_labels.specs.declared.label.CompactSpot.{CompactSpot}
-use Rattle.event_machine.specs.Machine.{Task, Label, SearchState, LeadsOn, IsSamePair, Place, settled, dropped, waiting, start_state}
-use Rattle.event_machine.specs.Events.{Event, drop, take, IsReached, MayDrop, Runs}
-use Rattle.event_machine.specs.Rounds.{IsBetweenRounds, NoneStays}
-use Rattle.event_machine.specs.Orders.{DropsAll, IsBegun, IsNext, Stays}
+use Rattle.event_machine.specs.Machine.{Task, Label, SearchState, LeadsOn, IsSamePair, settled, dropped, waiting, start_state}
+use Rattle.event_machine.specs.Events.{drop, take, IsReached, MayDrop}
+use Rattle.event_machine.specs.Rounds.{IsBetweenRounds}
+use Rattle.event_machine.specs.Orders.{DropsAll, IsBegun, IsNext}
 use Rattle.event_machine.proofs.Running.{runs_on}
 use Rattle.event_machine.proofs.Sound.{IsSound, cases_label}
 use Rattle.event_machine.proofs.Keeping.{settled_once, sound_if_reached}
 use Rattle.bulk_rounds.proofs.BegunLaws.{all_drops, begins_is_begun, told_may_drop}
-use Rattle.pareto_front.specs.Fronts.{Entry, HasCost, entries}
+use Rattle.pareto_front.specs.Fronts.{HasCost}
 use Rattle.pareto_queue.specs.Queues.{SpotLess, TakesUndominated}
 use Rattle.pareto_queue.proofs.OrderLemmas.{SpotLess-irrefl, SpotLess-trans}
 use Rattle.node_front.specs.NodeFronts.{Fronts, front_at}
 use Rattle.round_core.specs.Begins.{DropsUseless, HasBegun, HasEnded, PassesBudget, SomeStay}
-use Rattle.round_core.specs.Cores.{Core, IsAt, StandsFor, as_entry, as_spot}
+use Rattle.round_core.specs.Cores.{Core, IsAt, as_entry, as_spot}
 use Rattle.round_core.specs.Taking.{DropsBarred, IsBarred, IsNextIn, KeepsWaiting, SettlesAll, StaysIn, TakesNext, WouldPass}
 use Rattle.round_core.specs.Unsettled.{CountsSettled, HasUnsettled, IsUnsettled}
 use Rattle.round_core.proofs.BarredLemmas.{barred_told, drop_told, label_next, label_stays, next_told, told_barred}
 use Rattle.round_core.proofs.OutcomeLemmas.{same_task}
-use Rattle.round_core.proofs.UnsettledLemmas.{settled_has_cost, told_spot}
+use Rattle.round_core.proofs.UnsettledLemmas.{told_spot}
 
 -- places differ
 settled_not_dropped : ¬ (settled ≡ dropped)
@@ -110,7 +110,8 @@ module _ {D : ℕ} (task : Task) (before : Core D) (s : SearchState) (none : bef
       search = same_task task before after drops.same_search at.search;
       reached = reached_by_drops left all;
       stands = record {
-        settled = λ y. subst (λ (f : Fronts). Contains left.settled y ↔ Contains (front_at f y.node).settled (as_entry y)) (sym drops.fronts) (stands_settled y);
+        settled = λ y. subst (λ (f : Fronts). Contains left.settled y ↔ Contains (front_at f y.node).settled (as_entry y)) (sym drops.fronts)
+            (stands_settled y);
         dropped = λ y. subst (λ (f : Fronts). Contains left.dropped y ↔ (IsUnsettled (front_at f y.node) (as_entry y) × (¬ Contains after.waiting (as_spot y))))
             (sym drops.fronts) (stands_dropped y);
         waiting = λ y. subst (λ (f : Fronts). Contains left.waiting y ↔ (IsUnsettled (front_at f y.node) (as_entry y) × Contains after.waiting (as_spot y)))
@@ -318,8 +319,8 @@ module _ {D : ℕ} (before mid : Core D) (drops : DropsBarred before mid) where
 
         begun_dropped : (y : Label) → Contains next.dropped y
             ↔ (IsUnsettled (front_at after.fronts y.node) (as_entry y) × (¬ Contains after.waiting (as_spot y)))
-        begun_dropped y = both (begun.entries dropped y) refl (λ wrong. cc) (at.stands.dropped y) (drop_told task before s at y) (next_taken y) (unsettled_then y)
-            (waits_then y) (taken_waits y) (told_spot before.waiting (as_spot y)) (told_barred before y.cost) where
+        begun_dropped y = both (begun.entries dropped y) refl (λ wrong. cc) (at.stands.dropped y) (drop_told task before s at y) (next_taken y)
+            (unsettled_then y) (waits_then y) (taken_waits y) (told_spot before.waiting (as_spot y)) (told_barred before y.cost) where
               both : {A S M N Q R U W B T V X : Type 0} → (A ↔ ((S × (¬ M) × (¬ N)) ⊎ ((Q × M) ⊎ (R × N)))) → Q → ¬ R → (S ↔ (U × (¬ W)))
                   → (M ↔ (U × (W × B))) → (N ↔ (U × T)) → (V ↔ (U × (¬ T))) → (X ↔ ((W × (¬ B)) × (¬ T))) → (T → W × (¬ B)) → (W ⊎ (¬ W)) → (B ⊎ (¬ B))
                   → (A ↔ (V × (¬ X)))
@@ -382,7 +383,8 @@ module _ {D : ℕ} (before mid : Core D) (drops : DropsBarred before mid) where
 
       pub has_begun : (x : CompactSpot D) → Contains mid.waiting x → HasBegun before after
       has_begun x waits =
-          let within : takes.count + length after.taken ≤ before.budget = subst (λ b. takes.count + length after.taken ≤ b) drops.same_search.budget takes.within in
+          let within : takes.count + length after.taken ≤ before.budget =
+          subst (λ b. takes.count + length after.taken ≤ b) drops.same_search.budget takes.within in
           record {
             some_stay = some_stay x waits;
             ascending = takes.taken.ascending;

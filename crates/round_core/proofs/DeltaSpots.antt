@@ -1,5 +1,5 @@
 -- The spots that the deltas of a round tell: those of new entries come to wait, and those of entries that are gone leave.
-use Rattle.std.proofs.Common.{◌≡◌, ◌≢◌, ◌⊎◌, ◌↔◌, ℕ, ◌≤◌, Bool, true, nat_eq, List, [], ◌∷◌, ◌++◌, map, inl, inr, refl, sym, ap, subst, ◌∙◌, arith}
+use Rattle.std.proofs.Common.{◌≡◌, ◌≢◌, ◌⊎◌, ◌↔◌, ℕ, true, nat_eq, List, [], ◌∷◌, ◌++◌, map, inl, refl, sym, ap, subst, ◌∙◌, arith}
 use Rattle.std.specs.Prelude.{All, AllPairs, Contains, filter, slice_index_or}
 use Rattle.std.proofs.lemmas.Bool.Decides.{nat_tests}
 use Rattle.list_laws.proofs.Members.{all_from_in, each_in, in_first, in_none, in_rest, in_map, of_map, in_filter, of_filter}
@@ -13,7 +13,7 @@ use Rattle.pareto_front.specs.Fronts.{Entry, Front, SparesSettled, empty_front, 
 use Rattle.pareto_front.specs.Merging.{IsAdded, IsDelta, IsMerged, IsRemoved}
 use Rattle.pareto_queue.specs.Queues.{Gains, LosesWhere}
 use Rattle.node_front.specs.Apart.{AreApart}
-use Rattle.node_front.specs.Deltas.{AreDeltas, AreSomeDeltas, Deltas, MergesAll, costs_told_at, delta_at, told_at}
+use Rattle.node_front.specs.Deltas.{AreDeltas, Deltas, MergesAll, costs_told_at, delta_at, told_at}
 use Rattle.node_front.specs.NodeFronts.{Fronts, SameFronts, front_at}
 use Rattle.node_front.proofs.ApartLemmas.{same_entry}
 use Rattle.node_front.proofs.MergeLaws.{brought_candidate}

@@ -1,5 +1,5 @@
 -- What a core keeps where candidates have come to its fronts.
-use Rattle.std.proofs.Common.{◌≡◌, ◌↔◌, ℕ, List, [], sym, subst}
+use Rattle.std.proofs.Common.{◌≡◌, ◌↔◌, ℕ, List, sym, subst}
 use Rattle.std.specs.Prelude.{All, Contains}
 use Rattle.cost_vector.specs.Costs.{Dominates}
 use Rattle.list_laws.proofs.Members.{all_from_in, each_in}
@@ -7,8 +7,7 @@ use Rattle.list_laws.proofs.OnceLaws.{once_as}
 use Rattle.compact_labels.specs.declared.label.CompactLabel.{CompactLabel}
 use Rattle.compact_labels.specs.declared.label.CompactSpot.{CompactSpot}
 use Rattle.road_network.specs.Network.{IsNode}
-use Rattle.pareto_front.specs.Calls.{entry_of}
-use Rattle.pareto_front.specs.Fronts.{Entry, HasCost, SparesSettled, entries}
+use Rattle.pareto_front.specs.Fronts.{Entry, HasCost, SparesSettled}
 use Rattle.pareto_queue.specs.Queues.{IsDominatedBy}
 use Rattle.node_front.specs.Deltas.{MergesAll, told_at}
 use Rattle.node_front.specs.NodeFronts.{Fronts, front_at}

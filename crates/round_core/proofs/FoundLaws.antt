@@ -1,7 +1,6 @@
 -- What follows for the labels of a core from the state for which it stands.
-use Rattle.std.proofs.Common.{◌≡◌, ◌↔◌, ℕ, List, [], inl, inr, refl, sym, ap, subst, ◌∙◌}
+use Rattle.std.proofs.Common.{◌≡◌, ◌↔◌, ℕ, List, [], inl, inr, refl, sym, subst, ◌∙◌}
 use Rattle.std.specs.Prelude.{Contains}
-use Rattle.cost_vector.specs.Costs.{Dominates}
 use Rattle.cost_vector.proofs.Vectors.{AtMost-Dominates}
 use Rattle.list_laws.specs.Sets.{HasMoreThan}
 use Rattle.list_laws.proofs.OnceLaws.{empty_if_none}
@@ -11,7 +10,7 @@ use Rattle.road_network.specs.Network.{AreSmall, IsNode}
 use Rattle.road_network.specs.Answers.{IsRelevant}
 use Rattle.road_network.specs.Walks.{IsSumOf}
 use Rattle.road_network.proofs.WalkLaws.{leads_to_node, node_of_walk}
-use Rattle.event_machine.specs.Machine.{Task, Label, SearchState, Follows, IsActive, has_arc, settled}
+use Rattle.event_machine.specs.Machine.{Task, Label, SearchState, has_arc, settled}
 use Rattle.event_machine.specs.Machine.{HasSettled as HasSettledLabel}
 use Rattle.event_machine.specs.Orders.{IsArrival, IsGiven}
 use Rattle.event_machine.proofs.Sound.{IsSound, grown_from_settled, known_is_bounded}

@@ -1,10 +1,10 @@
 -- What a core keeps, while spots are dropped, taken and settled.
-use Rattle.std.proofs.Common.{◌≡◌, ◌≢◌, ◌⊎◌, ◌↔◌, ◌+◌, ◌<◌, ◌≤◌, ℕ, List, [], ◌∷◌, ◌++◌, get_or, length, inl, inr, refl, sym, ap, subst, ◌∙◌, arith}
+use Rattle.std.proofs.Common.{◌≡◌, ◌≢◌, ◌⊎◌, ◌↔◌, ◌+◌, ◌≤◌, ℕ, List, [], ◌++◌, get_or, length, inl, inr, refl, sym, subst, ◌∙◌, arith}
 use Rattle.std.specs.Prelude.{All, AllPairs, Contains, Option}
 use Rattle.std.proofs.lemmas.List.{length-append}
-use Rattle.cost_vector.specs.Costs.{Dominates, Within}
+use Rattle.cost_vector.specs.Costs.{Within}
 use Rattle.compact_labels.specs.declared.label.CompactSpot.{CompactSpot}
-use Rattle.list_laws.specs.Sets.{ListsOnce, SameMembers}
+use Rattle.list_laws.specs.Sets.{SameMembers}
 use Rattle.list_laws.proofs.Members.{all_from_in, each_in}
 use Rattle.list_laws.proofs.OnceLaws.{in_append, lists_append}
 use Rattle.road_network.specs.Network.{IsNode}
@@ -13,9 +13,9 @@ use Rattle.pareto_queue.specs.Queues.{IsDominatedBy, LosesWhere, SpotLess, Takes
 use Rattle.pareto_queue.proofs.OrderLemmas.{SpotLess-irrefl}
 use Rattle.node_front.specs.NodeFronts.{Fronts, front_at}
 use Rattle.round_core.specs.Bounds.{Bounds, IsUseless}
-use Rattle.round_core.specs.Cores.{Core, SameSearch}
+use Rattle.round_core.specs.Cores.{Core}
 use Rattle.round_core.specs.Kept.{IsKept}
-use Rattle.round_core.specs.Taking.{AreBoundsOf, DropsBarred, IsBarred, KeepsWaiting, SettlesAll, StaysIn, TellsNews}
+use Rattle.round_core.specs.Taking.{AreBoundsOf, DropsBarred, IsBarred, KeepsWaiting, SettlesAll, TellsNews}
 use Rattle.round_core.specs.Unsettled.{CountsSettled, HasUnsettled}
 use Rattle.round_core.specs.Waiting.{Waiting, all_waiting}
 use Rattle.round_core.proofs.SettlingLemmas.{apart_still, costs_settled, unsettled_still}
@@ -98,7 +98,8 @@ module _ {D : ℕ} (b : Bounds D) (w v : Waiting D) (queued : LosesWhere (λ x. 
 
 module _ {D : ℕ} (old took left : List (CompactSpot D)) (takes : TakesUndominated old took left) where
   pub took_once : AllPairs ◌≢◌ took
-  took_once = λ i j d before within same. SpotLess-irrefl (get_or took j d) (subst (λ x. SpotLess x (get_or took j d)) same (takes.ascending i j d before within))
+  took_once = λ i j d before within same. SpotLess-irrefl (get_or took j d)
+      (subst (λ x. SpotLess x (get_or took j d)) same (takes.ascending i j d before within))
 
   pub took_apart : (x : CompactSpot D) → Contains took x → ¬ Contains left x
   took_apart x there left_too = ((takes.rest x).0 left_too).1 there
@@ -185,8 +186,8 @@ pub given_back_all : {D : ℕ} (old took : List (CompactSpot D)) (v gb : Waiting
     → gb.queued ≡ v.queued → gb.fresh ≡ took → SameMembers (all_waiting gb) old
 given_back_all {D} old took v gb takes none queued fresh =
     subst (λ (xs : List (CompactSpot D)). SameMembers (gb.queued ++ xs) old) (sym fresh) (given_back old took (all_waiting v) takes gb.queued (λ x.
-        let same = none_fresh v.queued v.fresh none x in
-        subst (λ (xs : List (CompactSpot D)). Contains xs x ↔ Contains (all_waiting v) x) (sym queued) (same.1, same.0)))
+    let same = none_fresh v.queued v.fresh none x in
+    subst (λ (xs : List (CompactSpot D)). Contains xs x ↔ Contains (all_waiting v) x) (sym queued) (same.1, same.0)))
 
 -- what was taken isn't in the queue that is left
 pub took_outside : {D : ℕ} (old took : List (CompactSpot D)) (v : Waiting D) → TakesUndominated old took (all_waiting v)

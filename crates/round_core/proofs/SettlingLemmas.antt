@@ -1,20 +1,20 @@
 -- Entries that are settled one after another, and the bounds by those of the target.
-use Rattle.std.proofs.Common.{length-take, ◌≡◌, ◌≢◌, ◌⊎◌, ◌↔◌, ◌+◌, ◌<◌, ◌≤◌, ℕ, List, [], ◌∷◌, ◌++◌, length, get_or, take, inl, inr, refl, sym, ap, subst, ◌∙◌, arith}
-use Rattle.std.specs.Prelude.{All, AllPairs, Contains}
+use Rattle.std.proofs.Common.{length-take, ◌≡◌, ◌≢◌, ◌⊎◌, ◌↔◌, ◌<◌, ℕ, List, [], ◌∷◌, ◌++◌, length, get_or, take, inl, inr, refl, sym, ap, subst, ◌∙◌, arith}
+use Rattle.std.specs.Prelude.{AllPairs, Contains}
 use Rattle.std.proofs.lemmas.Bool.{cases_eq}
 use Rattle.std.proofs.lemmas.List.{get_or-take}
 use Rattle.cost_vector.specs.Costs.{AtMost, Dominates}
 use Rattle.cost_vector.proofs.Vectors.{cases_same}
 use Rattle.compact_labels.specs.declared.cost.CompactCost.{CompactCost}
 use Rattle.compact_labels.specs.declared.label.CompactSpot.{CompactSpot}
-use Rattle.list_laws.proofs.Members.{cases_push, each_in, in_first, in_none}
+use Rattle.list_laws.proofs.Members.{cases_push, in_first, in_none}
 use Rattle.list_laws.proofs.OnceLaws.{in_append}
 use Rattle.pareto_front.specs.Calls.{Settles}
 use Rattle.pareto_front.specs.Fronts.{Entry, Front, HasCost, IsCovered, SparesSettled, entries}
 use Rattle.node_front.specs.Apart.{AreApart}
 use Rattle.node_front.specs.Deltas.{spot_told}
 use Rattle.node_front.specs.NodeFronts.{Fronts, SameElsewhere, front_at}
-use Rattle.node_front.proofs.ApartLemmas.{AtMost-same, apart_not_dominated, has_append}
+use Rattle.node_front.proofs.ApartLemmas.{apart_not_dominated}
 use Rattle.round_core.specs.Bounds.{Bounds}
 use Rattle.round_core.specs.Taking.{AreBoundsOf, SettlesAll, TellsNews}
 use Rattle.round_core.specs.Unsettled.{HasUnsettled}
@@ -100,22 +100,27 @@ module _ {D : ℕ} where
     )
 
     in_more : (y : CompactSpot D) → Contains (xs ++ x ∷ []) y ↔ (Contains xs y ⊎ (y ≡ x))
-    in_more y = (cases_push xs x y, elim [
-      | inl old ↦ (in_append xs (x ∷ []) y).1 (inl old)
-      | inr same ↦ (in_append xs (x ∷ []) y).1 (inr (subst (Contains (x ∷ [])) (sym same) (in_first x [])))
-    ])
+    in_more y = (
+      cases_push xs x y,
+      elim [
+        | inl old ↦ (in_append xs (x ∷ []) y).1 (inl old)
+        | inr same ↦ (in_append xs (x ∷ []) y).1 (inr (subst (Contains (x ∷ [])) (sym same) (in_first x [])))
+      ],
+    )
 
     settled_now : (v : ℕ) (e : Entry) → Contains (front_at h v).settled e
         ↔ (Contains (front_at g v).settled e ⊎ (Contains (entries (front_at g v)) e × (spot_told v e.cost ≡ x)))
     settled_now v e = elim (cases_eq v x.node.0) [
       | inl same ↦ here same
-      | inr other ↦ subst (λ (k : Front). Contains k.settled e ↔ (Contains (front_at g v).settled e ⊎ (Contains (entries (front_at g v)) e × (spot_told v e.cost ≡ x))))
+      | inr other ↦ subst (λ (k : Front). Contains k.settled e
+          ↔ (Contains (front_at g v).settled e ⊎ (Contains (entries (front_at g v)) e × (spot_told v e.cost ≡ x))))
           (sym (elsewhere.others v other)) (λ t. inl t, elim [ inl t ↦ t | inr t ↦ absurd (other ((is_last v e.cost).0 t.1).0) ])
     ] where
       here : v ≡ x.node.0 → Contains (front_at h v).settled e
           ↔ (Contains (front_at g v).settled e ⊎ (Contains (entries (front_at g v)) e × (spot_told v e.cost ≡ x)))
       here same =
-          let now = subst (λ w. Contains (front_at h w).settled e ↔ (Contains (front_at g w).settled e ⊎ (Contains (entries (front_at g w)) e × (e.cost ≡ x.cost.0))))
+          let now = subst (λ w. Contains (front_at h w).settled e
+          ↔ (Contains (front_at g w).settled e ⊎ (Contains (entries (front_at g w)) e × (e.cost ≡ x.cost.0))))
           (sym same) (settled_entries (front_at g x.node.0) (front_at h x.node.0) x.cost.0 settles e) in
           let last = is_last v e.cost in
           by now last same where

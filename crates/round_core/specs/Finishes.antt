@@ -1,7 +1,6 @@
 -- How a round ends.
 use Rattle.std.specs.Prelude.{◌≡◌, ℕ, ◌↔◌, List, [], Contains}
 use Rattle.compact_labels.specs.declared.label.CompactLabel.{CompactLabel}
-use Rattle.compact_labels.specs.declared.label.CompactSpot.{CompactSpot}
 use Rattle.road_network.specs.Network.{Network}
 use Rattle.event_machine.specs.Machine.{Task, Label, SearchState}
 use Rattle.event_machine.specs.Events.{Event, Runs}

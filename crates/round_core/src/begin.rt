@@ -78,12 +78,7 @@ impl<const D: usize, F: ParetoFront<D> + Drop> Core<D, F> {
             self.waiting.give_back(&mut self.taken);
             return Err(OutOfMemory);
         }
-        settle_all(
-            &mut self.fronts,
-            &mut self.bounds,
-            &self.taken,
-            self.target,
-        );
+        settle_all(&mut self.fronts, &mut self.bounds, &self.taken, self.target);
         self.settled += count;
         Ok(Begun::Taken)
     }

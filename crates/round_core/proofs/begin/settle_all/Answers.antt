@@ -1,4 +1,4 @@
-use Rattle.std.proofs.Common.{rules, ◌≡◌, ◌<◌, ◌≤◌, ◌++◌, ◌∷◌, [], ℕ, List, length, take, arith, sym, subst, ap, ◌∙◌, ◌+◌}
+use Rattle.std.proofs.Common.{rules, ◌≡◌, ◌≤◌, ◌++◌, ◌∷◌, [], take, arith, sym, subst, ap, ◌∙◌, ◌+◌}
 use Rattle.std.proofs.lemmas.List.{take_more}
 use Rattle.compact_labels.specs.declared.label.CompactSpot.{CompactSpot}
 use Rattle.node_front.specs.NodeFronts.{front_at}

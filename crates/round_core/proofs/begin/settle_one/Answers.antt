@@ -1,7 +1,7 @@
-use Rattle.std.proofs.Common.{rules, ◌≡◌, ◌≢◌, ◌↔◌, ℕ, List, arith, sym, subst, ap, ◌∙◌}
+use Rattle.std.proofs.Common.{rules, ◌≡◌, ◌≢◌, arith, sym, subst}
 use Rattle.std.proofs.lemmas.Bool.Decides.{nat_tests}
 use Rattle.pareto_front.specs.Calls.{Settles}
-use Rattle.pareto_front.specs.Fronts.{Front, HasCost, entries}
+use Rattle.pareto_front.specs.Fronts.{Front}
 use Rattle.node_front.specs.NodeFronts.{front_at}
 use Rattle.round_core.specs.Taking.{AreBoundsOf}
 use Rattle.round_core.specs.Unsettled.{HasUnsettled}

@@ -1,4 +1,4 @@
-use Rattle.std.proofs.Common.{below_more, ◌≡◌, ℕ, ◌<◌, ◌≤◌, ◌^◌, length, arith, get_or}
+use Rattle.std.proofs.Common.{below_more, ◌≡◌, ◌<◌, ◌≤◌, ◌^◌, length, arith, get_or}
 use Rattle.std.specs.Prelude.{slice_index}
 use Rattle.round_core.proofs.BoundsLemmas.{within_by_places, none_greater_more}
 use Rattle.round_core.proofs.bounds.is_within.Goals as goal
@@ -18,8 +18,7 @@ returns g c limit greatest =
     let by = within_by_places limit cost (omega (arith, long, most_long, greatest.long)) in
     let each = c.loop-i.invariant.none_greater in
     let fits = c.loop-i.invariant.fits in
-    let all : g.row.D ≤ c.loop-i.i = c.loop-i-test.false in
-    (
+    let all : g.row.D ≤ c.loop-i.i = c.loop-i-test.false in (
       λ h. by.0 (λ k below.
           let passed : k < c.loop-i.i = omega (arith, all, below, most_long, greatest.long) in
           (greatest.allowed k (get_or cost k 0) below (fits k passed)).1 (each.0 h k passed)),

@@ -1,4 +1,4 @@
-use Rattle.std.proofs.Common.{◌≡◌, ℕ, ◌<◌, ◌≤◌, ◌^◌, ◌↔◌}
+use Rattle.std.proofs.Common.{ℕ, ◌<◌, ◌≤◌, ◌^◌, ◌↔◌}
 use Rattle.std.specs.Prelude.{IsTrue, slice_index}
 use Rattle.round_core.proofs.bounds.is_within.Given as goal
 

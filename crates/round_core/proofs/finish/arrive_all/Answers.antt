@@ -1,17 +1,14 @@
-use Rattle.std.proofs.Common.{◌≡◌, ◌+◌, List, [], ◌∷◌, ◌++◌, take, refl, sym, subst, ◌∙◌, arith}
-use Rattle.std.specs.Prelude.{Contains, All}
-use Rattle.std.proofs.lemmas.List.{take_all}
-use Rattle.list_laws.proofs.Members.{each_in, all_from_in}
+use Rattle.std.proofs.Common.{List, take, refl, sym, subst, ◌∙◌, arith}
+use Rattle.std.specs.Prelude.{Contains}
+use Rattle.list_laws.proofs.Members.{each_in}
 use Rattle.compact_labels.specs.declared.label.CompactLabel.{CompactLabel}
 use Rattle.compact_labels.specs.declared.label.CompactSpot.{CompactSpot}
 use Rattle.road_network.specs.Network.{IsNode}
 use Rattle.pareto_front.specs.Fronts.{SparesSettled}
-use Rattle.pareto_queue.specs.Queues.{LosesWhere}
-use Rattle.node_front.specs.Deltas.{MergesAll}
 use Rattle.node_front.specs.NodeFronts.{front_at}
 use Rattle.node_front.proofs.DeltaLemmas.{if_ok_both}
 use Rattle.node_front.proofs.RoundLemmas.{next_taken}
-use Rattle.round_core.specs.Arriving.{HaveArrived, WaitsAsMerged}
+use Rattle.round_core.specs.Arriving.{HaveArrived}
 use Rattle.round_core.specs.Unsettled.{HasUnsettled}
 use Rattle.round_core.specs.Waiting.{all_waiting}
 use Rattle.round_core.proofs.ArrivingLemmas.{none_arrived, one_arrived, still_spares, waiting_covered, waits_without}

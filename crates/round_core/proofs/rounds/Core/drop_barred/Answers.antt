@@ -1,9 +1,7 @@
-use Rattle.std.proofs.Common.{refl, sym, subst, ap, ◌≡◌, ◌∙◌, []}
-use Rattle.std.specs.Prelude.{All}
-use Rattle.node_front.specs.NodeFronts.{front_at}
+use Rattle.std.proofs.Common.{refl, subst, ap, ◌≡◌, ◌∙◌, []}
 use Rattle.round_core.specs.Cores.{Core}
 use Rattle.round_core.specs.Taking.{DropsBarred}
-use Rattle.round_core.specs.Waiting.{Waiting, all_waiting}
+use Rattle.round_core.specs.Waiting.{all_waiting}
 use Rattle.round_core.proofs.KeptLemmas.{drops_barred, kept_on, left_of_all}
 use Rattle.round_core.proofs.rounds.Core.drop_barred.Goals as goal
 

@@ -1,8 +1,7 @@
 use Rattle.std.proofs.Common.{List, refl, sym, subst, arith}
 use Rattle.std.specs.Prelude.{All, AllPairs, Contains}
 use Rattle.compact_labels.specs.declared.label.CompactLabel.{CompactLabel}
-use Rattle.road_network.specs.Network.{IsNode}
-use Rattle.node_front.specs.Deltas.{AreDeltas, AreSomeDeltas}
+use Rattle.node_front.specs.Deltas.{AreDeltas}
 use Rattle.round_core.specs.Arriving.{spot_at}
 use Rattle.round_core.specs.Cores.{Core}
 use Rattle.round_core.specs.Waiting.{all_waiting}

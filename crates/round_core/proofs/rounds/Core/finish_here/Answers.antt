@@ -5,7 +5,6 @@ use Rattle.road_network.specs.Network.{IsNode}
 use Rattle.pareto_front.specs.Fronts.{SparesSettled}
 use Rattle.node_front.specs.NodeFronts.{front_at}
 use Rattle.round_core.specs.Cores.{Core}
-use Rattle.round_core.specs.Waiting.{all_waiting}
 use Rattle.round_core.proofs.FinishLemmas.{kept_after}
 use Rattle.round_core.proofs.OutcomeLemmas.{finishes_at, merges_at}
 use Rattle.round_core.proofs.rounds.Core.finish_here.Goals as goal

@@ -1,8 +1,8 @@
-use Rattle.std.proofs.Common.{rules, sym, subst, ◌↔◌, ◌⊎◌, arith, List}
+use Rattle.std.proofs.Common.{rules, subst, ◌↔◌, ◌⊎◌, List}
 use Rattle.std.specs.Prelude.{Contains}
 use Rattle.compact_labels.specs.declared.label.CompactSpot.{CompactSpot}
 use Rattle.list_laws.proofs.OnceLaws.{in_append}
-use Rattle.round_core.specs.Waiting.{AreOnce, Waiting, all_waiting}
+use Rattle.round_core.specs.Waiting.{Waiting, all_waiting}
 use Rattle.round_core.proofs.waiting.Waiting.admit.Goals as goal
 
 pub put_all-requires : goal.put_all-requires

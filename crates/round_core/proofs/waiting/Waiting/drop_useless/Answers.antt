@@ -1,12 +1,12 @@
-use Rattle.std.proofs.Common.{IsTrue, ◌↔◌, rules, sym, subst, ap, ◌≡◌, ◌≢◌, List, ◌∙◌}
-use Rattle.std.specs.Prelude.{All, AllPairs, Contains}
+use Rattle.std.proofs.Common.{IsTrue, ◌↔◌, rules, subst, ap, ◌≢◌, List, ◌∙◌}
+use Rattle.std.specs.Prelude.{All}
 use Rattle.compact_labels.specs.declared.cost.CompactCost.{CompactCost}
 use Rattle.compact_labels.specs.declared.label.CompactSpot.{CompactSpot}
 use Rattle.pareto_front.specs.Fronts.{HasCost, entries}
 use Rattle.pareto_queue.specs.Queues.{IsDominatedBy, LosesWhere}
 use Rattle.pareto_queue.proofs.RetainedLemmas.{pairs_by_retain}
 use Rattle.round_core.specs.Bounds.{IsUseless}
-use Rattle.round_core.specs.Waiting.{AreOnce, Waiting, all_waiting}
+use Rattle.round_core.specs.Waiting.{Waiting}
 use Rattle.round_core.proofs.WaitingLemmas.{left_by_retain, once_left, told_useless, useless_by_news}
 use Rattle.round_core.proofs.waiting.Waiting.drop_useless.Goals as goal
 
@@ -22,7 +22,8 @@ queued_left g c =
 
 fresh_left : (g : _) (c : goal.After-retain g) → LosesWhere (λ x. IsUseless c.args.bounds.now x.cost.0) c.self.inside.fresh.items c.retain.new.self.items
 fresh_left g c = left_by_retain _ _ _ _ c.retain.ensures.filtered (λ x. IsUseless c.args.bounds.now x.cost.0)
-    (λ x. told_useless c.args.bounds.now x.cost.0) (λ x b f r. (subst (λ (y : CompactSpot g.row.D). IsTrue b ↔ (¬ IsUseless c.args.bounds.now y.cost.0)) r.shows r.called.met.1, search rules))
+    (λ x. told_useless c.args.bounds.now x.cost.0) (λ x b f r.
+    (subst (λ (y : CompactSpot g.row.D). IsTrue b ↔ (¬ IsUseless c.args.bounds.now y.cost.0)) r.shows r.called.met.1, search rules))
 
 pub invariant_of-self : goal.invariant_of-self
 invariant_of-self g c =

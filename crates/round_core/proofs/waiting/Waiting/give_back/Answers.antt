@@ -1,7 +1,6 @@
-use Rattle.std.proofs.Common.{sym, subst, ◌≢◌}
-use Rattle.std.specs.Prelude.{All, AllPairs, Contains}
-use Rattle.compact_labels.specs.declared.label.CompactSpot.{CompactSpot}
-use Rattle.round_core.specs.Waiting.{AreOnce, Waiting}
+use Rattle.std.proofs.Common.{sym, subst}
+use Rattle.std.specs.Prelude.{All, Contains}
+use Rattle.round_core.specs.Waiting.{Waiting}
 use Rattle.round_core.proofs.WaitingLemmas.{once_given}
 use Rattle.round_core.proofs.waiting.Waiting.give_back.Goals as goal
 

@@ -1,4 +1,4 @@
-use Rattle.std.proofs.Common.{◌≡◌, ◌↔◌, sym, subst, arith, []}
+use Rattle.std.proofs.Common.{◌≡◌, ◌↔◌, subst, []}
 use Rattle.std.specs.Prelude.{IsTrue}
 use Rattle.round_core.specs.Waiting.{Waiting, all_waiting}
 use Rattle.round_core.proofs.WaitingLemmas.{both_empty}

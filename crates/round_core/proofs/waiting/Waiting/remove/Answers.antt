@@ -1,13 +1,12 @@
-use Rattle.std.proofs.Common.{rules, subst, IsTrue, ◌↔◌, ◌≢◌, List}
+use Rattle.std.proofs.Common.{rules, subst, IsTrue, ◌↔◌, ◌≢◌}
 use Rattle.std.specs.Prelude.{Contains, IsPermutation}
-use Rattle.compact_labels.specs.declared.label.CompactSpot.{CompactSpot}
 use Rattle.list_laws.proofs.OnceLaws.{told_in}
 use Rattle.list_laws.proofs.Retained.{without_by_retain}
 use Rattle.pareto_queue.specs.Queues.{AreSorted, LosesWhere}
 use Rattle.pareto_queue.proofs.OrderLemmas.{cases_spot, sorted_from_cmp}
 use Rattle.pareto_queue.proofs.QueueLemmas.{same_by_sort}
 use Rattle.pareto_queue.proofs.RetainedLemmas.{fails_by_test_of, loses_by_without, pairs_by_retain}
-use Rattle.round_core.specs.Waiting.{AreOnce, Waiting}
+use Rattle.round_core.specs.Waiting.{Waiting}
 use Rattle.round_core.proofs.WaitingLemmas.{once_left}
 use Rattle.round_core.proofs.waiting.Waiting.remove.Goals as goal
 

@@ -1,5 +1,4 @@
-use Rattle.std.proofs.Common.{◌≡◌, sym, subst, arith, List, ap, ◌∙◌, refl}
-use Rattle.compact_labels.specs.declared.label.CompactSpot.{CompactSpot}
+use Rattle.std.proofs.Common.{◌≡◌, sym, subst, ap, ◌∙◌}
 use Rattle.list_laws.specs.Sets.{SameMembers}
 use Rattle.pareto_queue.specs.Queues.{TakesUndominated}
 use Rattle.pareto_queue.proofs.QueueLemmas.{by_success}

@@ -1,5 +1,6 @@
 mod ExtractionLemmas
 mod OrderLemmas
+mod PassingLemmas
 mod QueueLemmas
 mod RetainedLemmas
 mod ShadowLemmas

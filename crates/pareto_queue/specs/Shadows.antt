@@ -25,11 +25,13 @@ module _ {D : ℕ} where
     pub from : (c : CompactCost D) → Contains shadow c → (s : CompactSpot D) × Contains seen s × (s.cost ≡ c)
     pub dominates : (c : List ℕ) → IsLater seen c → (s : CompactSpot D) → Contains seen s → Dominates s.cost.0 c → IsDominatedBy shadow c
 
-  -- Of a queue's first spots those that no cost in the whole queue dominates are taken, and the others are left. Both ascend.
-  pub record IsExtracted (spots seen : List (CompactSpot D)) (costs : List (CompactCost D)) (took left : List (CompactSpot D)) : Type 0 where
+  -- the undominated ones of the spots that were seen, ascending
+  pub record IsExtracted (spots seen : List (CompactSpot D)) (costs : List (CompactCost D)) (took : List (CompactSpot D)) : Type 0 where
     pub shadow : IsShadow seen costs
-    pub each : (x : CompactSpot D) → Contains seen x → Contains took x ⊎ Contains left x
-    pub taken : (x : CompactSpot D) → Contains took x → Contains seen x × IsUndominated spots x.cost.0
-    pub rest : (x : CompactSpot D) → Contains left x → Contains seen x × ¬ IsUndominated spots x.cost.0
-    pub taken_ascends : AllPairs SpotLess took
-    pub rest_ascends : AllPairs SpotLess left
+    pub taken : (x : CompactSpot D) → Contains took x ↔ (Contains seen x × IsUndominated spots x.cost.0)
+    pub ascending : AllPairs SpotLess took
+
+  -- the undominated ones of the spots, ascending
+  pub record ListsUndominated (spots took : List (CompactSpot D)) : Type 0 where
+    pub taken : (x : CompactSpot D) → Contains took x ↔ (Contains spots x × IsUndominated spots x.cost.0)
+    pub ascending : AllPairs SpotLess took

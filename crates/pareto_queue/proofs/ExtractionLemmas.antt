@@ -11,7 +11,7 @@ use Rattle.cost_vector.proofs.Vectors.{LexLess-irrefl, LexLess-trans, LexLess_fr
 use Rattle.list_laws.proofs.Members.{in_none, each_in, cases_push}
 use Rattle.list_laws.proofs.Pairs.{pairs_none, pairs_push}
 use Rattle.pareto_queue.specs.Queues.{IsDominatedBy, IsQueue, IsUndominated, SpotLess}
-use Rattle.pareto_queue.specs.Shadows.{IsExtracted, IsLater, Joins}
+use Rattle.pareto_queue.specs.Shadows.{Descends, FallsTo, IsExtracted, IsLater, Joins}
 use Rattle.pareto_queue.proofs.OrderLemmas.{before_place}
 use Rattle.pareto_queue.proofs.ShadowLemmas.{shadow_skip, shadow_cast}
 
@@ -25,6 +25,7 @@ module _ {D : ℕ} where
   pub none_extracted : (spots : List (CompactSpot D)) → IsExtracted spots [] [] []
   none_extracted spots = record {
     shadow = record { from = λ c h. absurd (in_none c h); dominates = λ c later s h. absurd (in_none s h) };
+    descends = pairs_none FallsTo;
     taken = λ x. (λ h. absurd (in_none x h), λ h. absurd (in_none x h.0));
     ascending = pairs_none SpotLess;
   }
@@ -65,6 +66,7 @@ module _ {D : ℕ} (spots seen : List (CompactSpot D)) (shadow : List (CompactCo
   pub extracted_skip : IsDominatedBy shadow s.cost.0 → IsExtracted spots (seen ++ s ∷ []) shadow taken
   extracted_skip by = record {
     shadow = shadow_skip seen shadow s is.shadow by;
+    descends = is.descends;
     taken = λ x. (
       λ h. let was = (is.taken x).0 h in (in_more seen x was.0, was.1),
       λ h. elim (cases_push seen s x h.0) [
@@ -76,10 +78,11 @@ module _ {D : ℕ} (spots seen : List (CompactSpot D)) (shadow : List (CompactCo
   }
 
   -- s is taken
-  pub extracted_cast : ¬ IsDominatedBy shadow s.cost.0 → (after : List (CompactCost D)) → Joins shadow s.cost after
+  pub extracted_cast : ¬ IsDominatedBy shadow s.cost.0 → (after : List (CompactCost D)) → Joins shadow s.cost after → Descends after
       → IsExtracted spots (seen ++ s ∷ []) after (taken ++ s ∷ [])
-  extracted_cast none after joins = record {
+  extracted_cast none after joins descends = record {
     shadow = shadow_cast seen shadow s is.shadow none after joins;
+    descends = descends;
     taken = λ x. (
       λ h. elim (cases_push taken s x h) [
         | inl old ↦ let was = (is.taken x).0 old in (in_more seen x was.0, was.1)
@@ -138,9 +141,9 @@ module _ {D : ℕ} (spots : List (CompactSpot D)) (i : ℕ) (shadow : List (Comp
       (extracted_skip spots (take i spots) shadow taken s next is by)
 
   -- the next spot is taken
-  pub took : (after : List (CompactCost D)) (more : List (CompactSpot D)) → ¬ IsDominatedBy shadow s.cost.0 → Joins shadow s.cost after
+  pub took : (after : List (CompactCost D)) (more : List (CompactSpot D)) → ¬ IsDominatedBy shadow s.cost.0 → Joins shadow s.cost after → Descends after
       → more ≡ taken ++ s ∷ [] → IsExtracted spots (take (i + 1) spots) after more
-  took after more none joins push =
+  took after more none joins descends push =
       subst (λ seen. IsExtracted spots seen after more) one_more
       (subst (IsExtracted spots (take i spots ++ s ∷ []) after) (sym push)
-      (extracted_cast spots (take i spots) shadow taken s next is none after joins))
+      (extracted_cast spots (take i spots) shadow taken s next is none after joins descends))

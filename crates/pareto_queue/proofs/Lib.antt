@@ -1,4 +1,5 @@
 mod ExtractionLemmas
+mod ListLemmas
 mod OrderLemmas
 mod PassingLemmas
 mod QueueLemmas

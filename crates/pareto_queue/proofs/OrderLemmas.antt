@@ -1,12 +1,12 @@
 -- The order of spots.
-use Rattle.std.proofs.Common.{◌≡◌, ◌≢◌, ℕ, ◌+◌, ◌<◌, Bool, false, nat_eq, ◌&&◌, Decides, List, take, drop, get_or, length, length-take, length-drop, take-append-drop, Result, Ok, Err, Some, ◌⊎◌, inl, inr, refl, sym, ap, ap₂, subst, ◌∙◌, arith, Less, Equal, Greater}
+use Rattle.std.proofs.Common.{◌≡◌, ◌≢◌, ℕ, ◌+◌, ◌<◌, ◌≤◌, Bool, false, nat_eq, ◌&&◌, Decides, List, take, drop, get_or, length, length-take, length-drop, take-append-drop, Result, Ok, Err, Some, ◌⊎◌, inl, inr, refl, sym, ap, ap₂, subst, ◌∙◌, arith, Less, Equal, Greater}
 use Rattle.std.specs.declared.cmp.Ordering.{Ordering}
 use Rattle.std.specs.Ordering.{nat_cmp, ordering_then, ordering_reverse, is_lt}
 use Rattle.std.specs.Cmp.{IsTotalOrder, nat_cmp_total}
 use Rattle.std.specs.Cmp.Lexicographic.{bytes_decides, nat_list_cmp_total, pointwise}
 use Rattle.std.specs.Prelude.{All, AllPairs, Contains, IfOk, IfErr, slice_get}
 use Rattle.std.specs.List.{HoldsAt}
-use Rattle.std.specs.List.Sorted.{IsSorted, IsBinarySearchResult, IsSearchInRange}
+use Rattle.std.specs.List.Sorted.{IsSorted, IsBinarySearchResult, IsPartitionPoint, IsSearchInRange}
 use Rattle.std.proofs.lemmas.Bool.{false≢true, cases_lt}
 use Rattle.std.proofs.lemmas.List.{get_or-take, get_or-drop, get_or_default}
 use Rattle.std.proofs.lemmas.List.Elements.{Contains-append_cases}
@@ -18,7 +18,7 @@ use Rattle.compact_labels.specs.declared.label.CompactSpot.{CompactSpot}
 use Rattle.cost_vector.specs.Costs.{LexLess, lex_cmp}
 use Rattle.cost_vector.proofs.Vectors.{LexLess-irrefl, LexLess-trans, same_from_lex_cmp}
 use Rattle.pareto_queue.specs.Passing.{IsSplit}
-use Rattle.pareto_queue.specs.Queues.{AreSorted, IsGap, SpotLess}
+use Rattle.pareto_queue.specs.Queues.{AreSorted, IsGap, SplitsAt, SpotLess}
 use Rattle.list_laws.proofs.Members.{each_in}
 
 -- in an ascending list, what comes before a place
@@ -27,6 +27,19 @@ before_place R xs i d pairs within = λ k e inside.
     let below : k < i = omega (arith, length-take i xs, inside) in
     let inside_too : k < length xs = omega arith in
     subst (λ y. R y (get_or xs i d)) (get_or_default xs k d e inside_too ∙ sym (get_or-take i xs k e below)) (pairs k i d below within)
+
+-- what a partition point of a list splits
+pub splits_by_partition : {X : Type 0} (A B P Q : X → Type 0) (xs : List X) (i : ℕ) → i ≤ length xs → IsPartitionPoint A B xs i
+    → ((y : X) → A y → P y) → ((y : X) → B y → Q y) → SplitsAt P Q xs i
+splits_by_partition A B P Q xs i within parts to_P to_Q = record {
+  within = within;
+  before = λ k d inside.
+      let below : k < i = omega (arith, length-take i xs, inside) in
+      subst P (sym (get_or-take i xs k d below)) (to_P (get_or xs k d) (parts.0 k d (omega arith) below));
+  after = λ k d inside.
+      let behind : i + k < length xs = omega (arith, length-drop i xs, inside) in
+      subst Q (sym (get_or-drop i xs k d)) (to_Q (get_or xs (i + k) d) (parts.1 (i + k) d (omega arith) behind));
+}
 
 module _ {D : ℕ} where
   -- the order in one comparison
@@ -110,15 +123,9 @@ module _ {D : ℕ} where
       → IsBinarySearchResult (λ y. spot_cmp y s) xs r → IfErr r (IsGap xs s)
   found_gap xs s (Ok i) up within at = tt
   found_gap xs s (Err i) up within at =
-      let parts = at (searchable_from_sorted spot_cmp_total (λ (y : CompactSpot D). y) xs s up) in record {
-        within = within;
-        before = λ k d inside.
-            let below : k < i = omega (arith, length-take i xs, inside) in
-            subst (λ y. SpotLess y s) (sym (get_or-take i xs k d below)) (SpotLess_from_cmp (get_or xs k d) s (parts.0 k d (omega arith) below));
-        after = λ k d inside.
-            let behind : i + k < length xs = omega (arith, length-drop i xs, inside) in
-            subst (SpotLess s) (sym (get_or-drop i xs k d)) (above_from_cmp (get_or xs (i + k) d) s (parts.1 (i + k) d (omega arith) behind));
-      }
+      let parts = at (searchable_from_sorted spot_cmp_total (λ (y : CompactSpot D). y) xs s up) in
+      splits_by_partition (λ y. spot_cmp y s ≡ Less) (λ y. spot_cmp y s ≡ Greater) (λ y. SpotLess y s) (SpotLess s) xs i within parts
+      (λ y. SpotLess_from_cmp y s) (λ y. above_from_cmp y s)
 
   -- a spot that has a gap isn't there
   pub none_in_gap : (xs : List (CompactSpot D)) (s : CompactSpot D) (i : ℕ) → IsGap xs s i → ¬ Contains xs s

@@ -1,5 +1,5 @@
 -- Two ascending lists, gone through side by side.
-use Rattle.std.proofs.Common.{◌≡◌, ◌≢◌, ℕ, zero, suc, ◌+◌, ◌-◌, ◌<◌, List, [], ◌∷◌, ◌++◌, take, drop, get_or, length, ◌⊎◌, ◌↔◌, inl, inr, sym, subst, ◌∙◌, arith, Some, take-append-drop}
+use Rattle.std.proofs.Common.{◌≡◌, ◌≢◌, ℕ, ◌+◌, ◌-◌, ◌<◌, List, [], ◌∷◌, ◌++◌, take, drop, get_or, length, ◌⊎◌, ◌↔◌, inl, inr, sym, subst, ◌∙◌, arith, Some, take-append-drop}
 use Rattle.std.specs.Prelude.{All, AllPairs, Contains, slice_get}
 use Rattle.std.proofs.lemmas.List.{drop_more, take_all, take_more}
 use Rattle.std.proofs.lemmas.Option.{get_or_from_slice_get}
@@ -8,16 +8,11 @@ use Rattle.compact_labels.specs.declared.label.CompactSpot.{CompactSpot}
 use Rattle.list_laws.specs.Sets.{Loses}
 use Rattle.list_laws.proofs.Members.{in_none, in_first, in_rest, cases_in, cases_push, each_in}
 use Rattle.list_laws.proofs.OnceLaws.{in_append, pairs_append}
-use Rattle.list_laws.proofs.Pairs.{pairs_none, pairs_rest, pairs_push, pairs_take, pair_with_first}
+use Rattle.list_laws.proofs.Pairs.{pairs_none, pairs_push, pairs_take, pair_with_first}
 use Rattle.pareto_queue.specs.Passing.{NoneBefore, PassesOn}
 use Rattle.pareto_queue.specs.Queues.{AreSorted, SpotLess}
+use Rattle.pareto_queue.proofs.ListLemmas.{pairs_drop}
 use Rattle.pareto_queue.proofs.OrderLemmas.{SpotLess-irrefl, SpotLess-trans, after_unless, before_place, less_unless}
-
--- the end of a list
-pub pairs_drop : {X : Type 0} (R : X → X → Type 0) (n : ℕ) (xs : List X) → AllPairs R xs → AllPairs R (drop n xs)
-pairs_drop R zero xs pairs = pairs
-pairs_drop R (suc n) [] pairs = pairs_none R
-pairs_drop R (suc n) (x ∷ xs) pairs = pairs_drop R n xs (pairs_rest R x xs pairs)
 
 module _ {D : ℕ} where
   -- both lists ascend, and what was passed on comes before all that is left or still to be met

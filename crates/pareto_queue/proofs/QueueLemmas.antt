@@ -1,5 +1,5 @@
 -- What becomes of a queue.
-use Rattle.std.proofs.Common.{◌≡◌, ◌≢◌, ℕ, Bool, false, IsTrue, List, [], ◌∷◌, take, drop, get_or, Some, ◌⊎◌, ◌↔◌, inl, inr, sym, subst}
+use Rattle.std.proofs.Common.{◌≡◌, ◌≢◌, ℕ, Bool, false, IsTrue, List, [], ◌∷◌, get_or, Some, ◌⊎◌, ◌↔◌, inl, inr, sym, subst}
 use Rattle.std.specs.Prelude.{All, AllPairs, Contains, IsPermutation, slice_get}
 use Rattle.std.proofs.lemmas.Bool.{false≢true}
 use Rattle.std.specs.List.{insert, remove}
@@ -13,12 +13,12 @@ use Rattle.cost_vector.proofs.Vectors.{cases_Dominates}
 use Rattle.list_laws.specs.Sets.{Loses}
 use Rattle.list_laws.proofs.Ascending.{ascending_distinct}
 use Rattle.list_laws.proofs.Members.{in_none, in_first, in_rest, in_one, all_from_in, cases_in, each_in}
-use Rattle.list_laws.proofs.OnceLaws.{once_in_any_order, pairs_append}
-use Rattle.list_laws.proofs.Pairs.{pairs_cons, pairs_take, pair_with_first}
+use Rattle.list_laws.proofs.OnceLaws.{once_in_any_order}
+use Rattle.list_laws.proofs.Pairs.{pair_with_first}
 use Rattle.list_laws.proofs.SetLaws.{gains_by_permutation, same_by_permutation}
 use Rattle.pareto_queue.specs.Queues.{AreSorted, Gains, IsDominatedBy, IsGap, IsQueue, LosesWhere, SpotLess}
 use Rattle.pareto_queue.proofs.OrderLemmas.{SpotLess-irrefl, SpotLess-trans, after_unless, none_in_gap}
-use Rattle.pareto_queue.proofs.PassingLemmas.{pairs_drop}
+use Rattle.pareto_queue.proofs.ListLemmas.{pairs_insert}
 use Rattle.pareto_queue.proofs.RetainedLemmas.{pairs_by_retain}
 
 module _ {D : ℕ} where
@@ -39,14 +39,7 @@ module _ {D : ℕ} where
   queue_by_insert before after s i q gap is = record {
     two = q.two;
     four = q.four;
-    ascending = subst (AllPairs SpotLess) (sym is)
-        (pairs_append SpotLess (take i before) (s ∷ drop i before) (pairs_take SpotLess i before q.ascending)
-        (pairs_cons SpotLess s (drop i before) (λ y h. each_in (SpotLess s) (drop i before) gap.after y h) (pairs_drop SpotLess i before q.ascending))
-        (λ x y h k. let less = each_in (λ z. SpotLess z s) (take i before) gap.before x h in
-        elim (cases_in s (drop i before) y k) [
-          | inl same ↦ subst (SpotLess x) (sym same) less
-          | inr later ↦ SpotLess-trans x s y less (each_in (SpotLess s) (drop i before) gap.after y later)
-        ]));
+    ascending = subst (AllPairs SpotLess) (sym is) (pairs_insert SpotLess SpotLess-trans before s i q.ascending gap);
   }
 
   pub gains_by_insert : (before after : List (CompactSpot D)) (s : CompactSpot D) (i : ℕ) → after ≡ insert before i s → Gains before (s ∷ []) after

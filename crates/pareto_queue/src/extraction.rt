@@ -2,7 +2,7 @@ ghost use Rattle.std.specs.Prelude.{IfOk};
 ghost use Rattle.pareto_queue.specs.Queues.{IsQueue};
 ghost use Rattle.pareto_queue.specs.Shadows.{ListsUndominated};
 
-use crate::shadow::{cast, is_dominated};
+use crate::shadow::{cast, is_shadowed};
 use compact_labels::{CompactCost, CompactSpot};
 use cost_vector::OutOfMemory;
 
@@ -18,7 +18,7 @@ pub(crate) fn list_undominated<const D: usize>(
     shadow.clear();
     taken.clear();
     for spot in spots {
-        if !is_dominated(shadow, &spot.cost) {
+        if !is_shadowed(shadow, &spot.cost) {
             cast(shadow, &spot.cost)?;
             taken.push(*spot)?;
         }

@@ -4,7 +4,7 @@ use Rattle.std.proofs.lemmas.List.{take_all}
 use Rattle.pareto_queue.specs.Queues.{IsDominatedBy}
 use Rattle.pareto_queue.proofs.ExtractionLemmas.{none_extracted, left, took}
 use Rattle.pareto_queue.proofs.extraction.list_undominated.Goals as goal
-use Rattle.pareto_queue.proofs.extraction.list_undominated.Goals.{then-not-is_dominated+in_ok-cast+in_ok-push, else-not-is_dominated}
+use Rattle.pareto_queue.proofs.extraction.list_undominated.Goals.{then-not-is_shadowed+in_ok-cast+in_ok-push, else-not-is_shadowed}
 
 pub loop-spot-init : goal.loop-spot-init
 loop-spot-init g c = rw (c.clear.ensures.items, c.clear-2.ensures.items) (none_extracted c.args.spots.now)
@@ -16,16 +16,16 @@ loop-spot-preserved g c =
     let s = c.spot-item.result in
     let costs = c.loop-spot.shadow.items in
     let taken = c.loop-spot.taken.items in
-    elim c.if-not-is_dominated.branch [
-      | then-not-is_dominated+in_ok-cast+in_ok-push w ↦
+    elim c.if-not-is_shadowed.branch [
+      | then-not-is_shadowed+in_ok-cast+in_ok-push w ↦
           rw (w.shadow-is, w.taken-is)
           (took spots i costs taken s c.requires c.loop-spot-test.true c.spot-item.is c.loop-spot.invariant _ _
-          (λ by. false≢true (sym w.if-not-is_dominated.true ∙ c.is_dominated.ensures.1 (subst (λ ys. IsDominatedBy ys s.cost.0) (sym c.deref.ensures.value) by)))
-          w.in_ok-cast.ensures w.in_ok-push.ensures.items)
-      | else-not-is_dominated w ↦
+          (λ by. false≢true (sym w.if-not-is_shadowed.true ∙ c.is_shadowed.ensures.1 (subst (λ ys. IsDominatedBy ys s.cost.0) (sym c.deref.ensures.value) by)))
+          w.in_ok-cast.ensures.joins w.in_ok-cast.ensures.descends w.in_ok-push.ensures.items)
+      | else-not-is_shadowed w ↦
           rw (w.shadow-is, w.taken-is)
           (left spots i costs taken s c.requires c.loop-spot-test.true c.spot-item.is c.loop-spot.invariant
-          (subst (λ ys. IsDominatedBy ys s.cost.0) c.deref.ensures.value (c.is_dominated.ensures.0 w.if-not-is_dominated.false)))
+          (subst (λ ys. IsDominatedBy ys s.cost.0) c.deref.ensures.value (c.is_shadowed.ensures.0 w.if-not-is_shadowed.false)))
     ]
 
 pub returns : goal.returns

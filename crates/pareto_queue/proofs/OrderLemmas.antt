@@ -190,7 +190,8 @@ module _ {D : ℕ} where
   -- what a test of two spots says
   pub same_by_test : (a b : CompactSpot D) (test : Bool) → test ≡ (pointwise nat_eq a.cost.0 b.cost.0 && nat_eq a.node.0 b.node.0) → Decides test (a ≡ b)
   same_by_test a b test is =
-      let both = Decides-and (pointwise nat_eq a.cost.0 b.cost.0) (nat_eq a.node.0 b.node.0) (bytes_decides a.cost.0 b.cost.0) (Decides-eqb a.node.0 b.node.0) in (
+      let both = Decides-and (pointwise nat_eq a.cost.0 b.cost.0) (nat_eq a.node.0 b.node.0)
+      (bytes_decides a.cost.0 b.cost.0) (Decides-eqb a.node.0 b.node.0) in (
         λ yes. let parts = both.0 (sym is ∙ yes) in spot_by_parts a b parts.0 parts.1,
         λ same. is ∙ both.1 (ap (λ (z : CompactSpot D). z.cost.0) same, ap (λ (z : CompactSpot D). z.node.0) same),
       )

@@ -1,7 +1,8 @@
 -- Two ascending lists, gone through side by side.
-use Rattle.std.proofs.Common.{◌≡◌, ◌≢◌, ℕ, ◌+◌, ◌-◌, ◌<◌, List, [], ◌∷◌, ◌++◌, take, drop, get_or, length, ◌⊎◌, ◌↔◌, inl, inr, sym, subst, ◌∙◌, arith, Some, take-append-drop}
+use Rattle.std.proofs.Common.{◌≡◌, ◌≢◌, ℕ, zero, suc, ◌+◌, ◌-◌, ◌<◌, List, [], ◌∷◌, ◌++◌, take, drop, get_or, length, ◌⊎◌, ◌↔◌, inl, inr, sym, subst, ◌∙◌, arith, ap, Some, length-drop, length-take, length-take-le, take-append-drop}
 use Rattle.std.specs.Prelude.{All, AllPairs, Contains, slice_get}
-use Rattle.std.proofs.lemmas.List.{drop_more, take_all, take_more}
+use Rattle.std.proofs.Math.Nat.{add-zero}
+use Rattle.std.proofs.lemmas.List.{drop_more, get_or-drop, get_or-take, take_all, take_more, take-take}
 use Rattle.std.proofs.lemmas.Option.{get_or_from_slice_get}
 use Rattle.std.proofs.lemmas.List.Elements.{Contains-append_left, Contains-get_or, Contains-push}
 use Rattle.compact_labels.specs.declared.label.CompactSpot.{CompactSpot}
@@ -9,10 +10,34 @@ use Rattle.list_laws.specs.Sets.{Loses}
 use Rattle.list_laws.proofs.Members.{in_none, in_first, in_rest, cases_in, cases_push, each_in}
 use Rattle.list_laws.proofs.OnceLaws.{in_append, pairs_append}
 use Rattle.list_laws.proofs.Pairs.{pairs_none, pairs_push, pairs_take, pair_with_first}
-use Rattle.pareto_queue.specs.Passing.{NoneBefore, PassesOn}
+use Rattle.pareto_queue.specs.Passing.{IsSplit, NoneBefore, PassesOn}
 use Rattle.pareto_queue.specs.Queues.{AreSorted, SpotLess}
 use Rattle.pareto_queue.proofs.ListLemmas.{pairs_drop}
 use Rattle.pareto_queue.proofs.OrderLemmas.{SpotLess-irrefl, SpotLess-trans, after_unless, before_place, less_unless}
+
+-- where the first spots split before their end, all do
+pub split_by_near : {D : ℕ} (xs : List (CompactSpot D)) (s : CompactSpot D) (n i : ℕ) → AllPairs SpotLess xs → IsSplit (take n xs) s i → i < length (take n xs)
+    → IsSplit xs s i
+split_by_near {D} xs s n i up near inside = record {
+  within = omega (arith, inside, length-take-le n xs, length-take n xs);
+  before = subst (All (λ x. SpotLess x s)) (take-take i n xs (omega (arith, inside, length-take n xs))) near.before;
+  after = λ k d short back.
+      let within_too : i + k < length xs = omega (arith, short, length-drop i xs) in
+      let later : SpotLess (get_or xs (i + k) d) s = subst (λ y. SpotLess y s) (get_or-drop i xs k d) back in
+      first_not_less d (first_less k d within_too later);
+}
+  where
+    in_near : i < n
+    in_near = omega (arith, inside, length-take n xs)
+
+    first_not_less : (d : CompactSpot D) → ¬ SpotLess (get_or xs i d) s
+    first_not_less d less =
+        near.after 0 d (omega (arith, inside, length-drop i (take n xs)))
+        (subst (λ y. SpotLess y s) (sym (get_or-drop i (take n xs) 0 d ∙ ap (λ j. get_or (take n xs) j d) (add-zero i) ∙ get_or-take n xs i d in_near)) less)
+
+    first_less : (k : ℕ) (d : CompactSpot D) → i + k < length xs → SpotLess (get_or xs (i + k) d) s → SpotLess (get_or xs i d) s
+    first_less zero d short less = subst (λ j. SpotLess (get_or xs j d) s) (add-zero i) less
+    first_less (suc k) d short less = SpotLess-trans (get_or xs i d) (get_or xs (i + suc k) d) s (up i (i + suc k) d (omega arith) short) less
 
 module _ {D : ℕ} where
   -- both lists ascend, and what was passed on comes before all that is left or still to be met
@@ -117,7 +142,8 @@ module _ {D : ℕ} where
     pub passes : Passes passed left todo
     pub has : (x : CompactSpot D) → (Contains passed x ⊎ Contains left x) ↔ Has x
 
-  module _ (spots met todo : List (CompactSpot D)) (s : CompactSpot D) (passed left after rest : List (CompactSpot D)) (on : PassesOn left s passed after rest) where
+  module _ (spots met todo : List (CompactSpot D)) (s : CompactSpot D) (passed left after rest : List (CompactSpot D))
+      (on : PassesOn left s passed after rest) where
     -- s is new, and is put in
     pub merged_more : ((t : CompactSpot D) → Contains todo t → SpotLess s t) → ¬ Contains spots s → ¬ Contains met s
         → IsUnderWay (λ x. Contains spots x ⊎ Contains met x) passed left (s ∷ todo)
@@ -158,8 +184,8 @@ module _ {D : ℕ} where
         none h = elim ((is.has s).0 ((same s).0 (inr h))) [ inl old ↦ new old | inr one ↦ not_met one ]
 
     -- s is left out
-    pub subtracted_more : ((t : CompactSpot D) → Contains todo t → ¬ SpotLess t s) → (others : List (CompactSpot D)) → AllPairs SpotLess others → Loses rest s others
-        → IsUnderWay (λ x. Contains spots x × (¬ Contains met x)) passed left (s ∷ todo)
+    pub subtracted_more : ((t : CompactSpot D) → Contains todo t → ¬ SpotLess t s) → (others : List (CompactSpot D)) → AllPairs SpotLess others
+        → Loses rest s others → IsUnderWay (λ x. Contains spots x × (¬ Contains met x)) passed left (s ∷ todo)
         → IsUnderWay (λ x. Contains spots x × (¬ Contains (met ++ s ∷ []) x)) after others todo
     subtracted_more later others up loses is = record {
       passes = passes_less after rest others todo up (λ x h. ((loses x).0 h).0) (passes_on passed left todo s after rest is.passes later on);
@@ -205,7 +231,8 @@ module _ {D : ℕ} (more : List (CompactSpot D)) (i : ℕ) (s : CompactSpot D) (
         (subst (λ ys. IsUnderWay (λ x. Contains spots x ⊎ Contains (take i more ++ s ∷ []) x) ys rest (drop (i + 1) more)) (sym push)
         (merged_more spots (take i more) (drop (i + 1) more) s passed left after rest on (to_come SpotLess up)
         (each_in (λ x. ¬ Contains spots x) more new s (subst (Contains more) (sym at) (Contains-get_or more i s within)))
-        (λ h. SpotLess-irrefl s (subst (SpotLess s) (sym at) (each_in (λ y. SpotLess y (get_or more i s)) (take i more) (before_place SpotLess more i s up within) s h)))
+        (λ h. SpotLess-irrefl s (subst (SpotLess s) (sym at)
+        (each_in (λ y. SpotLess y (get_or more i s)) (take i more) (before_place SpotLess more i s up within) s h)))
         (subst (IsUnderWay (λ x. Contains spots x ⊎ Contains (take i more) x) passed left) met_here is)))
 
     -- the next spot is left out
@@ -264,9 +291,12 @@ module _ {D : ℕ} (s first : CompactSpot D) where
   pub loses_no_first : (xs : List (CompactSpot D)) → AllPairs SpotLess xs → NoneBefore s xs → slice_get xs 0 ≡ Some first → first ≢ s → Loses xs s xs
   loses_no_first [] up none at other = absurd (cc)
   loses_no_first (y ∷ ys) up none at other = λ x. (
-      λ h. (h, λ is. elim (cases_in y ys s (subst (Contains (y ∷ ys)) is h)) [
+    λ h. (
+      h,
+      λ is. elim (cases_in y ys s (subst (Contains (y ∷ ys)) is h)) [
         | inl same ↦ other (sym (get_or_from_slice_get (y ∷ ys) 0 first s at) ∙ sym same)
         | inr there ↦ each_in (λ z. ¬ SpotLess z s) (y ∷ ys) none y (in_first y ys) (pair_with_first SpotLess y ys up s there)
-      ]),
-      λ h. h.0,
-    )
+      ],
+    ),
+    λ h. h.0,
+  )

@@ -35,7 +35,8 @@ module _ {D : ℕ} where
   queue_by_retain S f before after filtered q = record { two = q.two; four = q.four; ascending = pairs_by_retain SpotLess S f before after filtered q.ascending }
 
   -- a spot is put into its gap
-  pub queue_by_insert : (before after : List (CompactSpot D)) (s : CompactSpot D) (i : ℕ) → IsQueue before → IsGap before s i → after ≡ insert before i s → IsQueue after
+  pub queue_by_insert : (before after : List (CompactSpot D)) (s : CompactSpot D) (i : ℕ) → IsQueue before → IsGap before s i
+      → after ≡ insert before i s → IsQueue after
   queue_by_insert before after s i q gap is = record {
     two = q.two;
     four = q.four;
@@ -67,7 +68,8 @@ module _ {D : ℕ} where
       let apart = once_in_any_order given order moved once i j d before within in
       after_unless (get_or order i d) (get_or order j d) (sorted i j d before within) (λ same. apart (sym same))
 
-  pub new_in_order : (before given order : List (CompactSpot D)) → IsPermutation given order → All (λ x. ¬ Contains before x) given → All (λ x. ¬ Contains before x) order
+  pub new_in_order : (before given order : List (CompactSpot D)) → IsPermutation given order → All (λ x. ¬ Contains before x) given
+      → All (λ x. ¬ Contains before x) order
   new_in_order before given order moved new =
       all_from_in (λ x. ¬ Contains before x) order (λ x h. each_in (λ y. ¬ Contains before y) given new x ((same_by_permutation given order moved x).0 h))
 

@@ -159,7 +159,8 @@ module _ {D : ℕ} (shadow : List (CompactCost D)) (c : List ℕ) where
   ]
 
   pub exceeds_before : (i : ℕ) → i ≤ length shadow
-      → IsPartitionPoint (λ x. nat_lt (second_of c) (second_of x.0) ≡ true) (λ x. nat_lt (second_of c) (second_of x.0) ≡ false) shadow i → ExceedsBefore shadow c i
+      → IsPartitionPoint (λ x. nat_lt (second_of c) (second_of x.0) ≡ true) (λ x. nat_lt (second_of c) (second_of x.0) ≡ false) shadow i
+      → ExceedsBefore shadow c i
   exceeds_before i within parts =
       splits_by_partition (λ x. nat_lt (second_of c) (second_of x.0) ≡ true) (λ x. nat_lt (second_of c) (second_of x.0) ≡ false)
       (λ x. second_of c < second_of x.0) (λ x. second_of x.0 ≤ second_of c) shadow i within parts

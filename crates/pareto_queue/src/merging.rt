@@ -14,7 +14,8 @@ fn pass_on<'a, const D: usize>(
     list: &mut Vec<CompactSpot<D>>,
 ) -> Result<&'a [CompactSpot<D>], OutOfMemory>
     requires { AllPairs SpotLess spots.now }
-    ensures { IfOk result (λ rest. PassesOn spots.now spot.now list.old.items list.new.items rest.now) }
+    ensures { IfOk result (λ rest. PassesOn spots.now spot.now list.old.items list.new.items
+        rest.now) }
 {
     let (front, rest) = spots.split_at(count_before(spots, spot));
     list.extend_from_slice(front)?;

@@ -5,6 +5,9 @@ ghost use Rattle.pareto_queue.specs.Queues.{AreSorted, IsGap, SpotLess};
 use compact_labels::CompactSpot;
 use cost_vector::OutOfMemory;
 
+/// So many spots are searched before all are.
+const NEAR: usize = 32;
+
 /// Where the spot stands, or else where it would.
 pub(crate) fn place_of<const D: usize>(
     spots: &[CompactSpot<D>],
@@ -29,11 +32,22 @@ pub(crate) fn gap_of<const D: usize>(spots: &[CompactSpot<D>], spot: &CompactSpo
     }
 }
 
+/// How many of the spots come before this one. It is found sooner where they are few.
+pub(crate) fn count_before<const D: usize>(spots: &[CompactSpot<D>], spot: &CompactSpot<D>) -> usize
+    requires { AllPairs SpotLess spots.now }
+    ensures { IsSplit spots.now spot.now result }
+{
+    let (near, _) = spots.split_at(spots.len().min(NEAR));
+    let count = search_before(near, spot);
+    if count < near.len() {
+        count
+    } else {
+        search_before(spots, spot)
+    }
+}
+
 /// How many of the spots come before this one.
-pub(crate) fn count_before<const D: usize>(
-    spots: &[CompactSpot<D>],
-    spot: &CompactSpot<D>,
-) -> usize
+fn search_before<const D: usize>(spots: &[CompactSpot<D>], spot: &CompactSpot<D>) -> usize
     requires { AllPairs SpotLess spots.now }
     ensures { IsSplit spots.now spot.now result }
 {

@@ -45,10 +45,7 @@ fn count_above<const D: usize>(shadow: &[CompactCost<D>], cost: &CompactCost<D>)
 }
 
 /// Whether a cost of the shadow dominates this one.
-pub(crate) fn is_shadowed<const D: usize>(
-    shadow: &[CompactCost<D>],
-    cost: &CompactCost<D>,
-) -> bool
+pub(crate) fn is_shadowed<const D: usize>(shadow: &[CompactCost<D>], cost: &CompactCost<D>) -> bool
     requires { Descends shadow.now }
     ensures { IsTrue result ↔ IsDominatedBy shadow.now cost.now.0 }
 {

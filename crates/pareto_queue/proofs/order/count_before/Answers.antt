@@ -1,8 +1,7 @@
-use Rattle.pareto_queue.proofs.OrderLemmas.{split_by_gap, split_by_place}
+use Rattle.pareto_queue.proofs.PassingLemmas.{split_by_near}
 use Rattle.pareto_queue.proofs.order.count_before.Goals as goal
 
-pub returns-in-Ok : goal.returns-in-Ok
-returns-in-Ok g c = split_by_place _ _ _ c.requires c.in-Ok.ensures.there
-
-pub returns-in-Err : goal.returns-in-Err
-returns-in-Err g c = split_by_gap _ _ _ c.in-Err.ensures.missing
+pub returns-then-count-near : goal.returns-then-count-near
+returns-then-count-near g c =
+    split_by_near c.args.spots.now c.args.spot.now _ c.search_before-count.result c.requires
+    (rw c.split_at.ensures.front at c.search_before-count.ensures) (rw c.split_at.ensures.front at c.if-count-near.true)

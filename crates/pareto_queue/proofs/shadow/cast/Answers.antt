@@ -19,5 +19,5 @@ count_above-place-requires g c = (search rules, rw c.deref.ensures.value (pairs_
 
 pub returns-clause-descends : goal.returns-clause-descends
 returns-clause-descends g c =
-    descends_by_insert c.retain.new.self.items c.args.cost.now.0 c.count_above-place.result (rw c.deref.ensures.value at c.count_above-place.ensures) c.args.cost.now refl
-    (pairs_by_retain FallsTo _ _ _ _ c.retain.ensures.filtered c.requires.descends) _ c.in_ok-insert.ensures.items
+    descends_by_insert c.retain.new.self.items c.args.cost.now.0 c.count_above-place.result (rw c.deref.ensures.value at c.count_above-place.ensures)
+    c.args.cost.now refl (pairs_by_retain FallsTo _ _ _ _ c.retain.ensures.filtered c.requires.descends) _ c.in_ok-insert.ensures.items

@@ -9,5 +9,5 @@ pub returns : goal.returns
 returns g c =
     let bound = second_of c.args.cost.now.0 in
     exceeds_before c.args.shadow.now c.args.cost.now.0 c.partition_point.result c.partition_point.ensures.bound
-    (IsPartitionPoint-from_clause (λ (x : CompactCost g.row.D). nat_lt bound (second_of x.0)) c.args.shadow.now c.partition_point.result c.partition_point.ensures.partitioned
-    (exceeding_first c.args.shadow.now c.args.cost.now.0 c.requires) (λ a r f k. search (rules, c.second-bound.ensures)))
+    (IsPartitionPoint-from_clause (λ (x : CompactCost g.row.D). nat_lt bound (second_of x.0)) c.args.shadow.now c.partition_point.result
+    c.partition_point.ensures.partitioned (exceeding_first c.args.shadow.now c.args.cost.now.0 c.requires) (λ a r f k. search (rules, c.second-bound.ensures)))

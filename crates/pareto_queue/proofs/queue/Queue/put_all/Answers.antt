@@ -9,9 +9,10 @@ merge-requires g c = (
     rw c.deref.ensures.value c.self.invariant.ascending,
     (
       rw c.deref-2.ensures.value
-      (ascending_by_sort c.args.spots.now c.list_sorted.new.list.items c.requires.once c.in_ok-list_sorted.ensures.same c.in_ok-list_sorted.ensures.sorted),
+          (ascending_by_sort c.args.spots.now c.list_sorted.new.list.items c.requires.once c.in_ok-list_sorted.ensures.same c.in_ok-list_sorted.ensures.sorted),
       rw (c.deref.ensures.value, c.deref-2.ensures.value)
-      (new_in_order c.self.inside.spots.items c.args.spots.now c.list_sorted.new.list.items c.in_ok-list_sorted.ensures.same (rw (← c.self.view_is) at c.requires.new)),
+          (new_in_order c.self.inside.spots.items c.args.spots.now c.list_sorted.new.list.items c.in_ok-list_sorted.ensures.same
+          (rw (← c.self.view_is) at c.requires.new)),
     ),
   ),
 )

@@ -1,6 +1,6 @@
 -- The spots of a queue, extracted one after another in ascending order.
-use Rattle.std.proofs.Common.{◌≡◌, ℕ, ◌+◌, ◌<◌, List, [], ◌∷◌, ◌++◌, take, drop, get_or, length, ◌⊎◌, inl, inr, sym, ap, subst, ◌∙◌, arith, length-take-le, length-take, take-append-drop}
-use Rattle.std.specs.Prelude.{All, AllPairs, Contains}
+use Rattle.std.proofs.Common.{◌≡◌, ℕ, ◌+◌, ◌<◌, List, [], ◌∷◌, ◌++◌, take, drop, get_or, length, ◌⊎◌, inl, inr, sym, ap, subst, ◌∙◌, arith, length-take-le, take-append-drop}
+use Rattle.std.specs.Prelude.{Contains}
 use Rattle.std.proofs.lemmas.Bool.{cases_lt}
 use Rattle.std.proofs.lemmas.List.{get_or-take, get_or_default, take_more}
 use Rattle.std.proofs.lemmas.List.Elements.{Contains-append_left, Contains-get_or, Contains-push}
@@ -10,8 +10,9 @@ use Rattle.cost_vector.specs.Costs.{Dominates, LexLess}
 use Rattle.cost_vector.proofs.Vectors.{LexLess-irrefl, LexLess-trans, LexLess_from_Dominates, Dominates-irrefl}
 use Rattle.list_laws.proofs.Members.{in_none, each_in, cases_push}
 use Rattle.list_laws.proofs.Pairs.{pairs_none, pairs_push}
-use Rattle.pareto_queue.specs.Queues.{IsDominatedBy, IsQueue, IsUndominated, SpotLess, TakesUndominated}
-use Rattle.pareto_queue.specs.Shadows.{IsExtracted, IsLater, Joins}
+use Rattle.pareto_queue.specs.Queues.{IsDominatedBy, IsQueue, IsUndominated, SpotLess}
+use Rattle.pareto_queue.specs.Shadows.{Descends, FallsTo, IsExtracted, IsLater, Joins}
+use Rattle.pareto_queue.proofs.OrderLemmas.{before_place}
 use Rattle.pareto_queue.proofs.ShadowLemmas.{shadow_skip, shadow_cast}
 
 module _ {D : ℕ} where
@@ -21,14 +22,12 @@ module _ {D : ℕ} where
   not_less a b (inr tie) back = LexLess-irrefl b.cost.0 (subst (LexLess b.cost.0) tie.0 back)
 
   -- nothing is seen
-  pub none_extracted : (spots : List (CompactSpot D)) → IsExtracted spots [] [] [] []
+  pub none_extracted : (spots : List (CompactSpot D)) → IsExtracted spots [] [] []
   none_extracted spots = record {
     shadow = record { from = λ c h. absurd (in_none c h); dominates = λ c later s h. absurd (in_none s h) };
-    each = λ x h. absurd (in_none x h);
-    taken = λ x h. absurd (in_none x h);
-    rest = λ x h. absurd (in_none x h);
-    taken_ascends = pairs_none SpotLess;
-    rest_ascends = pairs_none SpotLess;
+    descends = pairs_none FallsTo;
+    taken = λ x. (λ h. absurd (in_none x h), λ h. absurd (in_none x h.0));
+    ascending = pairs_none SpotLess;
   }
 
   -- the spots that were seen come before s, and all others after it
@@ -37,8 +36,8 @@ module _ {D : ℕ} where
     pub new : (x : CompactSpot D) → Contains spots x → Contains seen x ⊎ ((x ≡ s) ⊎ SpotLess s x)
     pub here : Contains spots s
 
-module _ {D : ℕ} (spots seen : List (CompactSpot D)) (shadow : List (CompactCost D)) (taken rest : List (CompactSpot D)) (s : CompactSpot D)
-    (next : IsNext spots seen s) (is : IsExtracted spots seen shadow taken rest) where
+module _ {D : ℕ} (spots seen : List (CompactSpot D)) (shadow : List (CompactCost D)) (taken : List (CompactSpot D)) (s : CompactSpot D)
+    (next : IsNext spots seen s) (is : IsExtracted spots seen shadow taken) where
   is_later : IsLater seen s.cost.0
   is_later x h = not_less x s (next.old x h).1
 
@@ -64,58 +63,38 @@ module _ {D : ℕ} (spots seen : List (CompactSpot D)) (shadow : List (CompactCo
   is_last xs x same = subst (Contains (xs ++ s ∷ [])) (sym same) (Contains-push xs s)
 
   -- s is left
-  pub extracted_skip : IsDominatedBy shadow s.cost.0 → IsExtracted spots (seen ++ s ∷ []) shadow taken (rest ++ s ∷ [])
+  pub extracted_skip : IsDominatedBy shadow s.cost.0 → IsExtracted spots (seen ++ s ∷ []) shadow taken
   extracted_skip by = record {
     shadow = shadow_skip seen shadow s is.shadow by;
-    each = λ x h. elim (cases_push seen s x h) [
-      | inl old ↦ elim (is.each x old) [ inl t ↦ inl t | inr r ↦ inr (in_more rest x r) ]
-      | inr last ↦ inr (is_last rest x last)
-    ];
-    taken = λ x h. let was = is.taken x h in (in_more seen x was.0, was.1);
-    rest = λ x h. elim (cases_push rest s x h) [
-      | inl old ↦ let was = is.rest x old in (in_more seen x was.0, was.1)
-      | inr last ↦ (is_last seen x last, subst (λ (y : CompactSpot D). ¬ IsUndominated spots y.cost.0) (sym last) (not_free by))
-    ];
-    taken_ascends = is.taken_ascends;
-    rest_ascends = pairs_push SpotLess rest s is.rest_ascends (λ x h. (next.old x (is.rest x h).0).1);
+    descends = is.descends;
+    taken = λ x. (
+      λ h. let was = (is.taken x).0 h in (in_more seen x was.0, was.1),
+      λ h. elim (cases_push seen s x h.0) [
+        | inl old ↦ (is.taken x).1 (old, h.1)
+        | inr last ↦ absurd (not_free by (subst (λ (y : CompactSpot D). IsUndominated spots y.cost.0) last h.1))
+      ],
+    );
+    ascending = is.ascending;
   }
 
   -- s is taken
-  pub extracted_cast : ¬ IsDominatedBy shadow s.cost.0 → (after : List (CompactCost D)) → Joins shadow s.cost after
-      → IsExtracted spots (seen ++ s ∷ []) after (taken ++ s ∷ []) rest
-  extracted_cast none after joins = record {
+  pub extracted_cast : ¬ IsDominatedBy shadow s.cost.0 → (after : List (CompactCost D)) → Joins shadow s.cost after → Descends after
+      → IsExtracted spots (seen ++ s ∷ []) after (taken ++ s ∷ [])
+  extracted_cast none after joins descends = record {
     shadow = shadow_cast seen shadow s is.shadow none after joins;
-    each = λ x h. elim (cases_push seen s x h) [
-      | inl old ↦ elim (is.each x old) [ inl t ↦ inl (in_more taken x t) | inr r ↦ inr r ]
-      | inr last ↦ inl (is_last taken x last)
-    ];
-    taken = λ x h. elim (cases_push taken s x h) [
-      | inl old ↦ let was = is.taken x old in (in_more seen x was.0, was.1)
-      | inr last ↦ (is_last seen x last, subst (λ (y : CompactSpot D). IsUndominated spots y.cost.0) (sym last) (free none))
-    ];
-    rest = λ x h. let was = is.rest x h in (in_more seen x was.0, was.1);
-    taken_ascends = pairs_push SpotLess taken s is.taken_ascends (λ x h. (next.old x (is.taken x h).0).1);
-    rest_ascends = is.rest_ascends;
+    descends = descends;
+    taken = λ x. (
+      λ h. elim (cases_push taken s x h) [
+        | inl old ↦ let was = (is.taken x).0 old in (in_more seen x was.0, was.1)
+        | inr last ↦ (is_last seen x last, subst (λ (y : CompactSpot D). IsUndominated spots y.cost.0) (sym last) (free none))
+      ],
+      λ h. elim (cases_push seen s x h.0) [
+        | inl old ↦ in_more taken x ((is.taken x).1 (old, h.1))
+        | inr last ↦ is_last taken x last
+      ],
+    );
+    ascending = pairs_push SpotLess taken s is.ascending (λ x h. (next.old x ((is.taken x).0 h).0).1);
   }
-
--- all are seen
-pub all_extracted : {D : ℕ} (spots : List (CompactSpot D)) (shadow : List (CompactCost D)) (taken rest : List (CompactSpot D))
-    → IsExtracted spots spots shadow taken rest → TakesUndominated spots taken rest
-all_extracted spots shadow taken rest is = record {
-  taken = λ x. (is.taken x, λ h. elim (is.each x h.0) [ inl t ↦ t | inr r ↦ absurd ((is.rest x r).1 h.1) ]);
-  ascending = is.taken_ascends;
-  rest = λ x. (
-    λ r. ((is.rest x r).0, λ t. (is.rest x r).1 (is.taken x t).1),
-    λ h. elim (is.each x h.0) [ inl t ↦ absurd (h.1 t) | inr r ↦ r ],
-  );
-}
-
--- in an ascending list, what comes before a place
-before_place : {X : Type 0} (R : X → X → Type 0) (xs : List X) (i : ℕ) (d : X) → AllPairs R xs → i < length xs → All (λ y. R y (get_or xs i d)) (take i xs)
-before_place R xs i d pairs within = λ k e inside.
-    let below : k < i = omega (arith, length-take i xs, inside) in
-    let inside_too : k < length xs = omega arith in
-    subst (λ y. R y (get_or xs i d)) (get_or_default xs k d e inside_too ∙ sym (get_or-take i xs k e below)) (pairs k i d below within)
 
 -- a spot of a queue, by its place
 pub is_next : {D : ℕ} (spots : List (CompactSpot D)) (i : ℕ) (d : CompactSpot D) → IsQueue spots → i < length spots
@@ -147,8 +126,8 @@ is_next {D} spots i d q within = record {
       ]
     ]
 
-module _ {D : ℕ} (spots : List (CompactSpot D)) (i : ℕ) (shadow : List (CompactCost D)) (taken rest : List (CompactSpot D)) (s : CompactSpot D)
-    (q : IsQueue spots) (within : i < length spots) (at : s ≡ get_or spots i s) (is : IsExtracted spots (take i spots) shadow taken rest) where
+module _ {D : ℕ} (spots : List (CompactSpot D)) (i : ℕ) (shadow : List (CompactCost D)) (taken : List (CompactSpot D)) (s : CompactSpot D)
+    (q : IsQueue spots) (within : i < length spots) (at : s ≡ get_or spots i s) (is : IsExtracted spots (take i spots) shadow taken) where
   next : IsNext spots (take i spots) s
   next = subst (IsNext spots (take i spots)) (sym at) (is_next spots i s q within)
 
@@ -156,17 +135,15 @@ module _ {D : ℕ} (spots : List (CompactSpot D)) (i : ℕ) (shadow : List (Comp
   one_more = ap (λ z. take i spots ++ z ∷ []) at ∙ sym (take_more spots i s within)
 
   -- the next spot is left
-  pub left : (more : List (CompactSpot D)) → IsDominatedBy shadow s.cost.0 → more ≡ rest ++ s ∷ []
-      → IsExtracted spots (take (i + 1) spots) shadow taken more
-  left more by push =
-      subst (λ seen. IsExtracted spots seen shadow taken more) one_more
-      (subst (IsExtracted spots (take i spots ++ s ∷ []) shadow taken) (sym push)
-      (extracted_skip spots (take i spots) shadow taken rest s next is by))
+  pub left : IsDominatedBy shadow s.cost.0 → IsExtracted spots (take (i + 1) spots) shadow taken
+  left by =
+      subst (λ seen. IsExtracted spots seen shadow taken) one_more
+      (extracted_skip spots (take i spots) shadow taken s next is by)
 
   -- the next spot is taken
-  pub took : (after : List (CompactCost D)) (more : List (CompactSpot D)) → ¬ IsDominatedBy shadow s.cost.0 → Joins shadow s.cost after
-      → more ≡ taken ++ s ∷ [] → IsExtracted spots (take (i + 1) spots) after more rest
-  took after more none joins push =
-      subst (λ seen. IsExtracted spots seen after more rest) one_more
-      (subst (λ t. IsExtracted spots (take i spots ++ s ∷ []) after t rest) (sym push)
-      (extracted_cast spots (take i spots) shadow taken rest s next is none after joins))
+  pub took : (after : List (CompactCost D)) (more : List (CompactSpot D)) → ¬ IsDominatedBy shadow s.cost.0 → Joins shadow s.cost after → Descends after
+      → more ≡ taken ++ s ∷ [] → IsExtracted spots (take (i + 1) spots) after more
+  took after more none joins descends push =
+      subst (λ seen. IsExtracted spots seen after more) one_more
+      (subst (IsExtracted spots (take i spots ++ s ∷ []) after) (sym push)
+      (extracted_cast spots (take i spots) shadow taken s next is none after joins descends))

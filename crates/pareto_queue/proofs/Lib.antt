@@ -3,3 +3,5 @@ pub mod OrderLemmas
 pub mod QueueLemmas
 pub mod RetainedLemmas
 pub mod ShadowLemmas
+pub mod ListLemmas
+pub mod PassingLemmas

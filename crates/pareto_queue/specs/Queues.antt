@@ -5,6 +5,12 @@ use Rattle.cost_vector.specs.Costs.{Dominates, LexLess, max_criteria, min_criter
 use Rattle.compact_labels.specs.declared.cost.CompactCost.{CompactCost}
 use Rattle.compact_labels.specs.declared.label.CompactSpot.{CompactSpot}
 
+-- P holds of the elements before the place i, and Q of the others
+pub record SplitsAt {X : Type 0} (P Q : X → Type 0) (xs : List X) (i : ℕ) : Type 0 where
+  pub within : i ≤ length xs
+  pub before : All P (take i xs)
+  pub after : All Q (drop i xs)
+
 module _ {D : ℕ} where
   -- no spot of the list has a cost that dominates c
   abbrev pub IsUndominated : List (CompactSpot D) → List ℕ → Type 0
@@ -24,11 +30,9 @@ module _ {D : ℕ} where
     pub four : D ≤ max_criteria
     pub ascending : AllPairs SpotLess spots
 
-  -- in an ascending list all spots before the place i come before s, and s before all others
-  pub record IsGap (spots : List (CompactSpot D)) (s : CompactSpot D) (i : ℕ) : Type 0 where
-    pub within : i ≤ length spots
-    pub before : All (λ x. SpotLess x s) (take i spots)
-    pub after : All (SpotLess s) (drop i spots)
+  -- all spots before the place i come before s, and s before all others
+  abbrev pub IsGap : List (CompactSpot D) → CompactSpot D → ℕ → Type 0
+  IsGap spots s = SplitsAt (λ x. SpotLess x s) (SpotLess s) spots
 
   -- the spots that stay are those that Leaves doesn't hold of
   abbrev pub LosesWhere : (CompactSpot D → Type 0) → List (CompactSpot D) → List (CompactSpot D) → Type 0

@@ -1,16 +1,32 @@
 -- The shadow of an ascending list of spots: few of their costs, which tell of each later cost whether one of all dominates it.
-use Rattle.std.specs.Prelude.{◌≡◌, ℕ, ◌↔◌, ◌⊎◌, List, [], ◌∷◌, AllPairs, Contains}
+use Rattle.std.specs.Prelude.{◌≡◌, ℕ, ◌<◌, ◌≤◌, ◌↔◌, ◌⊎◌, List, [], ◌∷◌, slice_index_or, AllPairs, Contains}
 use Rattle.cost_vector.specs.Costs.{AtMost, Dominates, LexLess}
 use Rattle.compact_labels.specs.declared.cost.CompactCost.{CompactCost}
 use Rattle.compact_labels.specs.declared.label.CompactSpot.{CompactSpot}
-use Rattle.pareto_queue.specs.Queues.{IsDominatedBy, IsUndominated, SpotLess}
+use Rattle.pareto_queue.specs.Queues.{IsDominatedBy, IsUndominated, SplitsAt, SpotLess}
 
 -- the cost with zero as its first component
 abbrev pub grounded : List ℕ → List ℕ
 grounded [] = []
 grounded (x ∷ xs) = 0 ∷ xs
 
+-- the second component
+abbrev pub second_of : List ℕ → ℕ
+second_of c = slice_index_or c 1 0
+
 module _ {D : ℕ} where
+  -- b doesn't exceed a in the second component
+  abbrev pub FallsTo : CompactCost D → CompactCost D → Type 0
+  FallsTo a b = second_of b.0 ≤ second_of a.0
+
+  -- no cost exceeds an earlier one in the second component
+  abbrev pub Descends : List (CompactCost D) → Type 0
+  Descends = AllPairs FallsTo
+
+  -- the costs before the place i exceed c in the second component, and no other does
+  abbrev pub ExceedsBefore : List (CompactCost D) → List ℕ → ℕ → Type 0
+  ExceedsBefore shadow c = SplitsAt (λ x. second_of c < second_of x.0) (λ x. second_of x.0 ≤ second_of c) shadow
+
   -- c joins the shadow, and those leave of which no component but the first is less than c's
   abbrev pub Joins : List (CompactCost D) → CompactCost D → List (CompactCost D) → Type 0
   Joins before c after = (x : CompactCost D) → Contains after x ↔ ((Contains before x × ¬ AtMost (grounded c.0) x.0) ⊎ (x ≡ c))
@@ -25,11 +41,14 @@ module _ {D : ℕ} where
     pub from : (c : CompactCost D) → Contains shadow c → (s : CompactSpot D) × Contains seen s × (s.cost ≡ c)
     pub dominates : (c : List ℕ) → IsLater seen c → (s : CompactSpot D) → Contains seen s → Dominates s.cost.0 c → IsDominatedBy shadow c
 
-  -- Of a queue's first spots those that no cost in the whole queue dominates are taken, and the others are left. Both ascend.
-  pub record IsExtracted (spots seen : List (CompactSpot D)) (costs : List (CompactCost D)) (took left : List (CompactSpot D)) : Type 0 where
+  -- the undominated ones of the spots that were seen, ascending
+  pub record IsExtracted (spots seen : List (CompactSpot D)) (costs : List (CompactCost D)) (took : List (CompactSpot D)) : Type 0 where
     pub shadow : IsShadow seen costs
-    pub each : (x : CompactSpot D) → Contains seen x → Contains took x ⊎ Contains left x
-    pub taken : (x : CompactSpot D) → Contains took x → Contains seen x × IsUndominated spots x.cost.0
-    pub rest : (x : CompactSpot D) → Contains left x → Contains seen x × ¬ IsUndominated spots x.cost.0
-    pub taken_ascends : AllPairs SpotLess took
-    pub rest_ascends : AllPairs SpotLess left
+    pub descends : Descends costs
+    pub taken : (x : CompactSpot D) → Contains took x ↔ (Contains seen x × IsUndominated spots x.cost.0)
+    pub ascending : AllPairs SpotLess took
+
+  -- the undominated ones of the spots, ascending
+  pub record ListsUndominated (spots took : List (CompactSpot D)) : Type 0 where
+    pub taken : (x : CompactSpot D) → Contains took x ↔ (Contains spots x × IsUndominated spots x.cost.0)
+    pub ascending : AllPairs SpotLess took

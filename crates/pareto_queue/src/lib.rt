@@ -3,6 +3,7 @@
 #![tactic(auto)]
 
 mod extraction;
+mod merging;
 mod order;
 mod queue;
 mod shadow;

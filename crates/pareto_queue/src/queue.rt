@@ -1,11 +1,12 @@
 ghost use Rattle.std.specs.Prelude.{◌≡◌, ◌≢◌, ◌+◌, ◌^◌, ◌<◌, ◌≤◌, ◌↔◌, ◌⊎◌, [], ◌∷◌, length, IsTrue, IfOk, OnOk, OnErr, All, AllPairs, Contains};
 ghost use Rattle.cost_vector.specs.Costs.{AtMost, Within, max_criteria, min_criteria};
 ghost use Rattle.list_laws.specs.Sets.{Loses};
-ghost use Rattle.pareto_queue.specs.Queues.{AreSorted, Gains, IsDominatedBy, LosesWhere, TakesUndominated};
+ghost use Rattle.pareto_queue.specs.Queues.{Gains, IsDominatedBy, LosesWhere, TakesUndominated};
 
 use crate::Steps;
-use crate::extraction::extract;
-use crate::order::{gap_of, is_absent, place_of};
+use crate::extraction::list_undominated;
+use crate::merging::{merge, subtract};
+use crate::order::{gap_of, list_sorted, place_of};
 use crate::shadow::is_dominated;
 use compact_labels::{CompactCost, CompactSpot};
 use cost_vector::{Cost, Limit, OutOfMemory};
@@ -24,6 +25,8 @@ pub struct Queue<const D: usize> {
     spots: Vec<CompactSpot<D>>,
     /// Room for what a call makes of the spots.
     rest: Vec<CompactSpot<D>>,
+    /// Room for the spots that a call gives, in order.
+    order: Vec<CompactSpot<D>>,
     shadow: Vec<CompactCost<D>>,
 }
 
@@ -50,6 +53,7 @@ impl<const D: usize> Queue<D> {
             alloc,
             spots: Vec::new(alloc),
             rest: Vec::new(alloc),
+            order: Vec::new(alloc),
             shadow: Vec::new(alloc),
         }
     }
@@ -85,12 +89,9 @@ impl<const D: usize> Queue<D> {
         ensures put { OnOk result (Gains self.old spots.now self.new) }
         ensures same { OnErr result (self.new ≡ self.old) }
     {
-        let before = self.spots.len();
-        self.spots.extend_from_slice(spots)?;
-        if self.spots.sort().is_err() {
-            self.spots.truncate(before);
-            return Err(OutOfMemory);
-        }
+        list_sorted(spots, &mut self.order)?;
+        merge(&self.spots, &self.order, &mut self.rest)?;
+        mem::swap(&mut self.spots, &mut self.rest);
         Ok(())
     }
 
@@ -113,15 +114,9 @@ impl<const D: usize> Queue<D> {
         ensures removed { OnOk result (LosesWhere (Contains spots.now) self.old self.new) }
         ensures same { OnErr result (self.new ≡ self.old) }
     {
-        self.rest.clear();
-        self.rest.extend_from_slice(spots)?;
-        self.rest.sort_unstable();
-        let gone = &self.rest;
-        self.spots.retain(
-            |spot| -> bool
-                ensures { AreSorted gone.entry.now.items → (IsTrue result ↔ ¬ Contains gone.entry.now.items spot.now) }
-            { is_absent(gone, spot) },
-        );
+        list_sorted(spots, &mut self.order)?;
+        subtract(&self.spots, &self.order, &mut self.rest)?;
+        mem::swap(&mut self.spots, &mut self.rest);
         Ok(())
     }
 
@@ -159,7 +154,8 @@ impl<const D: usize> Queue<D> {
         ensures step { steps.new ≡ steps.old + 1 }
     {
         steps.tick();
-        extract(&self.spots, &mut self.shadow, taken, &mut self.rest)?;
+        list_undominated(&self.spots, &mut self.shadow, taken)?;
+        subtract(&self.spots, taken, &mut self.rest)?;
         mem::swap(&mut self.spots, &mut self.rest);
         Ok(())
     }

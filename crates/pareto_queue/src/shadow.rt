@@ -1,10 +1,13 @@
-ghost use Rattle.std.specs.Prelude.{◌≡◌, ◌≤◌, ◌↔◌, IfOk, IsTrue};
-ghost use Rattle.cost_vector.specs.Costs.{AtMost, min_criteria};
+ghost use Rattle.std.specs.Prelude.{◌≡◌, ◌≤◌, ◌↔◌, nat_lt, IfOk, IsTrue};
+ghost use Rattle.cost_vector.specs.Costs.{AtMost, max_criteria, min_criteria};
 ghost use Rattle.pareto_queue.specs.Queues.{IsDominatedBy};
-ghost use Rattle.pareto_queue.specs.Shadows.{grounded, Joins};
+ghost use Rattle.pareto_queue.specs.Shadows.{Descends, ExceedsBefore, Joins, grounded, second_of};
 
 use compact_labels::CompactCost;
 use cost_vector::OutOfMemory;
+
+/// So few costs are gone through faster than searched.
+const FEW: usize = 8;
 
 /// Whether a cost of the list dominates this one.
 pub(crate) fn is_dominated<const D: usize>(by: &[CompactCost<D>], cost: &CompactCost<D>) -> bool
@@ -16,6 +19,40 @@ pub(crate) fn is_dominated<const D: usize>(by: &[CompactCost<D>], cost: &Compact
         }
     }
     false
+}
+
+/// The second component.
+fn second<const D: usize>(cost: &CompactCost<D>) -> u64
+    ensures { result ≡ second_of cost.now.0 }
+{
+    match cost.0.get(1) {
+        Some(component) => *component,
+        None => 0,
+    }
+}
+
+/// How many costs of the shadow exceed this one in the second component.
+fn count_above<const D: usize>(shadow: &[CompactCost<D>], cost: &CompactCost<D>) -> usize
+    requires { Descends shadow.now }
+    ensures { ExceedsBefore shadow.now cost.now.0 result }
+{
+    let bound = second(cost);
+    shadow.partition_point(
+        |other| -> bool
+            ensures { result ≡ nat_lt bound (second_of other.now.0) }
+        { bound < second(other) },
+    )
+}
+
+/// Whether a cost of the shadow dominates this one.
+pub(crate) fn is_shadowed<const D: usize>(shadow: &[CompactCost<D>], cost: &CompactCost<D>) -> bool
+    requires { Descends shadow.now }
+    ensures { IsTrue result ↔ IsDominatedBy shadow.now cost.now.0 }
+{
+    if shadow.len() < FEW {
+        return is_dominated(shadow, cost);
+    }
+    is_dominated(&shadow[count_above(shadow, cost)..], cost)
 }
 
 /// The cost with zero as its first component.
@@ -33,8 +70,11 @@ pub(crate) fn cast<const D: usize>(
     shadow: &mut Vec<CompactCost<D>>,
     cost: &CompactCost<D>,
 ) -> Result<(), OutOfMemory>
-    requires { min_criteria ≤ D }
-    ensures { IfOk result (λ _. Joins shadow.old.items cost.now shadow.new.items) }
+    requires two { min_criteria ≤ D }
+    requires four { D ≤ max_criteria }
+    requires descends { Descends shadow.old.items }
+    ensures joins { IfOk result (λ _. Joins shadow.old.items cost.now shadow.new.items) }
+    ensures descends { IfOk result (λ _. Descends shadow.new.items) }
 {
     let low = floor(cost);
     shadow.retain(
@@ -42,6 +82,7 @@ pub(crate) fn cast<const D: usize>(
             ensures { IsTrue result ↔ ¬ AtMost low.0 other.now.0 }
         { !low.at_most(other) },
     );
-    shadow.push(*cost)?;
+    let place = count_above(shadow, cost);
+    shadow.insert(place, *cost)?;
     Ok(())
 }

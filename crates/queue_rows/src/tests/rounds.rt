@@ -27,6 +27,16 @@ struct Parts<const D: usize> {
     others: Vec<CompactSpot<D>>,
 }
 
+/// Whether another spot's cost dominates this one's.
+fn is_dominated<const D: usize>(waiting: &[CompactSpot<D>], spot: &CompactSpot<D>) -> bool {
+    for other in waiting {
+        if other.cost.dominates(&spot.cost) {
+            return true;
+        }
+    }
+    false
+}
+
 fn parted<const D: usize>(
     alloc: Global,
     waiting: &[CompactSpot<D>],
@@ -34,13 +44,7 @@ fn parted<const D: usize>(
     let mut free = Vec::new(alloc);
     let mut others = Vec::new(alloc);
     for spot in waiting {
-        let mut dominated = false;
-        for other in waiting {
-            if other.cost.dominates(&spot.cost) {
-                dominated = true;
-            }
-        }
-        if dominated {
+        if is_dominated(waiting, spot) {
             others.push(*spot)?;
         } else {
             free.push(*spot)?;
@@ -81,6 +85,29 @@ fn plain_rounds<const D: usize, L: Ledger>(
         waiting = parts.others;
     }
     Ok(None)
+}
+
+/// Whether the first rounds of a queue of random spots, put in at once, take what comparing all pairs gives.
+fn first_rounds<const D: usize, L: Ledger>(
+    alloc: Global,
+    steps: &mut Steps<L>,
+    count: u32,
+) -> Result<bool, OutOfMemory>
+    requires two { min_criteria ≤ D }
+    requires four { D ≤ max_criteria }
+{
+    let mut waiting = draw_spots::<D>(alloc, count, 100_000)?;
+    let mut queue = Queue::<D>::new(alloc);
+    queue.put_all(&waiting)?;
+    for _round in 0..3 {
+        let parts = parted(alloc, &waiting)?;
+        let taken = take(alloc, &mut queue, steps)?;
+        if taken.as_slice() != parts.free.as_slice() {
+            return Ok(false);
+        }
+        waiting = parts.others;
+    }
+    Ok(queue.len() == waiting.len())
 }
 
 /// In how many rounds so many random spots leave.
@@ -126,6 +153,19 @@ fn are_as_plain<L: Ledger>(alloc: Global, blank: Blank, count: u32) -> Result<bo
     Ok(two.is_some() && three.is_some() && four.is_some())
 }
 
+/// Whether large queues of 2, 3 and 4 criteria first give what comparing all pairs gives.
+fn begin_as_plain<L: Ledger>(alloc: Global, blank: Blank, count: u32) -> Result<bool, OutOfMemory>
+    requires name { blank.name ≡ L.name }
+    requires parts { blank.parts ≡ L.parts }
+    requires some { 0 < L.parts }
+{
+    let mut steps = Steps::<L>::new(blank);
+    let two = first_rounds::<2, L>(alloc, &mut steps, count)?;
+    let three = first_rounds::<3, L>(alloc, &mut steps, count)?;
+    let four = first_rounds::<4, L>(alloc, &mut steps, count)?;
+    Ok(two && three && four)
+}
+
 /// Whether queues of 2, 3 and 4 criteria become empty.
 fn all_leave<L: Ledger>(alloc: Global, blank: Blank, count: u32) -> Result<bool, OutOfMemory>
     requires name { blank.name ≡ L.name }
@@ -148,5 +188,11 @@ fn takes_what_comparing_all_pairs_gives(rt: HostRuntime) -> Result<(), Fail> {
 #[test]
 fn empties_in_rounds(rt: HostRuntime) -> Result<(), Fail> {
     assert!(rt; all_leave::<Brand>(rt.alloc(), Blank::new(1), 100_000)?);
+    Ok(())
+}
+
+#[test]
+fn takes_from_many_what_comparing_all_pairs_gives(rt: HostRuntime) -> Result<(), Fail> {
+    assert!(rt; begin_as_plain::<Brand>(rt.alloc(), Blank::new(1), 100_000)?);
     Ok(())
 }

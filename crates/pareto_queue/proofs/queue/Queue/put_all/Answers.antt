@@ -1,18 +1,24 @@
-use Rattle.std.proofs.Common.{subst}
-use Rattle.std.specs.Prelude.{IsPermutation}
-use Rattle.pareto_queue.proofs.QueueLemmas.{queue_by_sort, gains_by_sort, by_success}
-use Rattle.std.specs.List.Sorted.{IsSorted}
-use Rattle.pareto_queue.proofs.OrderLemmas.{spot_cmp}
+use Rattle.std.proofs.Common.{rules}
+use Rattle.pareto_queue.proofs.QueueLemmas.{ascending_by_sort, gains_in_order, new_in_order}
 use Rattle.pareto_queue.proofs.queue.Queue.put_all.Goals as goal
 
-pub invariant_of-self-else-is_err : goal.invariant_of-self-else-is_err
-invariant_of-self-else-is_err g c =
-    queue_by_sort c.self.inside.spots.items c.args.spots.now c.sort.new.self.items c.self.invariant
-    (subst (λ xs. IsPermutation xs c.sort.new.self.items) c.in_ok-extend_from_slice.ensures.items c.sort.ensures.permutation)
-    (rw (← c.self.view_is) at c.requires.new) c.requires.once
-    (by_success c.sort.result _ (IsSorted spot_cmp c.sort.new.self.items) c.is_err.ensures.value c.if-is_err.false c.sort.ensures.sorted)
+pub merge-requires : goal.merge-requires
+merge-requires g c = (
+  search rules,
+  (
+    rw c.deref.ensures.value c.self.invariant.ascending,
+    (
+      rw c.deref-2.ensures.value
+          (ascending_by_sort c.args.spots.now c.list_sorted.new.list.items c.requires.once c.in_ok-list_sorted.ensures.same c.in_ok-list_sorted.ensures.sorted),
+      rw (c.deref.ensures.value, c.deref-2.ensures.value)
+          (new_in_order c.self.inside.spots.items c.args.spots.now c.list_sorted.new.list.items c.in_ok-list_sorted.ensures.same
+          (rw (← c.self.view_is) at c.requires.new)),
+    ),
+  ),
+)
 
 pub returns-clause-put : goal.returns-clause-put
 returns-clause-put g c =
-    rw (← c.self.view_is) (gains_by_sort c.self.inside.spots.items c.args.spots.now c.sort.new.self.items c.self.invariant
-    (subst (λ xs. IsPermutation xs c.sort.new.self.items) c.in_ok-extend_from_slice.ensures.items c.sort.ensures.permutation))
+    rw (c.swap.ensures.x_after, ← c.self.view_is)
+    (gains_in_order c.self.inside.spots.items c.args.spots.now c.list_sorted.new.list.items c.merge.new.all.items c.in_ok-list_sorted.ensures.same
+    (rw (c.deref.ensures.value, c.deref-2.ensures.value) at c.in_ok-merge.ensures.all))

@@ -1,0 +1,26 @@
+-- Lists of which each element stands in a relation to each later one, cut or with one element more.
+use Rattle.std.proofs.Common.{ℕ, zero, suc, List, [], ◌∷◌, take, drop, inl, inr, sym, subst}
+use Rattle.std.specs.Prelude.{AllPairs}
+use Rattle.std.specs.List.{insert}
+use Rattle.list_laws.proofs.Members.{cases_in, each_in}
+use Rattle.list_laws.proofs.OnceLaws.{pairs_append}
+use Rattle.list_laws.proofs.Pairs.{pairs_none, pairs_cons, pairs_rest, pairs_take}
+use Rattle.pareto_queue.specs.Queues.{SplitsAt}
+
+-- the end of a list
+pub pairs_drop : {X : Type 0} (R : X → X → Type 0) (n : ℕ) (xs : List X) → AllPairs R xs → AllPairs R (drop n xs)
+pairs_drop R zero xs pairs = pairs
+pairs_drop R (suc n) [] pairs = pairs_none R
+pairs_drop R (suc n) (x ∷ xs) pairs = pairs_drop R n xs (pairs_rest R x xs pairs)
+
+-- one element more, at a place where it fits
+pub pairs_insert : {X : Type 0} (R : X → X → Type 0) → ((x y z : X) → R x y → R y z → R x z) → (xs : List X) (y : X) (i : ℕ) → AllPairs R xs
+    → SplitsAt (λ x. R x y) (R y) xs i → AllPairs R (insert xs i y)
+pairs_insert R trans xs y i pairs fits =
+    pairs_append R (take i xs) (y ∷ drop i xs) (pairs_take R i xs pairs)
+    (pairs_cons R y (drop i xs) (each_in (R y) (drop i xs) fits.after) (pairs_drop R i xs pairs))
+    (λ x z h k. let first = each_in (λ w. R w y) (take i xs) fits.before x h in
+    elim (cases_in y (drop i xs) z k) [
+      | inl same ↦ subst (R x) (sym same) first
+      | inr later ↦ trans x y z first (each_in (R y) (drop i xs) fits.after z later)
+    ])

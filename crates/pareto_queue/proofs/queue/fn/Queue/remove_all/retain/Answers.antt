@@ -1,8 +1,0 @@
-use Rattle.std.proofs.Common.{IsTrue, ◌↔◌, subst}
-use Rattle.std.specs.Prelude.{Contains}
-use Rattle.pareto_queue.specs.Queues.{AreSorted}
-use Rattle.pareto_queue.proofs.queue.fn.Queue.remove_all.retain.Goals as goal
-
-pub returns : goal.returns
-returns g c =
-    subst (λ spots. AreSorted spots → (IsTrue c.is_absent.result ↔ (¬ Contains spots c.args.spot.now))) c.deref.ensures.value c.is_absent.ensures

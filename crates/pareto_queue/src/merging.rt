@@ -1,0 +1,82 @@
+ghost use Rattle.std.specs.Prelude.{◌≡◌, AllPairs, All, Contains, IfOk};
+ghost use Rattle.list_laws.specs.Sets.{Loses};
+ghost use Rattle.pareto_queue.specs.Passing.{NoneBefore, PassesOn};
+ghost use Rattle.pareto_queue.specs.Queues.{AreSorted, Gains, LosesWhere, SpotLess};
+
+use crate::order::count_before;
+use compact_labels::CompactSpot;
+use cost_vector::OutOfMemory;
+
+/// Adds those of the spots that come before this one to a list, and leaves the others.
+fn pass_on<'a, const D: usize>(
+    spots: &'a [CompactSpot<D>],
+    spot: &CompactSpot<D>,
+    list: &mut Vec<CompactSpot<D>>,
+) -> Result<&'a [CompactSpot<D>], OutOfMemory>
+    requires { AllPairs SpotLess spots.now }
+    ensures { IfOk result (λ rest. PassesOn spots.now spot.now list.old.items list.new.items
+        rest.now) }
+{
+    let (front, rest) = spots.split_at(count_before(spots, spot));
+    list.extend_from_slice(front)?;
+    Ok(rest)
+}
+
+/// The spots without this one, which can only be the first.
+fn leave_out<'a, const D: usize>(
+    spots: &'a [CompactSpot<D>],
+    spot: &CompactSpot<D>,
+) -> &'a [CompactSpot<D>]
+    requires ascending { AllPairs SpotLess spots.now }
+    requires none_before { NoneBefore spot.now spots.now }
+    ensures ascending { AllPairs SpotLess result.now }
+    ensures without { Loses spots.now spot.now result.now }
+{
+    match spots.first() {
+        Some(first) if first == spot => &spots[1..],
+        _ => spots,
+    }
+}
+
+/// Lists all spots of two ascending lists, which share none. What the list held before is gone.
+pub(crate) fn merge<const D: usize>(
+    spots: &[CompactSpot<D>],
+    more: &[CompactSpot<D>],
+    all: &mut Vec<CompactSpot<D>>,
+) -> Result<(), OutOfMemory>
+    requires ascending { AllPairs SpotLess spots.now }
+    requires more_ascending { AllPairs SpotLess more.now }
+    requires new { All (λ s. ¬ Contains spots.now s) more.now }
+    ensures ascending { IfOk result (λ _. AllPairs SpotLess all.new.items) }
+    ensures all { IfOk result (λ _. Gains spots.now more.now all.new.items) }
+{
+    all.clear();
+    let mut left = spots;
+    for spot in more {
+        left = pass_on(left, spot, all)?;
+        all.push(*spot)?;
+    }
+    all.extend_from_slice(left)?;
+    Ok(())
+}
+
+/// Lists the spots of an ascending list that another, sorted one doesn't have. What the list held before is gone.
+pub(crate) fn subtract<const D: usize>(
+    spots: &[CompactSpot<D>],
+    gone: &[CompactSpot<D>],
+    rest: &mut Vec<CompactSpot<D>>,
+) -> Result<(), OutOfMemory>
+    requires ascending { AllPairs SpotLess spots.now }
+    requires sorted { AreSorted gone.now }
+    ensures ascending { IfOk result (λ _. AllPairs SpotLess rest.new.items) }
+    ensures rest { IfOk result (λ _. LosesWhere (Contains gone.now) spots.now rest.new.items) }
+{
+    rest.clear();
+    let mut left = spots;
+    for spot in gone {
+        let others = pass_on(left, spot, rest)?;
+        left = leave_out(others, spot);
+    }
+    rest.extend_from_slice(left)?;
+    Ok(())
+}

@@ -5,6 +5,7 @@ pub mod FilesRead
 pub mod Costs
 pub mod Check
 pub mod Gen
+pub mod Summary
 pub mod Output
 pub mod Stops
 pub mod ReadResults

@@ -17,6 +17,7 @@ mod pieces;
 mod reply;
 mod status;
 mod stop;
+mod summary;
 
 use command_words::{Command, WordsFault, read_words};
 use route_io::{Folder, Sink};

@@ -1,0 +1,14 @@
+//! What holds of every plan, as the contracts of functions that do nothing.
+#![tactic(auto)]
+
+ghost use Rattle.gen_laws.specs.Laws.{PairFilesAreRead, WeightFilesAreRead};
+
+/// Each weight file of a plan is a weight file, of the grid's nodes and arcs.
+pub fn weight_files_are_read()
+    ensures { WeightFilesAreRead }
+{}
+
+/// The file of pairs of a plan is a file of pairs, between nodes of the grid.
+pub fn pair_files_are_read()
+    ensures { PairFilesAreRead }
+{}

@@ -5,3 +5,4 @@ pub mod WordLemmas
 pub mod RecordLemmas
 pub mod WeightLemmas
 pub mod PairLemmas
+pub mod AgreeLemmas

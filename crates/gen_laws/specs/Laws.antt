@@ -2,6 +2,8 @@
 use Rattle.std.specs.Prelude.{ℕ, ◌+◌, ◌^◌, ◌≤◌, List, length, map}
 use Rattle.std.specs.List.{range_with_len, zip}
 use Rattle.arc_graph.specs.declared.file.ArcLine.{ArcLine}
+use Rattle.arc_graph.specs.Files.{ArcFile}
+use Rattle.arc_graph.specs.Agreement.{Agree}
 use Rattle.gr_reader.specs.declared.fault.FileLimits.{FileLimits}
 use Rattle.gr_reader.specs.Grammar.{IsGr}
 use Rattle.query_reader.specs.declared.pairs.Pair.{Pair}
@@ -32,6 +34,14 @@ abbrev pub WeightFilesAreRead : Type 0
 WeightFilesAreRead =
     (limits : FileLimits) (plan : GenPlan) (criterion : ℕ) → LeaveRoom limits → IsPlan plan
     → IsGr limits (weight_text plan criterion) (node_count plan.side) (arcs_of plan criterion)
+
+-- what the weight file of a criterion says
+abbrev pub file_of : GenPlan → ℕ → ArcFile
+file_of plan criterion = record { nodes = node_count plan.side; arcs = arcs_of plan criterion }
+
+-- the weight files of a plan agree
+abbrev pub WeightFilesAgree : Type 0
+WeightFilesAgree = (plan : GenPlan) → IsPlan plan → Agree (map (file_of plan) (range_with_len 1 plan.criteria))
 
 -- pair number i, from 1
 abbrev pub pair_of : GenPlan → ℕ → Pair

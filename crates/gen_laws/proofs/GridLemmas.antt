@@ -43,7 +43,8 @@ on_grid_if side false place on = tt
 arc_has_nodes : (side : ℕ) (tail : Place) (head : Option Place) → IsOnGrid side tail → IfSome head (IsOnGrid side) → All (AreNodes side) (arc_to side tail head)
 arc_has_nodes side tail None on head_on = All-nil (AreNodes side)
 arc_has_nodes side tail (Some head) on head_on =
-    All-cons (AreNodes side) (arc_between side tail head) [] (record { tail = node_is side tail on; head = node_is side head head_on }) (All-nil (AreNodes side))
+    All-cons (AreNodes side) (arc_between side tail head) [] (record { tail = node_is side tail on; head = node_is side head head_on })
+    (All-nil (AreNodes side))
 
 module _ (side : ℕ) (place : Place) (on : IsOnGrid side place) where
   to_right : All (AreNodes side) (arc_to side place (right_of side place))
@@ -152,7 +153,8 @@ module _ (side : ℕ) where
       let behind = ap (λ k. side * k) (more_behind n side within) in
       let before = ap (λ k. side * k) (more_before n) in
       sums (length (flat_map (row_arcs side) (range_with_len 0 n))) (length (row_arcs side n)) _ side (min n (side - 1)) (n - 1) n (side - 1)
-      (bit (nat_lt (n + 1) side)) (bit (nat_lt 0 n)) _ _ more front (row ∙ ap (λ k. side * bit (nat_lt (n + 1) side) + side * bit (nat_lt 0 n) + k + (side - 1)) last) behind before
+      (bit (nat_lt (n + 1) side)) (bit (nat_lt 0 n)) _ _ more front (row ∙ ap (λ k. side * bit (nat_lt (n + 1) side) + side * bit
+      (nat_lt 0 n) + k + (side - 1)) last) behind before
 
   grid_counts : (n : ℕ) → n ≤ side → GridCounts n
   grid_counts zero within =

@@ -34,7 +34,8 @@ says_pair from to low high =
     record {
       text = line_text (codes "q") (end_fields from to) is_q (fields_are (end_fields from to) all);
       short = omega (arith, length-line (codes "q") (end_fields from to) all);
-      says = ap (λ fs. if is_ignored fs then None else Some (pairs_form fs)) (fields_of-line (codes "q") (end_fields from to) is_q (fields_are (end_fields from to) all))
+      says = ap (λ fs. if is_ignored fs then None else Some (pairs_form fs)) (fields_of-line (codes "q") (end_fields from to) is_q
+          (fields_are (end_fields from to) all))
           ∙ ap (λ n. Some (query.pair_of n (number_of (decimal to)))) (number_of-decimal from (omega arith))
           ∙ ap (λ n. Some (query.pair_of (Some from) n)) (number_of-decimal to (omega arith));
     }
@@ -56,7 +57,8 @@ says_count count few =
     record {
       text = line_text (codes "p") (count_fields count) is_p (fields_are (count_fields count) all);
       short = omega (arith, length-line (codes "p") (count_fields count) all);
-      says = ap (λ fs. if is_ignored fs then None else Some (pairs_form fs)) (fields_of-line (codes "p") (count_fields count) is_p (fields_are (count_fields count) all))
+      says = ap (λ fs. if is_ignored fs then None else Some (pairs_form fs)) (fields_of-line (codes "p") (count_fields count) is_p
+          (fields_are (count_fields count) all))
           ∙ ap (λ n. Some (problem_of n)) (number_of-decimal count (omega arith));
     }
 

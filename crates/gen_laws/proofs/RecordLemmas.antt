@@ -12,11 +12,13 @@ use Rattle.gen_laws.proofs.FileLemmas.{SaysForm}
 use Rattle.gen_laws.proofs.LineLemmas.{IsField, fields_of-line, line_of_fields, line_text, number_of-decimal}
 use Rattle.gen_laws.proofs.WordLemmas.{IsShortField, is_a, is_p, is_sp, length-line, short_decimal}
 
-pub all_zip : {A B : Type 0} (P : A → Type 0) (Q : B → Type 0) (xs : List A) (ys : List B) → All P xs → All Q ys → All (λ (p : A × B). P p.0 × Q p.1) (zip xs ys)
+pub all_zip : {A B : Type 0} (P : A → Type 0) (Q : B → Type 0) (xs : List A) (ys : List B) → All P xs → All Q ys
+    → All (λ (p : A × B). P p.0 × Q p.1) (zip xs ys)
 all_zip P Q [] ys all others = All-nil (λ p. P p.0 × Q p.1)
 all_zip P Q (x ∷ xs) [] all others = All-nil (λ p. P p.0 × Q p.1)
 all_zip P Q (x ∷ xs) (y ∷ ys) all others =
-    All-cons (λ p. P p.0 × Q p.1) (x, y) (zip xs ys) (All-head P x xs all, All-head Q y ys others) (all_zip P Q xs ys (All-tail P x xs all) (All-tail Q y ys others))
+    All-cons (λ p. P p.0 × Q p.1) (x, y) (zip xs ys) (All-head P x xs all, All-head Q y ys others) (all_zip P Q xs ys
+    (All-tail P x xs all) (All-tail Q y ys others))
 
 pub length-zip : {A B : Type 0} (xs : List A) (ys : List B) → length ys ≡ length xs → length (zip xs ys) ≡ length xs
 length-zip [] ys same = refl
@@ -66,7 +68,8 @@ says_sizes nodes arcs few_nodes few_arcs =
     record {
       text = line_text (codes "p") (size_fields nodes arcs) is_p (fields_are (size_fields nodes arcs) all);
       short = omega (arith, length-line (codes "p") (size_fields nodes arcs) all);
-      says = ap (λ fs. if is_ignored fs then None else Some (weights_form fs)) (fields_of-line (codes "p") (size_fields nodes arcs) is_p (fields_are (size_fields nodes arcs) all))
+      says = ap (λ fs. if is_ignored fs then None else Some (weights_form fs)) (fields_of-line (codes "p") (size_fields nodes arcs) is_p
+          (fields_are (size_fields nodes arcs) all))
           ∙ ap (λ n. Some (problem_of n (number_of (decimal arcs)))) (number_of-decimal nodes (omega arith))
           ∙ ap (λ n. Some (problem_of (Some nodes) n)) (number_of-decimal arcs (omega arith));
     }

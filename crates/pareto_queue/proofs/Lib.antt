@@ -1,7 +1,7 @@
 pub mod ExtractionLemmas
+pub mod ListLemmas
 pub mod OrderLemmas
+pub mod PassingLemmas
 pub mod QueueLemmas
 pub mod RetainedLemmas
 pub mod ShadowLemmas
-pub mod ListLemmas
-pub mod PassingLemmas

@@ -110,7 +110,8 @@ module _ {D : ℕ} (task : Task) (before : Core D) (s : SearchState) (none : bef
       search = same_task task before after drops.same_search at.search;
       reached = reached_by_drops left all;
       stands = record {
-        settled = λ y. subst (λ (f : Fronts). Contains left.settled y ↔ Contains (front_at f y.node).settled (as_entry y)) (sym drops.fronts) (stands_settled y);
+        settled = λ y. subst (λ (f : Fronts). Contains left.settled y ↔ Contains (front_at f y.node).settled (as_entry y)) (sym drops.fronts)
+            (stands_settled y);
         dropped = λ y. subst (λ (f : Fronts). Contains left.dropped y ↔ (IsUnsettled (front_at f y.node) (as_entry y) × (¬ Contains after.waiting (as_spot y))))
             (sym drops.fronts) (stands_dropped y);
         waiting = λ y. subst (λ (f : Fronts). Contains left.waiting y ↔ (IsUnsettled (front_at f y.node) (as_entry y) × Contains after.waiting (as_spot y)))
@@ -318,8 +319,8 @@ module _ {D : ℕ} (before mid : Core D) (drops : DropsBarred before mid) where
 
         begun_dropped : (y : Label) → Contains next.dropped y
             ↔ (IsUnsettled (front_at after.fronts y.node) (as_entry y) × (¬ Contains after.waiting (as_spot y)))
-        begun_dropped y = both (begun.entries dropped y) refl (λ wrong. cc) (at.stands.dropped y) (drop_told task before s at y) (next_taken y) (unsettled_then y)
-            (waits_then y) (taken_waits y) (told_spot before.waiting (as_spot y)) (told_barred before y.cost) where
+        begun_dropped y = both (begun.entries dropped y) refl (λ wrong. cc) (at.stands.dropped y) (drop_told task before s at y) (next_taken y)
+            (unsettled_then y) (waits_then y) (taken_waits y) (told_spot before.waiting (as_spot y)) (told_barred before y.cost) where
               both : {A S M N Q R U W B T V X : Type 0} → (A ↔ ((S × (¬ M) × (¬ N)) ⊎ ((Q × M) ⊎ (R × N)))) → Q → ¬ R → (S ↔ (U × (¬ W)))
                   → (M ↔ (U × (W × B))) → (N ↔ (U × T)) → (V ↔ (U × (¬ T))) → (X ↔ ((W × (¬ B)) × (¬ T))) → (T → W × (¬ B)) → (W ⊎ (¬ W)) → (B ⊎ (¬ B))
                   → (A ↔ (V × (¬ X)))
@@ -382,7 +383,8 @@ module _ {D : ℕ} (before mid : Core D) (drops : DropsBarred before mid) where
 
       pub has_begun : (x : CompactSpot D) → Contains mid.waiting x → HasBegun before after
       has_begun x waits =
-          let within : takes.count + length after.taken ≤ before.budget = subst (λ b. takes.count + length after.taken ≤ b) drops.same_search.budget takes.within in
+          let within : takes.count + length after.taken ≤ before.budget =
+          subst (λ b. takes.count + length after.taken ≤ b) drops.same_search.budget takes.within in
           record {
             some_stay = some_stay x waits;
             ascending = takes.taken.ascending;

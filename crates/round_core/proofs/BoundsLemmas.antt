@@ -1,5 +1,6 @@
 -- The limit as a greatest cost, and the settled costs of the target as a front.
-use Rattle.std.proofs.Common.{below_more, ◌≡◌, ◌≢◌, ◌+◌, ℕ, ◌<◌, ◌≤◌, ◌↔◌, ◌⊎◌, ◌++◌, List, [], ◌∷◌, length, get_or, Option, None, zero, suc, inl, inr, refl, sym, ap, subst, ◌∙◌, arith}
+use Rattle.std.proofs.Common.{below_more, ◌≡◌, ◌≢◌, ◌+◌, ℕ, ◌<◌, ◌≤◌, ◌↔◌, ◌⊎◌, ◌++◌, List, [], ◌∷◌, length, get_or}
+use Rattle.std.proofs.Common.{Option, None, zero, suc, inl, inr, refl, sym, ap, subst, ◌∙◌, arith}
 use Rattle.std.specs.Prelude.{Bool, true, false, ◌&&◌, All, IsTrue, Contains, slice_index}
 use Rattle.cost_vector.specs.Costs.{IsAllowed, Within}
 use Rattle.compact_labels.specs.declared.cost.CompactCost.{CompactCost}

@@ -98,7 +98,8 @@ module _ {D : ℕ} (b : Bounds D) (w v : Waiting D) (queued : LosesWhere (λ x. 
 
 module _ {D : ℕ} (old took left : List (CompactSpot D)) (takes : TakesUndominated old took left) where
   pub took_once : AllPairs ◌≢◌ took
-  took_once = λ i j d before within same. SpotLess-irrefl (get_or took j d) (subst (λ x. SpotLess x (get_or took j d)) same (takes.ascending i j d before within))
+  took_once = λ i j d before within same. SpotLess-irrefl (get_or took j d)
+      (subst (λ x. SpotLess x (get_or took j d)) same (takes.ascending i j d before within))
 
   pub took_apart : (x : CompactSpot D) → Contains took x → ¬ Contains left x
   took_apart x there left_too = ((takes.rest x).0 left_too).1 there

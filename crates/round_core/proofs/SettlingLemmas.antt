@@ -112,13 +112,15 @@ module _ {D : ℕ} where
         ↔ (Contains (front_at g v).settled e ⊎ (Contains (entries (front_at g v)) e × (spot_told v e.cost ≡ x)))
     settled_now v e = elim (cases_eq v x.node.0) [
       | inl same ↦ here same
-      | inr other ↦ subst (λ (k : Front). Contains k.settled e ↔ (Contains (front_at g v).settled e ⊎ (Contains (entries (front_at g v)) e × (spot_told v e.cost ≡ x))))
+      | inr other ↦ subst (λ (k : Front). Contains k.settled e
+          ↔ (Contains (front_at g v).settled e ⊎ (Contains (entries (front_at g v)) e × (spot_told v e.cost ≡ x))))
           (sym (elsewhere.others v other)) (λ t. inl t, elim [ inl t ↦ t | inr t ↦ absurd (other ((is_last v e.cost).0 t.1).0) ])
     ] where
       here : v ≡ x.node.0 → Contains (front_at h v).settled e
           ↔ (Contains (front_at g v).settled e ⊎ (Contains (entries (front_at g v)) e × (spot_told v e.cost ≡ x)))
       here same =
-          let now = subst (λ w. Contains (front_at h w).settled e ↔ (Contains (front_at g w).settled e ⊎ (Contains (entries (front_at g w)) e × (e.cost ≡ x.cost.0))))
+          let now = subst (λ w. Contains (front_at h w).settled e
+          ↔ (Contains (front_at g w).settled e ⊎ (Contains (entries (front_at g w)) e × (e.cost ≡ x.cost.0))))
           (sym same) (settled_entries (front_at g x.node.0) (front_at h x.node.0) x.cost.0 settles e) in
           let last = is_last v e.cost in
           by now last same where

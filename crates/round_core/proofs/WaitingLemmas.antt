@@ -47,8 +47,8 @@ module _ {D : ℕ} where
   }
 
   -- fewer spots stand so still
-  pub once_left : (P Q : CompactSpot D → Type 0) (w v : Waiting D) → AreOnce w → AllPairs ◌≢◌ v.fresh → LosesWhere P w.queued v.queued → LosesWhere Q w.fresh v.fresh
-      → AreOnce v
+  pub once_left : (P Q : CompactSpot D → Type 0) (w v : Waiting D) → AreOnce w → AllPairs ◌≢◌ v.fresh → LosesWhere P w.queued v.queued
+      → LosesWhere Q w.fresh v.fresh → AreOnce v
   once_left P Q w v is once queued fresh = record {
     four = is.four;
     once = once;
@@ -81,7 +81,10 @@ module _ {D : ℕ} where
     others r a z = grind arith
 
   pub none_fresh : (queue none : List (CompactSpot D)) → none ≡ [] → SameMembers (queue ++ none) queue
-  none_fresh queue none empty x = let e = in_append queue none x in let n : ¬ Contains none x = λ h. in_none x (subst (λ ys. Contains ys x) empty h) in grind arith
+  none_fresh queue none empty x =
+      let e = in_append queue none x in
+      let n : ¬ Contains none x = λ h. in_none x (subst (λ ys. Contains ys x) empty h) in
+      grind arith
 
   -- ---- what is of no use
 
@@ -90,7 +93,9 @@ module _ {D : ℕ} where
       → All (λ x. IsUseless b x.cost.0 → IsDominatedBy b.news x.cost.0) queue → LosesWhere (λ x. IsDominatedBy b.news x.cost.0) queue after
       → LosesWhere (λ x. IsUseless b x.cost.0) queue after
   useless_by_news b queue after settled known loses x = (
-    λ there. let (old, free) = (loses x).0 there in (old, λ useless. free (each_in (λ y. IsUseless b y.cost.0 → IsDominatedBy b.news y.cost.0) queue known x old useless)),
+    λ there.
+        let (old, free) = (loses x).0 there in
+        (old, λ useless. free (each_in (λ y. IsUseless b y.cost.0 → IsDominatedBy b.news y.cost.0) queue known x old useless)),
     λ h. (loses x).1 (h.0, λ by. h.1 (inr (useful by))),
   ) where
     useful : IsDominatedBy b.news x.cost.0 → IsDominated (entries b.front) x.cost.0

@@ -12,7 +12,8 @@ use Rattle.round_core.specs.Unsettled.{CountsSettled, HasUnsettled}
 use Rattle.round_core.specs.Waiting.{Waiting, all_waiting}
 
 -- Start and target are nodes. What waits isn't settled. The bounds have just the settled costs of the target; a queued spot
--- is of no use only where a new one of these dominates it. No entry of a front is needless beside another. The settled entries are counted, and are at most the budget.
+-- is of no use only where a new one of these dominates it. No entry of a front is needless beside another. The settled
+-- entries are counted, and are at most the budget.
 pub record IsKept (D start target budget : ℕ) (bounds : Bounds D) (fronts : Fronts) (waiting : Waiting D)
     (settled : ℕ) : Type 0 where
   pub two : min_criteria ≤ D

@@ -21,7 +21,8 @@ use node_front::{Deltas, Fronts};
 use pareto_front::ParetoFront;
 
 impl<const D: usize, F: ParetoFront<D> + Drop> Core<D, F> {
-    /// Ends the open round by the deltas of the candidates that its labels gave. Where memory runs out the search is given up.
+    /// Ends the open round by the deltas of the candidates that its labels gave. Where memory runs out the search is given
+    /// up.
     pub fn finish(mut self, deltas: &Deltas<D>) -> Result<Core<D, F>, OutOfMemory>
         requires { AreSomeDeltas self.fronts deltas.now }
         ensures merged { IfOk result (λ core. (candidates : List (LabelTold D))

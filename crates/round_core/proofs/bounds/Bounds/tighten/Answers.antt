@@ -18,7 +18,8 @@ invariant_of-self g c =
       all_settled = still_all_settled (state c.self.inside.front) (state c.enter.new.self) (state c.settle.new.self) e c.self.invariant.all_settled
           c.enter.ensures.entered c.settle.ensures.settled;
       new_settled = rw c.push_reserved.ensures.items (news_on (state c.self.inside.front) (state c.enter.new.self) (state c.settle.new.self) e
-          c.self.invariant.all_settled c.enter.ensures.entered c.settle.ensures.settled c.self.inside.news.items c.args.cost.now refl c.self.invariant.new_settled);
+          c.self.invariant.all_settled c.enter.ensures.entered c.settle.ensures.settled c.self.inside.news.items c.args.cost.now refl
+          c.self.invariant.new_settled);
     }
 
 pub returns-clause-costs : goal.returns-clause-costs

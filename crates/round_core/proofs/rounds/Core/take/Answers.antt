@@ -26,8 +26,9 @@ invariant_of-self g c =
 pub returns-in_err-take_undominated-clause-kept : goal.returns-in_err-take_undominated-clause-kept
 returns-in_err-take_undominated-clause-kept g c other =
     let i = c.self.inside in
-    subst (λ (k : Core g.row.D). KeepsWaiting k (core_of i.start.0 i.target.0 i.budget i.fronts i.bounds c.take_undominated.new.self c.take_undominated.new.taken.items))
-    c.self.view_is (keeps_waiting i.start.0 i.target.0 i.budget i.fronts i.bounds i.bounds i.waiting c.take_undominated.new.self i.taken.items
+    subst (λ (k : Core g.row.D). KeepsWaiting k (core_of i.start.0 i.target.0 i.budget i.fronts i.bounds c.take_undominated.new.self
+    c.take_undominated.new.taken.items)) c.self.view_is
+    (keeps_waiting i.start.0 i.target.0 i.budget i.fronts i.bounds i.bounds i.waiting c.take_undominated.new.self i.taken.items
     c.take_undominated.new.taken.items refl c.in_err-take_undominated.ensures.same c.in_err-take_undominated.ensures.none_taken)
 
 -- ---- what was taken is given back
@@ -68,7 +69,8 @@ invariant_of-self-then-count-self g c =
     let v = c.take_undominated.new.self in
     let took = c.take_undominated.new.taken.items in
     let was = c.in_ok-take_undominated.ensures in
-    let same = given_back_all (all_waiting i.waiting) took v c.give_back.new.self was.taken was.none_fresh c.give_back.ensures.queued c.give_back.ensures.fresh in
+    let same = given_back_all (all_waiting i.waiting) took v c.give_back.new.self was.taken was.none_fresh c.give_back.ensures.queued
+    c.give_back.ensures.fresh in
     let free = free_all i.start.0 i.target.0 i.budget i.fronts i.bounds i.waiting i.taken.items c.self.invariant.bounds_are
     (subst (λ (k : Core g.row.D). All (λ x. ¬ IsBarred k x.cost.0) k.waiting) (sym c.self.view_is) c.requires.none_barred) in
     kept_on i.start.0 i.target.0 i.budget i.bounds i.bounds i.fronts i.waiting c.give_back.new.self i.settled c.self.invariant refl refl
@@ -93,7 +95,8 @@ returns-then-count-self-clause-kept g c other =
     let v = c.take_undominated.new.self in
     let took = c.take_undominated.new.taken.items in
     let was = c.in_ok-take_undominated.ensures in
-    let same = given_back_all (all_waiting i.waiting) took v c.give_back.new.self was.taken was.none_fresh c.give_back.ensures.queued c.give_back.ensures.fresh in
+    let same = given_back_all (all_waiting i.waiting) took v c.give_back.new.self was.taken was.none_fresh c.give_back.ensures.queued
+    c.give_back.ensures.fresh in
     subst (λ (k : Core g.row.D). KeepsWaiting k (core_of i.start.0 i.target.0 i.budget i.fronts i.bounds c.give_back.new.self c.give_back.new.taken.items))
     c.self.view_is (keeps_waiting i.start.0 i.target.0 i.budget i.fronts i.bounds i.bounds i.waiting c.give_back.new.self i.taken.items
     c.give_back.new.taken.items refl same c.give_back.ensures.none_taken)
@@ -104,7 +107,8 @@ invariant_of-self-then-is_err g c =
     let v = c.take_undominated.new.self in
     let took = c.take_undominated.new.taken.items in
     let was = c.in_ok-take_undominated.ensures in
-    let same = given_back_all (all_waiting i.waiting) took v c.give_back-then-is_err.new.self was.taken was.none_fresh c.give_back-then-is_err.ensures.queued c.give_back-then-is_err.ensures.fresh in
+    let same = given_back_all (all_waiting i.waiting) took v c.give_back-then-is_err.new.self was.taken was.none_fresh
+    c.give_back-then-is_err.ensures.queued c.give_back-then-is_err.ensures.fresh in
     let free = free_all i.start.0 i.target.0 i.budget i.fronts i.bounds i.waiting i.taken.items c.self.invariant.bounds_are
     (subst (λ (k : Core g.row.D). All (λ x. ¬ IsBarred k x.cost.0) k.waiting) (sym c.self.view_is) c.requires.none_barred) in
     kept_on i.start.0 i.target.0 i.budget i.bounds c.reserve.new.self i.fronts i.waiting c.give_back-then-is_err.new.self i.settled c.self.invariant
@@ -116,7 +120,8 @@ returns-then-is_err-clause-kept g c other =
     let v = c.take_undominated.new.self in
     let took = c.take_undominated.new.taken.items in
     let was = c.in_ok-take_undominated.ensures in
-    let same = given_back_all (all_waiting i.waiting) took v c.give_back-then-is_err.new.self was.taken was.none_fresh c.give_back-then-is_err.ensures.queued c.give_back-then-is_err.ensures.fresh in
+    let same = given_back_all (all_waiting i.waiting) took v c.give_back-then-is_err.new.self was.taken was.none_fresh
+    c.give_back-then-is_err.ensures.queued c.give_back-then-is_err.ensures.fresh in
     let gb = c.give_back-then-is_err.new in
     subst (λ (k : Core g.row.D). KeepsWaiting k (core_of i.start.0 i.target.0 i.budget i.fronts c.reserve.new.self gb.self gb.taken.items))
     c.self.view_is (keeps_waiting i.start.0 i.target.0 i.budget i.fronts i.bounds c.reserve.new.self i.waiting gb.self i.taken.items

@@ -22,7 +22,8 @@ queued_left g c =
 
 fresh_left : (g : _) (c : goal.After-retain g) → LosesWhere (λ x. IsUseless c.args.bounds.now x.cost.0) c.self.inside.fresh.items c.retain.new.self.items
 fresh_left g c = left_by_retain _ _ _ _ c.retain.ensures.filtered (λ x. IsUseless c.args.bounds.now x.cost.0)
-    (λ x. told_useless c.args.bounds.now x.cost.0) (λ x b f r. (subst (λ (y : CompactSpot g.row.D). IsTrue b ↔ (¬ IsUseless c.args.bounds.now y.cost.0)) r.shows r.called.met.1, search rules))
+    (λ x. told_useless c.args.bounds.now x.cost.0) (λ x b f r.
+    (subst (λ (y : CompactSpot g.row.D). IsTrue b ↔ (¬ IsUseless c.args.bounds.now y.cost.0)) r.shows r.called.met.1, search rules))
 
 pub invariant_of-self : goal.invariant_of-self
 invariant_of-self g c =

@@ -13,7 +13,6 @@ use Rattle.round_core.specs.Waiting.{all_waiting}
 use Rattle.round_core.proofs.KeptLemmas.{bounds_alike, core_of, free_all, given_back_all, keeps_waiting, kept_on, kept_settled, took_once, took_outside}
 use Rattle.round_core.proofs.KeptLemmas.{took_unsettled, useless_alike}
 use Rattle.round_core.proofs.rounds.Core.take.Goals as goal
-use Rattle.round_core.proofs.rounds.Core.take.Goals.{After-self-1}
 
 pub invariant_of-self : goal.invariant_of-self
 invariant_of-self g c =
@@ -148,17 +147,18 @@ settle_all-requires g c =
     let fits : length c.deref.result.now ≤ c.reserve.new.self.spare = omega (arith, room, c.len-count.ensures, c.deref.ensures.len) in
     (search rules, (search rules, (search rules, (fits, (once, (unsettled_too, (c.self.invariant.apart i.target.0, are)))))))
 
--- all that was taken is settled
-settles : (g : _) (c : After-self-1 g) → SettlesAll c.self.inside.fronts c.take_undominated.new.taken.items c.settle_all.new.fronts
-settles g c = subst (λ (ys : List (CompactSpot g.row.D)). SettlesAll c.self.inside.fronts ys c.settle_all.new.fronts) c.deref.ensures.value
-    c.settle_all.ensures.settled
-
-few : (g : _) (c : After-self-1 g) → c.self.inside.settled + length c.take_undominated.new.taken.items ≤ c.self.inside.budget
-few g c = omega (arith, c.if-count-self.false, c.len-count.ensures, c.take_undominated.new.taken.ok, c.self.invariant.within)
-
 pub invariant_of-self-2 : goal.invariant_of-self-2
 invariant_of-self-2 g c =
     let i = c.self.inside in
+    let settles = subst (λ (ys : List (CompactSpot g.row.D)). SettlesAll i.fronts ys c.settle_all.new.fronts) c.deref.ensures.value
+    c.settle_all.ensures.settled in
+    let few : i.settled + length c.take_undominated.new.taken.items ≤ i.budget = omega (
+      arith,
+      c.if-count-self.false,
+      c.len-count.ensures,
+      c.take_undominated.new.taken.ok,
+      c.self.invariant.within,
+    ) in
     let old = all_waiting i.waiting in
     let v = c.take_undominated.new.self in
     let took = c.take_undominated.new.taken.items in
@@ -170,9 +170,9 @@ invariant_of-self-2 g c =
     free x there (useless_alike i.bounds n c.reserve.ensures.limit c.reserve.ensures.front x.cost.0 useless) in
     let kept = kept_on i.start.0 i.target.0 i.budget i.bounds n i.fronts i.waiting i.waiting i.settled c.self.invariant c.reserve.ensures.limit
     c.reserve.ensures.front (λ x there. (there, free x there)) in
-    let all = kept_settled i.fronts c.settle_all.new.fronts took (settles g c) (took_unsettled i.fronts old took (all_waiting v) takes c.self.invariant.waits)
+    let all = kept_settled i.fronts c.settle_all.new.fronts took settles (took_unsettled i.fronts old took (all_waiting v) takes c.self.invariant.waits)
     i.start.0 i.target.0 i.budget n c.settle_all.new.bounds i.waiting v i.settled kept (took_once old took (all_waiting v) takes)
-    c.settle_all.ensures.bounds_are c.settle_all.ensures.news (few g c) (λ x there.
+    c.settle_all.ensures.bounds_are c.settle_all.ensures.news few (λ x there.
     let (waited, other) = (takes.rest x).0 there in (waited, other, useful x waited)) in
     let count : i.settled + length took ≡ i.settled + c.len-count.result = omega (arith, c.len-count.ensures, c.take_undominated.new.taken.ok) in
     subst (IsKept g.row.D i.start.0 i.target.0 i.budget c.settle_all.new.bounds c.settle_all.new.fronts v) count all
@@ -180,6 +180,15 @@ invariant_of-self-2 g c =
 pub returns-clause-took : goal.returns-clause-took
 returns-clause-took g c =
     let i = c.self.inside in
+    let settles = subst (λ (ys : List (CompactSpot g.row.D)). SettlesAll i.fronts ys c.settle_all.new.fronts) c.deref.ensures.value
+    c.settle_all.ensures.settled in
+    let few : i.settled + length c.take_undominated.new.taken.items ≤ i.budget = omega (
+      arith,
+      c.if-count-self.false,
+      c.len-count.ensures,
+      c.take_undominated.new.taken.ok,
+      c.self.invariant.within,
+    ) in
     let core = core_of i.start.0 i.target.0 i.budget c.settle_all.new.fronts c.settle_all.new.bounds c.take_undominated.new.self
     c.take_undominated.new.taken.items in
     subst (λ (k : Core g.row.D). TakesNext k core) c.self.view_is (record {
@@ -188,11 +197,11 @@ returns-clause-took g c =
         target = refl;
         limit = c.settle_all.ensures.news.limit ∙ c.reserve.ensures.limit;
         budget = refl;
-        nodes = (settles g c).nodes;
+        nodes = settles.nodes;
       };
       taken = c.in_ok-take_undominated.ensures.taken;
-      settled = settles g c;
+      settled = settles;
       count = i.settled;
       counts = c.self.invariant.counted;
-      within = few g c;
+      within = few;
     })

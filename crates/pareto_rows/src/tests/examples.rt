@@ -162,7 +162,15 @@ fn reply<R: Threads + Sync + Abort>(
     let found = search(&crew, alloc, &graph, &weights, &query)?;
     let mut room = Room::with(alloc, found.longest())?;
     let mut text = SureSink::new(alloc);
-    let sent = put_answer(&mut text, 0, &graph, &weights, &found, &Form::Walks, &mut room);
+    let sent = put_answer(
+        &mut text,
+        0,
+        &graph,
+        &weights,
+        &found,
+        &Form::Walks,
+        &mut room,
+    );
     assert!(rt; sent.is_ok(), "{name}: sent");
     assert_eq!(rt; text.sent(), example.reply.as_bytes(), "{name}");
     Ok(())

@@ -57,5 +57,5 @@ pub record IsSummary (asked : GenAsked) (text : List ℕ) : Type 0 where
   pub pairs : List Pair
   pub says : PlanSays asked.plan net pairs
   pub ends : List (Option (List Route))
-  pub each : AllZip (PairEnds net asked.budget) pairs ends
+  pub each : AllZip (PairEnds net asked.effort.budget) pairs ends
   pub reply : text ≡ gen_reply (summary_of net ends)

@@ -86,7 +86,8 @@ module _ {D : ℕ} where
       ap₂ made cost node
 
   -- spots that tie are one
-  same_from_cmp : (a b : CompactSpot D) → spot_cmp a b ≡ Equal → a ≡ b
+  -- spots that tie are one
+  pub same_from_cmp : (a b : CompactSpot D) → spot_cmp a b ≡ Equal → a ≡ b
   same_from_cmp a b h = by (lex_cmp a.cost.0 b.cost.0) refl h
     where
       nat_same : (x y : ℕ) → nat_cmp x y ≡ Equal → x ≡ y

@@ -8,7 +8,7 @@ ghost use Rattle.pareto_search.specs.Findings.{IsOf, found_of};
 ghost use Rattle.pareto_search.specs.Rounds.{IsAnswer};
 
 use crate::findings::Findings;
-use crate::rounds::find;
+use crate::rounds::{Rounds, find};
 use arc_graph::{Graph, Weights};
 use pareto_queue::Steps;
 use path_readback::Found;
@@ -141,8 +141,20 @@ fn find_all<R: Threads + Sync, G: Gate, L: Ledger>(
         result steps.old steps.new }
 {
     match graph.criteria() {
-        2 => Ok(Findings::Two(find(crew, alloc, graph, weights, query, steps)?)),
-        3 => Ok(Findings::Three(find(crew, alloc, graph, weights, query, steps)?)),
-        _ => Ok(Findings::Four(find(crew, alloc, graph, weights, query, steps)?)),
+        2 => {
+            let started = Rounds::new(alloc, graph, query);
+            let found = find(crew, alloc, graph, weights, query, started, steps)?;
+            Ok(Findings::Two(found))
+        }
+        3 => {
+            let started = Rounds::new(alloc, graph, query);
+            let found = find(crew, alloc, graph, weights, query, started, steps)?;
+            Ok(Findings::Three(found))
+        }
+        _ => {
+            let started = Rounds::new(alloc, graph, query);
+            let found = find(crew, alloc, graph, weights, query, started, steps)?;
+            Ok(Findings::Four(found))
+        }
     }
 }

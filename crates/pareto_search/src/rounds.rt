@@ -147,7 +147,7 @@ impl<const D: usize, F: ParetoFront<D> + Drop + Sync> Rounds<D, F> {
     }
 }
 
-/// Makes one round after another until all is found.
+/// Makes one round after another until all is found, in a search that was started.
 pub(crate) fn find<
     const D: usize,
     F: ParetoFront<D> + Drop + Sync,
@@ -160,6 +160,7 @@ pub(crate) fn find<
     graph: &Graph,
     weights: &Weights,
     query: &Query,
+    started: Result<Rounds<D, F>, OutOfMemory>,
     steps: &mut Steps<L>,
 ) -> Result<FoundFronts<D, F>, SearchFault>
     requires at_least_one { 1 ≤ crew.now.workers }
@@ -167,6 +168,8 @@ pub(crate) fn find<
     requires weights { Match graph.now weights.now }
     requires query { IsQuery graph.now query.now }
     requires criteria { graph.now.criteria ≡ D }
+    requires started { IfOk started (λ rounds. IsNewSearch graph.now.nodes query.now.from.0
+        query.now.to.0 query.now.limit query.now.budget rounds.core) }
     ensures found { IfOk result (IsAnswer (task_of graph.now weights.now query.now)
         query.now.budget) }
     ensures budget { IsErrOf result SearchFault.Budget → Passes (network graph.now weights.now)
@@ -176,7 +179,8 @@ pub(crate) fn find<
 {
     prove!(graph.nodes() >= 1);
     prove!(graph.arcs() == weights.arcs());
-    let mut rounds = Rounds::<D, F>::new(alloc, graph, query)?;
+    prove!(graph.criteria() == D);
+    let mut rounds = started?;
     'rounds: for _ in 0..query.budget + 1 {
         match rounds.core.begin(steps)? {
             Begun::Done => return Ok(rounds.core.into_found()),

@@ -13,3 +13,4 @@ pub mod WaitingLemmas
 pub mod SettlingLemmas
 pub mod KeptLemmas
 pub mod BeginLemmas
+pub mod SearchLemmas

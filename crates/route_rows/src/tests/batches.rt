@@ -15,13 +15,6 @@ const PAIRS: &str = "p aux sp p2p 3\nq 1 4\nq 4 1\nq 9 1\n";
 const FILES: &[(&str, &str)] = &[("A.gr", A), ("B.gr", B), ("P", PAIRS)];
 
 /// The replies to the three pairs.
-const REPLIES: [&str; 3] = [
-    "r 0 1 4 2\np 2 8 2 1 3\np 4 2 2 2 4\n",
-    "r 0 4 1 0\n",
-    "x 0 9 1 node\n",
-];
-
-/// All of them.
 const OUT: &str = "r 0 1 4 2\np 2 8 2 1 3\np 4 2 2 2 4\nr 0 4 1 0\nx 0 9 1 node\n";
 
 pub(super) const ROWS: &[Row] = &[
@@ -174,19 +167,19 @@ fn a_full_out_has_the_front_of_the_replies(rt: HostRuntime) -> Result<(), Fail> 
     Ok(())
 }
 
+/// What was sent before each call of `out`, which sends one reply.
+const SENT: [&str; 3] = [
+    "",
+    "r 0 1 4 2\np 2 8 2 1 3\np 4 2 2 2 4\n",
+    "r 0 1 4 2\np 2 8 2 1 3\np 4 2 2 2 4\nr 0 4 1 0\n",
+];
+
 #[test]
 fn each_failing_call_of_out_is_told(rt: HostRuntime) -> Result<(), Fail> {
-    let mut sent = 0;
-    for (call, reply) in REPLIES.iter().enumerate() {
+    for (call, sent) in SENT.iter().enumerate() {
         let mut outside = batch_to(rt.alloc(), failing(rt.alloc(), call as u64)?)?;
-        let wanted = Wanted {
-            words: WORDS,
-            status: 4,
-            out: &OUT.as_bytes()[..sent],
-            err: b"route: out\n",
-        };
+        let wanted = wanted(4, sent, "route: out\n");
         assert_run(&rt, rt.alloc(), &wanted, call, &mut outside)?;
-        sent += reply.len();
     }
     Ok(())
 }

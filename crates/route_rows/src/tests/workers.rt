@@ -1,8 +1,8 @@
 //! What several workers share: the answers don't tell how many they are, and merging runs on two threads at once.
 use super::rows::{FIRST, SIX_ARCS};
 use super::{
-    FIRST as WANTED, Outside, Row, assert_err, assert_out, assert_run, assert_status, folder_of,
-    rows, walks,
+    FIRST as WANTED, Outside, Row, Wanted, assert_err, assert_out, assert_run, assert_status,
+    folder_of, rows, walks,
 };
 use route_io::{Gate, Phase};
 use std::alloc::{AllocError, Global};
@@ -19,8 +19,12 @@ fn assert_with_workers(
     workers: u32,
 ) -> Result<(), AllocError> {
     let words = format!(in alloc; "{} --workers {workers}", row.words)?;
-    let mut wanted = row.expected();
-    wanted.words = words.as_str();
+    let wanted = Wanted {
+        words: words.as_str(),
+        status: row.status,
+        out: row.out.as_bytes(),
+        err: row.err.as_bytes(),
+    };
     let mut outside = Outside::of_folder(alloc, folder_of(alloc, row.files)?);
     assert_run(rt, alloc, &wanted, workers as usize, &mut outside)
 }

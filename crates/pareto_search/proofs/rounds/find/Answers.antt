@@ -1,5 +1,6 @@
-use Rattle.std.proofs.Common.{rules, arith, ◌≡◌, ◌+◌, ◌∙◌}
+use Rattle.std.proofs.Common.{rules, arith, ◌≡◌, ◌+◌, ◌≤◌, ◌∙◌}
 use Rattle.round_core.specs.declared.begin.Begun.TheVariants.{Taken, Done, Budget}
+use Rattle.std.proofs.lemmas.Result.{IfOk-at_ok}
 use Rattle.pareto_search.proofs.TaskLemmas.{task_is}
 use Rattle.pareto_search.proofs.LoopLemmas.{after_none, is_open, at_next, has_found, all_rounds, passes_budget, one_round_more, no_round_more}
 use Rattle.pareto_search.proofs.LoopLemmas.{counts_all, counts_some, steps_when_beginning, steps_when_open, out_of_memory, is_other, done_not_taken, taken_not_done, budget_not_done}
@@ -13,10 +14,12 @@ returns-in_err-rounds-clause-rounds g c =
 pub rounds-init : goal.rounds-init
 rounds-init g c =
     let is = task_is c.args.graph.now c.args.weights.now c.args.query.now c.nodes.ensures.graph c.arcs-2.ensures.states c.requires.weights c.requires.query in
-    record { after = after_none c.args.graph.now c.args.weights.now c.args.query.now _ is c.requires.criteria c.in_ok-rounds.ensures; counted = omega arith }
+    record { after = after_none c.args.graph.now c.args.weights.now c.args.query.now _ is c.requires.criteria (IfOk-at_ok _ c.in_ok-rounds.was c.requires.started); counted = omega arith }
 
 pub begin-requires : goal.begin-requires
-begin-requires g c = (search rules, c.rounds.invariant.after.none_taken)
+begin-requires g c =
+    let four : g.row.D ≤ 4 = omega (arith, c.criteria.ensures.four, c.if-prove-3.false) in
+    (search rules, c.rounds.invariant.after.none_taken)
 
 pub returns-in_err-begin-clause-rounds : goal.returns-in_err-begin-clause-rounds
 returns-in_err-begin-clause-rounds g c =
@@ -38,7 +41,7 @@ returns-in-Done-clause-rounds g c =
     let is = task_is c.args.graph.now c.args.weights.now c.args.query.now c.nodes.ensures.graph c.arcs-2.ensures.states c.requires.weights c.requires.query in
     let ended = rw c.in-Done.is at c.in_ok-begin.ensures.begun in
     let done = rw c.in-Done.is at c.in_ok-begin.was in
-    let stands : c.begin.new._steps ≡ c.rounds.steps = c.begin.ensures.steps.uncounted done in
+    let stands : c.begin.new.steps ≡ c.rounds.steps = c.begin.ensures.steps.uncounted done in
     counts_all _ _ _ _ _ _ (all_rounds _ is _ _ _ c.rounds.invariant.after _ ended) (stands ∙ c.rounds.invariant.counted)
 
 pub returns-in-Budget-clause-budget : goal.returns-in-Budget-clause-budget
@@ -52,14 +55,13 @@ returns-in-Budget-clause-rounds g c =
     let is = task_is c.args.graph.now c.args.weights.now c.args.query.now c.nodes.ensures.graph c.arcs-2.ensures.states c.requires.weights c.requires.query in
     let passes = rw c.in-Budget.is at c.in_ok-begin.ensures.begun in
     let over = rw c.in-Budget.is at c.in_ok-begin.was in
-    let rose : c.begin.new._steps ≡ c.rounds.steps + 1 = c.begin.ensures.steps.counted Budget over budget_not_done in
+    let rose : c.begin.new.steps ≡ c.rounds.steps + 1 = c.begin.ensures.steps.counted Budget over budget_not_done in
     counts_all _ _ _ _ _ _ (one_round_more _ is _ _ _ c.rounds.invariant.after passes) (omega (arith, rose, c.rounds.invariant.counted))
 
 pub finish-requires-after_bounds : goal.finish-requires-after_bounds
 finish-requires-after_bounds g c κs within =
-    let is = task_is c.args.graph.now c.args.weights.now c.args.query.now c.nodes.ensures.graph c.arcs-2.ensures.states c.requires.weights c.requires.query in
-    let begun = rw c.in-Taken.is at c.in_ok-begin.ensures.begun in (
-      search rules,
+    let four : g.row.D ≤ 4 = omega (arith, c.criteria.ensures.four, c.if-prove-3.false) in (
+      first_of (omega (arith, four), search rules),
       (
         c.requires.at_least_one,
         (
@@ -68,9 +70,24 @@ finish-requires-after_bounds g c κs within =
             c.requires.weights,
             (
               c.requires.criteria,
-              is_open _ is _ _ _ c.rounds.invariant.after _ c.begin.ensures.same_search begun c.requires.query.budget,
+              (let is = task_is c.args.graph.now c.args.weights.now c.args.query.now c.nodes.ensures.graph c.arcs-2.ensures.states c.requires.weights c.requires.query in
+                  let begun = rw c.in-Taken.is at c.in_ok-begin.ensures.begun in
+                  is_open _ is _ _ _ c.rounds.invariant.after _ c.begin.ensures.same_search begun c.requires.query.budget),
             ),
           ),
+        ),
+      ),
+    )
+
+pub into_found-requires : goal.into_found-requires
+into_found-requires g c =
+    let four : g.row.D ≤ 4 = omega (arith, c.criteria.ensures.four, c.if-prove-3.false) in (
+      search rules,
+      (
+        search rules,
+        (
+          (let ended = rw c.in-Done.is at c.in_ok-begin.ensures.begun in ended.none_waits),
+          c.begin.ensures.none_taken (is_other _ _ Done Taken c.in_ok-begin.was c.in-Done.is done_not_taken),
         ),
       ),
     )
@@ -88,7 +105,7 @@ rounds-preserved g c =
     let is = task_is c.args.graph.now c.args.weights.now c.args.query.now c.nodes.ensures.graph c.arcs-2.ensures.states c.requires.weights c.requires.query in
     let begun = rw c.in-Taken.is at c.in_ok-begin.ensures.begun in
     let taken = rw c.in-Taken.is at c.in_ok-begin.was in
-    let rose : c.begin.new._steps ≡ c.rounds.steps + 1 = c.begin.ensures.steps.counted Taken taken taken_not_done in
+    let rose : c.begin.new.steps ≡ c.rounds.steps + 1 = c.begin.ensures.steps.counted Taken taken taken_not_done in
     record {
       after = at_next _ is _ _ _ c.rounds.invariant.after _ _ c.begin.ensures.same_search begun c.in_ok-rounds-in-Taken.ensures;
       counted = omega (arith, rose, c.rounds.invariant.counted);

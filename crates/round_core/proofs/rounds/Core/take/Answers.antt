@@ -2,7 +2,7 @@ use Rattle.std.proofs.Common.{rules, refl, sym, subst, ◌≡◌, ◌≢◌, ◌
 use Rattle.std.specs.Prelude.{All, AllPairs, Contains}
 use Rattle.compact_labels.specs.declared.label.CompactSpot.{CompactSpot}
 use Rattle.list_laws.proofs.Members.{all_from_in}
-use Rattle.pareto_queue.proofs.QueueLemmas.{by_success}
+use Rattle.round_core.proofs.SearchLemmas.{by_success}
 use Rattle.node_front.specs.NodeFronts.{front_at}
 use Rattle.round_core.specs.Cores.{Core}
 use Rattle.round_core.specs.Bounds.{IsUseless}

@@ -4,7 +4,7 @@ use Rattle.list_laws.proofs.OnceLaws.{told_in}
 use Rattle.list_laws.proofs.Retained.{without_by_retain}
 use Rattle.pareto_queue.specs.Queues.{AreSorted, LosesWhere}
 use Rattle.pareto_queue.proofs.OrderLemmas.{cases_spot, sorted_from_cmp}
-use Rattle.pareto_queue.proofs.QueueLemmas.{same_by_sort}
+use Rattle.round_core.proofs.SearchLemmas.{same_by_sort}
 use Rattle.pareto_queue.proofs.RetainedLemmas.{fails_by_test_of, loses_by_without, pairs_by_retain}
 use Rattle.round_core.specs.Waiting.{Waiting}
 use Rattle.round_core.proofs.WaitingLemmas.{once_left}

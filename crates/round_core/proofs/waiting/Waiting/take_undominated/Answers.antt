@@ -1,7 +1,7 @@
 use Rattle.std.proofs.Common.{◌≡◌, sym, subst, ap, ◌∙◌}
 use Rattle.list_laws.specs.Sets.{SameMembers}
 use Rattle.pareto_queue.specs.Queues.{TakesUndominated}
-use Rattle.pareto_queue.proofs.QueueLemmas.{by_success}
+use Rattle.round_core.proofs.SearchLemmas.{by_success}
 use Rattle.round_core.specs.Waiting.{Waiting, all_waiting}
 use Rattle.round_core.proofs.WaitingLemmas.{all_queued, by_error, takes_alike, none_fresh}
 use Rattle.round_core.proofs.waiting.Waiting.take_undominated.Goals as goal

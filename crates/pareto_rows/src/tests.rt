@@ -1,0 +1,4 @@
+mod examples;
+mod networks;
+mod searching;
+mod walks;

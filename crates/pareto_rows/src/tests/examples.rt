@@ -1,0 +1,200 @@
+use super::networks::{Drawn, DrawnArc, graph};
+use answer_writer::{Form, put_answer};
+use cost_vector::{Limit, NodeNo};
+use pareto_search::search;
+use path_readback::{Found, Room};
+use road_network::MAX_BUDGET;
+use route_io::sure::SureSink;
+use route_io::{Gate, Phase};
+use route_query::Query;
+use std::alloc::Global;
+use std::process::Abort;
+use std::sync::atomic::{AtomicU64, Ordering};
+use std::test::Fail;
+use std::thread::Threads;
+use work_claim::Crew;
+
+/// A graph, a query and its reply with walks, worked out by hand.
+struct Example {
+    name: &'static str,
+    nodes: u32,
+    arcs: &'static [DrawnArc],
+    from: u32,
+    to: u32,
+    reply: &'static str,
+}
+
+/// Two ways from node 1 to 4, an arc between them, and an arc past both.
+const DIAMOND: [DrawnArc; 6] = [
+    [1, 2, 1, 4, 0, 0],
+    [1, 3, 2, 1, 0, 0],
+    [2, 4, 1, 4, 0, 0],
+    [3, 4, 2, 1, 0, 0],
+    [2, 3, 1, 1, 0, 0],
+    [1, 4, 9, 9, 0, 0],
+];
+
+const EXAMPLES: [Example; 6] = [
+    Example {
+        name: "two trade-offs",
+        nodes: 4,
+        arcs: &DIAMOND,
+        from: 1,
+        to: 4,
+        reply: "r 0 1 4 2\np 2 8 2 1 3\np 4 2 2 2 4\n",
+    },
+    Example {
+        name: "equal ends",
+        nodes: 4,
+        arcs: &DIAMOND,
+        from: 4,
+        to: 4,
+        reply: "r 0 4 4 1\np 0 0 0\n",
+    },
+    Example {
+        name: "out of reach",
+        nodes: 4,
+        arcs: &DIAMOND,
+        from: 4,
+        to: 1,
+        reply: "r 0 4 1 0\n",
+    },
+    Example {
+        name: "of two walks of one cost, the backward-least",
+        nodes: 4,
+        arcs: &[
+            [1, 2, 1, 1, 0, 0],
+            [1, 3, 1, 1, 0, 0],
+            [3, 4, 1, 1, 0, 0],
+            [2, 4, 1, 1, 0, 0],
+        ],
+        from: 1,
+        to: 4,
+        reply: "r 0 1 4 1\np 2 2 2 2 3\n",
+    },
+    Example {
+        name: "of two equal arcs, the first",
+        nodes: 2,
+        arcs: &[[1, 2, 5, 5, 0, 0], [1, 2, 5, 5, 0, 0]],
+        from: 1,
+        to: 2,
+        reply: "r 0 1 2 1\np 5 5 1 1\n",
+    },
+    Example {
+        name: "components that are zero",
+        nodes: 3,
+        arcs: &[
+            [1, 2, 0, 3, 0, 0],
+            [1, 2, 3, 0, 0, 0],
+            [2, 3, 0, 3, 0, 0],
+            [2, 3, 3, 0, 0, 0],
+        ],
+        from: 1,
+        to: 3,
+        reply: "r 0 1 3 3\np 0 6 2 1 3\np 3 3 2 2 3\np 6 0 2 2 4\n",
+    },
+];
+
+/// The network of an example.
+fn drawn(alloc: Global, example: &Example) -> Result<Drawn, Fail> {
+    let mut arcs = Vec::new(alloc);
+    for arc in example.arcs {
+        arcs.push(*arc)?;
+    }
+    let mut limit = Vec::new(alloc);
+    limit.push(None)?;
+    limit.push(None)?;
+    Ok(Drawn {
+        name: 0,
+        nodes: example.nodes,
+        arcs,
+        limit,
+    })
+}
+
+/// Counts the pieces of work.
+#[derive(Drop)]
+struct Counts {
+    relaxes: AtomicU64,
+    merges: AtomicU64,
+}
+
+impl Gate for Counts {
+    fn pass(&self, phase: Phase, _piece: u64) {
+        let count = match phase {
+            Phase::Relax => &self.relaxes,
+            Phase::Merge => &self.merges,
+        };
+        count.fetch_add(1, Ordering::SeqCst);
+    }
+}
+
+fn no_pieces() -> Counts {
+    Counts {
+        relaxes: AtomicU64::new(0),
+        merges: AtomicU64::new(0),
+    }
+}
+
+/// Searches by so many workers, and compares the reply.
+fn reply<R: Threads + Sync + Abort>(
+    rt: &R,
+    alloc: Global,
+    example: &Example,
+    workers: u32,
+    counts: &Counts,
+) -> Result<(), Fail> {
+    let name = example.name;
+    let (graph, weights) = graph(rt, alloc, &drawn(alloc, example)?)?;
+    assert!(rt; graph.criteria() == 2 && 1 <= workers && workers <= 64);
+    assert!(rt; graph.has_node(example.from) && graph.has_node(example.to));
+    let query = Query {
+        from: NodeNo(example.from),
+        to: NodeNo(example.to),
+        limit: Limit::none(2),
+        budget: MAX_BUDGET,
+    };
+    let crew = Crew {
+        rt,
+        workers,
+        gate: counts,
+    };
+    let found = search(&crew, alloc, &graph, &weights, &query)?;
+    let mut room = Room::with(alloc, found.longest())?;
+    let mut text = SureSink::new(alloc);
+    let sent = put_answer(
+        &mut text,
+        0,
+        &graph,
+        &weights,
+        &found,
+        &Form::Walks,
+        &mut room,
+    );
+    assert!(rt; sent.is_ok(), "{name}: sent");
+    assert_eq!(rt; text.sent(), example.reply.as_bytes(), "{name}");
+    Ok(())
+}
+
+#[test]
+fn replies_to_worked_examples(rt: HostRuntime) -> Result<(), Fail> {
+    for example in &EXAMPLES {
+        for workers in [1, 3, 64] {
+            reply(&rt, rt.alloc(), example, workers, &no_pieces())?;
+        }
+    }
+    Ok(())
+}
+
+/// Three rounds take the labels of node 1, of nodes 2 and 3, and of node 4; what they give is merged at nodes 2, 3 and 4, and at 3
+/// and 4.
+#[test]
+fn makes_three_rounds(rt: HostRuntime) -> Result<(), Fail> {
+    for workers in [1, 3] {
+        let counts = no_pieces();
+        reply(&rt, rt.alloc(), &EXAMPLES[0], workers, &counts)?;
+        assert_eq!(rt; counts.relaxes.load(Ordering::SeqCst), 3, "{workers}");
+        assert_eq!(rt; counts.merges.load(Ordering::SeqCst), 5, "{workers}");
+    }
+    Ok(())
+}

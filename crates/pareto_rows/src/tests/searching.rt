@@ -1,0 +1,140 @@
+use super::networks::{Drawn, draw, graph};
+use super::walks::{Wanted, enumerate};
+use cost_vector::{Limit, NodeNo};
+use pareto_search::search;
+use path_readback::{Found, Room, walk};
+use plain_search::plain_search;
+use road_network::MAX_BUDGET;
+use route_io::OpenGate;
+use route_query::{Query, SearchFault};
+use std::alloc::Global;
+use std::process::Abort;
+use std::test::Fail;
+use std::thread::Threads;
+use work_claim::Crew;
+
+/// How many networks are drawn.
+const NETWORKS: u64 = 240;
+
+/// Searches by so many workers, and compares the costs and the walks that are found with what is wanted.
+fn compare<R: Threads + Sync + Abort>(
+    rt: &R,
+    alloc: Global,
+    drawn: &Drawn,
+    wanted: &Wanted,
+    workers: u32,
+) -> Result<(), Fail> {
+    let name = drawn.name;
+    let (graph, weights) = graph(rt, alloc, drawn)?;
+    let limit = drawn.limit.as_slice();
+    assert!(rt; 2 <= limit.len() && limit.len() <= 4 && limit.len() == graph.criteria());
+    assert!(rt; graph.has_node(1) && graph.has_node(drawn.nodes));
+    assert!(rt; wanted.relevant <= MAX_BUDGET && 1 <= workers && workers <= 64);
+    let query = Query {
+        from: NodeNo(1),
+        to: NodeNo(drawn.nodes),
+        limit: Limit::of_places(limit),
+        budget: wanted.relevant,
+    };
+    let crew = Crew {
+        rt,
+        workers,
+        gate: &OpenGate,
+    };
+    let found = search(&crew, alloc, &graph, &weights, &query)?;
+    let mut room = Room::with(alloc, found.longest())?;
+    assert_eq!(rt; found.count(), wanted.walks.len(), "{name}: costs");
+    for (i, best) in wanted.walks.iter().enumerate() {
+        assert!(rt; i < found.count());
+        let cost = found.cost(i);
+        for (j, sum) in best.cost.iter().take(cost.count()).enumerate() {
+            assert!(rt; j < cost.count());
+            assert_eq!(rt; cost.component(j), *sum, "{name}: cost {i}");
+        }
+        walk(&graph, &weights, &found, i, &mut room);
+        assert_eq!(rt; room.arcs().len(), best.arcs.len(), "{name}: walk {i}");
+        for (arc, number) in room.arcs().iter().zip(&best.arcs) {
+            assert_eq!(rt; arc.0, *number, "{name}: walk {i}");
+        }
+    }
+    Ok(())
+}
+
+/// Searches with a budget of one less than the relevant pairs, by both searches.
+fn refuse<R: Threads + Sync + Abort>(
+    rt: &R,
+    alloc: Global,
+    drawn: &Drawn,
+    wanted: &Wanted,
+    workers: u32,
+) -> Result<(), Fail> {
+    let name = drawn.name;
+    let (graph, weights) = graph(rt, alloc, drawn)?;
+    let limit = drawn.limit.as_slice();
+    assert!(rt; 2 <= limit.len() && limit.len() <= 4 && limit.len() == graph.criteria());
+    assert!(rt; graph.has_node(1) && graph.has_node(drawn.nodes));
+    assert!(rt;
+        1 <= wanted.relevant && wanted.relevant <= MAX_BUDGET && 1 <= workers && workers <= 64
+    );
+    let query = Query {
+        from: NodeNo(1),
+        to: NodeNo(drawn.nodes),
+        limit: Limit::of_places(limit),
+        budget: wanted.relevant - 1,
+    };
+    let crew = Crew {
+        rt,
+        workers,
+        gate: &OpenGate,
+    };
+    let refused = search(&crew, alloc, &graph, &weights, &query).err();
+    assert_eq!(rt; refused, Some(SearchFault::Budget), "{name}: refusal");
+    let slowly = plain_search(alloc, &graph, &weights, &query).err();
+    assert_eq!(rt; slowly, Some(SearchFault::Budget), "{name}: plain refusal");
+    Ok(())
+}
+
+/// The plain search finds as many costs.
+fn compare_plainly(
+    rt: &impl Abort,
+    alloc: Global,
+    drawn: &Drawn,
+    wanted: &Wanted,
+) -> Result<(), Fail> {
+    let name = drawn.name;
+    let (graph, weights) = graph(rt, alloc, drawn)?;
+    let limit = drawn.limit.as_slice();
+    assert!(rt; 2 <= limit.len() && limit.len() <= 4 && limit.len() == graph.criteria());
+    assert!(rt; graph.has_node(1) && graph.has_node(drawn.nodes));
+    assert!(rt; wanted.relevant <= MAX_BUDGET);
+    let query = Query {
+        from: NodeNo(1),
+        to: NodeNo(drawn.nodes),
+        limit: Limit::of_places(limit),
+        budget: wanted.relevant,
+    };
+    let costs = plain_search(alloc, &graph, &weights, &query)?;
+    assert_eq!(rt; costs.len(), wanted.walks.len(), "{name}: plain costs");
+    for (cost, best) in costs.iter().zip(&wanted.walks) {
+        for (j, sum) in best.cost.iter().take(cost.count()).enumerate() {
+            assert!(rt; j < cost.count());
+            assert_eq!(rt; cost.component(j), *sum, "{name}: plain cost");
+        }
+    }
+    Ok(())
+}
+
+#[test]
+fn finds_the_best_walks_of_drawn_networks(rt: HostRuntime) -> Result<(), Fail> {
+    let alloc = rt.alloc();
+    for name in 0..NETWORKS {
+        let drawn = draw(alloc, name)?;
+        let wanted = enumerate(alloc, &drawn)?;
+        for workers in 1..4 {
+            compare(&rt, alloc, &drawn, &wanted, workers)?;
+            refuse(&rt, alloc, &drawn, &wanted, workers)?;
+        }
+        compare_plainly(&rt, alloc, &drawn, &wanted)?;
+    }
+    Ok(())
+}

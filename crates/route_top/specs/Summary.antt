@@ -14,16 +14,16 @@ use Rattle.graph_gen.specs.declared.GenPlan.{GenPlan}
 use Rattle.graph_gen.specs.Texts.{file_text, pairs_text}
 use Rattle.command_words.specs.Words.{GenAsked}
 use Rattle.route_top.specs.declared.summary.Summary.{Summary}
-use Rattle.route_top.specs.FilesRead.{weight_limits}
+use Rattle.route_top.specs.FilesRead.{reading_limits}
 use Rattle.route_top.specs.Texts.{gen_reply}
 
 -- The files of the plan say this network and these pairs.
 pub record PlanSays (plan : GenPlan) (net : Network) (pairs : List Pair) : Type 0 where
   pub contents : List ArcFile
-  pub read : AllZip (λ number. IsGrFile weight_limits (file_text plan number)) (range_with_len 1 plan.criteria) contents
+  pub read : AllZip (λ number. IsGrFile reading_limits (file_text plan number)) (range_with_len 1 plan.criteria) contents
   pub agree : Agree contents
   pub network : net ≡ joined contents
-  pub pairs_read : IsPairs weight_limits (pairs_text plan) pairs
+  pub pairs_read : IsPairs reading_limits (pairs_text plan) pairs
 
 -- The pair's query within its budget has this answer, or passes the budget and has none.
 abbrev pub PairEnds : Network → ℕ → Pair → Option (List Route) → Type 0

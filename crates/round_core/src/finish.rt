@@ -66,7 +66,8 @@ fn wait_for<const D: usize>(
     requires once { AllPairs (λ l m. spot_at l ≢ spot_at m) added.now }
     requires new { All (λ l. ¬ Contains (all_waiting waiting.old) (spot_at l)) added.now }
     ensures queued { waiting.new.queued ≡ waiting.old.queued }
-    ensures fresh { OnOk result (Gains waiting.old.fresh (map spot_at added.now) waiting.new.fresh) }
+    ensures fresh { OnOk result
+        (Gains waiting.old.fresh (map spot_at added.now) waiting.new.fresh) }
 {
     for label in added {
         waiting.add(spot_of(label))?;

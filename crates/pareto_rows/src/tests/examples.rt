@@ -6,7 +6,7 @@ use path_readback::{Found, Room};
 use road_network::MAX_BUDGET;
 use route_io::sure::SureSink;
 use route_io::{Gate, Phase};
-use route_query::Query;
+use route_query::{Query, SearchFault};
 use std::alloc::Global;
 use std::process::Abort;
 use std::sync::atomic::{AtomicU64, Ordering};
@@ -14,7 +14,8 @@ use std::test::Fail;
 use std::thread::Threads;
 use work_claim::Crew;
 
-/// A graph, a query and its reply with walks, worked out by hand.
+/// A graph, a query, its reply with walks, how many relevant pairs it has, and how many pieces its rounds relax and merge, worked
+/// out by hand.
 struct Example {
     name: &'static str,
     nodes: u32,
@@ -22,6 +23,8 @@ struct Example {
     from: u32,
     to: u32,
     reply: &'static str,
+    relevant: u32,
+    pieces: (u64, u64),
 }
 
 /// Two ways from node 1 to 4, an arc between them, and an arc past both.
@@ -42,6 +45,8 @@ const EXAMPLES: [Example; 6] = [
         from: 1,
         to: 4,
         reply: "r 0 1 4 2\np 2 8 2 1 3\np 4 2 2 2 4\n",
+        relevant: 5,
+        pieces: (3, 5),
     },
     Example {
         name: "equal ends",
@@ -50,6 +55,8 @@ const EXAMPLES: [Example; 6] = [
         from: 4,
         to: 4,
         reply: "r 0 4 4 1\np 0 0 0\n",
+        relevant: 1,
+        pieces: (1, 0),
     },
     Example {
         name: "out of reach",
@@ -58,6 +65,8 @@ const EXAMPLES: [Example; 6] = [
         from: 4,
         to: 1,
         reply: "r 0 4 1 0\n",
+        relevant: 1,
+        pieces: (1, 0),
     },
     Example {
         name: "of two walks of one cost, the backward-least",
@@ -71,6 +80,8 @@ const EXAMPLES: [Example; 6] = [
         from: 1,
         to: 4,
         reply: "r 0 1 4 1\np 2 2 2 2 3\n",
+        relevant: 4,
+        pieces: (3, 3),
     },
     Example {
         name: "of two equal arcs, the first",
@@ -79,6 +90,8 @@ const EXAMPLES: [Example; 6] = [
         from: 1,
         to: 2,
         reply: "r 0 1 2 1\np 5 5 1 1\n",
+        relevant: 2,
+        pieces: (2, 1),
     },
     Example {
         name: "components that are zero",
@@ -92,6 +105,8 @@ const EXAMPLES: [Example; 6] = [
         from: 1,
         to: 3,
         reply: "r 0 1 3 3\np 0 6 2 1 3\np 3 3 2 2 3\np 6 0 2 2 4\n",
+        relevant: 6,
+        pieces: (3, 2),
     },
 ];
 
@@ -136,30 +151,37 @@ fn no_pieces() -> Counts {
     }
 }
 
-/// Searches by so many workers, and compares the reply.
-fn reply<R: Threads + Sync + Abort>(
+/// Searches by so many workers, and compares the reply and the number of pieces. With a budget of one less than the relevant
+/// pairs the query is refused.
+fn compare<R: Threads + Sync + Abort>(
     rt: &R,
     alloc: Global,
     example: &Example,
     workers: u32,
-    counts: &Counts,
 ) -> Result<(), Fail> {
     let name = example.name;
     let (graph, weights) = graph(rt, alloc, &drawn(alloc, example)?)?;
     assert!(rt; graph.criteria() == 2 && 1 <= workers && workers <= 64);
     assert!(rt; graph.has_node(example.from) && graph.has_node(example.to));
-    let query = Query {
+    assert!(rt; 1 <= example.relevant && example.relevant <= MAX_BUDGET);
+    let mut query = Query {
         from: NodeNo(example.from),
         to: NodeNo(example.to),
         limit: Limit::none(2),
-        budget: MAX_BUDGET,
+        budget: example.relevant,
     };
+    let counts = no_pieces();
     let crew = Crew {
         rt,
         workers,
-        gate: counts,
+        gate: &counts,
     };
     let found = search(&crew, alloc, &graph, &weights, &query)?;
+    let pieces = (
+        counts.relaxes.load(Ordering::SeqCst),
+        counts.merges.load(Ordering::SeqCst),
+    );
+    assert_eq!(rt; pieces, example.pieces, "{name}: pieces");
     let mut room = Room::with(alloc, found.longest())?;
     let mut text = SureSink::new(alloc);
     let sent = put_answer(
@@ -173,28 +195,18 @@ fn reply<R: Threads + Sync + Abort>(
     );
     assert!(rt; sent.is_ok(), "{name}: sent");
     assert_eq!(rt; text.sent(), example.reply.as_bytes(), "{name}");
+    query.budget = example.relevant - 1;
+    let refused = search(&crew, alloc, &graph, &weights, &query).err();
+    assert_eq!(rt; refused, Some(SearchFault::Budget), "{name}: refusal");
     Ok(())
 }
 
 #[test]
-fn replies_to_worked_examples(rt: HostRuntime) -> Result<(), Fail> {
+fn answers_worked_examples(rt: HostRuntime) -> Result<(), Fail> {
     for example in &EXAMPLES {
         for workers in [1, 3, 64] {
-            reply(&rt, rt.alloc(), example, workers, &no_pieces())?;
+            compare(&rt, rt.alloc(), example, workers)?;
         }
-    }
-    Ok(())
-}
-
-/// Three rounds take the labels of node 1, of nodes 2 and 3, and of node 4; what they give is merged at nodes 2, 3 and 4, and at 3
-/// and 4.
-#[test]
-fn makes_three_rounds(rt: HostRuntime) -> Result<(), Fail> {
-    for workers in [1, 3] {
-        let counts = no_pieces();
-        reply(&rt, rt.alloc(), &EXAMPLES[0], workers, &counts)?;
-        assert_eq!(rt; counts.relaxes.load(Ordering::SeqCst), 3, "{workers}");
-        assert_eq!(rt; counts.merges.load(Ordering::SeqCst), 5, "{workers}");
     }
     Ok(())
 }

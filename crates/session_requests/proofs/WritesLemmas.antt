@@ -37,9 +37,11 @@ value_in-some NotDigits n e = absurd cc
 value_in-some Above n e = absurd cc
 value_in-some (Value m) n e = let same : m ≡ n = cc in ap Value same
 
+-- a field writes the number that is read of it
 pub writes_number : (field : List ℕ) (n : ℕ) → number_of field ≡ Some n → Writes field (Number n)
 writes_number field n e = value_in-some (numeral_of field max_number) n e
 
+-- a field writes the place that is read of it
 pub writes_place : (field : List ℕ) (place : Option ℕ) → place_of field ≡ Some place → Writes field (Place place)
 writes_place field place e =
     chosen (Writes field (Place place)) field (codes "-") (Some None) (option_map Some (value_in (numeral_of field max_bound))) place e
@@ -47,9 +49,11 @@ writes_place field place e =
     (λ bound. mapped Some (λ p. Writes field (Place p)) (value_in (numeral_of field max_bound)) place bound
     (λ most value. value_in-some (numeral_of field max_bound) most value))
 
+-- the number that a field writes is read of it
 pub reads_number : (field : List ℕ) (n : ℕ) → Writes field (Number n) → number_of field ≡ Some n
 reads_number field n writes = rw writes refl
 
+-- the place that a field writes is read of it
 pub reads_place : (field : List ℕ) (place : Option ℕ) → Writes field (Place place) → place_of field ≡ Some place
 reads_place field None writes = rw writes refl
 reads_place field (Some most) writes = by_test (bytes_eq field (codes "-")) refl where
@@ -58,22 +62,26 @@ reads_place field (Some most) writes = by_test (bytes_eq field (codes "-")) refl
   by_test true is = absurd (let dash : numeral_of (codes "-") max_bound ≡ Value most = rw ((bytes_eq-Decides field (codes "-")).0 is) at writes in cc)
   by_test false is = rw writes refl
 
+-- one field writes the number that is read of it
 pub writes_one : (fields : List (List ℕ)) (n : ℕ) → one_from fields ≡ Some n → AllZip Writes fields (Number n ∷ [])
 writes_one [] n e = absurd cc
 writes_one (field ∷ []) n e = (writes_number field n e, tt)
 writes_one (field ∷ other ∷ fields) n e = absurd cc
 
+-- the number that one field writes is read of it
 pub reads_one : (fields : List (List ℕ)) (n : ℕ) → AllZip Writes fields (Number n ∷ []) → one_from fields ≡ Some n
 reads_one [] n writes = absurd writes
 reads_one (field ∷ []) n writes = reads_number field n writes.0
 reads_one (field ∷ other ∷ fields) n writes = absurd writes.1
 
+-- two fields write the numbers that are read of them
 pub writes_two : (fields : List (List ℕ)) (ends : ℕ × ℕ) → two_from fields ≡ Some ends → AllZip Writes fields (Number ends.0 ∷ Number ends.1 ∷ [])
 writes_two [] ends e = absurd cc
 writes_two (field ∷ fields) ends e =
     let parts = both (number_of field) (one_from fields) ends e in
     (writes_number field ends.0 parts.0, writes_one fields ends.1 parts.1)
 
+-- the numbers that two fields write are read of them
 pub reads_two : (fields : List (List ℕ)) (from to : ℕ) → AllZip Writes fields (Number from ∷ Number to ∷ []) → two_from fields ≡ Some (from, to)
 reads_two [] from to writes = absurd writes
 reads_two (field ∷ fields) from to writes = rw (reads_number field from writes.0, reads_one fields to writes.1) refl

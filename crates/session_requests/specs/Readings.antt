@@ -1,4 +1,4 @@
--- How the parts of a line are read: what they ask, or None.
+-- What is read of the parts of a line, or None. The private functions answer so; that it is what the line asks is proved.
 use Rattle.std.specs.Prelude.{ℕ, zero, suc, if◌then◌else◌, List, [], ◌∷◌, Option, Some, None, option_map, codes}
 use Rattle.std.specs.Str.{bytes_eq}
 use Rattle.line_text.specs.Numerals.{numeral_of}

@@ -1,0 +1,5 @@
+pub mod EachLemmas
+pub mod WritesLemmas
+pub mod LineLemmas
+pub mod AsksOfSessionLemmas
+pub mod AsksOfOperatorLemmas

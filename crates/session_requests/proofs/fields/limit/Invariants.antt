@@ -1,0 +1,6 @@
+use Rattle.session_requests.specs.Readings.{place_of}
+use Rattle.session_requests.proofs.EachLemmas.{ReadsEach}
+use Rattle.session_requests.proofs.fields.limit.Given as goal
+
+abbrev pub invariant-loop-i : goal.invariant-loop-i
+invariant-loop-i l = ReadsEach place_of l.criteria l.i l.text l.rest l.places

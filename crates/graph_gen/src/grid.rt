@@ -4,10 +4,10 @@ ghost use Rattle.graph_gen.specs.Plans.{max_side};
 ghost use Rattle.graph_gen.specs.Grids.{IsOnGrid, above, below, left_of, node_at, right_of};
 
 /// A place, by its row and its column, both from 0.
-#[derive(Clone, Copy)]
-pub(crate) struct Place {
-    pub(crate) row: u32,
-    pub(crate) column: u32,
+#[derive(Clone, Copy, Debug, PartialEq, Eq)]
+pub struct Place {
+    pub row: u32,
+    pub column: u32,
 }
 
 impl Place {

@@ -14,6 +14,7 @@ mod sequence;
 
 use arc_lines::weight_file;
 use cost_vector::OutOfMemory;
+pub use grid::Place;
 use pairs::pairs_file;
 use std::alloc::Global;
 

@@ -7,6 +7,7 @@ pub mod Searched
 pub mod Check
 pub mod Batch
 pub mod Gen
+pub mod Summary
 pub mod Output
 pub mod Stops
 pub mod ReadResults

@@ -19,6 +19,7 @@ mod reply;
 mod single;
 mod status;
 mod stop;
+mod summary;
 
 use command_words::{Command, WordsFault, read_words};
 use route_io::{Folder, Gate, Sink};

@@ -1,5 +1,5 @@
 -- What the words of a command line ask for.
-use Rattle.std.specs.Prelude.{◌≡◌, ◌≤◌, ◌++◌, ◌∷◌, ℕ, List, [], Option, Some, None, IfSome, IsSome, codes, length, map}
+use Rattle.std.specs.Prelude.{◌≡◌, ◌≤◌, ◌++◌, ◌∷◌, ℕ, List, [], Option, Some, None, IfSome, codes, length, map}
 use Rattle.std.specs.Prelude.{slice_get, String}
 use Rattle.std.specs.String.{string_bytes}
 use Rattle.clap.specs.Words.{Row, Text, all_of, fault_of, first_of, matches_of}
@@ -82,10 +82,9 @@ EffortInRange (check files) = Unit {0}
 EffortInRange (batch asked) = IsEffort asked.effort
 EffortInRange (generate asked) = IsEffort asked.effort
 
--- The plan is one, and the file is one of its files. What is made of all files is to come.
+-- The plan is one, and the file that is asked for is one of its files.
 pub record GenInRange (asked : GenAsked) : Type 0 where
   pub plan : IsPlan asked.plan
-  pub one_file : IsSome asked.file
   pub file : IfSome asked.file (λ file. file ≤ asked.plan.criteria)
 
 -- the plan of a command that has one is within its ranges
@@ -154,10 +153,9 @@ pub record AsksPlan (rows : List Row) (plan : GenPlan) : Type 0 where
   pub criteria : IsGiven min_files max_files (first_of (codes "criteria") rows) plan.criteria
   pub pairs : IsGiven min_pairs max_pairs (first_of (codes "pairs") rows) plan.pairs
 
--- The values are those of `gen`. A file is asked for, since what is made of all files is to come.
+-- the values are those of `gen`
 pub record AsksGen (rows : List Row) (asked : GenAsked) : Type 0 where
   pub plan : AsksPlan rows asked.plan
-  pub one_file : IsSome asked.file
   pub file : IsGivenIf 0 asked.plan.criteria (first_of (codes "file") rows) asked.file
   pub effort : AsksEffort rows asked.effort
 

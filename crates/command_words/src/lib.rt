@@ -87,7 +87,7 @@ pub struct BatchWords<'a> {
 #[derive(Clone, Copy, Debug, PartialEq, Eq)]
 pub struct GenWords {
     pub plan: GenPlan,
-    /// The file of the plan that is to be sent.
+    /// The file of the plan that is to be sent, or none where the queries of all files are to be answered.
     pub file: Option<u32>,
     pub effort: Effort,
 }
@@ -101,7 +101,7 @@ pub enum Command<'a> {
     Check(CheckWords<'a>),
     /// The answers to many queries, with walks.
     Batch(BatchWords<'a>),
-    /// A file of a plan.
+    /// A file of a plan, or what all its files come to.
     Gen(GenWords),
 }
 

@@ -98,7 +98,7 @@ fn read_gen(matches: &ArgMatches) -> Option<GenWords>
     let plan = read_plan(matches)?;
     Some(GenWords {
         plan,
-        file: Some(number_if(matches, "file", 0, plan.criteria)??),
+        file: number_if(matches, "file", 0, plan.criteria)?,
         effort: read_effort(matches)?,
     })
 }

@@ -21,7 +21,7 @@ use Rattle.gen_laws.proofs.RecordLemmas.{all_zip}
 use Rattle.gen_laws.proofs.WeightLemmas.{drawn, length-drawn}
 
 -- what holds of all items holds of the one at a place
-got : {X : Type 0} (P : X → Type 0) (xs : List X) (k : ℕ) (x : X) → All P xs → slice_get xs k ≡ Some x → P x
+pub got : {X : Type 0} (P : X → Type 0) (xs : List X) (k : ℕ) (x : X) → All P xs → slice_get xs k ≡ Some x → P x
 got P xs k x all is = subst P (get_or_from_slice_get xs k x x is) (All-get_or P xs k x (slice_get_within xs k x is) all)
 
 -- no arc at a place has weight 0, where none has

@@ -6,3 +6,4 @@ pub mod RecordLemmas
 pub mod WeightLemmas
 pub mod PairLemmas
 pub mod AgreeLemmas
+pub mod CostLemmas

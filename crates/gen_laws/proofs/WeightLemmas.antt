@@ -44,10 +44,10 @@ module _ (side x : ℕ) (within : side ≤ max_side) where
       (length-map-range_with_len (λ n. weight_by (nth_behind x n)) 1 (length (grid_arcs side))) ∙ arcs_are_counted side
 
   -- Both ends are nodes, and the weight is small.
-  abbrev IsSmallArc : (ℕ × ℕ) × ℕ → Type 0
+  abbrev pub IsSmallArc : (ℕ × ℕ) × ℕ → Type 0
   IsSmallArc p = AreNodes side p.0 × (p.1 ≤ 100)
 
-  all_small : All IsSmallArc drawn
+  pub all_small : All IsSmallArc drawn
   all_small =
       all_zip (AreNodes side) (λ w. w ≤ 100) (grid_arcs side) (weights_behind x (length (grid_arcs side))) (ends_are_nodes side)
       (weights_are_small x (length (grid_arcs side)))

@@ -1,14 +1,13 @@
 -- What the program does, by its words.
 use Rattle.std.proofs.Common.{◌≡◌, ℕ, List, [], ◌⊎◌, inl, inr, length, refl, subst, ap, arith}
 use Rattle.std.specs.Prelude.{Option, Some, None, MatchOption}
-use Rattle.graph_gen.specs.declared.GenPlan.{GenPlan}
 use Rattle.route_io.specs.Files.{FileMap}
 use Rattle.route_io.specs.Sinks.{SinkState}
 use Rattle.route_io.specs.Sources.{SourceState}
-use Rattle.command_words.specs.Words.{AreWords, Asked, Asks, batch, check, generate, single}
+use Rattle.command_words.specs.Words.{AreWords, Asked, Asks, GenAsked, batch, check, generate, single}
 use Rattle.route_top.specs.Batch.{pairs_read, pairs_stop}
 use Rattle.route_top.specs.FilesRead.{at_file, stops, goes_on}
-use Rattle.route_top.specs.Gen.{SendsFile}
+use Rattle.route_top.specs.Gen.{SendsFile, SendsSummary}
 use Rattle.route_top.specs.Outcome.{Outcome}
 use Rattle.route_top.specs.Outcome.{done, bad_words, folder_failed, out_failed, bad_file, bad_files, bad_pairs, refused, no_memory, out_wanted, status_of}
 use Rattle.route_top.specs.Output.{Ends, EndsByWords, no_command, starved, asks, EndsOrCut, uncut, failed, wanted, Runs}
@@ -33,9 +32,10 @@ module _ (words : List (List ℕ)) (files : Option FileMap) (none : ¬ AreWords 
   ends_of_none (failed cut) = let nothing = ap length (whole_of_none cut.ends).0 in absurd (omega (arith, cut.short))
   ends_of_none (wanted cut) = inr refl
 
-never_bad_gen : (plan : GenPlan) (text : List ℕ) (file : Option ℕ) → ¬ MatchOption file ⊥ (λ number. SendsFile plan number bad_words text)
-never_bad_gen plan text (Some number) ends = ends
-never_bad_gen plan text None ends = ends
+never_bad_gen : (asked : GenAsked) (text : List ℕ) (file : Option ℕ)
+    → ¬ MatchOption file (SendsSummary asked bad_words text) (λ number. SendsFile asked.plan number bad_words text)
+never_bad_gen asked text (Some number) ends = ends
+never_bad_gen asked text None ends = ends
 
 -- no command ends as one that wasn't asked for
 never_bad_words : (files : Option FileMap) (asked : Asked) (text : List ℕ) → ¬ Ends files asked bad_words text
@@ -46,7 +46,7 @@ never_bad_words files (check names) text (goes_on net read replies) = replies
 never_bad_words files (batch asked) text (stops (at_file name comes stop)) = elim stop [ ]
 never_bad_words files (batch asked) text (goes_on net read (pairs_stop stop)) = elim stop [ ]
 never_bad_words files (batch asked) text (goes_on net read (pairs_read pairs says replies)) = replies
-never_bad_words files (generate asked) text ends = never_bad_gen asked.plan text asked.file ends
+never_bad_words files (generate asked) text ends = never_bad_gen asked text asked.file ends
 
 is_bad_words : (outcome : Outcome) → status_of outcome ≡ 2 → outcome ≡ bad_words
 is_bad_words bad_words two = refl

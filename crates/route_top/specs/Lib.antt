@@ -6,8 +6,8 @@ pub mod Queries
 pub mod Searched
 pub mod Check
 pub mod Batch
-pub mod Gen
 pub mod Summary
+pub mod Gen
 pub mod Output
 pub mod Stops
 pub mod ReadResults

@@ -136,7 +136,7 @@ fn form_of(kind: AnswerKind) -> Form
 }
 
 /// The query as the search takes it, without a limit.
-fn unlimited(graph: &Graph, query: &Query) -> route_query::Query
+pub(crate) fn unlimited(graph: &Graph, query: &Query) -> route_query::Query
     ensures from { result.from.0 ≡ query.now.from }
     ensures to { result.to.0 ≡ query.now.to }
     ensures limit { result.limit ≡ no_limit graph.now.criteria }

@@ -96,7 +96,7 @@ impl<R: Threads + Sync, G: Gate> Answerer<'_, R, G> {
 }
 
 /// The query from one node of a pair to the other.
-fn query_between(effort: Effort, pair: Pair) -> Query
+pub(crate) fn query_between(effort: Effort, pair: Pair) -> Query
     ensures { result ≡ query_between effort pair }
 {
     let (from, to) = (pair.from, pair.to);

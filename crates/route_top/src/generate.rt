@@ -1,22 +1,113 @@
 //! The command `gen`.
-ghost use Rattle.command_words.specs.Words.{GenInRange, gen_asked};
-ghost use Rattle.route_top.specs.Gen.{GenEnds};
+ghost use Rattle.std.specs.Prelude.{◌≡◌, ◌≤◌, [], IfOk, OnOk};
+ghost use Rattle.command_words.specs.Words.{GenInRange, IsEffort, gen_asked};
+ghost use Rattle.graph_gen.specs.Plans.{IsPlan};
+ghost use Rattle.route_top.specs.Gen.{GenEnds, SendsFile, SendsSummary};
 ghost use Rattle.route_top.specs.Stops.{Replies, run_outcome};
+ghost use Rattle.route_top.specs.Summary.{ComesTo};
+ghost use Rattle.route_top.specs.Texts.{gen_reply};
 
-use crate::reply::send;
+use crate::answerer::Answerer;
+use crate::plan::{plan_network, plan_pairs};
+use crate::reply::{kept, send};
 use crate::stop::Stop;
+use crate::summary::{Summary, put_summary};
 use command_words::GenWords;
-use graph_gen::gen_file;
-use route_io::Sink;
+use cost_vector::OutOfMemory;
+use gen_laws::{networks_are_small, pair_files_are_read, pairs_have_nodes};
+use gen_laws::{weight_files_agree, weight_files_are_read};
+use graph_gen::{GenPlan, gen_file};
+use route_io::sure::SureSink;
+use route_io::{Gate, Sink};
 use std::alloc::Global;
+use std::thread::Threads;
 
-/// Sends the file that is asked for. It is made in memory first.
-pub(crate) fn run<'a, K: Sink>(alloc: Global, asked: &GenWords, out: &mut K) -> Result<(), Stop<'a>>
-    requires { GenInRange (gen_asked asked.now) }
+/// Sends the file that is asked for, or where none is, what all files of the plan come to. It is made in memory first.
+pub(crate) fn run<'a, R: Threads + Sync, G: Gate, K: Sink>(
+    rt: &R,
+    alloc: Global,
+    asked: &GenWords,
+    out: &mut K,
+    gate: &G,
+) -> Result<(), Stop<'a>>
+    requires plan { GenInRange (gen_asked asked.now) }
+    requires effort { IsEffort asked.now.effort }
     ensures { Replies (GenEnds (gen_asked asked.now))
         (K.state out.old) (K.state out.new) (run_outcome result) }
 {
-    let number = asked.file.unwrap();
-    let file = gen_file(alloc, &asked.plan, number)?;
+    match asked.file {
+        Some(number) => send_file(alloc, &asked.plan, number, out),
+        None => send_summary(rt, alloc, asked, out, gate),
+    }
+}
+
+/// Sends a file of a plan.
+fn send_file<'a, K: Sink>(
+    alloc: Global,
+    plan: &GenPlan,
+    number: u32,
+    out: &mut K,
+) -> Result<(), Stop<'a>>
+    requires plan { IsPlan plan.now }
+    requires number { number ≤ plan.now.criteria }
+    ensures { Replies (SendsFile plan.now number)
+        (K.state out.old) (K.state out.new) (run_outcome result) }
+{
+    let file = gen_file(alloc, plan, number)?;
     send(out, &file)
+}
+
+/// Sends what all files of a plan come to.
+fn send_summary<'a, R: Threads + Sync, G: Gate, K: Sink>(
+    rt: &R,
+    alloc: Global,
+    asked: &GenWords,
+    out: &mut K,
+    gate: &G,
+) -> Result<(), Stop<'a>>
+    requires plan { IsPlan asked.now.plan }
+    requires effort { IsEffort asked.now.effort }
+    ensures { Replies (SendsSummary (gen_asked asked.now))
+        (K.state out.old) (K.state out.new) (run_outcome result) }
+{
+    let counts = sum_up(rt, alloc, asked, gate)?;
+    let mut text = SureSink::new(alloc);
+    put_text(&counts, &mut text)?;
+    send(out, text.sent())
+}
+
+/// Writes the line of a summary.
+fn put_text(counts: &Summary, text: &mut SureSink) -> Result<(), OutOfMemory>
+    requires { text.old.sent ≡ [] }
+    ensures { OnOk result (text.new.sent ≡ gen_reply counts.now) }
+{
+    kept(put_summary(text, counts))
+}
+
+/// Reads all files of a plan, and answers their queries.
+fn sum_up<R: Threads + Sync, G: Gate>(
+    rt: &R,
+    alloc: Global,
+    asked: &GenWords,
+    gate: &G,
+) -> Result<Summary, OutOfMemory>
+    requires plan { IsPlan asked.now.plan }
+    requires effort { IsEffort asked.now.effort }
+    ensures { IfOk result (ComesTo (gen_asked asked.now)) }
+{
+    weight_files_are_read();
+    weight_files_agree();
+    pair_files_are_read();
+    networks_are_small();
+    pairs_have_nodes();
+    let (graph, weights) = plan_network(alloc, &asked.plan)?;
+    let pairs = plan_pairs(alloc, &asked.plan)?;
+    let answerer = Answerer {
+        rt,
+        alloc,
+        gate,
+        graph: &graph,
+        weights: &weights,
+    };
+    answerer.count_pairs(asked.effort, &pairs)
 }

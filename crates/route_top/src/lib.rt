@@ -12,9 +12,11 @@ ghost use Rattle.route_top.specs.Stops.{run_outcome};
 mod answerer;
 mod batch;
 mod check;
+mod counting;
 mod generate;
 mod network;
 mod pieces;
+mod plan;
 mod reply;
 mod single;
 mod status;
@@ -120,6 +122,6 @@ fn carry_out<'a, R: Threads + Sync, G: Gate, F: Folder, K: Sink>(
         Command::Single(asked) => single::run(rt, alloc, asked, folder, out, gate),
         Command::Check(asked) => check::run(alloc, asked, folder, out),
         Command::Batch(asked) => batch::run(rt, alloc, asked, folder, out, gate),
-        Command::Gen(asked) => generate::run(alloc, asked, out),
+        Command::Gen(asked) => generate::run(rt, alloc, asked, out, gate),
     }
 }

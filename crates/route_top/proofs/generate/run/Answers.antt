@@ -1,26 +1,27 @@
-use Rattle.std.proofs.Common.{◌≡◌, ◌∙◌, ℕ, List, Some, refl, subst, sym}
+use Rattle.std.proofs.Common.{◌≡◌, ℕ, List, Some, None, subst, sym}
 use Rattle.std.specs.Prelude.{Option, MatchOption}
-use Rattle.std.proofs.lemmas.Result.{err_from_is_err_and}
+use Rattle.route_io.specs.Sinks.{SinkState}
 use Rattle.command_words.specs.Words.{GenAsked, gen_asked}
-use Rattle.route_top.specs.Gen.{GenEnds, SendsFile}
-use Rattle.route_top.specs.Outcome.{Outcome, done, no_memory}
-use Rattle.route_top.proofs.RunsLemmas.{replies_so, starves}
+use Rattle.route_top.specs.Gen.{GenEnds, SendsFile, SendsSummary}
+use Rattle.route_top.specs.Outcome.{Outcome}
+use Rattle.route_top.specs.Stops.{Replies}
 use Rattle.route_top.proofs.generate.run.Goals as goal
 
--- a file is asked for, and the run ends as one that sends it
-sends_asked : (asked : GenAsked) (number : ℕ) (outcome : Outcome) (text : List ℕ) → asked.file ≡ Some number
-    → SendsFile asked.plan number outcome text → GenEnds asked outcome text
-sends_asked asked number outcome text is sends =
-    subst (λ (file : Option ℕ). MatchOption file ⊥ (λ n. SendsFile asked.plan n outcome text)) (sym is) sends
+module _ (asked : GenAsked) (out replied : SinkState) (outcome : Outcome) where
+  abbrev EndsBy : Option ℕ → Outcome → List ℕ → Type 0
+  EndsBy file end text = MatchOption file (SendsSummary asked end text) (λ number. SendsFile asked.plan number end text)
 
-pub returns-in_err-file : goal.returns-in_err-file
-returns-in_err-file g c =
-    let p = err_from_is_err_and c.from_residual.result c.from_residual.ensures.1 in
-    let asked = gen_asked c.args.asked.now in
-    rw (p.1, p.2) (starves (GenEnds asked) _ (sends_asked asked c.unwrap-number.result no_memory _ c.unwrap-number.ensures refl))
+  -- a file is asked for
+  file_sent : (number : ℕ) → asked.file ≡ Some number → Replies (SendsFile asked.plan number) out replied outcome
+      → Replies (GenEnds asked) out replied outcome
+  file_sent number is sends = subst (λ file. Replies (EndsBy file) out replied outcome) (sym is) sends
 
-pub returns : goal.returns
-returns g c =
-    let asked = gen_asked c.args.asked.now in
-    replies_so (GenEnds asked) done c.deref.result.now _ _ _
-    (sends_asked asked c.unwrap-number.result done _ c.unwrap-number.ensures (c.deref.ensures.value ∙ c.in_ok-file.ensures)) c.send.ensures
+  -- none is
+  summary_sent : asked.file ≡ None → Replies (SendsSummary asked) out replied outcome → Replies (GenEnds asked) out replied outcome
+  summary_sent is sends = subst (λ file. Replies (EndsBy file) out replied outcome) (sym is) sends
+
+pub returns-in-Some : goal.returns-in-Some
+returns-in-Some g c = file_sent (gen_asked c.args.asked.now) _ _ _ c.in-Some.number c.in-Some.is c.send_file.ensures
+
+pub returns-in-None : goal.returns-in-None
+returns-in-None g c = summary_sent (gen_asked c.args.asked.now) _ _ _ c.in-None.is c.send_summary.ensures

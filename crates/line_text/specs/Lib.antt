@@ -4,3 +4,4 @@ pub mod Marks
 pub mod Numerals
 pub mod Pieces
 pub mod Reading
+pub mod Requests

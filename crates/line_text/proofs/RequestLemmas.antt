@@ -15,7 +15,8 @@ use Rattle.line_text.specs.declared.limits.Request.TheVariants.{Whole, Long}
 use Rattle.line_text.specs.Lines.{first_lf, raw_line, after_line, line_size, without_cr}
 use Rattle.line_text.specs.Pieces.{Fills}
 use Rattle.line_text.specs.Reading.{Lines, rest_of}
-use Rattle.line_text.specs.Requests.{request_by, first_request, request_of, request_text, RequestCounts, CountsEnd, CountsFault, PassesPart, TakesFirst, TellsRequest, Requests, request_behind, past_request, TakesEnded, LacksEnd, EndsPast, EndsInput, without_held}
+use Rattle.line_text.specs.Requests.{request_by, first_request, request_of, request_text, RequestCounts, CountsEnd, CountsFault, PassesPart, TakesFirst, TellsRequest, Requests}
+use Rattle.line_text.specs.RequestSteps.{request_behind, past_request, TakesEnded, LacksEnd, EndsPast, EndsInput, without_held}
 use Rattle.line_text.proofs.LineLemmas.{BeginsAlike, begins_alike, begins_alike-nil, first_lf-le, first_lf-front, first_lf-grows, first_lf-part, length-raw_line, length-without_cr, lines_of-first}
 use Rattle.line_text.proofs.AdvancesLemmas.{rest_grown, told}
 
@@ -72,7 +73,8 @@ request_of-within limits passed text within some =
     rw (lt-ltb (passed + length (raw_line text)) limits.total within, first_request-some limits text some) refl
 
 -- a line that doesn't end within the total is none
-request_of-past : (limits : LineLimits) (passed : ℕ) (text : List ℕ) → limits.total ≤ passed + length (raw_line text) → request_of limits passed text ≡ Err Total
+request_of-past : (limits : LineLimits) (passed : ℕ) (text : List ℕ) → limits.total ≤ passed + length (raw_line text)
+    → request_of limits passed text ≡ Err Total
 request_of-past limits passed text past = rw (le-ltb (passed + length (raw_line text)) limits.total past) refl
 
 request_of-nothing : (limits : LineLimits) (passed : ℕ) → passed < limits.total → request_of limits passed [] ≡ Ok None
@@ -88,7 +90,8 @@ module _ (old now : Lines) (cut : Bool) (before after : SourceState) (cuts : Hol
   each_rest : (P : List ℕ → Option (List ℕ) → Type 0) → ((more : List ℕ) → after.left ≡ Some more → P (cuts.front ++ (now.held ++ more)) (Some more))
       → IfSome (rest_of old before) (λ rest. P rest after.left)
   each_rest P each =
-      told _ _ (cuts.front ++ now.held) P cuts.rest (λ more left. subst (λ rest. P rest (Some more)) (sym (append_assoc cuts.front now.held more)) (each more left))
+      told _ _ (cuts.front ++ now.held) P cuts.rest (λ more left.
+      subst (λ rest. P rest (Some more)) (sym (append_assoc cuts.front now.held more)) (each more left))
 
   -- a step that loses no byte, as its answer says
   requests_by : (next : Lines) (result : Result (Option Request) LineFault) → next.limits ≡ old.limits → RequestCounts old next result
@@ -155,7 +158,8 @@ module _ (old now : Lines) (cut : Bool) (before after : SourceState) (cuts : Hol
           lines = lines_of-first rest long;
         }
 
-    requests_past : old.passed + length cuts.front + first_lf now.held < old.limits.total → ((more : List ℕ) → after.left ≡ Some more → BeginsAlike now.held more)
+    requests_past : old.passed + length cuts.front + first_lf now.held < old.limits.total
+        → ((more : List ℕ) → after.left ≡ Some more → BeginsAlike now.held more)
         → Requests old (past_request same request) before after (Ok (Some request))
     requests_past within alike =
         requests_by (past_request same request) (Ok (Some request)) refl (counts_past request refl)
@@ -187,7 +191,8 @@ module _ (old now : Lines) (cut : Bool) (before after : SourceState) (cuts : Hol
       rw (step.total, step.same) (requests_by same (Err Total) refl (record { counts = counts_fault; taken = step.past }) refl (λ more left.
       let rest = now.held ++ more in
       let whole = cuts.front ++ rest in
-      let far : old.limits.total ≤ old.passed + length (raw_line whole) = omega (arith, step.past, first_lf-front cuts.front rest cuts.no_lf, first_lf-grows now.held more, length-raw_line whole) in
+      let far : old.limits.total ≤ old.passed + length (raw_line whole) =
+      omega (arith, step.past, first_lf-front cuts.front rest cuts.no_lf, first_lf-grows now.held more, length-raw_line whole) in
       record { answer = request_of-past old.limits old.passed whole far; part = part_left more }))
 
   -- a read failed
@@ -284,7 +289,8 @@ module _ (old now mid skipped next : Lines) (cut long : Bool) (before after late
       }
 
   -- the read found the end of input, and the last line is taken, if there is a byte of it
-  pub requests_last : (last : Lines) (answer : Option Request) → EndsInput next last long answer → result ≡ Ok false → Requests old last before later (Ok answer)
+  pub requests_last : (last : Lines) (answer : Option Request) → EndsInput next last long answer → result ≡ Ok false
+      → Requests old last before later (Ok answer)
   requests_last last answer ends is_end =
       let end = rw is_end at fills.answer in
       requests_end old next long before later cuts_more last answer ends (rw end.0 part_skipped) (rw (stays, end.0) within_skipped) end.1

@@ -5,3 +5,4 @@ pub mod Numerals
 pub mod Pieces
 pub mod Reading
 pub mod Requests
+pub mod RequestSteps

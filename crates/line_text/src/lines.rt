@@ -7,8 +7,8 @@ ghost use Rattle.line_text.specs.Lines.{first_lf, without_cr};
 ghost use Rattle.line_text.specs.Marks.{first_fault, line_fault};
 ghost use Rattle.line_text.specs.Pieces.{Fills, LiesIn, TakesHeld, part_of, past_line};
 ghost use Rattle.line_text.specs.Reading.{Advances, InLimits, begun, max_held, max_line, line_failed};
-ghost use Rattle.line_text.specs.Requests.{EndsInput, HoldsLine, Requests, TakesAsked, request_behind};
-ghost use Rattle.line_text.specs.Requests.{request_text, without_held};
+ghost use Rattle.line_text.specs.Requests.{HoldsLine, Requests, request_text};
+ghost use Rattle.line_text.specs.RequestSteps.{EndsInput, TakesAsked, request_behind, without_held};
 
 use crate::{LineFault, LineLimits, Request};
 use cost_vector::OutOfMemory;

@@ -18,7 +18,7 @@ pub record Holds (old now : Lines) (before after : SourceState) : Type 0 where
   pub rest : Keeps (rest_of old before) (rest_of now after)
 
 -- bytes that are taken from the source are held
-rest_grown : (rest left later : Option (List ℕ)) (held more : List ℕ) → Keeps rest (prepend_known held left) → Consumes left later more
+pub rest_grown : (rest left later : Option (List ℕ)) (held more : List ℕ) → Keeps rest (prepend_known held left) → Consumes left later more
     → Keeps rest (prepend_known (held ++ more) later)
 rest_grown None left later held more kept took = tt
 rest_grown (Some text) None later held more kept took = absurd kept
@@ -26,7 +26,7 @@ rest_grown (Some text) (Some xs) None held more kept took = absurd took
 rest_grown (Some text) (Some xs) (Some ys) held more kept took = append_assoc held more ys ∙ ap (λ bytes. held ++ bytes) (sym took) ∙ kept
 
 -- what holds of the bytes that are held, with whatever is left behind them, holds of the rest that is told
-told : (rest left : Option (List ℕ)) (held : List ℕ) (P : List ℕ → Option (List ℕ) → Type 0) → Keeps rest (prepend_known held left)
+pub told : (rest left : Option (List ℕ)) (held : List ℕ) (P : List ℕ → Option (List ℕ) → Type 0) → Keeps rest (prepend_known held left)
     → ((more : List ℕ) → left ≡ Some more → P (held ++ more) (Some more)) → IfSome rest (λ text. P text left)
 told None left held P kept each = tt
 told (Some text) None held P kept each = absurd kept

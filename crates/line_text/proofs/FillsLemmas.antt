@@ -4,12 +4,16 @@ use Rattle.std.specs.Io.KnownBytes.{IsAtEnd}
 use Rattle.std.proofs.KnownBytes.{Consumes-nil, Consumes-kept}
 use Rattle.std.proofs.Math.Seq.{take-add}
 use Rattle.std.proofs.lemmas.Bool.{lt-ltb}
-use Rattle.std.proofs.lemmas.List.{append-nil, drop-append-le, length-append, length-take, length-drop}
+use Rattle.std.proofs.lemmas.List.{append-nil, drop-append-le, drop-drop, length-append, length-take, length-drop}
 use Rattle.std.proofs.lemmas.Slice.{between_is}
 use Rattle.route_io.specs.declared.fault.Failed.{Failed}
 use Rattle.route_io.specs.Sources.{SourceState, Reads}
 use Rattle.line_text.specs.declared.lines.Span.{Span}
 use Rattle.line_text.specs.Pieces.{Fills, LiesIn, Took, part_of}
+
+-- a part without its first bytes
+pub drop-part : (xs : List ℕ) (a b n : ℕ) → drop n (slice_range xs a b) ≡ slice_range xs (a + n) b
+drop-part xs a b n = ap (drop n) (between_is xs a b) ∙ drop-drop n a (take b xs) ∙ sym (between_is xs (a + n) b)
 
 -- The part was moved within the buffer, and then what stands before its end stayed.
 module _ (moved new was : List ℕ) (held : Span) (kept : part_of moved held ≡ was) (place : LiesIn (length moved) held)

@@ -2,4 +2,5 @@ pub mod AdvancesLemmas
 pub mod FieldLemmas
 pub mod LineLemmas
 pub mod NumeralLemmas
+pub mod RequestLemmas
 pub mod FillsLemmas

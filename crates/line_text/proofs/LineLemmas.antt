@@ -39,6 +39,14 @@ module _ (held more : List ℕ) where
   first_lf-append : first_lf (held ++ more) ≡ cond (eqb (first_lf held) (length held)) (length held + first_lf more) (first_lf held)
   first_lf-append = prefix_len-append (λ byte. not (is_lf byte)) held more
 
+  -- bytes without an LF in front of a text belong to its first line
+  pub first_lf-front : first_lf held ≡ length held → first_lf (held ++ more) ≡ length held + first_lf more
+  first_lf-front part = rw first_lf-append (grind (arith, nat_tests))
+
+  -- more bytes leave the first LF where it was, or further on
+  pub first_lf-grows : first_lf held ≤ first_lf (held ++ more)
+  first_lf-grows = let within = first_lf-le held in rw first_lf-append (grind (arith, nat_tests))
+
   -- bytes without an LF don't hold the first one
   pub first_lf-part : first_lf held ≡ length held → length held ≤ first_lf (held ++ more)
   first_lf-part part = rw first_lf-append (grind (arith, nat_tests))

@@ -4,3 +4,5 @@ pub mod Marks
 pub mod Numerals
 pub mod Pieces
 pub mod Reading
+pub mod Requests
+pub mod RequestSteps

@@ -10,6 +10,6 @@ mod lines;
 mod numerals;
 
 pub use fields::{field, next_field};
-pub use limits::{LineFault, LineLimits};
+pub use limits::{LineFault, LineLimits, Request};
 pub use lines::{Lines, MAX_HELD, MAX_LINE};
 pub use numerals::{Numeral, decimal, put_decimal};

@@ -19,3 +19,12 @@ pub enum LineFault {
     #[error("out of memory")]
     OutOfMemory,
 }
+
+/// What the next line is as a request.
+#[derive(Clone, Copy, Debug, PartialEq, Eq)]
+pub enum Request {
+    /// It is the current line.
+    Whole,
+    /// It has more bytes before its LF than the limit, and was skipped.
+    Long,
+}

@@ -1,14 +1,16 @@
 ghost use Rattle.std.specs.Prelude.{◌≡◌, ◌≢◌, ◌↔◌, ◌+◌, ◌-◌, ◌<◌, ◌≤◌, ◌++◌, List, [], length, take, drop, false, true};
 ghost use Rattle.std.specs.Prelude.{Ok, Err, Some, IfOk, OnOk, OnErr, IfSome, IfNone, IsSome, IsTrue, MatchOption, min};
-ghost use Rattle.std.specs.Prelude.{None};
+ghost use Rattle.std.specs.Prelude.{None, IfErr, ◌||◌, nat_lt};
 ghost use Rattle.std.specs.Result.{result_err};
 ghost use Rattle.route_io.specs.Sources.{Reads, ReadsFrom};
 ghost use Rattle.line_text.specs.Lines.{first_lf, without_cr};
 ghost use Rattle.line_text.specs.Marks.{first_fault, line_fault};
 ghost use Rattle.line_text.specs.Pieces.{Fills, LiesIn, TakesHeld, part_of, past_line};
 ghost use Rattle.line_text.specs.Reading.{Advances, InLimits, begun, max_held, max_line, line_failed};
+ghost use Rattle.line_text.specs.Requests.{HoldsLine, Requests, request_text};
+ghost use Rattle.line_text.specs.RequestSteps.{EndsInput, TakesAsked, request_behind, without_held};
 
-use crate::{LineFault, LineLimits};
+use crate::{LineFault, LineLimits, Request};
 use cost_vector::OutOfMemory;
 use memchr::memchr;
 use route_io::{Failed, Source};
@@ -118,7 +120,40 @@ impl Lines {
         answer
     }
 
-    /// The current line without its LF and without one CR at its end. It is empty where there is none.
+    /// Makes the next line current and answers what it is, or `None` where the input has ended before the total and no
+    /// byte is left.
+    ///
+    /// A line with more bytes before its LF than the limit is skipped, and its text is empty. `Total` is a line that
+    /// doesn't end within as many bytes as the total, which are all that is read.
+    pub fn next_request<S: Source>(&mut self, source: &mut S) -> Result<Option<Request>, LineFault>
+        // A kept fault is answered again. Nothing changes then, and nothing is read.
+        ensures again { IfSome self.old.fault (λ fault. result ≡ Err fault) }
+        ensures stays { IsSome self.old.fault → self.new ≡ self.old }
+        ensures reads_nothing { IsSome self.old.fault → source.new ≡ source.old }
+
+        // A fault is kept, and no other answer leaves one.
+        ensures keeps_fault { self.new.fault ≡ result_err result }
+
+        // Where the source tells its bytes, the request is the next line of what is left, in whatever pieces it comes.
+        ensures requests { IfNone self.old.fault
+            (Requests self.old self.new (S.state source.old) (S.state source.new) result) }
+        ensures in_limits { InLimits self.new }
+
+        // Nothing is read while a whole line is held. The source's failures alone make a failed read.
+        ensures held_first { HoldsLine self.old → source.new ≡ source.old }
+        ensures source { ReadsFrom (S.state source.old) (S.state source.new)
+            (line_failed self.old.fault result) }
+    {
+        if let Some(fault) = self.fault {
+            return Err(fault);
+        }
+        let answer = self.read_request(source);
+        self.fault = answer.err();
+        answer
+    }
+
+    /// The current line without its LF and without one CR at its end. It is empty where there is none, and where it was
+    /// skipped.
     pub fn text(&self) -> &[u8]
         ensures value { result.now ≡ self.now.text }
         ensures within { length result.now ≤ self.now.limits.line }
@@ -153,6 +188,33 @@ impl Lines {
             match self.refill(source) {
                 Ok(true) => {}
                 Ok(false) => return Ok(self.take_rest()),
+                Err(Failed) => return Err(LineFault::Read),
+            }
+        }
+    }
+
+    /// What `next_request` does where no fault is kept.
+    fn read_request<S: Source>(&mut self, source: &mut S) -> Result<Option<Request>, LineFault>
+        ensures requests { Requests self.old self.new
+            (S.state source.old) (S.state source.new) result }
+        ensures held_first { HoldsLine self.old → source.new ≡ source.old }
+        ensures source { ReadsFrom (S.state source.old) (S.state source.new)
+            (line_failed None result) }
+    {
+        self.drop_text();
+        let mut searched = 0;
+        let mut cut = false;
+        loop {
+            match self.take_request(searched, cut) {
+                Ok(Some(request)) => return Ok(Some(request)),
+                Ok(None) => {}
+                Err(fault) => return Err(fault),
+            }
+            cut = self.skip_long(cut);
+            searched = self.held().len();
+            match self.refill_within(source) {
+                Ok(true) => {}
+                Ok(false) => return Ok(self.take_last(cut)),
                 Err(Failed) => return Err(LineFault::Read),
             }
         }
@@ -201,6 +263,104 @@ impl Lines {
         }
         self.pass(size, size);
         true
+    }
+
+    /// Takes the first line that is held, if its LF is held. Where it was cut, more of it was skipped before. The LF
+    /// isn't among the first `searched` bytes.
+    fn take_request(&mut self, searched: usize, cut: bool) -> Result<Option<Request>, LineFault>
+        requires searched { searched ≤ first_lf self.old.held }
+        requires no_text { self.old.text ≡ [] }
+        requires counted { cut ≡ true → self.old.number < self.old.passed }
+        ensures { TakesAsked self.old self.new cut result }
+    {
+        let Some(raw) = find_lf(self.held(), searched) else {
+            self.judge_total(self.held().len())?;
+            return Ok(None);
+        };
+        self.judge_total(raw)?;
+        Ok(Some(self.pass_request(raw, raw + 1, cut)))
+    }
+
+    /// Takes the last line, which has no LF, if there is a byte of it. Where it was cut, more of it was skipped before.
+    fn take_last(&mut self, cut: bool) -> Option<Request>
+        requires no_lf { first_lf self.old.held ≡ length self.old.held }
+        requires within { self.old.passed + length self.old.held < self.old.limits.total }
+        requires no_text { self.old.text ≡ [] }
+        requires counted { cut ≡ true → self.old.number < self.old.passed }
+        ensures { EndsInput self.old self.new cut result }
+    {
+        let size = self.held().len();
+        if size == 0 && !cut {
+            return None;
+        }
+        Some(self.pass_request(size, size, cut))
+    }
+
+    /// Takes the first `size` bytes that are held, of which `raw` stand before the LF, as the next line.
+    fn pass_request(&mut self, raw: usize, size: usize, cut: bool) -> Request
+        requires with_lf { raw ≤ size }
+        requires held { size ≤ length self.old.held }
+        requires total { self.old.passed + size ≤ self.old.limits.total }
+        requires no_text { self.old.text ≡ [] }
+        requires some { cut ≡ false → 0 < size }
+        requires counted { cut ≡ true → self.old.number < self.old.passed + size }
+        ensures request { result ≡ request_behind self.old.limits cut raw }
+        ensures passed { self.new ≡ record self.old {
+          held = drop size self.old.held;
+          text = request_text result (take raw self.old.held);
+          number = self.old.number + 1;
+          passed = self.old.passed + size;
+        } }
+    {
+        if cut || raw as u64 > u64::from(self.limits.line) {
+            self.skip(size);
+            self.number += 1;
+            return Request::Long;
+        }
+        self.pass(raw, size);
+        Request::Whole
+    }
+
+    /// Skips what is held of a line that is longer than the limit, or was cut before, and answers whether it was.
+    fn skip_long(&mut self, cut: bool) -> bool
+        requires total { self.old.passed + length self.old.held ≤ self.old.limits.total }
+        requires counted { cut ≡ true → self.old.number < self.old.passed }
+        ensures long { result ≡ (cut || nat_lt self.old.limits.line (length self.old.held)) }
+        ensures skipped { self.new ≡ without_held self.old result }
+        ensures short { length self.new.held ≤ max_line }
+        ensures counted { result ≡ true → self.new.number < self.new.passed }
+    {
+        let size = self.held().len();
+        let long = cut || size as u64 > u64::from(self.limits.line);
+        if long {
+            self.skip(size);
+        }
+        long
+    }
+
+    /// Passes the first `size` bytes that are held.
+    fn skip(&mut self, size: usize)
+        requires held { size ≤ length self.old.held }
+        requires total { self.old.passed + size ≤ self.old.limits.total }
+        ensures { self.new ≡ record self.old {
+          held = drop size self.old.held;
+          passed = self.old.passed + size;
+        } }
+    {
+        self.held.start += size;
+        self.passed += size as u64;
+    }
+
+    /// The fault of a line that doesn't end in its first `raw` bytes, where as many as the total are there.
+    fn judge_total(&self, raw: usize) -> Result<(), LineFault>
+        ensures within { OnOk result (self.now.passed + raw < self.now.limits.total) }
+        ensures past { IfErr result (λ fault.
+            (fault ≡ LineFault.Total) × (self.now.limits.total ≤ self.now.passed + raw)) }
+    {
+        if raw as u64 >= self.limits.total - self.passed {
+            return Err(LineFault::Total);
+        }
+        Ok(())
     }
 
     /// The fault of a line that has `raw` bytes before its LF and `size` bytes with it.
@@ -253,7 +413,36 @@ impl Lines {
             (S.state source.old) (S.state source.new) result }
     {
         let wanted = self.wanted();
-        fill(source, self.buffer.as_mut_slice(), &mut self.held, wanted)
+        self.read_more(source, wanted)
+    }
+
+    /// Reads once behind the bytes that are held, and no byte past the total. False is the end of input.
+    fn refill_within<S: Source>(&mut self, source: &mut S) -> Result<bool, Failed>
+        requires room { length self.old.held ≤ max_line }
+        requires in_total { self.old.passed + length self.old.held < self.old.limits.total }
+        requires no_text { self.old.text ≡ [] }
+        ensures stays { self.new ≡ record self.old { held = self.new.held } }
+        ensures none_past { self.old.passed + length self.new.held ≤ self.old.limits.total }
+        ensures reads { Fills self.old.held self.new.held
+            (S.state source.old) (S.state source.new) result }
+    {
+        let wanted = self.left().min(MAX_HELD as u64) as usize;
+        self.read_more(source, wanted)
+    }
+
+    /// Reads once behind the bytes that are held, and takes at most `most` bytes.
+    fn read_more<S: Source>(&mut self, source: &mut S, most: usize) -> Result<bool, Failed>
+        requires room { length self.old.held ≤ max_line }
+        requires some { 0 < most }
+        requires one_past { self.old.passed + length self.old.held + most
+            ≤ self.old.limits.total + 1 }
+        requires no_text { self.old.text ≡ [] }
+        ensures stays { self.new ≡ record self.old { held = self.new.held } }
+        ensures at_most { length self.new.held ≤ length self.old.held + most }
+        ensures reads { Fills self.old.held self.new.held
+            (S.state source.old) (S.state source.new) result }
+    {
+        fill(source, self.buffer.as_mut_slice(), &mut self.held, most)
     }
 
     /// How many more bytes are of use: those up to one past the total, and no more than the buffer has.
@@ -262,8 +451,15 @@ impl Lines {
         ensures { result
             ≡ min (self.now.limits.total + 1 - (self.now.passed + length self.now.held)) max_held }
     {
-        let left = self.limits.total - self.passed - self.held().len() as u64;
-        left.saturating_add(1).min(MAX_HELD as u64) as usize
+        self.left().saturating_add(1).min(MAX_HELD as u64) as usize
+    }
+
+    /// How many bytes stand behind those that are held, up to the total.
+    fn left(&self) -> u64
+        requires in_total { self.now.passed + length self.now.held ≤ self.now.limits.total }
+        ensures { result ≡ self.now.limits.total - (self.now.passed + length self.now.held) }
+    {
+        self.limits.total - self.passed - self.held().len() as u64
     }
 }
 

@@ -67,7 +67,7 @@ fn shown(
 }
 
 /// The limits of a line and of the whole input.
-fn limits(line: u32, total: u64) -> LineLimits
+pub(super) fn limits(line: u32, total: u64) -> LineLimits
     ensures { result.line ≡ line }
 {
     LineLimits { line, total }

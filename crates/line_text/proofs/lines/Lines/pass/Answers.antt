@@ -1,16 +1,13 @@
 use Rattle.std.proofs.Common.{◌≡◌, ℕ, ◌+◌, ◌-◌, ◌≤◌, List, length, take, drop, slice_range, refl, sym, ap, ◌∙◌, arith}
-use Rattle.std.proofs.lemmas.List.{drop-drop, take-take, length-take}
-use Rattle.std.proofs.lemmas.Slice.{between_is}
+use Rattle.std.proofs.lemmas.List.{take-take, length-take}
 use Rattle.line_text.specs.Lines.{without_cr}
+use Rattle.line_text.proofs.FillsLemmas.{drop-part}
 use Rattle.line_text.proofs.lines.Lines.pass.Goals as goal
 
 take-part : (xs : List ℕ) (a b n : ℕ) → a + n ≤ b → take n (slice_range xs a b) ≡ slice_range xs a (a + n)
 take-part xs a b n within =
     let size : n ≡ a + n - a = omega arith in
     take-take n (b - a) (drop a xs) (omega arith) ∙ ap (λ m. take m (drop a xs)) size
-
-drop-part : (xs : List ℕ) (a b n : ℕ) → drop n (slice_range xs a b) ≡ slice_range xs (a + n) b
-drop-part xs a b n = ap (drop n) (between_is xs a b) ∙ drop-drop n a (take b xs) ∙ sym (between_is xs (a + n) b)
 
 pub returns : goal.returns
 returns c =

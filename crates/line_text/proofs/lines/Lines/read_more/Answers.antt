@@ -1,7 +1,7 @@
 use Rattle.std.proofs.Common.{◌≡◌, ap, ◌∙◌, arith}
 use Rattle.std.proofs.lemmas.List.{with_items_is}
 use Rattle.line_text.specs.Pieces.{part_of}
-use Rattle.line_text.proofs.lines.Lines.refill.Goals as goal
+use Rattle.line_text.proofs.lines.Lines.read_more.Goals as goal
 
 pub returns-clause-reads : goal.returns-clause-reads
 returns-clause-reads g c =

@@ -1,6 +1,6 @@
 use super::networks::{Drawn, draw, graph};
 use super::walks::{Wanted, enumerate};
-use cost_vector::{Limit, NodeNo};
+use cost_vector::{Cost, Limit, NodeNo};
 use pareto_search::search;
 use path_readback::{Found, Room, walk};
 use plain_search::plain_search;
@@ -42,7 +42,6 @@ fn compare<R: Threads + Sync + Abort>(
         gate: &OpenGate,
     };
     let found = search(&crew, alloc, &graph, &weights, &query)?;
-    let mut room = Room::with(alloc, found.longest())?;
     assert_eq!(rt; found.count(), wanted.walks.len(), "{name}: costs");
     for (i, best) in wanted.walks.iter().enumerate() {
         assert!(rt; i < found.count());
@@ -51,6 +50,7 @@ fn compare<R: Threads + Sync + Abort>(
             assert!(rt; j < cost.count());
             assert_eq!(rt; cost.component(j), *sum, "{name}: cost {i}");
         }
+        let mut room = Room::with(alloc, found.longest())?;
         walk(&graph, &weights, &found, i, &mut room);
         assert_eq!(rt; room.arcs().len(), best.arcs.len(), "{name}: walk {i}");
         for (arc, number) in room.arcs().iter().zip(&best.arcs) {
@@ -60,7 +60,7 @@ fn compare<R: Threads + Sync + Abort>(
     Ok(())
 }
 
-/// Searches with a budget of one less than the relevant pairs, by both searches.
+/// Searches with a budget of one less than the relevant pairs.
 fn refuse<R: Threads + Sync + Abort>(
     rt: &R,
     alloc: Global,
@@ -73,9 +73,8 @@ fn refuse<R: Threads + Sync + Abort>(
     let limit = drawn.limit.as_slice();
     assert!(rt; 2 <= limit.len() && limit.len() <= 4 && limit.len() == graph.criteria());
     assert!(rt; graph.has_node(1) && graph.has_node(drawn.nodes));
-    assert!(rt;
-        1 <= wanted.relevant && wanted.relevant <= MAX_BUDGET && 1 <= workers && workers <= 64
-    );
+    assert!(rt; 1 <= wanted.relevant && wanted.relevant <= MAX_BUDGET);
+    assert!(rt; 1 <= workers && workers <= 64);
     let query = Query {
         from: NodeNo(1),
         to: NodeNo(drawn.nodes),
@@ -89,12 +88,31 @@ fn refuse<R: Threads + Sync + Abort>(
     };
     let refused = search(&crew, alloc, &graph, &weights, &query).err();
     assert_eq!(rt; refused, Some(SearchFault::Budget), "{name}: refusal");
-    let slowly = plain_search(alloc, &graph, &weights, &query).err();
-    assert_eq!(rt; slowly, Some(SearchFault::Budget), "{name}: plain refusal");
     Ok(())
 }
 
-/// The plain search finds as many costs.
+/// What the plain search answers.
+fn search_plainly(
+    rt: &impl Abort,
+    alloc: Global,
+    drawn: &Drawn,
+    budget: u32,
+) -> Result<Result<Vec<Cost>, SearchFault>, Fail> {
+    let (graph, weights) = graph(rt, alloc, drawn)?;
+    let limit = drawn.limit.as_slice();
+    assert!(rt; 2 <= limit.len() && limit.len() <= 4 && limit.len() == graph.criteria());
+    assert!(rt; graph.has_node(1) && graph.has_node(drawn.nodes));
+    assert!(rt; budget <= MAX_BUDGET);
+    let query = Query {
+        from: NodeNo(1),
+        to: NodeNo(drawn.nodes),
+        limit: Limit::of_places(limit),
+        budget,
+    };
+    Ok(plain_search(alloc, &graph, &weights, &query))
+}
+
+/// The plain search finds the same costs, and refuses the same budget.
 fn compare_plainly(
     rt: &impl Abort,
     alloc: Global,
@@ -102,18 +120,7 @@ fn compare_plainly(
     wanted: &Wanted,
 ) -> Result<(), Fail> {
     let name = drawn.name;
-    let (graph, weights) = graph(rt, alloc, drawn)?;
-    let limit = drawn.limit.as_slice();
-    assert!(rt; 2 <= limit.len() && limit.len() <= 4 && limit.len() == graph.criteria());
-    assert!(rt; graph.has_node(1) && graph.has_node(drawn.nodes));
-    assert!(rt; wanted.relevant <= MAX_BUDGET);
-    let query = Query {
-        from: NodeNo(1),
-        to: NodeNo(drawn.nodes),
-        limit: Limit::of_places(limit),
-        budget: wanted.relevant,
-    };
-    let costs = plain_search(alloc, &graph, &weights, &query)?;
+    let costs = search_plainly(rt, alloc, drawn, wanted.relevant)??;
     assert_eq!(rt; costs.len(), wanted.walks.len(), "{name}: plain costs");
     for (cost, best) in costs.iter().zip(&wanted.walks) {
         for (j, sum) in best.cost.iter().take(cost.count()).enumerate() {
@@ -121,6 +128,9 @@ fn compare_plainly(
             assert_eq!(rt; cost.component(j), *sum, "{name}: plain cost");
         }
     }
+    assert!(rt; 1 <= wanted.relevant);
+    let refused = search_plainly(rt, alloc, drawn, wanted.relevant - 1)?.err();
+    assert_eq!(rt; refused, Some(SearchFault::Budget), "{name}: plain refusal");
     Ok(())
 }
 

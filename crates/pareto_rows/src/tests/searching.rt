@@ -1,11 +1,13 @@
 use super::networks::{Drawn, draw, graph};
-use super::walks::{Wanted, enumerate};
+use super::walks::{Wanted, enumerate, wanted_reply};
+use answer_writer::{Form, put_answer};
 use cost_vector::{Cost, Limit, NodeNo};
 use pareto_search::search;
-use path_readback::{Found, Room, walk};
+use path_readback::{Found, Room};
 use plain_search::plain_search;
 use road_network::MAX_BUDGET;
 use route_io::OpenGate;
+use route_io::sure::SureSink;
 use route_query::{Query, SearchFault};
 use std::alloc::Global;
 use std::process::Abort;
@@ -16,7 +18,7 @@ use work_claim::Crew;
 /// How many networks are drawn.
 const NETWORKS: u64 = 240;
 
-/// Searches by so many workers, and compares the costs and the walks that are found with what is wanted.
+/// Searches by so many workers, and compares the reply with what is wanted.
 fn compare<R: Threads + Sync + Abort>(
     rt: &R,
     alloc: Global,
@@ -42,21 +44,13 @@ fn compare<R: Threads + Sync + Abort>(
         gate: &OpenGate,
     };
     let found = search(&crew, alloc, &graph, &weights, &query)?;
-    assert_eq!(rt; found.count(), wanted.walks.len(), "{name}: costs");
-    for (i, best) in wanted.walks.iter().enumerate() {
-        assert!(rt; i < found.count());
-        let cost = found.cost(i);
-        for (j, sum) in best.cost.iter().take(cost.count()).enumerate() {
-            assert!(rt; j < cost.count());
-            assert_eq!(rt; cost.component(j), *sum, "{name}: cost {i}");
-        }
-        let mut room = Room::with(alloc, found.longest())?;
-        walk(&graph, &weights, &found, i, &mut room);
-        assert_eq!(rt; room.arcs().len(), best.arcs.len(), "{name}: walk {i}");
-        for (arc, number) in room.arcs().iter().zip(&best.arcs) {
-            assert_eq!(rt; arc.0, *number, "{name}: walk {i}");
-        }
-    }
+    let mut room = Room::with(alloc, found.longest())?;
+    let mut text = SureSink::new(alloc);
+    let form = Form::Within { limit: query.limit };
+    let sent = put_answer(&mut text, 0, &graph, &weights, &found, &form, &mut room);
+    assert!(rt; sent.is_ok(), "{name}: sent");
+    let reply = wanted_reply(alloc, drawn, wanted)?;
+    assert_eq!(rt; text.sent(), reply.as_bytes(), "{name}: {workers} workers");
     Ok(())
 }
 

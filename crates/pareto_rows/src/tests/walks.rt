@@ -130,3 +130,48 @@ pub(super) fn enumerate(alloc: Global, drawn: &Drawn) -> Result<Wanted, AllocErr
     walks.sort_by_key(|walk| walk.cost)?;
     Ok(Wanted { walks, relevant })
 }
+
+/// The reply to the query, its walks within its limit.
+pub(super) fn wanted_reply(
+    alloc: Global,
+    drawn: &Drawn,
+    wanted: &Wanted,
+) -> Result<String, AllocError> {
+    let mut text = format!(in alloc; "l 0 1 {}", drawn.nodes)?;
+    for place in &drawn.limit {
+        match place {
+            Some(most) => put_number(alloc, &mut text, *most)?,
+            None => text.push_str(" -")?,
+        }
+    }
+    put_number(alloc, &mut text, wanted.walks.len() as u64)?;
+    text.push_str("\n")?;
+    for walk in &wanted.walks {
+        put_walk(alloc, &mut text, walk, drawn.limit.len())?;
+    }
+    Ok(text)
+}
+
+/// Appends the line of a walk.
+fn put_walk(
+    alloc: Global,
+    text: &mut String,
+    walk: &Walk,
+    criteria: usize,
+) -> Result<(), AllocError> {
+    text.push_str("p")?;
+    for sum in walk.cost.iter().take(criteria) {
+        put_number(alloc, text, *sum)?;
+    }
+    put_number(alloc, text, walk.arcs.len() as u64)?;
+    for arc in &walk.arcs {
+        put_number(alloc, text, u64::from(*arc))?;
+    }
+    text.push_str("\n")
+}
+
+/// Appends a space and a number.
+fn put_number(alloc: Global, text: &mut String, number: u64) -> Result<(), AllocError> {
+    let field = format!(in alloc; " {number}")?;
+    text.push_str(&field)
+}

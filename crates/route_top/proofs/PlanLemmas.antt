@@ -91,11 +91,10 @@ made_weights plan number bytes text is read some same made =
 pub files_say : (plan : GenPlan) → IsPlan plan → WeightFilesAreRead → (a n : ℕ) → 1 ≤ a
     → AllZip (λ number. IsGrFile reading_limits (file_text plan number)) (range_with_len a n) (map (file_of plan) (range_with_len a n))
 files_say plan is read a zero some = tt
-files_say plan is read a (suc n) some =
-    (
-      subst (λ text. IsGrFile reading_limits text (file_of plan a)) (sym (weight_file plan a some)) (read reading_limits plan a leave_room is),
-      files_say plan is read (a + 1) n (omega (arith, some)),
-    )
+files_say plan is read a (suc n) some = (
+  subst (λ text. IsGrFile reading_limits text (file_of plan a)) (sym (weight_file plan a some)) (read reading_limits plan a leave_room is),
+  files_say plan is read (a + 1) n (omega (arith, some)),
+)
 
 joined_nodes : (plan : GenPlan) (n : ℕ) → 1 ≤ n → (joined (map (file_of plan) (range_with_len 1 n))).nodes ≡ node_count plan.side
 joined_nodes plan zero some = absurd (omega (arith, some))

@@ -138,7 +138,8 @@ module _ (net : Network) (f : Found) (old : Summary) where
       let long = ap length so.costs in
       omega (arith, costs, long, length-map so.routes (λ (r : Route). r.cost), length-take-le n f.costs within)
 
-  module _ (i : ℕ) (c p : List ℕ) (at : slice_get f.costs i ≡ Some c) (walk : IfSome (slice_get f.costs i) (λ b. IsBackwardLeast net f.start f.target b p)) where
+  module _ (i : ℕ) (c p : List ℕ) (at : slice_get f.costs i ≡ Some c)
+      (walk : IfSome (slice_get f.costs i) (λ b. IsBackwardLeast net f.start f.target b p)) where
     least : IsBackwardLeast net f.start f.target c p
     least = subst (λ o. IfSome o (λ b. IsBackwardLeast net f.start f.target b p)) at walk
 

@@ -85,7 +85,8 @@ weight_file plan (suc n) some = refl
 pub made_weights : (plan : GenPlan) (number : ℕ) (bytes text : List ℕ) → IsPlan plan → WeightFilesAreRead → 1 ≤ number → bytes ≡ text
     → text ≡ file_text plan number → IsGrFile reading_limits bytes (file_of plan number)
 made_weights plan number bytes text is read some same made =
-    subst (λ t. IsGrFile reading_limits t (file_of plan number)) (sym (same ∙ made ∙ weight_file plan number some)) (read reading_limits plan number leave_room is)
+    subst (λ t. IsGrFile reading_limits t (file_of plan number)) (sym (same ∙ made ∙ weight_file plan number some))
+    (read reading_limits plan number leave_room is)
 
 -- the weight files of a plan say its network
 pub files_say : (plan : GenPlan) → IsPlan plan → WeightFilesAreRead → (a n : ℕ) → 1 ≤ a

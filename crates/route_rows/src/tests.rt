@@ -210,6 +210,14 @@ fn generated_files_have_their_bytes(rt: HostRuntime) -> Result<(), Fail> {
     Ok(())
 }
 
+#[test]
+fn summaries_have_their_counts(rt: HostRuntime) -> Result<(), Fail> {
+    for row in generated::SUMMARIES {
+        assert_row(&rt, rt.alloc(), row, 1)?;
+    }
+    Ok(())
+}
+
 /// The line and the kind of the fault of the first file where it is cut to a length below 56.
 fn cut_fault(length: usize) -> (usize, u8) {
     match length {

@@ -123,7 +123,13 @@ more_routes s routes r =
 module _ (net : Network) (f : Found) (old : Summary) where
   -- none was counted yet
   pub none_counted : AreFew old → HasCounted net f 0 old old
-  none_counted few = record { routes = []; costs = refl; walks = All-nil (λ r. IsBackwardLeast net f.start f.target r.cost r.arcs); counted = same_sums old _ _ _ _ _ _ (omega arith) (omega arith) (omega arith); sums = few }
+  none_counted few = record {
+    routes = [];
+    costs = refl;
+    walks = All-nil (λ r. IsBackwardLeast net f.start f.target r.cost r.arcs);
+    counted = same_sums old _ _ _ _ _ _ (omega arith) (omega arith) (omega arith);
+    sums = few;
+  }
 
   -- so many have come to the count of costs
   pub count_of_costs : (n : ℕ) (now : Summary) → n ≤ length f.costs → HasCounted net f n old now → now.costs ≡ old.costs + n
@@ -132,7 +138,8 @@ module _ (net : Network) (f : Found) (old : Summary) where
       let long = ap length so.costs in
       omega (arith, costs, long, length-map so.routes (λ (r : Route). r.cost), length-take-le n f.costs within)
 
-  module _ (i : ℕ) (c p : List ℕ) (at : slice_get f.costs i ≡ Some c) (walk : IfSome (slice_get f.costs i) (λ b. IsBackwardLeast net f.start f.target b p)) where
+  module _ (i : ℕ) (c p : List ℕ) (at : slice_get f.costs i ≡ Some c)
+      (walk : IfSome (slice_get f.costs i) (λ b. IsBackwardLeast net f.start f.target b p)) where
     least : IsBackwardLeast net f.start f.target c p
     least = subst (λ o. IfSome o (λ b. IsBackwardLeast net f.start f.target b p)) at walk
 

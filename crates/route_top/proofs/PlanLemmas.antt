@@ -85,17 +85,17 @@ weight_file plan (suc n) some = refl
 pub made_weights : (plan : GenPlan) (number : ℕ) (bytes text : List ℕ) → IsPlan plan → WeightFilesAreRead → 1 ≤ number → bytes ≡ text
     → text ≡ file_text plan number → IsGrFile reading_limits bytes (file_of plan number)
 made_weights plan number bytes text is read some same made =
-    subst (λ t. IsGrFile reading_limits t (file_of plan number)) (sym (same ∙ made ∙ weight_file plan number some)) (read reading_limits plan number leave_room is)
+    subst (λ t. IsGrFile reading_limits t (file_of plan number)) (sym (same ∙ made ∙ weight_file plan number some))
+    (read reading_limits plan number leave_room is)
 
 -- the weight files of a plan say its network
 pub files_say : (plan : GenPlan) → IsPlan plan → WeightFilesAreRead → (a n : ℕ) → 1 ≤ a
     → AllZip (λ number. IsGrFile reading_limits (file_text plan number)) (range_with_len a n) (map (file_of plan) (range_with_len a n))
 files_say plan is read a zero some = tt
-files_say plan is read a (suc n) some =
-    (
-      subst (λ text. IsGrFile reading_limits text (file_of plan a)) (sym (weight_file plan a some)) (read reading_limits plan a leave_room is),
-      files_say plan is read (a + 1) n (omega (arith, some)),
-    )
+files_say plan is read a (suc n) some = (
+  subst (λ text. IsGrFile reading_limits text (file_of plan a)) (sym (weight_file plan a some)) (read reading_limits plan a leave_room is),
+  files_say plan is read (a + 1) n (omega (arith, some)),
+)
 
 joined_nodes : (plan : GenPlan) (n : ℕ) → 1 ≤ n → (joined (map (file_of plan) (range_with_len 1 n))).nodes ≡ node_count plan.side
 joined_nodes plan zero some = absurd (omega (arith, some))

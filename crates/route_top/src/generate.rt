@@ -14,8 +14,10 @@ use crate::stop::Stop;
 use crate::summary::{Summary, put_summary};
 use command_words::GenWords;
 use cost_vector::OutOfMemory;
-use gen_laws::{networks_are_small, pair_files_are_read, pairs_have_nodes};
-use gen_laws::{weight_files_agree, weight_files_are_read};
+use gen_laws::{
+    networks_are_small, pair_files_are_read, pairs_have_nodes, weight_files_agree,
+    weight_files_are_read,
+};
 use graph_gen::{GenPlan, gen_file};
 use route_io::sure::SureSink;
 use route_io::{Gate, Sink};

@@ -45,7 +45,11 @@ fn shown_batch(alloc: Global, asked: &BatchWords) -> Result<String, AllocError> 
 }
 
 fn shown_gen(alloc: Global, asked: &GenWords) -> Result<String, AllocError> {
-    let (plan, file) = (asked.plan, asked.file.unwrap_or(u32::MAX));
+    let plan = asked.plan;
+    let file = match asked.file {
+        Some(number) => format!(in alloc; "{number}")?,
+        None => String::from_str(alloc, "all")?,
+    };
     let (start, side, criteria, pairs) = (plan.start, plan.side, plan.criteria, plan.pairs);
     let (budget, workers) = (asked.effort.budget, asked.effort.workers);
     format!(in alloc; "{start} {side} {criteria} {pairs} {file} {budget} {workers}")
@@ -155,6 +159,14 @@ const ASKED_GEN: &[(&str, &str)] = &[
         "--start 0 --side 2 --criteria 3 --pairs 1 --file 3 --workers 1 --budget 1",
         "0 2 3 1 3 1 1",
     ),
+    (
+        "--start 1 --side 2 --criteria 2 --pairs 1",
+        "1 2 2 1 all 10000000 1",
+    ),
+    (
+        "--pairs 500 --criteria 4 --side 1000 --start 0 --workers 8 --budget 7",
+        "0 1000 4 500 all 7 8",
+    ),
 ];
 
 #[test]
@@ -168,7 +180,7 @@ fn reads_the_words_of_gen(rt: HostRuntime) -> Result<(), Fail> {
 
 /// Words behind `gen` that are those of no command.
 const OTHER_GEN: &[&str] = &[
-    "--start 1 --side 2 --criteria 2 --pairs 1",
+    "--start 1 --side 2 --criteria 2 --pairs 1 --file",
     "--start 1 --side 2 --criteria 2 --pairs 1 --file 3",
     "--start 1 --side 2 --criteria 4 --pairs 1 --file 5",
     "--start 1 --side 2 --criteria 2 --pairs 1 --file 0 A.gr",

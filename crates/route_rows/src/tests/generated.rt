@@ -69,12 +69,44 @@ pub(super) const ROWS: &[Row] = &[
         out: "p aux sp p2p 3\nq 1 405\nq 3132 3536\nq 6364 6768\n",
         err: "",
     },
-    // What is made of all files is to come.
+];
+
+/// What all files of a plan come to.
+pub(super) const SUMMARIES: &[Row] = &[
     Row {
         words: "gen --start 1 --side 2 --criteria 2 --pairs 1",
         files: &[],
-        status: 2,
-        out: "",
-        err: "route: words\n",
+        status: 0,
+        out: "gen 4 8 2 1 1 0 1 2 200\n",
+        err: "",
+    },
+    Row {
+        words: "gen --start 7 --side 7 --criteria 3 --pairs 5",
+        files: &[],
+        status: 0,
+        out: "gen 49 168 3 5 5 0 80 690 89874\n",
+        err: "",
+    },
+    Row {
+        words: "gen --start 5 --side 3 --criteria 4 --pairs 1",
+        files: &[],
+        status: 0,
+        out: "gen 9 24 4 1 1 0 6 24 4420\n",
+        err: "",
+    },
+    // Budgets that all pairs pass, and that two of five do.
+    Row {
+        words: "gen --start 7 --side 7 --criteria 2 --pairs 5 --budget 60",
+        files: &[],
+        status: 0,
+        out: "gen 49 168 2 5 0 5 0 0 0\n",
+        err: "",
+    },
+    Row {
+        words: "gen --start 7 --side 7 --criteria 2 --pairs 5 --budget 110",
+        files: &[],
+        status: 0,
+        out: "gen 49 168 2 5 3 2 18 162 11016\n",
+        err: "",
     },
 ];

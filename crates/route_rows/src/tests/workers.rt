@@ -2,7 +2,7 @@
 use super::rows::{FIRST, SIX_ARCS};
 use super::{
     FIRST as WANTED, Outside, Row, Wanted, assert_err, assert_out, assert_run, assert_status,
-    folder_of, rows, walks,
+    folder_of, generated, rows, walks,
 };
 use route_io::{Gate, Phase};
 use std::alloc::{AllocError, Global};
@@ -36,6 +36,16 @@ fn answers_do_not_tell_the_workers(rt: HostRuntime) -> Result<(), Fail> {
             assert_with_workers(&rt, rt.alloc(), row, workers)?;
         }
         for row in rows::ROWS.iter().take(5) {
+            assert_with_workers(&rt, rt.alloc(), row, workers)?;
+        }
+    }
+    Ok(())
+}
+
+#[test]
+fn summaries_do_not_tell_the_workers(rt: HostRuntime) -> Result<(), Fail> {
+    for workers in [1u32, 8] {
+        for row in generated::SUMMARIES {
             assert_with_workers(&rt, rt.alloc(), row, workers)?;
         }
     }

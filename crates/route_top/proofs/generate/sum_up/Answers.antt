@@ -21,8 +21,12 @@ count_pairs-requires-clause-nodes g c κs within =
 
 pub count_pairs-requires-clause-few : goal.count_pairs-requires-clause-few
 count_pairs-requires-clause-few g c κs within =
-    omega (arith, ap length (c.deref.ensures.value ∙ c.in_ok-pairs.ensures), c.requires.plan.pairs,
-    length-map-range_with_len (pair_of c.args.asked.now.plan) 1 c.args.asked.now.plan.pairs)
+    omega (
+      arith,
+      ap length (c.deref.ensures.value ∙ c.in_ok-pairs.ensures),
+      c.requires.plan.pairs,
+      length-map-range_with_len (pair_of c.args.asked.now.plan) 1 c.args.asked.now.plan.pairs,
+    )
 
 pub returns : goal.returns
 returns g c =

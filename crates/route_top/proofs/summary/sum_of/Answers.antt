@@ -6,8 +6,14 @@ use Rattle.route_top.proofs.summary.sum_of.Goals as goal
 pub overflow_add-total : goal.overflow_add-total
 overflow_add-total c =
     let within : c.loop-i.i < length c.args.cost.now = omega (arith, c.loop-i-test.true, c.count-i-end.ensures.value) in
-    omega (arith, c.loop-i.invariant, c.component-total.ensures, sum_of_more c.args.cost.now c.loop-i.i within,
-    sum_of_part c.args.cost.now (c.loop-i.i + 1), c.requires)
+    omega (
+      arith,
+      c.loop-i.invariant,
+      c.component-total.ensures,
+      sum_of_more c.args.cost.now c.loop-i.i within,
+      sum_of_part c.args.cost.now (c.loop-i.i + 1),
+      c.requires,
+    )
 
 pub loop-i-preserved : goal.loop-i-preserved
 loop-i-preserved c =

@@ -6,11 +6,28 @@ use Rattle.front_rows.proofs.tests.rounds.merge_round.Goals as goal
 pub merge_all-requires-after_bounds : goal.merge_all-requires-after_bounds
 merge_all-requires-after_bounds g c κs within =
     let costs = c.args.settled.now in
-    let f = c.args.fronts.now in
-    (omega arith, (omega arith, (omega arith, (c.requires.at_least_one, (c.requires.at_most_64, (c.requires.four, (
-      sparing_nodes costs f 10 c.args.candidates.items c.requires.candidates c.requires.nodes,
-      sparing_spares costs f 10 c.args.candidates.items c.requires.candidates c.requires.knows,
-    )))))))
+    let f = c.args.fronts.now in (
+      omega arith,
+      (
+        omega arith,
+        (
+          omega arith,
+          (
+            c.requires.at_least_one,
+            (
+              c.requires.at_most_64,
+              (
+                c.requires.four,
+                (
+                  sparing_nodes costs f 10 c.args.candidates.items c.requires.candidates c.requires.nodes,
+                  sparing_spares costs f 10 c.args.candidates.items c.requires.candidates c.requires.knows,
+                ),
+              ),
+            ),
+          ),
+        ),
+      ),
+    )
 
 pub reserve-requires : goal.reserve-requires
 reserve-requires g c =
@@ -20,14 +37,19 @@ reserve-requires g c =
 pub apply-requires : goal.apply-requires
 apply-requires g c =
     let are = c.in_ok-merge_all.ensures.deltas in
-    let same = c.in_ok-reserve.ensures.same in
-    (omega arith, (omega arith, (
-      record {
-        candidates = c.args.candidates.items;
-        deltas = deltas_of_same c.args.fronts.now c.reserve.new.self c.args.candidates.items c.merge_all.new.deltas same are;
-      },
-      c.in_ok-reserve.ensures.room,
-    )))
+    let same = c.in_ok-reserve.ensures.same in (
+      omega arith,
+      (
+        omega arith,
+        (
+          record {
+            candidates = c.args.candidates.items;
+            deltas = deltas_of_same c.args.fronts.now c.reserve.new.self c.args.candidates.items c.merge_all.new.deltas same are;
+          },
+          c.in_ok-reserve.ensures.room,
+        ),
+      ),
+    )
 
 pub returns-clause-knows : goal.returns-clause-knows
 returns-clause-knows g c =

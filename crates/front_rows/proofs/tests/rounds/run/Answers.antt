@@ -14,18 +14,47 @@ loop-part-init g c = record {
 
 pub merge_round-requires-after_bounds : goal.merge_round-requires-after_bounds
 merge_round-requires-after_bounds g c κs within =
-    let read = c.deref-in-loop-part-3.ensures.value in
-    (omega arith, (omega arith, (omega arith, (omega arith, (c.requires.at_least_one, (c.requires.at_most_64, (c.requires.four, (
-      c.loop-part.invariant.nodes,
+    let read = c.deref-in-loop-part-3.ensures.value in (
+      omega arith,
       (
-        subst (λ (costs : List (CompactCost g.row.D)). KnowsAll costs c.loop-part.fronts) (sym read) c.loop-part.invariant.knows,
-        subst (λ (costs : List (CompactCost g.row.D)). All (IsSparing 10 costs) c.in_ok-candidates.candidates.items)
-            (c.deref-in-loop-part.ensures.value ∙ sym read) c.in_ok-candidates.ensures,
+        omega arith,
+        (
+          omega arith,
+          (
+            omega arith,
+            (
+              c.requires.at_least_one,
+              (
+                c.requires.at_most_64,
+                (
+                  c.requires.four,
+                  (
+                    c.loop-part.invariant.nodes,
+                    (
+                      subst (λ (costs : List (CompactCost g.row.D)). KnowsAll costs c.loop-part.fronts) (sym read) c.loop-part.invariant.knows,
+                      subst (λ (costs : List (CompactCost g.row.D)). All (IsSparing 10 costs) c.in_ok-candidates.candidates.items)
+                          (c.deref-in-loop-part.ensures.value ∙ sym read) c.in_ok-candidates.ensures,
+                    ),
+                  ),
+                ),
+              ),
+            ),
+          ),
+        ),
       ),
-    ))))))))
+    )
 
 pub settle_round-requires : goal.settle_round-requires
-settle_round-requires g c = (omega arith, (omega arith, (omega arith, (
-  c.in_ok-deltas.ensures.nodes,
-  subst (λ (costs : List (CompactCost g.row.D)). KnowsAll costs c.merge_round.new.fronts) c.deref-in-loop-part-3.ensures.value c.in_ok-deltas.ensures.knows,
-))))
+settle_round-requires g c = (
+  omega arith,
+  (
+    omega arith,
+    (
+      omega arith,
+      (
+        c.in_ok-deltas.ensures.nodes,
+        subst (λ (costs : List (CompactCost g.row.D)). KnowsAll costs c.merge_round.new.fronts) c.deref-in-loop-part-3.ensures.value c.in_ok-deltas.ensures.knows,
+      ),
+    ),
+  ),
+)

@@ -15,7 +15,7 @@ use Rattle.line_text.specs.declared.limits.Request.TheVariants.{Whole, Long}
 use Rattle.line_text.specs.Lines.{first_lf, raw_line, after_line, line_size, without_cr}
 use Rattle.line_text.specs.Pieces.{Fills}
 use Rattle.line_text.specs.Reading.{Lines, rest_of}
-use Rattle.line_text.specs.Requests.{request_by, first_request, request_of, request_text, RequestCounts, CountsEnd, CountsFault, PassesPart, TakesFirst, TellsRequest, Requests}
+use Rattle.line_text.specs.Requests.{request_by, first_request, request_of, request_text, RequestCounts, CountsEnd, CountsFault, FailsRead, PassesPart, TakesFirst, TellsRequest, Requests}
 use Rattle.line_text.specs.RequestSteps.{request_behind, past_request, TakesEnded, LacksEnd, EndsPast, EndsInput, without_held}
 use Rattle.line_text.proofs.LineLemmas.{BeginsAlike, begins_alike, begins_alike-nil, first_lf-le, first_lf-front, first_lf-grows, first_lf-part, length-raw_line, length-without_cr, lines_of-first}
 use Rattle.line_text.proofs.AdvancesLemmas.{rest_grown, told}
@@ -196,8 +196,11 @@ module _ (old now : Lines) (cut : Bool) (before after : SourceState) (cuts : Hol
       record { answer = request_of-past old.limits old.passed whole far; part = part_left more }))
 
   -- a read failed
-  requests_read : Requests old now before after (Err Read)
-  requests_read = rw cuts.stays (requests_by same (Err Read) refl counts_fault refl (λ more left. part_left more))
+  requests_read : first_lf now.held ≡ length now.held → now.passed + length now.held < now.limits.total → Requests old now before after (Err Read)
+  requests_read part within =
+      let total = rw cuts.stays at within in
+      let fails : FailsRead old same = record { counts = counts_fault; part = part; within = total } in
+      rw cuts.stays (requests_by same (Err Read) refl fails refl (λ more left. part_left more))
 
   -- the last line, which has no LF, is taken at the end of input, if there is a byte of it
   requests_end : (next : Lines) (result : Option Request) → EndsInput now next cut result → first_lf now.held ≡ length now.held
@@ -296,8 +299,10 @@ module _ (old now mid skipped next : Lines) (cut long : Bool) (before after late
       requests_end old next long before later cuts_more last answer ends (rw end.0 part_skipped) (rw (stays, end.0) within_skipped) end.1
 
   -- the read failed
-  pub requests_failed : Requests old next before later (Err Read)
-  requests_failed = requests_read old next long before later cuts_more
+  pub requests_failed : (failed : Failed) → result ≡ Err failed → Requests old next before later (Err Read)
+  requests_failed failed is_err =
+      let held = rw is_err at fills.answer in
+      requests_read old next long before later cuts_more (rw held part_skipped) (rw (stays, held) within_skipped)
 
   pub searched_none : length skipped.held ≤ first_lf next.held
   searched_none = rw fills.grown (first_lf-part skipped.held fills.more part_skipped)

@@ -42,6 +42,12 @@ pub record CountsFault (old new : Lines) : Type 0 where
   pub number : new.number ≡ old.number
   pub passed : old.passed ≤ new.passed
 
+-- A read failed: what is held has no whole line, and the total isn't reached.
+pub record FailsRead (old new : Lines) : Type 0 where
+  pub counts : CountsFault old new
+  pub part : first_lf new.held ≡ length new.held
+  pub within : new.passed + length new.held < new.limits.total
+
 -- The input has ended before the total, and no byte of it is left.
 pub record CountsEnd (old new : Lines) : Type 0 where
   pub counts : CountsNone old new
@@ -58,7 +64,7 @@ abbrev pub RequestCounts : Lines → Lines → Result (Option Request) LineFault
 RequestCounts old new (Ok (Some Whole)) = CountsLine old new
 RequestCounts old new (Ok (Some Long)) = CountsLong old new
 RequestCounts old new (Ok None) = CountsEnd old new
-RequestCounts old new (Err Read) = CountsFault old new
+RequestCounts old new (Err Read) = FailsRead old new
 RequestCounts old new (Err Total) = ReachesTotal old new
 RequestCounts old new (Err TooLong) = ⊥
 RequestCounts old new (Err OutOfMemory) = ⊥

@@ -35,4 +35,4 @@ pub returns-in-Err-refill_within-clause-requests : goal.returns-in-Err-refill_wi
 returns-in-Err-refill_within-clause-requests g c =
     let lacks = rw c.in-Ok-None.field-0-is at c.in-Ok-None.ensures in
     requests_failed _ _ _ _ _ _ _ _ _ _ _ c.loop-request.invariant.cuts lacks c.skip_long-cut.ensures.long c.skip_long-cut.ensures.skipped
-    c.refill_within.ensures.stays c.refill_within.ensures.none_past c.refill_within.ensures.reads
+    c.refill_within.ensures.stays c.refill_within.ensures.none_past c.refill_within.ensures.reads _ c.in-Err-refill_within.is

@@ -1,0 +1,8 @@
+//! Lanes: an operator publishes epochs while sessions ask of them, each on a thread of its own.
+#![tactic(auto)]
+
+mod report;
+mod run;
+
+pub use report::LaneReport;
+pub use run::{Court, run_lanes};

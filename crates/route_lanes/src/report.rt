@@ -1,0 +1,43 @@
+ghost use Rattle.std.specs.Prelude.{◌≡◌};
+
+use session_core::SessionEnd;
+use std::marker::Model;
+
+/// What became of a lane.
+#[derive(Drop)]
+pub struct LaneReport {
+    end: SessionEnd,
+    last: u32,
+    numbers: Vec<u32>,
+}
+
+impl Model for LaneReport {
+    ghost use Rattle.route_lanes.specs.Lanes.{LaneReport};
+
+    ghost Value = { LaneReport };
+
+    ghost view = { λ r. record { end = r.end; last = r.last; numbers = r.numbers.items } };
+}
+
+impl LaneReport {
+    /// How it ended.
+    pub fn end(&self) -> SessionEnd
+        ensures { result ≡ self.now.end }
+    {
+        self.end
+    }
+
+    /// The number of the last epoch that it came to see.
+    pub fn last(&self) -> u32
+        ensures { result ≡ self.now.last }
+    {
+        self.last
+    }
+
+    /// The numbers of the epochs that its replies named, in order. The operator's lane has none.
+    pub fn numbers(&self) -> &[u32]
+        ensures { result.now ≡ self.now.numbers }
+    {
+        &self.numbers
+    }
+}

@@ -1,0 +1,6 @@
+pub mod Lines
+pub mod Told
+pub mod Links
+pub mod Sessions
+pub mod Operators
+pub mod Parties

@@ -1,0 +1,84 @@
+-- What serving a link does: which lines were begun, and what was sent.
+use Rattle.std.specs.Prelude.{◌≡◌, ℕ, ◌<◌, ◌≤◌, ◌⊎◌, Bool, true, false, List, [], ◌∷◌, ◌++◌, Option, length, take}
+use Rattle.std.specs.Io.KnownBytes.{Appends, Consumes, IsAtEnd}
+use mathlib.Core.List.{IsPrefix}
+use Rattle.route_io.specs.Sinks.{SinkState, WritesTo}
+use Rattle.route_io.specs.Sources.{SourceState, ReadsFrom}
+use Rattle.line_text.specs.Lines.{lines_of}
+use Rattle.session_core.specs.declared.end.SessionEnd.{SessionEnd}
+use Rattle.session_core.specs.declared.end.SessionEnd.TheVariants.{Ended, ReadFault, WriteFault, TooLong, OutOfMemory}
+use Rattle.session_core.specs.Lines.{ended_lines}
+use Rattle.session_core.specs.Told.{Told, lines_told, text_told}
+
+-- the test that a session ended so
+abbrev pub is_read_fault : SessionEnd → Bool
+is_read_fault ReadFault = true
+is_read_fault end = false
+
+-- the test that a session ended so
+abbrev pub is_write_fault : SessionEnd → Bool
+is_write_fault WriteFault = true
+is_write_fault end = false
+
+-- All of the input was taken, and it is shorter than the total.
+pub record IsAll (total : ℕ) (taken : List ℕ) (left : Option (List ℕ)) : Type 0 where
+  pub at_end : IsAtEnd left
+  pub within : length taken < total
+
+-- The lines are the first ones of what was taken. A last one without an LF is among them only where all of the input was
+-- taken.
+abbrev pub AreFirst : ℕ → List ℕ → Option (List ℕ) → List (List ℕ) → Type 0
+AreFirst total taken left lines =
+    IsPrefix lines (ended_lines taken) ⊎ (IsAll total taken left × IsPrefix lines (lines_of taken))
+
+-- The lines are those before one that ends the session.
+pub record EndsByBye (IsBye : List ℕ → Type 0) (total : ℕ) (taken : List ℕ) (left : Option (List ℕ)) (lines : List (List ℕ))
+    : Type 0 where
+  pub bye : List ℕ
+  pub is_bye : IsBye bye
+  pub first : AreFirst total taken left (lines ++ bye ∷ [])
+
+-- which lines were begun, by how the session ended: those of the input, or those that an LF ends in what was taken, or,
+-- where a reply was cut or memory ran out, the first ones
+abbrev pub Begins : (List ℕ → Type 0) → ℕ → List ℕ → Option (List ℕ) → SessionEnd → List (List ℕ) → Type 0
+Begins IsBye total taken left Ended lines =
+    EndsByBye IsBye total taken left lines ⊎ (IsAll total taken left × (lines ≡ lines_of taken))
+Begins IsBye total taken left ReadFault lines = (length taken < total) × (lines ≡ ended_lines taken)
+Begins IsBye total taken left TooLong lines = (length taken ≡ total) × (lines ≡ ended_lines taken)
+Begins IsBye total taken left WriteFault lines = AreFirst total taken left lines
+Begins IsBye total taken left OutOfMemory lines = AreFirst total taken left lines
+
+-- All replies were sent but for the last one, of which a part from the front was, short of the whole.
+pub record CutsLast (old new : SinkState) (told : List Told) : Type 0 where
+  pub front : List Told
+  pub last : Told
+  pub parts : told ≡ front ++ last ∷ []
+  pub size : ℕ
+  pub short : size < length last.reply
+  pub sent : Appends old.sent new.sent (text_told front ++ take size last.reply)
+
+-- what was sent, by how the session ended and whether the sink itself wanted memory
+abbrev pub SendsReplies : SessionEnd → Bool → SinkState → SinkState → List Told → Type 0
+SendsReplies WriteFault wanted old new told = CutsLast old new told
+SendsReplies OutOfMemory true old new told = CutsLast old new told
+SendsReplies end wanted old new told = Appends old.sent new.sent (text_told told)
+
+-- Lines that come from a link were replied to on it, one after another, until the session ended so. `Runs` says how lines
+-- with their replies led on, `IsBye` which line ends a session, and at most `total` bytes were taken.
+pub record Serves {State : Type 0} (Runs : State → List Told → State → Type 0) (IsBye : List ℕ → Type 0) (total : ℕ)
+    (old new : State) (from after : SourceState) (to replied : SinkState) (end : SessionEnd) : Type 0 where
+  -- the lines that were begun, with their replies
+  pub told : List Told
+  pub runs : Runs old told new
+  -- the bytes that were taken from the source, where it tells them
+  pub taken : List ℕ
+  pub takes : Consumes from.left after.left taken
+  pub within : length taken ≤ total
+  pub begun : Begins IsBye total taken after.left end (lines_told told)
+  -- whether the sink itself wanted memory
+  pub wanted : Bool
+  pub wants : wanted ≡ true → end ≡ OutOfMemory
+  pub sent : SendsReplies end wanted to replied told
+  -- the source's failures alone make a read fault, and those of the sink a write fault
+  pub reads : ReadsFrom from after (is_read_fault end)
+  pub writes : WritesTo to replied (is_write_fault end) wanted

@@ -1,0 +1,19 @@
+//! Sessions and the operator of a store of epochs: line by line, what they ask and what is replied.
+//!
+//! Each line that isn't blank gets its whole reply before more is read from the link. One loop serves both: a party says
+//! what one line does.
+#![tactic(auto)]
+
+mod desk;
+mod end;
+mod host;
+mod operator;
+mod party;
+mod serve;
+mod session;
+
+pub use desk::Desk;
+pub use end::SessionEnd;
+pub use host::Host;
+pub use operator::serve_operator;
+pub use session::Session;

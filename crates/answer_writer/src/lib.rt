@@ -3,10 +3,13 @@
 
 mod answer;
 mod form;
+mod line;
 mod page;
 mod piece;
 mod refusal;
 
 pub use answer::put_answer;
 pub use form::Form;
+pub use line::put_line;
+pub use piece::Piece;
 pub use refusal::put_refusal;

@@ -12,7 +12,7 @@ use route_io::{Sink, WriteFault};
 
 /// A part of a line.
 #[derive(Clone, Copy, Debug)]
-pub(crate) enum Piece<'a> {
+pub enum Piece<'a> {
     /// A short text.
     Text(&'a str),
     /// A space and a number in decimal.

@@ -1,9 +1,8 @@
 //! The text of a refusal.
 ghost use Rattle.route_io.specs.Sinks.{Sends};
-ghost use Rattle.answer_writer.specs.Pages.{Gathers};
 ghost use Rattle.answer_writer.specs.Replies.{refusal};
 
-use crate::page::Page;
+use crate::line::put_line;
 use crate::piece::Piece;
 use route_io::{Sink, WriteFault};
 
@@ -20,35 +19,16 @@ pub fn put_refusal<K: Sink>(
     ensures { Sends (K.state sink.old) (K.state sink.new)
         (refusal epoch start target why.now) result }
 {
-    let mut page = Page::new();
-    page.put_refusal_line(sink, epoch, start, target, why)?;
-    page.send(sink)
-}
-
-impl Page {
-    /// Puts the line of a refusal.
-    fn put_refusal_line<K: Sink>(
-        &mut self,
-        sink: &mut K,
-        epoch: u32,
-        start: u32,
-        target: u32,
-        why: &str,
-    ) -> Result<(), WriteFault>
-        ensures { Gathers (K.state sink.old) (K.state sink.new) self.old self.new
-            (refusal epoch start target why.now) result }
-    {
-        use Piece::{Number, Text};
-        self.put_pieces(
-            sink,
-            &[
-                Text("x"),
-                Number(u64::from(epoch)),
-                Number(u64::from(start)),
-                Number(u64::from(target)),
-                Text(why),
-                Text("\n"),
-            ],
-        )
-    }
+    use Piece::{Number, Text};
+    put_line(
+        sink,
+        &[
+            Text("x"),
+            Number(u64::from(epoch)),
+            Number(u64::from(start)),
+            Number(u64::from(target)),
+            Text(why),
+            Text("\n"),
+        ],
+    )
 }

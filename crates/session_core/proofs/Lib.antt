@@ -1,2 +1,3 @@
 mod StubLemmas
 pub mod StayLemmas
+mod LineKindLemmas

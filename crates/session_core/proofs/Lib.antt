@@ -1,1 +1,3 @@
 mod StubLemmas
+pub mod StayLemmas
+mod LineKindLemmas

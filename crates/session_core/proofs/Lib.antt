@@ -1,2 +1,4 @@
 mod StubLemmas
 mod LineKindLemmas
+mod AnswersLineLemmas
+mod OperatorRunLemmas

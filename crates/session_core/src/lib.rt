@@ -7,7 +7,9 @@
 mod desk;
 mod end;
 mod host;
+mod obey;
 mod operator;
+mod operator_reply;
 mod party;
 mod serve;
 mod session;

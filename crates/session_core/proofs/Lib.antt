@@ -1,3 +1,5 @@
 mod StubLemmas
 pub mod StayLemmas
 mod LineKindLemmas
+mod AnswersLineLemmas
+mod OperatorRunLemmas

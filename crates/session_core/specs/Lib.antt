@@ -3,4 +3,5 @@ pub mod Told
 pub mod Links
 pub mod Sessions
 pub mod Operators
+pub mod OperatorReplies
 pub mod Parties

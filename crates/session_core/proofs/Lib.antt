@@ -1,1 +1,3 @@
 mod StubLemmas
+mod LinesLemmas
+mod FeedLemmas

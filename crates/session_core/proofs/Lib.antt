@@ -1,3 +1,4 @@
 mod StubLemmas
 mod LinesLemmas
 mod FeedLemmas
+mod ServesLemmas

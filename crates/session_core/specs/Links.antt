@@ -82,7 +82,7 @@ pub record Serves {State : Type 0} (Runs : State → List Told → State → Typ
   -- each of them took a byte at least
   pub each : length told ≤ total
   -- where the source tells its bytes, they are the lines of those that were taken
-  pub begun : IfSome from.left (λ _. TakesLines IsBye total from.left after.left end (lines_told told))
+  pub lines : IfSome from.left (λ _. TakesLines IsBye total from.left after.left end (lines_told told))
   -- whether the sink itself wanted memory
   pub wanted : Bool
   pub wants : wanted ≡ true → end ≡ OutOfMemory

@@ -1,0 +1,261 @@
+-- A link is served line by line.
+use Rattle.std.proofs.Common.{◌≡◌, ℕ, ◌+◌, ◌<◌, ◌≤◌, ◌⊎◌, max, Bool, true, false, List, [], ◌∷◌, ◌++◌, Option, Some, None, IfSome, Result, Ok, Err, length, map, take, replicate, refl, sym, ap, subst, ◌∙◌, arith, append_assoc, append-nil, length-append, ⊎_elim, inl, inr}
+use Rattle.std.proofs.KnownBytes.{Appends-trans, Consumes-nil, Appends-nil}
+use Rattle.std.proofs.lemmas.Grind.{flat_map-append}
+use Rattle.std.proofs.lemmas.List.{map-append, length-replicate}
+use Rattle.std.specs.Io.KnownBytes.{Appends, Consumes, IsAtEnd, prepend_known}
+use Rattle.std.specs.List.{flat_map}
+use Rattle.std.specs.Result.{result_err}
+use mathlib.Core.List.{IsPrefix}
+use Rattle.route_io.specs.Sinks.{SinkState, Sends, WriteHasCause}
+use Rattle.route_io.specs.Sources.{SourceState, ReadsFrom}
+use Rattle.route_io.specs.declared.fault.WriteFault.{WriteFault as Cut}
+use Rattle.route_io.specs.declared.fault.WriteFault.TheVariants as write
+use Rattle.route_io.proofs.ReadsLemmas.{ReadsFrom-then}
+use Rattle.route_io.proofs.SendsLemmas.{Sends-then}
+use Rattle.line_text.specs.Lines.{first_lf, raw_line, lines_of}
+use Rattle.line_text.specs.Reading.{Lines, begun, line_failed, rest_of}
+use Rattle.line_text.specs.Requests.{RequestCounts, Requests, TakesFirst, TellsRequest}
+use Rattle.line_text.specs.declared.limits.LineFault.{LineFault}
+use Rattle.line_text.specs.declared.limits.LineFault.TheVariants as line
+use Rattle.line_text.specs.declared.limits.Request.{Request}
+use Rattle.line_text.specs.declared.limits.Request.TheVariants.{Whole, Long}
+use Rattle.line_text.proofs.LineLemmas.{first_lf-le}
+use Rattle.epoch_store.proofs.PrefixLemmas.{prefix_trans}
+use Rattle.query_replies.specs.declared.fault.ReplyFault.{ReplyFault}
+use Rattle.query_replies.specs.declared.fault.ReplyFault.TheVariants as reply
+use Rattle.session_core.specs.declared.end.SessionEnd.{SessionEnd}
+use Rattle.session_core.specs.declared.end.SessionEnd.TheVariants.{Ended, ReadFault, WriteFault, TooLong, OutOfMemory}
+use Rattle.session_core.specs.declared.party.Answered.{Answered}
+use Rattle.session_core.specs.declared.party.Answered.TheVariants.{Replied, Bye}
+use Rattle.session_core.specs.Lines.{IsText, ended_lines, max_request}
+use Rattle.session_core.specs.Links.{AreFirst, Begins, CutsLast, IsAll, SendsReplies, Serves, TakesLines, is_read_fault, is_write_fault}
+use Rattle.session_core.specs.Parties.{AnswersLine, TellsOne}
+use Rattle.session_core.specs.Serving.{AreAll, AreEnded, PassesLines, Served, ServesOne, end_by_answer, end_by_input}
+use Rattle.session_core.specs.Told.{Told, lines_told, text_told}
+use Rattle.session_core.proofs.FeedLemmas.{answer_past, ends_at, first_text, takes_all, takes_line, takes_up_to}
+
+-- ---- one more line is told
+
+lines_more : (told : List Told) (one : Told) (raw : List ℕ) → one.line ≡ raw → lines_told (told ++ one ∷ []) ≡ lines_told told ++ raw ∷ []
+lines_more told one raw e = map-append (λ t. t.line) told (one ∷ []) ∙ ap (λ line. lines_told told ++ line ∷ []) e
+
+text_more : (told : List Told) (one : Told) → text_told (told ++ one ∷ []) ≡ text_told told ++ one.reply
+text_more told one =
+    flat_map-append (λ (t : Told). t.reply) told (one ∷ []) ∙ ap (λ text. text_told told ++ text) (append-nil one.reply)
+
+-- fewer lines are the first ones too
+first_without : (total : ℕ) (taken : List ℕ) (left : Option (List ℕ)) (lines more : List (List ℕ)) → AreFirst total taken left (lines ++ more)
+    → AreFirst total taken left lines
+first_without total taken left lines more first =
+    ⊎_elim (λ (p : IsPrefix (lines ++ more) (ended_lines taken)). inl (prefix_trans lines (lines ++ more) (ended_lines taken) (more, refl) p))
+    (λ (q : IsAll total taken left × IsPrefix (lines ++ more) (lines_of taken)).
+    inr (q.0, prefix_trans lines (lines ++ more) (lines_of taken) (more, refl) q.1)) first
+
+module _ {State : Type 0} (Runs : State → List Told → State → Type 0) (IsBye : List ℕ → Type 0) (total : ℕ) where
+  -- before the first line
+  pub served_none : (old : State) (from : SourceState) (to : SinkState) → Runs old [] old
+      → Served Runs total old old from from to to (begun (record { line = max_request; total = total }))
+  served_none old from to runs = record {
+    told = [];
+    runs = runs;
+    limits = refl;
+    keeps_none = refl;
+    within = omega arith;
+    each = omega arith;
+    passes = by from.left;
+    sent = record { bytes = Appends-nil to.sent; cause = record { faults = refl; wants = refl } };
+    reads = record { cause = refl; files = refl };
+  } where
+    by : (left : Option (List ℕ)) → IfSome left (λ text. PassesLines total text (begun (record { line = max_request; total = total })) left [])
+    by None = tt
+    by (Some text) = record {
+      passed = [];
+      rest = text;
+      parts = refl;
+      behind = refl;
+      size = refl;
+      are = inl (record { all = λ more. refl; ended = λ more. refl });
+    }
+
+  -- where the lines are first ones of what was taken, and an end says so of those told
+  takes_by : (reader : Lines) (left : Option (List ℕ)) (lines told : List (List ℕ)) (end : SessionEnd) → reader.passed + length reader.held ≤ total
+      → ((taken : List ℕ) → AreFirst total taken left lines → Begins IsBye total taken left end told) → (given : Option (List ℕ))
+      → IfSome given (λ text. PassesLines total text reader left lines) → IfSome given (λ _. TakesLines IsBye total given left end told)
+  takes_by reader left lines told end within begun None passes = tt
+  takes_by reader left lines told end within begun (Some text) passes =
+      let up_to = takes_up_to total text reader left lines passes within in
+      record { taken = up_to.taken; takes = up_to.takes; within = up_to.within; begun = begun up_to.taken up_to.first }
+
+  module _ (old mid : State) (from before : SourceState) (to sunk : SinkState) (reader : Lines) (served : Served Runs total old mid from before to sunk reader)
+      where
+    is_total : reader.limits.total ≡ total
+    is_total = ap (λ limits. limits.total) served.limits
+
+    -- nothing more is done, for want of memory
+    pub serves_no_more : Serves Runs IsBye total old mid from before to sunk OutOfMemory
+    serves_no_more = record {
+      told = served.told;
+      runs = served.runs;
+      each = omega (arith, served.each, served.within);
+      lines = takes_by reader before.left (lines_told served.told) (lines_told served.told) OutOfMemory served.within (λ taken first. first) from.left served.passes;
+      wanted = false;
+      wants = λ e. absurd cc;
+      sent = served.sent.bytes;
+      reads = served.reads;
+      writes = served.sent.cause;
+    }
+
+    module _ (next : Lines) (after : SourceState) where
+      -- what the source has left is told, and the request is that of the rest
+      request_told : (result : Result (Option Request) LineFault) → Requests reader next before after result → (text : List ℕ)
+          → (passes : PassesLines total text reader before.left (lines_told served.told))
+          → TellsRequest reader next passes.rest (prepend_known next.held after.left) result
+      request_told result requests text passes =
+          subst (λ left. IfSome left (λ rest. TellsRequest reader next rest (rest_of next after) result)) passes.behind requests.request
+
+      within_next : (result : Result (Option Request) LineFault) → Requests reader next before after result → next.passed + length next.held ≤ total
+      within_next result requests = omega (arith, requests.none_past, served.within, is_total)
+
+      -- ---- the next line, and what becomes of it
+
+      module _ (asked : Request) (requests : Requests reader next before after (Ok (Some asked))) where
+        more_passed : reader.passed < next.passed
+        more_passed = by asked requests.counts where
+          by : (r : Request) → RequestCounts reader next (Ok (Some r)) → reader.passed < next.passed
+          by Whole whole = whole.counts.more
+          by Long counts = omega (arith, counts.more)
+
+        is_line : reader.limits.line ≡ max_request
+        is_line = ap (λ limits. limits.line) served.limits
+
+        -- over every source there is a line that has this text
+        some_line : (raw : List ℕ) × IsText asked next.text raw
+        some_line = by asked requests.counts where
+          by : (r : Request) → RequestCounts reader next (Ok (Some r)) → (raw : List ℕ) × IsText r next.text raw
+          by Whole whole = (whole.raw, (omega (arith, whole.short, is_line), whole.text))
+          by Long counts = (replicate (max_request + 1) 0, omega (arith, length-replicate {A = ℕ} (max_request + 1) 0))
+
+        -- The line has this text, and it was passed behind the others.
+        pub record IsNext (raw : List ℕ) : Type 0 where
+          pub is : IsText asked next.text raw
+          pub passes : IfSome from.left (λ text. PassesLines total text next after.left (lines_told served.told ++ raw ∷ []))
+
+        next_line : (raw : List ℕ) × IsNext raw
+        next_line = by from.left served.passes (λ raw is passes. (raw, record { is = is; passes = passes })) where
+          by : {T : Type 0} (left : Option (List ℕ)) → IfSome left (λ text. PassesLines total text reader before.left (lines_told served.told))
+              → ((raw : List ℕ) → IsText asked next.text raw
+              → IfSome left (λ text. PassesLines total text next after.left (lines_told served.told ++ raw ∷ [])) → T) → T
+          by None passes then = then some_line.0 some_line.1 tt
+          by (Some text) passes then =
+              let takes = request_told (Ok (Some asked)) requests text passes in
+              then (raw_line passes.rest) (first_text reader next passes.rest (rest_of next after) asked is_line takes)
+              (takes_line total text reader before.left (lines_told served.told) passes next after.left asked is_total takes)
+
+        -- what a party does with the line
+        module _ (raw : List ℕ) (is_next : IsNext raw) (new : State) (replied : SinkState) (source : ReadsFrom before after false) (keeps : next.fault ≡ None)
+            where
+          within : next.passed + length next.held ≤ total
+          within = within_next (Ok (Some asked)) requests
+
+          abbrev lines : List (List ℕ)
+          lines = lines_told served.told ++ raw ∷ []
+
+          module _ (cut : Result (Unit {0}) Cut) (tells : TellsOne (λ more. Runs old more new) served.told raw sunk replied cut) where
+            abbrev told_one : List Told
+            told_one = served.told ++ tells.one ∷ []
+
+            each_one : length told_one ≤ next.passed
+            each_one = omega (arith, length-append served.told (tells.one ∷ []), served.each, more_passed)
+
+            sent_one : Sends to replied (text_told served.told ++ tells.one.reply) cut
+            sent_one = Sends-then to sunk replied (text_told served.told) tells.one.reply cut served.sent tells.sent
+
+            passes_one : IfSome from.left (λ text. PassesLines total text next after.left (lines_told told_one))
+            passes_one =
+                subst (λ told. IfSome from.left (λ text. PassesLines total text next after.left told))
+                (sym (lines_more served.told tells.one raw tells.line)) is_next.passes
+
+            begun_one : (end : SessionEnd) → ((taken : List ℕ) → AreFirst total taken after.left (lines_told told_one)
+                → Begins IsBye total taken after.left end (lines_told told_one))
+                → IfSome from.left (λ _. TakesLines IsBye total from.left after.left end (lines_told told_one))
+            begun_one end begun = takes_by next after.left (lines_told told_one) (lines_told told_one) end within begun from.left passes_one
+
+          -- the line has its whole reply
+          goes_on : TellsOne (λ more. Runs old more new) served.told raw sunk replied (Ok tt) → Served Runs total old new from after to replied next
+          goes_on tells = record {
+            told = served.told ++ tells.one ∷ [];
+            runs = tells.led;
+            limits = requests.limits ∙ served.limits;
+            keeps_none = keeps;
+            within = within;
+            each = each_one (Ok tt) tells;
+            passes = passes_one (Ok tt) tells;
+            sent = rw (text_more served.told tells.one) (sent_one (Ok tt) tells);
+            reads = ReadsFrom-then from before after false served.reads source;
+          }
+
+          -- a fault cut the reply to the line
+          cuts_last : (cut : Cut) (tells : TellsOne (λ more. Runs old more new) served.told raw sunk replied (Err cut))
+              → CutsLast to replied (told_one (Err cut) tells)
+          cuts_last cut tells = record {
+            front = served.told;
+            last = tells.one;
+            parts = refl;
+            size = tells.sent.bytes.0;
+            short = tells.sent.bytes.1;
+            sent = Appends-trans to.sent sunk.sent replied.sent (text_told served.told) (take tells.sent.bytes.0 tells.one.reply)
+                served.sent.bytes tells.sent.bytes.2;
+          }
+
+          ends_cut : (cut : Cut) → TellsOne (λ more. Runs old more new) served.told raw sunk replied (Err cut)
+              → ServesOne Runs IsBye total old new from after to replied next (end_by_answer (Err (reply.Out cut)))
+          ends_cut write.Failed tells = record {
+            told = told_one (Err write.Failed) tells;
+            runs = tells.led;
+            each = omega (arith, each_one (Err write.Failed) tells, within);
+            lines = begun_one (Err write.Failed) tells WriteFault (λ taken first. first);
+            wanted = false;
+            wants = λ e. absurd cc;
+            sent = cuts_last write.Failed tells;
+            reads = ReadsFrom-then from before after false served.reads source;
+            writes = (sent_one (Err write.Failed) tells).cause;
+          }
+          ends_cut write.OutOfMemory tells = record {
+            told = told_one (Err write.OutOfMemory) tells;
+            runs = tells.led;
+            each = omega (arith, each_one (Err write.OutOfMemory) tells, within);
+            lines = begun_one (Err write.OutOfMemory) tells OutOfMemory (λ taken first. first);
+            wanted = true;
+            wants = λ e. refl;
+            sent = cuts_last write.OutOfMemory tells;
+            reads = ReadsFrom-then from before after false served.reads source;
+            writes = (sent_one (Err write.OutOfMemory) tells).cause;
+          }
+
+          -- the line isn't told, and nothing was sent
+          ends_untold : (end : SessionEnd) → ((taken : List ℕ) → AreFirst total taken after.left lines → Begins IsBye total taken after.left end (lines_told served.told))
+              → Runs old served.told new → replied ≡ sunk → is_read_fault end ≡ false → is_write_fault end ≡ false → SendsReplies end false to sunk served.told
+              → Serves Runs IsBye total old new from after to replied end
+          ends_untold end begun runs same no_read no_write sent = record {
+            told = served.told;
+            runs = runs;
+            each = omega (arith, served.each, more_passed, within);
+            lines = takes_by next after.left lines (lines_told served.told) end within begun from.left is_next.passes;
+            wanted = false;
+            wants = λ e. absurd cc;
+            sent = rw same sent;
+            reads = rw no_read (ReadsFrom-then from before after false served.reads source);
+            writes = rw (same, no_write) served.sent.cause;
+          }
+
+          -- as the line was answered
+          pub serves_one : (answer : Result Answered ReplyFault) → AnswersLine (λ more. Runs old more new) IsBye served.told raw sunk replied answer
+              → ServesOne Runs IsBye total old new from after to replied next (end_by_answer answer)
+          serves_one (Ok Replied) answers = goes_on answers
+          serves_one (Ok Bye) answers =
+              ends_untold Ended (λ taken first. inl (record { bye = raw; is_bye = answers.0; first = first })) answers.1 answers.2 refl refl served.sent.bytes
+          serves_one (Err (reply.Out cut)) answers = ends_cut cut answers
+          serves_one (Err reply.OutOfMemory) answers =
+              ends_untold OutOfMemory (λ taken first. first_without total taken after.left (lines_told served.told) (raw ∷ []) first) answers.0 answers.1
+              refl refl served.sent.bytes

@@ -20,7 +20,7 @@ use Rattle.line_text.specs.declared.limits.LineFault.{LineFault}
 use Rattle.line_text.specs.declared.limits.LineFault.TheVariants as line
 use Rattle.line_text.specs.declared.limits.Request.{Request}
 use Rattle.line_text.specs.declared.limits.Request.TheVariants.{Whole, Long}
-use Rattle.line_text.proofs.LineLemmas.{first_lf-le}
+use Rattle.line_text.proofs.LineLemmas.{first_lf-le, length-raw_line}
 use Rattle.epoch_store.proofs.PrefixLemmas.{prefix_trans}
 use Rattle.query_replies.specs.declared.fault.ReplyFault.{ReplyFault}
 use Rattle.query_replies.specs.declared.fault.ReplyFault.TheVariants as reply
@@ -141,19 +141,15 @@ module _ {State : Type 0} (Runs : State → List Told → State → Type 0) (IsB
           pub is : IsText asked next.text raw
           pub passes : IfSome from.left (λ text. PassesLines total text next after.left (lines_told served.told ++ raw ∷ []))
 
-        next_line : (raw : List ℕ) × IsNext raw
-        next_line = by from.left served.passes (λ raw is passes. (raw, record { is = is; passes = passes })) where
-          by : {T : Type 0} (left : Option (List ℕ)) → IfSome left (λ text. PassesLines total text reader before.left (lines_told served.told))
-              → ((raw : List ℕ) → IsText asked next.text raw
-              → IfSome left (λ text. PassesLines total text next after.left (lines_told served.told ++ raw ∷ [])) → T) → T
-          by None passes then = then some_line.0 some_line.1 tt
-          by (Some text) passes then =
-              let takes = request_told (Ok (Some asked)) requests text passes in
-              then (raw_line passes.rest) (first_text reader next passes.rest (rest_of next after) asked is_line takes)
-              (takes_line total text reader before.left (lines_told served.told) passes next after.left asked is_total takes)
+        is_next : (raw : List ℕ) (left : Option (List ℕ)) → from.left ≡ left → IsText asked next.text raw
+            → IfSome left (λ text. PassesLines total text next after.left (lines_told served.told ++ raw ∷ [])) → IsNext raw
+        is_next raw left e is passes = record {
+          is = is;
+          passes = subst (λ given. IfSome given (λ text. PassesLines total text next after.left (lines_told served.told ++ raw ∷ []))) (sym e) passes;
+        }
 
         -- what a party does with the line
-        module _ (raw : List ℕ) (is_next : IsNext raw) (new : State) (replied : SinkState) (source : ReadsFrom before after false) (keeps : next.fault ≡ None)
+        module _ (raw : List ℕ) (line : IsNext raw) (new : State) (replied : SinkState) (source : ReadsFrom before after false) (keeps : next.fault ≡ None)
             where
           within : next.passed + length next.held ≤ total
           within = within_next (Ok (Some asked)) requests
@@ -174,7 +170,7 @@ module _ {State : Type 0} (Runs : State → List Told → State → Type 0) (IsB
             passes_one : IfSome from.left (λ text. PassesLines total text next after.left (lines_told told_one))
             passes_one =
                 subst (λ told. IfSome from.left (λ text. PassesLines total text next after.left told))
-                (sym (lines_more served.told tells.one raw tells.line)) is_next.passes
+                (sym (lines_more served.told tells.one raw tells.line)) line.passes
 
             begun_one : (end : SessionEnd) → ((taken : List ℕ) → AreFirst total taken after.left (lines_told told_one)
                 → Begins IsBye total taken after.left end (lines_told told_one))
@@ -241,7 +237,7 @@ module _ {State : Type 0} (Runs : State → List Told → State → Type 0) (IsB
             told = served.told;
             runs = runs;
             each = omega (arith, served.each, more_passed, within);
-            lines = takes_by next after.left lines (lines_told served.told) end within begun from.left is_next.passes;
+            lines = takes_by next after.left lines (lines_told served.told) end within begun from.left line.passes;
             wanted = false;
             wants = λ e. absurd cc;
             sent = rw same sent;
@@ -259,3 +255,104 @@ module _ {State : Type 0} (Runs : State → List Told → State → Type 0) (IsB
           serves_one (Err reply.OutOfMemory) answers =
               ends_untold OutOfMemory (λ taken first. first_without total taken after.left (lines_told served.told) (raw ∷ []) first) answers.0 answers.1
               refl refl served.sent.bytes
+
+        -- the next line was answered
+        pub serves_next : (new : State) (replied : SinkState) (answer : Result Answered ReplyFault) → ReadsFrom before after false → next.fault ≡ None
+            → ((told : List Told) (raw : List ℕ) → IsText asked next.text raw → Runs old told mid
+            → AnswersLine (λ more. Runs old more new) IsBye told raw sunk replied answer)
+            → ServesOne Runs IsBye total old new from after to replied next (end_by_answer answer)
+        serves_next new replied answer source keeps answers = by from.left refl served.passes where
+          by : (left : Option (List ℕ)) → from.left ≡ left → IfSome left (λ text. PassesLines total text reader before.left (lines_told served.told))
+              → ServesOne Runs IsBye total old new from after to replied next (end_by_answer answer)
+          by None told passes =
+              serves_one some_line.0 (is_next some_line.0 None told some_line.1 tt) new replied source keeps answer
+              (answers served.told some_line.0 some_line.1 served.runs)
+          by (Some text) told passes =
+              let takes = request_told (Ok (Some asked)) requests text passes in
+              let is = first_text reader next passes.rest (rest_of next after) asked is_line takes in
+              let line = takes_line total text reader before.left (lines_told served.told) passes next after.left asked is_total takes in
+              serves_one (raw_line passes.rest) (is_next (raw_line passes.rest) (Some text) told is line) new replied source keeps answer
+              (answers served.told (raw_line passes.rest) is served.runs)
+
+      -- ---- there is no next line
+
+      -- all that was told stays, and nothing was sent
+      ends_input : (end : SessionEnd) → IfSome from.left (λ _. TakesLines IsBye total from.left after.left end (lines_told served.told))
+          → ReadsFrom before after (is_read_fault end) → is_write_fault end ≡ false → SendsReplies end false to sunk served.told
+          → Serves Runs IsBye total old mid from after to sunk end
+      ends_input end lines source no_write sent = record {
+        told = served.told;
+        runs = served.runs;
+        each = omega (arith, served.each, served.within);
+        lines = lines;
+        wanted = false;
+        wants = λ e. absurd cc;
+        sent = sent;
+        reads = ReadsFrom-then from before after (is_read_fault end) served.reads source;
+        writes = rw no_write served.sent.cause;
+      }
+
+      -- the input has ended
+      pub serves_all : Requests reader next before after (Ok None) → ReadsFrom before after false → Serves Runs IsBye total old mid from after to sunk Ended
+      serves_all requests source = ends_input Ended (by from.left served.passes) source refl served.sent.bytes where
+        by : (left : Option (List ℕ)) → IfSome left (λ text. PassesLines total text reader before.left (lines_told served.told))
+            → IfSome left (λ _. TakesLines IsBye total left after.left Ended (lines_told served.told))
+        by None passes = tt
+        by (Some text) passes =
+            let within : reader.passed < total = omega (arith, requests.counts.within, requests.counts.counts.passed, ap (λ l. l.total) requests.limits, is_total) in
+            let all = takes_all total text reader before.left (lines_told served.told) passes next after.left requests.counts.nothing within
+            (request_told (Ok None) requests text passes) in
+            record { taken = passes.passed; takes = all.takes; within = omega (arith, all.is_all.within); begun = inr (all.is_all, all.all) }
+
+      -- a read failed
+      serves_failed : Requests reader next before after (Err line.Read) → ReadsFrom before after true
+          → Serves Runs IsBye total old mid from after to sunk ReadFault
+      serves_failed requests source = ends_input ReadFault (by from.left served.passes) source refl served.sent.bytes where
+        by : (left : Option (List ℕ)) → IfSome left (λ text. PassesLines total text reader before.left (lines_told served.told))
+            → IfSome left (λ _. TakesLines IsBye total left after.left ReadFault (lines_told served.told))
+        by None passes = tt
+        by (Some text) passes =
+            let fails = requests.counts in
+            let at = ends_at total text reader before.left (lines_told served.told) passes next after.left fails.counts.passed fails.part
+            (request_told (Err line.Read) requests text passes) in
+            let within : length at.taken < total = omega (arith, at.size, fails.within, ap (λ l. l.total) requests.limits, is_total) in
+            record {
+              taken = at.taken;
+              takes = at.takes;
+              within = omega arith;
+              begun = (within, ⊎_elim inl (λ (all : AreAll total passes.passed passes.rest (lines_told served.told) × IsAtEnd after.left
+                  × (lines_told served.told ≡ lines_of at.taken)). inr (all.1, all.2)) at.are);
+            }
+
+      -- as many bytes as the total were taken
+      serves_total : Requests reader next before after (Err line.Total) → ReadsFrom before after false
+          → Serves Runs IsBye total old mid from after to sunk TooLong
+      serves_total requests source = ends_input TooLong (by from.left served.passes) source refl served.sent.bytes where
+        by : (left : Option (List ℕ)) → IfSome left (λ text. PassesLines total text reader before.left (lines_told served.told))
+            → IfSome left (λ _. TakesLines IsBye total left after.left TooLong (lines_told served.told))
+        by None passes = tt
+        by (Some text) passes =
+            let reaches = requests.counts in
+            let within = within_next (Err line.Total) requests in
+            let all_taken : total ≤ next.passed + first_lf next.held = omega (arith, reaches.taken, ap (λ l. l.total) requests.limits, is_total) in
+            let told = request_told (Err line.Total) requests text passes in
+            let at = ends_at total text reader before.left (lines_told served.told) passes next after.left reaches.counts.passed
+            (omega (arith, first_lf-le next.held)) told.part in
+            let size : length at.taken ≡ total = omega (arith, at.size, first_lf-le next.held) in
+            record {
+              taken = at.taken;
+              takes = at.takes;
+              within = omega arith;
+              begun = (size, ⊎_elim (λ ended. ended) (λ (all : AreAll total passes.passed passes.rest (lines_told served.told) × IsAtEnd after.left
+                  × (lines_told served.told ≡ lines_of at.taken)).
+                  absurd (omega (arith, passes.size, all.0.within, answer_past reader.limits reader.passed passes.rest line.Total told.answer, is_total,
+                  length-raw_line passes.rest, first_lf-le passes.rest, ap length all.0.nothing))) at.are);
+            }
+
+      -- a fault ended the lines
+      pub serves_fault : (fault : LineFault) → Requests reader next before after (Err fault) → ReadsFrom before after (line_failed {T = Option Request} None (Err fault))
+          → Serves Runs IsBye total old mid from after to sunk (end_by_input fault)
+      serves_fault line.Read requests source = serves_failed requests source
+      serves_fault line.Total requests source = serves_total requests source
+      serves_fault line.TooLong requests source = absurd requests.counts
+      serves_fault line.OutOfMemory requests source = absurd requests.counts

@@ -35,6 +35,11 @@ use Rattle.session_core.specs.Serving.{AreAll, AreEnded, PassesLines, Served, Se
 use Rattle.session_core.specs.Told.{Told, lines_told, text_told}
 use Rattle.session_core.proofs.FeedLemmas.{answer_past, ends_at, first_text, takes_all, takes_line, takes_up_to}
 
+-- each request takes a byte at least
+pub takes_some : (old new : Lines) (request : Request) → RequestCounts old new (Ok (Some request)) → old.passed < new.passed
+takes_some old new Whole whole = whole.counts.more
+takes_some old new Long counts = omega (arith, counts.more)
+
 -- ---- one more line is told
 
 lines_more : (told : List Told) (one : Told) (raw : List ℕ) → one.line ≡ raw → lines_told (told ++ one ∷ []) ≡ lines_told told ++ raw ∷ []
@@ -121,10 +126,7 @@ module _ {State : Type 0} (Runs : State → List Told → State → Type 0) (IsB
 
       module _ (asked : Request) (requests : Requests reader next before after (Ok (Some asked))) where
         more_passed : reader.passed < next.passed
-        more_passed = by asked requests.counts where
-          by : (r : Request) → RequestCounts reader next (Ok (Some r)) → reader.passed < next.passed
-          by Whole whole = whole.counts.more
-          by Long counts = omega (arith, counts.more)
+        more_passed = takes_some reader next asked requests.counts
 
         is_line : reader.limits.line ≡ max_request
         is_line = ap (λ limits. limits.line) served.limits

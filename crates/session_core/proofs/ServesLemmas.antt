@@ -57,9 +57,8 @@ first_without total taken left lines more first =
     (λ (q : IsAll total taken left × IsPrefix (lines ++ more) (lines_of taken)).
     inr (q.0, prefix_trans lines (lines ++ more) (lines_of taken) (more, refl) q.1)) first
 
-module _ {State : Type 0} (Runs : State → List Told → State → Type 0) (IsBye : List ℕ → Type 0) (total : ℕ) where
-  -- before the first line
-  pub served_none : (old : State) (from : SourceState) (to : SinkState) → Runs old [] old
+module _ {State : Type 0} (Runs : State → List Told → State → Type 0) (total : ℕ) where
+  served_none : (old : State) (from : SourceState) (to : SinkState) → Runs old [] old
       → Served Runs total old old from from to to (begun (record { line = max_request; total = total }))
   served_none old from to runs = record {
     told = [];
@@ -83,6 +82,12 @@ module _ {State : Type 0} (Runs : State → List Told → State → Type 0) (IsB
       are = inl (record { all = λ more. refl; ended = λ more. refl });
     }
 
+  -- before the first line
+  pub served_begun : (old : State) (from : SourceState) (to : SinkState) (reader : Lines) → reader ≡ begun (record { line = max_request; total = total })
+      → Runs old [] old → Served Runs total old old from from to to reader
+  served_begun old from to reader is runs = rw is (served_none old from to runs)
+
+module _ {State : Type 0} (Runs : State → List Told → State → Type 0) (IsBye : List ℕ → Type 0) (total : ℕ) where
   -- where the lines are first ones of what was taken, and an end says so of those told
   takes_by : (reader : Lines) (left : Option (List ℕ)) (lines told : List (List ℕ)) (end : SessionEnd) → reader.passed + length reader.held ≤ total
       → ((taken : List ℕ) → AreFirst total taken left lines → Begins IsBye total taken left end told) → (given : Option (List ℕ))

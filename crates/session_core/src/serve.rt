@@ -1,4 +1,4 @@
-ghost use Rattle.std.specs.Prelude.{◌≡◌, ◌<◌, [], None, Some};
+ghost use Rattle.std.specs.Prelude.{◌≡◌, ◌<◌, ℕ, [], None};
 ghost use Rattle.line_text.specs.Reading.{begun};
 ghost use Rattle.route_io.specs.Sinks.{SinkState};
 ghost use Rattle.route_io.specs.Sources.{SourceState};
@@ -74,10 +74,10 @@ fn serve_line<C, P: Party<C>, S: Source, K: Sink>(
 ) -> Option<SessionEnd>
     requires ready { P.ready setting.now }
     requires goes_on { lines.old.fault ≡ None }
-    ensures serves { (first : P) (from : SourceState) (to : SinkState)
-        → Served (P.runs setting.now) lines.old.limits.total first party.old
+    ensures serves { (total : ℕ) (first : P) (from : SourceState) (to : SinkState)
+        → Served (P.runs setting.now) total first party.old
         from (S.state link.old.from) to (K.state link.old.to) lines.old
-        → ServesOne (P.runs setting.now) (P.bye setting.now) lines.old.limits.total first party.new
+        → ServesOne (P.runs setting.now) (P.bye setting.now) total first party.new
         from (S.state link.new.from) to (K.state link.new.to) lines.new result }
     ensures takes_some { result ≡ None → lines.old.passed < lines.new.passed }
 {

@@ -18,20 +18,20 @@ source_of : (old : Lines) (before after : SourceState) (result : Result (Option 
 source_of old before after result none source = subst (λ fault. ReadsFrom before after (line_failed fault result)) none source
 
 pub returns-in-Ok-None-clause-serves : goal.returns-in-Ok-None-clause-serves
-returns-in-Ok-None-clause-serves g c first from to served =
+returns-in-Ok-None-clause-serves g c total first from to served =
     let call = rw c.in-Ok-None.field-0-is at c.in-Ok-None.ensures in
     serves_all _ _ _ _ _ _ _ _ _ _ served _ _
     (requests_of c.args.lines.now c.next_request.new.self _ _ (Ok None) c.requires.goes_on call.requests)
     (source_of c.args.lines.now _ _ (Ok None) c.requires.goes_on call.source)
 
 pub returns-in-Err-clause-serves : goal.returns-in-Err-clause-serves
-returns-in-Err-clause-serves g c first from to served =
+returns-in-Err-clause-serves g c total first from to served =
     rw c.end_at.ensures (serves_fault _ _ _ _ _ _ _ _ _ _ served _ _ _
     (requests_of c.args.lines.now c.next_request.new.self _ _ _ c.requires.goes_on c.in-Err.ensures.requests)
     (source_of c.args.lines.now _ _ _ c.requires.goes_on c.in-Err.ensures.source))
 
 pub returns-clause-serves : goal.returns-clause-serves
-returns-clause-serves g c first from to served =
+returns-clause-serves g c total first from to served =
     let call = rw c.in-Ok-Some.field-0-is at c.in-Ok-Some.ensures in
     let requests = requests_of c.args.lines.now c.next_request.new.self _ _ (Ok (Some c.in-Ok-Some.kind)) c.requires.goes_on call.requests in
     let source = source_of c.args.lines.now _ _ (Ok (Some c.in-Ok-Some.kind)) c.requires.goes_on call.source in

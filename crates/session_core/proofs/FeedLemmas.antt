@@ -1,22 +1,21 @@
 -- What the next request does to the bytes of a link that were passed, and to the lines among them.
-use Rattle.std.proofs.Common.{◌≡◌, ℕ, ◌+◌, ◌-◌, ◌<◌, ◌≤◌, ◌⊎◌, nat_lt, Bool, true, false, List, [], ◌∷◌, ◌++◌, Option, Some, None, Result, Ok, Err, length, take, drop, refl, sym, ap, ◌∙◌, arith, append_assoc, length-append, ⊎_elim, inl, inr}
+use Rattle.std.proofs.Common.{◌≡◌, ℕ, ◌+◌, ◌-◌, ◌<◌, ◌≤◌, ◌⊎◌, List, [], ◌∷◌, ◌++◌, Option, Some, None, Ok, Err, length, take, drop, refl, sym, ap, ◌∙◌, arith, append_assoc, length-append, ⊎_elim, inl, inr}
 use Rattle.std.proofs.lemmas.Bool.{cases_lt}
 use Rattle.std.proofs.lemmas.Bool.Decides.{nat_tests}
 use Rattle.std.proofs.lemmas.List.{append-nil, take-append-drop, length-take, length-drop, nil_from_length}
 use Rattle.std.specs.Io.KnownBytes.{Consumes, IsAtEnd, prepend_known}
-use Rattle.line_text.specs.Lines.{first_lf, raw_line, after_line, line_size, lines_of, without_cr}
+use Rattle.line_text.specs.Lines.{first_lf, raw_line, after_line, lines_of}
 use Rattle.line_text.specs.Reading.{Lines}
 use Rattle.line_text.specs.Requests.{request_by, first_request, request_of, request_text, PassesPart, TakesFirst, TakesNone}
 use Rattle.line_text.specs.declared.limits.LineFault.{LineFault}
-use Rattle.line_text.specs.declared.limits.LineFault.TheVariants.{Total}
 use Rattle.line_text.specs.declared.limits.LineLimits.{LineLimits}
 use Rattle.line_text.specs.declared.limits.Request.{Request}
 use Rattle.line_text.specs.declared.limits.Request.TheVariants.{Whole, Long}
-use Rattle.line_text.proofs.LineLemmas.{first_lf-le, first_lf-front, length-raw_line, lines_of-first}
+use Rattle.line_text.proofs.LineLemmas.{first_lf-le, first_lf-front, length-raw_line}
 use Rattle.session_core.specs.Lines.{IsText, ended_lines, max_request}
 use Rattle.session_core.specs.Links.{AreFirst, IsAll}
 use Rattle.session_core.specs.Serving.{AreEnded, AreAll, PassesLines}
-use Rattle.session_core.proofs.LinesLemmas.{IsOneLine, ended_lines-none, first_is_one, first_lf-take}
+use Rattle.session_core.proofs.LinesLemmas.{ended_lines-none, first_is_one, first_lf-take}
 
 -- ---- what the answer says of the rest
 
@@ -228,8 +227,15 @@ module _ (total : ℕ) (text : List ℕ) (old : Lines) (left : Option (List ℕ)
     behind_all nothing =
         let is = is_left new.held (drop size passes.rest) after part.left in
         let none = held_none new.held is.more (sym (drop_none size) ∙ ap (drop size) (sym nothing) ∙ is.parts) in
-        let same : skipped ++ new.held ≡ [] = nil_from_length (skipped ++ new.held) (omega (arith, length-append skipped new.held,
-        ap length none.0, skipped_size, size_within, first_lf-le passes.rest, ap length nothing)) in
+        let same : skipped ++ new.held ≡ [] = nil_from_length (skipped ++ new.held) (omega (
+          arith,
+          length-append skipped new.held,
+          ap length none.0,
+          skipped_size,
+          size_within,
+          first_lf-le passes.rest,
+          ap length nothing,
+        )) in
         (rw is.is none.1, all_lines nothing ∙ ap lines_of (sym (ap (λ xs. passes.passed ++ xs) same ∙ append-nil passes.passed)))
 
     pub ends_at : EndsAt new after

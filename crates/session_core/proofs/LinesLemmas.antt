@@ -1,9 +1,9 @@
 -- The lines of a text that an LF ends.
-use Rattle.std.proofs.Common.{◌≡◌, ℕ, suc, ◌+◌, ◌<◌, ◌≤◌, Bool, true, false, not, cond, List, [], ◌∷◌, ◌++◌, length, take, drop, filter, refl, sym, ap, ◌∙◌, arith, append_assoc, one-add, length-append, ⊎_elim}
+use Rattle.std.proofs.Common.{◌≡◌, ℕ, suc, ◌+◌, ◌<◌, ◌≤◌, Bool, true, false, not, cond, List, [], ◌∷◌, ◌++◌, length, take, drop, filter, refl, sym, ap, ◌∙◌, arith, length-append, ⊎_elim}
 use Rattle.std.proofs.lemmas.Bool.{cases_lt}
-use Rattle.std.proofs.lemmas.List.{append-nil, take-append-drop, length-take, length-drop, nil_from_length}
+use Rattle.std.proofs.lemmas.List.{take-append-drop, length-take, length-drop, nil_from_length}
 use Rattle.line_text.specs.Lines.{is_lf, first_lf, raw_line, after_line, lines_of}
-use Rattle.line_text.proofs.LineLemmas.{first_lf-le, first_lf-front, first_lf-grows, begins_alike, length-raw_line, lines_of-first}
+use Rattle.line_text.proofs.LineLemmas.{first_lf-le, first_lf-grows, begins_alike, length-raw_line, lines_of-first}
 use Rattle.session_core.specs.Lines.{ended_lines}
 
 -- as a byte ends a line or not

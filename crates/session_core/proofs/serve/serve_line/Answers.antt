@@ -1,5 +1,4 @@
-use Rattle.std.proofs.Common.{ap, sym, ◌∙◌, ◌≡◌, Ok, Err, Some, None, Option, IfNone, Result, subst}
-use Rattle.std.specs.Result.{result_err}
+use Rattle.std.proofs.Common.{◌≡◌, Ok, Some, None, Option, IfNone, Result, subst}
 use Rattle.route_io.specs.Sources.{SourceState, ReadsFrom}
 use Rattle.line_text.specs.Reading.{Lines, line_failed}
 use Rattle.line_text.specs.Requests.{Requests}

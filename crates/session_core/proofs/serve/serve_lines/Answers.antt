@@ -1,5 +1,4 @@
 use Rattle.std.proofs.Common.{ap, ◌-◌, ◌<◌, refl, arith}
-use Rattle.session_core.specs.Serving.{Served}
 use Rattle.session_core.proofs.ServesLemmas.{served_begun}
 use Rattle.session_core.proofs.serve.serve_lines.Goals as goal
 

@@ -5,3 +5,4 @@ pub mod Sessions
 pub mod Operators
 pub mod OperatorReplies
 pub mod Parties
+pub mod Serving

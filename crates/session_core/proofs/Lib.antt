@@ -1,1 +1,2 @@
 mod StubLemmas
+pub mod StayLemmas

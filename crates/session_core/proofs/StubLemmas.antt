@@ -1,8 +1,7 @@
 -- A session in which nothing happened.
-use Rattle.std.proofs.Common.{◌≡◌, ℕ, ◌≤◌, List, [], ◌++◌, Option, Some, None, Bool, false, refl, sym, arith, append_assoc, inl}
+use Rattle.std.proofs.Common.{ℕ, List, [], Option, Some, None, false, refl, sym, arith, inl}
 use Rattle.std.proofs.lemmas.List.{append-nil}
 use Rattle.std.specs.Io.KnownBytes.{Appends, Consumes}
-use mathlib.Core.List.{IsPrefix}
 use Rattle.route_io.specs.Sinks.{SinkState}
 use Rattle.route_io.specs.Sources.{SourceState}
 use Rattle.session_core.specs.declared.end.SessionEnd.TheVariants.{OutOfMemory}

@@ -7,6 +7,7 @@
 mod desk;
 mod end;
 mod host;
+mod laws;
 mod operator;
 mod party;
 mod serve;
@@ -15,5 +16,6 @@ mod session;
 pub use desk::Desk;
 pub use end::SessionEnd;
 pub use host::Host;
+pub use laws::session_runs_stay;
 pub use operator::serve_operator;
 pub use session::Session;

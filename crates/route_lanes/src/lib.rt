@@ -1,8 +1,10 @@
 //! Lanes: an operator publishes epochs while sessions ask of them, each on a thread of its own.
 #![tactic(auto)]
 
+mod operator_lane;
 mod report;
 mod run;
+mod service;
 
 pub use report::LaneReport;
 pub use run::{Court, run_lanes};

@@ -5,4 +5,5 @@ pub mod Sessions
 pub mod Operators
 pub mod OperatorReplies
 pub mod Parties
+pub mod Answering
 pub mod Serving

@@ -8,12 +8,16 @@ mod desk;
 mod end;
 mod host;
 mod laws;
+mod lines;
+mod look;
 mod obey;
 mod operator;
 mod operator_reply;
 mod party;
+mod reply;
 mod serve;
 mod session;
+mod short;
 
 pub use desk::Desk;
 pub use end::SessionEnd;

@@ -2,8 +2,8 @@
 ghost use Rattle.std.specs.Prelude.{◌≡◌};
 ghost use Rattle.route_io.specs.Sinks.{Sends};
 ghost use Rattle.session_core.specs.OperatorReplies.{refusal_text, refusal_word, reply_text};
-ghost use Rattle.session_core.specs.Sessions.{epoch_reply};
 
+use crate::short::put_epoch;
 use answer_writer::{Piece, put_line};
 use route_io::{Sink, WriteFault};
 
@@ -67,14 +67,6 @@ pub(crate) fn put_reply<K: Sink>(to: &mut K, reply: OperatorReply) -> Result<(),
         OperatorReply::Epoch(number) => put_epoch(to, number),
         OperatorReply::Refused(why) => put_refusal(to, why),
     }
-}
-
-/// Sends `k K`.
-fn put_epoch<K: Sink>(to: &mut K, number: u32) -> Result<(), WriteFault>
-    ensures { Sends (K.state to.old) (K.state to.new) (epoch_reply number) result }
-{
-    let number = Piece::Number(u64::from(number));
-    put_line(to, &[Piece::Text("k"), number, Piece::Text("\n")])
 }
 
 /// Sends `x` and why.

@@ -1,4 +1,4 @@
-use Rattle.route_top.proofs.stop.Stop.note.Goals as goal
+use Rattle.route_top.proofs.stop.Stop.put_note.Goals as goal
 
 pub returns-in-Words : goal.returns-in-Words
 returns-in-Words g c = rw c.in-Words.is c.put_all.ensures

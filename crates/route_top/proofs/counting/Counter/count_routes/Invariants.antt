@@ -2,7 +2,7 @@ use Rattle.std.proofs.Common.{◌≤◌}
 use Rattle.arc_graph.specs.Graph.{network}
 use Rattle.path_readback.specs.Found.{longest_in}
 use Rattle.route_top.proofs.CountLemmas.{HasCounted}
-use Rattle.route_top.proofs.answerer.Answerer.count_routes.Given as goal
+use Rattle.route_top.proofs.counting.Counter.count_routes.Given as goal
 
 -- the costs so far were counted, and the room holds the next walk
 abbrev pub invariant-loop-i : goal.invariant-loop-i

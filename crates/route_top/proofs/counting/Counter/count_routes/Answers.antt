@@ -4,7 +4,7 @@ use Rattle.cost_vector.specs.Costs.{no_limit}
 use Rattle.cost_vector.specs.declared.label.ArcNo.{ArcNo}
 use Rattle.arc_graph.specs.Graph.{network}
 use Rattle.route_top.proofs.CountLemmas.{all_counted, count_of_costs, none_counted, one_counted, short_walk}
-use Rattle.route_top.proofs.answerer.Answerer.count_routes.Goals as goal
+use Rattle.route_top.proofs.counting.Counter.count_routes.Goals as goal
 
 pub loop-i-init : goal.loop-i-init
 loop-i-init g c = record {

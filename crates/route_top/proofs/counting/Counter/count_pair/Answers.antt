@@ -1,5 +1,5 @@
 use Rattle.route_top.proofs.CountLemmas.{has_whole}
-use Rattle.route_top.proofs.answerer.Answerer.count_pair.Goals as goal
+use Rattle.route_top.proofs.counting.Counter.count_pair.Goals as goal
 
 pub count_answer-requires-clause-answer : goal.count_answer-requires-clause-answer
 count_answer-requires-clause-answer g c κs within =

@@ -1,7 +1,7 @@
 use Rattle.arc_graph.specs.Graph.{network}
 use Rattle.route_top.specs.Summary.{pair_of}
 use Rattle.route_top.proofs.CountLemmas.{counts_answered, fits_answered}
-use Rattle.route_top.proofs.answerer.Answerer.count_answer.Goals as goal
+use Rattle.route_top.proofs.counting.Counter.count_answer.Goals as goal
 
 pub returns-clause-counts : goal.returns-clause-counts
 returns-clause-counts g c =

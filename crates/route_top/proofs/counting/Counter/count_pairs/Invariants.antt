@@ -1,7 +1,7 @@
 use Rattle.std.proofs.Common.{◌≡◌, take}
 use Rattle.arc_graph.specs.Graph.{network}
 use Rattle.route_top.specs.Summary.{Fits, SumsUp}
-use Rattle.route_top.proofs.answerer.Answerer.count_pairs.Given as goal
+use Rattle.route_top.proofs.counting.Counter.count_pairs.Given as goal
 
 -- the pairs so far were counted
 abbrev pub invariant-loop-pair : goal.invariant-loop-pair

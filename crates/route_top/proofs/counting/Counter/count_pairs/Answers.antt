@@ -6,7 +6,7 @@ use Rattle.command_words.specs.declared.Query.{Query}
 use Rattle.route_top.specs.declared.summary.Summary.{Summary}
 use Rattle.route_top.specs.Summary.{CountsPair, pair_of}
 use Rattle.route_top.proofs.CountLemmas.{all_summed, none_summed, one_more_summed, one_pair_more}
-use Rattle.route_top.proofs.answerer.Answerer.count_pairs.Goals as goal
+use Rattle.route_top.proofs.counting.Counter.count_pairs.Goals as goal
 
 -- what stands for a pair past the last
 abbrev blank : Pair

@@ -1,4 +1,3 @@
-mod StubLemmas
 pub mod StayLemmas
 mod LineKindLemmas
 mod AnswersLineLemmas

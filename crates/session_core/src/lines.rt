@@ -1,4 +1,5 @@
-//! The lines of a link that a session serves. A trait's method may start no threads, so `serve` can't search for them.
+//! The lines of a link that a session serves. A search starts threads, which a method of a trait may not, so that no
+//! `Party` answers them.
 ghost use Rattle.std.specs.Prelude.{◌≡◌, ◌<◌, ℕ, [], None};
 ghost use Rattle.line_text.specs.Reading.{begun};
 ghost use Rattle.route_io.specs.Sinks.{SinkState};
@@ -11,7 +12,7 @@ ghost use Rattle.session_core.specs.Sessions.{IsSessionBye, Session as Kept, Ses
 
 use crate::end::SessionEnd;
 use crate::host::Host;
-use crate::serve::{end_by_input, end_by_answer};
+use crate::serve::{end_by_answer, end_by_input};
 use crate::session::Session;
 use epoch_store::Store;
 use line_text::Lines;

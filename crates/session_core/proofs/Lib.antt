@@ -1,5 +1,5 @@
 pub mod StayLemmas
-mod LineKindLemmas
+mod NoneBegunLemmas
 mod AnswersLineLemmas
 mod RunLemmas
 mod OperatorRunLemmas

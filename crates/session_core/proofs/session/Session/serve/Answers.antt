@@ -1,5 +1,5 @@
 use Rattle.session_core.proofs.RunLemmas.{goes_nowhere}
-use Rattle.session_core.proofs.StubLemmas.{serves_none}
+use Rattle.session_core.proofs.NoneBegunLemmas.{serves_none}
 use Rattle.session_core.proofs.session.Session.serve.Goals as goal
 
 pub serve_lines-requires-clause-begun : goal.serve_lines-requires-clause-begun

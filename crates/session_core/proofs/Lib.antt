@@ -1,9 +1,8 @@
-pub mod StayLemmas
-mod NoneBegunLemmas
+mod LineKindLemmas
 mod AnswersLineLemmas
+pub mod StayLemmas
 mod RunLemmas
 mod OperatorRunLemmas
 mod LinesLemmas
 mod FeedLemmas
 mod ServesLemmas
-mod NextLineLemmas

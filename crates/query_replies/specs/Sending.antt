@@ -21,6 +21,10 @@ pub record SendsReply (IsReply : Reply → List ℕ → Type 0) (old new : SinkS
   pub is : IsReply reply text
   pub sent : Sends old new text result
 
+-- the reply is of this kind, and has this text
+abbrev pub IsReplyOf : Reply → List ℕ → Reply → List ℕ → Type 0
+IsReplyOf kind whole reply text = (reply ≡ kind) × (text ≡ whole)
+
 -- what a call does that sends a reply and answers which, unless memory runs out before its first byte
 abbrev pub Replied : (Reply → List ℕ → Type 0) → SinkState → SinkState → Result Reply ReplyFault → Type 0
 Replied IsReply old new (Ok reply) = SendsReply IsReply old new reply (Ok tt)

@@ -1,5 +1,5 @@
 -- The replies to the pairs of a batch, one by one, and the run that reads them.
-use Rattle.std.proofs.Common.{◌≡◌, ℕ, ◌+◌, ◌<◌, ◌≤◌, List, [], ◌∷◌, ◌++◌, Bool, true, false, Ok, Err, length, take, get_or, inl, inr}
+use Rattle.std.proofs.Common.{◌≡◌, ℕ, ◌+◌, ◌<◌, ◌≤◌, List, [], ◌∷◌, ◌++◌, Bool, true, false, Ok, Err, length, take, get_or}
 use Rattle.std.proofs.Common.{refl, sym, ap, subst, ◌∙◌, append-nil, nat_lt}
 use Rattle.std.specs.Prelude.{◌==◌}
 use Rattle.std.specs.List.{concat}
@@ -16,25 +16,25 @@ use Rattle.route_io.proofs.SendsLemmas.{Sent, Sends-then}
 use Rattle.command_words.specs.declared.AnswerKind.TheVariants.{Walks}
 use Rattle.command_words.specs.declared.Effort.{Effort}
 use Rattle.command_words.specs.Words.{BatchAsked, batch}
-use Rattle.route_top.specs.declared.reply.Reply.{Reply}
-use Rattle.route_top.specs.declared.reply.Reply.TheVariants.{Answer, Refusal}
-use Rattle.route_top.specs.declared.stop.Stop.{Stop}
+use Rattle.query_replies.specs.declared.asked.Reply.{Reply}
+use Rattle.query_replies.specs.declared.fault.ReplyFault.{ReplyFault}
+use Rattle.query_replies.specs.declared.fault.ReplyFault.TheVariants as fault
+use Rattle.query_replies.specs.Queries.{RepliesToQuery}
+use Rattle.query_replies.specs.Sending.{Replied, SendsReply}
 use Rattle.route_top.specs.declared.stop.Stop.TheVariants as stop
 use Rattle.route_top.specs.Batch.{BatchReplies, PairsEnd, PairsReplies, PairsStop, RepliesTo, RepliesToEach, SaysPairs, StarvesAtPair}
 use Rattle.route_top.specs.Batch.{pairs_read, pairs_stop, query_between}
 use Rattle.route_top.specs.Outcome.{Outcome, done, no_memory, status_of}
 use Rattle.route_top.specs.FilesRead.{ReadAs}
 use Rattle.route_top.specs.Output.{Ends, Runs}
-use Rattle.route_top.specs.Queries.{QueryReplies}
-use Rattle.route_top.specs.Stops.{Replied, Replies, SendsReply, outcome_of, reply_outcome}
+use Rattle.route_top.specs.Queries.{asked_for}
+use Rattle.route_top.specs.Stops.{Replies, outcome_of, stop_at}
 use Rattle.route_top.proofs.FilesReadLemmas.{ends_over, reading_leaves_out}
 use Rattle.route_top.proofs.RunsLemmas.{nothing_sent, replies_so, runs_then, sends_nothing, sent_done, sent_part, sent_whole}
 
--- a query's reply is one to the pair
-reply_to : (effort : Effort) (net : Network) (pair : Pair) (reply : Reply) (text : List ℕ)
-    → QueryReplies Walks (query_between effort pair) net (reply_outcome reply) text → RepliesTo effort net pair text
-reply_to effort net pair Answer text answers = inl answers
-reply_to effort net pair Refusal text refuses = inr refuses
+-- the reply is of this kind, to the pair's query
+abbrev pub IsToPair : Effort → Network → Pair → Reply → List ℕ → Type 0
+IsToPair effort net pair = RepliesToQuery net 0 (asked_for Walks (query_between effort pair))
 
 -- The first so many pairs have their replies.
 pub record HasReplied (effort : Effort) (net : Network) (pairs : List Pair) (count : ℕ) (out replied : SinkState) : Type 0 where
@@ -57,50 +57,49 @@ module _ (effort : Effort) (net : Network) (pairs : List Pair) where
     one_pair_more = take_more pairs i d inside ∙ ap (λ p. take i pairs ++ p ∷ []) (sym next)
 
     -- one reply more, to the next pair
-    each_more : (reply : Reply) (text : List ℕ) → QueryReplies Walks (query_between effort pair) net (reply_outcome reply) text
+    each_more : (reply : Reply) (text : List ℕ) → IsToPair effort net pair reply text
         → RepliesToEach effort net (take (i + 1) pairs) (so_far.text ++ text)
     each_more reply text ends = rw one_pair_more (record {
       replies = so_far.replies.replies ++ text ∷ [];
       each = all_zipped_more (RepliesTo effort net) (take i pairs) so_far.replies.replies pair text so_far.replies.each
-          (reply_to effort net pair reply text ends);
+          (reply, ends);
       whole = ap (λ t. t ++ text) so_far.replies.whole ∙ sym (concat-append so_far.replies.replies (text ∷ [])
           ∙ ap (λ t. concat so_far.replies.replies ++ t) (append-nil text));
     })
 
     -- the next pair has its reply
-    pub one_more_replied : (reply : Reply) → SendsReply (QueryReplies Walks (query_between effort pair) net) mid replied reply (Ok tt)
+    pub one_more_replied : (reply : Reply) → SendsReply (IsToPair effort net pair) mid replied reply (Ok tt)
         → HasReplied effort net pairs (i + 1) out replied
     one_more_replied reply sends = record {
       text = so_far.text ++ sends.text;
-      replies = each_more reply sends.text sends.ends;
+      replies = each_more reply sends.text sends.is;
       sent = Sends-then out mid replied so_far.text sends.text (Ok tt) so_far.sent sends.sent;
     }
 
     -- the sink took a part of the next pair's reply, which may be the last
-    cut_behind : (reply : Reply) (fault : WriteFault) → SendsReply (QueryReplies Walks (query_between effort pair) net) mid replied reply (Err fault)
+    cut_behind : (reply : Reply) (fault : WriteFault) → SendsReply (IsToPair effort net pair) mid replied reply (Err fault)
         → (more : Bool) → nat_lt (i + 1) (length pairs) ≡ more → Replies (PairsReplies effort net pairs) out replied (outcome_of (stop.Out fault))
     cut_behind reply fault sends true is =
         let whole = so_far.text ++ sends.text in
         let more : i + 1 < length pairs = ltb-true (i + 1) (length pairs) is in
-        let starves : StarvesAtPair effort net pairs whole = record { before = i + 1; more = more; replied = each_more reply sends.text sends.ends } in
+        let starves : StarvesAtPair effort net pairs whole = record { before = i + 1; more = more; replied = each_more reply sends.text sends.is } in
         replies_so (PairsReplies effort net pairs) no_memory whole out replied (outcome_of (stop.Out fault)) starves
         (sent_part no_memory whole out replied fault (Sends-then out mid replied so_far.text sends.text (Err fault) so_far.sent sends.sent))
     cut_behind reply fault sends false is =
         let whole = so_far.text ++ sends.text in
         let past : length pairs ≤ i + 1 = ltb-false (i + 1) (length pairs) is in
-        let all = subst (λ l. RepliesToEach effort net l whole) (take_all (i + 1) pairs past) (each_more reply sends.text sends.ends) in
+        let all = subst (λ l. RepliesToEach effort net l whole) (take_all (i + 1) pairs past) (each_more reply sends.text sends.is) in
         replies_so (PairsReplies effort net pairs) done whole out replied (outcome_of (stop.Out fault)) all
         (sent_part done whole out replied fault (Sends-then out mid replied so_far.text sends.text (Err fault) so_far.sent sends.sent))
 
     -- the next pair's reply ends the run
-    pub ends_at_pair : (why : Stop) → Replied (QueryReplies Walks (query_between effort pair) net) mid replied (Err why)
-        → Replies (PairsReplies effort net pairs) out replied (outcome_of why)
-    ends_at_pair (stop.Out fault) sends = cut_behind sends.0 fault sends.1 (nat_lt (i + 1) (length pairs)) refl
-    ends_at_pair stop.OutOfMemory same =
+    pub ends_at_pair : (why : ReplyFault) → Replied (IsToPair effort net pair) mid replied (Err why)
+        → Replies (PairsReplies effort net pairs) out replied (outcome_of (stop_at why))
+    ends_at_pair (fault.Out cut) sends = cut_behind sends.0 cut sends.1 (nat_lt (i + 1) (length pairs)) refl
+    ends_at_pair fault.OutOfMemory same =
         let starves : StarvesAtPair effort net pairs so_far.text = record { before = i; more = inside; replied = so_far.replies } in
         rw same (replies_so (PairsReplies effort net pairs) no_memory so_far.text out mid no_memory starves
         (sent_whole no_memory so_far.text out mid (record { no_fault = refl; no_want = refl }) refl so_far.sent))
-    ends_at_pair _ none = absurd none
 
   -- all pairs have their replies
   pub all_replied : (i : ℕ) (out replied : SinkState) → length pairs ≤ i → HasReplied effort net pairs i out replied

@@ -28,8 +28,7 @@ use Rattle.route_query.specs.declared.query.Query.{Query as Asked}
 use Rattle.gen_laws.specs.Laws.{IsSmall}
 use Rattle.command_words.specs.declared.Query.{Query}
 use Rattle.route_top.specs.declared.summary.Summary.{Summary}
-use Rattle.route_top.specs.Searched.{HasAnswer}
-use Rattle.route_top.specs.Summary.{AreFew, CountsAnswer, CountsPair, Fits, HasWhole, PairEnds, SumsUp, all_routes, summary_of, with_pair, with_routes}
+use Rattle.route_top.specs.Summary.{AreFew, CountsAnswer, CountsPair, Fits, HasAnswer, HasWhole, PairEnds, SumsUp, all_routes, summary_of, with_pair, with_routes}
 
 -- one number more
 pub sum_of_more : (xs : List ℕ) (i : ℕ) → i < length xs → sum (take (i + 1) xs) ≡ sum (take i xs) + slice_index xs i

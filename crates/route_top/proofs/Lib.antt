@@ -1,4 +1,3 @@
-pub mod SentFirst
 pub mod RunsLemmas
 pub mod QueryLemmas
 pub mod FilesReadLemmas

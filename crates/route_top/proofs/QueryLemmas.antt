@@ -1,53 +1,35 @@
--- The replies to queries, and their runs.
-use Rattle.std.proofs.Common.{◌≡◌, ◌∙◌, List, Result, ap, refl, subst}
+-- The runs of single queries.
+use Rattle.std.proofs.Common.{List, Ok, Err, refl}
 use Rattle.std.specs.Prelude.{ℕ}
-use Rattle.cost_vector.specs.Costs.{no_limit}
-use Rattle.road_network.specs.Network.{Network, IsNetwork}
-use Rattle.road_network.specs.Answers.{IsAnswer, Passes, Route}
-use Rattle.road_network.proofs.AnswerLaws.{has_answer, some_list}
-use Rattle.arc_graph.specs.Graph.{Graph, Weights, network}
-use Rattle.path_readback.specs.Found.{Found}
-use Rattle.answer_writer.specs.declared.form.Form.{Form}
-use Rattle.answer_writer.specs.Forms.{limit_of, reply_of}
-use Rattle.command_words.specs.declared.AnswerKind.{AnswerKind}
-use Rattle.command_words.specs.declared.AnswerKind.TheVariants.{Costs, Walks}
-use Rattle.command_words.specs.declared.Query.{Query}
+use Rattle.road_network.specs.Network.{Network}
 use Rattle.route_io.specs.Sinks.{SinkState}
-use Rattle.route_top.specs.declared.reply.Reply.{Reply}
-use Rattle.route_top.specs.declared.stop.Stop.{Stop}
-use Rattle.route_top.specs.Outcome.{done}
-use Rattle.route_top.specs.Queries.{HaveNodes, QueryReplies, form_of}
-use Rattle.route_top.specs.Searched.{HasAnswer}
-use Rattle.route_top.specs.Stops.{IsReply, Replied}
-use Rattle.route_top.proofs.RunsLemmas.{replied_as}
+use Rattle.query_replies.specs.declared.asked.Asked.{Asked}
+use Rattle.query_replies.specs.declared.asked.Reply.{Reply}
+use Rattle.query_replies.specs.declared.asked.Reply.TheVariants.{Answer, Refusal}
+use Rattle.query_replies.specs.declared.fault.ReplyFault.{ReplyFault}
+use Rattle.query_replies.specs.declared.fault.ReplyFault.TheVariants as fault
+use Rattle.query_replies.specs.Queries.{RepliesToQuery}
+use Rattle.query_replies.specs.Sending.{Replied, SendsReply}
+use Rattle.route_top.specs.declared.stop.Stop.TheVariants as stop
+use Rattle.route_top.specs.Queries.{QueryReplies}
+use Rattle.route_top.specs.Stops.{Replies, outcome_of, reply_outcome, stop_at}
+use Rattle.route_top.proofs.RunsLemmas.{replies_so, sent_part, sent_reply, starves}
 
--- an answer of either kind is one without a limit
-pub no_limit_of : (criteria : ℕ) (kind : AnswerKind) → limit_of criteria (form_of kind) ≡ no_limit criteria
-no_limit_of criteria Costs = refl
-no_limit_of criteria Walks = refl
+module _ (asked : Asked) (net : Network) (out replied : SinkState) where
+  -- a reply to the query ends its run
+  ends_so : (reply : Reply) (text : List ℕ) → RepliesToQuery net 0 asked reply text → QueryReplies asked net (reply_outcome reply) text
+  ends_so Answer text answers = answers
+  ends_so Refusal text refuses = refuses
 
--- what is done to the reply of each answer that was found is done to that of the answer to the query
-pub of_query : (kind : AnswerKind) (form : Form) (g : Graph) (w : Weights) (query : Query) (f : Found) (Done : List ℕ → Type 0)
-    → HasAnswer g w query f → form ≡ form_of kind
-    → ((routes : List Route) → IsAnswer (network g w) f.start f.target (limit_of g.criteria form) routes → Done (reply_of form 0 f.start f.target routes))
-    → (routes : List Route) → IsAnswer (network g w) query.from query.to (no_limit g.criteria) routes
-    → Done (reply_of (form_of kind) 0 query.from query.to routes)
-of_query kind form g w query f Done has is each routes answer =
-    let limit : limit_of g.criteria form ≡ no_limit g.criteria = ap (limit_of g.criteria) is ∙ no_limit_of g.criteria kind in
-    let found : IsAnswer (network g w) f.start f.target (limit_of g.criteria form) routes = rw (has.start, has.target, limit) answer in
-    let text : reply_of form 0 f.start f.target routes ≡ reply_of (form_of kind) 0 query.from query.to routes =
-    rw (is, has.start, has.target) refl in
-    subst Done text (each routes found)
+  -- the reply was sent whole
+  pub replied_whole : (reply : Reply) → SendsReply (RepliesToQuery net 0 asked) out replied reply (Ok tt)
+      → Replies (QueryReplies asked net) out replied (reply_outcome reply)
+  replied_whole reply sends = replies_so (QueryReplies asked net) (reply_outcome reply) sends.text out replied (reply_outcome reply)
+      (ends_so reply sends.text sends.is) (sent_reply reply sends.text out replied sends.sent)
 
--- the query is within its budget, and the reply is its answer
-pub answers_query : (kind : AnswerKind) (net : Network) (query : Query) (out replied : SinkState) (result : Result Reply Stop)
-    → IsNetwork net → HaveNodes net query → ¬ Passes net query.from query.to (no_limit net.criteria) query.effort.budget
-    → ((routes : List Route) → IsAnswer net query.from query.to (no_limit net.criteria) routes
-    → Replied (IsReply done (reply_of (form_of kind) 0 query.from query.to routes)) out replied result)
-    → Replied (QueryReplies kind query net) out replied result
-answers_query kind net query out replied result is nodes within replies =
-    let best = some_list net query.from query.to is (no_limit net.criteria) in
-    let answer = has_answer net query.from query.to is (no_limit net.criteria) best.0 best.1 in
-    replied_as (IsReply done (reply_of (form_of kind) 0 query.from query.to answer.0)) (QueryReplies kind query net)
-    (λ o text is. rw (is.0, is.1) (record { nodes = nodes; within = within; routes = answer.0; answer = answer.1; reply = refl })) out replied result
-    (replies answer.0 answer.1)
+  -- it wasn't
+  pub replied_in_part : (why : ReplyFault) → Replied (RepliesToQuery net 0 asked) out replied (Err why)
+      → Replies (QueryReplies asked net) out replied (outcome_of (stop_at why))
+  replied_in_part (fault.Out cut) sends = replies_so (QueryReplies asked net) (reply_outcome sends.0) sends.1.text out replied
+      (outcome_of (stop.Out cut)) (ends_so sends.0 sends.1.text sends.1.is) (sent_part (reply_outcome sends.0) sends.1.text out replied cut sends.1.sent)
+  replied_in_part fault.OutOfMemory same = rw same (starves (QueryReplies asked net) out refl)

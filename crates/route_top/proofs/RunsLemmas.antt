@@ -1,5 +1,5 @@
 -- What a run did, by what its calls did.
-use Rattle.std.proofs.Common.{◌≡◌, ℕ, ◌<◌, List, [], false, Result, Ok, Err, length, take, refl, sym, append-nil, Option, Some, None}
+use Rattle.std.proofs.Common.{◌≡◌, ℕ, ◌<◌, List, [], false, Ok, Err, length, take, refl, sym, append-nil, Option, Some, None}
 use Rattle.std.specs.Prelude.{◌==◌}
 use Rattle.std.specs.Io.KnownBytes.{Appends}
 use Rattle.route_io.specs.declared.fault.WriteFault.{WriteFault}
@@ -7,13 +7,12 @@ use Rattle.route_io.specs.declared.fault.WriteFault.TheVariants as write
 use Rattle.route_io.specs.Sinks.{SinkState, Sends}
 use Rattle.route_io.specs.Sources.{SourceState, ReadsFrom}
 use Rattle.route_io.proofs.ReadsLemmas.{ReadsFrom-then}
-use Rattle.route_top.specs.declared.reply.Reply.{Reply}
-use Rattle.route_top.specs.declared.reply.Reply.TheVariants.{Answer, Refusal}
+use Rattle.query_replies.specs.declared.asked.Reply.{Reply}
+use Rattle.query_replies.specs.declared.asked.Reply.TheVariants.{Answer, Refusal}
 use Rattle.route_top.specs.declared.stop.Stop.TheVariants as stop
 use Rattle.route_top.specs.Outcome.{Outcome, done, refused, no_memory, status_of, out_has_wanted}
 use Rattle.route_top.specs.Output.{TookNote, Runs, EndsOrCut, uncut, failed, wanted, IsCut}
-use Rattle.route_top.specs.declared.stop.Stop.{Stop}
-use Rattle.route_top.specs.Stops.{IsReply, Replied, Replies, SendsReply, outcome_of, reply_outcome}
+use Rattle.route_top.specs.Stops.{IsReply, Replies, outcome_of, reply_outcome}
 
 -- nothing was sent
 appends_nothing : (sent : Option (List ℕ)) → Appends sent sent []
@@ -77,7 +76,7 @@ pub sent_done : (reply : List ℕ) (out replied : SinkState) → Sends {T = Unit
 sent_done reply out replied sends = sent_whole done reply out replied (record { no_fault = refl; no_want = refl }) refl sends
 
 -- a reply of either kind was sent whole
-sent_reply : (kind : Reply) (reply : List ℕ) (out replied : SinkState) → Sends {T = Unit {0}} out replied reply (Ok tt)
+pub sent_reply : (kind : Reply) (reply : List ℕ) (out replied : SinkState) → Sends {T = Unit {0}} out replied reply (Ok tt)
     → Replies (IsReply (reply_outcome kind) reply) out replied (reply_outcome kind)
 sent_reply Answer reply out replied sends = sent_done reply out replied sends
 sent_reply Refusal reply out replied sends = sent_whole refused reply out replied (record { no_fault = refl; no_want = refl }) refl sends
@@ -127,30 +126,3 @@ sends_nothing out = record { bytes = appends_nothing out.sent; cause = record { 
 -- and took an empty note
 pub takes_nothing : (err : SinkState) → TookNote err err []
 takes_nothing err = (Ok tt, sends_nothing err)
-
--- a query's reply was sent whole, and its run ends
-pub replied_whole : (Ending : Outcome → List ℕ → Type 0) (out replied : SinkState) (reply : Reply) → SendsReply Ending out replied reply (Ok tt)
-    → Replies Ending out replied (reply_outcome reply)
-replied_whole Ending out replied reply sends =
-    replies_so Ending (reply_outcome reply) sends.text out replied (reply_outcome reply) sends.ends (sent_reply reply sends.text out replied sends.sent)
-
--- a query's reply wasn't sent whole, and its run ends
-pub replied_in_part : (Ending : Outcome → List ℕ → Type 0) (out replied : SinkState) (why : Stop) → Ending no_memory []
-    → Replied Ending out replied (Err why) → Replies Ending out replied (outcome_of why)
-replied_in_part Ending out replied (stop.Out fault) starved sends =
-    replies_so Ending (reply_outcome sends.0) sends.1.text out replied (outcome_of (stop.Out fault)) sends.1.ends
-    (sent_part (reply_outcome sends.0) sends.1.text out replied fault sends.1.sent)
-replied_in_part Ending out replied stop.OutOfMemory starved same = rw same (starves Ending out starved)
-replied_in_part Ending out replied _ starved none = absurd none
-
--- a reply of one kind is one of another
-module _ (Ending Other : Outcome → List ℕ → Type 0) (each : (outcome : Outcome) (text : List ℕ) → Ending outcome text → Other outcome text)
-    (out replied : SinkState) where
-  sends_as : (reply : Reply) (result : Result (Unit {0}) WriteFault) → SendsReply Ending out replied reply result → SendsReply Other out replied reply result
-  sends_as reply result sends = record { text = sends.text; ends = each (reply_outcome reply) sends.text sends.ends; sent = sends.sent }
-
-  pub replied_as : (result : Result Reply Stop) → Replied Ending out replied result → Replied Other out replied result
-  replied_as (Ok reply) sends = sends_as reply (Ok tt) sends
-  replied_as (Err (stop.Out fault)) sends = (sends.0, sends_as sends.0 (Err fault) sends.1)
-  replied_as (Err stop.OutOfMemory) same = same
-  replied_as (Err _) none = absurd none

@@ -1,19 +1,21 @@
 -- What the command `batch` does over a network: it reads a file of pairs, and replies to each of them in order. What is
 -- said of the file's bytes holds where the folder tells its files.
-use Rattle.std.specs.Prelude.{◌≡◌, ℕ, ◌<◌, List, [], Option, length, take, ◌⊎◌}
+use Rattle.std.specs.Prelude.{◌≡◌, ℕ, ◌<◌, List, [], Option, length, take}
 use Rattle.std.specs.List.{AllZip, concat}
 use Rattle.route_io.specs.Files.{FileMap}
 use Rattle.road_network.specs.Network.{Network}
 use Rattle.gr_reader.specs.declared.fault.LineKind.{LineKind}
 use Rattle.query_reader.specs.Grammar.{IsPairs, PairFault}
 use Rattle.query_reader.specs.declared.pairs.Pair.{Pair}
+use Rattle.query_replies.specs.declared.asked.Reply.{Reply}
+use Rattle.query_replies.specs.Queries.{RepliesToQuery}
 use Rattle.command_words.specs.declared.AnswerKind.TheVariants.{Walks}
 use Rattle.command_words.specs.declared.Effort.{Effort}
 use Rattle.command_words.specs.declared.Query.{Query}
 use Rattle.command_words.specs.Words.{BatchAsked}
 use Rattle.route_top.specs.FilesRead.{ReadingStop, Tells, reading_limits}
 use Rattle.route_top.specs.Outcome.{Outcome, done, bad_pairs, no_memory}
-use Rattle.route_top.specs.Queries.{Answers, Refuses}
+use Rattle.route_top.specs.Queries.{asked_for}
 
 -- the file of this name says these pairs
 abbrev pub SaysPairs : Option FileMap → List ℕ → List Pair → Type 0
@@ -44,7 +46,7 @@ query_between effort pair = record { from = pair.from; to = pair.to; effort = ef
 -- the reply to a pair is the answer with walks, or a refusal
 abbrev pub RepliesTo : Effort → Network → Pair → List ℕ → Type 0
 RepliesTo effort net pair text =
-    Answers Walks net (query_between effort pair) text ⊎ Refuses net (query_between effort pair) text
+    (reply : Reply) × RepliesToQuery net 0 (asked_for Walks (query_between effort pair)) reply text
 
 -- The text is the replies to these pairs, one for each, in order.
 pub record RepliesToEach (effort : Effort) (net : Network) (pairs : List Pair) (text : List ℕ) : Type 0 where

@@ -1,9 +1,7 @@
 pub mod Texts
-pub mod Pieces
 pub mod Outcome
 pub mod FilesRead
 pub mod Queries
-pub mod Searched
 pub mod Check
 pub mod Batch
 pub mod Summary

@@ -12,7 +12,7 @@ use Rattle.route_top.specs.FilesRead.{FilesEnd}
 use Rattle.route_top.specs.Gen.{GenEnds}
 use Rattle.route_top.specs.Outcome.{Outcome, bad_words, out_failed, no_memory, out_wanted}
 use Rattle.route_top.specs.Outcome.{status_of, note_of, out_has_wanted}
-use Rattle.route_top.specs.Queries.{QueryReplies}
+use Rattle.route_top.specs.Queries.{QueryReplies, asked_for}
 
 -- a name is one of those that the words ask for
 abbrev pub IsAskedName : List (List ℕ) → List ℕ → Type 0
@@ -20,7 +20,7 @@ IsAskedName words name = (asked : Asked) × Asks words asked × Contains (names_
 
 -- how a run of a command ends, and what it sends to `out`, where nothing cuts that short
 abbrev pub Ends : Option FileMap → Asked → Outcome → List ℕ → Type 0
-Ends files (single asked) = FilesEnd (QueryReplies asked.kind asked.query) files asked.files
+Ends files (single asked) = FilesEnd (QueryReplies (asked_for asked.kind asked.query)) files asked.files
 Ends files (check names) = FilesEnd CheckReplies files names
 Ends files (batch asked) = FilesEnd (BatchReplies files asked) files asked.files
 Ends files (generate asked) = GenEnds asked

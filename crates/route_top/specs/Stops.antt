@@ -2,12 +2,13 @@
 use Rattle.std.specs.Prelude.{◌≡◌, ℕ, List, Result, Ok, Err}
 use Rattle.arc_graph.specs.declared.join.JoinFault.{JoinFault}
 use Rattle.arc_graph.specs.declared.join.JoinFault.TheVariants as join
-use Rattle.route_io.specs.Sinks.{SinkState, Sends}
+use Rattle.route_io.specs.Sinks.{SinkState}
 use Rattle.route_io.specs.Sources.{SourceState}
-use Rattle.route_io.specs.declared.fault.WriteFault.{WriteFault}
 use Rattle.route_io.specs.declared.fault.WriteFault.TheVariants as write
-use Rattle.route_top.specs.declared.reply.Reply.{Reply}
-use Rattle.route_top.specs.declared.reply.Reply.TheVariants.{Answer, Refusal}
+use Rattle.query_replies.specs.declared.asked.Reply.{Reply}
+use Rattle.query_replies.specs.declared.asked.Reply.TheVariants.{Answer, Refusal}
+use Rattle.query_replies.specs.declared.fault.ReplyFault.{ReplyFault}
+use Rattle.query_replies.specs.declared.fault.ReplyFault.TheVariants as reply
 use Rattle.route_top.specs.declared.stop.Disagreement.TheVariants as files
 use Rattle.route_top.specs.declared.stop.Stop.{Stop}
 use Rattle.route_top.specs.declared.stop.Stop.TheVariants as stop
@@ -44,6 +45,11 @@ stop_of (join.Ends arc file) = stop.Files (files.Ends arc file)
 stop_of (join.ZeroArc arc) = stop.Files (files.ZeroArc arc)
 stop_of join.OutOfMemory = stop.OutOfMemory
 
+-- why a reply that wasn't sent whole ends a run
+abbrev pub stop_at : ReplyFault → Stop
+stop_at (reply.Out cut) = stop.Out cut
+stop_at reply.OutOfMemory = stop.OutOfMemory
+
 -- what is sent is this text, and the run ends so
 abbrev pub IsReply : Outcome → List ℕ → Outcome → List ℕ → Type 0
 IsReply end reply outcome text = (outcome ≡ end) × (text ≡ reply)
@@ -51,17 +57,3 @@ IsReply end reply outcome text = (outcome ≡ end) × (text ≡ reply)
 -- what a call does to the sink of replies that leaves the folder alone
 abbrev pub Replies : (Outcome → List ℕ → Type 0) → SinkState → SinkState → Outcome → Type 0
 Replies Ending out replied outcome = (folder : SourceState) → Runs Ending folder folder out replied outcome
-
--- A reply was sent, or at a fault a part of it from the front.
-pub record SendsReply (Ending : Outcome → List ℕ → Type 0) (out replied : SinkState) (reply : Reply)
-    (result : Result (Unit {0}) WriteFault) : Type 0 where
-  pub text : List ℕ
-  pub ends : Ending (reply_outcome reply) text
-  pub sent : Sends out replied text result
-
--- what a call does that sends a reply and answers which, unless memory runs out before its first byte
-abbrev pub Replied : (Outcome → List ℕ → Type 0) → SinkState → SinkState → Result Reply Stop → Type 0
-Replied Ending out replied (Ok reply) = SendsReply Ending out replied reply (Ok tt)
-Replied Ending out replied (Err (stop.Out fault)) = (reply : Reply) × SendsReply Ending out replied reply (Err fault)
-Replied Ending out replied (Err stop.OutOfMemory) = replied ≡ out
-Replied Ending out replied (Err stop) = ⊥

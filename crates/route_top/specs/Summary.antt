@@ -11,6 +11,7 @@ use Rattle.arc_graph.specs.Graph.{Graph, Weights, network}
 use Rattle.arc_graph.specs.Agreement.{Agree, joined}
 use Rattle.arc_graph.specs.Joiner.{Joiner}
 use Rattle.path_readback.specs.Found.{Found, IsFound}
+use Rattle.path_readback.specs.WellFound.{IsWellFound}
 use Rattle.gr_reader.specs.Grammar.{IsGrFile}
 use Rattle.gr_reader.specs.Sinks.{JoinerHasTaken}
 use Rattle.query_reader.specs.declared.pairs.Pair.{Pair}
@@ -20,7 +21,6 @@ use Rattle.graph_gen.specs.Texts.{file_text, pairs_text}
 use Rattle.command_words.specs.declared.Query.{Query}
 use Rattle.command_words.specs.Words.{GenAsked}
 use Rattle.route_top.specs.declared.summary.Summary.{Summary}
-use Rattle.route_top.specs.Searched.{HasAnswer}
 use Rattle.route_top.specs.FilesRead.{reading_limits}
 use Rattle.route_top.specs.Texts.{gen_reply}
 
@@ -106,6 +106,14 @@ with_pair s None = record s { pairs = s.pairs + 1; passed = s.passed + 1 }
 -- the pair that a query leads between
 abbrev pub pair_of : Query → Pair
 pair_of query = record { from = query.from; to = query.to }
+
+-- What was found is of this query without a limit, and has its whole answer.
+pub record HasAnswer (g : Graph) (w : Weights) (query : Query) (f : Found) : Type 0 where
+  pub start : f.start ≡ query.from
+  pub target : f.target ≡ query.to
+  pub nodes : f.nodes ≡ g.nodes
+  pub criteria : f.criteria ≡ g.criteria
+  pub well_found : IsWellFound (network g w) (no_limit g.criteria) f
 
 -- What was found is the whole answer to a query within its budget, which few costs are.
 pub record HasWhole (g : Graph) (w : Weights) (query : Query) (f : Found) : Type 0 where

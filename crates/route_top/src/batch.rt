@@ -1,6 +1,5 @@
 //! The command `batch`.
-ghost use Rattle.std.specs.Prelude.{◌≡◌, ◌==◌, All};
-ghost use Rattle.road_network.specs.Network.{IsNetwork};
+ghost use Rattle.std.specs.Prelude.{◌≡◌, ◌==◌, ◌≤◌, All};
 ghost use Rattle.arc_graph.specs.Graph.{Match, network};
 ghost use Rattle.command_words.specs.Words.{FilesInRange, IsEffort, batch, batch_asked, names_of};
 ghost use Rattle.route_io.specs.Sources.{ReadsFrom};
@@ -10,16 +9,18 @@ ghost use Rattle.route_top.specs.Output.{Ends, Runs};
 ghost use Rattle.route_top.specs.ReadResults.{PairsRead};
 ghost use Rattle.route_top.specs.Stops.{Replies, run_outcome};
 
-use crate::answerer::Answerer;
 use crate::network::{LIMITS, read_network};
+use crate::reply::{EPOCH, asked_for};
 use crate::stop::Stop;
 use command_words::{AnswerKind, BatchWords, Effort, Query};
 use gr_reader::FileFault;
 use path_readback::Room;
 use query_reader::{Pair, read_p2p};
+use query_replies::Answerer;
 use route_io::{Folder, Gate, Sink};
 use std::alloc::Global;
 use std::thread::Threads;
+use work_claim::Crew;
 
 /// Answers a query for each pair of the file of pairs over the named files.
 pub(crate) fn run<'a, R: Threads + Sync, G: Gate, F: Folder, K: Sink>(
@@ -40,14 +41,15 @@ pub(crate) fn run<'a, R: Threads + Sync, G: Gate, F: Folder, K: Sink>(
     let (graph, weights) = read_network(alloc, folder, &asked.files)?;
     let mut room = Room::with(alloc, 0)?;
     let pairs = read_pairs(alloc, folder, asked.pairs)?;
+    let workers = asked.effort.workers;
+    let crew = Crew { rt, workers, gate };
     let answerer = Answerer {
-        rt,
+        crew: &crew,
         alloc,
-        gate,
         graph: &graph,
         weights: &weights,
     };
-    answerer.reply_each(asked.effort, &pairs, &mut room, out)
+    reply_each(&answerer, asked.effort, &pairs, &mut room, out)
 }
 
 /// Reads the file of pairs.
@@ -72,27 +74,28 @@ fn read_pairs<'a, F: Folder>(
     }
 }
 
-impl<R: Threads + Sync, G: Gate> Answerer<'_, R, G> {
-    /// Sends the reply to each pair in order. A refused pair ends nothing, and the room serves all pairs.
-    fn reply_each<'a, K: Sink>(
-        &self,
-        effort: Effort,
-        pairs: &[Pair],
-        room: &mut Room,
-        out: &mut K,
-    ) -> Result<(), Stop<'a>>
-        requires network { IsNetwork (network self.now.graph.now self.now.weights.now) }
-        requires matched { Match self.now.graph.now self.now.weights.now }
-        requires effort { IsEffort effort }
-        ensures { Replies (PairsReplies effort (network self.now.graph.now self.now.weights.now)
-            pairs.now) (K.state out.old) (K.state out.new) (run_outcome result) }
-    {
-        for pair in pairs {
-            let query = query_between(effort, *pair);
-            self.reply(AnswerKind::Walks, &query, room, out)?;
-        }
-        Ok(())
+/// Sends the reply to each pair in order. A refused pair ends nothing, and the room serves all pairs.
+fn reply_each<'a, R: Threads + Sync, G: Gate, K: Sink>(
+    answerer: &Answerer<'_, R, G>,
+    effort: Effort,
+    pairs: &[Pair],
+    room: &mut Room,
+    out: &mut K,
+) -> Result<(), Stop<'a>>
+    requires at_least_one { 1 ≤ answerer.now.crew.now.workers }
+    requires at_most_64 { answerer.now.crew.now.workers ≤ 64 }
+    requires matched { Match answerer.now.graph.now answerer.now.weights.now }
+    requires effort { IsEffort effort }
+    ensures { Replies (PairsReplies effort
+        (network answerer.now.graph.now answerer.now.weights.now) pairs.now)
+        (K.state out.old) (K.state out.new) (run_outcome result) }
+{
+    for pair in pairs {
+        let query = query_between(effort, *pair);
+        let asked = asked_for(AnswerKind::Walks, &query);
+        answerer.reply(EPOCH, &asked, room, out)?;
     }
+    Ok(())
 }
 
 /// The query from one node of a pair to the other.

@@ -1,5 +1,6 @@
 //! What the answers to many queries over one network come to.
 ghost use Rattle.std.specs.Prelude.{◌≡◌, ◌+◌, ◌≤◌, ◌<◌, IfOk, OnOk, All, length};
+ghost use Rattle.cost_vector.specs.Costs.{no_limit};
 ghost use Rattle.road_network.specs.Limits.{max_budget};
 ghost use Rattle.road_network.specs.Network.{IsNetwork};
 ghost use Rattle.arc_graph.specs.Graph.{Match, network};
@@ -7,24 +8,34 @@ ghost use Rattle.path_readback.specs.Found.{IsFound};
 ghost use Rattle.graph_gen.specs.Plans.{max_pairs};
 ghost use Rattle.gen_laws.specs.Laws.{HasNodes, IsSmall};
 ghost use Rattle.command_words.specs.Words.{IsEffort};
-ghost use Rattle.route_top.specs.Searched.{HasAnswer};
 ghost use Rattle.route_top.specs.Summary.{AreFew, CountsAnswer, CountsPair, Fits};
-ghost use Rattle.route_top.specs.Summary.{HasWhole, SumsUp, pair_of};
+ghost use Rattle.route_top.specs.Summary.{HasAnswer, HasWhole, SumsUp, pair_of};
 
-use crate::answerer::{Answerer, unlimited};
 use crate::batch::query_between;
 use crate::summary::Summary;
+use arc_graph::{Graph, Weights};
 use command_words::{Effort, Query};
-use cost_vector::OutOfMemory;
+use cost_vector::{Limit, NodeNo, OutOfMemory};
 use pareto_search::search;
 use path_readback::{Found, Room, walk};
 use query_reader::Pair;
 use route_io::Gate;
 use route_query::SearchFault;
+use std::alloc::Global;
 use std::thread::Threads;
 use work_claim::Crew;
 
-impl<R: Threads + Sync, G: Gate> Answerer<'_, R, G> {
+/// Who counts what the answers to queries over one network come to.
+#[derive(Drop)]
+pub(crate) struct Counter<'n, R, G> {
+    pub rt: &'n R,
+    pub alloc: Global,
+    pub gate: &'n G,
+    pub graph: &'n Graph,
+    pub weights: &'n Weights,
+}
+
+impl<R: Threads + Sync, G: Gate> Counter<'_, R, G> {
     /// Answers a query for each pair in order, and counts what comes of it.
     pub(crate) fn count_pairs(&self, effort: Effort, pairs: &[Pair]) -> Result<Summary, OutOfMemory>
         requires network { IsNetwork (network self.now.graph.now self.now.weights.now) }
@@ -129,5 +140,20 @@ impl<R: Threads + Sync, G: Gate> Answerer<'_, R, G> {
             counts.count_route(&found.cost(i), room.arcs());
         }
         Ok(())
+    }
+}
+
+/// The query as the search takes it, without a limit.
+fn unlimited(graph: &Graph, query: &Query) -> route_query::Query
+    ensures from { result.from.0 ≡ query.now.from }
+    ensures to { result.to.0 ≡ query.now.to }
+    ensures limit { result.limit ≡ no_limit graph.now.criteria }
+    ensures budget { result.budget ≡ query.now.effort.budget }
+{
+    route_query::Query {
+        from: NodeNo(query.from),
+        to: NodeNo(query.to),
+        limit: Limit::none(graph.criteria()),
+        budget: query.effort.budget,
     }
 }

@@ -7,7 +7,7 @@ ghost use Rattle.route_top.specs.Stops.{Replies, run_outcome};
 ghost use Rattle.route_top.specs.Summary.{ComesTo};
 ghost use Rattle.route_top.specs.Texts.{gen_reply};
 
-use crate::answerer::Answerer;
+use crate::counting::Counter;
 use crate::plan::{plan_network, plan_pairs};
 use crate::reply::{kept, send};
 use crate::stop::Stop;
@@ -104,12 +104,12 @@ fn sum_up<R: Threads + Sync, G: Gate>(
     pairs_have_nodes();
     let (graph, weights) = plan_network(alloc, &asked.plan)?;
     let pairs = plan_pairs(alloc, &asked.plan)?;
-    let answerer = Answerer {
+    let counter = Counter {
         rt,
         alloc,
         gate,
         graph: &graph,
         weights: &weights,
     };
-    answerer.count_pairs(asked.effort, &pairs)
+    counter.count_pairs(asked.effort, &pairs)
 }

@@ -9,13 +9,11 @@ ghost use Rattle.command_words.specs.Words.{asked_of, names_of, texts_of};
 ghost use Rattle.route_top.specs.Output.{Ends, IsAskedName, Output, Runs, EndsByWords};
 ghost use Rattle.route_top.specs.Stops.{run_outcome};
 
-mod answerer;
 mod batch;
 mod check;
 mod counting;
 mod generate;
 mod network;
-mod pieces;
 mod plan;
 mod reply;
 mod single;

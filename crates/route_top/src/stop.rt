@@ -4,13 +4,15 @@ ghost use Rattle.route_io.specs.Sinks.{Sends};
 ghost use Rattle.answer_writer.specs.Replies.{end_line};
 ghost use Rattle.route_top.specs.Outcome.{bad_files, note_of, status_of, told_line};
 
-use crate::pieces::{Piece, put_line};
 use crate::status::{
     BAD_FILE, BAD_FILES, BAD_PAIRS, BAD_WORDS, FOLDER_FAILED, OUT_FAILED, REFUSED, WANT_OF_MEMORY,
 };
+use answer_writer::{Piece, put_line};
 use arc_graph::JoinFault;
 use cost_vector::OutOfMemory;
 use gr_reader::LineKind;
+use query_replies::ReplyFault;
+use route_io::sure::SureSink;
 use route_io::{Sink, WriteFault, put_all};
 use std::alloc::Global;
 
@@ -72,8 +74,22 @@ impl Stop<'_> {
         }
     }
 
-    /// Sends the note at once, one line, or nothing where `out` has the reason.
+    /// Sends the note at once, one line, or nothing where `out` has the reason. Where memory for it is wanting, it goes in
+    /// pieces.
     pub(crate) fn note<E: Sink>(&self, alloc: Global, err: &mut E) -> Result<(), WriteFault>
+        ensures { Sends (E.state err.old) (E.state err.new)
+            (note_of (outcome_of self.now)) result }
+    {
+        let mut line = SureSink::new(alloc);
+        if self.put_note(&mut line).is_ok() {
+            put_all(err, line.sent())
+        } else {
+            self.put_note(err)
+        }
+    }
+
+    /// Sends the note.
+    fn put_note<E: Sink>(&self, err: &mut E) -> Result<(), WriteFault>
         ensures { Sends (E.state err.old) (E.state err.new)
             (note_of (outcome_of self.now)) result }
     {
@@ -81,19 +97,15 @@ impl Stop<'_> {
         match self {
             Stop::Words => put_all(err, b"route: words\n"),
             Stop::Folder { name } => {
-                put_line(
-                    alloc,
-                    err,
-                    &[Text("route: folder "), Text(name), Text("\n")],
-                )
+                put_line(err, &[Text("route: folder "), Text(name), Text("\n")])
             }
             Stop::Out(WriteFault::Failed) => put_all(err, b"route: out\n"),
             Stop::File { name, line, kind } => {
-                note_line(alloc, err, "route: file ", name, *line, *kind)
+                note_line(err, "route: file ", name, *line, *kind)
             }
-            Stop::Files(way) => note_disagreement(alloc, err, *way),
+            Stop::Files(way) => note_disagreement(err, *way),
             Stop::Pairs { name, line, kind } => {
-                note_line(alloc, err, "route: pairs ", name, *line, *kind)
+                note_line(err, "route: pairs ", name, *line, *kind)
             }
             Stop::Refused => Ok(()),
             Stop::Out(WriteFault::OutOfMemory) | Stop::OutOfMemory => {
@@ -105,7 +117,6 @@ impl Stop<'_> {
 
 /// Sends the note on a faulty line, which begins with this head.
 fn note_line<'x, E: Sink>(
-    alloc: Global,
     err: &mut E,
     head: &'x str,
     name: &'x str,
@@ -117,7 +128,6 @@ fn note_line<'x, E: Sink>(
 {
     use Piece::{Number, Text};
     put_line(
-        alloc,
         err,
         &[
             Text(head),
@@ -132,17 +142,12 @@ fn note_line<'x, E: Sink>(
 }
 
 /// Sends the note on files that don't agree.
-fn note_disagreement<E: Sink>(
-    alloc: Global,
-    err: &mut E,
-    way: Disagreement,
-) -> Result<(), WriteFault>
+fn note_disagreement<E: Sink>(err: &mut E, way: Disagreement) -> Result<(), WriteFault>
     ensures { Sends (E.state err.old) (E.state err.new) (note_of (bad_files way)) result }
 {
     use Piece::{Number, Text};
     match way {
         Disagreement::Sizes { file } => put_line(
-            alloc,
             err,
             &[
                 Text("route: files sizes file"),
@@ -151,7 +156,6 @@ fn note_disagreement<E: Sink>(
             ],
         ),
         Disagreement::Ends { arc, file } => put_line(
-            alloc,
             err,
             &[
                 Text("route: files ends arc"),
@@ -162,7 +166,6 @@ fn note_disagreement<E: Sink>(
             ],
         ),
         Disagreement::ZeroArc { arc } => put_line(
-            alloc,
             err,
             &[
                 Text("route: files zero arc"),
@@ -192,6 +195,20 @@ impl From<OutOfMemory> for Stop<'_> {
 
     fn from(_: OutOfMemory) -> Self {
         Stop::OutOfMemory
+    }
+}
+
+impl From<ReplyFault> for Stop<'_> {
+    ghost use Rattle.std.specs.Prelude.{◌≡◌};
+    ghost use Rattle.route_top.specs.Stops.{stop_at};
+
+    ghost from_gives = { λ fault s. s ≡ stop_at fault };
+
+    fn from(fault: ReplyFault) -> Self {
+        match fault {
+            ReplyFault::Out(cut) => Stop::Out(cut),
+            ReplyFault::OutOfMemory => Stop::OutOfMemory,
+        }
     }
 }
 

@@ -7,7 +7,7 @@ ghost use Rattle.graph_gen.specs.Plans.{max_pairs};
 ghost use Rattle.route_top.specs.Summary.{AreFew, Fits, summary_of, with_pair, with_routes};
 ghost use Rattle.route_top.specs.Texts.{gen_reply};
 
-use crate::pieces::{Piece, put_pieces};
+use answer_writer::{Piece, put_line};
 use arc_graph::Graph;
 use cost_vector::{ArcNo, Cost};
 use route_io::{Sink, WriteFault};
@@ -94,7 +94,7 @@ pub(crate) fn put_summary<K: Sink>(sink: &mut K, summary: &Summary) -> Result<()
     ensures { Sends (K.state sink.old) (K.state sink.new) (gen_reply summary.now) result }
 {
     use Piece::{Number, Text};
-    put_pieces(
+    put_line(
         sink,
         &[
             Text("gen"),

@@ -1,0 +1,12 @@
+use Rattle.std.proofs.Common.{◌≤◌}
+use Rattle.arc_graph.specs.Graph.{network}
+use Rattle.path_readback.specs.Found.{longest_in}
+use Rattle.route_top.proofs.CountLemmas.{HasCounted}
+use Rattle.route_top.proofs.counting.Counter.count_routes.Given as goal
+
+-- the costs so far were counted, and the room holds the next walk
+abbrev pub invariant-loop-i : goal.invariant-loop-i
+invariant-loop-i g l = record {
+  room : longest_in (g.F.Found.state l.found) ≤ l.room.holds;
+  counted : HasCounted (network l.self.graph.now l.self.weights.now) (g.F.Found.state l.found) l.i l.fn.counts l.counts;
+}

@@ -1,0 +1,7 @@
+use Rattle.route_top.proofs.stop.Stop.put_note.Goals as goal
+
+pub returns-in-Words : goal.returns-in-Words
+returns-in-Words g c = rw c.in-Words.is c.put_all.ensures
+
+pub returns-in-Folder : goal.returns-in-Folder
+returns-in-Folder g c = rw c.in-Folder.is c.put_line.ensures

@@ -1,0 +1,2 @@
+mod operator;
+mod stores;

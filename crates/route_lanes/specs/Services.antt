@@ -1,5 +1,25 @@
--- Parties that serve links, each one of its own.
+-- Parties that serve links, each one of its own, by calls of a closure.
 use Rattle.std.specs.Prelude.{◌≡◌, List, [], ◌∷◌, map, All}
+use Rattle.std.specs.Borrow.{MutBor}
+use Rattle.std.specs.Fn.{Shared}
+
+module _ {F P L : Type 0} (g : Shared F (MutBor P × (MutBor L × Unit {0})) (Unit {0} × (MutBor P × (MutBor L × Unit {0}))))
+    (f : F) where
+  -- f may be called with this party, and any link
+  abbrev pub Accepts : P → Type 0
+  Accepts p = (party : MutBor P) (link : MutBor L) → party.now ≡ p → g.pre f (party, (link, tt))
+
+  -- a call of f with this party and this link may leave those
+  pub record CallLeaves (p : P) (l : L) (p' : P) (l' : L) : Type 0 where
+    pub party : MutBor P
+    pub link : MutBor L
+    pub party_is : party.now ≡ p
+    pub link_is : link.now ≡ l
+    pub party_left : MutBor P
+    pub link_left : MutBor L
+    pub call : g.post f (party, (link, tt)) (tt, (party_left, (link_left, tt)))
+    pub party_becomes : party_left.now ≡ p'
+    pub link_becomes : link_left.now ≡ l'
 
 -- A party served the only link.
 pub record ServesOne {P L : Type 0} (Serves : P → L → P → L → Type 0) (party : P) (links : List L) (party_after : P)

@@ -5,6 +5,7 @@ mod operator_lane;
 mod report;
 mod run;
 mod service;
+mod session_lane;
 
 pub use report::LaneReport;
 pub use run::{Court, run_lanes};

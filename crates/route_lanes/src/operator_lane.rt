@@ -1,9 +1,8 @@
 //! The operator's lane.
 ghost use Rattle.std.specs.Prelude.{◌≡◌};
 ghost use Rattle.arc_graph.specs.History.{closed_history};
-ghost use Rattle.route_lanes.specs.Served.{IsNew, ServesOpen, whole_of};
+ghost use Rattle.route_lanes.specs.Served.{IsNew, OperatorServes, ServesOpen, state_of, whole_of};
 
-use crate::service::Service;
 use core::mem::replace_with;
 use epoch_store::{CloseRefused, Ended, Operator, Store};
 use route_io::{Link, Sink, Source};
@@ -24,21 +23,19 @@ pub(crate) struct OperatorLane<T: Store> {
     pub end: SessionEnd,
 }
 
-impl<'d, T: Store, R: Wait + Sync, S: Source, K: Sink> Service<OperatorLane<T>, Link<S, K>>
-    for Desk<'d, R>
-{
-    ghost use Rattle.route_lanes.specs.Served.{IsNew, ServesAndCloses};
-
-    ghost accepts = { λ desk lane. IsNew lane.store };
-
-    ghost serves = { λ desk lane link after served. ServesAndCloses T.origin desk.bytes
-        (record { from = S.state link.from; to = K.state link.to })
-        (record { from = S.state served.from; to = K.state served.to }) after.end after.store };
-
+impl<T: Store> OperatorLane<T> {
     /// Serves a link, and closes the store.
-    fn serve(&self, lane: &mut OperatorLane<T>, link: &mut Link<S, K>) {
-        lane.end = serve_open(self, &mut lane.store, link);
-        replace_with(&mut lane.store, self.rt, close_in_place::<T, R>);
+    pub(crate) fn serve<R: Wait, S: Source, K: Sink>(
+        &mut self,
+        desk: &Desk<'_, R>,
+        link: &mut Link<S, K>,
+    )
+        requires { IsNew self.old.store }
+        ensures { OperatorServes (state_of S.state K.state) T.origin desk.now.bytes
+            self.old link.old self.new link.new }
+    {
+        self.end = serve_open(desk, &mut self.store, link);
+        replace_with(&mut self.store, desk.rt, close_in_place::<T, R>);
     }
 }
 
@@ -49,9 +46,8 @@ fn serve_open<T: Store, R: Wait, S: Source, K: Sink>(
     link: &mut Link<S, K>,
 ) -> SessionEnd
     requires { IsNew store.old }
-    ensures { ServesOpen T.origin desk.now.bytes
-        (record { from = S.state link.old.from; to = K.state link.old.to })
-        (record { from = S.state link.new.from; to = K.state link.new.to }) result store.new }
+    ensures { ServesOpen T.origin desk.now.bytes (state_of S.state K.state link.old)
+        (state_of S.state K.state link.new) result store.new }
 {
     match store {
         StoreState::Open(operator) => {

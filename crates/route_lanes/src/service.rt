@@ -1,122 +1,109 @@
 //! Parties that serve links at once, each on a thread of its own.
-ghost use Rattle.std.specs.Prelude.{◌≡◌, ◌+◌, ◌++◌, ◌≤◌, length, All};
+ghost use Rattle.std.specs.Prelude.{◌≡◌, ◌+◌, ◌≤◌, length, All};
 ghost use Rattle.std.specs.Thread.{IsSend, IsSync};
-ghost use Rattle.route_lanes.specs.Services.{AllServe, FirstAndAllServe, ServesOne};
+ghost use Rattle.route_lanes.specs.Services.{Accepts, AllServe, CallLeaves, FirstAndAllServe, ServesOne};
 
 use std::thread::{Threads, join_mut};
-
-/// How a party serves a link.
-pub(crate) trait Service<P, L>: Sync {
-    /// Which parties can.
-    ghost accepts: { Self → P → Type 0 };
-
-    /// What becomes of the party and the link.
-    ghost serves: { Self → P → L → P → L → Type 0 };
-
-    /// Serves a link.
-    fn serve(&self, party: &mut P, link: &mut L)
-        requires { accepts self.now party.old }
-        ensures { serves self.now party.old link.old party.new link.new };
-}
 
 /// Has one party serve the first link, on the caller's thread, and each of the others one of the rest, on threads beside it.
 /// Where no thread can be started the first link is served before the rest.
 pub(crate) fn serve_all<
-    O: Send,
+    O,
     P: Send,
     L: Send,
-    V: Service<O, L>,
-    W: Service<P, L>,
+    V: Fn(&mut O, &mut L),
+    W: Fn(&mut P, &mut L) + Sync,
     R: Threads + Sync,
 >(
     rt: &R,
-    leading: &V,
+    lead: &V,
     leader: &mut O,
-    service: &W,
+    serve: &W,
     parties: &mut [P],
     links: &mut [L],
 )
     requires some { 1 ≤ length parties.old }
     requires links { length links.old ≡ length parties.old + 1 }
-    requires leader { V.accepts leading.now leader.old }
-    requires parties { All (W.accepts service.now) parties.old }
-    ensures { FirstAndAllServe (V.serves leading.now) (W.serves service.now)
+    requires leader { Accepts V.Fn lead.now leader.old }
+    requires parties { All (Accepts W.Fn serve.now) parties.old }
+    ensures { FirstAndAllServe (CallLeaves V.Fn lead.now) (CallLeaves W.Fn serve.now)
         leader.old parties.old links.old leader.new parties.new links.new }
 {
     let (first, rest) = links.split_at_mut(1);
-    serve_beside(rt, leading, leader, first, service, parties, rest);
+    serve_beside(rt, lead, leader, first, serve, parties, rest);
 }
 
 /// Has one party serve a link, and beside it each of the others one of the rest.
 fn serve_beside<
-    O: Send,
+    O,
     P: Send,
     L: Send,
-    V: Service<O, L>,
-    W: Service<P, L>,
+    V: Fn(&mut O, &mut L),
+    W: Fn(&mut P, &mut L) + Sync,
     R: Threads + Sync,
 >(
     rt: &R,
-    leading: &V,
+    lead: &V,
     leader: &mut O,
     first: &mut [L],
-    service: &W,
+    serve: &W,
     parties: &mut [P],
     rest: &mut [L],
 )
     requires first { length first.old ≡ 1 }
     requires some { 1 ≤ length parties.old }
     requires rest { length rest.old ≡ length parties.old }
-    requires leader { V.accepts leading.now leader.old }
-    requires parties { All (W.accepts service.now) parties.old }
-    ensures first { ServesOne (V.serves leading.now) leader.old first.old leader.new first.new }
-    ensures rest { AllServe (W.serves service.now) parties.old rest.old parties.new rest.new }
+    requires leader { Accepts V.Fn lead.now leader.old }
+    requires parties { All (Accepts W.Fn serve.now) parties.old }
+    ensures first { ServesOne (CallLeaves V.Fn lead.now) leader.old first.old leader.new first.new }
+    ensures rest { AllServe (CallLeaves W.Fn serve.now)
+        parties.old rest.old parties.new rest.new }
 {
     join_mut(
         rt,
         &mut ||
             requires { IsSync R.row × IsSync W.row × IsSend P.row × IsSend L.row
                 × (1 ≤ length parties.now) × (length rest.now ≡ length parties.now)
-                × All (W.accepts service.now) parties.now }
-            ensures { AllServe (W.serves service.entry.now)
+                × All (Accepts W.Fn serve.now) parties.now }
+            ensures { AllServe (CallLeaves W.Fn serve.entry.now)
                 parties.entry.now rest.entry.now parties.exit.now rest.exit.now }
-        { serve_each(rt, service, parties, rest) },
+        { serve_each(rt, serve, parties, rest) },
         &mut ||
-            requires { (length first.now ≡ 1) × V.accepts leading.now leader.now }
-            ensures { ServesOne (V.serves leading.entry.now)
+            requires { (length first.now ≡ 1) × Accepts V.Fn lead.now leader.now }
+            ensures { ServesOne (CallLeaves V.Fn lead.entry.now)
                 leader.entry.now first.entry.now leader.exit.now first.exit.now }
-        { serve_one(leading, leader, first) },
+        { serve_one(lead, leader, first) },
     );
 }
 
 /// Has each party serve the link of its place, on a thread of its own.
 #[cycle(each)]
-fn serve_each<P: Send, L: Send, W: Service<P, L>, R: Threads + Sync>(
+fn serve_each<P: Send, L: Send, W: Fn(&mut P, &mut L) + Sync, R: Threads + Sync>(
     rt: &R,
-    service: &W,
+    serve: &W,
     parties: &mut [P],
     links: &mut [L],
 )
     requires some { 1 ≤ length parties.old }
     requires links { length links.old ≡ length parties.old }
-    requires parties { All (W.accepts service.now) parties.old }
-    ensures { AllServe (W.serves service.now) parties.old links.old parties.new links.new }
+    requires parties { All (Accepts W.Fn serve.now) parties.old }
+    ensures { AllServe (CallLeaves W.Fn serve.now) parties.old links.old parties.new links.new }
 {
     if parties.len() == 1 {
-        serve_one(service, &mut parties[0], links);
+        serve_one(serve, &mut parties[0], links);
         return;
     }
     let half = parties.len() / 2;
     let (left, right) = parties.split_at_mut(half);
     let (left_links, right_links) = links.split_at_mut(half);
-    serve_halves(rt, service, left, left_links, right, right_links);
+    serve_halves(rt, serve, left, left_links, right, right_links);
 }
 
 /// Has the parties of two halves do so, side by side.
 #[cycle(each)]
-fn serve_halves<P: Send, L: Send, W: Service<P, L>, R: Threads + Sync>(
+fn serve_halves<P: Send, L: Send, W: Fn(&mut P, &mut L) + Sync, R: Threads + Sync>(
     rt: &R,
-    service: &W,
+    serve: &W,
     left: &mut [P],
     left_links: &mut [L],
     right: &mut [P],
@@ -126,10 +113,11 @@ fn serve_halves<P: Send, L: Send, W: Service<P, L>, R: Threads + Sync>(
     requires some_right { 1 ≤ length right.old }
     requires links { length left_links.old ≡ length left.old }
     requires right_links { length right_links.old ≡ length right.old }
-    requires parties { All (W.accepts service.now) left.old }
-    requires right_parties { All (W.accepts service.now) right.old }
-    ensures left { AllServe (W.serves service.now) left.old left_links.old left.new left_links.new }
-    ensures right { AllServe (W.serves service.now)
+    requires parties { All (Accepts W.Fn serve.now) left.old }
+    requires right_parties { All (Accepts W.Fn serve.now) right.old }
+    ensures left { AllServe (CallLeaves W.Fn serve.now)
+        left.old left_links.old left.new left_links.new }
+    ensures right { AllServe (CallLeaves W.Fn serve.now)
         right.old right_links.old right.new right_links.new }
 {
     join_mut(
@@ -137,25 +125,33 @@ fn serve_halves<P: Send, L: Send, W: Service<P, L>, R: Threads + Sync>(
         &mut ||
             requires { IsSync R.row × IsSync W.row × IsSend P.row × IsSend L.row
                 × (1 ≤ length left.now) × (length left_links.now ≡ length left.now)
-                × All (W.accepts service.now) left.now }
-            ensures { AllServe (W.serves service.entry.now)
+                × All (Accepts W.Fn serve.now) left.now }
+            ensures { AllServe (CallLeaves W.Fn serve.entry.now)
                 left.entry.now left_links.entry.now left.exit.now left_links.exit.now }
-        { serve_each(rt, service, left, left_links) },
+        { serve_each(rt, serve, left, left_links) },
         &mut ||
             requires { IsSync R.row × IsSync W.row × IsSend P.row × IsSend L.row
                 × (1 ≤ length right.now) × (length right_links.now ≡ length right.now)
-                × All (W.accepts service.now) right.now }
-            ensures { AllServe (W.serves service.entry.now)
+                × All (Accepts W.Fn serve.now) right.now }
+            ensures { AllServe (CallLeaves W.Fn serve.entry.now)
                 right.entry.now right_links.entry.now right.exit.now right_links.exit.now }
-        { serve_each(rt, service, right, right_links) },
+        { serve_each(rt, serve, right, right_links) },
     );
 }
 
 /// Has a party serve the only link.
-fn serve_one<P, L, W: Service<P, L>>(service: &W, party: &mut P, links: &mut [L])
+fn serve_one<P, L, W: Fn(&mut P, &mut L)>(serve: &W, party: &mut P, links: &mut [L])
     requires link { length links.old ≡ 1 }
-    requires party { W.accepts service.now party.old }
-    ensures { ServesOne (W.serves service.now) party.old links.old party.new links.new }
+    requires party { Accepts W.Fn serve.now party.old }
+    ensures { ServesOne (CallLeaves W.Fn serve.now) party.old links.old party.new links.new }
 {
-    service.serve(party, &mut links[0]);
+    serve_link(serve, party, &mut links[0]);
+}
+
+/// Has a party serve a link.
+fn serve_link<P, L, W: Fn(&mut P, &mut L)>(serve: &W, party: &mut P, link: &mut L)
+    requires { Accepts W.Fn serve.now party.old }
+    ensures { CallLeaves W.Fn serve.now party.old link.old party.new link.new }
+{
+    serve(party, link);
 }

@@ -1,8 +1,12 @@
+ghost use Rattle.std.specs.Prelude.{IsPermutation};
+
+use crate::groups::sort_by_node;
 use compact_labels::CompactLabel;
 use cost_vector::{NodeNo, OutOfMemory};
 use route_io::{Gate, Phase};
 use std::alloc::Global;
 use std::mem;
+use std::thread::Threads;
 use work_claim::Crew;
 
 /// For each node, the number of the last round in which it had candidates.
@@ -21,7 +25,19 @@ impl Marks {
 
     /// Lets one piece pass the gate for each node that has candidates, in any order: all that a search on one thread needs,
     /// which then has them arrive one by one.
-    pub fn pass_nodes<const D: usize, R, G: Gate>(
+    pub fn pass_nodes<const D: usize, R: Threads + Sync, G: Gate>(
+        &mut self,
+        crew: &Crew<'_, R, G>,
+        candidates: &mut [CompactLabel<D>],
+    )
+        ensures { IsPermutation candidates.old candidates.new }
+    {
+        bring_together(crew, candidates);
+        self.pass_marked(crew, candidates);
+    }
+
+    /// Lets a piece pass for each node of these candidates.
+    fn pass_marked<const D: usize, R, G: Gate>(
         &mut self,
         crew: &Crew<'_, R, G>,
         candidates: &[CompactLabel<D>],
@@ -42,5 +58,18 @@ impl Marks {
             Some(mark) => mem::replace(mark, self.round) != self.round,
             None => false,
         }
+    }
+}
+
+/// Brings the candidates of a node together where a front is scanned for each, as under 3 and 4 criteria. Under 2 it is
+/// searched, and to sort takes longer than it saves.
+fn bring_together<const D: usize, R: Threads + Sync, G: Gate>(
+    crew: &Crew<'_, R, G>,
+    candidates: &mut [CompactLabel<D>],
+)
+    ensures { IsPermutation candidates.old candidates.new }
+{
+    if D > 2 {
+        sort_by_node(crew, candidates);
     }
 }

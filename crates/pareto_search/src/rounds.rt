@@ -111,12 +111,13 @@ impl<const D: usize, F: ParetoFront<D> + Drop + Sync> Rounds<D, F> {
     {
         let Rounds {
             core,
-            candidates,
+            mut candidates,
             deltas,
             mut marks,
         } = self;
-        marks.pass_nodes(crew, &candidates);
-        let core = core.finish_here(&candidates)?;
+        let ordered = candidates.as_mut_slice();
+        marks.pass_nodes(crew, ordered);
+        let core = core.finish_here(ordered)?;
         Ok(Rounds {
             core,
             candidates,

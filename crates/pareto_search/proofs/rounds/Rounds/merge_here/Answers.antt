@@ -1,11 +1,13 @@
 use Rattle.std.proofs.Common.{rules}
-use Rattle.pareto_search.proofs.EndLemmas.{ends_here}
+use Rattle.pareto_search.proofs.EndLemmas.{nodes_in_any_order, spares_in_any_order, ends_in_any_order}
 use Rattle.pareto_search.proofs.rounds.Rounds.merge_here.Goals as goal
 
 pub finish_here-requires : goal.finish_here-requires
-finish_here-requires g c = rw c.deref-2.ensures.value (search rules, (search rules, (c.requires.nodes, c.requires.spares)))
+finish_here-requires g c =
+    let order = rw c.as_mut_slice-ordered.ensures.value at c.pass_nodes.ensures in
+    (search rules, (search rules, (nodes_in_any_order c.args.self.core.fronts _ _ order c.requires.nodes, spares_in_any_order c.args.self.core.fronts _ _ order c.requires.spares)))
 
 pub returns : goal.returns
 returns g c =
-    ends_here c.args.self.candidates.items _ _ (rw c.deref-2.ensures.value at c.in_ok-core.ensures.merged)
-    (rw c.deref-2.ensures.value at c.in_ok-core.ensures.finished)
+    let order = rw c.as_mut_slice-ordered.ensures.value at c.pass_nodes.ensures in
+    ends_in_any_order _ _ _ _ order c.in_ok-core.ensures.merged c.in_ok-core.ensures.finished

@@ -4,8 +4,8 @@ use Rattle.std.specs.Prelude.{codes, if◌then◌else◌, option_and_then}
 use Rattle.std.specs.Str.{bytes_eq}
 use Rattle.clap.specs.Words.{App, Row, Text, fault_of, first_of, is_simple_and_free, matches_of}
 use Rattle.command_words.specs.Apps.{app_for, word_of}
-use Rattle.command_words.specs.Words.{AreWords, Asked, Asks, AsksAs, AsksBatch, AsksEffort, AsksGen, AsksPlan, AsksQuery, AsksSingle, BatchAsked, GenAsked}
-use Rattle.command_words.specs.Words.{IsGiven, IsGivenIf, IsGivenOr, IsNamed, NamesFiles, SingleAsked, batch, check, generate, single}
+use Rattle.command_words.specs.Words.{AreWords, Asked, Asks, AsksAs, AsksBatch, AsksEffort, AsksGen, AsksLanes, AsksPlan, AsksQuery, AsksSingle, BatchAsked, GenAsked, LanesAsked}
+use Rattle.command_words.specs.Words.{IsGiven, IsGivenIf, IsGivenOr, IsNamed, NamesFiles, SingleAsked, batch, check, generate, lanes, single}
 use Rattle.graph_gen.specs.declared.GenPlan.{GenPlan}
 use Rattle.line_text.specs.declared.numerals.Numeral.TheVariants.{Value}
 use Rattle.command_words.specs.declared.apps.Name.{Name}
@@ -13,7 +13,7 @@ use Rattle.command_words.specs.declared.AnswerKind.{AnswerKind}
 use Rattle.command_words.specs.declared.AnswerKind.TheVariants.{Costs, Walks}
 use Rattle.command_words.specs.declared.Effort.{Effort}
 use Rattle.command_words.specs.declared.Query.{Query}
-use Rattle.command_words.specs.declared.apps.Name.TheVariants.{Batch, Check, Gen, Single}
+use Rattle.command_words.specs.declared.apps.Name.TheVariants.{Batch, Check, Gen, Lanes, Single}
 
 -- each command's arguments are of the kind whose matches are a function of the words
 pub apps_simple : (name : Name) → is_simple_and_free (app_for name) ≡ true
@@ -22,6 +22,7 @@ apps_simple (Single Walks) = refl
 apps_simple Check = refl
 apps_simple Batch = refl
 apps_simple Gen = refl
+apps_simple Lanes = refl
 
 -- ---- the words name one command at most
 
@@ -33,6 +34,7 @@ name_for word =
     else if bytes_eq word (codes "check") then Some Check
     else if bytes_eq word (codes "batch") then Some Batch
     else if bytes_eq word (codes "gen") then Some Gen
+    else if bytes_eq word (codes "lanes") then Some Lanes
     else None
 
 named_back : (name : Name) → name_for (word_of name) ≡ Some name
@@ -41,6 +43,7 @@ named_back (Single Walks) = refl
 named_back Check = refl
 named_back Batch = refl
 named_back Gen = refl
+named_back Lanes = refl
 
 same_name : (words : List Text) (m n : Name) → IsNamed words m → IsNamed words n → m ≡ n
 same_name words m n a b =
@@ -153,6 +156,18 @@ same_gen rows a b x y =
     let asked : GenPlan → Option ℕ → Effort → GenAsked = λ p f n. record { plan = p; file = f; effort = n } in
     let e : asked a.plan a.file a.effort ≡ asked b.plan b.file b.effort = cc in e
 
+same_lanes : (rows : List Row) (a b : LanesAsked) → AsksLanes rows a → AsksLanes rows b → a ≡ b
+same_lanes rows a b x y =
+    let operator : Some a.operator ≡ Some b.operator = sym x.operator ∙ y.operator in
+    let stem : Some a.stem ≡ Some b.stem = sym x.stem ∙ y.stem in
+    let count = same_number_or _ _ _ a.count b.count _ x.count y.count in
+    let epoch = same_number_or _ _ _ a.epoch b.epoch _ x.epoch y.epoch in
+    let effort = same_effort rows a.effort b.effort x.effort y.effort in
+    let files = same_files rows a.files b.files x.files y.files in
+    let asked : Text → Text → ℕ → ℕ → Effort → List Text → LanesAsked =
+    λ o s l k n f. record { operator = o; stem = s; count = l; epoch = k; effort = n; files = f } in
+    let e : asked a.operator a.stem a.count a.epoch a.effort a.files ≡ asked b.operator b.stem b.count b.epoch b.effort b.files = cc in e
+
 -- ---- a command's values are of its own kind
 
 single_alone : (kind : AnswerKind) (rows : List Row) (asked : Asked) → AsksAs (Single kind) rows asked
@@ -172,6 +187,10 @@ gen_alone : (rows : List Row) (asked : Asked) → AsksAs Gen rows asked → (g :
 gen_alone rows (generate g) values = (g, refl, values)
 gen_alone rows _ values = absurd values
 
+lanes_alone : (rows : List Row) (asked : Asked) → AsksAs Lanes rows asked → (l : LanesAsked) × (lanes l ≡ asked) × AsksLanes rows l
+lanes_alone rows (lanes l) values = (l, refl, values)
+lanes_alone rows _ values = absurd values
+
 same_values : (name : Name) (rows : List Row) (a b : Asked) → AsksAs name rows a → AsksAs name rows b → a ≡ b
 same_values (Single kind) rows a b x y =
     let (c, is_a, kind_c, values) = single_alone kind rows a x in
@@ -189,6 +208,10 @@ same_values Gen rows a b x y =
     let (g, is_a, values) = gen_alone rows a x in
     let (h, is_b, others) = gen_alone rows b y in
     sym is_a ∙ ap generate (same_gen rows g h values others) ∙ is_b
+same_values Lanes rows a b x y =
+    let (l, is_a, values) = lanes_alone rows a x in
+    let (m, is_b, others) = lanes_alone rows b y in
+    sym is_a ∙ ap lanes (same_lanes rows l m values others) ∙ is_b
 
 pub asks_one : (words : List Text) (a b : Asked) → Asks words a → Asks words b → a ≡ b
 asks_one words a b x y =

@@ -4,7 +4,7 @@ use Rattle.clap.specs.Words.{App, Rule, Text, new_app, new_rule, with_rule}
 use Rattle.clap.specs.declared.builder.action.ArgAction.TheVariants.{Append, Set}
 use Rattle.command_words.specs.declared.AnswerKind.TheVariants.{Costs, Walks}
 use Rattle.command_words.specs.declared.apps.Name.{Name}
-use Rattle.command_words.specs.declared.apps.Name.TheVariants.{Batch, Check, Gen, Single}
+use Rattle.command_words.specs.declared.apps.Name.TheVariants.{Batch, Check, Gen, Lanes, Single}
 
 -- the word that names a command
 abbrev pub word_of : Name → Text
@@ -13,6 +13,7 @@ word_of (Single Walks) = codes "one"
 word_of Check = codes "check"
 word_of Batch = codes "batch"
 word_of Gen = codes "gen"
+word_of Lanes = codes "lanes"
 
 -- an option with one value, `--name value` or `--name=value`, given at most once
 abbrev pub option_rule : Text → Bool → Rule
@@ -60,9 +61,20 @@ plan_app = with_rule (with_rule (with_rule (with_rule (bare_app (word_of Gen))
 abbrev pub gen_app : App
 gen_app = with_effort (with_rule plan_app (option_rule (codes "file") false))
 
+-- the scripts and the store of lanes: `lanes --operator NAME --sessions STEM [--lanes N] [--epoch N]`
+abbrev pub scripts_app : App
+scripts_app = with_rule (with_rule (with_rule (with_rule (bare_app (word_of Lanes))
+    (option_rule (codes "operator") true)) (option_rule (codes "sessions") true))
+    (option_rule (codes "lanes") false)) (option_rule (codes "epoch") false)
+
+-- and then `[--budget B] [--workers W] FILES`
+abbrev pub lanes_app : App
+lanes_app = with_rule (with_effort scripts_app) files_rule
+
 -- the arguments of a command
 abbrev pub app_for : Name → App
 app_for (Single kind) = single_app (word_of (Single kind))
 app_for Check = check_app
 app_for Batch = batch_app
 app_for Gen = gen_app
+app_for Lanes = lanes_app

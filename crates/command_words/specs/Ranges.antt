@@ -21,6 +21,22 @@ default_workers = 1
 abbrev pub max_workers : ℕ
 max_workers = 64
 
+-- the lanes of sessions where none are given
+abbrev pub default_lanes : ℕ
+default_lanes = 1
+
+-- the most lanes of sessions
+abbrev pub max_lanes : ℕ
+max_lanes = 16
+
+-- the number of the first epoch where none is given
+abbrev pub default_epoch : ℕ
+default_epoch = 0
+
+-- the greatest number of an epoch
+abbrev pub max_epoch : ℕ
+max_epoch = 2 ^ 32 - 1
+
 -- the fewest weight files: each is one criterion
 abbrev pub min_files : ℕ
 min_files = 2

@@ -1,6 +1,7 @@
 -- What the words of a command line ask for.
-use Rattle.std.specs.Prelude.{◌≡◌, ◌≤◌, ◌++◌, ◌∷◌, ℕ, List, [], Option, Some, None, IfSome, codes, length, map}
+use Rattle.std.specs.Prelude.{◌≡◌, ◌≤◌, ◌++◌, ◌∷◌, ℕ, List, [], Option, Some, None, IfSome, codes, decimal, length, map}
 use Rattle.std.specs.Prelude.{slice_get, String}
+use Rattle.std.specs.List.{range_with_len}
 use Rattle.std.specs.String.{string_bytes}
 use Rattle.clap.specs.Words.{Row, Text, all_of, fault_of, first_of, matches_of}
 use Rattle.command_words.specs.Apps.{app_for, word_of}
@@ -12,15 +13,17 @@ use Rattle.command_words.specs.declared.Command.{Command}
 use Rattle.command_words.specs.declared.Command.TheVariants as command
 use Rattle.command_words.specs.declared.Effort.{Effort}
 use Rattle.command_words.specs.declared.GenWords.{GenWords}
+use Rattle.command_words.specs.declared.LanesWords.{LanesWords}
 use Rattle.command_words.specs.declared.Query.{Query}
 use Rattle.command_words.specs.declared.SingleWords.{SingleWords}
 use Rattle.command_words.specs.declared.apps.Name.{Name}
-use Rattle.command_words.specs.declared.apps.Name.TheVariants.{Batch, Check, Gen, Single}
+use Rattle.command_words.specs.declared.apps.Name.TheVariants.{Batch, Check, Gen, Lanes, Single}
 use Rattle.line_text.specs.declared.numerals.Numeral.TheVariants.{Value}
 use Rattle.graph_gen.specs.declared.GenPlan.{GenPlan}
 use Rattle.graph_gen.specs.Plans.{IsPlan, max_pairs, max_side, min_pairs, min_side}
 use Rattle.road_network.specs.Limits.{max_budget}
 use Rattle.command_words.specs.Ranges.{default_budget, default_workers, max_node, max_start, max_workers, min_files, max_files}
+use Rattle.command_words.specs.Ranges.{default_epoch, default_lanes, max_epoch, max_lanes}
 
 -- ---- what a command may be asked for
 
@@ -42,12 +45,31 @@ pub record GenAsked : Type 0 where
   pub file : Option ℕ
   pub effort : Effort
 
+-- lanes beside each other over the network of the files, by an operator's script and one of each session; the names of
+-- these begin with the stem, and the first epoch has this number
+pub record LanesAsked : Type 0 where
+  pub operator : Text
+  pub stem : Text
+  pub count : ℕ
+  pub epoch : ℕ
+  pub effort : Effort
+  pub files : List Text
+
 -- one command and its values; `check` has the names of its files alone
 pub data Asked : Type 0 where
   single : SingleAsked → Asked
   check : List Text → Asked
   batch : BatchAsked → Asked
   generate : GenAsked → Asked
+  lanes : LanesAsked → Asked
+
+-- the name of a session's script: the stem and the session's number
+abbrev pub session_name : Text → ℕ → Text
+session_name stem number = stem ++ decimal number
+
+-- the names of the scripts of lanes, the operator's first, and then those of the sessions from number 1 on
+abbrev pub scripts_of : LanesAsked → List Text
+scripts_of asked = asked.operator ∷ map (session_name asked.stem) (range_with_len 1 asked.count)
 
 -- the names of all files that a command reads, in the order of its work
 abbrev pub names_of : Asked → List Text
@@ -55,6 +77,7 @@ names_of (single asked) = asked.files
 names_of (check files) = files
 names_of (batch asked) = asked.files ++ asked.pairs ∷ []
 names_of (generate asked) = []
+names_of (lanes asked) = asked.files ++ scripts_of asked
 
 -- as many weight files as a network may have criteria
 pub record CountInRange (files : List Text) : Type 0 where
@@ -67,6 +90,7 @@ FilesInRange (single asked) = CountInRange asked.files
 FilesInRange (check files) = CountInRange files
 FilesInRange (batch asked) = CountInRange asked.files
 FilesInRange (generate asked) = Unit {0}
+FilesInRange (lanes asked) = CountInRange asked.files
 
 -- a budget and a number of workers are within their ranges
 pub record IsEffort (effort : Effort) : Type 0 where
@@ -81,6 +105,7 @@ EffortInRange (single asked) = IsEffort asked.query.effort
 EffortInRange (check files) = Unit {0}
 EffortInRange (batch asked) = IsEffort asked.effort
 EffortInRange (generate asked) = IsEffort asked.effort
+EffortInRange (lanes asked) = IsEffort asked.effort
 
 -- The plan is one, and the file that is asked for is one of its files.
 pub record GenInRange (asked : GenAsked) : Type 0 where
@@ -93,6 +118,20 @@ PlanInRange (single asked) = Unit {0}
 PlanInRange (check files) = Unit {0}
 PlanInRange (batch asked) = Unit {0}
 PlanInRange (generate asked) = GenInRange asked
+PlanInRange (lanes asked) = Unit {0}
+
+-- there are as many sessions as there may be lanes
+pub record SessionsInRange (asked : LanesAsked) : Type 0 where
+  pub some : 1 ≤ asked.count
+  pub not_more : asked.count ≤ max_lanes
+
+-- a command that has lanes has as many
+abbrev pub LanesInRange : Asked → Type 0
+LanesInRange (single asked) = Unit {0}
+LanesInRange (check files) = Unit {0}
+LanesInRange (batch asked) = Unit {0}
+LanesInRange (generate asked) = Unit {0}
+LanesInRange (lanes asked) = SessionsInRange asked
 
 -- ---- the values that the words give, by rows that name the arguments
 
@@ -159,12 +198,22 @@ pub record AsksGen (rows : List Row) (asked : GenAsked) : Type 0 where
   pub file : IsGivenIf 0 asked.plan.criteria (first_of (codes "file") rows) asked.file
   pub effort : AsksEffort rows asked.effort
 
+-- the values are those of `lanes`
+pub record AsksLanes (rows : List Row) (asked : LanesAsked) : Type 0 where
+  pub operator : first_of (codes "operator") rows ≡ Some asked.operator
+  pub stem : first_of (codes "sessions") rows ≡ Some asked.stem
+  pub count : IsGivenOr default_lanes 1 max_lanes (first_of (codes "lanes") rows) asked.count
+  pub epoch : IsGivenOr default_epoch 0 max_epoch (first_of (codes "epoch") rows) asked.epoch
+  pub effort : AsksEffort rows asked.effort
+  pub files : NamesFiles rows asked.files
+
 -- the values are those of the command
 abbrev pub AsksAs : Name → List Row → Asked → Type 0
 AsksAs (Single kind) rows (single asked) = (asked.kind ≡ kind) × AsksSingle rows asked
 AsksAs Check rows (check files) = NamesFiles rows files
 AsksAs Batch rows (batch asked) = AsksBatch rows asked
 AsksAs Gen rows (generate asked) = AsksGen rows asked
+AsksAs Lanes rows (lanes asked) = AsksLanes rows asked
 AsksAs _ rows _ = ⊥
 
 -- ---- the words
@@ -206,9 +255,21 @@ batch_asked b = record { pairs = b.pairs.now; effort = b.effort; files = map (λ
 abbrev pub gen_asked : GenWords → GenAsked
 gen_asked g = record { plan = g.plan; file = g.file; effort = g.effort }
 
+-- the words of `lanes`, as what they ask for
+abbrev pub lanes_asked : LanesWords → LanesAsked
+lanes_asked l = record {
+  operator = l.operator.now;
+  stem = l.sessions.now;
+  count = l.lanes;
+  epoch = l.epoch;
+  effort = l.effort;
+  files = map (λ s. s.now) l.files.items;
+}
+
 -- a command, as what it asks for
 abbrev pub asked_of : Command → Asked
 asked_of (command.Single c) = single (single_asked c)
 asked_of (command.Check c) = check (check_asked c)
 asked_of (command.Batch b) = batch (batch_asked b)
 asked_of (command.Gen g) = generate (gen_asked g)
+asked_of (command.Lanes l) = lanes (lanes_asked l)

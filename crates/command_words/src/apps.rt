@@ -2,7 +2,7 @@
 ghost use Rattle.std.specs.Prelude.{◌≡◌, IfOk};
 ghost use Rattle.clap.specs.Words.{app_of, with_rule};
 ghost use Rattle.command_words.specs.Apps.{bare_app, batch_app, check_app, files_rule};
-ghost use Rattle.command_words.specs.Apps.{gen_app, option_rule, single_app, with_effort};
+ghost use Rattle.command_words.specs.Apps.{gen_app, lanes_app, option_rule, scripts_app, single_app, with_effort};
 
 use crate::AnswerKind;
 use clap::{Arg, ArgAction, Command};
@@ -15,6 +15,7 @@ pub(crate) enum Name {
     Check,
     Batch,
     Gen,
+    Lanes,
 }
 
 impl Name {
@@ -30,6 +31,7 @@ impl Name {
             Name::Check => check(alloc),
             Name::Batch => batch(alloc),
             Name::Gen => generate(alloc),
+            Name::Lanes => lanes(alloc),
         }
     }
 }
@@ -69,6 +71,23 @@ fn generate<'a>(alloc: Global) -> Result<Command<'a>, AllocError>
     let command = with_option(alloc, command, "pairs", true)?;
     let command = with_option(alloc, command, "file", false)?;
     with_effort(alloc, command)
+}
+
+fn lanes<'a>(alloc: Global) -> Result<Command<'a>, AllocError>
+    ensures { IfOk result (λ c. app_of c ≡ lanes_app) }
+{
+    let command = with_effort(alloc, scripts(alloc)?)?;
+    with_files(alloc, command)
+}
+
+fn scripts<'a>(alloc: Global) -> Result<Command<'a>, AllocError>
+    ensures { IfOk result (λ c. app_of c ≡ scripts_app) }
+{
+    let command = bare(alloc, "lanes");
+    let command = with_option(alloc, command, "operator", true)?;
+    let command = with_option(alloc, command, "sessions", true)?;
+    let command = with_option(alloc, command, "lanes", false)?;
+    with_option(alloc, command, "epoch", false)
 }
 
 // A command with no flags for help and the version.

@@ -5,7 +5,7 @@ ghost use Rattle.std.specs.Prelude.{◌≡◌, ◌≢◌, ◌↔◌, IfOk, IfSom
 ghost use Rattle.clap.specs.Words.{app_of, fault_of, found_of, is_simple_and_free, kind_of};
 ghost use Rattle.clap.specs.Words.{matches_of, rows_of};
 ghost use Rattle.command_words.specs.Words.{AreWords, Asks, EffortInRange, FilesInRange};
-ghost use Rattle.command_words.specs.Words.{IsNamed, PlanInRange, asked_of, texts_of};
+ghost use Rattle.command_words.specs.Words.{IsNamed, LanesInRange, PlanInRange, asked_of, texts_of};
 
 mod apps;
 mod numbers;
@@ -28,6 +28,14 @@ pub const MAX_START: u32 = u32::MAX;
 pub const DEFAULT_WORKERS: u32 = 1;
 /// The most workers.
 pub const MAX_WORKERS: u32 = 64;
+/// The lanes of sessions where none are given.
+pub const DEFAULT_LANES: u32 = 1;
+/// The most lanes of sessions.
+pub const MAX_LANES: u32 = 16;
+/// The number of the first epoch where none is given, which is that of the files' weights.
+pub const DEFAULT_EPOCH: u32 = 0;
+/// The greatest number of an epoch.
+pub const MAX_EPOCH: u32 = u32::MAX;
 /// The fewest weight files, of which each is one criterion.
 pub const MIN_FILES: usize = 2;
 /// The most weight files.
@@ -92,6 +100,22 @@ pub struct GenWords {
     pub effort: Effort,
 }
 
+/// The words of `lanes`.
+#[derive(Debug, Drop)]
+pub struct LanesWords<'a> {
+    /// The name of the operator's script.
+    pub operator: &'a str,
+    /// How the name of each session's script begins; its number follows.
+    pub sessions: &'a str,
+    /// How many sessions there are.
+    pub lanes: u32,
+    /// The number of the epoch of the files' weights.
+    pub epoch: u32,
+    /// How each query is searched.
+    pub effort: Effort,
+    pub files: Vec<&'a str>,
+}
+
 /// What the words of a command line ask for.
 #[derive(Debug, Drop)]
 pub enum Command<'a> {
@@ -103,6 +127,8 @@ pub enum Command<'a> {
     Batch(BatchWords<'a>),
     /// A file of a plan, or what all its files come to.
     Gen(GenWords),
+    /// Sessions that ask beside each other while an operator publishes epochs.
+    Lanes(LanesWords<'a>),
 }
 
 /// Why no command was read.
@@ -153,6 +179,7 @@ pub fn read_words<'a>(alloc: Global, words: &'a [String]) -> Result<Command<'a>,
     ensures files { IfOk result (λ c. FilesInRange (asked_of c)) }
     ensures effort { IfOk result (λ c. EffortInRange (asked_of c)) }
     ensures plan { IfOk result (λ c. PlanInRange (asked_of c)) }
+    ensures lanes { IfOk result (λ c. LanesInRange (asked_of c)) }
 {
     let name = name_of(words).ok_or(WordsFault::Refused)?;
     let matches = matches_of(name.app(alloc)?, words)?;
@@ -169,6 +196,7 @@ fn name_of(words: &[String]) -> Option<Name>
         "check" => Some(Name::Check),
         "batch" => Some(Name::Batch),
         "gen" => Some(Name::Gen),
+        "lanes" => Some(Name::Lanes),
         _ => None,
     }
 }

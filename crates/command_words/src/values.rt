@@ -1,15 +1,16 @@
 //! Reads the values that the words give to a command's arguments.
 ghost use Rattle.std.specs.Prelude.{◌≡◌, IfOk, IfNone, IfSome, codes, map, option_map};
 ghost use Rattle.clap.specs.Words.{all_of, first_of, found_of, rows_of};
-ghost use Rattle.command_words.specs.Words.{AsksAs, AsksBatch, AsksEffort, AsksGen, AsksPlan};
+ghost use Rattle.command_words.specs.Words.{AsksAs, AsksBatch, AsksEffort, AsksGen, AsksLanes, AsksPlan};
 ghost use Rattle.command_words.specs.Words.{AsksQuery, AsksSingle, NamesFiles};
-ghost use Rattle.command_words.specs.Words.{asked_of, batch_asked, gen_asked, single_asked};
+ghost use Rattle.command_words.specs.Words.{asked_of, batch_asked, gen_asked, lanes_asked, single_asked};
 
 use crate::apps::Name;
 use crate::numbers::{number_if, number_or, required_number, value};
 use crate::{
-    AnswerKind, BatchWords, CheckWords, Command, DEFAULT_BUDGET, DEFAULT_WORKERS, Effort, GenWords,
-    MAX_FILES, MAX_NODE, MAX_START, MAX_WORKERS, MIN_FILES, Query, SingleWords, WordsFault,
+    AnswerKind, BatchWords, CheckWords, Command, DEFAULT_BUDGET, DEFAULT_EPOCH, DEFAULT_LANES,
+    DEFAULT_WORKERS, Effort, GenWords, LanesWords, MAX_EPOCH, MAX_FILES, MAX_LANES, MAX_NODE,
+    MAX_START, MAX_WORKERS, MIN_FILES, Query, SingleWords, WordsFault,
 };
 use clap::ArgMatches;
 use graph_gen::{GenPlan, MAX_PAIRS, MAX_SIDE, MIN_PAIRS, MIN_SIDE};
@@ -33,6 +34,7 @@ pub(crate) fn read<'a>(
         })),
         Name::Batch => Ok(Command::Batch(read_batch(alloc, matches)?)),
         Name::Gen => Ok(Command::Gen(read_gen(matches).ok_or(WordsFault::Refused)?)),
+        Name::Lanes => Ok(Command::Lanes(read_lanes(alloc, matches)?)),
     }
 }
 
@@ -85,6 +87,29 @@ fn read_batch<'a>(alloc: Global, matches: &ArgMatches<'a>) -> Result<BatchWords<
     let files = read_files(alloc, matches)?;
     Ok(BatchWords {
         pairs,
+        effort,
+        files,
+    })
+}
+
+fn read_lanes<'a>(alloc: Global, matches: &ArgMatches<'a>) -> Result<LanesWords<'a>, WordsFault>
+    ensures asked { IfOk result (λ l. AsksLanes (rows_of (found_of matches.now)) (lanes_asked l)) }
+    ensures refused { result ≡ Err WordsFault.Refused
+        → (asked : _) → ¬ AsksLanes (rows_of (found_of matches.now)) asked }
+{
+    let operator = value(matches, "operator").ok_or(WordsFault::Refused)?;
+    let sessions = value(matches, "sessions").ok_or(WordsFault::Refused)?;
+    let lanes =
+        number_or(DEFAULT_LANES, matches, "lanes", 1, MAX_LANES).ok_or(WordsFault::Refused)?;
+    let epoch =
+        number_or(DEFAULT_EPOCH, matches, "epoch", 0, MAX_EPOCH).ok_or(WordsFault::Refused)?;
+    let effort = read_effort(matches).ok_or(WordsFault::Refused)?;
+    let files = read_files(alloc, matches)?;
+    Ok(LanesWords {
+        operator,
+        sessions,
+        lanes,
+        epoch,
         effort,
         files,
     })

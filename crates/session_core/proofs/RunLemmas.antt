@@ -34,7 +34,7 @@ sees_more o a b c (inr first) (inr more) = inr (prefix_trans a b c first.0 more.
 pub run_sees : (scene : Scene) (h0 h1 g1 : History) (told : List Told) → SessionRun scene h0 h1 told → SeesOn scene.origin h1 g1
     → SessionRun scene h0 g1 told
 run_sees scene h0 h1 g1 told run (inl same) = subst (λ (h : History). SessionRun scene h0 h told) (sym same) run
-run_sees scene h0 h1 g1 told run (inr more) = run_stays scene h0 h0 h1 g1 told run (prefix_self h0) more.0 more.1
+run_sees scene h0 h1 g1 told run (inr more) = run_stays scene h0 h0 h1 g1 told run (prefix_self h0) more.0 more.1.history
 
 -- a session that has seen more, and named no further epoch
 pub sees_and_goes : (scene : Scene) (first old new : Session) (told : List Told) → SessionGoes scene first told old

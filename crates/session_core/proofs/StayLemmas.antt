@@ -6,12 +6,12 @@ use mathlib.Core.List.{IsPrefix}
 use Rattle.list_laws.proofs.Members.{all_from_in, each_in, in_filter_map}
 use Rattle.road_network.specs.Network.{Network}
 use Rattle.arc_graph.specs.Graph.{network}
-use Rattle.arc_graph.specs.History.{History, ends_closed, epoch_after, sets, sets_of}
+use Rattle.arc_graph.specs.History.{History, ends_closed, epoch_after, sets, sets_of, IsHistory}
 use Rattle.arc_graph.proofs.HistoryLemmas.{epoch_earlier, sets_of_both}
 use Rattle.answer_writer.specs.declared.form.Form.{Form}
 use Rattle.query_replies.specs.Queries.{RepliesToQuery}
 use Rattle.query_replies.specs.declared.asked.Asked.{Asked}
-use Rattle.epoch_store.specs.Origin.{Origin, IsPublishedIn, arcs_of, criteria_of, last_number}
+use Rattle.epoch_store.specs.Origin.{Origin, arcs_of, criteria_of, last_number}
 use Rattle.epoch_store.proofs.ClosedLemmas.{no_further}
 use Rattle.epoch_store.proofs.PrefixLemmas.{prefix_trans}
 use Rattle.session_requests.specs.declared.line.Line.{Line}
@@ -45,15 +45,15 @@ reply_at_stays scene h g k s t form text begins upto is =
     (is.0, subst (λ (net : Network). RepliesToQuery net k asked is.0 text) (network_stays scene h g k begins upto) is.1)
 
 -- a wait that ended closed has seen the whole history
-wait_stays : (scene : Scene) (h g : History) (k e : ℕ) (text : List ℕ) → IsPrefix h g → IsPublishedIn scene.origin g
+wait_stays : (scene : Scene) (h g : History) (k e : ℕ) (text : List ℕ) → IsPrefix h g → IsHistory (arcs_of scene.origin) (criteria_of scene.origin) g
     → EndsWait scene h k e text → EndsWait scene g k e text
 wait_stays scene h g k e text begins allowed (inl there) = inl there
 wait_stays scene h g k e text begins allowed (inr ended) =
     let o = scene.origin in
-    let same = no_further (arcs_of o) (criteria_of o) h g ended.2 begins allowed.history in
+    let same = no_further (arcs_of o) (criteria_of o) h g ended.2 begins allowed in
     inr (subst (λ (l : History). (k < e) × (text ≡ closed_reply k) × (ends_closed l ≡ true) × (k ≡ last_number o l)) (sym same) ended)
 
-reply_stays : (scene : Scene) (h g : History) (k : ℕ) (r : SessionRequest) (text : List ℕ) → IsPrefix h g → IsPublishedIn scene.origin g
+reply_stays : (scene : Scene) (h g : History) (k : ℕ) (r : SessionRequest) (text : List ℕ) → IsPrefix h g → IsHistory (arcs_of scene.origin) (criteria_of scene.origin) g
     → k ≤ last_number scene.origin h → RepliesTo scene h k r text → RepliesTo scene g k r text
 reply_stays scene h g k (asks.Costs s t) text begins allowed upto is = reply_at_stays scene h g k s t _ text begins upto is
 reply_stays scene h g k (asks.Walks s t) text begins allowed upto is = reply_at_stays scene h g k s t _ text begins upto is
@@ -63,7 +63,7 @@ reply_stays scene h g k asks.Epoch text begins allowed upto is = is
 reply_stays scene h g k asks.Bye text begins allowed upto is = is
 
 line_stays : (scene : Scene) (h g : History) (what : Line SessionRequest) (named : Option ℕ) (text : List ℕ) → IsPrefix h g
-    → IsPublishedIn scene.origin g → ((k : ℕ) → named ≡ Some k → k ≤ last_number scene.origin h)
+    → IsHistory (arcs_of scene.origin) (criteria_of scene.origin) g → ((k : ℕ) → named ≡ Some k → k ≤ last_number scene.origin h)
     → RepliesToLine scene h what named text → RepliesToLine scene g what named text
 line_stays scene h g line.Blank named text begins allowed upto is = is
 line_stays scene h g line.Other named text begins allowed upto is = is
@@ -71,7 +71,7 @@ line_stays scene h g (line.Request r) (Some k) text begins allowed upto is = rep
 line_stays scene h g (line.Request r) None text begins allowed upto is = is
 
 -- a reply of a line is as true of a longer history
-told_stays : (scene : Scene) (h g : History) (t : Told) → IsPrefix h g → IsPublishedIn scene.origin g
+told_stays : (scene : Scene) (h g : History) (t : Told) → IsPrefix h g → IsHistory (arcs_of scene.origin) (criteria_of scene.origin) g
     → ((k : ℕ) → t.named ≡ Some k → k ≤ last_number scene.origin h) → IsReplied scene h t → IsReplied scene g t
 told_stays scene h g t begins allowed upto is = record {
   what = is.what;
@@ -81,7 +81,7 @@ told_stays scene h g t begins allowed upto is = record {
 
 -- lines with their replies stay a run where less was seen before and more afterwards
 pub run_stays : (scene : Scene) (g0 h0 h1 g1 : History) (told : List Told) → SessionRun scene h0 h1 told → IsPrefix g0 h0 → IsPrefix h1 g1
-    → IsPublishedIn scene.origin g1 → SessionRun scene g0 g1 told
+    → IsHistory (arcs_of scene.origin) (criteria_of scene.origin) g1 → SessionRun scene g0 g1 told
 run_stays scene g0 h0 h1 g1 told run before after allowed =
     let less = last_grows scene.origin g0 h0 before in
     let more = last_grows scene.origin h1 g1 after in record {

@@ -1,7 +1,7 @@
 ghost use Rattle.std.specs.Prelude.{List};
 ghost use mathlib.Core.List.{IsPrefix};
-ghost use Rattle.arc_graph.specs.History.{History};
-ghost use Rattle.epoch_store.specs.Origin.{IsPublishedIn};
+ghost use Rattle.arc_graph.specs.History.{History, IsHistory};
+ghost use Rattle.epoch_store.specs.Origin.{arcs_of, criteria_of};
 ghost use Rattle.session_core.specs.Sessions.{Scene, SessionRun};
 ghost use Rattle.session_core.specs.Told.{Told};
 
@@ -10,5 +10,6 @@ ghost use Rattle.session_core.specs.Told.{Told};
 pub fn session_runs_stay()
     ensures { (scene : Scene) (g0 h0 h1 g1 : History) (told : List Told)
         → SessionRun scene h0 h1 told → IsPrefix g0 h0 → IsPrefix h1 g1
-        → IsPublishedIn scene.origin g1 → SessionRun scene g0 g1 told }
+        → IsHistory (arcs_of scene.origin) (criteria_of scene.origin) g1
+        → SessionRun scene g0 g1 told }
 {}

@@ -98,11 +98,18 @@ impl<T: Store> Session<T> {
         })
     }
 
-    /// The numbers of the epochs that the replies have named, in order. They never fall.
+    /// The numbers of the epochs that the replies have named, in order.
     pub fn numbers(&self) -> &[u32]
         ensures { result.now ≡ self.now.named }
     {
         &self.named
+    }
+
+    /// The same, where no more lines are served.
+    pub fn into_numbers(self) -> Vec<u32>
+        ensures { result.items ≡ self.named }
+    {
+        self.named
     }
 
     /// Serves a link. The numbers that its replies name are added to those of before.
@@ -212,6 +219,7 @@ impl<T: Store> Session<T> {
         ensures learnt { OnOk result (self.new.seen ≡ ended.now) }
         ensures begins { IsPrefix self.old.seen self.new.seen }
         ensures named { self.new.named ≡ self.old.named }
+        ensures unchanged { OnErr result (self.new ≡ self.old) }
     {
         self.reader.learn(ended)
     }

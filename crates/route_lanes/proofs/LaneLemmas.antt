@@ -29,10 +29,8 @@ serves_whole show scene bytes whole s is begins allowed = record {
     run = run_stays scene [] [] s.party_after.session.seen whole is.told is.runs.run (prefix_self []) begins allowed;
     named = is.runs.named;
   };
-  taken = is.taken;
-  takes = is.takes;
-  within = is.within;
-  begun = is.begun;
+  each = is.each;
+  lines = is.lines;
   wanted = is.wanted;
   wants = is.wants;
   sent = is.sent;

@@ -18,10 +18,10 @@ returns-in-Ok g c =
     let court = c.args.court.now in
     let show : Link g.row.S.Denot g.row.K.Denot → LinkState = state_of g.S.Source.state g.K.Sink.state in
     let scene : Scene = record { graph = court.graph.now; origin = o; budget = court.budget } in
-    let one = c.serve_lanes.new.operator in
-    let lanes = c.serve_lanes.new.sessions in
+    let one = c.serve.new.operator in
+    let lanes = c.serve.new.sessions in
     let before = c.in-Ok.sessions.items in
-    let all = c.serve_lanes.ensures in
+    let all = c.serve.ensures in
     let serves : SessionLane g.row.T.Denot → _ → SessionLane g.row.T.Denot → _ → Type 0 = SessionServes show scene court.bytes in
     let count = as_many_parties serves all.served ∙ c.deref_mut.ensures.len in
     let back = written_back lanes before c.in-Ok.sessions.len count in

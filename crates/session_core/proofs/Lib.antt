@@ -1,3 +1,4 @@
 mod StubLemmas
 pub mod StayLemmas
 mod LineKindLemmas
+mod RunLemmas

@@ -4,3 +4,4 @@ pub mod Links
 pub mod Sessions
 pub mod Operators
 pub mod Parties
+pub mod Answering

@@ -8,10 +8,13 @@ mod desk;
 mod end;
 mod host;
 mod laws;
+mod look;
 mod operator;
 mod party;
+mod reply;
 mod serve;
 mod session;
+mod short;
 
 pub use desk::Desk;
 pub use end::SessionEnd;

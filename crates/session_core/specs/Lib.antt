@@ -5,3 +5,4 @@ pub mod Sessions
 pub mod Operators
 pub mod Parties
 pub mod Answering
+pub mod Serving

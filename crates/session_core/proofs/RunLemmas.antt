@@ -148,3 +148,16 @@ answers_request scene first old new told raw r to replied (Err (fault.Out cut)) 
     tells_request scene first old new told raw r to replied _ goes is last
 answers_request scene first old new told raw r to replied (Err fault.OutOfMemory) goes is none =
     (sees_and_goes scene first old new told goes none.seen none.named, none.unsent)
+
+-- a session of which nothing was asked yet
+pub goes_nowhere : (scene : Scene) (s : Session) → SessionGoes scene s [] s
+goes_nowhere scene s = record {
+  run = record {
+    begins = prefix_self s.seen;
+    each = λ k d within. absurd (omega arith);
+    ascending = λ i j d before within. absurd (omega arith);
+    above = λ k d within. absurd (omega arith);
+    below = λ k d within. absurd (omega arith);
+  };
+  named = sym (append-nil s.named);
+}

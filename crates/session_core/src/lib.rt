@@ -8,6 +8,7 @@ mod desk;
 mod end;
 mod host;
 mod laws;
+mod lines;
 mod look;
 mod operator;
 mod party;

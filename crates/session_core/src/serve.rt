@@ -15,7 +15,7 @@ use route_io::{Link, Sink, Source, WriteFault};
 use std::alloc::Global;
 
 /// The most bytes of a request before its LF.
-const MAX_REQUEST: u32 = 1024;
+pub(crate) const MAX_REQUEST: u32 = 1024;
 
 /// Has a party answer the lines that come from a link, on it, until one ends the session, the input ends or so many bytes
 /// were taken.
@@ -90,7 +90,7 @@ fn serve_line<C, P: Party<C>, S: Source, K: Sink>(
 }
 
 /// How a session ends where there is no next line.
-fn end_at(fault: LineFault) -> SessionEnd
+pub(crate) fn end_at(fault: LineFault) -> SessionEnd
     ensures { result ≡ end_by_input fault }
 {
     match fault {
@@ -101,7 +101,7 @@ fn end_at(fault: LineFault) -> SessionEnd
 }
 
 /// How a session ends behind a line, if it does.
-fn end_behind(answer: Result<Answered, ReplyFault>) -> Option<SessionEnd>
+pub(crate) fn end_behind(answer: Result<Answered, ReplyFault>) -> Option<SessionEnd>
     ensures { result ≡ end_by_answer answer }
 {
     match answer {

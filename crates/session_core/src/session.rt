@@ -19,10 +19,11 @@ use crate::end::SessionEnd;
 use crate::host::Host;
 use crate::look::look_for;
 use crate::party::Answered;
+use crate::serve::MAX_REQUEST;
 use crate::short::refuse_line;
 use cost_vector::OutOfMemory;
 use epoch_store::{Ended, EpochReader, Store};
-use line_text::Request;
+use line_text::{LineLimits, Lines, Request};
 use path_readback::Room;
 use query_replies::ReplyFault;
 use route_io::{Gate, Link, Sink, Source};
@@ -117,7 +118,14 @@ impl<T: Store> Session<T> {
             (S.state link.old.from) (S.state link.new.from)
             (K.state link.old.to) (K.state link.new.to) result }
     {
-        SessionEnd::OutOfMemory
+        let limits = LineLimits {
+            line: MAX_REQUEST,
+            total: host.bytes,
+        };
+        match Lines::new(host.alloc, limits) {
+            Ok(mut lines) => self.serve_lines(host, link, &mut lines),
+            Err(OutOfMemory) => SessionEnd::OutOfMemory,
+        }
     }
 
     /// Answers a line by its text, without its LF and one CR; that of a line too long for a request doesn't count. All

@@ -1,0 +1,13 @@
+use Rattle.std.proofs.Common.{◌-◌}
+use Rattle.session_core.specs.Answering.{scene_of}
+use Rattle.session_core.specs.Serving.{Served}
+use Rattle.session_core.specs.Sessions.{SessionGoes}
+use Rattle.session_core.proofs.session.Session.serve_lines.Given as goal
+
+abbrev pub invariant-lines : goal.invariant-lines
+invariant-lines g l =
+    Served (SessionGoes (scene_of l.host.graph.now g.T.Store.origin l.host.budget)) l.fn.lines.limits.total l.fn.self l.self
+    (g.S.Source.state l.fn.link.from) (g.S.Source.state l.link.from) (g.K.Sink.state l.fn.link.to) (g.K.Sink.state l.link.to) l.lines
+
+abbrev pub decreases-lines : goal.decreases-lines
+decreases-lines g l = l.lines.limits.total - l.lines.passed

@@ -1,7 +1,6 @@
 -- A session goes on: it sees more, and one line more is told.
 use Rattle.std.proofs.Common.{◌≡◌, ℕ, ◌≤◌, inl, inr, List, [], ◌∷◌, ◌++◌, Option, Some, None, Result, Ok, Err, length, refl, ap, sym, subst, ◌∙◌, arith, append_assoc}
 use Rattle.std.specs.Prelude.{All, AllPairs, Contains}
-use Rattle.std.specs.Io.KnownBytes.{Appends}
 use Rattle.std.proofs.lemmas.List.{append-nil}
 use Rattle.std.proofs.lemmas.List.Elements.{All-push, filter_map-append}
 use mathlib.Core.List.{IsPrefix}
@@ -113,14 +112,6 @@ tells_unnamed scene first old told raw text what to replied result goes is reply
       led = record { run = run_unnamed scene first.seen old.seen told one goes.run refl has_reply; named = goes.named ∙ named };
       sent = sent;
     }
-
-appends_none : (sent : Option (List ℕ)) → Appends sent sent []
-appends_none None = tt
-appends_none (Some xs) = sym (append-nil xs)
-
--- a sink that isn't called was sent nothing
-pub sends_nothing : (to : SinkState) → Sends {T = Unit {0}} to to [] (Ok tt)
-sends_nothing to = record { bytes = appends_none to.sent; cause = record { faults = refl; wants = refl } }
 
 -- a line is the same where there are as many criteria
 pub of_criteria : (d e : ℕ) (raw : List ℕ) (what : Line SessionRequest) → d ≡ e → IsLine (AsksOfSession d) raw what → IsLine (AsksOfSession e) raw what

@@ -1,20 +1,7 @@
-use Rattle.std.proofs.Common.{◌≡◌, Ok, Some, None, Option, IfNone, Result, subst}
-use Rattle.route_io.specs.Sources.{SourceState, ReadsFrom}
-use Rattle.line_text.specs.Reading.{Lines, line_failed}
-use Rattle.line_text.specs.Requests.{Requests}
-use Rattle.line_text.specs.declared.limits.LineFault.{LineFault}
-use Rattle.line_text.specs.declared.limits.Request.{Request}
+use Rattle.std.proofs.Common.{Ok, Some, None}
+use Rattle.session_core.proofs.NextLineLemmas.{requests_of, source_of}
 use Rattle.session_core.proofs.ServesLemmas.{serves_all, serves_fault, serves_next, takes_some}
 use Rattle.session_core.proofs.serve.serve_line.Goals as goal
-
--- what a call did to a reader that keeps no fault
-requests_of : (old new : Lines) (before after : SourceState) (result : Result (Option Request) LineFault) → old.fault ≡ None
-    → IfNone old.fault (Requests old new before after result) → Requests old new before after result
-requests_of old new before after result none requests = subst (λ fault. IfNone fault (Requests old new before after result)) none requests
-
-source_of : (old : Lines) (before after : SourceState) (result : Result (Option Request) LineFault) → old.fault ≡ None
-    → ReadsFrom before after (line_failed old.fault result) → ReadsFrom before after (line_failed None result)
-source_of old before after result none source = subst (λ fault. ReadsFrom before after (line_failed fault result)) none source
 
 pub returns-in-Ok-None-clause-serves : goal.returns-in-Ok-None-clause-serves
 returns-in-Ok-None-clause-serves g c total first from to served =

@@ -2,7 +2,8 @@ use Rattle.std.proofs.Common.{◌≡◌, ℕ, List, [], refl}
 use Rattle.session_requests.specs.declared.line.Line.TheVariants as line
 use Rattle.session_core.specs.Answering.{scene_of}
 use Rattle.session_core.specs.Sessions.{line_refusal}
-use Rattle.session_core.proofs.RunLemmas.{answers_request, answers_unnamed, of_criteria, sends_nothing, tells_unnamed}
+use Rattle.session_core.proofs.AnswersLineLemmas.{sends_nothing}
+use Rattle.session_core.proofs.RunLemmas.{answers_request, answers_unnamed, of_criteria, tells_unnamed}
 use Rattle.session_core.proofs.session.Session.answer.Goals as goal
 
 pub returns-in-Blank : goal.returns-in-Blank

@@ -1,5 +1,5 @@
 -- A session goes on: it sees more, and one line more is told.
-use Rattle.std.proofs.Common.{◌≡◌, ℕ, ◌≤◌, inl, inr, List, [], ◌∷◌, ◌++◌, Option, Some, None, Result, Ok, Err, length, refl, ap, sym, subst, ◌∙◌, arith, append_assoc}
+use Rattle.std.proofs.Common.{◌≡◌, ℕ, ◌≤◌, inl, inr, List, [], ◌∷◌, ◌++◌, Some, None, Result, Ok, Err, refl, ap, sym, subst, ◌∙◌, arith, append_assoc}
 use Rattle.std.specs.Prelude.{All, AllPairs, Contains}
 use Rattle.std.proofs.lemmas.List.{append-nil}
 use Rattle.std.proofs.lemmas.List.Elements.{All-push, filter_map-append}
@@ -20,7 +20,7 @@ use Rattle.session_requests.specs.declared.session.SessionRequest.{SessionReques
 use Rattle.session_core.specs.Answering.{AnswersRequest, RepliesLast, RepliesOneOf, SeesOn, answer_by}
 use Rattle.session_core.specs.Lines.{IsLine}
 use Rattle.session_core.specs.Parties.{AnswersLine, TellsOne}
-use Rattle.session_core.specs.Sessions.{IsReplied, IsSessionBye, RepliesTo, RepliesToLine, Scene, Session, SessionGoes, SessionRun}
+use Rattle.session_core.specs.Sessions.{IsReplied, IsSessionBye, RepliesToLine, Scene, Session, SessionGoes, SessionRun}
 use Rattle.session_core.specs.Told.{Told, numbers_told}
 use Rattle.session_core.proofs.StayLemmas.{last_grows, run_stays}
 

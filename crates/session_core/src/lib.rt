@@ -1,7 +1,6 @@
 //! Sessions and the operator of a store of epochs: line by line, what they ask and what is replied.
 //!
-//! Each line that isn't blank gets its whole reply before more is read from the link. One loop serves both: a party says
-//! what one line does.
+//! Each line that isn't blank gets its whole reply before more is read from the link.
 #![tactic(auto)]
 
 mod desk;

@@ -1,4 +1,5 @@
-//! The lines of a link that a session serves. A trait's method may start no threads, so `serve` can't search for them.
+//! The lines of a link that a session serves. A search starts threads, which a method of a trait may not, so that no
+//! `Party` answers them.
 ghost use Rattle.std.specs.Prelude.{◌≡◌, ◌<◌, ℕ, [], None};
 ghost use Rattle.line_text.specs.Reading.{begun};
 ghost use Rattle.route_io.specs.Sinks.{SinkState};

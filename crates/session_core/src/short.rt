@@ -26,7 +26,8 @@ pub(crate) fn put_closed<K: Sink>(out: &mut K, number: u32) -> Result<(), WriteF
 
 /// Says that a line is no request.
 pub(crate) fn refuse_line<K: Sink>(out: &mut K) -> Result<(), ReplyFault>
-    ensures { RepliesOneOf (λ text. text ≡ line_refusal) (K.state out.old) (K.state out.new) result }
+    ensures { RepliesOneOf (λ text. text ≡ line_refusal)
+        (K.state out.old) (K.state out.new) result }
 {
     put_line(out, &[Piece::Text("x line\n")])?;
     Ok(())

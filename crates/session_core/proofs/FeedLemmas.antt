@@ -27,6 +27,7 @@ module _ (limits : LineLimits) (passed : ℕ) (rest : List ℕ) where
   answer_found : (found : Option Request) → request_of limits passed rest ≡ Ok found → first_request limits rest ≡ found
   answer_found found e = grind (arith, nat_tests)
 
+  -- where the total was reached, the first line doesn't end within it
   pub answer_past : (fault : LineFault) → request_of limits passed rest ≡ Err fault → limits.total ≤ passed + length (raw_line rest)
   answer_past fault e = grind (arith, nat_tests)
 
@@ -148,6 +149,7 @@ module _ (total : ℕ) (text : List ℕ) (old : Lines) (left : Option (List ℕ)
     pub within : length taken ≤ total
     pub first : AreFirst total taken left lines
 
+  -- what was passed, and what is held behind it
   pub takes_up_to : old.passed + length old.held ≤ total → TakesUpTo
   takes_up_to within =
       let is = is_left old.held passes.rest left passes.behind in
@@ -238,6 +240,7 @@ module _ (total : ℕ) (text : List ℕ) (old : Lines) (left : Option (List ℕ)
         )) in
         (rw is.is none.1, all_lines nothing ∙ ap lines_of (sym (ap (λ xs. passes.passed ++ xs) same ∙ append-nil passes.passed)))
 
+    -- what was passed, the part of a line that was skipped, and what is held behind that
     pub ends_at : EndsAt new after
     ends_at = record {
       taken = passes.passed ++ (skipped ++ new.held);

@@ -100,20 +100,6 @@ module _ {State : Type 0} (Runs : State → List Told → State → Type 0) (IsB
       is_total : reader.limits.total ≡ total
       is_total = ap (λ limits. limits.total) served.limits
 
-      -- nothing more is done, for want of memory
-      pub serves_no_more : Serves Runs IsBye total old mid from before to sunk OutOfMemory
-      serves_no_more = record {
-        told = served.told;
-        runs = served.runs;
-        each = omega (arith, served.each, served.within);
-        lines = takes_by reader before.left (lines_told served.told) (lines_told served.told) OutOfMemory served.within (λ taken first. first) from.left served.passes;
-        wanted = false;
-        wants = λ e. absurd cc;
-        sent = served.sent.bytes;
-        reads = served.reads;
-        writes = served.sent.cause;
-      }
-
       module _ (next : Lines) (after : SourceState) where
         -- what the source has left is told, and the request is that of the rest
         request_told : (result : Result (Option Request) LineFault) → Requests reader next before after result → (text : List ℕ)
@@ -142,9 +128,9 @@ module _ {State : Type 0} (Runs : State → List Told → State → Type 0) (IsB
             by Long counts = (replicate (max_request + 1) 0, omega (arith, length-replicate {A = ℕ} (max_request + 1) 0))
 
           -- The line has this text, and it was passed behind the others.
-          pub record IsNext (raw : List ℕ) : Type 0 where
-            pub is : IsText asked next.text raw
-            pub passes : IfSome from.left (λ text. PassesLines total text next after.left (lines_told served.told ++ raw ∷ []))
+          record IsNext (raw : List ℕ) : Type 0 where
+            is : IsText asked next.text raw
+            passes : IfSome from.left (λ text. PassesLines total text next after.left (lines_told served.told ++ raw ∷ []))
 
           is_next : (raw : List ℕ) (left : Option (List ℕ)) → from.left ≡ left → IsText asked next.text raw
               → IfSome left (λ text. PassesLines total text next after.left (lines_told served.told ++ raw ∷ [])) → IsNext raw
@@ -235,8 +221,9 @@ module _ {State : Type 0} (Runs : State → List Told → State → Type 0) (IsB
               }
 
               -- the line isn't told, and nothing was sent
-              ends_untold : (end : SessionEnd) → ((taken : List ℕ) → AreFirst total taken after.left lines → Begins IsBye total taken after.left end (lines_told served.told))
-                  → Runs old served.told new → replied ≡ sunk → is_read_fault end ≡ false → is_write_fault end ≡ false → SendsReplies end false to sunk served.told
+              ends_untold : (end : SessionEnd) → ((taken : List ℕ) → AreFirst total taken after.left lines
+                  → Begins IsBye total taken after.left end (lines_told served.told)) → Runs old served.told new → replied ≡ sunk
+                  → is_read_fault end ≡ false → is_write_fault end ≡ false → SendsReplies end false to sunk served.told
                   → Serves Runs IsBye total old new from after to replied end
               ends_untold end begun runs same no_read no_write sent = record {
                 told = served.told;
@@ -251,11 +238,12 @@ module _ {State : Type 0} (Runs : State → List Told → State → Type 0) (IsB
               }
 
               -- as the line was answered
-              pub serves_one : (answer : Result Answered ReplyFault) → AnswersLine (λ more. Runs old more new) IsBye served.told raw sunk replied answer
+              serves_one : (answer : Result Answered ReplyFault) → AnswersLine (λ more. Runs old more new) IsBye served.told raw sunk replied answer
                   → ServesOne Runs IsBye total old new from after to replied next (end_by_answer answer)
               serves_one (Ok Replied) answers = goes_on answers
               serves_one (Ok Bye) answers =
-                  ends_untold Ended (λ taken first. inl (record { bye = raw; is_bye = answers.0; first = first })) answers.1 answers.2 refl refl served.sent.bytes
+                  ends_untold Ended (λ taken first. inl (record { bye = raw; is_bye = answers.0; first = first })) answers.1 answers.2
+                  refl refl served.sent.bytes
               serves_one (Err (reply.Out cut)) answers = ends_cut cut answers
               serves_one (Err reply.OutOfMemory) answers =
                   ends_untold OutOfMemory (λ taken first. first_without total taken after.left (lines_told served.told) (raw ∷ []) first) answers.0 answers.1
@@ -304,7 +292,8 @@ module _ {State : Type 0} (Runs : State → List Told → State → Type 0) (IsB
               → IfSome left (λ _. TakesLines IsBye total left after.left Ended (lines_told served.told))
           by None passes = tt
           by (Some text) passes =
-              let within : reader.passed < total = omega (arith, requests.counts.within, requests.counts.counts.passed, ap (λ l. l.total) requests.limits, is_total) in
+              let within : reader.passed < total =
+              omega (arith, requests.counts.within, requests.counts.counts.passed, ap (λ l. l.total) requests.limits, is_total) in
               let all = takes_all total text reader before.left (lines_told served.told) passes next after.left requests.counts.nothing within
               (request_told (Ok None) requests text passes) in
               record { taken = passes.passed; takes = all.takes; within = omega (arith, all.is_all.within); begun = inr (all.is_all, all.all) }
@@ -369,7 +358,8 @@ module _ {State : Type 0} (Runs : State → List Told → State → Type 0) (IsB
               }
 
         -- a fault ended the lines
-        pub serves_fault : (fault : LineFault) → Requests reader next before after (Err fault) → ReadsFrom before after (line_failed {T = Option Request} None (Err fault))
+        pub serves_fault : (fault : LineFault) → Requests reader next before after (Err fault)
+            → ReadsFrom before after (line_failed {T = Option Request} None (Err fault))
             → Serves Runs IsBye total old mid from after to sunk (end_by_input fault)
         serves_fault line.Read requests source = serves_failed requests source
         serves_fault line.Total requests source = serves_total requests source

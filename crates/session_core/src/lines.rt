@@ -12,7 +12,7 @@ ghost use Rattle.session_core.specs.Sessions.{IsSessionBye, Session as Kept, Ses
 
 use crate::end::SessionEnd;
 use crate::host::Host;
-use crate::serve::{end_at, end_behind};
+use crate::serve::{end_by_answer, end_by_input};
 use crate::session::Session;
 use epoch_store::Store;
 use line_text::Lines;
@@ -70,8 +70,8 @@ impl<T: Store> Session<T> {
         let kind = match lines.next_request(&mut link.from) {
             Ok(Some(kind)) => kind,
             Ok(None) => return Some(SessionEnd::Ended),
-            Err(fault) => return Some(end_at(fault)),
+            Err(fault) => return Some(end_by_input(fault)),
         };
-        end_behind(self.answer(host, kind, lines.text(), &mut link.to))
+        end_by_answer(self.answer(host, kind, lines.text(), &mut link.to))
     }
 }

@@ -84,13 +84,13 @@ fn serve_line<C, P: Party<C>, S: Source, K: Sink>(
     let kind = match lines.next_request(&mut link.from) {
         Ok(Some(kind)) => kind,
         Ok(None) => return Some(SessionEnd::Ended),
-        Err(fault) => return Some(end_at(fault)),
+        Err(fault) => return Some(end_by_input(fault)),
     };
-    end_behind(party.answer(setting, kind, lines.text(), &mut link.to))
+    end_by_answer(party.answer(setting, kind, lines.text(), &mut link.to))
 }
 
 /// How a session ends where there is no next line.
-pub(crate) fn end_at(fault: LineFault) -> SessionEnd
+pub(crate) fn end_by_input(fault: LineFault) -> SessionEnd
     ensures { result ≡ end_by_input fault }
 {
     match fault {
@@ -101,7 +101,7 @@ pub(crate) fn end_at(fault: LineFault) -> SessionEnd
 }
 
 /// How a session ends behind a line, if it does.
-pub(crate) fn end_behind(answer: Result<Answered, ReplyFault>) -> Option<SessionEnd>
+pub(crate) fn end_by_answer(answer: Result<Answered, ReplyFault>) -> Option<SessionEnd>
     ensures { result ≡ end_by_answer answer }
 {
     match answer {

@@ -12,7 +12,7 @@ returns-in-Ok-None-clause-serves g c total first from to served =
 
 pub returns-in-Err-clause-serves : goal.returns-in-Err-clause-serves
 returns-in-Err-clause-serves g c total first from to served =
-    rw c.end_at.ensures (serves_fault _ _ _ _ _ _ _ _ _ _ served _ _ _
+    rw c.end_by_input.ensures (serves_fault _ _ _ _ _ _ _ _ _ _ served _ _ _
     (requests_of c.args.lines.now c.next_request.new.self _ _ _ c.requires.goes_on c.in-Err.ensures.requests)
     (source_of c.args.lines.now _ _ _ c.requires.goes_on c.in-Err.ensures.source))
 
@@ -21,7 +21,7 @@ returns-clause-serves g c total first from to served =
     let call = rw c.in-Ok-Some.field-0-is at c.in-Ok-Some.ensures in
     let requests = requests_of c.args.lines.now c.next_request.new.self _ _ (Ok (Some c.in-Ok-Some.kind)) c.requires.goes_on call.requests in
     let source = source_of c.args.lines.now _ _ (Ok (Some c.in-Ok-Some.kind)) c.requires.goes_on call.source in
-    rw c.end_behind.ensures (serves_next _ _ _ _ _ _ _ _ _ _ served _ _ _ requests _ _ c.answer.result source call.keeps_fault
+    rw c.end_by_answer.ensures (serves_next _ _ _ _ _ _ _ _ _ _ served _ _ _ requests _ _ c.answer.result source call.keeps_fault
     (λ told raw is runs. c.answer.ensures first told raw (rw c.text.ensures.value is) runs))
 
 pub returns-clause-takes_some : goal.returns-clause-takes_some

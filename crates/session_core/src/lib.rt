@@ -1,13 +1,13 @@
 //! Sessions and the operator of a store of epochs: line by line, what they ask and what is replied.
 //!
-//! Each line that isn't blank gets its whole reply before more is read from the link.
+//! Each line that isn't blank gets its whole reply before more is read from the link. One loop serves both: a closure
+//! answers one line.
 #![tactic(auto)]
 
 mod desk;
 mod end;
 mod host;
 mod laws;
-mod lines;
 mod look;
 mod obey;
 mod operator;

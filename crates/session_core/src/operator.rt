@@ -6,6 +6,8 @@ ghost use Rattle.session_requests.specs.Requests.{AsksOfOperator};
 ghost use Rattle.session_core.specs.Lines.{IsLine, IsText};
 ghost use Rattle.session_core.specs.Links.{Serves};
 ghost use Rattle.session_core.specs.OperatorReplies.{AreCriteria, WeighsAs};
+ghost use Rattle.session_core.specs.Parties.{AnswersLine};
+ghost use Rattle.session_core.specs.Told.{Told};
 ghost use Rattle.session_core.specs.Operators.{IsOperatorBye, OperatorRun};
 
 use crate::desk::Desk;
@@ -37,34 +39,45 @@ pub fn serve_operator<T: Store, R: Wait, S: Source, K: Sink>(
         (S.state link.old.from) (S.state link.new.from)
         (K.state link.old.to) (K.state link.new.to) result }
 {
-    let end = serve(desk.alloc, desk, operator, link, desk.bytes);
+    let answer = |desk: &Desk<'_, R>, operator: &mut Operator<T>, kind, text: &[u8], to: &mut K|
+        requires { AreCriteria T.origin desk.now.criteria }
+    { answer_line(desk, operator, kind, text, to) };
+    let end = serve(desk.alloc, desk, operator, link, desk.bytes, &answer);
     operator.drop_pending();
     end
 }
 
-impl<T: Store, R: Wait> Party<Desk<'_, R>> for Operator<T> {
+impl<T: Store, R> Party<Desk<'_, R>> for Operator<T> {
     ghost ready = { λ desk. AreCriteria T.origin desk.criteria };
 
     ghost runs = { λ desk. OperatorRun T.origin };
 
     ghost bye = { λ desk. IsOperatorBye T.origin };
+}
 
-    fn answer<K: Sink>(
-        &mut self,
-        setting: &Desk<'_, R>,
-        kind: Request,
-        text: &[u8],
-        to: &mut K,
-    ) -> Result<Answered, ReplyFault> {
-        let line = read(kind, text, setting.criteria);
-        match heed(setting.rt, self, line)? {
-            Heeded::Silent => Ok(Answered::Replied),
-            Heeded::Says(reply) => {
-                put_reply(to, reply)?;
-                Ok(Answered::Replied)
-            }
-            Heeded::Ends => Ok(Answered::Bye),
+/// Answers a line by its text, without its LF and one CR; that of a line too long for a request doesn't count. All memory
+/// is taken before the first byte of the reply.
+fn answer_line<T: Store, R: Wait, K: Sink>(
+    setting: &Desk<'_, R>,
+    operator: &mut Operator<T>,
+    kind: Request,
+    text: &[u8],
+    to: &mut K,
+) -> Result<Answered, ReplyFault>
+    requires { AreCriteria T.origin setting.now.criteria }
+    ensures { (first : Kept) (told : List Told) (raw : List ℕ) → IsText kind text.now raw
+        → OperatorRun T.origin first told operator.old
+        → AnswersLine (λ more. OperatorRun T.origin first more operator.new)
+        (IsOperatorBye T.origin) told raw (K.state to.old) (K.state to.new) result }
+{
+    let line = read(kind, text, setting.criteria);
+    match heed(setting.rt, operator, line)? {
+        Heeded::Silent => Ok(Answered::Replied),
+        Heeded::Says(reply) => {
+            put_reply(to, reply)?;
+            Ok(Answered::Replied)
         }
+        Heeded::Ends => Ok(Answered::Bye),
     }
 }
 

@@ -18,12 +18,12 @@ ghost use Rattle.session_core.specs.Sessions.{IsSessionBye, Session as Kept, Ses
 use crate::end::SessionEnd;
 use crate::host::Host;
 use crate::look::look_for;
-use crate::party::Answered;
-use crate::serve::MAX_REQUEST;
+use crate::party::{Answered, Party};
+use crate::serve::serve;
 use crate::short::refuse_line;
 use cost_vector::OutOfMemory;
 use epoch_store::{Ended, EpochReader, Store};
-use line_text::{LineLimits, Lines, Request};
+use line_text::Request;
 use path_readback::Room;
 use query_replies::ReplyFault;
 use route_io::{Gate, Link, Sink, Source};
@@ -48,6 +48,18 @@ impl<T: Store> Model for Session<T> {
     ghost Value = { Session };
 
     ghost view = { λ s. record { seen = s.reader; named = s.named.items } };
+}
+
+impl<T: Store, R, G> Party<Host<'_, R, G>> for Session<T> {
+    ghost use Rattle.session_core.specs.Answering.{CanSearch, scene_of};
+    ghost use Rattle.session_core.specs.Sessions.{IsSessionBye, SessionGoes};
+
+    ghost ready = { λ host. CanSearch host.crew.now.workers
+        (scene_of host.graph.now T.origin host.budget) };
+
+    ghost runs = { λ host. SessionGoes (scene_of host.graph.now T.origin host.budget) };
+
+    ghost bye = { λ host. IsSessionBye (scene_of host.graph.now T.origin host.budget) };
 }
 
 /// Reads a line of a session by its text.
@@ -118,19 +130,16 @@ impl<T: Store> Session<T> {
             (S.state link.old.from) (S.state link.new.from)
             (K.state link.old.to) (K.state link.new.to) result }
     {
-        let limits = LineLimits {
-            line: MAX_REQUEST,
-            total: host.bytes,
-        };
-        match Lines::new(host.alloc, limits) {
-            Ok(mut lines) => self.serve_lines(host, link, &mut lines),
-            Err(OutOfMemory) => SessionEnd::OutOfMemory,
-        }
+        let answer = |host: &Host<'_, R, G>, session: &mut Self, kind, text: &[u8], to: &mut K|
+            requires { CanSearch host.now.crew.now.workers
+                (scene_of host.now.graph.now T.origin host.now.budget) }
+        { session.answer(host, kind, text, to) };
+        serve(host.alloc, host, self, link, host.bytes, &answer)
     }
 
     /// Answers a line by its text, without its LF and one CR; that of a line too long for a request doesn't count. All
     /// memory is taken before the first byte of the reply.
-    pub(crate) fn answer<R: Threads + Wait + Sync, G: Gate, K: Sink>(
+    fn answer<R: Threads + Wait + Sync, G: Gate, K: Sink>(
         &mut self,
         host: &Host<'_, R, G>,
         kind: Request,

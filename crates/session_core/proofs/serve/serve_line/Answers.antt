@@ -21,8 +21,8 @@ returns-clause-serves g c total first from to served =
     let call = rw c.in-Ok-Some.field-0-is at c.in-Ok-Some.ensures in
     let requests = requests_of c.args.lines.now c.next_request.new.self _ _ (Ok (Some c.in-Ok-Some.kind)) c.requires.goes_on call.requests in
     let source = source_of c.args.lines.now _ _ (Ok (Some c.in-Ok-Some.kind)) c.requires.goes_on call.source in
-    rw c.end_by_answer.ensures (serves_next _ _ _ _ _ _ _ _ _ _ served _ _ _ requests _ _ c.answer.result source call.keeps_fault
-    (λ told raw is runs. c.answer.ensures first told raw (rw c.text.ensures.value is) runs))
+    rw c.end_by_answer.ensures (serves_next _ _ _ _ _ _ _ _ _ _ served _ _ _ requests c.answer.new.arg3 (g.K.Sink.state c.answer.new.arg6) c.answer.result source call.keeps_fault
+    (λ told raw is runs. c.requires.answers _ _ _ _ _ _ _ _ c.answer.ensures first told raw (rw c.text.ensures.value is) runs))
 
 pub returns-clause-takes_some : goal.returns-clause-takes_some
 returns-clause-takes_some g c is_none =

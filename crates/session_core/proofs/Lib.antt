@@ -1,10 +1,8 @@
-mod StubLemmas
-pub mod StayLemmas
 mod LineKindLemmas
 mod AnswersLineLemmas
+pub mod StayLemmas
 mod RunLemmas
 mod OperatorRunLemmas
 mod LinesLemmas
 mod FeedLemmas
 mod ServesLemmas
-mod NextLineLemmas

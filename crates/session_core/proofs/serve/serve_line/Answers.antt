@@ -1,7 +1,20 @@
-use Rattle.std.proofs.Common.{Ok, Some, None}
-use Rattle.session_core.proofs.NextLineLemmas.{requests_of, source_of}
+use Rattle.std.proofs.Common.{◌≡◌, Ok, Some, None, Option, IfNone, Result, subst}
+use Rattle.route_io.specs.Sources.{SourceState, ReadsFrom}
+use Rattle.line_text.specs.Reading.{Lines, line_failed}
+use Rattle.line_text.specs.Requests.{Requests}
+use Rattle.line_text.specs.declared.limits.LineFault.{LineFault}
+use Rattle.line_text.specs.declared.limits.Request.{Request}
 use Rattle.session_core.proofs.ServesLemmas.{serves_all, serves_fault, serves_next, takes_some}
 use Rattle.session_core.proofs.serve.serve_line.Goals as goal
+
+-- what a call did to a reader that keeps no fault
+requests_of : (old new : Lines) (before after : SourceState) (result : Result (Option Request) LineFault) → old.fault ≡ None
+    → IfNone old.fault (Requests old new before after result) → Requests old new before after result
+requests_of old new before after result none requests = subst (λ fault. IfNone fault (Requests old new before after result)) none requests
+
+source_of : (old : Lines) (before after : SourceState) (result : Result (Option Request) LineFault) → old.fault ≡ None
+    → ReadsFrom before after (line_failed old.fault result) → ReadsFrom before after (line_failed None result)
+source_of old before after result none source = subst (λ fault. ReadsFrom before after (line_failed fault result)) none source
 
 pub returns-in-Ok-None-clause-serves : goal.returns-in-Ok-None-clause-serves
 returns-in-Ok-None-clause-serves g c total first from to served =
@@ -21,7 +34,8 @@ returns-clause-serves g c total first from to served =
     let call = rw c.in-Ok-Some.field-0-is at c.in-Ok-Some.ensures in
     let requests = requests_of c.args.lines.now c.next_request.new.self _ _ (Ok (Some c.in-Ok-Some.kind)) c.requires.goes_on call.requests in
     let source = source_of c.args.lines.now _ _ (Ok (Some c.in-Ok-Some.kind)) c.requires.goes_on call.source in
-    rw c.end_by_answer.ensures (serves_next _ _ _ _ _ _ _ _ _ _ served _ _ _ requests c.answer.new.arg3 (g.K.Sink.state c.answer.new.arg6) c.answer.result source call.keeps_fault
+    let sunk = g.K.Sink.state c.answer.new.arg6 in
+    rw c.end_by_answer.ensures (serves_next _ _ _ _ _ _ _ _ _ _ served _ _ _ requests c.answer.new.arg3 sunk c.answer.result source call.keeps_fault
     (λ told raw is runs. c.requires.answers _ _ _ _ _ _ _ _ c.answer.ensures first told raw (rw c.text.ensures.value is) runs))
 
 pub returns-clause-takes_some : goal.returns-clause-takes_some

@@ -21,12 +21,12 @@ serves_whole : {T L : Type 0} (show : L → LinkState) (scene : Scene) (bytes : 
     → SessionServes show scene bytes s.party s.link s.party_after s.link_after → IsPrefix s.party_after.session.seen whole
     → IsPublishedIn scene.origin whole
     → Serves (SessionGoes scene) (IsSessionBye scene) bytes (record { seen = []; named = [] })
-        (record { seen = whole; named = s.party_after.session.named })
-        (show s.link).from (show s.link_after).from (show s.link).to (show s.link_after).to s.party_after.end
+    (record { seen = whole; named = s.party_after.session.named })
+    (show s.link).from (show s.link_after).from (show s.link).to (show s.link_after).to s.party_after.end
 serves_whole show scene bytes whole s is begins allowed = record {
   told = is.told;
   runs = record {
-    run = run_stays scene [] [] s.party_after.session.seen whole is.told is.runs.run (prefix_self []) begins allowed;
+    run = run_stays scene [] [] s.party_after.session.seen whole is.told is.runs.run (prefix_self []) begins allowed.history;
     named = is.runs.named;
   };
   each = is.each;
@@ -69,9 +69,9 @@ module _ {T L : Type 0} (show : L → LinkState) (graph : Graph) (o : Origin) (b
     (lanes lanes' : List (SessionLane T)) (links links' : List L) (reports : List LaneReport) where
   pub runs_lanes : (weights : Weights) (first : ℕ) → o.first ≡ first → o.base ≡ weights
       → FirstAndAllServe (OperatorServes show o bytes) (SessionServes show (record { graph = graph; origin = o; budget = budget }) bytes)
-          one lanes links one' lanes' links'
+      one lanes links one' lanes' links'
       → reports ≡ record { end = one'.end; last = last_number o (whole_of one'.store); numbers = [] }
-          ∷ map (report_of (last_number o (whole_of one'.store))) lanes'
+      ∷ map (report_of (last_number o (whole_of one'.store))) lanes'
       → All (λ lane. IsPrefix lane.session.seen (whole_of one'.store)) lanes'
       → RunsLanes graph weights first budget bytes (map show links) (map show links') reports
   runs_lanes weights first first_is base_is is told begins =

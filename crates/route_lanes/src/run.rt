@@ -8,8 +8,8 @@ ghost use Rattle.session_core.specs.Answering.{CanSearch, scene_of};
 ghost use Rattle.route_lanes.specs.Served.{report_of, whole_of};
 
 use crate::court::Court;
-use crate::report::LaneReport;
 use crate::operator_lane::{OperatorLane, StoreState};
+use crate::report::LaneReport;
 use crate::session_lane::{SessionLane, learn_all, report_all, session_lanes};
 use arc_graph::Weights;
 use cost_vector::OutOfMemory;

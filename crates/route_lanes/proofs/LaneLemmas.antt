@@ -1,16 +1,16 @@
 -- What became of all lanes, by what each has served and what is reported.
-use Rattle.std.proofs.Common.{◌≡◌, ℕ, List, [], ◌∷◌, map, All, refl, ap, ap₂, sym, subst, ◌∙◌}
+use Rattle.std.proofs.Common.{◌≡◌, ℕ, List, [], ◌∷◌, map, All, refl, ap, ap₂, subst, ◌∙◌}
 use Rattle.std.proofs.lemmas.List.Elements.{All-cons, All-head, All-nil, All-tail}
 use mathlib.Core.List.{IsPrefix}
 use Rattle.arc_graph.specs.Graph.{Graph, Weights}
-use Rattle.arc_graph.specs.History.{History, Operator, closed_history}
+use Rattle.arc_graph.specs.History.{History, closed_history}
 use Rattle.epoch_store.specs.Origin.{Origin, IsPublishedIn, last_number}
 use Rattle.epoch_store.proofs.OperatorLemmas.{closed_last}
 use Rattle.epoch_store.proofs.PrefixLemmas.{prefix_self}
 use Rattle.session_core.specs.Links.{Serves}
-use Rattle.session_core.specs.Sessions.{IsSessionBye, Scene, Session, SessionGoes}
+use Rattle.session_core.specs.Sessions.{IsSessionBye, Scene, SessionGoes}
 use Rattle.session_core.proofs.StayLemmas.{run_stays}
-use Rattle.route_lanes.specs.Lanes.{IsOperatorLane, IsSessionLane, Lane, LaneReport, LinkState, RunsLanes}
+use Rattle.route_lanes.specs.Lanes.{IsSessionLane, Lane, LaneReport, LinkState, RunsLanes}
 use Rattle.route_lanes.specs.Served.{OperatorServes, SessionServes, report_of, whole_of}
 use Rattle.route_lanes.specs.Services.{FirstAndAllServe, Service}
 use Rattle.route_lanes.specs.declared.operator_lane.OperatorLane.{OperatorLane}

@@ -1,4 +1,3 @@
-use Rattle.std.proofs.Common.{◌≡◌}
 use Rattle.route_io.specs.declared.link.Link.{Link}
 use Rattle.route_lanes.specs.declared.operator_lane.OperatorLane.{OperatorLane}
 use Rattle.route_lanes.specs.declared.session_lane.SessionLane.{SessionLane}

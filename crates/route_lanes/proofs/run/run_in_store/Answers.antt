@@ -1,7 +1,6 @@
-use Rattle.std.proofs.Common.{◌≡◌, ℕ, List, [], ◌∷◌, All, length, map, ap, sym, subst, ◌∙◌}
+use Rattle.std.proofs.Common.{List, [], ◌∷◌, All, map, ap, sym, subst, ◌∙◌}
 use mathlib.Core.List.{IsPrefix}
 use Rattle.route_io.specs.declared.link.Link.{Link}
-use Rattle.arc_graph.specs.History.{History}
 use Rattle.epoch_store.specs.Origin.{last_number}
 use Rattle.session_core.specs.Sessions.{Scene}
 use Rattle.route_lanes.specs.Lanes.{LaneReport, LinkState}

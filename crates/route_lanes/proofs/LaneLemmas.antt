@@ -1,16 +1,16 @@
 -- What became of all lanes, by what each has served and what is reported.
-use Rattle.std.proofs.Common.{◌≡◌, ℕ, List, [], ◌∷◌, map, All, refl, ap, ap₂, sym, subst, ◌∙◌}
+use Rattle.std.proofs.Common.{◌≡◌, ℕ, List, [], ◌∷◌, map, All, refl, ap, ap₂, subst, ◌∙◌}
 use Rattle.std.proofs.lemmas.List.Elements.{All-cons, All-head, All-nil, All-tail}
 use mathlib.Core.List.{IsPrefix}
 use Rattle.arc_graph.specs.Graph.{Graph, Weights}
-use Rattle.arc_graph.specs.History.{History, Operator, closed_history}
+use Rattle.arc_graph.specs.History.{History, closed_history}
 use Rattle.epoch_store.specs.Origin.{Origin, IsPublishedIn, last_number}
 use Rattle.epoch_store.proofs.OperatorLemmas.{closed_last}
 use Rattle.epoch_store.proofs.PrefixLemmas.{prefix_self}
 use Rattle.session_core.specs.Links.{Serves}
-use Rattle.session_core.specs.Sessions.{IsSessionBye, Scene, Session, SessionGoes}
+use Rattle.session_core.specs.Sessions.{IsSessionBye, Scene, SessionGoes}
 use Rattle.session_core.proofs.StayLemmas.{run_stays}
-use Rattle.route_lanes.specs.Lanes.{IsOperatorLane, IsSessionLane, Lane, LaneReport, LinkState, RunsLanes}
+use Rattle.route_lanes.specs.Lanes.{IsSessionLane, Lane, LaneReport, LinkState, RunsLanes}
 use Rattle.route_lanes.specs.Served.{OperatorServes, SessionServes, report_of, whole_of}
 use Rattle.route_lanes.specs.Services.{FirstAndAllServe, Service}
 use Rattle.route_lanes.specs.declared.operator_lane.OperatorLane.{OperatorLane}
@@ -21,18 +21,16 @@ serves_whole : {T L : Type 0} (show : L → LinkState) (scene : Scene) (bytes : 
     → SessionServes show scene bytes s.party s.link s.party_after s.link_after → IsPrefix s.party_after.session.seen whole
     → IsPublishedIn scene.origin whole
     → Serves (SessionGoes scene) (IsSessionBye scene) bytes (record { seen = []; named = [] })
-        (record { seen = whole; named = s.party_after.session.named })
-        (show s.link).from (show s.link_after).from (show s.link).to (show s.link_after).to s.party_after.end
+    (record { seen = whole; named = s.party_after.session.named })
+    (show s.link).from (show s.link_after).from (show s.link).to (show s.link_after).to s.party_after.end
 serves_whole show scene bytes whole s is begins allowed = record {
   told = is.told;
   runs = record {
     run = run_stays scene [] [] s.party_after.session.seen whole is.told is.runs.run (prefix_self []) begins allowed;
     named = is.runs.named;
   };
-  taken = is.taken;
-  takes = is.takes;
-  within = is.within;
-  begun = is.begun;
+  each = is.each;
+  lines = is.lines;
   wanted = is.wanted;
   wants = is.wants;
   sent = is.sent;
@@ -71,9 +69,9 @@ module _ {T L : Type 0} (show : L → LinkState) (graph : Graph) (o : Origin) (b
     (lanes lanes' : List (SessionLane T)) (links links' : List L) (reports : List LaneReport) where
   pub runs_lanes : (weights : Weights) (first : ℕ) → o.first ≡ first → o.base ≡ weights
       → FirstAndAllServe (OperatorServes show o bytes) (SessionServes show (record { graph = graph; origin = o; budget = budget }) bytes)
-          one lanes links one' lanes' links'
+      one lanes links one' lanes' links'
       → reports ≡ record { end = one'.end; last = last_number o (whole_of one'.store); numbers = [] }
-          ∷ map (report_of (last_number o (whole_of one'.store))) lanes'
+      ∷ map (report_of (last_number o (whole_of one'.store))) lanes'
       → All (λ lane. IsPrefix lane.session.seen (whole_of one'.store)) lanes'
       → RunsLanes graph weights first budget bytes (map show links) (map show links') reports
   runs_lanes weights first first_is base_is is told begins =

@@ -1,12 +1,8 @@
 -- What is reported of lanes whose sessions have learnt the whole history.
 use Rattle.std.proofs.Common.{◌≡◌, ℕ, List, ◌++◌, length, map, take, drop, subst, Result, Ok, Err, IfOk, OnOk}
-use Rattle.std.proofs.lemmas.List.{length-map}
 use Rattle.std.proofs.lemmas.Simd.{map-map}
 use Rattle.std.proofs.Math.Seq.{take-append_seam}
 use Rattle.arc_graph.specs.History.{History}
-use Rattle.epoch_store.specs.Origin.{Origin, last_number}
-use Rattle.session_core.specs.declared.end.SessionEnd.{SessionEnd}
-use Rattle.route_lanes.specs.Lanes.{LaneReport}
 use Rattle.route_lanes.specs.Served.{learnt, report_of}
 use Rattle.route_lanes.specs.declared.session_lane.SessionLane.{SessionLane}
 

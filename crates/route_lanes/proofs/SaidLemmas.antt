@@ -1,5 +1,5 @@
 -- What becomes of parties and links, said in other words.
-use Rattle.std.proofs.Common.{◌≡◌, List, All, length, ap, sym, subst, ◌∙◌}
+use Rattle.std.proofs.Common.{◌≡◌, List, length, ap, sym, subst, ◌∙◌}
 use Rattle.std.proofs.lemmas.List.{length-map}
 use Rattle.std.proofs.lemmas.List.Elements.{All-weaker}
 use Rattle.std.specs.Borrow.{MutBor}

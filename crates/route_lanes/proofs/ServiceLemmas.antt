@@ -1,5 +1,5 @@
 -- Parties that serve links: one party, two lists of parties one behind the other, and one party before all others.
-use Rattle.std.proofs.Common.{◌≡◌, List, [], ◌∷◌, ◌++◌, length, map, All, get_or, set, refl, sym, ap₂, ◌∙◌, arith}
+use Rattle.std.proofs.Common.{◌≡◌, List, [], ◌∷◌, ◌++◌, length, get_or, set, refl, sym, ap₂, ◌∙◌, arith}
 use Rattle.std.proofs.lemmas.List.{map-append}
 use Rattle.std.proofs.lemmas.List.Elements.{All-append, All-cons, All-nil}
 use Rattle.route_lanes.specs.Services.{AllServe, FirstAndAllServe, ServesOne, Service}

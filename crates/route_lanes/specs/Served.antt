@@ -1,10 +1,8 @@
 -- What becomes of a lane when it serves its link.
-use Rattle.std.specs.Prelude.{◌≡◌, ℕ, ◌≤◌, []}
+use Rattle.std.specs.Prelude.{◌≡◌, ℕ, []}
 use Rattle.route_io.specs.declared.link.Link.{Link}
 use Rattle.route_io.specs.Sinks.{SinkState}
 use Rattle.route_io.specs.Sources.{SourceState}
-use Rattle.road_network.specs.Limits.{max_budget}
-use Rattle.arc_graph.specs.Graph.{Match}
 use Rattle.arc_graph.specs.History.{History, Operator, closed_history, with_none_pending}
 use Rattle.epoch_store.specs.Origin.{Origin, IsOperatorIn, IsPublishedIn}
 use Rattle.session_core.specs.declared.end.SessionEnd.{SessionEnd}
@@ -55,14 +53,6 @@ pub record OperatorServes {T L : Type 0} (show : L → LinkState) (o : Origin) (
 -- the session has seen nothing, and named no epoch
 abbrev pub IsFresh : Session → Type 0
 IsFresh session = session ≡ record { seen = []; named = [] }
-
--- A fresh session can serve a link by so many workers.
-pub record CanServe (scene : Scene) (workers : ℕ) (session : Session) : Type 0 where
-  pub fresh : IsFresh session
-  pub at_least_one : 1 ≤ workers
-  pub at_most_64 : workers ≤ 64
-  pub weights : Match scene.graph scene.origin.base
-  pub budget : scene.budget ≤ max_budget
 
 -- A session's lane served a link, where links show this, from nothing seen on.
 abbrev pub SessionServes : {T L : Type 0} → (L → LinkState) → Scene → ℕ → SessionLane T → L → SessionLane T → L → Type 0

@@ -1,6 +1,7 @@
 //! The operator's lane.
 ghost use Rattle.std.specs.Prelude.{◌≡◌};
 ghost use Rattle.arc_graph.specs.History.{closed_history};
+ghost use Rattle.session_core.specs.OperatorReplies.{AreCriteria};
 ghost use Rattle.route_lanes.specs.Served.{IsNew, OperatorServes, ServesOpen, state_of, whole_of};
 
 use core::mem::replace_with;
@@ -30,7 +31,8 @@ impl<T: Store> OperatorLane<T> {
         desk: &Desk<'_, R>,
         link: &mut Link<S, K>,
     )
-        requires { IsNew self.old.store }
+        requires new { IsNew self.old.store }
+        requires criteria { AreCriteria T.origin desk.now.criteria }
         ensures { OperatorServes (state_of S.state K.state) T.origin desk.now.bytes
             self.old link.old self.new link.new }
     {
@@ -45,7 +47,8 @@ fn serve_open<T: Store, R: Wait, S: Source, K: Sink>(
     store: &mut StoreState<T>,
     link: &mut Link<S, K>,
 ) -> SessionEnd
-    requires { IsNew store.old }
+    requires new { IsNew store.old }
+    requires criteria { AreCriteria T.origin desk.now.criteria }
     ensures { ServesOpen T.origin desk.now.bytes (state_of S.state K.state link.old)
         (state_of S.state K.state link.new) result store.new }
 {

@@ -1,37 +1,25 @@
-ghost use Rattle.std.specs.Prelude.{◌≡◌, ◌+◌, ◌≤◌, [], ◌∷◌, All, IfOk, OnOk, length, map, vec_len};
+ghost use Rattle.std.specs.Prelude.{◌≡◌, ◌≤◌, [], ◌∷◌, All, IfOk, OnOk, length, map};
 ghost use mathlib.Core.List.{IsPrefix};
 ghost use Rattle.road_network.specs.Limits.{max_budget};
 ghost use Rattle.arc_graph.specs.Graph.{Match};
 ghost use Rattle.epoch_store.specs.Origin.{last_number};
 ghost use Rattle.route_lanes.specs.Lanes.{RunsLanes};
-ghost use Rattle.route_lanes.specs.Served.{CanServe, IsFresh, IsNew, OperatorServes, SessionServes, report_of, state_of, whole_of};
-ghost use Rattle.route_lanes.specs.Services.{FirstAndAllServe};
+ghost use Rattle.session_core.specs.Answering.{CanSearch, scene_of};
+ghost use Rattle.route_lanes.specs.Served.{report_of, whole_of};
 
-use crate::LaneReport;
+use crate::court::Court;
 use crate::operator_lane::{OperatorLane, StoreState};
-use crate::service::serve_all;
+use crate::report::LaneReport;
 use crate::session_lane::{SessionLane, learn_all, report_all, session_lanes};
-use arc_graph::{Graph, Weights};
+use arc_graph::Weights;
 use cost_vector::OutOfMemory;
 use epoch_store::{Chronicle, Store, make};
 use route_io::{Gate, Link, Sink, Source};
-use session_core::{Desk, Host, SessionEnd};
+use session_core::SessionEnd;
 use std::alloc::Global;
 use std::marker::Brand;
 use std::sync::Wait;
 use std::thread::Threads;
-use work_claim::Crew;
-
-/// What all lanes are served by: the crew that shares each search, the graph, the budget of each query, and the most bytes
-/// that are taken from a link.
-#[derive(Drop)]
-pub struct Court<'c, R, G> {
-    pub crew: &'c Crew<'c, R, G>,
-    pub alloc: Global,
-    pub graph: &'c Graph,
-    pub budget: u32,
-    pub bytes: u64,
-}
 
 /// Serves all links at once, the operator's first and up to 16 sessions', each lane on a thread of its own; where none can
 /// be started the caller's does its work. When the operator's link has ended the store is closed, and each session's lane
@@ -77,10 +65,10 @@ fn run_in_store<
     requires chronicle { chronicle ≡ T.origin.chronicle }
     requires first { first ≡ T.origin.first }
     requires base { weights ≡ T.origin.base }
-    requires workers { (1 ≤ court.now.crew.now.workers) × (court.now.crew.now.workers ≤ 64) }
-    requires weights { Match court.now.graph.now weights }
-    requires budget { court.now.budget ≤ max_budget }
-    requires sessions { (2 ≤ length links.old) × (length links.old ≤ 17) }
+    requires search { CanSearch court.now.crew.now.workers
+        (scene_of court.now.graph.now T.origin court.now.budget) }
+    requires some_session { 2 ≤ length links.old }
+    requires at_most_16_sessions { length links.old ≤ 17 }
     ensures { IfOk result (λ reports. RunsLanes court.now.graph.now weights first
         court.now.budget court.now.bytes
         (map (λ l. record { from = S.state l.from; to = K.state l.to }) links.old)
@@ -96,7 +84,7 @@ fn run_in_store<
     };
     match session_lanes(court.alloc, readers) {
         Ok(mut sessions) => {
-            serve_lanes(court, &mut operator, &mut sessions, links);
+            court.serve(&mut operator, &mut sessions, links);
             report_lanes(court.crew.rt, court.alloc, reports, operator, sessions)
         }
         Err(_) => {
@@ -105,70 +93,6 @@ fn run_in_store<
             Err(OutOfMemory)
         }
     }
-}
-
-/// Has all lanes serve their links at once, the operator's the first.
-fn serve_lanes<
-    R: Threads + Wait + Sync,
-    G: Gate,
-    S: Source + Send,
-    K: Sink + Send,
-    T: Store + Send + Sync,
->(
-    court: &Court<'_, R, G>,
-    operator: &mut OperatorLane<T>,
-    sessions: &mut [SessionLane<T>],
-    links: &mut [Link<S, K>],
-)
-    requires workers { (1 ≤ court.now.crew.now.workers) × (court.now.crew.now.workers ≤ 64) }
-    requires weights { Match court.now.graph.now T.origin.base }
-    requires budget { court.now.budget ≤ max_budget }
-    requires some { 1 ≤ length sessions.old }
-    requires links { length links.old ≡ length sessions.old + 1 }
-    requires operator { IsNew operator.old.store }
-    requires sessions { All (λ lane. IsFresh lane.session) sessions.old }
-    ensures { FirstAndAllServe
-        (OperatorServes (state_of S.state K.state) T.origin court.now.bytes)
-        (SessionServes (state_of S.state K.state)
-        (record { graph = court.now.graph.now; origin = T.origin; budget = court.now.budget })
-        court.now.bytes)
-        operator.old sessions.old links.old operator.new sessions.new links.new }
-{
-    let desk = Desk {
-        rt: court.crew.rt,
-        alloc: court.alloc,
-        bytes: court.bytes,
-    };
-    let host = Host {
-        crew: court.crew,
-        alloc: court.alloc,
-        graph: court.graph,
-        budget: court.budget,
-        bytes: court.bytes,
-    };
-    serve_all(
-        court.crew.rt,
-        &|lane: &mut OperatorLane<T>, link: &mut Link<S, K>|
-            requires { IsNew lane.now.store }
-            ensures { OperatorServes (state_of S.state K.state) T.origin desk.entry.bytes
-                lane.entry.now link.entry.now lane.exit.now link.exit.now }
-        { lane.serve(&desk, link) },
-        operator,
-        &|lane: &mut SessionLane<T>, link: &mut Link<S, K>|
-            requires { CanServe
-                (record { graph = host.graph.now; origin = T.origin; budget = host.budget })
-                host.crew.now.workers lane.now.session }
-            ensures { SessionServes (state_of S.state K.state)
-                (record {
-                  graph = host.entry.graph.now;
-                  origin = T.origin;
-                  budget = host.entry.budget;
-                })
-                host.entry.bytes lane.entry.now link.entry.now lane.exit.now link.exit.now }
-        { lane.serve(&host, link) },
-        sessions,
-        links,
-    );
 }
 
 /// Closes and ends the store, and makes the lanes' reports. The list of reports is empty before.

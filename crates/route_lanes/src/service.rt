@@ -14,14 +14,7 @@ pub(crate) fn serve_all<
     V: Fn(&mut O, &mut L),
     W: Fn(&mut P, &mut L) + Sync,
     R: Threads + Sync,
->(
-    rt: &R,
-    lead: &V,
-    leader: &mut O,
-    serve: &W,
-    parties: &mut [P],
-    links: &mut [L],
-)
+>(rt: &R, lead: &V, leader: &mut O, serve: &W, parties: &mut [P], links: &mut [L])
     requires some { 1 ≤ length parties.old }
     requires links { length links.old ≡ length parties.old + 1 }
     requires leader { Accepts V.Fn lead.now leader.old }
@@ -41,15 +34,7 @@ fn serve_beside<
     V: Fn(&mut O, &mut L),
     W: Fn(&mut P, &mut L) + Sync,
     R: Threads + Sync,
->(
-    rt: &R,
-    lead: &V,
-    leader: &mut O,
-    first: &mut [L],
-    serve: &W,
-    parties: &mut [P],
-    rest: &mut [L],
-)
+>(rt: &R, lead: &V, leader: &mut O, first: &mut [L], serve: &W, parties: &mut [P], rest: &mut [L])
     requires first { length first.old ≡ 1 }
     requires some { 1 ≤ length parties.old }
     requires rest { length rest.old ≡ length parties.old }

@@ -1,9 +1,10 @@
 //! The lanes of sessions.
 ghost use Rattle.std.specs.Prelude.{◌≡◌, [], ◌∷◌, All, IfOk, OnOk, map, vec_len};
 ghost use mathlib.Core.List.{IsPrefix};
-ghost use Rattle.route_lanes.specs.Served.{CanServe, IsFresh, SessionServes, learnt, report_of, state_of};
+ghost use Rattle.session_core.specs.Answering.{CanSearch, scene_of};
+ghost use Rattle.route_lanes.specs.Served.{IsFresh, SessionServes, learnt, report_of, state_of};
 
-use crate::LaneReport;
+use crate::report::LaneReport;
 use cost_vector::OutOfMemory;
 use epoch_store::{Ended, EpochReader, Store};
 use route_io::{Gate, Link, Sink, Source};
@@ -26,12 +27,12 @@ impl<T: Store> SessionLane<T> {
         host: &Host<'_, R, G>,
         link: &mut Link<S, K>,
     )
-        requires { CanServe
-            (record { graph = host.now.graph.now; origin = T.origin; budget = host.now.budget })
-            host.now.crew.now.workers self.old.session }
+        requires fresh { IsFresh self.old.session }
+        requires search { CanSearch host.now.crew.now.workers
+            (scene_of host.now.graph.now T.origin host.now.budget) }
         ensures { SessionServes (state_of S.state K.state)
-            (record { graph = host.now.graph.now; origin = T.origin; budget = host.now.budget })
-            host.now.bytes self.old link.old self.new link.new }
+            (scene_of host.now.graph.now T.origin host.now.budget) host.now.bytes
+            self.old link.old self.new link.new }
     {
         self.end = self.session.serve(host, link);
     }

@@ -27,7 +27,7 @@ returns-clause-reports g c =
     let same = ap (map (report_of last)) back ∙ reports_of_learnt last whole before in
     IfOk-weaker c.report_all.result _ _
     (λ all told. subst (λ (n : ℕ). all.items ≡ record { end = end; last = n; numbers = [] } ∷ map (report_of n) before) number
-        (told ∙ ap (λ (rs : List LaneReport). first ∷ rs) same))
+    (told ∙ ap (λ (rs : List LaneReport). first ∷ rs) same))
     c.report_all.ensures
 
 pub returns-clause-begins : goal.returns-clause-begins

@@ -1,4 +1,4 @@
-use Rattle.std.proofs.Common.{rules, ◌≡◌, List, ◌∷◌, [], sym, ap, ◌∙◌, map, map-id}
+use Rattle.std.proofs.Common.{rules, List, ◌∷◌, [], sym, ap, ◌∙◌, map, map-id}
 use Rattle.std.proofs.lemmas.Iterator.Adapters.{YieldsList-from_vec}
 use Rattle.std.proofs.lemmas.Iterator.Consumers.{YieldsList-end}
 use Rattle.route_lanes.specs.Lanes.{LaneReport}

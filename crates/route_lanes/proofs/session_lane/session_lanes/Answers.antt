@@ -1,7 +1,6 @@
 use Rattle.std.proofs.Common.{◌≡◌, [], Some, ap, ◌∙◌, arith}
 use Rattle.std.proofs.lemmas.List.Elements.{All-pop, All-push}
 use Rattle.arc_graph.specs.History.{History}
-use Rattle.session_core.specs.Sessions.{Session}
 use Rattle.route_lanes.specs.declared.session_lane.SessionLane.{SessionLane}
 use Rattle.route_lanes.specs.Served.{IsFresh}
 use Rattle.route_lanes.proofs.session_lane.session_lanes.Goals as goal

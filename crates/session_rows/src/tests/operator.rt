@@ -219,7 +219,7 @@ fn no_epoch_comes_after_the_greatest_number(rt: HostRuntime) -> Result<(), Fail>
 }
 
 /// A link from which this text comes, and whose reads of these numbers fail.
-fn link_of(alloc: Global, text: &[u8], fails: &[u64]) -> Result<MemoryLink, AllocError> {
+pub(super) fn link_of(alloc: Global, text: &[u8], fails: &[u64]) -> Result<MemoryLink, AllocError> {
     Ok(MemoryLink {
         from: MemorySource::new(
             Vec::from_slice(alloc, text)?,
@@ -230,7 +230,12 @@ fn link_of(alloc: Global, text: &[u8], fails: &[u64]) -> Result<MemoryLink, Allo
 }
 
 /// A line of a word and spaces, of so many bytes, and its end.
-fn put_line(text: &mut Vec<u8>, word: &[u8], size: usize, end: &[u8]) -> Result<(), AllocError> {
+pub(super) fn put_line(
+    text: &mut Vec<u8>,
+    word: &[u8],
+    size: usize,
+    end: &[u8],
+) -> Result<(), AllocError> {
     text.extend_from_slice(word)?;
     for _ in word.len()..size {
         text.push(b' ')?;
@@ -245,7 +250,7 @@ fn serve_row<R: Wait + Abort>(
     link: MemoryLink,
     row: &Row<'_>,
 ) -> Result<(), Fail> {
-    let weights = six_arcs(alloc)?;
+    let (_graph, weights) = six_arcs(alloc)?;
     operate::<Brand, R>(rt, alloc, Chronicle::default(), weights, link, row)
 }
 

@@ -5,7 +5,7 @@ use Rattle.session_rows.proofs.tests.stores.six_arcs.Given as goal
 abbrev pub invariant-loop-arc : goal.invariant-loop-arc
 invariant-loop-arc l = record {
   begun : l.joiner.begun ≡ l.initial.joiner.begun;
-  nodes : l.joiner.due_nodes ≡ 2;
+  nodes : l.joiner.due_nodes ≡ 4;
   due : l.joiner.due_arcs ≡ 6;
   come : l.joiner.come ≡ l.arc;
 }

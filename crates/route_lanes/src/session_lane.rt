@@ -46,15 +46,12 @@ impl<T: Store> SessionLane<T> {
     }
 
     /// What is reported of the lane, where the last epoch has this number.
-    fn report(self, alloc: Global, last: u32) -> Result<LaneReport, OutOfMemory>
-        ensures { IfOk result (λ report. report ≡ report_of last self) }
+    fn report(self, last: u32) -> LaneReport
+        ensures { result ≡ report_of last self }
     {
-        let numbers = Vec::from_slice(alloc, self.session.numbers())?;
-        Ok(LaneReport {
-            end: self.end,
-            last,
-            numbers,
-        })
+        let SessionLane { session, end } = self;
+        let numbers = session.into_numbers();
+        LaneReport { end, last, numbers }
     }
 }
 
@@ -112,7 +109,7 @@ pub(crate) fn report_all<T: Store>(
         numbers: Vec::new(alloc),
     })?;
     for lane in lanes {
-        reports.push(lane.report(alloc, last)?)?;
+        reports.push(lane.report(last))?;
     }
     Ok(reports)
 }

@@ -1,0 +1,4 @@
+mod histories;
+mod lanes;
+mod replay;
+mod replies;

@@ -4,10 +4,12 @@ use route_top::route;
 use std::alloc::{AllocError, Global};
 use std::process::Abort;
 use std::test::Fail;
+use std::sync::Wait;
 use std::thread::Threads;
 
 mod batches;
 mod generated;
+mod lanes;
 mod readers;
 mod rows;
 mod walks;
@@ -63,7 +65,7 @@ impl Outside {
     /// Runs the words, and gives the status.
     fn run(
         &mut self,
-        rt: &(impl Threads + Sync),
+        rt: &(impl Threads + Wait + Sync),
         alloc: Global,
         words: &str,
     ) -> Result<u8, AllocError> {
@@ -73,7 +75,7 @@ impl Outside {
     /// Runs the words, with this gate before each piece of work, and gives the status.
     fn run_through(
         &mut self,
-        rt: &(impl Threads + Sync),
+        rt: &(impl Threads + Wait + Sync),
         alloc: Global,
         words: &str,
         gate: &impl Gate,
@@ -199,6 +201,12 @@ fn rows_have_their_output(rt: HostRuntime) -> Result<(), Fail> {
     assert_rows(&rt, rt.alloc(), rows::ROWS)?;
     assert_rows(&rt, rt.alloc(), walks::ROWS)?;
     assert_rows(&rt, rt.alloc(), batches::ROWS)?;
+    Ok(())
+}
+
+#[test]
+fn lanes_have_their_output(rt: HostRuntime) -> Result<(), Fail> {
+    assert_rows(&rt, rt.alloc(), lanes::ROWS)?;
     Ok(())
 }
 

@@ -1,5 +1,8 @@
+pub mod SentFirst
 pub mod RunsLemmas
 pub mod QueryLemmas
+pub mod LanesSent
+pub mod LaneScripts
 pub mod FilesReadLemmas
 pub mod BatchLemmas
 pub mod OutputLemmas

@@ -158,7 +158,7 @@ fn assert_status(rt: &impl Abort, got: u8, wanted: &Wanted, number: usize) {
 
 /// The run ends as is wanted. The number tells it from other runs of the same words.
 fn assert_run(
-    rt: &(impl Abort + Threads + Sync),
+    rt: &(impl Abort + Threads + Wait + Sync),
     alloc: Global,
     wanted: &Wanted,
     number: usize,
@@ -172,7 +172,7 @@ fn assert_run(
 }
 
 fn assert_row(
-    rt: &(impl Abort + Threads + Sync),
+    rt: &(impl Abort + Threads + Wait + Sync),
     alloc: Global,
     row: &Row,
     piece: usize,
@@ -184,7 +184,7 @@ fn assert_row(
 
 /// Each run ends as its row says, over a folder that gives one byte a read and over one that gives all.
 fn assert_rows(
-    rt: &(impl Abort + Threads + Sync),
+    rt: &(impl Abort + Threads + Wait + Sync),
     alloc: Global,
     rows: &[Row],
 ) -> Result<(), AllocError> {
@@ -256,7 +256,7 @@ fn cut_file(alloc: Global, length: usize, piece: usize) -> Result<Outside, Alloc
 }
 
 fn assert_told_cut(
-    rt: &(impl Abort + Threads + Sync),
+    rt: &(impl Abort + Threads + Wait + Sync),
     alloc: Global,
     length: usize,
     outside: &mut Outside,
@@ -475,7 +475,7 @@ fn row_noting_to(alloc: Global, row: &Row, err: MemorySink) -> Result<Outside, A
 }
 
 fn assert_cut_note(
-    rt: &(impl Abort + Threads + Sync),
+    rt: &(impl Abort + Threads + Wait + Sync),
     alloc: Global,
     row: &Row,
     bound: usize,
@@ -526,7 +526,7 @@ fn a_failing_err_cuts_the_note_alone(rt: HostRuntime) -> Result<(), Fail> {
 }
 
 fn assert_noted_at_once(
-    rt: &(impl Abort + Threads + Sync),
+    rt: &(impl Abort + Threads + Wait + Sync),
     alloc: Global,
     row: &Row,
 ) -> Result<(), AllocError> {

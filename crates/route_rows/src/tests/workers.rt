@@ -9,11 +9,12 @@ use std::alloc::{AllocError, Global};
 use std::process::Abort;
 use std::sync::atomic::{AtomicBool, AtomicU32, Ordering};
 use std::test::Fail;
+use std::sync::Wait;
 use std::thread::Threads;
 
 /// The run of the row with so many workers ends as that without the option.
 fn assert_with_workers(
-    rt: &(impl Abort + Threads + Sync),
+    rt: &(impl Abort + Threads + Wait + Sync),
     alloc: Global,
     row: &Row,
     workers: u32,

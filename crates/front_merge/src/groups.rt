@@ -5,7 +5,7 @@ ghost use Rattle.front_merge.specs.Groups.{AreGroups, AscendByNode, SplitsGroup,
 use compact_labels::CompactLabel;
 use cost_vector::{NodeNo, OutOfMemory};
 use rayon::prelude::*;
-use route_io::{Gate, Phase};
+use route_io::Gate;
 use std::alloc::Global;
 use std::thread::Threads;
 use work_claim::Crew;
@@ -22,26 +22,6 @@ pub fn sort_by_node<const D: usize, R: Threads + Sync, G: Gate>(
         candidates.sort_unstable();
     } else {
         par_sort_unstable(crew.rt, candidates);
-    }
-}
-
-/// Sorts candidates by node, cost and arc, and lets one piece pass the gate for each node that has some: all that a search
-/// on one thread needs, which then has them arrive one by one.
-pub fn pass_groups<const D: usize, R: Threads + Sync, G: Gate>(
-    crew: &Crew<'_, R, G>,
-    candidates: &mut [CompactLabel<D>],
-)
-    ensures permutation { IsPermutation candidates.old candidates.new }
-    ensures ascending { AscendByNode candidates.new }
-{
-    sort_by_node(crew, candidates);
-    let mut piece = 0;
-    let mut rest = &candidates[..];
-    while !rest.is_empty() {
-        let (_, others) = split_group(rest);
-        crew.gate.pass(Phase::Merge, piece);
-        piece += 1;
-        rest = others;
     }
 }
 

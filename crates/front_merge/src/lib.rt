@@ -2,7 +2,9 @@
 #![tactic(auto)]
 
 mod groups;
+mod marks;
 mod merging;
 
-pub use groups::{pass_groups, sort_by_node};
+pub use groups::sort_by_node;
+pub use marks::Marks;
 pub use merging::merge_all;

@@ -14,7 +14,7 @@ use Rattle.line_text.specs.declared.limits.Request.{Request}
 use Rattle.line_text.specs.declared.limits.Request.TheVariants.{Whole, Long}
 use Rattle.line_text.specs.Lines.{first_lf, raw_line, after_line, line_size, without_cr}
 use Rattle.line_text.specs.Pieces.{Fills}
-use Rattle.line_text.specs.Reading.{Lines, rest_of}
+use Rattle.line_text.specs.Reading.{Lines, rest_of, CountsLine}
 use Rattle.line_text.specs.Requests.{request_by, first_request, request_of, request_text, RequestCounts, CountsEnd, CountsFault, FailsRead, PassesPart, TakesFirst, TellsRequest, Requests}
 use Rattle.line_text.specs.RequestSteps.{request_behind, past_request, TakesEnded, LacksEnd, EndsPast, EndsInput, without_held}
 use Rattle.line_text.proofs.LineLemmas.{BeginsAlike, begins_alike, begins_alike-nil, first_lf-le, first_lf-front, first_lf-grows, first_lf-part, length-raw_line, length-without_cr, lines_of-first}
@@ -61,6 +61,10 @@ request_is limits false front raw all e long whole =
 whole_uncut : (limits : LineLimits) (cut : Bool) (raw : ℕ) → Whole ≡ request_behind limits cut raw → cut ≡ false
 whole_uncut limits true raw e = let no : ⊥ = cc in absurd no
 whole_uncut limits false raw e = refl
+
+whole_short : (limits : LineLimits) (cut : Bool) (raw : ℕ) → Whole ≡ request_behind limits cut raw → raw ≤ limits.line
+whole_short limits true raw e = let no : ⊥ = cc in absurd no
+whole_short limits false raw e = grind (arith, nat_tests)
 
 first_request-some : (limits : LineLimits) (text : List ℕ) → 0 < length text → first_request limits text ≡ Some (request_by limits (length (raw_line text)))
 first_request-some limits [] some = absurd (omega arith)
@@ -124,7 +128,10 @@ module _ (old now : Lines) (cut : Bool) (before after : SourceState) (cuts : Hol
         let raw = length-raw_line now.held in
         let within = first_lf-le now.held in
         let byte = some uncut in
-        record { number = refl; more = omega arith; holds_text = omega arith; at_most = omega arith }
+        let counts : CountsLine old (past_request same Whole) =
+        record { number = refl; more = omega arith; holds_text = omega arith; at_most = omega arith } in
+        let asked : Whole ≡ request_behind old.limits cut (length (raw_line now.held)) = sym e ∙ is in
+        record { counts = counts; raw = raw_line now.held; short = whole_short old.limits cut (length (raw_line now.held)) asked; text = refl }
     counts_past Long e =
         let asked : Long ≡ request_by old.limits (length cuts.front + first_lf now.held) = sym e ∙ is
         ∙ request_is old.limits cut cuts.front (length (raw_line now.held)) _ (omega (arith, length-raw_line now.held)) cuts.long cuts.whole in

@@ -30,6 +30,13 @@ abbrev pub request_text : Request → List ℕ → List ℕ
 request_text Whole raw = without_cr raw
 request_text Long raw = []
 
+-- A line within the limit is current, without one CR at its end.
+pub record CountsWhole (old new : Lines) : Type 0 where
+  pub counts : CountsLine old new
+  pub raw : List ℕ
+  pub short : length raw ≤ old.limits.line
+  pub text : new.text ≡ without_cr raw
+
 -- A line is skipped: it counts, and has more bytes than the limit.
 pub record CountsLong (old new : Lines) : Type 0 where
   pub text : new.text ≡ []
@@ -61,7 +68,7 @@ pub record ReachesTotal (old new : Lines) : Type 0 where
 
 -- what an answer says of the counts, over every source: no other faults come
 abbrev pub RequestCounts : Lines → Lines → Result (Option Request) LineFault → Type 0
-RequestCounts old new (Ok (Some Whole)) = CountsLine old new
+RequestCounts old new (Ok (Some Whole)) = CountsWhole old new
 RequestCounts old new (Ok (Some Long)) = CountsLong old new
 RequestCounts old new (Ok None) = CountsEnd old new
 RequestCounts old new (Err Read) = FailsRead old new

@@ -43,8 +43,7 @@ pub fn arrive<const D: usize, F: ParetoFront<D>>(
                 node: label.node,
             };
             front.reserve(1)?;
-            front.find_dominated(&spot, removed)?;
-            front.enter(&label.cost, label.arc);
+            front.displace(&spot, label.arc, removed)?;
             Ok(true)
         }
     }

@@ -1,4 +1,4 @@
-ghost use Rattle.std.specs.Prelude.{◌≡◌, ℕ, ◌+◌, ◌≤◌, ◌↔◌, length, Contains, IfOk, OnOk, Some};
+ghost use Rattle.std.specs.Prelude.{◌≡◌, ℕ, ◌+◌, ◌≤◌, ◌↔◌, length, Contains, IfOk, OnErr, OnOk, Some};
 ghost use Rattle.cost_vector.specs.Costs.{Dominates, max_criteria, min_criteria};
 ghost use Rattle.pareto_front.specs.Fronts.{Front, HasCost, IsCovered, IsFront, SparesSettled, empty_front, entries};
 ghost use Rattle.pareto_front.specs.Calls.{Enters, GrowsBy, ListsSettled, Relabels, Settles, StandsTo};
@@ -78,6 +78,23 @@ pub trait ParetoFront<const D: usize> {
         ensures entered { Enters (state self.old)
             (record { cost = cost.now.0; arc = arc.0 }) (state self.new) }
         ensures room_left { spare self.old ≤ spare self.new + 1 };
+
+    /// Does what `find_dominated` and then `enter` do for a label at the spot, and goes through the entries once.
+    fn displace(
+        &mut self,
+        by: &CompactSpot<D>,
+        arc: ArcNo,
+        found: &mut Vec<CompactSpot<D>>,
+    ) -> Result<(), OutOfMemory>
+        requires room { 1 ≤ spare self.old }
+        requires new { ¬ IsCovered (entries (state self.old)) by.now.cost.0 }
+        requires spares { SparesSettled (state self.old) by.now.cost.0 }
+        ensures found { IfOk result (λ _. GrowsBy by.now.node.0
+            (λ c. HasCost (state self.old).unsettled c × Dominates by.now.cost.0 c)
+            found.old.items found.new.items) }
+        ensures entered { IfOk result (λ _. Enters (state self.old)
+            (record { cost = by.now.cost.0; arc = arc.0 }) (state self.new)) }
+        ensures same { OnErr result (state self.new ≡ state self.old) };
 
     /// Gives the entry of this cost this arc.
     fn relabel(&mut self, cost: &CompactCost<D>, arc: ArcNo)

@@ -102,6 +102,27 @@ impl ParetoFront<2> for SortedFront {
         replace(&mut self.marks, start, end, false);
     }
 
+    fn displace(
+        &mut self,
+        by: &CompactSpot<2>,
+        arc: ArcNo,
+        found: &mut Vec<CompactSpot<2>>,
+    ) -> Result<(), OutOfMemory> {
+        let (from, to) = at_least(&self.entries, &by.cost);
+        for entry in &self.entries[from..to] {
+            if entry.cost != by.cost {
+                found.push(CompactSpot {
+                    cost: entry.cost,
+                    node: by.node,
+                })?;
+            }
+        }
+        let entry = FrontEntry { cost: by.cost, arc };
+        replace(&mut self.entries, from, to, entry);
+        replace(&mut self.marks, from, to, false);
+        Ok(())
+    }
+
     fn relabel(&mut self, cost: &CompactCost<2>, arc: ArcNo) {
         let at = before(&self.entries, cost.0[0]);
         self.entries[at].arc = arc;

@@ -10,8 +10,8 @@ use Rattle.cost_vector.specs.Costs.{Dominates, LexLess}
 use Rattle.cost_vector.proofs.Vectors.{LexLess-irrefl, LexLess-trans, LexLess_from_Dominates, Dominates-irrefl}
 use Rattle.list_laws.proofs.Members.{in_none, each_in, cases_push}
 use Rattle.list_laws.proofs.Pairs.{pairs_none, pairs_push}
-use Rattle.pareto_queue.specs.Queues.{IsDominatedBy, IsQueue, IsUndominated, SpotLess}
-use Rattle.pareto_queue.specs.Shadows.{Descends, FallsTo, IsExtracted, IsLater, Joins}
+use Rattle.pareto_queue.specs.Queues.{IsDominatedBy, IsQueue, IsUndominated, SpotLess, TakesUndominated}
+use Rattle.pareto_queue.specs.Shadows.{Descends, FallsTo, IsExtracted, IsLater, Joins, Sifts}
 use Rattle.pareto_queue.proofs.OrderLemmas.{before_place}
 use Rattle.pareto_queue.proofs.ShadowLemmas.{shadow_skip, shadow_cast}
 
@@ -21,13 +21,16 @@ module _ {D : ℕ} where
   not_less a b (inl less) back = LexLess-irrefl a.cost.0 (LexLess-trans a.cost.0 b.cost.0 a.cost.0 less back)
   not_less a b (inr tie) back = LexLess-irrefl b.cost.0 (subst (LexLess b.cost.0) tie.0 back)
 
+  sifts_none : (P : CompactSpot D → Type 0) → Sifts P [] []
+  sifts_none P = record { members = λ x. (λ h. absurd (in_none x h), λ h. absurd (in_none x h.0)); ascending = pairs_none SpotLess }
+
   -- nothing is seen
-  pub none_extracted : (spots : List (CompactSpot D)) → IsExtracted spots [] [] []
+  pub none_extracted : (spots : List (CompactSpot D)) → IsExtracted spots [] [] [] []
   none_extracted spots = record {
     shadow = record { from = λ c h. absurd (in_none c h); dominates = λ c later s h. absurd (in_none s h) };
     descends = pairs_none FallsTo;
-    taken = λ x. (λ h. absurd (in_none x h), λ h. absurd (in_none x h.0));
-    ascending = pairs_none SpotLess;
+    taken = sifts_none (λ x. IsUndominated spots x.cost.0);
+    rest = sifts_none (λ x. ¬ IsUndominated spots x.cost.0);
   }
 
   -- the spots that were seen come before s, and all others after it
@@ -36,25 +39,8 @@ module _ {D : ℕ} where
     pub new : (x : CompactSpot D) → Contains spots x → Contains seen x ⊎ ((x ≡ s) ⊎ SpotLess s x)
     pub here : Contains spots s
 
-module _ {D : ℕ} (spots seen : List (CompactSpot D)) (shadow : List (CompactCost D)) (taken : List (CompactSpot D)) (s : CompactSpot D)
-    (next : IsNext spots seen s) (is : IsExtracted spots seen shadow taken) where
-  is_later : IsLater seen s.cost.0
-  is_later x h = not_less x s (next.old x h).1
-
-  -- where the shadow doesn't dominate it, nothing does
-  free : ¬ IsDominatedBy shadow s.cost.0 → IsUndominated spots s.cost.0
-  free none x h below = elim (next.new x h) [
-    | inl old ↦ none (is.shadow.dominates s.cost.0 is_later x old below)
-    | inr (inl same) ↦ Dominates-irrefl s.cost.0 (subst (λ (y : CompactSpot D). Dominates y.cost.0 s.cost.0) same below)
-    | inr (inr after) ↦ not_less s x after (LexLess_from_Dominates x.cost.0 s.cost.0 below)
-  ]
-
-  -- where the shadow does, so does a spot's cost
-  not_free : IsDominatedBy shadow s.cost.0 → ¬ IsUndominated spots s.cost.0
-  not_free by none =
-      let from = is.shadow.from by.by by.contains in
-      none from.0 (next.old from.0 from.1).0 (subst (λ (c : CompactCost D). Dominates c.0 s.cost.0) (sym from.2) by.dominates)
-
+module _ {D : ℕ} (P : CompactSpot D → Type 0) (spots seen list : List (CompactSpot D)) (s : CompactSpot D) (next : IsNext spots seen s)
+    (is : Sifts P seen list) where
   -- with s at the end
   in_more : (xs : List (CompactSpot D)) (x : CompactSpot D) → Contains xs x → Contains (xs ++ s ∷ []) x
   in_more xs x h = Contains-append_left xs (s ∷ []) x h
@@ -62,38 +48,74 @@ module _ {D : ℕ} (spots seen : List (CompactSpot D)) (shadow : List (CompactCo
   is_last : (xs : List (CompactSpot D)) (x : CompactSpot D) → x ≡ s → Contains (xs ++ s ∷ []) x
   is_last xs x same = subst (Contains (xs ++ s ∷ [])) (sym same) (Contains-push xs s)
 
-  -- s is left
-  pub extracted_skip : IsDominatedBy shadow s.cost.0 → IsExtracted spots (seen ++ s ∷ []) shadow taken
-  extracted_skip by = record {
-    shadow = shadow_skip seen shadow s is.shadow by;
-    descends = is.descends;
-    taken = λ x. (
-      λ h. let was = (is.taken x).0 h in (in_more seen x was.0, was.1),
+  -- P holds of s
+  sifts_in : P s → Sifts P (seen ++ s ∷ []) (list ++ s ∷ [])
+  sifts_in holds = record {
+    members = λ x. (
+      λ h. elim (cases_push list s x h) [
+        | inl old ↦ let was = (is.members x).0 old in (in_more seen x was.0, was.1)
+        | inr last ↦ (is_last seen x last, subst P (sym last) holds)
+      ],
       λ h. elim (cases_push seen s x h.0) [
-        | inl old ↦ (is.taken x).1 (old, h.1)
-        | inr last ↦ absurd (not_free by (subst (λ (y : CompactSpot D). IsUndominated spots y.cost.0) last h.1))
+        | inl old ↦ in_more list x ((is.members x).1 (old, h.1))
+        | inr last ↦ is_last list x last
+      ],
+    );
+    ascending = pairs_push SpotLess list s is.ascending (λ x h. (next.old x ((is.members x).0 h).0).1);
+  }
+
+  -- or it doesn't
+  sifts_out : ¬ P s → Sifts P (seen ++ s ∷ []) list
+  sifts_out fails = record {
+    members = λ x. (
+      λ h. let was = (is.members x).0 h in (in_more seen x was.0, was.1),
+      λ h. elim (cases_push seen s x h.0) [
+        | inl old ↦ (is.members x).1 (old, h.1)
+        | inr last ↦ absurd (fails (subst P last h.1))
       ],
     );
     ascending = is.ascending;
   }
 
+module _ {D : ℕ} (spots seen : List (CompactSpot D)) (shadow : List (CompactCost D)) (taken rest : List (CompactSpot D)) (s : CompactSpot D)
+    (next : IsNext spots seen s) (is : IsExtracted spots seen shadow taken rest) where
+  abbrev Free : CompactSpot D → Type 0
+  Free x = IsUndominated spots x.cost.0
+
+  is_later : IsLater seen s.cost.0
+  is_later x h = not_less x s (next.old x h).1
+
+  -- where the shadow doesn't dominate it, nothing does
+  free : ¬ IsDominatedBy shadow s.cost.0 → Free s
+  free none x h below = elim (next.new x h) [
+    | inl old ↦ none (is.shadow.dominates s.cost.0 is_later x old below)
+    | inr (inl same) ↦ Dominates-irrefl s.cost.0 (subst (λ (y : CompactSpot D). Dominates y.cost.0 s.cost.0) same below)
+    | inr (inr after) ↦ not_less s x after (LexLess_from_Dominates x.cost.0 s.cost.0 below)
+  ]
+
+  -- where the shadow does, so does a spot's cost
+  not_free : IsDominatedBy shadow s.cost.0 → ¬ Free s
+  not_free by none =
+      let from = is.shadow.from by.by by.contains in
+      none from.0 (next.old from.0 from.1).0 (subst (λ (c : CompactCost D). Dominates c.0 s.cost.0) (sym from.2) by.dominates)
+
+  -- s is left
+  pub extracted_skip : IsDominatedBy shadow s.cost.0 → IsExtracted spots (seen ++ s ∷ []) shadow taken (rest ++ s ∷ [])
+  extracted_skip by = record {
+    shadow = shadow_skip seen shadow s is.shadow by;
+    descends = is.descends;
+    taken = sifts_out Free spots seen taken s next is.taken (not_free by);
+    rest = sifts_in (λ x. ¬ Free x) spots seen rest s next is.rest (not_free by);
+  }
+
   -- s is taken
   pub extracted_cast : ¬ IsDominatedBy shadow s.cost.0 → (after : List (CompactCost D)) → Joins shadow s.cost after → Descends after
-      → IsExtracted spots (seen ++ s ∷ []) after (taken ++ s ∷ [])
+      → IsExtracted spots (seen ++ s ∷ []) after (taken ++ s ∷ []) rest
   extracted_cast none after joins descends = record {
     shadow = shadow_cast seen shadow s is.shadow none after joins;
     descends = descends;
-    taken = λ x. (
-      λ h. elim (cases_push taken s x h) [
-        | inl old ↦ let was = (is.taken x).0 old in (in_more seen x was.0, was.1)
-        | inr last ↦ (is_last seen x last, subst (λ (y : CompactSpot D). IsUndominated spots y.cost.0) (sym last) (free none))
-      ],
-      λ h. elim (cases_push seen s x h.0) [
-        | inl old ↦ in_more taken x ((is.taken x).1 (old, h.1))
-        | inr last ↦ is_last taken x last
-      ],
-    );
-    ascending = pairs_push SpotLess taken s is.ascending (λ x h. (next.old x ((is.taken x).0 h).0).1);
+    taken = sifts_in Free spots seen taken s next is.taken (free none);
+    rest = sifts_out (λ x. ¬ Free x) spots seen rest s next is.rest (λ not_free. not_free (free none));
   }
 
 -- a spot of a queue, by its place
@@ -126,8 +148,8 @@ is_next {D} spots i d q within = record {
       ]
     ]
 
-module _ {D : ℕ} (spots : List (CompactSpot D)) (i : ℕ) (shadow : List (CompactCost D)) (taken : List (CompactSpot D)) (s : CompactSpot D)
-    (q : IsQueue spots) (within : i < length spots) (at : s ≡ get_or spots i s) (is : IsExtracted spots (take i spots) shadow taken) where
+module _ {D : ℕ} (spots : List (CompactSpot D)) (i : ℕ) (shadow : List (CompactCost D)) (taken rest : List (CompactSpot D)) (s : CompactSpot D)
+    (q : IsQueue spots) (within : i < length spots) (at : s ≡ get_or spots i s) (is : IsExtracted spots (take i spots) shadow taken rest) where
   next : IsNext spots (take i spots) s
   next = subst (IsNext spots (take i spots)) (sym at) (is_next spots i s q within)
 
@@ -135,15 +157,28 @@ module _ {D : ℕ} (spots : List (CompactSpot D)) (i : ℕ) (shadow : List (Comp
   one_more = ap (λ z. take i spots ++ z ∷ []) at ∙ sym (take_more spots i s within)
 
   -- the next spot is left
-  pub left : IsDominatedBy shadow s.cost.0 → IsExtracted spots (take (i + 1) spots) shadow taken
-  left by =
-      subst (λ seen. IsExtracted spots seen shadow taken) one_more
-      (extracted_skip spots (take i spots) shadow taken s next is by)
+  pub left : (more : List (CompactSpot D)) → IsDominatedBy shadow s.cost.0 → more ≡ rest ++ s ∷ [] → IsExtracted spots (take (i + 1) spots) shadow taken more
+  left more by push =
+      subst (λ seen. IsExtracted spots seen shadow taken more) one_more
+      (subst (IsExtracted spots (take i spots ++ s ∷ []) shadow taken) (sym push)
+      (extracted_skip spots (take i spots) shadow taken rest s next is by))
 
   -- the next spot is taken
   pub took : (after : List (CompactCost D)) (more : List (CompactSpot D)) → ¬ IsDominatedBy shadow s.cost.0 → Joins shadow s.cost after → Descends after
-      → more ≡ taken ++ s ∷ [] → IsExtracted spots (take (i + 1) spots) after more
+      → more ≡ taken ++ s ∷ [] → IsExtracted spots (take (i + 1) spots) after more rest
   took after more none joins descends push =
-      subst (λ seen. IsExtracted spots seen after more) one_more
-      (subst (IsExtracted spots (take i spots ++ s ∷ []) after) (sym push)
-      (extracted_cast spots (take i spots) shadow taken s next is none after joins descends))
+      subst (λ seen. IsExtracted spots seen after more rest) one_more
+      (subst (λ (ys : List (CompactSpot D)). IsExtracted spots (take i spots ++ s ∷ []) after ys rest) (sym push)
+      (extracted_cast spots (take i spots) shadow taken rest s next is none after joins descends))
+
+-- all spots are seen
+pub takes_all : {D : ℕ} (spots : List (CompactSpot D)) (shadow : List (CompactCost D)) (taken rest : List (CompactSpot D))
+    → IsExtracted spots spots shadow taken rest → TakesUndominated spots taken rest
+takes_all spots shadow taken rest is = record {
+  taken = is.taken.members;
+  ascending = is.taken.ascending;
+  rest = λ x. (
+    λ h. let was = (is.rest.members x).0 h in (was.0, λ k. was.1 ((is.taken.members x).0 k).1),
+    λ h. (is.rest.members x).1 (h.0, λ free. h.1 ((is.taken.members x).1 (h.0, free))),
+  );
+}

@@ -41,14 +41,14 @@ module _ {D : ℕ} where
     pub from : (c : CompactCost D) → Contains shadow c → (s : CompactSpot D) × Contains seen s × (s.cost ≡ c)
     pub dominates : (c : List ℕ) → IsLater seen c → (s : CompactSpot D) → Contains seen s → Dominates s.cost.0 c → IsDominatedBy shadow c
 
-  -- the undominated ones of the spots that were seen, ascending
-  pub record IsExtracted (spots seen : List (CompactSpot D)) (costs : List (CompactCost D)) (took : List (CompactSpot D)) : Type 0 where
+  -- those of the spots of which P holds, ascending
+  pub record Sifts (P : CompactSpot D → Type 0) (spots list : List (CompactSpot D)) : Type 0 where
+    pub members : (x : CompactSpot D) → Contains list x ↔ (Contains spots x × P x)
+    pub ascending : AllPairs SpotLess list
+
+  -- the spots that were seen are parted into those that none of all dominates, and those that one does
+  pub record IsExtracted (spots seen : List (CompactSpot D)) (costs : List (CompactCost D)) (took left : List (CompactSpot D)) : Type 0 where
     pub shadow : IsShadow seen costs
     pub descends : Descends costs
-    pub taken : (x : CompactSpot D) → Contains took x ↔ (Contains seen x × IsUndominated spots x.cost.0)
-    pub ascending : AllPairs SpotLess took
-
-  -- the undominated ones of the spots, ascending
-  pub record ListsUndominated (spots took : List (CompactSpot D)) : Type 0 where
-    pub taken : (x : CompactSpot D) → Contains took x ↔ (Contains spots x × IsUndominated spots x.cost.0)
-    pub ascending : AllPairs SpotLess took
+    pub taken : Sifts (λ x. IsUndominated spots x.cost.0) seen took
+    pub rest : Sifts (λ x. ¬ IsUndominated spots x.cost.0) seen left

@@ -1,24 +1,28 @@
-ghost use Rattle.std.specs.Prelude.{IfOk};
-ghost use Rattle.pareto_queue.specs.Queues.{IsQueue};
-ghost use Rattle.pareto_queue.specs.Shadows.{ListsUndominated};
+ghost use Rattle.std.specs.Prelude.{AllPairs, IfOk};
+ghost use Rattle.pareto_queue.specs.Queues.{IsQueue, SpotLess, TakesUndominated};
 
 use crate::shadow::{cast, is_shadowed};
 use compact_labels::{CompactCost, CompactSpot};
 use cost_vector::OutOfMemory;
 
-/// Lists the undominated ones of the spots, which ascend. What the lists held before is gone.
-pub(crate) fn list_undominated<const D: usize>(
+/// Lists the undominated ones of the spots, which ascend, and the others apart. What the lists held before is gone.
+pub(crate) fn part_undominated<const D: usize>(
     spots: &[CompactSpot<D>],
     shadow: &mut Vec<CompactCost<D>>,
     taken: &mut Vec<CompactSpot<D>>,
+    rest: &mut Vec<CompactSpot<D>>,
 ) -> Result<(), OutOfMemory>
     requires { IsQueue spots.now }
-    ensures { IfOk result (λ _. ListsUndominated spots.now taken.new.items) }
+    ensures taken { IfOk result (λ _. TakesUndominated spots.now taken.new.items rest.new.items) }
+    ensures ascending { IfOk result (λ _. AllPairs SpotLess rest.new.items) }
 {
     shadow.clear();
     taken.clear();
+    rest.clear();
     for spot in spots {
-        if !is_shadowed(shadow, &spot.cost) {
+        if is_shadowed(shadow, &spot.cost) {
+            rest.push(*spot)?;
+        } else {
             cast(shadow, &spot.cost)?;
             taken.push(*spot)?;
         }

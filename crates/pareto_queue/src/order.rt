@@ -6,7 +6,7 @@ use compact_labels::CompactSpot;
 use cost_vector::OutOfMemory;
 
 /// So many spots are searched before all are.
-const NEAR: usize = 32;
+const NEAR: usize = 128;
 
 /// Where the spot stands, or else where it would.
 pub(crate) fn place_of<const D: usize>(

@@ -4,7 +4,7 @@ ghost use Rattle.list_laws.specs.Sets.{Loses};
 ghost use Rattle.pareto_queue.specs.Queues.{Gains, IsDominatedBy, LosesWhere, TakesUndominated};
 
 use crate::Steps;
-use crate::extraction::list_undominated;
+use crate::extraction::part_undominated;
 use crate::merging::{merge, subtract};
 use crate::order::{gap_of, list_sorted, place_of};
 use crate::shadow::is_dominated;
@@ -154,8 +154,7 @@ impl<const D: usize> Queue<D> {
         ensures step { steps.new ≡ steps.old + 1 }
     {
         steps.tick();
-        list_undominated(&self.spots, &mut self.shadow, taken)?;
-        subtract(&self.spots, taken, &mut self.rest)?;
+        part_undominated(&self.spots, &mut self.shadow, taken, &mut self.rest)?;
         mem::swap(&mut self.spots, &mut self.rest);
         Ok(())
     }

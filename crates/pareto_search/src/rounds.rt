@@ -13,7 +13,7 @@ ghost use Rattle.pareto_search.specs.Rounds.{EndsOver, EndsWith, IsAnswer, IsOpe
 use arc_graph::{Graph, Weights};
 use compact_labels::CompactLabel;
 use cost_vector::OutOfMemory;
-use front_merge::{merge_all, pass_groups};
+use front_merge::{Marks, merge_all};
 use node_front::{Deltas, FoundFronts};
 use pareto_front::ParetoFront;
 use pareto_queue::Steps;
@@ -34,6 +34,7 @@ pub(crate) struct Rounds<const D: usize, F: ParetoFront<D>> {
     pub(crate) core: Core<D, F>,
     candidates: Vec<CompactLabel<D>>,
     deltas: Deltas<D>,
+    marks: Marks,
 }
 
 impl<const D: usize, F: ParetoFront<D> + Drop + Sync> Rounds<D, F> {
@@ -62,6 +63,7 @@ impl<const D: usize, F: ParetoFront<D> + Drop + Sync> Rounds<D, F> {
             core,
             candidates: Vec::new(alloc),
             deltas: Deltas::new(alloc),
+            marks: Marks::new(alloc, nodes)?,
         })
     }
 
@@ -111,14 +113,16 @@ impl<const D: usize, F: ParetoFront<D> + Drop + Sync> Rounds<D, F> {
             core,
             mut candidates,
             deltas,
+            mut marks,
         } = self;
-        let sorted = candidates.as_mut_slice();
-        pass_groups(crew, sorted);
-        let core = core.finish_here(sorted)?;
+        let ordered = candidates.as_mut_slice();
+        marks.pass_nodes(crew, ordered);
+        let core = core.finish_here(ordered)?;
         Ok(Rounds {
             core,
             candidates,
             deltas,
+            marks,
         })
     }
 
@@ -143,6 +147,7 @@ impl<const D: usize, F: ParetoFront<D> + Drop + Sync> Rounds<D, F> {
             core,
             candidates: self.candidates,
             deltas: self.deltas,
+            marks: self.marks,
         })
     }
 }

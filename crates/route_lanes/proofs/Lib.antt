@@ -1,0 +1,5 @@
+pub mod ServiceLemmas
+pub mod LearnLemmas
+pub mod SaidLemmas
+pub mod LaneLemmas
+pub mod ReportLemmas

@@ -1,5 +1,5 @@
 -- What becomes of lanes that run beside each other over one store: an operator's, and those of sessions.
-use Rattle.std.specs.Prelude.{◌≡◌, ℕ, List, [], ◌∷◌, ◌++◌, map, All}
+use Rattle.std.specs.Prelude.{◌≡◌, ℕ, List, [], ◌∷◌, map, All}
 use Rattle.route_io.specs.Sinks.{SinkState}
 use Rattle.route_io.specs.Sources.{SourceState}
 use Rattle.arc_graph.specs.Graph.{Graph, Weights}

@@ -6,9 +6,9 @@ use std::marker::Model;
 /// What became of a lane.
 #[derive(Drop)]
 pub struct LaneReport {
-    end: SessionEnd,
-    last: u32,
-    numbers: Vec<u32>,
+    pub(crate) end: SessionEnd,
+    pub(crate) last: u32,
+    pub(crate) numbers: Vec<u32>,
 }
 
 impl Model for LaneReport {

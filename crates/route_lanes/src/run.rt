@@ -1,27 +1,25 @@
-ghost use Rattle.std.specs.Prelude.{◌≡◌, ◌≤◌, IfOk, length, map};
+ghost use Rattle.std.specs.Prelude.{◌≡◌, ◌≤◌, [], ◌∷◌, All, IfOk, OnOk, length, map};
+ghost use mathlib.Core.List.{IsPrefix};
 ghost use Rattle.road_network.specs.Limits.{max_budget};
 ghost use Rattle.arc_graph.specs.Graph.{Match};
+ghost use Rattle.epoch_store.specs.Origin.{last_number};
 ghost use Rattle.route_lanes.specs.Lanes.{RunsLanes};
+ghost use Rattle.session_core.specs.Answering.{CanSearch, scene_of};
+ghost use Rattle.route_lanes.specs.Served.{report_of, whole_of};
 
-use crate::LaneReport;
-use arc_graph::{Graph, Weights};
+use crate::court::Court;
+use crate::operator_lane::{OperatorLane, StoreState};
+use crate::report::LaneReport;
+use crate::session_lane::{SessionLane, learn_all, report_all, session_lanes};
+use arc_graph::Weights;
 use cost_vector::OutOfMemory;
+use epoch_store::{Chronicle, Store, make};
 use route_io::{Gate, Link, Sink, Source};
+use session_core::SessionEnd;
 use std::alloc::Global;
+use std::marker::Brand;
 use std::sync::Wait;
 use std::thread::Threads;
-use work_claim::Crew;
-
-/// What all lanes are served by: the crew that shares each search, the graph, the budget of each query, and the most bytes
-/// that are taken from a link.
-#[derive(Drop)]
-pub struct Court<'c, R, G> {
-    pub crew: &'c Crew<'c, R, G>,
-    pub alloc: Global,
-    pub graph: &'c Graph,
-    pub budget: u32,
-    pub bytes: u64,
-}
 
 /// Serves all links at once, the operator's first and up to 16 sessions', each lane on a thread of its own; where none can
 /// be started the caller's does its work. When the operator's link has ended the store is closed, and each session's lane
@@ -47,6 +45,78 @@ pub fn run_lanes<R: Threads + Wait + Sync, G: Gate, S: Source + Send, K: Sink + 
         (map (λ l. record { from = S.state l.from; to = K.state l.to }) links.new)
         reports.items) }
 {
-    let _first = first;
-    Err(OutOfMemory)
+    run_in_store::<R, G, S, K, Brand>(court, Chronicle::default(), weights, first, links)
+}
+
+/// Serves all links over the store of a chronicle.
+fn run_in_store<
+    R: Threads + Wait + Sync,
+    G: Gate,
+    S: Source + Send,
+    K: Sink + Send,
+    T: Store + Send + Sync,
+>(
+    court: &Court<'_, R, G>,
+    chronicle: Chronicle,
+    weights: Weights,
+    first: u32,
+    links: &mut [Link<S, K>],
+) -> Result<Vec<LaneReport>, OutOfMemory>
+    requires chronicle { chronicle ≡ T.origin.chronicle }
+    requires first { first ≡ T.origin.first }
+    requires base { weights ≡ T.origin.base }
+    requires search { CanSearch court.now.crew.now.workers
+        (scene_of court.now.graph.now T.origin court.now.budget) }
+    requires some_session { 2 ≤ length links.old }
+    requires at_most_16_sessions { length links.old ≤ 17 }
+    ensures { IfOk result (λ reports. RunsLanes court.now.graph.now weights first
+        court.now.budget court.now.bytes
+        (map (λ l. record { from = S.state l.from; to = K.state l.to }) links.old)
+        (map (λ l. record { from = S.state l.from; to = K.state l.to }) links.new)
+        reports.items) }
+{
+    let reports = Vec::with_capacity(court.alloc, links.len())?;
+    let sessions = (links.len() - 1) as u32;
+    let (operator, readers) = make::<T>(court.alloc, chronicle, first, weights, sessions)?;
+    let mut operator = OperatorLane {
+        store: StoreState::Open(operator),
+        end: SessionEnd::Ended,
+    };
+    match session_lanes(court.alloc, readers) {
+        Ok(mut sessions) => {
+            court.serve(&mut operator, &mut sessions, links);
+            report_lanes(court.crew.rt, court.alloc, reports, operator, sessions)
+        }
+        Err(_) => {
+            let OperatorLane { store, end: _ } = operator;
+            store.close(court.crew.rt).end(court.crew.rt);
+            Err(OutOfMemory)
+        }
+    }
+}
+
+/// Closes and ends the store, and makes the lanes' reports. The list of reports is empty before.
+fn report_lanes<R: Wait, T: Store>(
+    rt: &R,
+    alloc: Global,
+    reports: Vec<LaneReport>,
+    operator: OperatorLane<T>,
+    mut sessions: Vec<SessionLane<T>>,
+) -> Result<Vec<LaneReport>, OutOfMemory>
+    requires { reports.items ≡ [] }
+    ensures reports { IfOk result (λ all. all.items
+        ≡ record {
+          end = operator.end;
+          last = last_number T.origin (whole_of operator.store);
+          numbers = [];
+        } ∷ map (report_of (last_number T.origin (whole_of operator.store))) sessions.items) }
+    ensures begins { OnOk result
+        (All (λ lane. IsPrefix lane.session.seen (whole_of operator.store)) sessions.items) }
+{
+    let OperatorLane { store, end } = operator;
+    let ended = store.close(rt);
+    let learnt = learn_all(&mut sessions, &ended);
+    let last = ended.end(rt);
+    learnt?;
+    report_all(alloc, reports, end, sessions, last)
 }

@@ -1,1 +1,8 @@
-mod StubLemmas
+mod LineKindLemmas
+mod AnswersLineLemmas
+pub mod StayLemmas
+mod RunLemmas
+mod OperatorRunLemmas
+mod LinesLemmas
+mod FeedLemmas
+mod ServesLemmas

@@ -3,4 +3,7 @@ pub mod Told
 pub mod Links
 pub mod Sessions
 pub mod Operators
+pub mod OperatorReplies
 pub mod Parties
+pub mod Answering
+pub mod Serving

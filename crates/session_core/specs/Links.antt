@@ -1,5 +1,5 @@
 -- What serving a link does: which lines were begun, and what was sent.
-use Rattle.std.specs.Prelude.{◌≡◌, ℕ, ◌<◌, ◌≤◌, ◌⊎◌, Bool, true, false, List, [], ◌∷◌, ◌++◌, Option, length, take}
+use Rattle.std.specs.Prelude.{◌≡◌, ℕ, ◌<◌, ◌≤◌, ◌⊎◌, Bool, true, false, List, [], ◌∷◌, ◌++◌, Option, IfSome, length, take}
 use Rattle.std.specs.Io.KnownBytes.{Appends, Consumes, IsAtEnd}
 use mathlib.Core.List.{IsPrefix}
 use Rattle.route_io.specs.Sinks.{SinkState, WritesTo}
@@ -39,14 +39,23 @@ pub record EndsByBye (IsBye : List ℕ → Type 0) (total : ℕ) (taken : List �
   pub first : AreFirst total taken left (lines ++ bye ∷ [])
 
 -- which lines were begun, by how the session ended: those of the input, or those that an LF ends in what was taken, or,
--- where a reply was cut or memory ran out, the first ones
+-- where a reply was cut or memory ran out, the first ones; where a read failed behind the input, all of them
 abbrev pub Begins : (List ℕ → Type 0) → ℕ → List ℕ → Option (List ℕ) → SessionEnd → List (List ℕ) → Type 0
 Begins IsBye total taken left Ended lines =
     EndsByBye IsBye total taken left lines ⊎ (IsAll total taken left × (lines ≡ lines_of taken))
-Begins IsBye total taken left ReadFault lines = (length taken < total) × (lines ≡ ended_lines taken)
+Begins IsBye total taken left ReadFault lines =
+    (length taken < total) × ((lines ≡ ended_lines taken) ⊎ (IsAtEnd left × (lines ≡ lines_of taken)))
 Begins IsBye total taken left TooLong lines = (length taken ≡ total) × (lines ≡ ended_lines taken)
 Begins IsBye total taken left WriteFault lines = AreFirst total taken left lines
 Begins IsBye total taken left OutOfMemory lines = AreFirst total taken left lines
+
+-- The lines were begun, by how the session ended, among the bytes that were taken from a source that tells them.
+pub record TakesLines (IsBye : List ℕ → Type 0) (total : ℕ) (before after : Option (List ℕ)) (end : SessionEnd)
+    (lines : List (List ℕ)) : Type 0 where
+  pub taken : List ℕ
+  pub takes : Consumes before after taken
+  pub within : length taken ≤ total
+  pub begun : Begins IsBye total taken after end lines
 
 -- All replies were sent but for the last one, of which a part from the front was, short of the whole.
 pub record CutsLast (old new : SinkState) (told : List Told) : Type 0 where
@@ -70,11 +79,10 @@ pub record Serves {State : Type 0} (Runs : State → List Told → State → Typ
   -- the lines that were begun, with their replies
   pub told : List Told
   pub runs : Runs old told new
-  -- the bytes that were taken from the source, where it tells them
-  pub taken : List ℕ
-  pub takes : Consumes from.left after.left taken
-  pub within : length taken ≤ total
-  pub begun : Begins IsBye total taken after.left end (lines_told told)
+  -- each of them took a byte at least
+  pub each : length told ≤ total
+  -- where the source tells its bytes, they are the lines of those that were taken
+  pub lines : IfSome from.left (λ _. TakesLines IsBye total from.left after.left end (lines_told told))
   -- whether the sink itself wanted memory
   pub wanted : Bool
   pub wants : wanted ≡ true → end ≡ OutOfMemory

@@ -1,17 +1,33 @@
-ghost use Rattle.std.specs.Prelude.{◌≡◌, ◌≤◌, [], IfOk, OnOk, OnErr, length};
+ghost use Rattle.std.specs.Prelude.{◌≡◌, ◌≢◌, ◌≤◌, ℕ, List, [], IfOk, OnOk, OnErr, length};
 ghost use mathlib.Core.List.{IsPrefix};
+ghost use Rattle.cost_vector.specs.Costs.{max_criteria, min_criteria};
 ghost use Rattle.road_network.specs.Limits.{max_budget};
 ghost use Rattle.arc_graph.specs.Graph.{Match};
-ghost use Rattle.epoch_store.specs.Origin.{last_number};
+ghost use Rattle.epoch_store.specs.Origin.{IsPublishedIn, last_number};
+ghost use Rattle.session_requests.specs.Requests.{AsksOfSession, LimitsEach};
+ghost use Rattle.session_requests.specs.declared.line.Line.TheVariants as line;
+ghost use Rattle.session_requests.specs.declared.session.SessionRequest.{SessionRequest as Asked};
+ghost use Rattle.session_requests.specs.declared.session.SessionRequest.TheVariants as asks;
+ghost use Rattle.session_core.specs.Answering.{answer_by, AnswersRequest, CanSearch, scene_of};
+ghost use Rattle.session_core.specs.Lines.{IsLine, IsText};
 ghost use Rattle.session_core.specs.Links.{Serves};
-ghost use Rattle.session_core.specs.Sessions.{IsSessionBye, Session, SessionGoes};
+ghost use Rattle.session_core.specs.Parties.{AnswersLine};
+ghost use Rattle.session_core.specs.Told.{Told};
+ghost use Rattle.session_core.specs.Sessions.{IsSessionBye, Session as Kept, SessionGoes};
 
 use crate::end::SessionEnd;
 use crate::host::Host;
+use crate::look::look_for;
+use crate::party::{Answered, Party};
+use crate::serve::serve;
+use crate::short::refuse_line;
 use cost_vector::OutOfMemory;
 use epoch_store::{Ended, EpochReader, Store};
+use line_text::Request;
 use path_readback::Room;
+use query_replies::ReplyFault;
 use route_io::{Gate, Link, Sink, Source};
+use session_requests::{Line, SessionRequest, read_session_request};
 use std::alloc::Global;
 use std::marker::Model;
 use std::sync::Wait;
@@ -34,6 +50,42 @@ impl<T: Store> Model for Session<T> {
     ghost view = { λ s. record { seen = s.reader; named = s.named.items } };
 }
 
+impl<T: Store, R, G> Party<Host<'_, R, G>> for Session<T> {
+    ghost use Rattle.session_core.specs.Answering.{CanSearch, scene_of};
+    ghost use Rattle.session_core.specs.Sessions.{IsSessionBye, SessionGoes};
+
+    ghost ready = { λ host. CanSearch host.crew.now.workers
+        (scene_of host.graph.now T.origin host.budget) };
+
+    ghost runs = { λ host. SessionGoes (scene_of host.graph.now T.origin host.budget) };
+
+    ghost bye = { λ host. IsSessionBye (scene_of host.graph.now T.origin host.budget) };
+}
+
+/// Reads a line of a session by its text.
+fn read_line(kind: Request, text: &[u8], criteria: usize) -> Line<SessionRequest>
+    requires at_least_two { min_criteria ≤ criteria }
+    requires at_most_four { criteria ≤ max_criteria }
+    ensures line { (raw : List ℕ) → IsText kind text.now raw
+        → IsLine (AsksOfSession criteria) raw result }
+    ensures limit { (r : Asked) → result ≡ line.Request r → LimitsEach criteria r }
+{
+    match kind {
+        Request::Whole => read_session_request(text, criteria),
+        Request::Long => Line::Other,
+    }
+}
+
+/// The answer of a line that isn't the last, by that of its reply.
+fn answered(sent: Result<(), ReplyFault>) -> Result<Answered, ReplyFault>
+    ensures { result ≡ answer_by sent }
+{
+    match sent {
+        Ok(()) => Ok(Answered::Replied),
+        Err(fault) => Err(fault),
+    }
+}
+
 impl<T: Store> Session<T> {
     /// A session that has named no epoch.
     pub fn new(alloc: Global, reader: EpochReader<T>) -> Result<Session<T>, OutOfMemory>
@@ -46,11 +98,18 @@ impl<T: Store> Session<T> {
         })
     }
 
-    /// The numbers of the epochs that the replies have named, in order. They never fall.
+    /// The numbers of the epochs that the replies have named, in order.
     pub fn numbers(&self) -> &[u32]
         ensures { result.now ≡ self.now.named }
     {
         &self.named
+    }
+
+    /// The same, where no more lines are served.
+    pub fn into_numbers(self) -> Vec<u32>
+        ensures { result.items ≡ self.named }
+    {
+        self.named
     }
 
     /// Serves a link. The numbers that its replies name are added to those of before.
@@ -78,7 +137,81 @@ impl<T: Store> Session<T> {
             (S.state link.old.from) (S.state link.new.from)
             (K.state link.old.to) (K.state link.new.to) result }
     {
-        SessionEnd::OutOfMemory
+        let answer = |host: &Host<'_, R, G>, session: &mut Self, kind, text: &[u8], to: &mut K|
+            requires { CanSearch host.now.crew.now.workers
+                (scene_of host.now.graph.now T.origin host.now.budget) }
+        { session.answer(host, kind, text, to) };
+        serve(host.alloc, host, self, link, host.bytes, &answer)
+    }
+
+    /// Answers a line by its text, without its LF and one CR; that of a line too long for a request doesn't count. All
+    /// memory is taken before the first byte of the reply.
+    fn answer<R: Threads + Wait + Sync, G: Gate, K: Sink>(
+        &mut self,
+        host: &Host<'_, R, G>,
+        kind: Request,
+        text: &[u8],
+        to: &mut K,
+    ) -> Result<Answered, ReplyFault>
+        requires { CanSearch host.now.crew.now.workers
+            (scene_of host.now.graph.now T.origin host.now.budget) }
+        ensures { (first : Kept) (told : List Told) (raw : List ℕ) → IsText kind text.now raw
+            → SessionGoes (scene_of host.now.graph.now T.origin host.now.budget) first told self.old
+            → AnswersLine
+            (λ more. SessionGoes
+            (scene_of host.now.graph.now T.origin host.now.budget) first more self.new)
+            (IsSessionBye (scene_of host.now.graph.now T.origin host.now.budget))
+            told raw (K.state to.old) (K.state to.new) result }
+    {
+        match read_line(kind, text, host.graph.criteria()) {
+            Line::Blank => Ok(Answered::Replied),
+            Line::Other => answered(refuse_line(to)),
+            Line::Request(SessionRequest::Bye) => Ok(Answered::Bye),
+            Line::Request(request) => answered(self.reply(host, &request, to)),
+        }
+    }
+
+    /// Looks for a request, replies to it at the last epoch that is seen then, and adds its number. The room for the number
+    /// is taken before the look.
+    fn reply<R: Threads + Wait + Sync, G: Gate, K: Sink>(
+        &mut self,
+        host: &Host<'_, R, G>,
+        request: &SessionRequest,
+        to: &mut K,
+    ) -> Result<(), ReplyFault>
+        requires search { CanSearch host.now.crew.now.workers
+            (scene_of host.now.graph.now T.origin host.now.budget) }
+        requires limit { LimitsEach host.now.graph.now.criteria request.now }
+        requires no_bye { request.now ≢ asks.Bye }
+        ensures { AnswersRequest (scene_of host.now.graph.now T.origin host.now.budget)
+            request.now self.old self.new (K.state to.old) (K.state to.new) result }
+    {
+        if self.named.reserve(1).is_err() {
+            return Err(ReplyFault::OutOfMemory);
+        }
+        let number = look_for(&mut self.reader, host.crew.rt, request)?;
+        let replied = host.reply(&self.reader, request, &mut self.room, to);
+        if replied != Err(ReplyFault::OutOfMemory) {
+            self.named.push_reserved(number);
+        }
+        replied
+    }
+
+    /// Looks at what is published.
+    pub fn look(&mut self) -> Result<(), OutOfMemory>
+        ensures begins { IsPrefix self.old.seen self.new.seen }
+        ensures unchanged { OnErr result (self.new ≡ self.old) }
+        ensures named { self.new.named ≡ self.old.named }
+    {
+        self.reader.read()
+    }
+
+    /// The number of the last epoch that was seen.
+    pub fn last(&self) -> u32
+        ensures number { result ≡ last_number T.origin self.now.seen }
+        ensures published { IsPublishedIn T.origin self.now.seen }
+    {
+        self.reader.snapshot().number
     }
 
     /// Goes on to the last epoch of a store that is closed.
@@ -86,6 +219,7 @@ impl<T: Store> Session<T> {
         ensures learnt { OnOk result (self.new.seen ≡ ended.now) }
         ensures begins { IsPrefix self.old.seen self.new.seen }
         ensures named { self.new.named ≡ self.old.named }
+        ensures unchanged { OnErr result (self.new ≡ self.old) }
     {
         self.reader.learn(ended)
     }

@@ -57,29 +57,29 @@ returns-else-lt-clause-removed g c =
     (covered_removes_none f e (apart_of_front g.row.D f c.in-Equal.ensures.front)
     (record { by = record { cost = e.cost; arc = c.in-Equal.arc.0 }; contains = c.in-Equal.ensures.standing; at_most = AtMost-same e.cost e.cost refl }))
 
-pub returns-in_ok-find_dominated-in-New-clause-merged : goal.returns-in_ok-find_dominated-in-New-clause-merged
-returns-in_ok-find_dominated-in-New-clause-merged g c =
+pub returns-in_ok-displace-in-New-clause-merged : goal.returns-in_ok-displace-in-New-clause-merged
+returns-in_ok-displace-in-New-clause-merged g c =
     let f = g.F.ParetoFront.state c.args.front.now in
     let e = entry_of c.args.label.now in
-    let after = g.F.ParetoFront.state c.enter.new.self in
+    let after = g.F.ParetoFront.state c.displace.new.self in
     entered_merges f e (apart_of_front g.row.D f c.in-New.ensures.front) c.in-New.ensures.standing c.requires after
-    (subst (λ (b : Front). Enters b e after) c.in_ok-reserve-in-New.ensures.same c.enter.ensures.entered)
+    (subst (λ (b : Front). Enters b e after) c.in_ok-reserve-in-New.ensures.same c.in_ok-displace-in-New.ensures.entered)
 
-pub returns-in_ok-find_dominated-in-New-clause-added : goal.returns-in_ok-find_dominated-in-New-clause-added
-returns-in_ok-find_dominated-in-New-clause-added g c =
+pub returns-in_ok-displace-in-New-clause-added : goal.returns-in_ok-displace-in-New-clause-added
+returns-in_ok-displace-in-New-clause-added g c =
     let f = g.F.ParetoFront.state c.args.front.now in
     let e = entry_of c.args.label.now in
     let added = uncovered_added f e (apart_of_front g.row.D f c.in-New.ensures.front) c.in-New.ensures.standing c.requires in
     (λ yes. added, λ h. refl)
 
-pub returns-in_ok-find_dominated-in-New-clause-removed : goal.returns-in_ok-find_dominated-in-New-clause-removed
-returns-in_ok-find_dominated-in-New-clause-removed g c =
+pub returns-in_ok-displace-in-New-clause-removed : goal.returns-in_ok-displace-in-New-clause-removed
+returns-in_ok-displace-in-New-clause-removed g c =
     let f = g.F.ParetoFront.state c.args.front.now in
     let e = entry_of c.args.label.now in
-    let found = c.find_dominated.new.found.items in
+    let found = c.displace.new.found.items in
     let Dominated : Front → List ℕ → Type 0 = λ b cost. HasCost b.unsettled cost × Dominates e.cost cost in
     let spares = c.requires in
     grows_as g.row.D c.args.label.now.node.0 (Dominated f) (IsRemoved f (e ∷ [])) c.args.removed.now.items found
     (uncovered_removes f e (apart_of_front g.row.D f c.in-New.ensures.front) c.in-New.ensures.standing spares)
     (subst (λ (b : Front). GrowsBy c.args.label.now.node.0 (Dominated b) c.args.removed.now.items found) c.in_ok-reserve-in-New.ensures.same
-    c.in_ok-find_dominated-in-New.ensures)
+    c.in_ok-displace-in-New.ensures.found)

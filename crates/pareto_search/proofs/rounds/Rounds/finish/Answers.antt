@@ -34,7 +34,7 @@ merge_here-requires-after_bounds g c κs within =
     let all = rw c.taken-taken.ensures at c.in_ok-relax_all.ensures in
     let nodes = candidates_at_nodes c.args.graph.now c.args.weights.now c.args.self.core c.requires.is_open _ all c.arrivals_spare_settled.ensures.node in
     let spare = candidates_spare c.args.graph.now c.args.weights.now c.args.self.core c.requires.is_open _ all c.arrivals_spare_settled.ensures.spares in
-    (search rules, (four, (nodes, spare)))
+    (omega arith, (four, (nodes, spare)))
 
 pub merge_apart-requires-after_bounds : goal.merge_apart-requires-after_bounds
 merge_apart-requires-after_bounds g c κs within =
@@ -42,7 +42,7 @@ merge_apart-requires-after_bounds g c κs within =
     let all = rw c.taken-taken.ensures at c.in_ok-relax_all.ensures in
     let nodes = candidates_at_nodes c.args.graph.now c.args.weights.now c.args.self.core c.requires.is_open _ all c.arrivals_spare_settled.ensures.node in
     let spare = candidates_spare c.args.graph.now c.args.weights.now c.args.self.core c.requires.is_open _ all c.arrivals_spare_settled.ensures.spares in
-    (search rules, (c.requires.at_least_one, (c.requires.at_most_64, (four, (nodes, spare)))))
+    (omega arith, (c.requires.at_least_one, (c.requires.at_most_64, (four, (nodes, spare)))))
 
 pub returns-then-crew-eq1 : goal.returns-then-crew-eq1
 returns-then-crew-eq1 g c =

@@ -1,0 +1,5 @@
+//! Worked examples of lanes that run at once.
+#![tactic(auto)]
+
+#[cfg(test)]
+mod tests;

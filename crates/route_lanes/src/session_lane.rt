@@ -1,0 +1,115 @@
+//! The lanes of sessions.
+ghost use Rattle.std.specs.Prelude.{◌≡◌, [], ◌∷◌, All, IfOk, OnOk, map, vec_len};
+ghost use mathlib.Core.List.{IsPrefix};
+ghost use Rattle.session_core.specs.Answering.{CanSearch, scene_of};
+ghost use Rattle.route_lanes.specs.Served.{IsFresh, SessionServes, learnt, report_of, state_of};
+
+use crate::report::LaneReport;
+use cost_vector::OutOfMemory;
+use epoch_store::{Ended, EpochReader, Store};
+use route_io::{Gate, Link, Sink, Source};
+use session_core::{Host, Session, SessionEnd};
+use std::alloc::Global;
+use std::sync::Wait;
+use std::thread::Threads;
+
+/// A session's lane: how its link ended is `Ended` before it was served.
+#[derive(Drop)]
+pub(crate) struct SessionLane<T: Store> {
+    pub session: Session<T>,
+    pub end: SessionEnd,
+}
+
+impl<T: Store> SessionLane<T> {
+    /// Serves a link.
+    pub(crate) fn serve<R: Threads + Wait + Sync, G: Gate, S: Source, K: Sink>(
+        &mut self,
+        host: &Host<'_, R, G>,
+        link: &mut Link<S, K>,
+    )
+        requires fresh { IsFresh self.old.session }
+        requires search { CanSearch host.now.crew.now.workers
+            (scene_of host.now.graph.now T.origin host.now.budget) }
+        ensures { SessionServes (state_of S.state K.state)
+            (scene_of host.now.graph.now T.origin host.now.budget) host.now.bytes
+            self.old link.old self.new link.new }
+    {
+        self.end = self.session.serve(host, link);
+    }
+
+    /// Goes on to the last epoch of a store that is closed.
+    fn learn(&mut self, ended: &Ended<T>) -> Result<(), OutOfMemory>
+        ensures learnt { OnOk result (self.new ≡ learnt ended.now self.old) }
+        ensures begins { OnOk result (IsPrefix self.old.session.seen ended.now) }
+    {
+        self.session.learn(ended)
+    }
+
+    /// What is reported of the lane, where the last epoch has this number.
+    fn report(self, last: u32) -> LaneReport
+        ensures { result ≡ report_of last self }
+    {
+        let SessionLane { session, end } = self;
+        let numbers = session.into_numbers();
+        LaneReport { end, last, numbers }
+    }
+}
+
+/// A lane for each reader.
+pub(crate) fn session_lanes<T: Store>(
+    alloc: Global,
+    readers: Vec<EpochReader<T>>,
+) -> Result<Vec<SessionLane<T>>, OutOfMemory>
+    requires unread { All (λ h. h ≡ []) readers.items }
+    ensures count { IfOk result (λ lanes. vec_len lanes ≡ vec_len readers) }
+    ensures fresh { IfOk result (λ lanes. All (λ lane. IsFresh lane.session) lanes.items) }
+{
+    let mut lanes = Vec::with_capacity(alloc, readers.len())?;
+    let mut rest = readers;
+    while let Some(reader) = rest.pop() {
+        lanes.push(SessionLane {
+            session: Session::new(alloc, reader)?,
+            end: SessionEnd::Ended,
+        })?;
+    }
+    Ok(lanes)
+}
+
+/// Goes on to the last epoch of a store that is closed, in each lane.
+pub(crate) fn learn_all<T: Store>(
+    lanes: &mut [SessionLane<T>],
+    ended: &Ended<T>,
+) -> Result<(), OutOfMemory>
+    ensures learnt { OnOk result (lanes.new ≡ map (learnt ended.now) lanes.old) }
+    ensures begins { OnOk result
+        (All (λ lane. IsPrefix lane.session.seen ended.now) lanes.old) }
+{
+    for k in 0..lanes.len() {
+        lanes[k].learn(ended)?;
+    }
+    Ok(())
+}
+
+/// What is reported of the operator's lane, and then of each of these, where the last epoch has this number. The list of
+/// reports is empty before.
+pub(crate) fn report_all<T: Store>(
+    alloc: Global,
+    mut reports: Vec<LaneReport>,
+    operator: SessionEnd,
+    lanes: Vec<SessionLane<T>>,
+    last: u32,
+) -> Result<Vec<LaneReport>, OutOfMemory>
+    requires { reports.items ≡ [] }
+    ensures { IfOk result (λ all. all.items
+        ≡ record { end = operator; last = last; numbers = [] } ∷ map (report_of last) lanes.items) }
+{
+    reports.push(LaneReport {
+        end: operator,
+        last,
+        numbers: Vec::new(alloc),
+    })?;
+    for lane in lanes {
+        reports.push(lane.report(last))?;
+    }
+    Ok(reports)
+}

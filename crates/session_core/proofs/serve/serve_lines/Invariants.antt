@@ -1,0 +1,11 @@
+use Rattle.std.proofs.Common.{◌-◌}
+use Rattle.session_core.specs.Serving.{Served}
+use Rattle.session_core.proofs.serve.serve_lines.Given as goal
+
+abbrev pub invariant-lines : goal.invariant-lines
+invariant-lines g l =
+    Served (g.P.Party.runs l.setting) l.fn.lines.limits.total l.fn.party l.party (g.S.Source.state l.fn.link.from) (g.S.Source.state l.link.from)
+    (g.K.Sink.state l.fn.link.to) (g.K.Sink.state l.link.to) l.lines
+
+abbrev pub decreases-lines : goal.decreases-lines
+decreases-lines g l = l.lines.limits.total - l.lines.passed

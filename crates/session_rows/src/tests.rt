@@ -1,0 +1,3 @@
+mod operator;
+mod session;
+mod stores;

@@ -3,8 +3,8 @@ use route_io::{Gate, OpenGate};
 use route_top::route;
 use std::alloc::{AllocError, Global};
 use std::process::Abort;
-use std::test::Fail;
 use std::sync::Wait;
+use std::test::Fail;
 use std::thread::Threads;
 
 mod batches;

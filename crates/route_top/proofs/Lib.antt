@@ -8,3 +8,5 @@ pub mod BatchLemmas
 pub mod OutputLemmas
 pub mod PlanLemmas
 pub mod CountLemmas
+mod ServedScripts
+mod LanesRuns

@@ -1,9 +1,7 @@
 -- The names of scripts, and what reading one answers.
-use Rattle.std.specs.Prelude.{◌≡◌, ℕ, ◌<◌, ◌≤◌, List, ◌++◌, Option, Result, Ok, Err, IfSome, decimal, length}
+use Rattle.std.specs.Prelude.{◌≡◌, ℕ, ◌<◌, ◌≤◌, List, Option, Result, Ok, Err, IfSome, length}
 use Rattle.std.specs.Global.{Vec}
 use Rattle.route_io.specs.Files.{FileMap}
-use Rattle.route_top.specs.declared.script.Script.{Script}
-use Rattle.route_top.specs.declared.script.Script.TheVariants.{Operator, Session}
 use Rattle.route_top.specs.declared.script.ScriptFault.{ScriptFault}
 use Rattle.route_top.specs.declared.script.ScriptFault.TheVariants as fault
 use Rattle.route_top.specs.declared.stop.Stop.{Stop}

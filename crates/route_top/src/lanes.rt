@@ -126,7 +126,7 @@ fn has_starved(reports: &[LaneReport]) -> bool
 
 /// Sends the replies of all lanes.
 fn put_lanes<K: Sink>(out: &mut K, links: &[SureLink]) -> Result<(), WriteFault>
-    ensures { Sends (K.state out.old) (K.state out.new) 
+    ensures { Sends (K.state out.old) (K.state out.new)
         (lanes_reply (map (λ l. l.to.sent) links.now)) result }
 {
     for number in 0..links.len() {

@@ -8,7 +8,12 @@ pub(super) const ROWS: &[Row] = &[
     // A published epoch is seen by the session that waits for it.
     Row {
         words: "lanes --operator op --sessions day A.gr B.gr",
-        files: &[("A.gr", A), ("B.gr", B), ("op", "s 2 5 5\npublish\n"), ("day1", "w 1\nq 1 4\nq 1 4\n")],
+        files: &[
+            ("A.gr", A),
+            ("B.gr", B),
+            ("op", "s 2 5 5\npublish\n"),
+            ("day1", "w 1\nq 1 4\nq 1 4\n"),
+        ],
         status: 0,
         out: "operator\nok\nk 1\nlane 1\nk 1\nr 1 1 4 2\np 2 8 2 1 3\np 4 6 3 1 5 4\nr 1 1 4 2\np 2 8 2 1 3\np 4 6 3 1 5 4\n",
         err: "",
@@ -16,7 +21,12 @@ pub(super) const ROWS: &[Row] = &[
     // A wait for an epoch that never comes.
     Row {
         words: "lanes --operator op --sessions day A.gr B.gr",
-        files: &[("A.gr", A), ("B.gr", B), ("op", "publish\n"), ("day1", "w 9\n")],
+        files: &[
+            ("A.gr", A),
+            ("B.gr", B),
+            ("op", "publish\n"),
+            ("day1", "w 9\n"),
+        ],
         status: 0,
         out: "operator\nk 1\nlane 1\nx 1 closed\n",
         err: "",
@@ -24,7 +34,12 @@ pub(super) const ROWS: &[Row] = &[
     // Refused changes change nothing.
     Row {
         words: "lanes --operator op --sessions day A.gr B.gr",
-        files: &[("A.gr", A), ("B.gr", B), ("op", "s 7 1 1\ns 1 0 0\ns 1 1\npublish\n"), ("day1", "w 1\nc 1 4\n")],
+        files: &[
+            ("A.gr", A),
+            ("B.gr", B),
+            ("op", "s 7 1 1\ns 1 0 0\ns 1 1\npublish\n"),
+            ("day1", "w 1\nc 1 4\n"),
+        ],
         status: 0,
         out: "operator\nx arc\nx zero\nx line\nk 1\nlane 1\nk 1\nr 1 1 4 2\nv 2 8\nv 4 2\n",
         err: "",
@@ -32,7 +47,12 @@ pub(super) const ROWS: &[Row] = &[
     // Dropped changes aren't published.
     Row {
         words: "lanes --operator op --sessions day A.gr B.gr",
-        files: &[("A.gr", A), ("B.gr", B), ("op", "s 2 5 5\ndrop\npublish\n"), ("day1", "w 1\nc 1 4\n")],
+        files: &[
+            ("A.gr", A),
+            ("B.gr", B),
+            ("op", "s 2 5 5\ndrop\npublish\n"),
+            ("day1", "w 1\nc 1 4\n"),
+        ],
         status: 0,
         out: "operator\nok\nok\nk 1\nlane 1\nk 1\nr 1 1 4 2\nv 2 8\nv 4 2\n",
         err: "",
@@ -40,7 +60,12 @@ pub(super) const ROWS: &[Row] = &[
     // No epoch follows the last.
     Row {
         words: "lanes --epoch 4294967295 --operator op --sessions day A.gr B.gr",
-        files: &[("A.gr", A), ("B.gr", B), ("op", "publish\n"), ("day1", "e\n")],
+        files: &[
+            ("A.gr", A),
+            ("B.gr", B),
+            ("op", "publish\n"),
+            ("day1", "e\n"),
+        ],
         status: 0,
         out: "operator\nx last\nlane 1\nk 4294967295\n",
         err: "",
@@ -48,7 +73,13 @@ pub(super) const ROWS: &[Row] = &[
     // Two sessions, of which the second ends at once.
     Row {
         words: "lanes --lanes 2 --operator op --sessions day A.gr B.gr",
-        files: &[("A.gr", A), ("B.gr", B), ("op", "publish\n"), ("day1", "w 1\ne\n"), ("day2", "bye\ne\n")],
+        files: &[
+            ("A.gr", A),
+            ("B.gr", B),
+            ("op", "publish\n"),
+            ("day1", "w 1\ne\n"),
+            ("day2", "bye\ne\n"),
+        ],
         status: 0,
         out: "operator\nk 1\nlane 1\nk 1\nk 1\nlane 2\n",
         err: "",
@@ -56,7 +87,12 @@ pub(super) const ROWS: &[Row] = &[
     // A shut arc isn't passed.
     Row {
         words: "lanes --operator op --sessions day A.gr B.gr",
-        files: &[("A.gr", A), ("B.gr", B), ("op", "x 2\npublish\n"), ("day1", "w 1\nq 1 4\n")],
+        files: &[
+            ("A.gr", A),
+            ("B.gr", B),
+            ("op", "x 2\npublish\n"),
+            ("day1", "w 1\nq 1 4\n"),
+        ],
         status: 0,
         out: "operator\nok\nk 1\nlane 1\nk 1\nr 1 1 4 2\np 2 8 2 1 3\np 4 6 3 1 5 4\n",
         err: "",
@@ -64,7 +100,12 @@ pub(super) const ROWS: &[Row] = &[
     // No walk is left.
     Row {
         words: "lanes --operator op --sessions day A.gr B.gr",
-        files: &[("A.gr", A), ("B.gr", B), ("op", "x 3\nx 4\nx 6\nx 7\nx 2 1\npublish\n"), ("day1", "w 1\nc 1 4\n")],
+        files: &[
+            ("A.gr", A),
+            ("B.gr", B),
+            ("op", "x 3\nx 4\nx 6\nx 7\nx 2 1\npublish\n"),
+            ("day1", "w 1\nc 1 4\n"),
+        ],
         status: 0,
         out: "operator\nok\nok\nok\nx arc\nx line\nk 1\nlane 1\nk 1\nr 1 1 4 0\n",
         err: "",
@@ -72,7 +113,12 @@ pub(super) const ROWS: &[Row] = &[
     // A shut arc is opened again before it is published.
     Row {
         words: "lanes --operator op --sessions day A.gr B.gr",
-        files: &[("A.gr", A), ("B.gr", B), ("op", "x 2\ns 2 5 5\npublish\n"), ("day1", "w 1\nq 1 4\nq 1 4\n")],
+        files: &[
+            ("A.gr", A),
+            ("B.gr", B),
+            ("op", "x 2\ns 2 5 5\npublish\n"),
+            ("day1", "w 1\nq 1 4\nq 1 4\n"),
+        ],
         status: 0,
         out: "operator\nok\nok\nk 1\nlane 1\nk 1\nr 1 1 4 2\np 2 8 2 1 3\np 4 6 3 1 5 4\nr 1 1 4 2\np 2 8 2 1 3\np 4 6 3 1 5 4\n",
         err: "",

@@ -7,9 +7,9 @@ use super::{
 use route_io::{Gate, Phase};
 use std::alloc::{AllocError, Global};
 use std::process::Abort;
+use std::sync::Wait;
 use std::sync::atomic::{AtomicBool, AtomicU32, Ordering};
 use std::test::Fail;
-use std::sync::Wait;
 use std::thread::Threads;
 
 /// The run of the row with so many workers ends as that without the option.

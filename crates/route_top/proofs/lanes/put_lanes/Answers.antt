@@ -1,8 +1,7 @@
-use Rattle.std.proofs.Common.{◌≡◌, ◌<◌, ◌≤◌, ◌++◌, Err, Ok, arith, length, map, subst}
+use Rattle.std.proofs.Common.{◌<◌, ◌≤◌, arith, length, map}
 use Rattle.std.proofs.lemmas.List.{length-map}
 use Rattle.std.proofs.lemmas.List.FromFn.{length-range_with_len}
 use Rattle.std.proofs.lemmas.Result.{err_from_is_err_and}
-use Rattle.route_io.specs.Sinks.{Sends}
 use Rattle.route_top.proofs.LanesSent.{next_number, numbers, part_is, part_of, within_numbers}
 use Rattle.route_top.proofs.SentFirst.{all_sent, cut_at, more_sent}
 use Rattle.route_top.proofs.lanes.put_lanes.Goals as goal

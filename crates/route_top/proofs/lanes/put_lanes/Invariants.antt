@@ -1,4 +1,4 @@
-use Rattle.std.proofs.Common.{List, ℕ, map}
+use Rattle.std.proofs.Common.{map}
 use Rattle.route_top.proofs.LanesSent.{numbers, part_of}
 use Rattle.route_top.proofs.SentFirst.{SentFirst}
 use Rattle.route_top.proofs.lanes.put_lanes.Given as goal

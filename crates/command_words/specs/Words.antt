@@ -133,6 +133,14 @@ LanesInRange (batch asked) = Unit {0}
 LanesInRange (generate asked) = Unit {0}
 LanesInRange (lanes asked) = SessionsInRange asked
 
+-- the command waits for nobody
+abbrev pub IsStill : Asked → Type 0
+IsStill (single asked) = Unit {0}
+IsStill (check files) = Unit {0}
+IsStill (batch asked) = Unit {0}
+IsStill (generate asked) = Unit {0}
+IsStill (lanes asked) = ⊥
+
 -- ---- the values that the words give, by rows that name the arguments
 
 -- the text is a number in digits, from the least to the greatest

@@ -99,10 +99,12 @@ fn read_lanes<'a>(alloc: Global, matches: &ArgMatches<'a>) -> Result<LanesWords<
 {
     let operator = value(matches, "operator").ok_or(WordsFault::Refused)?;
     let sessions = value(matches, "sessions").ok_or(WordsFault::Refused)?;
-    let lanes =
-        number_or(DEFAULT_LANES, matches, "lanes", 1, MAX_LANES).ok_or(WordsFault::Refused)?;
-    let epoch =
-        number_or(DEFAULT_EPOCH, matches, "epoch", 0, MAX_EPOCH).ok_or(WordsFault::Refused)?;
+    let lanes = number_or(DEFAULT_LANES, matches, "lanes", 1, MAX_LANES).ok_or(
+        WordsFault::Refused,
+    )?;
+    let epoch = number_or(DEFAULT_EPOCH, matches, "epoch", 0, MAX_EPOCH).ok_or(
+        WordsFault::Refused,
+    )?;
     let effort = read_effort(matches).ok_or(WordsFault::Refused)?;
     let files = read_files(alloc, matches)?;
     Ok(LanesWords {

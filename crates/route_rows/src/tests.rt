@@ -3,11 +3,13 @@ use route_io::{Gate, OpenGate};
 use route_top::route;
 use std::alloc::{AllocError, Global};
 use std::process::Abort;
+use std::sync::Wait;
 use std::test::Fail;
 use std::thread::Threads;
 
 mod batches;
 mod generated;
+mod lanes;
 mod readers;
 mod rows;
 mod walks;
@@ -63,7 +65,7 @@ impl Outside {
     /// Runs the words, and gives the status.
     fn run(
         &mut self,
-        rt: &(impl Threads + Sync),
+        rt: &(impl Threads + Wait + Sync),
         alloc: Global,
         words: &str,
     ) -> Result<u8, AllocError> {
@@ -73,7 +75,7 @@ impl Outside {
     /// Runs the words, with this gate before each piece of work, and gives the status.
     fn run_through(
         &mut self,
-        rt: &(impl Threads + Sync),
+        rt: &(impl Threads + Wait + Sync),
         alloc: Global,
         words: &str,
         gate: &impl Gate,
@@ -156,7 +158,7 @@ fn assert_status(rt: &impl Abort, got: u8, wanted: &Wanted, number: usize) {
 
 /// The run ends as is wanted. The number tells it from other runs of the same words.
 fn assert_run(
-    rt: &(impl Abort + Threads + Sync),
+    rt: &(impl Abort + Threads + Wait + Sync),
     alloc: Global,
     wanted: &Wanted,
     number: usize,
@@ -170,7 +172,7 @@ fn assert_run(
 }
 
 fn assert_row(
-    rt: &(impl Abort + Threads + Sync),
+    rt: &(impl Abort + Threads + Wait + Sync),
     alloc: Global,
     row: &Row,
     piece: usize,
@@ -182,7 +184,7 @@ fn assert_row(
 
 /// Each run ends as its row says, over a folder that gives one byte a read and over one that gives all.
 fn assert_rows(
-    rt: &(impl Abort + Threads + Sync),
+    rt: &(impl Abort + Threads + Wait + Sync),
     alloc: Global,
     rows: &[Row],
 ) -> Result<(), AllocError> {
@@ -199,6 +201,12 @@ fn rows_have_their_output(rt: HostRuntime) -> Result<(), Fail> {
     assert_rows(&rt, rt.alloc(), rows::ROWS)?;
     assert_rows(&rt, rt.alloc(), walks::ROWS)?;
     assert_rows(&rt, rt.alloc(), batches::ROWS)?;
+    Ok(())
+}
+
+#[test]
+fn lanes_have_their_output(rt: HostRuntime) -> Result<(), Fail> {
+    assert_rows(&rt, rt.alloc(), lanes::ROWS)?;
     Ok(())
 }
 
@@ -248,7 +256,7 @@ fn cut_file(alloc: Global, length: usize, piece: usize) -> Result<Outside, Alloc
 }
 
 fn assert_told_cut(
-    rt: &(impl Abort + Threads + Sync),
+    rt: &(impl Abort + Threads + Wait + Sync),
     alloc: Global,
     length: usize,
     outside: &mut Outside,
@@ -467,7 +475,7 @@ fn row_noting_to(alloc: Global, row: &Row, err: MemorySink) -> Result<Outside, A
 }
 
 fn assert_cut_note(
-    rt: &(impl Abort + Threads + Sync),
+    rt: &(impl Abort + Threads + Wait + Sync),
     alloc: Global,
     row: &Row,
     bound: usize,
@@ -518,7 +526,7 @@ fn a_failing_err_cuts_the_note_alone(rt: HostRuntime) -> Result<(), Fail> {
 }
 
 fn assert_noted_at_once(
-    rt: &(impl Abort + Threads + Sync),
+    rt: &(impl Abort + Threads + Wait + Sync),
     alloc: Global,
     row: &Row,
 ) -> Result<(), AllocError> {

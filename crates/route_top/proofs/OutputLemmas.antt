@@ -4,12 +4,13 @@ use Rattle.std.specs.Prelude.{Option, Some, None, MatchOption}
 use Rattle.route_io.specs.Files.{FileMap}
 use Rattle.route_io.specs.Sinks.{SinkState}
 use Rattle.route_io.specs.Sources.{SourceState}
-use Rattle.command_words.specs.Words.{AreWords, Asked, Asks, GenAsked, batch, check, generate, single}
+use Rattle.command_words.specs.Words.{AreWords, Asked, Asks, GenAsked, batch, check, generate, lanes, single}
 use Rattle.route_top.specs.Batch.{pairs_read, pairs_stop}
 use Rattle.route_top.specs.FilesRead.{at_file, stops, goes_on}
 use Rattle.route_top.specs.Gen.{SendsFile, SendsSummary}
+use Rattle.route_top.specs.Lanes.{scripts_read, scripts_stop}
 use Rattle.route_top.specs.Outcome.{Outcome}
-use Rattle.route_top.specs.Outcome.{done, bad_words, folder_failed, out_failed, bad_file, bad_files, bad_pairs, refused, no_memory, out_wanted, status_of}
+use Rattle.route_top.specs.Outcome.{done, bad_words, folder_failed, out_failed, bad_file, bad_files, bad_pairs, script_too_long, refused, no_memory, out_wanted, status_of}
 use Rattle.route_top.specs.Output.{Ends, EndsByWords, no_command, starved, asks, EndsOrCut, uncut, failed, wanted, Runs}
 use Rattle.route_top.proofs.RunsLemmas.{runs_then, stays}
 
@@ -47,6 +48,9 @@ never_bad_words files (batch asked) text (stops (at_file name comes stop)) = eli
 never_bad_words files (batch asked) text (goes_on net read (pairs_stop stop)) = elim stop [ ]
 never_bad_words files (batch asked) text (goes_on net read (pairs_read pairs says replies)) = replies
 never_bad_words files (generate asked) text ends = never_bad_gen asked text asked.file ends
+never_bad_words files (lanes asked) text (stops (at_file name comes stop)) = elim stop [ ]
+never_bad_words files (lanes asked) text (goes_on net read (scripts_stop why)) = elim why.2 [ ]
+never_bad_words files (lanes asked) text (goes_on net read (scripts_read scripts says replies)) = replies
 
 is_bad_words : (outcome : Outcome) → status_of outcome ≡ 2 → outcome ≡ bad_words
 is_bad_words bad_words two = refl
@@ -56,6 +60,7 @@ is_bad_words out_failed two = cc
 is_bad_words (bad_file name line kind) two = cc
 is_bad_words (bad_files way) two = cc
 is_bad_words (bad_pairs name line kind) two = cc
+is_bad_words (script_too_long name) two = cc
 is_bad_words refused two = cc
 is_bad_words no_memory two = cc
 is_bad_words out_wanted two = cc

@@ -6,6 +6,8 @@ pub mod Check
 pub mod Batch
 pub mod Summary
 pub mod Gen
+pub mod Lanes
 pub mod Output
 pub mod Stops
+pub mod Scripts
 pub mod ReadResults

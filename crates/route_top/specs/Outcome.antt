@@ -22,6 +22,8 @@ pub data Outcome : Type 0 where
   bad_files : Disagreement → Outcome
   -- this file of pairs has a faulty line
   bad_pairs : List ℕ → ℕ → LineKind → Outcome
+  -- this script has more bytes than a script may have
+  script_too_long : List ℕ → Outcome
   -- the query was refused by a reply of its own
   refused : Outcome
   -- memory ran out
@@ -38,6 +40,7 @@ status_of out_failed = 4
 status_of (bad_file name line kind) = 5
 status_of (bad_files way) = 6
 status_of (bad_pairs name line kind) = 7
+status_of (script_too_long name) = 7
 status_of refused = 8
 status_of no_memory = 9
 status_of out_wanted = 9
@@ -71,6 +74,7 @@ note_of out_failed = noted (codes "out")
 note_of (bad_file name line kind) = noted (codes "file " ++ told_line name line kind)
 note_of (bad_files way) = noted (codes "files " ++ disagreement way)
 note_of (bad_pairs name line kind) = noted (codes "pairs " ++ told_line name line kind)
+note_of (script_too_long name) = noted (codes "script " ++ name ++ codes " too long")
 note_of refused = []
 note_of no_memory = noted (codes "memory")
 note_of out_wanted = noted (codes "memory")

@@ -5,11 +5,12 @@ use Rattle.route_io.specs.Files.{FileMap}
 use Rattle.route_io.specs.Sinks.{SinkState, Sends, WritesTo}
 use Rattle.route_io.specs.Sources.{SourceState, ReadsFrom}
 use Rattle.route_io.specs.declared.fault.WriteFault.{WriteFault}
-use Rattle.command_words.specs.Words.{Asked, Asks, AreWords, batch, check, generate, names_of, single}
+use Rattle.command_words.specs.Words.{Asked, Asks, AreWords, batch, check, generate, lanes, names_of, single}
 use Rattle.route_top.specs.Batch.{BatchReplies}
 use Rattle.route_top.specs.Check.{CheckReplies}
 use Rattle.route_top.specs.FilesRead.{FilesEnd}
 use Rattle.route_top.specs.Gen.{GenEnds}
+use Rattle.route_top.specs.Lanes.{LanesEnd}
 use Rattle.route_top.specs.Outcome.{Outcome, bad_words, out_failed, no_memory, out_wanted}
 use Rattle.route_top.specs.Outcome.{status_of, note_of, out_has_wanted}
 use Rattle.route_top.specs.Queries.{QueryReplies, asked_for}
@@ -24,6 +25,7 @@ Ends files (single asked) = FilesEnd (QueryReplies (asked_for asked.kind asked.q
 Ends files (check names) = FilesEnd CheckReplies files names
 Ends files (batch asked) = FilesEnd (BatchReplies files asked) files asked.files
 Ends files (generate asked) = GenEnds asked
+Ends files (lanes asked) = FilesEnd (LanesEnd files asked) files asked.files
 
 -- the same of the program, by its words
 pub data EndsByWords (words : List (List ℕ)) (files : Option FileMap) : Outcome → List ℕ → Type 0 where

@@ -1,5 +1,5 @@
 -- The outcomes that the code's answers stand for.
-use Rattle.std.specs.Prelude.{◌≡◌, ℕ, List, Result, Ok, Err}
+use Rattle.std.specs.Prelude.{◌≡◌, ◌++◌, ℕ, List, Bool, true, false, Result, Ok, Err, decimal}
 use Rattle.arc_graph.specs.declared.join.JoinFault.{JoinFault}
 use Rattle.arc_graph.specs.declared.join.JoinFault.TheVariants as join
 use Rattle.route_io.specs.Sinks.{SinkState}
@@ -9,12 +9,32 @@ use Rattle.query_replies.specs.declared.asked.Reply.{Reply}
 use Rattle.query_replies.specs.declared.asked.Reply.TheVariants.{Answer, Refusal}
 use Rattle.query_replies.specs.declared.fault.ReplyFault.{ReplyFault}
 use Rattle.query_replies.specs.declared.fault.ReplyFault.TheVariants as reply
+use Rattle.route_top.specs.declared.script.Script.{Script}
+use Rattle.route_top.specs.declared.script.Script.TheVariants.{Operator, Session}
+use Rattle.route_top.specs.declared.script.ScriptFault.{ScriptFault}
+use Rattle.route_top.specs.declared.script.ScriptFault.TheVariants as script
 use Rattle.route_top.specs.declared.stop.Disagreement.TheVariants as files
 use Rattle.route_top.specs.declared.stop.Stop.{Stop}
 use Rattle.route_top.specs.declared.stop.Stop.TheVariants as stop
 use Rattle.route_top.specs.Outcome.{Outcome, done, bad_words, folder_failed, out_failed, bad_file, bad_files}
-use Rattle.route_top.specs.Outcome.{bad_pairs, refused, no_memory, out_wanted}
+use Rattle.route_top.specs.Outcome.{bad_pairs, script_too_long, refused, no_memory, out_wanted}
 use Rattle.route_top.specs.Output.{Runs}
+
+-- the name of a script
+abbrev pub script_name : Script → List ℕ
+script_name (Operator name) = name.now
+script_name (Session stem number) = stem.now ++ decimal number
+
+-- the outcome that a script which wasn't read is
+abbrev pub script_outcome : List ℕ → ScriptFault → Outcome
+script_outcome name script.Folder = folder_failed name
+script_outcome name script.TooLong = script_too_long name
+script_outcome name script.OutOfMemory = no_memory
+
+-- the test that the source of a script failed
+abbrev pub script_failed : {T : Type 0} → Result T ScriptFault → Bool
+script_failed (Err script.Folder) = true
+script_failed other = false
 
 -- the outcome that a reason is
 abbrev pub outcome_of : Stop → Outcome
@@ -25,6 +45,7 @@ outcome_of (stop.Out write.OutOfMemory) = out_wanted
 outcome_of (stop.File name line kind) = bad_file name.now line kind
 outcome_of (stop.Files way) = bad_files way
 outcome_of (stop.Pairs name line kind) = bad_pairs name.now line kind
+outcome_of (stop.Script one fault) = script_outcome (script_name one) fault
 outcome_of stop.Refused = refused
 outcome_of stop.OutOfMemory = no_memory
 

@@ -4,7 +4,8 @@
 ghost use Rattle.std.specs.Prelude.{◌≡◌, ◌==◌, ◌⊎◌, ℕ, List, All};
 ghost use Rattle.route_io.specs.Causes.{IsCounted};
 ghost use Rattle.route_io.specs.Sources.{ReadsFrom};
-ghost use Rattle.command_words.specs.Words.{AreWords, EffortInRange, FilesInRange, PlanInRange};
+ghost use Rattle.command_words.specs.Words.{AreWords, EffortInRange, FilesInRange, IsStill, LanesInRange};
+ghost use Rattle.command_words.specs.Words.{PlanInRange};
 ghost use Rattle.command_words.specs.Words.{asked_of, names_of, texts_of};
 ghost use Rattle.route_top.specs.Output.{Ends, IsAskedName, Output, Runs, EndsByWords};
 ghost use Rattle.route_top.specs.Stops.{run_outcome};
@@ -13,9 +14,11 @@ mod batch;
 mod check;
 mod counting;
 mod generate;
+mod lanes;
 mod network;
 mod plan;
 mod reply;
+mod script;
 mod single;
 mod status;
 mod stop;
@@ -26,6 +29,7 @@ use route_io::{Folder, Gate, Sink};
 use status::DONE;
 pub use status::WANT_OF_MEMORY;
 use std::alloc::Global;
+use std::sync::Wait;
 use std::thread::Threads;
 use stop::Stop;
 
@@ -43,10 +47,10 @@ pub const MAX_FILE_SIZE: u64 = 1 << 29;
 /// | 4 | `out` failed |
 /// | 5 | a weight file has a faulty line |
 /// | 6 | the weight files don't agree |
-/// | 7 | the file of pairs has a faulty line |
+/// | 7 | the file of pairs has a faulty line, or a script is too long |
 /// | 8 | an end of the query is no node, or the query passes its budget; a line on `out` says which |
 /// | 9 | memory ran out |
-pub fn route<R: Threads + Sync, G: Gate, F: Folder, K: Sink, E: Sink>(
+pub fn route<R: Threads + Wait + Sync, G: Gate, F: Folder, K: Sink, E: Sink>(
     rt: &R,
     alloc: Global,
     words: &[String],
@@ -79,7 +83,7 @@ pub fn route<R: Threads + Sync, G: Gate, F: Folder, K: Sink, E: Sink>(
 }
 
 /// Runs the command, and says why where it isn't done.
-fn run<'a, R: Threads + Sync, G: Gate, F: Folder, K: Sink>(
+fn run<'a, R: Threads + Wait + Sync, G: Gate, F: Folder, K: Sink>(
     rt: &R,
     alloc: Global,
     words: &'a [String],
@@ -100,7 +104,7 @@ fn run<'a, R: Threads + Sync, G: Gate, F: Folder, K: Sink>(
 }
 
 /// Carries out a command that words ask for.
-fn carry_out<'a, R: Threads + Sync, G: Gate, F: Folder, K: Sink>(
+fn carry_out<'a, R: Threads + Wait + Sync, G: Gate, F: Folder, K: Sink>(
     rt: &R,
     alloc: Global,
     command: &Command<'a>,
@@ -108,6 +112,31 @@ fn carry_out<'a, R: Threads + Sync, G: Gate, F: Folder, K: Sink>(
     out: &mut K,
     gate: &G,
 ) -> Result<(), Stop<'a>>
+    requires admitted { All F.admits (names_of (asked_of command.now)) }
+    requires files { FilesInRange (asked_of command.now) }
+    requires effort { EffortInRange (asked_of command.now) }
+    requires plan { PlanInRange (asked_of command.now) }
+    requires lanes { LanesInRange (asked_of command.now) }
+    ensures { Runs (Ends (F.state folder.old).files (asked_of command.now))
+        (F.state folder.old) (F.state folder.new) (K.state out.old) (K.state out.new)
+        (run_outcome result) }
+{
+    match command {
+        Command::Lanes(asked) => lanes::run(rt, alloc, asked, folder, out, gate),
+        still => run_still(rt, alloc, still, folder, out, gate),
+    }
+}
+
+/// Carries out a command that waits for nobody.
+pub(crate) fn run_still<'a, R: Threads + Sync, G: Gate, F: Folder, K: Sink>(
+    rt: &R,
+    alloc: Global,
+    command: &Command<'a>,
+    folder: &mut F,
+    out: &mut K,
+    gate: &G,
+) -> Result<(), Stop<'a>>
+    requires still { IsStill (asked_of command.now) }
     requires admitted { All F.admits (names_of (asked_of command.now)) }
     requires files { FilesInRange (asked_of command.now) }
     requires effort { EffortInRange (asked_of command.now) }
@@ -121,5 +150,6 @@ fn carry_out<'a, R: Threads + Sync, G: Gate, F: Folder, K: Sink>(
         Command::Check(asked) => check::run(alloc, asked, folder, out),
         Command::Batch(asked) => batch::run(rt, alloc, asked, folder, out, gate),
         Command::Gen(asked) => generate::run(rt, alloc, asked, out, gate),
+        Command::Lanes(_) => unreachable!(),
     }
 }

@@ -14,6 +14,8 @@ pub const BAD_FILE: u8 = 5;
 pub const BAD_FILES: u8 = 6;
 /// The file of pairs has a faulty line.
 pub const BAD_PAIRS: u8 = 7;
+/// A script is too long.
+pub const LONG_SCRIPT: u8 = 7;
 /// An end of the query is no node, or the query passes its budget; a line on `out` says which.
 pub const REFUSED: u8 = 8;
 /// Memory ran out.

@@ -1,16 +1,20 @@
 //! Why a run isn't done, with its exit status and its note.
-ghost use Rattle.std.specs.Prelude.{◌≡◌, ◌++◌};
+ghost use Rattle.std.specs.Prelude.{◌≡◌, ◌++◌, ℕ, List};
 ghost use Rattle.route_io.specs.Sinks.{Sends};
 ghost use Rattle.answer_writer.specs.Replies.{end_line};
 ghost use Rattle.route_top.specs.Outcome.{bad_files, note_of, status_of, told_line};
+ghost use Rattle.route_top.specs.Stops.{script_name, script_outcome};
 
+use crate::script::{Script, ScriptFault};
 use crate::status::{
-    BAD_FILE, BAD_FILES, BAD_PAIRS, BAD_WORDS, FOLDER_FAILED, OUT_FAILED, REFUSED, WANT_OF_MEMORY,
+    BAD_FILE, BAD_FILES, BAD_PAIRS, BAD_WORDS, FOLDER_FAILED, LONG_SCRIPT, OUT_FAILED, REFUSED,
+    WANT_OF_MEMORY,
 };
 use answer_writer::{Piece, put_line};
 use arc_graph::JoinFault;
 use cost_vector::OutOfMemory;
 use gr_reader::LineKind;
+use itoa::Buffer;
 use query_replies::ReplyFault;
 use route_io::sure::SureSink;
 use route_io::{Sink, WriteFault, put_all};
@@ -50,6 +54,11 @@ pub(crate) enum Stop<'a> {
         line: u64,
         kind: LineKind,
     },
+    /// This script wasn't read.
+    Script {
+        script: Script<'a>,
+        fault: ScriptFault,
+    },
     /// A line on `out` says why.
     Refused,
     OutOfMemory,
@@ -65,6 +74,7 @@ impl Stop<'_> {
         match self {
             Stop::Words => BAD_WORDS,
             Stop::Folder { .. } => FOLDER_FAILED,
+            Stop::Script { fault, .. } => script_status(*fault),
             Stop::Out(WriteFault::Failed) => OUT_FAILED,
             Stop::File { .. } => BAD_FILE,
             Stop::Files(_) => BAD_FILES,
@@ -107,11 +117,70 @@ impl Stop<'_> {
             Stop::Pairs { name, line, kind } => {
                 note_line(err, "route: pairs ", name, *line, *kind)
             }
+            Stop::Script { script, fault } => note_script(err, script, *fault),
             Stop::Refused => Ok(()),
             Stop::Out(WriteFault::OutOfMemory) | Stop::OutOfMemory => {
                 put_all(err, b"route: memory\n")
             }
         }
+    }
+}
+
+/// The exit status where a script wasn't read.
+fn script_status(fault: ScriptFault) -> u8
+    ensures { (name : List ℕ) → result ≡ status_of (script_outcome name fault) }
+{
+    match fault {
+        ScriptFault::Folder => FOLDER_FAILED,
+        ScriptFault::TooLong => LONG_SCRIPT,
+        ScriptFault::OutOfMemory => WANT_OF_MEMORY,
+    }
+}
+
+/// Sends the note on a script that wasn't read.
+fn note_script<E: Sink>(
+    err: &mut E,
+    script: &Script<'_>,
+    fault: ScriptFault,
+) -> Result<(), WriteFault>
+    ensures { Sends (E.state err.old) (E.state err.new)
+        (note_of (script_outcome (script_name script.now) fault)) result }
+{
+    match script {
+        Script::Operator { name } => note_named_script(err, name, "", fault),
+        Script::Session { stem, number } => {
+            let mut digits = Buffer::new();
+            note_named_script(err, stem, digits.format(*number), fault)
+        }
+    }
+}
+
+/// Sends the note on a script whose name has these parts.
+fn note_named_script<'x, E: Sink>(
+    err: &mut E,
+    stem: &'x str,
+    number: &'x str,
+    fault: ScriptFault,
+) -> Result<(), WriteFault>
+    ensures { Sends (E.state err.old) (E.state err.new)
+        (note_of (script_outcome (stem.now ++ number.now) fault)) result }
+{
+    use Piece::Text;
+    match fault {
+        ScriptFault::Folder => put_line(
+            err,
+            &[Text("route: folder "), Text(stem), Text(number), Text("\n")],
+        ),
+        ScriptFault::TooLong => put_line(
+            err,
+            &[
+                Text("route: script "),
+                Text(stem),
+                Text(number),
+                Text(" too long\n"),
+            ],
+        ),
+        ScriptFault::OutOfMemory => put_all(err, b"route: memory\n"),
     }
 }
 

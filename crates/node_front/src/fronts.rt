@@ -220,8 +220,8 @@ impl<const D: usize, F: ParetoFront<D> + Drop> Fronts<D, F> {
         ensures nodes { self.now.nodes ≤ max_nodes }
     {
         let mut labels: usize = 0;
-        for place in &self.places {
-            labels = labels.saturating_add(self.fronts[*place as usize].settled_len());
+        for front in &self.fronts {
+            labels = labels.saturating_add(front.settled_len());
         }
         labels
     }

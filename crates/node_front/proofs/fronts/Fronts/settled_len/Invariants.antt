@@ -1,11 +1,12 @@
-use Rattle.std.specs.Prelude.{◌≡◌, ℕ, ◌<◌, length, take}
-use Rattle.pareto_front.specs.Fronts.{IsFront}
+use Rattle.std.specs.Prelude.{◌≡◌, ℕ, ◌<◌, length, map, slice_index_or, take}
+use Rattle.pareto_front.specs.Fronts.{IsFront, empty_front}
 use Rattle.node_front.specs.FoundFronts.{counted_labels, settled_from}
-use Rattle.node_front.specs.NodeFronts.{front_at}
 use Rattle.node_front.proofs.fronts.Fronts.settled_len.Given as goal
 
-abbrev pub invariant-loop-place : goal.invariant-loop-place
-invariant-loop-place g l = record {
-  counted : l.labels ≡ counted_labels (length (settled_from 0 (take l.place-index l.self.fronts)));
-  fronts : (v : ℕ) → v < l.place-index → IsFront g.row.D (front_at l.self v);
-}
+abbrev pub invariant-loop-front : goal.invariant-loop-front
+invariant-loop-front g l =
+    let states = map g.F.ParetoFront.state l.front-items in
+    record {
+      counted : l.labels ≡ counted_labels (length (settled_from 0 (take l.front-index states)));
+      fronts : (k : ℕ) → k < l.front-index → IsFront g.row.D (slice_index_or states k empty_front);
+    }

@@ -11,7 +11,7 @@ use Rattle.std.proofs.lemmas.List.Elements.{All-nil}
 use Rattle.std.proofs.lemmas.Option.{slice_get-map, slice_get-get_or}
 use Rattle.cost_vector.specs.Costs.{LexLess, lex_cmp, min_criteria, max_criteria}
 use Rattle.cost_vector.specs.declared.label.ArcNo.{ArcNo}
-use Rattle.cost_vector.proofs.Vectors.{LexLess-irrefl, LexLess-trans, same_from_lex_cmp}
+use Rattle.cost_vector.proofs.Vectors.{LexLess-irrefl}
 use Rattle.list_laws.proofs.Members.{in_none, cases_in, in_map, of_map}
 use Rattle.list_laws.proofs.Pairs.{pairs_none, pairs_rest, pair_with_first, pairs_map}
 use Rattle.list_laws.proofs.OnceLaws.{in_append, pairs_append}
@@ -20,6 +20,7 @@ use Rattle.path_readback.specs.Found.{HasSettled, IsFound}
 use Rattle.road_network.specs.Limits.{max_nodes}
 use Rattle.road_network.specs.Network.{IsNode}
 use Rattle.pareto_front.specs.declared.front.FrontEntry.{FrontEntry}
+use Rattle.pareto_front.proofs.Ascending.{rises_to}
 use Rattle.pareto_front.specs.Calls.{ListsSettled, told_entry}
 use Rattle.pareto_front.specs.Fronts.{AreIncomparable, Entry, Front, IsFront, empty_front}
 use Rattle.node_front.specs.FoundFronts.{counted_labels, found_in, labels_told, settled_from}
@@ -238,22 +239,6 @@ arc_missing {D} list c none arc = (
       let (y, y_in, is) = of_map (told_entry {D = D}) list (record { cost = c; arc = arc.0 }) there in
       absurd (none y_in.0 y y_in.1 (ap (λ (z : FrontEntry D). z.cost.0) y_in.2 ∙ sym (ap (λ (e : Entry). e.cost) is))),
 )
-
--- what a greater cost stands to another, a lesser one does too, or is less than that
-rises_to : (a b c : List ℕ) → LexLess a b → ordering_index (lex_cmp a c) ≤ ordering_index (lex_cmp b c)
-rises_to a b c less = by (lex_cmp b c) refl where
-  low : (o : Ordering) → o ≡ Less → (n : ℕ) → ordering_index o ≤ n
-  low o is n = omega (arith, ap ordering_index is)
-
-  high : (o : Ordering) → ordering_index o ≤ 2
-  high Less = omega arith
-  high Equal = omega arith
-  high Greater = omega arith
-
-  by : (o : Ordering) → lex_cmp b c ≡ o → ordering_index (lex_cmp a c) ≤ ordering_index (lex_cmp b c)
-  by Less is = low (lex_cmp a c) (LexLess-trans a b c less is) (ordering_index (lex_cmp b c))
-  by Equal is = low (lex_cmp a c) (subst (LexLess a) (same_from_lex_cmp b c is) less) (ordering_index (lex_cmp b c))
-  by Greater is = let top = high (lex_cmp a c) in omega (arith, top, ap ordering_index is)
 
 -- where a search for a cost among ascending ones ends between lesser and greater ones, no entry has it
 pub none_between : {D : ℕ} (list : List (FrontEntry D)) → AllPairs LexLess (map (λ (e : FrontEntry D). e.cost.0) list) → (c : List ℕ) (i : ℕ)

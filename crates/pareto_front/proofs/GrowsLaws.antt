@@ -1,13 +1,13 @@
 -- Lists to which the spots of a kind are added one by one.
-use Rattle.std.proofs.Common.{◌≡◌, ◌≢◌, ◌↔◌, ◌⊎◌, inl, inr, ℕ, ◌+◌, ◌<◌, ◌≤◌, List, [], ◌∷◌, ◌++◌, length, map, take, get_or, sym, ap, subst, ◌∙◌, append_assoc}
-use Rattle.std.specs.Prelude.{AllPairs, Contains}
-use Rattle.std.proofs.lemmas.List.{append-nil, map_push, take_all, take_more, take-map}
+use Rattle.std.proofs.Common.{◌≡◌, ◌≢◌, ◌↔◌, ◌⊎◌, inl, inr, ℕ, ◌+◌, ◌<◌, ◌≤◌, List, [], ◌∷◌, ◌++◌, length, map, take, get_or, sym, ap, subst, ◌∙◌, append_assoc, arith}
+use Rattle.std.specs.Prelude.{All, AllPairs, Contains}
+use Rattle.std.proofs.lemmas.List.{append-nil, length-append, length-map, map_push, take_all, take_more, take-map}
 use Rattle.std.proofs.lemmas.List.Elements.{All-nil, All-push, Contains-append_left, Contains-push}
 use Rattle.cost_vector.specs.Costs.{Dominates}
 use Rattle.cost_vector.proofs.Vectors.{AtMost-refl}
 use Rattle.compact_labels.specs.declared.label.CompactSpot.{CompactSpot}
 use Rattle.list_laws.specs.Sets.{ListsOnce}
-use Rattle.list_laws.proofs.Members.{in_none, in_first, cases_push}
+use Rattle.list_laws.proofs.Members.{all_from_in, in_none, in_first, in_map, cases_push}
 use Rattle.list_laws.proofs.Pairs.{pairs_none, pairs_push, pairs_take}
 use Rattle.pareto_front.specs.declared.front.FrontEntry.{FrontEntry}
 use Rattle.pareto_front.specs.Fronts.{Entry, AreIncomparable, HasCost}
@@ -128,3 +128,10 @@ pub finds_all : {D : ℕ} (v : ℕ) (by : List ℕ) (list : List (FrontEntry D))
     → GrowsBy v (DominatedBefore by list i) xs ys → GrowsBy v (λ c. HasCost (map told_entry list) c × Dominates by c) xs ys
 finds_all {D} v by list i xs ys past grown =
     subst (λ (l : List (FrontEntry D)). GrowsBy v (λ c. HasCost (map told_entry l) c × Dominates by c) xs ys) (take_all i list past) grown
+
+-- where nothing was added, no entry is dominated
+pub none_dominated : {D : ℕ} (v : ℕ) (by : List ℕ) (list : List (FrontEntry D)) (xs ys : List (CompactSpot D)) → length ys ≤ length xs
+    → GrowsBy v (λ c. HasCost (map told_entry list) c × Dominates by c) xs ys → All (λ (e : FrontEntry D). ¬ Dominates by e.cost.0) list
+none_dominated {D} v by list xs ys short grown = all_from_in (λ (e : FrontEntry D). ¬ Dominates by e.cost.0) list (λ e h dominated.
+    let there = (grown.costs.exact e.cost.0).1 (record { arc = e.arc.0; contains = in_map told_entry list e h }, dominated) in
+    omega (arith, short, there.1, length-map grown.more (λ (s : CompactSpot D). s.cost.0), ap length grown.appended, length-append xs grown.more))

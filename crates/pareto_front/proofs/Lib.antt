@@ -11,3 +11,4 @@ pub mod KeptLaws
 pub mod GrowsLaws
 pub mod BlockLaws
 pub mod ToldLaws
+pub mod Ascending

@@ -1,8 +1,7 @@
 -- What happens to lists of stored entries, said of the fronts that they stand for.
-use Rattle.std.proofs.Common.{◌≡◌, ◌≢◌, ◌↔◌, ◌<◌, inl, inr, ℕ, None, Some, List, [], ◌∷◌, ◌++◌, length, map, get_or, set, sym, ap, subst, ◌∙◌}
+use Rattle.std.proofs.Common.{◌≡◌, ◌≢◌, ◌↔◌, ◌<◌, inl, inr, ℕ, None, Some, List, [], ◌∷◌, ◌++◌, length, map, get_or, remove, set, sym, ap, subst, ◌∙◌}
 use Rattle.std.proofs.Common.{false, arith}
-use Rattle.std.specs.Prelude.{AllPairs, Contains, IsPermutation}
-use Rattle.std.specs.List.{swap_remove}
+use Rattle.std.specs.Prelude.{All, AllPairs, Contains, IsPermutation}
 use Rattle.std.specs.List.Sorted.{IsSortedBy}
 use Rattle.std.specs.Ordering.{is_lt}
 use Rattle.std.proofs.lemmas.Bool.{false≢true}
@@ -10,19 +9,20 @@ use Rattle.std.proofs.lemmas.Cmp.{nat_list_cmp_total}
 use Rattle.std.proofs.lemmas.Option.{same_Some, none-some}
 use Rattle.std.proofs.lemmas.List.{get_or-map, length-map, map_push, map-set}
 use Rattle.std.proofs.lemmas.List.Elements.{All-map, Contains-get_or, Contains-append_left, Contains-append_right, Contains-append_cases}
-use Rattle.std.proofs.lemmas.List.Sorted.{IsPermutation-swap_remove, IsPermutation-map, sorted_far, ranks_by}
-use Rattle.cost_vector.specs.Costs.{AtMost, LexLess, lex_cmp}
+use Rattle.std.proofs.lemmas.List.Sorted.{IsPermutation-append_comm, IsPermutation-append_right, IsPermutation-map, IsPermutation-remove, IsPermutation-trans, sorted_far, ranks_by}
+use Rattle.cost_vector.specs.Costs.{AtMost, Dominates, LexLess, lex_cmp}
 use Rattle.cost_vector.specs.declared.label.ArcNo.{ArcNo}
 use Rattle.cost_vector.proofs.Vectors.{AtMost-refl, cases_LexLess}
-use Rattle.list_laws.proofs.Members.{each_in, in_map}
+use Rattle.list_laws.specs.Without.{IsWithout}
+use Rattle.list_laws.proofs.Members.{all_from_in, each_in, in_map}
 use Rattle.list_laws.proofs.Pairs.{pairs_map}
 use Rattle.list_laws.proofs.SetLaws.{same_by_permutation}
 use Rattle.pareto_front.specs.declared.front.FrontEntry.{FrontEntry}
-use Rattle.pareto_front.specs.Fronts.{Entry, AreIncomparable, entries, HasCost, IsCovered, IsFront}
-use Rattle.pareto_front.specs.Calls.{told_entry, ListsSettled, Relabels, Settles}
+use Rattle.pareto_front.specs.Fronts.{Entry, AreIncomparable, entries, HasCost, IsCovered, IsFront, SparesSettled}
+use Rattle.pareto_front.specs.Calls.{told_entry, Enters, ListsSettled, Relabels, Settles}
 use Rattle.pareto_front.specs.Blocks.{CoversAt, CoversNone, told_front}
-use Rattle.pareto_front.proofs.FrontLaws.{incomparable_in_any_order, pairs_before, pairs_of_map, only_one, same_cost}
-use Rattle.pareto_front.proofs.FrontChanges.{settled_front, settles, settled_relabelled, settled_relabelled_front}
+use Rattle.pareto_front.proofs.FrontLaws.{front_in_any_order, incomparable_in_any_order, pairs_before, pairs_of_map, only_one, same_cost}
+use Rattle.pareto_front.proofs.FrontChanges.{enters, entered_front, settled_front, settles, settled_relabelled, settled_relabelled_front}
 use Rattle.pareto_front.proofs.FrontChanges.{unsettled_relabelled, unsettled_relabelled_front}
 
 -- the entry x that was read where one is at most the cost
@@ -62,18 +62,61 @@ module _ {D : ℕ} (settled unsettled : List (FrontEntry D)) (c : List ℕ) (fir
 -- the entry x is settled
 module _ {D : ℕ} (settled unsettled : List (FrontEntry D)) (front : IsFront D (told_front settled unsettled)) {c : List ℕ} {i : ℕ}
     (there : CoversAt unsettled c i) (x : FrontEntry D) (is : x ≡ get_or unsettled i x) where
-  out : IsPermutation (map told_entry unsettled) (told_entry x ∷ map told_entry (swap_remove unsettled i x))
-  out = IsPermutation-map told_entry unsettled (x ∷ swap_remove unsettled i x) (IsPermutation-swap_remove unsettled i x there.within is)
+  out : IsPermutation (map told_entry unsettled) (told_entry x ∷ map told_entry (remove unsettled i))
+  out = IsPermutation-map told_entry unsettled (x ∷ remove unsettled i) (IsPermutation-remove unsettled i x there.within is)
 
-  pub told_settled_front : IsFront D (told_front (settled ++ x ∷ []) (swap_remove unsettled i x))
+  pub told_settled_front : IsFront D (told_front (settled ++ x ∷ []) (remove unsettled i))
   told_settled_front = rw (map_push told_entry settled x)
-      (settled_front (map told_entry settled) (map told_entry unsettled) (map told_entry (swap_remove unsettled i x)) (told_entry x) front out)
+      (settled_front (map told_entry settled) (map told_entry unsettled) (map told_entry (remove unsettled i)) (told_entry x) front out)
 
   pub told_settles : HasCost (entries (told_front settled unsettled)) c
-      → Settles (told_front settled unsettled) c (told_front (settled ++ x ∷ []) (swap_remove unsettled i x))
+      → Settles (told_front settled unsettled) c (told_front (settled ++ x ∷ []) (remove unsettled i))
   told_settles has = rw (map_push told_entry settled x)
-      (settles (map told_entry settled) (map told_entry unsettled) (map told_entry (swap_remove unsettled i x)) (told_entry x) front out c
+      (settles (map told_entry settled) (map told_entry unsettled) (map told_entry (remove unsettled i)) (told_entry x) front out c
       (same_cost front c has (told_entry x) (told_unsettled there x is settled) (covers there x is)))
+
+-- none of the unsettled entries that are kept has the cost of the entry x, which is told so, where none is at most it
+pub told_new_cost : {D : ℕ} (settled unsettled kept : List (FrontEntry D)) (x : FrontEntry D) (new : Entry) → told_entry x ≡ new
+    → All (Contains (map told_entry unsettled)) (map told_entry kept) → ¬ IsCovered (entries (told_front settled unsettled)) new.cost
+    → All (λ (e : FrontEntry D). e.cost.0 ≢ x.cost.0) kept
+told_new_cost {D} settled unsettled kept x new told old fresh = all_from_in (λ (e : FrontEntry D). e.cost.0 ≢ x.cost.0) kept (λ e h same.
+    fresh (record {
+      by = told_entry e;
+      contains = Contains-append_right (map told_entry settled) (map told_entry unsettled) (told_entry e)
+          (each_in (Contains (map told_entry unsettled)) (map told_entry kept) old (told_entry e) (in_map told_entry kept e h));
+      at_most = subst (AtMost e.cost.0) (same ∙ ap (λ (z : Entry). z.cost) told) (AtMost-refl e.cost.0);
+    }))
+
+-- the entry x, which is told so, comes among the unsettled ones, of which kept are those that it doesn't dominate
+module _ {D : ℕ} (settled unsettled kept after : List (FrontEntry D)) (x : FrontEntry D) (new : Entry) (told : told_entry x ≡ new)
+    (front : IsFront D (told_front settled unsettled)) (out : IsWithout (λ e. Dominates new.cost e.cost) (map told_entry unsettled) (map told_entry kept))
+    (moved : IsPermutation (x ∷ kept) after) where
+  abbrev behind : List Entry
+  behind = map told_entry kept ++ new ∷ []
+
+  told_behind : IsPermutation behind (map told_entry after)
+  told_behind = IsPermutation-trans behind (new ∷ map told_entry kept) (map told_entry after)
+      (IsPermutation-append_comm (map told_entry kept) (new ∷ []))
+      (subst (λ e. IsPermutation (e ∷ map told_entry kept) (map told_entry after)) told (IsPermutation-map told_entry (x ∷ kept) after moved))
+
+  pub told_enters : Enters (told_front settled unsettled) new (told_front settled after)
+  told_enters =
+      let entered = enters (map told_entry settled) (map told_entry unsettled) (map told_entry kept) new front out in
+      record {
+        settled = entered.settled;
+        unsettled = λ e.
+            let same = same_by_permutation behind (map told_entry after) told_behind e in
+            let was = entered.unsettled e in
+            (λ h. was.0 (same.0 h), λ h. same.1 (was.1 h));
+      }
+
+  pub told_entered_front : AllPairs AreIncomparable (map told_entry kept) → length x.cost.0 ≡ D
+      → ¬ IsCovered (entries (told_front settled unsettled)) new.cost → SparesSettled (told_front settled unsettled) new.cost
+      → IsFront D (told_front settled after)
+  told_entered_front apart long fresh spares =
+      let as_long = ap (λ (e : Entry). length e.cost) (sym told) ∙ long in
+      let entered = entered_front (map told_entry settled) (map told_entry unsettled) (map told_entry kept) new front out apart as_long fresh spares in
+      front_in_any_order entered (told_front settled after) (IsPermutation-append_right (map told_entry settled) behind (map told_entry after) told_behind)
 
 -- the entry with this arc
 abbrev pub with_arc : {D : ℕ} → FrontEntry D → ArcNo → FrontEntry D

@@ -1,6 +1,6 @@
 -- How a front of three or four criteria lies in memory, with its settled entries in blocks.
-use Rattle.std.specs.Prelude.{ℕ, ◌+◌, ◌-◌, ◌*◌, ◌/◌, ◌<◌, ◌≤◌, List, length, map, slice_index_or, min, All}
-use Rattle.cost_vector.specs.Costs.{AtMost}
+use Rattle.std.specs.Prelude.{◌≡◌, ℕ, ◌+◌, ◌-◌, ◌*◌, ◌/◌, ◌<◌, ◌≤◌, List, length, map, slice_index_or, take, drop, min, All, AllPairs}
+use Rattle.cost_vector.specs.Costs.{AtMost, LexLess}
 use Rattle.compact_labels.specs.declared.cost.CompactCost.{CompactCost}
 use Rattle.pareto_front.specs.declared.front.FrontEntry.{FrontEntry}
 use Rattle.pareto_front.specs.Fronts.{Front, IsFront}
@@ -31,6 +31,27 @@ pub record CoversAt {D : ℕ} (entries : List (FrontEntry D)) (c : List ℕ) (i 
 abbrev pub CoversNone : {D : ℕ} → List (FrontEntry D) → List ℕ → Type 0
 CoversNone entries c = All (λ e. ¬ AtMost e.cost.0 c) entries
 
+-- the costs ascend strictly in lexicographic order
+abbrev pub AscendByCost : {D : ℕ} → List (FrontEntry D) → Type 0
+AscendByCost = AllPairs (λ a b. LexLess a.cost.0 b.cost.0)
+
+-- the entry at the place i has the cost
+pub record HasCostAt {D : ℕ} (entries : List (FrontEntry D)) (c : List ℕ) (i : ℕ) : Type 0 where
+  pub within : i < length entries
+  pub cost : (e : FrontEntry D) → (slice_index_or entries i e).cost.0 ≡ c
+
+-- the entries before the place i have lesser costs than c, and the others greater ones
+pub record IsGapOf {D : ℕ} (entries : List (FrontEntry D)) (c : List ℕ) (i : ℕ) : Type 0 where
+  pub within : i ≤ length entries
+  pub before : All (λ e. LexLess e.cost.0 c) (take i entries)
+  pub after : All (λ e. LexLess c e.cost.0) (drop i entries)
+
+-- the entries before the place i have lesser costs than c, and no other has
+pub record IsBeforeOf {D : ℕ} (entries : List (FrontEntry D)) (c : List ℕ) (i : ℕ) : Type 0 where
+  pub within : i ≤ length entries
+  pub before : All (λ e. LexLess e.cost.0 c) (take i entries)
+  pub after : All (λ e. ¬ LexLess e.cost.0 c) (drop i entries)
+
 -- each block of so many entries has a corner, a cost that is at most that of each entry of the block
 pub record HaveCorners {D : ℕ} (size : ℕ) (entries : List (FrontEntry D)) (corners : List (CompactCost D)) : Type 0 where
   pub enough : length entries ≤ length corners * size
@@ -38,13 +59,14 @@ pub record HaveCorners {D : ℕ} (size : ℕ) (entries : List (FrontEntry D)) (c
   pub at_most : (j : ℕ) (e : FrontEntry D) (c : CompactCost D) → j < length entries
       → AtMost (slice_index_or corners (j / size) c).0 (slice_index_or entries j e).cost.0
 
--- Both lists together are a front, and the settled entries have corners and wide corners. There is room to settle all
--- entries.
+-- Both lists together are a front, the settled entries have corners and wide corners, and the others ascend. There is room to
+-- settle all entries.
 pub record AreBlocks {D : ℕ} (settled : List (FrontEntry D)) (corners wide_corners : List (CompactCost D))
     (unsettled : List (FrontEntry D)) (room : ℕ) : Type 0 where
   pub front : IsFront D (told_front settled unsettled)
   pub cornered : HaveCorners block_size settled corners
   pub wide_cornered : HaveCorners wide_block_size settled wide_corners
+  pub ascend : AscendByCost unsettled
   pub fits : length settled + length unsettled ≤ room
 
 -- how many entries can be settled, by the room for them and for their corners

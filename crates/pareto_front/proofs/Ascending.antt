@@ -1,0 +1,221 @@
+-- Entries whose costs ascend: where a cost stands among them, and what keeps their order.
+use Rattle.std.proofs.Common.{◌≡◌, ◌≢◌, ◌↔◌, inl, inr, ℕ, ◌+◌, ◌<◌, ◌≤◌, List, ◌∷◌, ◌++◌, length, get_or, set, map, take, drop, insert, remove, Option, Some, None, Result, Ok, Err, Ordering, Less, Equal, Greater, refl, sym, ap, subst, ◌∙◌, arith, length-take, length-drop, take-append-drop}
+use Rattle.std.specs.Prelude.{All, AllPairs, Contains, IfErr, IfOk, IfSome}
+use Rattle.std.specs.Cmp.Lexicographic.{nat_list_cmp_total}
+use Rattle.std.specs.List.Sorted.{IsBinarySearchResult, IsNonDecreasingBy, IsPartitionPoint, IsSearchInRange}
+use Rattle.std.specs.Ordering.{ordering_index, ordering_reverse}
+use Rattle.std.proofs.lemmas.Bool.{cases_eq, cases_lt}
+use Rattle.std.proofs.lemmas.List.{get_or-drop, get_or-set_other, get_or-set_same, get_or-take, length-set, map-append}
+use Rattle.std.proofs.lemmas.List.Edits.{get_or-remove_above, get_or-remove_below, length-remove}
+use Rattle.std.proofs.lemmas.List.Elements.{All-weaker, Contains-append_cases, Contains-append_right}
+use Rattle.cost_vector.specs.Costs.{AtMost, Dominates, LexLess, lex_cmp}
+use Rattle.cost_vector.proofs.Vectors.{AtMost-refl, LexLess-irrefl, LexLess-trans, LexLess_from_AtMost, LexLess_from_Dominates, cases_LexLess, cases_same, same_from_lex_cmp}
+use Rattle.list_laws.proofs.Members.{all_from_in, cases_in, each_in, of_map}
+use Rattle.list_laws.proofs.Pairs.{pairs_cons}
+use Rattle.list_laws.proofs.OnceLaws.{pairs_append}
+use Rattle.pareto_front.specs.declared.front.FrontEntry.{FrontEntry}
+use Rattle.pareto_front.specs.Calls.{told_entry}
+use Rattle.pareto_front.specs.Fronts.{AreIncomparable, Entry, HasCost}
+use Rattle.pareto_front.specs.Blocks.{AscendByCost, CoversAt, CoversNone, HasCostAt, IsBeforeOf, IsGapOf}
+use Rattle.pareto_front.proofs.FrontLaws.{pairs_before, pairs_behind}
+
+-- how a cost stands to another, a lesser one does too, or is less than that
+pub rises_to : (a b c : List ℕ) → LexLess a b → ordering_index (lex_cmp a c) ≤ ordering_index (lex_cmp b c)
+rises_to a b c less = by (lex_cmp b c) refl where
+  low : (o : Ordering) → o ≡ Less → (n : ℕ) → ordering_index o ≤ n
+  low o is n = omega (arith, ap ordering_index is)
+
+  high : (o : Ordering) → ordering_index o ≤ 2
+  high Less = omega arith
+  high Equal = omega arith
+  high Greater = omega arith
+
+  by : (o : Ordering) → lex_cmp b c ≡ o → ordering_index (lex_cmp a c) ≤ ordering_index (lex_cmp b c)
+  by Less is = low (lex_cmp a c) (LexLess-trans a b c less is) (ordering_index (lex_cmp b c))
+  by Equal is = low (lex_cmp a c) (subst (LexLess a) (same_from_lex_cmp b c is) less) (ordering_index (lex_cmp b c))
+  by Greater is = let top = high (lex_cmp a c) in omega (arith, top, ap ordering_index is)
+
+-- a cost that isn't at most another, which is less
+not_most : (a c : List ℕ) → LexLess c a → ¬ AtMost a c
+not_most a c less most = elim (cases_same a c) [
+  | inl same ↦ LexLess-irrefl a (subst (λ z. LexLess z a) (sym same) less)
+  | inr differs ↦ LexLess-irrefl a (LexLess-trans a c a (LexLess_from_AtMost a c most differs) less)
+]
+
+module _ {D : ℕ} (list : List (FrontEntry D)) (c : List ℕ) where
+  -- what a search for a cost finds
+  pub place_there : (r : Result ℕ ℕ) → IsSearchInRange r (length list) → IsBinarySearchResult (λ (e : FrontEntry D). lex_cmp e.cost.0 c) list r
+      → IfOk r (HasCostAt list c)
+  place_there (Ok i) within at = record { within = within; cost = λ e. same_from_lex_cmp (get_or list i e).cost.0 c (at e) }
+  place_there (Err i) within at = tt
+
+  -- an entry of the cost is at most it
+  pub covers_there : (i : ℕ) → HasCostAt list c i → CoversAt list c i
+  covers_there i there = record { within = there.within; at_most = λ e. subst (λ a. AtMost a c) (sym (there.cost e)) (AtMost-refl c) }
+
+  -- an entry of the first ones is one of all
+  covers_in_all : (i j : ℕ) → CoversAt (take i list) c j → CoversAt list c j
+  covers_in_all i j there = record {
+    within = omega (arith, there.within, length-take i list);
+    at_most = λ e.
+        let below : j < i = omega (arith, there.within, length-take i list) in
+        subst (λ (x : FrontEntry D). AtMost x.cost.0 c) (get_or-take i list j e below) (there.at_most e);
+  }
+
+  pub covers_found : (i : ℕ) (r : Option ℕ) → IfSome r (CoversAt (take i list) c) → IfSome r (CoversAt list c)
+  covers_found i (Some j) there = covers_in_all i j there
+  covers_found i None there = tt
+
+  -- those behind a gap aren't at most the cost
+  pub covers_none : (i : ℕ) → IsGapOf list c i → CoversNone (take i list) c → CoversNone list c
+  covers_none i gap none = all_from_in (λ (x : FrontEntry D). ¬ AtMost x.cost.0 c) list (λ x h.
+      elim (Contains-append_cases (take i list) (drop i list) x (subst (λ l. Contains l x) (sym (take-append-drop i list)) h)) [
+        | inl front ↦ each_in (λ (y : FrontEntry D). ¬ AtMost y.cost.0 c) (take i list) none x front
+        | inr back ↦ not_most x.cost.0 c (each_in (λ (y : FrontEntry D). LexLess c y.cost.0) (drop i list) gap.after x back)
+      ])
+
+  -- before a gap all costs are less, and behind it none is
+  pub before_gap : (i : ℕ) → IsGapOf list c i → IsBeforeOf list c i
+  before_gap i gap = record {
+    within = gap.within;
+    before = gap.before;
+    after = All-weaker (λ (e : FrontEntry D). LexLess c e.cost.0) (λ (e : FrontEntry D). ¬ LexLess e.cost.0 c)
+        (λ e less back. LexLess-irrefl c (LexLess-trans c e.cost.0 c less back)) (drop i list) gap.after;
+  }
+
+  module _ (up : AscendByCost list) where
+    rises : IsNonDecreasingBy (λ (e : FrontEntry D). ordering_index (lex_cmp e.cost.0 c)) list
+    rises a b e upto inside = elim (cases_lt a b) [
+      | inl less ↦ rises_to (get_or list a e).cost.0 (get_or list b e).cost.0 c (up a b e less inside)
+      | inr not_less ↦
+          let one : a ≡ b = omega (arith, upto, not_less) in
+          subst (λ n. ordering_index (lex_cmp (get_or list a e).cost.0 c) ≤ ordering_index (lex_cmp (get_or list n e).cost.0 c)) one (omega arith)
+    ]
+
+    pub place_missing : (r : Result ℕ ℕ) → IsSearchInRange r (length list)
+        → IsBinarySearchResult (λ (e : FrontEntry D). lex_cmp e.cost.0 c) list r → IfErr r (IsGapOf list c)
+    place_missing (Ok i) within at = tt
+    place_missing (Err i) within at =
+        let parts : IsPartitionPoint (λ (e : FrontEntry D). lex_cmp e.cost.0 c ≡ Less) (λ (e : FrontEntry D). lex_cmp e.cost.0 c ≡ Greater) list i =
+        at rises in
+        record {
+          within = within;
+          before = λ k d inside.
+              let below : k < i = omega (arith, length-take i list, inside) in
+              subst (λ (e : FrontEntry D). LexLess e.cost.0 c) (sym (get_or-take i list k d below)) (parts.0 k d (omega (arith, within, below)) below);
+          after = λ k d inside.
+              let behind : i + k < length list = omega (arith, length-drop i list, inside) in
+              subst (λ (e : FrontEntry D). LexLess c e.cost.0) (sym (get_or-drop i list k d))
+              (nat_list_cmp_total.antisymm c (get_or list (i + k) d).cost.0 ∙ ap ordering_reverse (parts.1 (i + k) d (omega arith) behind));
+        }
+
+    -- before the entry of a cost all costs are less, and behind it none is
+    pub before_there : (i : ℕ) → HasCostAt list c i → IsBeforeOf list c i
+    before_there i there = record {
+      within = omega (arith, there.within);
+      before = λ k d inside.
+          let below : k < i = omega (arith, length-take i list, inside) in
+          subst (λ (e : FrontEntry D). LexLess e.cost.0 c) (sym (get_or-take i list k d below))
+          (subst (LexLess (get_or list k d).cost.0) (there.cost d) (up k i d below there.within));
+      after = λ k d inside less.
+          let behind : i + k < length list = omega (arith, length-drop i list, inside) in
+          let back = subst (λ (e : FrontEntry D). LexLess e.cost.0 c) (get_or-drop i list k d) less in
+          elim (cases_lt i (i + k)) [
+            | inl later ↦
+                let ahead = subst (λ a. LexLess a (get_or list (i + k) d).cost.0) (there.cost d) (up i (i + k) d later behind) in
+                LexLess-irrefl c (LexLess-trans c (get_or list (i + k) d).cost.0 c ahead back)
+            | inr here ↦
+                let same : i + k ≡ i = omega (arith, here) in
+                LexLess-irrefl c (subst (λ a. LexLess a c) (ap (λ j. (get_or list j d).cost.0) same ∙ there.cost d) back)
+          ];
+    }
+
+    -- one entry more, where its cost stands
+    pub ascend_in : (i : ℕ) → IsBeforeOf list c i → All (λ (e : FrontEntry D). e.cost.0 ≢ c) list → (x : FrontEntry D) → x.cost.0 ≡ c
+        → AscendByCost (insert list i x)
+    ascend_in i at new x is =
+        let Before = λ (a b : FrontEntry D). LexLess a.cost.0 b.cost.0 in
+        let split = subst (AllPairs Before) (sym (take-append-drop i list)) up in
+        pairs_append Before (take i list) (x ∷ drop i list) (pairs_before Before (take i list) (drop i list) split)
+        (pairs_cons Before x (drop i list) (λ y h. later y h) (pairs_behind Before (take i list) (drop i list) split))
+        (λ a b h k. elim (cases_in x (drop i list) b k) [
+          | inl same ↦ subst (λ (z : FrontEntry D). LexLess a.cost.0 z.cost.0) (sym same) (earlier a h)
+          | inr behind ↦ LexLess-trans a.cost.0 x.cost.0 b.cost.0 (earlier a h) (later b behind)
+        ])
+      where
+        earlier : (a : FrontEntry D) → Contains (take i list) a → LexLess a.cost.0 x.cost.0
+        earlier a h = subst (LexLess a.cost.0) (sym is) (each_in (λ (e : FrontEntry D). LexLess e.cost.0 c) (take i list) at.before a h)
+
+        in_all : (b : FrontEntry D) → Contains (drop i list) b → Contains list b
+        in_all b h = subst (λ l. Contains l b) (take-append-drop i list) (Contains-append_right (take i list) (drop i list) b h)
+
+        later : (b : FrontEntry D) → Contains (drop i list) b → LexLess x.cost.0 b.cost.0
+        later b h = elim (cases_LexLess b.cost.0 c) [
+          | inl less ↦ absurd (each_in (λ (e : FrontEntry D). ¬ LexLess e.cost.0 c) (drop i list) at.after b h less)
+          | inr (inl same) ↦ absurd (each_in (λ (e : FrontEntry D). e.cost.0 ≢ c) list new b (in_all b h) same)
+          | inr (inr more) ↦ subst (λ z. LexLess z b.cost.0) (sym is) more
+        ]
+
+module _ {D : ℕ} (list : List (FrontEntry D)) (up : AscendByCost list) (i : ℕ) (within : i < length list) where
+  -- one entry less
+  pub ascend_out : AscendByCost (remove list i)
+  ascend_out a b d before inside = elim (cases_lt a i) [
+    | inl a_less ↦ elim (cases_lt b i) [
+      | inl b_less ↦ less (below a a_less) (below b b_less) (up a b d before (omega (arith, b_less, within)))
+      | inr b_more ↦ less (below a a_less) (above b b_more) (up a (b + 1) d (omega (arith, before)) (omega (arith, inside, shorter)))
+    ]
+    | inr a_more ↦ less (above a a_more) (above b (omega (arith, a_more, before)))
+        (up (a + 1) (b + 1) d (omega (arith, before)) (omega (arith, inside, shorter)))
+  ] where
+    shorter : length (remove list i) + 1 ≡ length list
+    shorter = length-remove list i within
+
+    below : (k : ℕ) → k < i → get_or (remove list i) k d ≡ get_or list k d
+    below k k_less = get_or-remove_below list i d k k_less within
+
+    above : (k : ℕ) → i ≤ k → get_or (remove list i) k d ≡ get_or list (k + 1) d
+    above k k_more = get_or-remove_above list i d k k_more within
+
+    less : {x y v w : FrontEntry D} → x ≡ v → y ≡ w → LexLess v.cost.0 w.cost.0 → LexLess x.cost.0 y.cost.0
+    less x_is y_is h = rw (x_is, y_is) h
+
+  -- an entry of the same cost
+  pub ascend_set : (x : FrontEntry D) → ((d : FrontEntry D) → (get_or list i d).cost.0 ≡ x.cost.0) → AscendByCost (set list i x)
+  ascend_set x same a b d before inside =
+      rw (cost_at a, cost_at b) (up a b d before (omega (arith, inside, length-set list i x)))
+    where
+      cost_at : (k : ℕ) → (get_or (set list i x) k d).cost.0 ≡ (get_or list k d).cost.0
+      cost_at k = elim (cases_eq k i) [
+        | inl here ↦
+            ap (λ j. (get_or (set list i x) j d).cost.0) here ∙ ap (λ (e : FrontEntry D). e.cost.0) (get_or-set_same list i x d within)
+            ∙ sym (same d) ∙ ap (λ j. (get_or list j d).cost.0) (sym here)
+        | inr other ↦ ap (λ (e : FrontEntry D). e.cost.0) (get_or-set_other list i k x d other)
+      ]
+
+-- entries that a cost dominates stand behind its place
+module _ {D : ℕ} (list : List (FrontEntry D)) (i : ℕ) where
+  told_parts : map told_entry (take i list) ++ map told_entry (drop i list) ≡ map told_entry list
+  told_parts = sym (map-append told_entry (take i list) (drop i list)) ∙ ap (map told_entry) (take-append-drop i list)
+
+  pub apart_behind : AllPairs AreIncomparable (map told_entry list) → AllPairs AreIncomparable (map told_entry (drop i list))
+  apart_behind pairs =
+      pairs_behind AreIncomparable (map told_entry (take i list)) (map told_entry (drop i list)) (subst (AllPairs AreIncomparable) (sym told_parts) pairs)
+
+  pub dominated_behind : (by : List ℕ) → IsBeforeOf list by i → (c : List ℕ)
+      → (HasCost (map told_entry (drop i list)) c × Dominates by c) ↔ (HasCost (map told_entry list) c × Dominates by c)
+  dominated_behind by at c = (
+    λ h.
+        let e : Entry = record { cost = c; arc = h.0.arc } in
+        let there = Contains-append_right (map told_entry (take i list)) (map told_entry (drop i list)) e h.0.contains in
+        (record { arc = h.0.arc; contains = subst (λ l. Contains l e) told_parts there }, h.1),
+    λ h.
+        let e : Entry = record { cost = c; arc = h.0.arc } in
+        elim (Contains-append_cases (map told_entry (take i list)) (map told_entry (drop i list)) e (subst (λ l. Contains l e) (sym told_parts) h.0.contains)) [
+          | inl front ↦
+              let (y, y_in, is) = of_map told_entry (take i list) e front in
+              let less = each_in (λ (x : FrontEntry D). LexLess x.cost.0 by) (take i list) at.before y y_in in
+              let more = subst (LexLess by) (ap (λ (x : Entry). x.cost) is) (LexLess_from_Dominates by c h.1) in
+              absurd (LexLess-irrefl by (LexLess-trans by y.cost.0 by more less))
+          | inr back ↦ (record { arc = h.0.arc; contains = back }, h.1)
+        ],
+  )

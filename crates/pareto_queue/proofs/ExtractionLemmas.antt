@@ -1,6 +1,6 @@
 -- The spots of a queue, extracted one after another in ascending order.
-use Rattle.std.proofs.Common.{◌≡◌, ℕ, ◌+◌, ◌<◌, List, [], ◌∷◌, ◌++◌, take, drop, get_or, length, ◌⊎◌, inl, inr, sym, ap, subst, ◌∙◌, arith, length-take-le, take-append-drop}
-use Rattle.std.specs.Prelude.{Contains}
+use Rattle.std.proofs.Common.{◌≡◌, ℕ, ◌+◌, ◌<◌, List, [], ◌∷◌, ◌++◌, append_assoc, take, drop, get_or, length, ◌⊎◌, inl, inr, sym, ap, subst, ◌∙◌, arith, length-take-le, take-append-drop}
+use Rattle.std.specs.Prelude.{AllPairs, Contains}
 use Rattle.std.proofs.lemmas.Bool.{cases_lt}
 use Rattle.std.proofs.lemmas.List.{get_or-take, get_or_default, take_more}
 use Rattle.std.proofs.lemmas.List.Elements.{Contains-append_left, Contains-get_or, Contains-push}
@@ -9,10 +9,14 @@ use Rattle.compact_labels.specs.declared.label.CompactSpot.{CompactSpot}
 use Rattle.cost_vector.specs.Costs.{Dominates, LexLess}
 use Rattle.cost_vector.proofs.Vectors.{LexLess-irrefl, LexLess-trans, LexLess_from_Dominates, Dominates-irrefl}
 use Rattle.list_laws.proofs.Members.{in_none, each_in, cases_push}
+use Rattle.list_laws.proofs.OnceLaws.{in_append}
 use Rattle.list_laws.proofs.Pairs.{pairs_none, pairs_push}
-use Rattle.pareto_queue.specs.Queues.{IsDominatedBy, IsQueue, IsUndominated, SpotLess, TakesUndominated}
-use Rattle.pareto_queue.specs.Shadows.{Descends, FallsTo, IsExtracted, IsLater, Joins, Sifts}
+use Rattle.pareto_queue.specs.Queues.{IsDominatedBy, IsUndominated, SpotLess, TakesUndominated}
+use Rattle.pareto_queue.specs.Shadows.{AreNext, Descends, FallsTo, HasParted, IsExtracted, IsLater, IsTaken, Joins, Sifts, StaysBehind}
 use Rattle.pareto_queue.proofs.OrderLemmas.{before_place}
+use Rattle.pareto_queue.proofs.ListLemmas.{in_take}
+use Rattle.pareto_queue.proofs.PassingLemmas.{one_more}
+use Rattle.pareto_queue.proofs.QueueLemmas.{cases_IsDominatedBy}
 use Rattle.pareto_queue.proofs.ShadowLemmas.{shadow_skip, shadow_cast}
 
 module _ {D : ℕ} where
@@ -118,15 +122,11 @@ module _ {D : ℕ} (spots seen : List (CompactSpot D)) (shadow : List (CompactCo
     rest = sifts_out (λ x. ¬ Free x) spots seen rest s next is.rest (λ not_free. not_free (free none));
   }
 
--- a spot of a queue, by its place
-pub is_next : {D : ℕ} (spots : List (CompactSpot D)) (i : ℕ) (d : CompactSpot D) → IsQueue spots → i < length spots
+-- a spot of an ascending list, by its place
+is_next : {D : ℕ} (spots : List (CompactSpot D)) (i : ℕ) (d : CompactSpot D) → AllPairs SpotLess spots → i < length spots
     → IsNext spots (take i spots) (get_or spots i d)
-is_next {D} spots i d q within = record {
-  old = λ x h.
-      let whole : Contains (take i spots ++ drop i spots) x = Contains-append_left (take i spots) (drop i spots) x h in (
-        subst (λ ys. Contains ys x) (take-append-drop i spots) whole,
-        each_in (λ y. SpotLess y (get_or spots i d)) (take i spots) (before_place SpotLess spots i d q.ascending within) x h,
-      );
+is_next {D} spots i d up within = record {
+  old = λ x h. (in_take spots i x h, each_in (λ y. SpotLess y (get_or spots i d)) (take i spots) (before_place SpotLess spots i d up within) x h);
   new = λ x h. by_place x h.0 h.1 h.2;
   here = Contains-get_or spots i d within;
 }
@@ -139,7 +139,7 @@ is_next {D} spots i d q within = record {
           inl (k, inside_too, get_or-take i spots k x below ∙ is)
       | inr above ↦ elim (cases_lt i k) [
         | inl after ↦
-            let behind = q.ascending i k d after inside in
+            let behind = up i k d after inside in
             let same : get_or spots k d ≡ x = get_or_default spots k d x inside ∙ is in
             inr (inr (subst (SpotLess (get_or spots i d)) same behind))
         | inr here ↦
@@ -148,37 +148,77 @@ is_next {D} spots i d q within = record {
       ]
     ]
 
-module _ {D : ℕ} (spots : List (CompactSpot D)) (i : ℕ) (shadow : List (CompactCost D)) (taken rest : List (CompactSpot D)) (s : CompactSpot D)
-    (q : IsQueue spots) (within : i < length spots) (at : s ≡ get_or spots i s) (is : IsExtracted spots (take i spots) shadow taken rest) where
-  next : IsNext spots (take i spots) s
-  next = subst (IsNext spots (take i spots)) (sym at) (is_next spots i s q within)
+-- one of the spots that come next, by its place
+pub next_of : {D : ℕ} (all seen spots : List (CompactSpot D)) (i : ℕ) (s : CompactSpot D) → AreNext all seen spots → i < length spots → s ≡ get_or spots i s
+    → IsNext all (seen ++ take i spots) s
+next_of {D} all seen spots i s next within at = record {
+  old = λ x h. elim ((in_append seen (take i spots) x).0 h) [
+    | inl before ↦ (next.seen_in x before, next.behind x s before here)
+    | inr met ↦ let less = is.old x met in (next.in_all x less.0, less.1)
+  ];
+  new = λ x h. elim (next.others x h) [
+    | inl before ↦ inl ((in_append seen (take i spots) x).1 (inl before))
+    | inr (inl there) ↦ elim (is.new x there) [
+      | inl met ↦ inl ((in_append seen (take i spots) x).1 (inr met))
+      | inr later ↦ inr later
+    ]
+    | inr (inr after) ↦ inr (inr (after s here))
+  ];
+  here = next.in_all s here;
+}
+  where
+    is : IsNext spots (take i spots) s
+    is = subst (IsNext spots (take i spots)) (sym at) (is_next spots i s next.ascending within)
 
-  one_more : take i spots ++ s ∷ [] ≡ take (i + 1) spots
-  one_more = ap (λ z. take i spots ++ z ∷ []) at ∙ sym (take_more spots i s within)
+    here : Contains spots s
+    here = is.here
 
-  -- the next spot is left
-  pub left : (more : List (CompactSpot D)) → IsDominatedBy shadow s.cost.0 → more ≡ rest ++ s ∷ [] → IsExtracted spots (take (i + 1) spots) shadow taken more
-  left more by push =
-      subst (λ seen. IsExtracted spots seen shadow taken more) one_more
-      (subst (IsExtracted spots (take i spots ++ s ∷ []) shadow taken) (sym push)
-      (extracted_skip spots (take i spots) shadow taken rest s next is by))
+-- s is parted, which is next
+pub parts_one : {D : ℕ} (all seen : List (CompactSpot D)) (costs : List (CompactCost D)) (took left : List (CompactSpot D)) (s : CompactSpot D)
+    (costs_after : List (CompactCost D)) (took_after left_after : List (CompactSpot D)) → IsNext all seen s → IsExtracted all seen costs took left
+    → (IsDominatedBy costs s.cost.0 → StaysBehind s costs took left costs_after took_after left_after)
+    → (¬ IsDominatedBy costs s.cost.0 → IsTaken s costs took left costs_after took_after left_after) → Descends costs_after
+    → IsExtracted all (seen ++ s ∷ []) costs_after took_after left_after
+parts_one all seen costs took left s costs_after took_after left_after next is stays taken descends = elim (cases_IsDominatedBy costs s.cost.0) [
+  | inl by ↦
+      let now = stays by in
+      rw (now.costs_same, now.took_same, now.left_more) (extracted_skip all seen costs took left s next is by)
+  | inr none ↦
+      let now = taken none in
+      rw (now.took_more, now.left_same) (extracted_cast all seen costs took left s next is none costs_after now.joins descends)
+]
 
-  -- the next spot is taken
-  pub took : (after : List (CompactCost D)) (more : List (CompactSpot D)) → ¬ IsDominatedBy shadow s.cost.0 → Joins shadow s.cost after → Descends after
-      → more ≡ taken ++ s ∷ [] → IsExtracted spots (take (i + 1) spots) after more rest
-  took after more none joins descends push =
-      subst (λ seen. IsExtracted spots seen after more rest) one_more
-      (subst (λ (ys : List (CompactSpot D)). IsExtracted spots (take i spots ++ s ∷ []) after ys rest) (sym push)
-      (extracted_cast spots (take i spots) shadow taken rest s next is none after joins descends))
+-- the first i spots are parted, if all of them come next
+abbrev pub PartsFront : {D : ℕ} → List (CompactSpot D) → ℕ → List (CompactCost D) → List (CompactSpot D) → List (CompactSpot D)
+    → List (CompactCost D) → List (CompactSpot D) → List (CompactSpot D) → Type 0
+PartsFront {D} spots i costs took left costs_now took_now left_now = (all seen : List (CompactSpot D)) → AreNext all seen spots
+    → IsExtracted all seen costs took left → IsExtracted all (seen ++ take i spots) costs_now took_now left_now
 
--- all spots are seen
-pub takes_all : {D : ℕ} (spots : List (CompactSpot D)) (shadow : List (CompactCost D)) (taken rest : List (CompactSpot D))
-    → IsExtracted spots spots shadow taken rest → TakesUndominated spots taken rest
-takes_all spots shadow taken rest is = record {
-  taken = is.taken.members;
+-- one spot more is parted
+pub one_more_parted : {D : ℕ} (spots : List (CompactSpot D)) (i : ℕ) (s : CompactSpot D) → i < length spots → s ≡ get_or spots i s
+    → (costs : List (CompactCost D)) (took left : List (CompactSpot D)) (costs_now : List (CompactCost D)) (took_now left_now : List (CompactSpot D))
+    → PartsFront spots i costs took left costs_now took_now left_now
+    → (costs_after : List (CompactCost D)) (took_after left_after : List (CompactSpot D))
+    → (IsDominatedBy costs_now s.cost.0 → StaysBehind s costs_now took_now left_now costs_after took_after left_after)
+    → (¬ IsDominatedBy costs_now s.cost.0 → IsTaken s costs_now took_now left_now costs_after took_after left_after) → Descends costs_after
+    → PartsFront spots (i + 1) costs took left costs_after took_after left_after
+one_more_parted spots i s within at costs took left costs_now took_now left_now parts costs_after took_after left_after stays taken descends =
+    λ all seen next is. subst (λ met. IsExtracted all met costs_after took_after left_after)
+        (append_assoc seen (take i spots) (s ∷ []) ∙ ap (λ ys. seen ++ ys) (one_more spots i s within at))
+        (parts_one all (seen ++ take i spots) costs_now took_now left_now s costs_after took_after left_after (next_of all seen spots i s next within at)
+        (parts all seen next is) stays taken descends)
+
+-- all are parted
+pub takes_all : {D : ℕ} (all : List (CompactSpot D)) (costs : List (CompactCost D)) (took left : List (CompactSpot D)) → HasParted all costs took left
+    → TakesUndominated all took left
+takes_all all costs took left (seen, same, is) = record {
+  taken = λ x. (
+    λ h. let was = (is.taken.members x).0 h in ((same x).1 was.0, was.1),
+    λ h. (is.taken.members x).1 ((same x).0 h.0, h.1),
+  );
   ascending = is.taken.ascending;
   rest = λ x. (
-    λ h. let was = (is.rest.members x).0 h in (was.0, λ k. was.1 ((is.taken.members x).0 k).1),
-    λ h. (is.rest.members x).1 (h.0, λ free. h.1 ((is.taken.members x).1 (h.0, free))),
+    λ h. let was = (is.rest.members x).0 h in ((same x).1 was.0, λ k. was.1 ((is.taken.members x).0 k).1),
+    λ h. (is.rest.members x).1 ((same x).0 h.0, λ free. h.1 ((is.taken.members x).1 ((same x).0 h.0, free))),
   );
 }

@@ -1,7 +1,9 @@
 pub mod ExtractionLemmas
 pub mod ListLemmas
 pub mod OrderLemmas
+pub mod PartingLemmas
 pub mod PassingLemmas
 pub mod QueueLemmas
 pub mod RetainedLemmas
 pub mod ShadowLemmas
+pub mod WithoutLemmas

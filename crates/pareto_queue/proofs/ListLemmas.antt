@@ -1,9 +1,9 @@
 -- Lists of which each element stands in a relation to each later one, cut or with one element more.
-use Rattle.std.proofs.Common.{ℕ, zero, suc, List, [], ◌∷◌, take, drop, inl, inr, sym, subst}
-use Rattle.std.specs.Prelude.{AllPairs}
+use Rattle.std.proofs.Common.{ℕ, zero, suc, List, [], ◌∷◌, take, drop, take-append-drop, ◌⊎◌, ◌↔◌, inl, inr, sym, subst}
+use Rattle.std.specs.Prelude.{AllPairs, Contains}
 use Rattle.std.specs.List.{insert}
 use Rattle.list_laws.proofs.Members.{cases_in, each_in}
-use Rattle.list_laws.proofs.OnceLaws.{pairs_append}
+use Rattle.list_laws.proofs.OnceLaws.{in_append, pairs_append}
 use Rattle.list_laws.proofs.Pairs.{pairs_none, pairs_cons, pairs_rest, pairs_take}
 use Rattle.pareto_queue.specs.Queues.{SplitsAt}
 
@@ -24,3 +24,13 @@ pairs_insert R trans xs y i pairs fits =
       | inl same ↦ subst (R x) (sym same) first
       | inr later ↦ trans x y z first (each_in (R y) (drop i xs) fits.after z later)
     ])
+
+-- what stands in the front or the back of a list stands in it, and nothing else does
+pub in_parts : {X : Type 0} (xs : List X) (i : ℕ) (x : X) → Contains xs x ↔ (Contains (take i xs) x ⊎ Contains (drop i xs) x)
+in_parts xs i x = (
+  λ h. (in_append (take i xs) (drop i xs) x).0 (subst (λ ys. Contains ys x) (sym (take-append-drop i xs)) h),
+  λ h. subst (λ ys. Contains ys x) (take-append-drop i xs) ((in_append (take i xs) (drop i xs) x).1 h),
+)
+
+pub in_take : {X : Type 0} (xs : List X) (i : ℕ) (x : X) → Contains (take i xs) x → Contains xs x
+in_take xs i x h = (in_parts xs i x).1 (inl h)

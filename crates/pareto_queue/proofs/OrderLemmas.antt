@@ -1,5 +1,5 @@
 -- The order of spots.
-use Rattle.std.proofs.Common.{◌≡◌, ◌≢◌, ℕ, ◌+◌, ◌<◌, ◌≤◌, Bool, false, nat_eq, ◌&&◌, Decides, List, take, drop, get_or, length, length-take, length-drop, take-append-drop, Result, Ok, Err, Some, ◌⊎◌, inl, inr, refl, sym, ap, ap₂, subst, ◌∙◌, arith, Less, Equal, Greater}
+use Rattle.std.proofs.Common.{◌≡◌, ◌≢◌, ℕ, ◌+◌, ◌<◌, ◌≤◌, Bool, true, false, nat_eq, ◌&&◌, Decides, List, take, drop, get_or, length, length-take, length-drop, take-append-drop, Result, Ok, Err, Some, ◌⊎◌, inl, inr, refl, sym, ap, ap₂, subst, ◌∙◌, arith, Less, Equal, Greater}
 use Rattle.std.specs.declared.cmp.Ordering.{Ordering}
 use Rattle.std.specs.Ordering.{nat_cmp, ordering_then, ordering_reverse, is_lt}
 use Rattle.std.specs.Cmp.{IsTotalOrder, nat_cmp_total}
@@ -85,7 +85,6 @@ module _ {D : ℕ} where
       let made : List ℕ → ℕ → CompactSpot D = λ v n. record { cost = record { 0 = v }; node = record { 0 = n } } in
       ap₂ made cost node
 
-  -- spots that tie are one
   -- spots that tie are one
   pub same_from_cmp : (a b : CompactSpot D) → spot_cmp a b ≡ Equal → a ≡ b
   same_from_cmp a b h = by (lex_cmp a.cost.0 b.cost.0) refl h
@@ -196,6 +195,15 @@ module _ {D : ℕ} where
         λ yes. let parts = both.0 (sym is ∙ yes) in spot_by_parts a b parts.0 parts.1,
         λ same. is ∙ both.1 (ap (λ (z : CompactSpot D). z.cost.0) same, ap (λ (z : CompactSpot D). z.node.0) same),
       )
+
+  -- what a test of two spots' order says
+  pub less_by_test : (a b : CompactSpot D) (test : Bool) → test ≡ is_lt (spot_cmp a b) → Decides test (SpotLess a b)
+  less_by_test a b test is = (λ yes. by (spot_cmp a b) refl (sym is ∙ yes), λ less. is ∙ ap is_lt (cmp_from_SpotLess a b less))
+    where
+      by : (o : Ordering) → spot_cmp a b ≡ o → is_lt (spot_cmp a b) ≡ true → SpotLess a b
+      by Less e h = SpotLess_from_cmp a b e
+      by Equal e h = absurd (false≢true (sym (ap is_lt e) ∙ h))
+      by Greater e h = absurd (false≢true (sym (ap is_lt e) ∙ h))
 
   -- spots are one or not
   pub cases_spot : (a b : CompactSpot D) → (a ≡ b) ⊎ (a ≢ b)

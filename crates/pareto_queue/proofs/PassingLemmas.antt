@@ -1,19 +1,100 @@
 -- Two ascending lists, gone through side by side.
-use Rattle.std.proofs.Common.{◌≡◌, ◌≢◌, ℕ, zero, suc, ◌+◌, ◌-◌, ◌<◌, List, [], ◌∷◌, ◌++◌, take, drop, get_or, length, ◌⊎◌, ◌↔◌, inl, inr, sym, subst, ◌∙◌, arith, ap, Some, length-drop, length-take, length-take-le, take-append-drop}
+use Rattle.std.proofs.Common.{◌≡◌, ◌≢◌, ℕ, zero, suc, ◌+◌, ◌-◌, ◌<◌, ◌≤◌, List, [], ◌∷◌, ◌++◌, take, drop, get_or, length, ◌⊎◌, ◌↔◌, inl, inr, refl, sym, subst, ◌∙◌, arith, ap, Some, length-drop, length-take, length-take-le, take-append-drop}
 use Rattle.std.specs.Prelude.{All, AllPairs, Contains, slice_get}
 use Rattle.std.proofs.Math.Nat.{add-zero}
 use Rattle.std.proofs.lemmas.List.{drop_more, get_or-drop, get_or-take, take_all, take_more, take-take}
-use Rattle.std.proofs.lemmas.Option.{get_or_from_slice_get}
+use Rattle.std.proofs.lemmas.Option.{get_or_from_slice_get, slice_get_within}
 use Rattle.std.proofs.lemmas.List.Elements.{Contains-append_left, Contains-get_or, Contains-push}
 use Rattle.compact_labels.specs.declared.label.CompactSpot.{CompactSpot}
 use Rattle.list_laws.specs.Sets.{Loses}
-use Rattle.list_laws.proofs.Members.{in_none, in_first, in_rest, cases_in, cases_push, each_in}
+use Rattle.list_laws.proofs.Members.{in_none, in_first, in_rest, all_from_in, cases_in, cases_push, each_in}
 use Rattle.list_laws.proofs.OnceLaws.{in_append, pairs_append}
-use Rattle.list_laws.proofs.Pairs.{pairs_none, pairs_push, pairs_take, pair_with_first}
-use Rattle.pareto_queue.specs.Passing.{IsSplit, NoneBefore, PassesOn}
+use Rattle.list_laws.proofs.Pairs.{pairs_none, pairs_rest, pairs_push, pairs_take, pair_with_first}
+use Rattle.pareto_queue.specs.Passing.{BeginsWith, IsSplit, LeavesOut, NoneBefore, PassesOn}
 use Rattle.pareto_queue.specs.Queues.{AreSorted, SpotLess}
 use Rattle.pareto_queue.proofs.ListLemmas.{pairs_drop}
 use Rattle.pareto_queue.proofs.OrderLemmas.{SpotLess-irrefl, SpotLess-trans, after_unless, before_place, less_unless}
+
+module _ {D : ℕ} where
+  -- what begins a list stands in it, and what stands in it and comes before all begins it
+  pub in_begun : (xs : List (CompactSpot D)) (s : CompactSpot D) → BeginsWith xs s → Contains xs s
+  in_begun xs s at = (0, slice_get_within xs 0 s at, get_or_from_slice_get xs 0 s s at)
+
+  pub begun_if_there : (xs : List (CompactSpot D)) (s : CompactSpot D) → AllPairs SpotLess xs → NoneBefore s xs → Contains xs s → BeginsWith xs s
+  begun_if_there [] s up none h = absurd (in_none s h)
+  begun_if_there (x ∷ xs) s up none h = elim (cases_in x xs s h) [
+    | inl same ↦ ap (λ w. Some w) (sym same)
+    | inr later ↦ absurd (each_in (λ w. ¬ SpotLess w s) (x ∷ xs) none x (in_first x xs) (pair_with_first SpotLess x xs up s later))
+  ]
+
+  -- ---- the first spot is left out, if it is s
+
+  -- it is s
+  pub leaves_first : (first s : CompactSpot D) (xs : List (CompactSpot D)) → slice_get xs 0 ≡ Some first → first ≡ s
+      → LeavesOut xs s (take (length xs - 1) (drop 1 xs))
+  leaves_first first s [] at same = absurd (cc)
+  leaves_first first s (y ∷ ys) at same =
+      let e : y ≡ s = get_or_from_slice_get (y ∷ ys) 0 first s at ∙ same in
+      let all : take (length (y ∷ ys) - 1) ys ≡ ys = take_all (length (y ∷ ys) - 1) ys (omega arith) in
+      inl (ap (λ z. z ∷ ys) e ∙ ap (λ zs. s ∷ zs) (sym all))
+
+  -- it is another
+  pub leaves_none : (first s : CompactSpot D) (xs : List (CompactSpot D)) → slice_get xs 0 ≡ Some first → first ≢ s → LeavesOut xs s xs
+  leaves_none first s xs at other = inr (refl, λ begun. other (sym (get_or_from_slice_get xs 0 first s at) ∙ get_or_from_slice_get xs 0 s s begun))
+
+  module _ (xs : List (CompactSpot D)) (s : CompactSpot D) (ys : List (CompactSpot D)) (leaves : LeavesOut xs s ys) where
+    -- the others stand in the same order
+    pub pairs_left : (R : CompactSpot D → CompactSpot D → Type 0) → AllPairs R xs → AllPairs R ys
+    pairs_left R pairs = elim leaves [
+      | inl first ↦ pairs_rest R s ys (subst (AllPairs R) first pairs)
+      | inr none ↦ subst (AllPairs R) (sym none.0) pairs
+    ]
+
+    -- they were there
+    pub was_there : (x : CompactSpot D) → Contains ys x → Contains xs x
+    was_there x h = elim leaves [
+      | inl first ↦ subst (λ zs. Contains zs x) (sym first) (in_rest s ys x h)
+      | inr none ↦ subst (λ zs. Contains zs x) none.0 h
+    ]
+
+    -- what was there is still, but for s
+    pub still_there : (x : CompactSpot D) → Contains xs x → (x ≡ s) ⊎ Contains ys x
+    still_there x h = elim leaves [
+      | inl first ↦ cases_in s ys x (subst (λ zs. Contains zs x) first h)
+      | inr none ↦ inr (subst (λ zs. Contains zs x) (sym none.0) h)
+    ]
+
+    -- s isn't, if the list ascends and begins with nothing less
+    pub loses_first : AllPairs SpotLess xs → NoneBefore s xs → Loses xs s ys
+    loses_first up none_before x = (
+      λ h. (was_there x h, λ same. s_left (subst (Contains ys) same h)),
+      λ h. elim (still_there x h.0) [ inl same ↦ absurd (h.1 same) | inr there ↦ there ],
+    )
+      where
+        s_left : ¬ Contains ys s
+        s_left h = elim leaves [
+          | inl first ↦ SpotLess-irrefl s (pair_with_first SpotLess s ys (subst (AllPairs SpotLess) first up) s h)
+          | inr none ↦ none.1 (begun_if_there xs s up none_before (was_there s h))
+        ]
+
+    -- there are no more of them, and fewer if the list begins with s
+    pub no_longer : length ys ≤ length xs
+    no_longer = elim leaves [
+      | inl first ↦ let e : length xs ≡ suc (length ys) = ap length first in omega arith
+      | inr none ↦ let e : length ys ≡ length xs = ap length none.0 in omega arith
+    ]
+
+    pub there_if_shorter : length ys < length xs → Contains xs s
+    there_if_shorter fewer = elim leaves [
+      | inl first ↦ subst (λ zs. Contains zs s) (sym first) (in_first s ys)
+      | inr none ↦ let e : length ys ≡ length xs = ap length none.0 in absurd (omega arith)
+    ]
+
+    pub shorter : BeginsWith xs s → length ys < length xs
+    shorter at = elim leaves [
+      | inl first ↦ let e : length xs ≡ suc (length ys) = ap length first in omega arith
+      | inr none ↦ absurd (none.1 at)
+    ]
 
 -- where the first spots split before their end, all do
 pub split_by_near : {D : ℕ} (xs : List (CompactSpot D)) (s : CompactSpot D) (n i : ℕ) → AllPairs SpotLess xs → IsSplit (take n xs) s i → i < length (take n xs)
@@ -184,11 +265,11 @@ module _ {D : ℕ} where
         none h = elim ((is.has s).0 ((same s).0 (inr h))) [ inl old ↦ new old | inr one ↦ not_met one ]
 
     -- s is left out
-    pub subtracted_more : ((t : CompactSpot D) → Contains todo t → ¬ SpotLess t s) → (others : List (CompactSpot D)) → AllPairs SpotLess others
-        → Loses rest s others → IsUnderWay (λ x. Contains spots x × (¬ Contains met x)) passed left (s ∷ todo)
+    pub subtracted_more : ((t : CompactSpot D) → Contains todo t → ¬ SpotLess t s) → (others : List (CompactSpot D)) → LeavesOut rest s others
+        → IsUnderWay (λ x. Contains spots x × (¬ Contains met x)) passed left (s ∷ todo)
         → IsUnderWay (λ x. Contains spots x × (¬ Contains (met ++ s ∷ []) x)) after others todo
-    subtracted_more later others up loses is = record {
-      passes = passes_less after rest others todo up (λ x h. ((loses x).0 h).0) (passes_on passed left todo s after rest is.passes later on);
+    subtracted_more later others leaves is = record {
+      passes = passes_less after rest others todo (pairs_left rest s others leaves SpotLess now.left_ascends) (λ x h. ((loses x).0 h).0) now;
       has = λ x. (
         λ h. elim h [
           | inl there ↦ unmet x ((is.has x).0 ((same x).0 (inl there))) (λ e. SpotLess-irrefl s (subst (λ z. SpotLess z s) e (before x there)))
@@ -204,6 +285,13 @@ module _ {D : ℕ} where
         same : (x : CompactSpot D) → (Contains after x ⊎ Contains rest x) ↔ (Contains passed x ⊎ Contains left x)
         same = passed_same passed left todo s after rest is.passes later on
 
+        now : Passes after rest todo
+        now = passes_on passed left todo s after rest is.passes later on
+
+        loses : Loses rest s others
+        loses = loses_first rest s others leaves now.left_ascends
+            (all_from_in (λ y. ¬ SpotLess y s) rest (rest_not_before passed left todo s after rest is.passes later on))
+
         before : (x : CompactSpot D) → Contains after x → SpotLess x s
         before = passed_before passed left todo s after rest is.passes later on
 
@@ -215,8 +303,17 @@ module _ {D : ℕ} (more : List (CompactSpot D)) (i : ℕ) (s : CompactSpot D) (
   met_here : drop i more ≡ s ∷ drop (i + 1) more
   met_here = subst (λ z. drop i more ≡ z ∷ drop (i + 1) more) (sym at) (drop_more more i s within)
 
-  one_more : take i more ++ s ∷ [] ≡ take (i + 1) more
+  -- one more was met
+  pub one_more : take i more ++ s ∷ [] ≡ take (i + 1) more
   one_more = subst (λ z. take i more ++ z ∷ [] ≡ take (i + 1) more) (sym at) (sym (take_more more i s within))
+
+  -- what holds of all that were met, and of s
+  pub all_more : (P : CompactSpot D → Type 0) → All P (take i more) → P s → All P (take (i + 1) more)
+  all_more P all holds = all_from_in P (take (i + 1) more) (λ x h.
+      elim (cases_push (take i more) s x (subst (λ ys. Contains ys x) (sym one_more) h)) [
+        | inl old ↦ each_in P (take i more) all x old
+        | inr last ↦ subst P (sym last) holds
+      ])
 
   to_come : (R : CompactSpot D → CompactSpot D → Type 0) → AllPairs R more → (t : CompactSpot D) → Contains (drop (i + 1) more) t → R s t
   to_come R pairs = pair_with_first R s (drop (i + 1) more) (subst (AllPairs R) met_here (pairs_drop R i more pairs))
@@ -236,12 +333,12 @@ module _ {D : ℕ} (more : List (CompactSpot D)) (i : ℕ) (s : CompactSpot D) (
         (subst (IsUnderWay (λ x. Contains spots x ⊎ Contains (take i more) x) passed left) met_here is)))
 
     -- the next spot is left out
-    pub subtracted_step : AreSorted more → (others : List (CompactSpot D)) → AllPairs SpotLess others → Loses rest s others
+    pub subtracted_step : AreSorted more → (others : List (CompactSpot D)) → LeavesOut rest s others
         → IsUnderWay (λ x. Contains spots x × (¬ Contains (take i more) x)) passed left (drop i more)
         → IsUnderWay (λ x. Contains spots x × (¬ Contains (take (i + 1) more) x)) after others (drop (i + 1) more)
-    subtracted_step sorted others up loses is =
+    subtracted_step sorted others leaves is =
         subst (λ ys. IsUnderWay (λ x. Contains spots x × (¬ Contains ys x)) after others (drop (i + 1) more)) one_more
-        (subtracted_more spots (take i more) (drop (i + 1) more) s passed left after rest on (to_come (λ a b. ¬ SpotLess b a) sorted) others up loses
+        (subtracted_more spots (take i more) (drop (i + 1) more) s passed left after rest on (to_come (λ a b. ¬ SpotLess b a) sorted) others leaves
         (subst (IsUnderWay (λ x. Contains spots x × (¬ Contains (take i more) x)) passed left) met_here is))
 
 module _ {D : ℕ} (Has : CompactSpot D → Type 0) (passed left todo final : List (CompactSpot D)) (is : IsUnderWay Has passed left todo)
@@ -275,28 +372,3 @@ module _ {D : ℕ} (spots more : List (CompactSpot D)) (up : AllPairs SpotLess s
       λ h. inr h.0,
     );
   }
-
-module _ {D : ℕ} (s first : CompactSpot D) where
-  -- the first spot is s, and is left out
-  pub loses_first : (xs : List (CompactSpot D)) → AllPairs SpotLess xs → slice_get xs 0 ≡ Some first → first ≡ s → Loses xs s (take (length xs - 1) (drop 1 xs))
-  loses_first [] up at same = absurd (cc)
-  loses_first (y ∷ ys) up at same =
-      let e : y ≡ s = get_or_from_slice_get (y ∷ ys) 0 first s at ∙ same in
-      subst (Loses (y ∷ ys) s) (sym (take_all (length (y ∷ ys) - 1) ys (omega arith))) (λ x. (
-        λ h. (in_rest y ys x h, λ is. SpotLess-irrefl s (subst (λ z. SpotLess z s) e (pair_with_first SpotLess y ys up s (subst (Contains ys) is h)))),
-        λ h. elim (cases_in y ys x h.0) [ inl here ↦ absurd (h.1 (here ∙ e)) | inr there ↦ there ],
-      ))
-
-  -- the first spot is another, so that s isn't there
-  pub loses_no_first : (xs : List (CompactSpot D)) → AllPairs SpotLess xs → NoneBefore s xs → slice_get xs 0 ≡ Some first → first ≢ s → Loses xs s xs
-  loses_no_first [] up none at other = absurd (cc)
-  loses_no_first (y ∷ ys) up none at other = λ x. (
-    λ h. (
-      h,
-      λ is. elim (cases_in y ys s (subst (Contains (y ∷ ys)) is h)) [
-        | inl same ↦ other (sym (get_or_from_slice_get (y ∷ ys) 0 first s at) ∙ sym same)
-        | inr there ↦ each_in (λ z. ¬ SpotLess z s) (y ∷ ys) none y (in_first y ys) (pair_with_first SpotLess y ys up s there)
-      ],
-    ),
-    λ h. h.0,
-  )

@@ -1,5 +1,5 @@
 -- What becomes of a queue.
-use Rattle.std.proofs.Common.{◌≡◌, ◌≢◌, ℕ, Bool, false, IsTrue, List, [], ◌∷◌, get_or, Some, ◌⊎◌, ◌↔◌, inl, inr, sym, subst}
+use Rattle.std.proofs.Common.{◌≡◌, ◌≢◌, ℕ, Bool, false, IsTrue, List, [], ◌∷◌, get_or, Some, ◌⊎◌, ◌↔◌, inl, inr, sym, subst, arith}
 use Rattle.std.specs.Prelude.{All, AllPairs, Contains, IsPermutation, slice_get}
 use Rattle.std.proofs.lemmas.Bool.{false≢true}
 use Rattle.std.specs.List.{insert, remove}
@@ -10,14 +10,14 @@ use Rattle.compact_labels.specs.declared.cost.CompactCost.{CompactCost}
 use Rattle.compact_labels.specs.declared.label.CompactSpot.{CompactSpot}
 use Rattle.cost_vector.specs.Costs.{Dominates}
 use Rattle.cost_vector.proofs.Vectors.{cases_Dominates}
-use Rattle.list_laws.specs.Sets.{Loses}
+use Rattle.list_laws.specs.Sets.{Loses, SameMembers}
 use Rattle.list_laws.proofs.Ascending.{ascending_distinct}
 use Rattle.list_laws.proofs.Members.{in_none, in_first, in_rest, in_one, all_from_in, cases_in, each_in}
 use Rattle.list_laws.proofs.OnceLaws.{once_in_any_order}
 use Rattle.list_laws.proofs.Pairs.{pair_with_first}
 use Rattle.list_laws.proofs.SetLaws.{gains_by_permutation, same_by_permutation}
-use Rattle.pareto_queue.specs.Queues.{AreSorted, Gains, IsDominatedBy, IsGap, IsQueue, LosesWhere, SpotLess}
-use Rattle.pareto_queue.proofs.OrderLemmas.{SpotLess-irrefl, SpotLess-trans, after_unless, none_in_gap}
+use Rattle.pareto_queue.specs.Queues.{AreSorted, Gains, IsDominatedBy, IsGap, IsQueue, LosesWhere, SpotLess, TakesUndominated}
+use Rattle.pareto_queue.proofs.OrderLemmas.{SpotLess-irrefl, SpotLess-trans, after_unless}
 use Rattle.pareto_queue.proofs.ListLemmas.{pairs_insert}
 use Rattle.pareto_queue.proofs.RetainedLemmas.{pairs_by_retain}
 
@@ -101,9 +101,27 @@ module _ {D : ℕ} where
     ]
   ]
 
-  -- a spot that has a gap isn't lost
-  pub loses_none : (xs : List (CompactSpot D)) (s : CompactSpot D) (i : ℕ) → IsGap xs s i → Loses xs s xs
-  loses_none xs s i gap x = (λ h. (h, λ same. none_in_gap xs s i gap (subst (Contains xs) same h)), λ h. h.0)
+  -- a spot that isn't there isn't lost
+  pub loses_none : (xs : List (CompactSpot D)) (s : CompactSpot D) → ¬ Contains xs s → Loses xs s xs
+  loses_none xs s none x = (λ h. (h, λ same. none (subst (Contains xs) same h)), λ h. h.0)
 
-  pub none_there : (xs : List (CompactSpot D)) (s : CompactSpot D) (i : ℕ) → IsGap xs s i → IsTrue false ↔ Contains xs s
-  none_there xs s i gap = (λ yes. absurd (false≢true yes), λ h. absurd (none_in_gap xs s i gap h))
+  pub none_there : (xs : List (CompactSpot D)) (s : CompactSpot D) → ¬ Contains xs s → IsTrue false ↔ Contains xs s
+  none_there xs s none = (λ yes. absurd (false≢true yes), λ h. absurd (none h))
+
+  -- another list that ascends
+  pub queue_alike : (xs ys : List (CompactSpot D)) → IsQueue xs → AllPairs SpotLess ys → IsQueue ys
+  queue_alike xs ys q up = record { two = q.two; four = q.four; ascending = up }
+
+  -- the members of the queue count
+  pub takes_alike : (xs ys took rest zs : List (CompactSpot D)) → SameMembers xs ys → SameMembers zs rest → TakesUndominated xs took rest
+      → TakesUndominated ys took zs
+  takes_alike xs ys took rest zs same left takes = record {
+    taken = λ x. both (takes.taken x) (same x) (λ none y there. none y ((same y).1 there)) (λ none y there. none y ((same y).0 there));
+    ascending = takes.ascending;
+    rest = λ x. others (takes.rest x) (same x) (left x);
+  } where
+    both : {T A B U V : Type 0} → (T ↔ (A × U)) → (A ↔ B) → (U → V) → (V → U) → (T ↔ (B × V))
+    both t a u v = grind arith
+
+    others : {R A B N Z : Type 0} → (R ↔ (A × N)) → (A ↔ B) → (Z ↔ R) → (Z ↔ (B × N))
+    others r a z = grind arith

@@ -1,5 +1,5 @@
 -- How one ascending list is gone through along another.
-use Rattle.std.specs.Prelude.{◌≡◌, ℕ, List, ◌++◌, take, drop, All}
+use Rattle.std.specs.Prelude.{◌≡◌, ℕ, ◌⊎◌, List, ◌∷◌, ◌++◌, take, drop, Some, slice_get, All}
 use Rattle.compact_labels.specs.declared.label.CompactSpot.{CompactSpot}
 use Rattle.pareto_queue.specs.Queues.{SplitsAt, SpotLess}
 
@@ -18,3 +18,17 @@ module _ {D : ℕ} where
   -- no spot of the list comes before s
   abbrev pub NoneBefore : CompactSpot D → List (CompactSpot D) → Type 0
   NoneBefore s = All (λ x. ¬ SpotLess x s)
+
+  -- the list begins with s
+  abbrev pub BeginsWith : List (CompactSpot D) → CompactSpot D → Type 0
+  BeginsWith spots s = slice_get spots 0 ≡ Some s
+
+  -- the list without its first spot, if that is s
+  abbrev pub LeavesOut : List (CompactSpot D) → CompactSpot D → List (CompactSpot D) → Type 0
+  LeavesOut spots s rest = (spots ≡ s ∷ rest) ⊎ ((rest ≡ spots) × (¬ BeginsWith spots s))
+
+  -- one of two lists begins with s, and no spot of them comes before it
+  pub record IsEarliest (spots others : List (CompactSpot D)) (s : CompactSpot D) : Type 0 where
+    pub first : BeginsWith spots s ⊎ BeginsWith others s
+    pub none_before : NoneBefore s spots
+    pub none_other : NoneBefore s others

@@ -1,6 +1,8 @@
 -- What a queue of spots holds, and what is taken from it. A queue is a list of spots without repeats that stands for a set.
 -- Source: P. Sanders and L. Mandow, "Parallel label-setting multi-objective shortest path search", IPDPS 2013.
-use Rattle.std.specs.Prelude.{◌≡◌, ℕ, ◌<◌, ◌≤◌, ◌⊎◌, ◌↔◌, List, length, take, drop, All, AllPairs, Contains}
+use Rattle.std.specs.Prelude.{◌≡◌, ℕ, ◌<◌, ◌≤◌, ◌⊎◌, ◌↔◌, Bool, ◌&&◌, not, nat_eq, List, length, take, drop, filter, All, AllPairs, Contains}
+use Rattle.std.specs.List.{list_any}
+use Rattle.std.specs.Cmp.Lexicographic.{pointwise}
 use Rattle.cost_vector.specs.Costs.{Dominates, LexLess, max_criteria, min_criteria}
 use Rattle.compact_labels.specs.declared.cost.CompactCost.{CompactCost}
 use Rattle.compact_labels.specs.declared.label.CompactSpot.{CompactSpot}
@@ -23,6 +25,14 @@ module _ {D : ℕ} where
   -- no spot comes before one that stands before it in the list
   abbrev pub AreSorted : List (CompactSpot D) → Type 0
   AreSorted = AllPairs (λ a b. ¬ SpotLess b a)
+
+  -- whether a list has the spot
+  unfoldable pub has_spot : List (CompactSpot D) → CompactSpot D → Bool
+  has_spot spots s = list_any (λ x. pointwise nat_eq x.cost.0 s.cost.0 && nat_eq x.node.0 s.node.0) spots
+
+  -- the spots of a list, in their order, but for those that are gone
+  unfoldable pub without : List (CompactSpot D) → List (CompactSpot D) → List (CompactSpot D)
+  without spots gone = filter (λ s. not (has_spot gone s)) spots
 
   -- the spots of a queue ascend, and their costs have two to four components
   pub record IsQueue (spots : List (CompactSpot D)) : Type 0 where

@@ -1,8 +1,9 @@
 -- The shadow of an ascending list of spots: few of their costs, which tell of each later cost whether one of all dominates it.
-use Rattle.std.specs.Prelude.{◌≡◌, ℕ, ◌<◌, ◌≤◌, ◌↔◌, ◌⊎◌, List, [], ◌∷◌, slice_index_or, AllPairs, Contains}
+use Rattle.std.specs.Prelude.{◌≡◌, ℕ, ◌<◌, ◌≤◌, ◌↔◌, ◌⊎◌, List, [], ◌∷◌, ◌++◌, slice_index_or, AllPairs, Contains}
 use Rattle.cost_vector.specs.Costs.{AtMost, Dominates, LexLess}
 use Rattle.compact_labels.specs.declared.cost.CompactCost.{CompactCost}
 use Rattle.compact_labels.specs.declared.label.CompactSpot.{CompactSpot}
+use Rattle.list_laws.specs.Sets.{SameMembers}
 use Rattle.pareto_queue.specs.Queues.{IsDominatedBy, IsUndominated, SplitsAt, SpotLess}
 
 -- the cost with zero as its first component
@@ -52,3 +53,35 @@ module _ {D : ℕ} where
     pub descends : Descends costs
     pub taken : Sifts (λ x. IsUndominated spots x.cost.0) seen took
     pub rest : Sifts (λ x. ¬ IsUndominated spots x.cost.0) seen left
+
+  -- the spots come next: they ascend, behind those that were seen and before all others
+  pub record AreNext (all seen spots : List (CompactSpot D)) : Type 0 where
+    pub ascending : AllPairs SpotLess spots
+    pub seen_in : (x : CompactSpot D) → Contains seen x → Contains all x
+    pub behind : (x y : CompactSpot D) → Contains seen x → Contains spots y → SpotLess x y
+    pub in_all : (y : CompactSpot D) → Contains spots y → Contains all y
+    pub others : (x : CompactSpot D) → Contains all x → Contains seen x ⊎ (Contains spots x ⊎ ((y : CompactSpot D) → Contains spots y → SpotLess y x))
+
+  -- where the spots come next, they are parted too
+  abbrev pub PartsNext : List (CompactSpot D) → List (CompactCost D) → List (CompactSpot D) → List (CompactSpot D)
+      → List (CompactCost D) → List (CompactSpot D) → List (CompactSpot D) → Type 0
+  PartsNext spots costs took left more_costs more_took more_left = (all seen : List (CompactSpot D)) → AreNext all seen spots
+      → IsExtracted all seen costs took left → IsExtracted all (seen ++ spots) more_costs more_took more_left
+
+  -- all are parted: the list that was seen has the same members
+  abbrev pub HasParted : List (CompactSpot D) → List (CompactCost D) → List (CompactSpot D) → List (CompactSpot D) → Type 0
+  HasParted all costs took left = (seen : List (CompactSpot D)) × SameMembers all seen × IsExtracted all seen costs took left
+
+  -- the spot comes to the end of what is left
+  pub record StaysBehind (s : CompactSpot D) (costs : List (CompactCost D)) (took left : List (CompactSpot D))
+      (costs_after : List (CompactCost D)) (took_after left_after : List (CompactSpot D)) : Type 0 where
+    pub costs_same : costs_after ≡ costs
+    pub took_same : took_after ≡ took
+    pub left_more : left_after ≡ left ++ s ∷ []
+
+  -- the spot comes to the end of what is taken, and its cost joins the shadow
+  pub record IsTaken (s : CompactSpot D) (costs : List (CompactCost D)) (took left : List (CompactSpot D))
+      (costs_after : List (CompactCost D)) (took_after left_after : List (CompactSpot D)) : Type 0 where
+    pub joins : Joins costs s.cost costs_after
+    pub took_more : took_after ≡ took ++ s ∷ []
+    pub left_same : left_after ≡ left

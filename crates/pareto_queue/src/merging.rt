@@ -1,11 +1,11 @@
-ghost use Rattle.std.specs.Prelude.{◌≡◌, AllPairs, All, Contains, IfOk};
-ghost use Rattle.list_laws.specs.Sets.{Loses};
-ghost use Rattle.pareto_queue.specs.Passing.{NoneBefore, PassesOn};
-ghost use Rattle.pareto_queue.specs.Queues.{AreSorted, Gains, LosesWhere, SpotLess};
+ghost use Rattle.std.specs.Prelude.{◌≡◌, ◌↔◌, [], AllPairs, All, Contains, IfOk, IsTrue, OnOk};
+ghost use Rattle.pareto_queue.specs.Passing.{LeavesOut, PassesOn};
+ghost use Rattle.pareto_queue.specs.Queues.{AreSorted, Gains, LosesWhere, SpotLess, without};
 
-use crate::order::count_before;
+use crate::order::{count_before, list_sorted};
 use compact_labels::CompactSpot;
 use cost_vector::OutOfMemory;
+use std::mem;
 
 /// Adds those of the spots that come before this one to a list, and leaves the others.
 fn pass_on<'a, const D: usize>(
@@ -22,15 +22,12 @@ fn pass_on<'a, const D: usize>(
     Ok(rest)
 }
 
-/// The spots without this one, which can only be the first.
-fn leave_out<'a, const D: usize>(
+/// The spots without the first, if that is this one.
+pub(crate) fn leave_out<'a, const D: usize>(
     spots: &'a [CompactSpot<D>],
     spot: &CompactSpot<D>,
 ) -> &'a [CompactSpot<D>]
-    requires ascending { AllPairs SpotLess spots.now }
-    requires none_before { NoneBefore spot.now spots.now }
-    ensures ascending { AllPairs SpotLess result.now }
-    ensures without { Loses spots.now spot.now result.now }
+    ensures { LeavesOut spots.now spot.now result.now }
 {
     match spots.first() {
         Some(first) if first == spot => &spots[1..],
@@ -78,5 +75,47 @@ pub(crate) fn subtract<const D: usize>(
         left = leave_out(others, spot);
     }
     rest.extend_from_slice(left)?;
+    Ok(())
+}
+
+/// Whether the list has the spot.
+pub(crate) fn is_among<const D: usize>(spots: &[CompactSpot<D>], spot: &CompactSpot<D>) -> bool
+    ensures { IsTrue result ↔ Contains spots.now spot.now }
+{
+    spots.contains(spot)
+}
+
+/// Whether each of the spots is gone.
+pub(crate) fn are_gone<const D: usize>(spots: &[CompactSpot<D>], gone: &[CompactSpot<D>]) -> bool
+    ensures { IsTrue result ↔ All (Contains gone.now) spots.now }
+{
+    for spot in spots {
+        if !is_among(gone, spot) {
+            return false;
+        }
+    }
+    true
+}
+
+/// Takes those that are gone out of a list.
+pub(crate) fn strike<const D: usize>(
+    spots: &mut Vec<CompactSpot<D>>,
+    gone: &mut Vec<CompactSpot<D>>,
+    order: &mut Vec<CompactSpot<D>>,
+    rest: &mut Vec<CompactSpot<D>>,
+) -> Result<(), OutOfMemory>
+    requires { AllPairs SpotLess spots.old.items }
+    ensures ascending { AllPairs SpotLess spots.new.items }
+    ensures same { without spots.new.items gone.new.items
+        ≡ without spots.old.items gone.old.items }
+    ensures none_gone { OnOk result (gone.new.items ≡ []) }
+{
+    if gone.as_slice().is_empty() {
+        return Ok(());
+    }
+    list_sorted(gone, order)?;
+    subtract(spots, order, rest)?;
+    mem::swap(spots, rest);
+    gone.clear();
     Ok(())
 }

@@ -1,11 +1,11 @@
-ghost use Rattle.std.specs.Prelude.{◌≡◌, ◌≢◌, ◌+◌, ◌^◌, ◌<◌, ◌≤◌, ◌↔◌, ◌⊎◌, [], ◌∷◌, length, IsTrue, IfOk, OnOk, OnErr, All, AllPairs, Contains};
+ghost use Rattle.std.specs.Prelude.{◌≡◌, ◌≢◌, ◌+◌, ◌^◌, ◌<◌, ◌≤◌, ◌↔◌, ◌⊎◌, [], ◌∷◌, ◌++◌, IsTrue, IfOk, OnOk, OnErr, All, AllPairs, Contains};
 ghost use Rattle.cost_vector.specs.Costs.{AtMost, Within, max_criteria, min_criteria};
 ghost use Rattle.list_laws.specs.Sets.{Loses};
 ghost use Rattle.pareto_queue.specs.Queues.{Gains, IsDominatedBy, LosesWhere, TakesUndominated};
 
 use crate::Steps;
-use crate::extraction::part_undominated;
-use crate::merging::{merge, subtract};
+use crate::extraction::part_renewed;
+use crate::merging::{are_gone, is_among, merge, strike};
 use crate::order::{gap_of, list_sorted, place_of};
 use crate::shadow::is_dominated;
 use compact_labels::{CompactCost, CompactSpot};
@@ -17,27 +17,31 @@ use std::sync::ledger::Ledger;
 
 /// The spots that wait, each once.
 ///
-/// They stand in one ascending list, and each call that takes or gives many goes through it once. So put and remove many
-/// at once where you can.
+/// They stand in one ascending list, and a call that puts in or takes goes through it once. What is removed is noted, and left
+/// out by the next such call. So put and remove many at once where you can.
 #[derive(Drop)]
 pub struct Queue<const D: usize> {
     alloc: Global,
     spots: Vec<CompactSpot<D>>,
+    /// Those that have left, in any order, but still stand among the spots.
+    gone: Vec<CompactSpot<D>>,
     /// Room for what a call makes of the spots.
     rest: Vec<CompactSpot<D>>,
     /// Room for the spots that a call gives, in order.
     order: Vec<CompactSpot<D>>,
+    /// Room for those that are gone, in order.
+    lost: Vec<CompactSpot<D>>,
     shadow: Vec<CompactCost<D>>,
 }
 
 impl<const D: usize> Model for Queue<D> {
     ghost use Rattle.std.specs.Prelude.{List};
     ghost use Rattle.compact_labels.specs.declared.label.CompactSpot.{CompactSpot};
-    ghost use Rattle.pareto_queue.specs.Queues.{IsQueue};
+    ghost use Rattle.pareto_queue.specs.Queues.{IsQueue, without};
 
     ghost Value = { List (CompactSpot D) };
 
-    ghost view = { λ q. q.spots.items };
+    ghost view = { λ q. without q.spots.items q.gone.items };
 
     ghost invariant = { λ q. IsQueue q.spots.items };
 }
@@ -52,8 +56,10 @@ impl<const D: usize> Queue<D> {
         Queue {
             alloc,
             spots: Vec::new(alloc),
+            gone: Vec::new(alloc),
             rest: Vec::new(alloc),
             order: Vec::new(alloc),
+            lost: Vec::new(alloc),
             shadow: Vec::new(alloc),
         }
     }
@@ -61,14 +67,7 @@ impl<const D: usize> Queue<D> {
     pub fn is_empty(&self) -> bool
         ensures { IsTrue result ↔ (self.now ≡ []) }
     {
-        self.spots.is_empty()
-    }
-
-    /// How many spots wait.
-    pub fn len(&self) -> usize
-        ensures { result ≡ length self.now }
-    {
-        self.spots.len()
+        are_gone(&self.spots, &self.gone)
     }
 
     /// Puts in a spot that isn't there.
@@ -77,6 +76,12 @@ impl<const D: usize> Queue<D> {
         ensures put { OnOk result (Gains self.old (spot.entry ∷ []) self.new) }
         ensures same { OnErr result (self.new ≡ self.old) }
     {
+        strike(
+            &mut self.spots,
+            &mut self.gone,
+            &mut self.order,
+            &mut self.rest,
+        )?;
         let at = gap_of(&self.spots, &spot);
         self.spots.insert(at, spot)?;
         Ok(())
@@ -89,6 +94,12 @@ impl<const D: usize> Queue<D> {
         ensures put { OnOk result (Gains self.old spots.now self.new) }
         ensures same { OnErr result (self.new ≡ self.old) }
     {
+        strike(
+            &mut self.spots,
+            &mut self.gone,
+            &mut self.order,
+            &mut self.rest,
+        )?;
         list_sorted(spots, &mut self.order)?;
         merge(&self.spots, &self.order, &mut self.rest)?;
         mem::swap(&mut self.spots, &mut self.rest);
@@ -100,6 +111,9 @@ impl<const D: usize> Queue<D> {
         ensures answer { IsTrue result ↔ Contains self.old spot.now }
         ensures removed { Loses self.old spot.now self.new }
     {
+        if is_among(&self.gone, spot) {
+            return false;
+        }
         match place_of(&self.spots, spot) {
             Ok(at) => {
                 self.spots.remove(at);
@@ -114,9 +128,7 @@ impl<const D: usize> Queue<D> {
         ensures removed { OnOk result (LosesWhere (Contains spots.now) self.old self.new) }
         ensures same { OnErr result (self.new ≡ self.old) }
     {
-        list_sorted(spots, &mut self.order)?;
-        subtract(&self.spots, &self.order, &mut self.rest)?;
-        mem::swap(&mut self.spots, &mut self.rest);
+        self.gone.extend_from_slice(spots)?;
         Ok(())
     }
 
@@ -142,20 +154,33 @@ impl<const D: usize> Queue<D> {
         );
     }
 
-    /// Takes out the spots whose cost no cost in the queue dominates, all at once, and lists them in ascending order. What
-    /// `taken` held before is gone.
+    /// Lets these spots in, each of which is given once, and takes out the spots whose cost no cost in the queue dominates, all
+    /// at once, and lists them in ascending order. What `taken` held before is gone.
     pub fn take_undominated<L: Ledger>(
         &mut self,
+        fresh: &[CompactSpot<D>],
         taken: &mut Vec<CompactSpot<D>>,
         steps: &mut Steps<L>,
     ) -> Result<(), OutOfMemory>
-        ensures taken { IfOk result (λ _. TakesUndominated self.old taken.new.items self.new) }
+        requires { AllPairs ◌≢◌ fresh.now }
+        ensures taken { IfOk result (λ _.
+            TakesUndominated (self.old ++ fresh.now) taken.new.items self.new) }
         ensures same { OnErr result (self.new ≡ self.old) }
         ensures step { steps.new ≡ steps.old + 1 }
     {
         steps.tick();
-        part_undominated(&self.spots, &mut self.shadow, taken, &mut self.rest)?;
+        list_sorted(&self.gone, &mut self.lost)?;
+        list_sorted(fresh, &mut self.order)?;
+        part_renewed(
+            &self.spots,
+            &self.lost,
+            &self.order,
+            &mut self.shadow,
+            taken,
+            &mut self.rest,
+        )?;
         mem::swap(&mut self.spots, &mut self.rest);
+        self.gone.clear();
         Ok(())
     }
 }

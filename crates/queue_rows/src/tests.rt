@@ -1,3 +1,4 @@
 mod changes;
+mod renewals;
 mod rounds;
 mod waiting;

@@ -66,20 +66,7 @@ module _ {D : ℕ} where
 
   -- ---- what is taken
 
-  -- the members of the queue count
-  pub takes_alike : (xs ys took rest zs : List (CompactSpot D)) → SameMembers xs ys → SameMembers zs rest → TakesUndominated xs took rest
-      → TakesUndominated ys took zs
-  takes_alike xs ys took rest zs same left takes = record {
-    taken = λ x. both (takes.taken x) (same x) (λ none y there. none y ((same y).1 there)) (λ none y there. none y ((same y).0 there));
-    ascending = takes.ascending;
-    rest = λ x. others (takes.rest x) (same x) (left x);
-  } where
-    both : {T A B U V : Type 0} → (T ↔ (A × U)) → (A ↔ B) → (U → V) → (V → U) → (T ↔ (B × V))
-    both t a u v = grind arith
-
-    others : {R A B N Z : Type 0} → (R ↔ (A × N)) → (A ↔ B) → (Z ↔ R) → (Z ↔ (B × N))
-    others r a z = grind arith
-
+  -- none is fresh
   pub none_fresh : (queue none : List (CompactSpot D)) → none ≡ [] → SameMembers (queue ++ none) queue
   none_fresh queue none empty x =
       let e = in_append queue none x in
@@ -114,14 +101,6 @@ module _ {D : ℕ} where
   pub both_empty : (xs ys : List (CompactSpot D)) → (xs ≡ []) × (ys ≡ []) ↔ (xs ++ ys ≡ [])
   both_empty [] ys = (λ h. h.1, λ h. (refl, h))
   both_empty (x ∷ xs) ys = (λ h. absurd (let e = h.0 in cc), λ h. absurd cc)
-
-  -- all were let into the queue
-  pub all_queued : (v : Waiting D) (old queue fresh : List (CompactSpot D)) → SameMembers v.queued old → v.fresh ≡ [] → queue ≡ v.queued → fresh ≡ v.fresh
-      → SameMembers (queue ++ fresh) old
-  all_queued v old queue fresh admitted none q f x =
-      let e = none_fresh queue fresh (f ∙ none) x in
-      let a : Contains queue x ↔ Contains old x = subst (λ ys. Contains ys x ↔ Contains old x) (sym q) (admitted x) in
-      grind arith
 
 -- what a result promises, where a test says which it is
 pub by_error : {X E : Type 0} (r : Result X E) (b : Bool) (P : Type 0) → b ≡ is_err r → b ≡ true → OnErr r P → P

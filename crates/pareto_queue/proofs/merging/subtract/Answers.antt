@@ -8,7 +8,7 @@ pub loop-spot-preserved : goal.loop-spot-preserved
 loop-spot-preserved g c =
     subtracted_step c.args.gone.now c.loop-spot.spot-index c.spot-item.result c.loop-spot-test.true c.spot-item.is c.args.spots.now
     c.loop-spot.rest.items c.loop-spot.left.now c.pass_on.new.list.items c.in_ok-others.others.now c.in_ok-others.ensures
-    c.requires.sorted c.leave_out-left.result.now c.leave_out-left.ensures.ascending c.leave_out-left.ensures.without c.loop-spot.invariant
+    c.requires.sorted c.leave_out-left.result.now c.leave_out-left.ensures c.loop-spot.invariant
 
 pub returns-clause-ascending : goal.returns-clause-ascending
 returns-clause-ascending g c =

@@ -1,18 +1,10 @@
-use Rattle.std.proofs.Common.{rules}
-use Rattle.pareto_queue.proofs.QueueLemmas.{loses_in_order}
+use Rattle.std.proofs.Common.{◌++◌, sym, subst}
+use Rattle.std.specs.Prelude.{Contains}
+use Rattle.pareto_queue.specs.Queues.{LosesWhere, without}
+use Rattle.pareto_queue.proofs.WithoutLemmas.{loses_by_more_gone}
 use Rattle.pareto_queue.proofs.queue.Queue.remove_all.Goals as goal
-
-pub subtract-requires : goal.subtract-requires
-subtract-requires g c = (
-  search rules,
-  (
-    rw c.deref.ensures.value c.self.invariant.ascending,
-    rw c.deref-2.ensures.value c.in_ok-list_sorted.ensures.sorted,
-  ),
-)
 
 pub returns-clause-removed : goal.returns-clause-removed
 returns-clause-removed g c =
-    rw (c.swap.ensures.x_after, ← c.self.view_is)
-    (loses_in_order c.self.inside.spots.items c.args.spots.now c.list_sorted.new.list.items c.subtract.new.rest.items c.in_ok-list_sorted.ensures.same
-    (rw (c.deref.ensures.value, c.deref-2.ensures.value) at c.in_ok-subtract.ensures.rest))
+    rw (← c.self.view_is, c.in_ok-extend_from_slice.ensures.items)
+    (loses_by_more_gone c.self.inside.spots.items c.self.inside.gone.items c.args.spots.now)

@@ -1,9 +1,11 @@
-use Rattle.std.proofs.Common.{◌≡◌, sym, subst, ap, ◌∙◌}
+use Rattle.std.proofs.Common.{rules, List, ◌++◌, ◌≡◌, sym, subst, ap, ◌∙◌}
+use Rattle.compact_labels.specs.declared.label.CompactSpot.{CompactSpot}
 use Rattle.list_laws.specs.Sets.{SameMembers}
 use Rattle.pareto_queue.specs.Queues.{TakesUndominated}
+use Rattle.pareto_queue.proofs.QueueLemmas.{takes_alike}
 use Rattle.round_core.proofs.SearchLemmas.{by_success}
 use Rattle.round_core.specs.Waiting.{Waiting, all_waiting}
-use Rattle.round_core.proofs.WaitingLemmas.{all_queued, by_error, takes_alike, none_fresh}
+use Rattle.round_core.proofs.WaitingLemmas.{by_error, none_fresh}
 use Rattle.round_core.proofs.waiting.Waiting.take_undominated.Goals as goal
 
 pub returns-then-is_err-clause-same : goal.returns-then-is_err-clause-same
@@ -11,16 +13,18 @@ returns-then-is_err-clause-same g c =
     let same : c.take_undominated.new.self ≡ c.self.inside.queue =
     by_error c.take_undominated.result c.is_err.result (c.take_undominated.new.self ≡ c.self.inside.queue) c.is_err.ensures.value c.if-is_err.true
     c.take_undominated.ensures.same in
-    all_queued c.admit.new.self (all_waiting c.args.self.now) c.take_undominated.new.self c.self.inside.fresh.items c.in_ok-admit.ensures.admitted
-    c.in_ok-admit.ensures.none_fresh (same ∙ ap (λ (w : Waiting g.row.D). w.queued) c.self.view_is) (ap (λ (w : Waiting g.row.D). w.fresh) c.self.view_is)
+    subst (λ (v : Waiting g.row.D). SameMembers (c.take_undominated.new.self ++ c.self.inside.fresh.items) (all_waiting v)) c.self.view_is
+    (subst (λ (q : List (CompactSpot g.row.D)). SameMembers (q ++ c.self.inside.fresh.items) (c.self.inside.queue ++ c.self.inside.fresh.items)) (sym same)
+    (λ x. (λ h. h, λ h. h)))
 
 pub returns-clause-taken : goal.returns-clause-taken
 returns-clause-taken g c =
-    let takes = by_success c.take_undominated.result c.is_err.result
-    (TakesUndominated c.self.inside.queue c.take_undominated.new.taken.items c.take_undominated.new.self) c.is_err.ensures.value c.if-is_err.false
-    c.take_undominated.ensures.taken in
-    let queued = ap (λ (w : Waiting g.row.D). w.queued) c.self.view_is in
-    let none = ap (λ (w : Waiting g.row.D). w.fresh) c.self.view_is ∙ c.in_ok-admit.ensures.none_fresh in
-    takes_alike c.self.inside.queue (all_waiting c.args.self.now) c.take_undominated.new.taken.items c.take_undominated.new.self _
-    (subst (λ ys. SameMembers ys (all_waiting c.args.self.now)) (sym queued) c.in_ok-admit.ensures.admitted)
-    (none_fresh c.take_undominated.new.self c.self.inside.fresh.items none) takes
+    let before = c.self.inside.queue ++ c.self.inside.fresh.items in
+    let took = c.take_undominated.new.taken.items in
+    let queue = c.take_undominated.new.self in
+    let takes : TakesUndominated before took queue =
+    subst (λ (xs : List (CompactSpot g.row.D)). TakesUndominated (c.self.inside.queue ++ xs) took queue) c.deref.ensures.value
+    (by_success c.take_undominated.result c.is_err.result (TakesUndominated (c.self.inside.queue ++ c.deref.result.now) took queue)
+    c.is_err.ensures.value c.if-is_err.false c.take_undominated.ensures.taken) in
+    subst (λ (v : Waiting g.row.D). TakesUndominated (all_waiting v) took (queue ++ c.clear-2.new.self.items)) c.self.view_is
+    (takes_alike before before took queue (queue ++ c.clear-2.new.self.items) (λ x. (λ h. h, λ h. h)) (none_fresh queue c.clear-2.new.self.items c.clear-2.ensures.items) takes)

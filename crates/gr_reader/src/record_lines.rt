@@ -11,7 +11,7 @@ ghost use Rattle.gr_reader.specs.Reader.{TakesBytes, WhereRecords, failed_at, fi
 use crate::fault::{FileFault, FileLimits, LineKind};
 use crate::grammar::Grammar;
 use cost_vector::OutOfMemory;
-use line_text::{LineLimits, Lines, next_field};
+use line_text::{LineLimits, Lines, first_byte};
 use route_io::Source;
 use std::alloc::Global;
 use std::marker::Model;
@@ -240,9 +240,9 @@ fn next_line<G: Grammar, S: Source>(lines: &mut Lines, source: &mut S) -> Result
 fn is_ignored(line: &[u8]) -> bool
     ensures { result ≡ is_ignored (fields_of line.now) }
 {
-    match next_field(line) {
+    match first_byte(line) {
         None => true,
-        Some((word, _)) => word[0] == b'c',
+        Some(byte) => byte == b'c',
     }
 }
 

@@ -1,5 +1,5 @@
 -- The fields of a text, and where they stand.
-use Rattle.std.proofs.Common.{◌≡◌, ℕ, ◌<◌, Bool, true, false, cond, List, [], ◌∷◌, ◌++◌, length, take, drop, refl, sym, ap, ◌∙◌, arith, filter, ⊎_elim, ◌+◌, ◌-◌, slice_range, append_assoc, length-append}
+use Rattle.std.proofs.Common.{◌≡◌, ℕ, ◌<◌, Bool, true, false, cond, List, [], ◌∷◌, ◌++◌, length, take, drop, get_or, refl, sym, ap, ◌∙◌, arith, filter, ⊎_elim, ◌+◌, ◌-◌, slice_range, append_assoc, length-append}
 use Rattle.std.specs.List.{slice_split, prefix_len, All, AllPass, onto_first}
 use Rattle.std.proofs.lemmas.Bool.{cases_lt, lt-ltb, not-false, not-true}
 use Rattle.std.proofs.lemmas.List.{append-nil, drop_more, drop_all, take-append-drop, length-take, get_or-take, nil_from_length}
@@ -7,7 +7,7 @@ use Rattle.std.proofs.lemmas.List.Elements.{All-from_get_or, All-head, All-tail,
 use Rattle.std.proofs.lemmas.List.Splits.{slice_split_at, slice_split_none, slice_split-cons_yes, length-slice_split}
 use Rattle.std.proofs.lemmas.List.Sums.{prefix_len_passes, prefix_len_stops}
 use Rattle.std.proofs.Math.Seq.{take-append_seam, drop-append_seam, drop-append-add}
-use Rattle.line_text.specs.Fields.{is_blank, is_filled, has_byte, fields_of, BeginsBlank, FirstField, FieldAt}
+use Rattle.line_text.specs.Fields.{is_blank, is_filled, has_byte, fields_of, BeginsBlank, FirstByte, FirstField, FieldAt}
 
 -- ---- the first field
 
@@ -35,7 +35,7 @@ module _ (field : List ℕ) (some : 0 < length field) (none_blank : All (λ byte
 
 -- the longest front of bytes of a kind, and what stands behind it
 module _ (p : ℕ → Bool) (text : List ℕ) where
-  all_before : AllPass p (take (prefix_len p text) text)
+  pub all_before : AllPass p (take (prefix_len p text) text)
   all_before =
       All-from_get_or (λ byte. p byte ≡ true) _ 0 (λ i lt.
       let before : i < prefix_len p text = omega (arith, length-take (prefix_len p text) text) in
@@ -82,6 +82,18 @@ module _ (text filled : List ℕ) (e : filled ≡ drop (prefix_len is_blank text
         filled = long;
         ends = ends;
         fields = no_blanks ∙ ap fields_of whole ∙ fields_of-field field long none_blank rest ends;
+      }
+
+  -- and then a byte other than a blank stands there first
+  pub begins_with : 0 < length filled → FirstByte text (get_or filled 0 0)
+  begins_with some =
+      let size = prefix_len is_filled filled in
+      let first : FirstField text (take size filled) (drop size filled) = first_field size (take size filled) (drop size filled) some refl refl refl in
+      record {
+        field = take size filled;
+        others = fields_of (drop size filled);
+        fields = first.fields;
+        begins = get_or-take size filled 0 0 (first_filled some);
       }
 
 -- ---- the field of a number

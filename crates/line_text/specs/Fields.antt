@@ -1,6 +1,6 @@
 -- The fields of a text.
 use Rattle.std.specs.Prelude.{◌≡◌, ◌<◌, ◌≤◌, ℕ, ◌==◌, ◌||◌, nat_lt, not, ⊤, true, Bool, List, [], ◌∷◌, ◌++◌, length}
-use Rattle.std.specs.Prelude.{take, drop, filter, slice_range}
+use Rattle.std.specs.Prelude.{take, drop, filter, slice_index, slice_range}
 use Rattle.std.specs.List.{slice_split, AllPass}
 
 -- the test that a byte is a space or a tab
@@ -32,6 +32,13 @@ pub record FirstField (text field rest : List ℕ) : Type 0 where
   pub filled : 0 < length field
   pub ends : BeginsBlank rest
   pub fields : fields_of text ≡ field ∷ fields_of rest
+
+-- The first field of the text begins with this byte.
+pub record FirstByte (text : List ℕ) (byte : ℕ) : Type 0 where
+  pub field : List ℕ
+  pub others : List (List ℕ)
+  pub fields : fields_of text ≡ field ∷ others
+  pub begins : slice_index field 0 ≡ byte
 
 -- The field number `i`, from 0, stands from `start` up to `end`.
 pub record FieldAt (text : List ℕ) (i start end : ℕ) : Type 0 where

@@ -1,8 +1,9 @@
 -- The numbers that digits write.
-use Rattle.std.specs.Prelude.{ℕ, nat_lt, if◌then◌else◌, ◌&&◌, Bool, List, length, Option, Some, None}
+use Rattle.std.specs.Prelude.{◌≡◌, ℕ, nat_lt, if◌then◌else◌, ◌&&◌, Bool, List, length, Option, Some, None}
 use Rattle.std.specs.Char.{is_ascii_digit}
 use Rattle.std.specs.List.{list_all}
 use Rattle.std.specs.Str.Parse.{digits_value}
+use Rattle.line_text.specs.Fields.{FirstField}
 use Rattle.line_text.specs.declared.numerals.Numeral.{Numeral}
 use Rattle.line_text.specs.declared.numerals.Numeral.TheVariants.{NotDigits, Above, Value}
 
@@ -27,3 +28,9 @@ numeral_or_above (Some value) = Value value
 abbrev pub numeral_of : List ℕ → ℕ → Numeral
 numeral_of text greatest =
     if is_digits text then numeral_or_above (at_most greatest (value_of text)) else NotDigits
+
+-- The first field of the text reads as this number of at most `greatest`, and then comes the rest.
+pub record FirstNumeral (text : List ℕ) (greatest : ℕ) (numeral : Numeral) (rest : List ℕ) : Type 0 where
+  pub field : List ℕ
+  pub first : FirstField text field rest
+  pub reads : numeral ≡ numeral_of field greatest

@@ -1,6 +1,7 @@
-ghost use Rattle.std.specs.Prelude.{◌≡◌, ◌≤◌, [], drop, length, MatchOption};
+ghost use Rattle.std.specs.Prelude.{◌≡◌, ◌≤◌, ◌↔◌, [], drop, length, IsTrue, MatchOption};
 ghost use Rattle.std.specs.List.{prefix_len};
-ghost use Rattle.line_text.specs.Fields.{FieldAt, FirstField, fields_of, is_blank, is_filled};
+ghost use Rattle.line_text.specs.Fields.{BeginsBlank, FieldAt, FirstByte, FirstField, fields_of};
+ghost use Rattle.line_text.specs.Fields.{is_blank, is_filled};
 
 /// The first field of a text, and what stands behind it.
 pub fn next_field(text: &[u8]) -> Option<(&[u8], &[u8])>
@@ -12,6 +13,16 @@ pub fn next_field(text: &[u8]) -> Option<(&[u8], &[u8])>
         return None;
     }
     Some(text.split_at(filled_len(text)))
+}
+
+/// The first byte of a text that isn't a blank.
+pub fn first_byte(text: &[u8]) -> Option<u8>
+    ensures { MatchOption result (fields_of text.now ≡ []) (FirstByte text.now) }
+{
+    match behind_blanks(text) {
+        [] => None,
+        [byte, ..] => Some(*byte),
+    }
 }
 
 /// Where the field number `i`, from 0, starts and where it ends.
@@ -29,7 +40,7 @@ pub fn field(text: &[u8], i: usize) -> Option<(usize, usize)>
 }
 
 /// What stands behind the blanks that a text begins with.
-fn behind_blanks(text: &[u8]) -> &[u8]
+pub(crate) fn behind_blanks(text: &[u8]) -> &[u8]
     ensures { result.now ≡ drop (prefix_len is_blank text.now) text.now }
 {
     &text[blank_len(text)..]
@@ -44,11 +55,21 @@ fn blank_len(text: &[u8]) -> usize
 }
 
 /// How many bytes other than blanks a text begins with.
-fn filled_len(text: &[u8]) -> usize
+pub(crate) fn filled_len(text: &[u8]) -> usize
     ensures value { result ≡ prefix_len is_filled text.now }
     ensures within { result ≤ length text.now }
 {
     text.iter().take_while(|byte| !is_blank(**byte)).count()
+}
+
+/// Whether no field goes on at the front of a text.
+pub(crate) fn begins_blank(text: &[u8]) -> bool
+    ensures { IsTrue result ↔ BeginsBlank text.now }
+{
+    match text {
+        [] => true,
+        [byte, ..] => is_blank(*byte),
+    }
 }
 
 /// Whether a byte is a space or a tab.

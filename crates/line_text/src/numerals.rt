@@ -1,7 +1,13 @@
-ghost use Rattle.std.specs.Prelude.{◌≡◌, ◌+◌, ◌*◌, decimal as decimal_text};
+ghost use Rattle.std.specs.Prelude.{◌≡◌, ◌≤◌, ◌+◌, ◌*◌, [], length, take, decimal as decimal_text};
+ghost use Rattle.std.specs.Prelude.{MatchOption};
+ghost use Rattle.std.specs.Char.{is_ascii_digit};
+ghost use Rattle.std.specs.List.{prefix_len};
 ghost use Rattle.route_io.specs.Sinks.{Sends};
-ghost use Rattle.line_text.specs.Numerals.{at_most, numeral_of};
+ghost use Rattle.line_text.specs.Fields.{fields_of};
+ghost use Rattle.line_text.specs.Numerals.{FirstNumeral, at_most, numeral_of, numeral_or_above};
+ghost use Rattle.line_text.specs.Numerals.{value_of};
 
+use crate::fields::{begins_blank, behind_blanks, filled_len};
 use itoa::Buffer;
 use route_io::{Sink, WriteFault, put_all};
 
@@ -21,19 +27,55 @@ pub enum Numeral {
 pub fn decimal(text: &[u8], greatest: u64) -> Numeral
     ensures { result ≡ numeral_of text.now greatest }
 {
-    if text.is_empty() {
+    let (size, value) = digits(text, greatest);
+    if size == 0 || size < text.len() {
         return Numeral::NotDigits;
     }
+    number_or_above(value)
+}
+
+/// What the first field of a text reads as, like `decimal`, and what stands behind the field.
+pub fn next_number(text: &[u8], greatest: u64) -> Option<(Numeral, &[u8])>
+    ensures { MatchOption result (fields_of text.now ≡ [])
+        (λ found. FirstNumeral text.now greatest found.0 found.1.now) }
+{
+    let text = behind_blanks(text);
+    if text.is_empty() {
+        return None;
+    }
+    let (size, value) = digits(text, greatest);
+    let rest = &text[size..];
+    if begins_blank(rest) {
+        return Some((number_or_above(value), rest));
+    }
+    Some((Numeral::NotDigits, &text[filled_len(text)..]))
+}
+
+/// How many digits a text begins with, and the number that they write, if it is at most `greatest`.
+fn digits(text: &[u8], greatest: u64) -> (usize, Option<u64>)
+    ensures count { result.0 ≡ prefix_len is_ascii_digit text.now }
+    ensures within { result.0 ≤ length text.now }
+    ensures number { result.1 ≡ at_most greatest (value_of (take result.0 text.now)) }
+{
+    let mut size = 0;
     let mut value = Some(0);
     for byte in text {
         if !byte.is_ascii_digit() {
-            return Numeral::NotDigits;
+            return (size, value);
         }
         value = match value {
             Some(value) => with_digit(value, *byte - b'0', greatest),
             None => None,
         };
+        size += 1;
     }
+    (size, value)
+}
+
+/// The number that digits write, or that it is too great.
+fn number_or_above(value: Option<u64>) -> Numeral
+    ensures { result ≡ numeral_or_above value }
+{
     match value {
         Some(value) => Numeral::Value(value),
         None => Numeral::Above,

@@ -1,1 +1,2 @@
+pub mod PairFormLemmas
 pub mod PairLemmas

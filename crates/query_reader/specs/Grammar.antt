@@ -23,12 +23,14 @@ pair_of (Some from) (Some to) = Record (record { from = from; to = to })
 pair_of (Some from) None = Malformed
 pair_of None to = Malformed
 
+-- the test that these are the words behind `p`
+abbrev pub are_words : List ℕ → List ℕ → List ℕ → Bool
+are_words aux sp p2p = is_word aux (codes "aux") && is_word sp (codes "sp") && is_word p2p (codes "p2p")
+
 -- behind `p` stand exactly the fields `aux`, `sp`, `p2p` and a number
 abbrev pub problem_from : List (List ℕ) → Form ℕ Pair
 problem_from (aux ∷ sp ∷ p2p ∷ count ∷ []) =
-    if is_word aux (codes "aux") && is_word sp (codes "sp") && is_word p2p (codes "p2p")
-    then problem_of (number_of count)
-    else Malformed
+    if are_words aux sp p2p then problem_of (number_of count) else Malformed
 problem_from fields = Malformed
 
 -- behind `q` stand exactly two numbers

@@ -1,9 +1,9 @@
-ghost use Rattle.std.specs.Prelude.{◌≡◌, ◌≢◌, [], ◌∷◌, MatchOption, length};
+ghost use Rattle.std.specs.Prelude.{◌≡◌, ◌∷◌};
 ghost use Rattle.line_text.specs.Fields.{fields_of};
-ghost use Rattle.query_reader.specs.Grammar.{pair_from, pairs_form, problem_from};
+ghost use Rattle.query_reader.specs.Grammar.{are_words, pair_from, pairs_form, problem_from};
 ghost use Rattle.query_reader.specs.PairForms.{as_form, capped, or_malformed};
 
-use gr_reader::{number, three_fields};
+use gr_reader::{front_number, only_number};
 use line_text::next_field;
 
 /// What a line of a file of pairs says that isn't ignored, or that it has none of the forms.
@@ -41,9 +41,8 @@ fn form_behind(word: &[u8], rest: &[u8]) -> Option<Form>
 fn pair_behind(text: &[u8]) -> Option<Form>
     ensures { or_malformed result ≡ capped (pair_from (fields_of text.now)) }
 {
-    let (from, to) = two_fields(text)?;
-    let from = number(from)?;
-    let to = number(to)?;
+    let (from, rest) = front_number(text)?;
+    let to = only_number(rest)?;
     Some(Form::Pair { from, to })
 }
 
@@ -52,23 +51,18 @@ fn problem_behind(text: &[u8]) -> Option<Form>
     ensures { or_malformed result ≡ capped (problem_from (fields_of text.now)) }
 {
     let (aux, rest) = next_field(text)?;
-    let (sp, p2p, count) = three_fields(rest)?;
-    if aux != b"aux".as_slice() || sp != b"sp".as_slice() || p2p != b"p2p".as_slice() {
+    let (sp, rest) = next_field(rest)?;
+    let (p2p, rest) = next_field(rest)?;
+    if !are_words(aux, sp, p2p) {
         return None;
     }
-    let count = number(count)?;
+    let count = only_number(rest)?;
     Some(Form::Problem { count })
 }
 
-/// The fields of a text that has exactly two.
-fn two_fields(text: &[u8]) -> Option<(&[u8], &[u8])>
-    ensures { MatchOption result (length (fields_of text.now) ≢ 2)
-        (λ found. fields_of text.now ≡ found.0.now ∷ found.1.now ∷ []) }
+/// Whether three fields are the words of a problem line.
+fn are_words(aux: &[u8], sp: &[u8], p2p: &[u8]) -> bool
+    ensures { result ≡ are_words aux.now sp.now p2p.now }
 {
-    let (first, rest) = next_field(text)?;
-    let (second, rest) = next_field(rest)?;
-    match next_field(rest) {
-        None => Some((first, second)),
-        Some(_) => None,
-    }
+    aux == b"aux".as_slice() && sp == b"sp".as_slice() && p2p == b"p2p".as_slice()
 }

@@ -1,7 +1,8 @@
 ghost use Rattle.std.specs.Prelude.{◌≡◌};
 
 use line_text::{
-    LineFault, LineLimits, Lines, MAX_LINE, Numeral, decimal, field, next_field, put_decimal,
+    LineFault, LineLimits, Lines, MAX_LINE, Numeral, decimal, field, next_field, next_number,
+    put_decimal,
 };
 use route_io::Source;
 use route_io::memory::MemorySource;
@@ -194,6 +195,18 @@ fn the_first_field_is_split_off(rt: HostRuntime) {
         Some((b"a".as_slice(), b" b".as_slice()))
     );
     assert_eq!(rt; next_field(b" \t "), None);
+}
+
+#[test]
+fn the_first_field_is_read_as_a_number(rt: HostRuntime) {
+    let rest = b"\t3".as_slice();
+    assert_eq!(rt;
+        next_number(b" 12\t3", 12),
+        Some((Numeral::Value(12), rest))
+    );
+    assert_eq!(rt; next_number(b"13\t3", 12), Some((Numeral::Above, rest)));
+    assert_eq!(rt; next_number(b"1x\t3", 12), Some((Numeral::NotDigits, rest)));
+    assert_eq!(rt; next_number(b" ", 12), None);
 }
 
 /// A text, the greatest number, and the number that it writes.

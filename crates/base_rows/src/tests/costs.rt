@@ -1,5 +1,8 @@
+ghost use Rattle.std.specs.Prelude.{◌≤◌, length};
+
+use super::assert_text;
 use cost_vector::{ArcNo, Cost, Label, Limit, NodeNo, Spot, Weight};
-use std::test::Fail;
+use std::alloc::{AllocError, Global};
 
 /// Two costs, and whether the first dominates the second.
 const DOMINANCE: &[([u64; 2], [u64; 2], bool)] = &[
@@ -13,8 +16,8 @@ const DOMINANCE: &[([u64; 2], [u64; 2], bool)] = &[
 #[test]
 fn dominance_needs_one_smaller_component_and_no_greater(rt: HostRuntime) {
     for (a, b, dominates) in DOMINANCE {
-        let (a, b) = (Cost::of_numbers(a), Cost::of_numbers(b));
-        assert_eq!(rt; a.dominates(&b), *dominates, "{a:?} and {b:?}");
+        let got = Cost::of_numbers(a).dominates(&Cost::of_numbers(b));
+        assert!(rt; got == *dominates, "{a:?} and {b:?}");
     }
 }
 
@@ -22,79 +25,93 @@ fn dominance_needs_one_smaller_component_and_no_greater(rt: HostRuntime) {
 fn adds_and_takes_back_a_weight(rt: HostRuntime) {
     let weight = Weight::of_numbers(&[4, 0, 7]);
     let cost = Cost::zero(3).plus(&weight);
-    assert_eq!(rt; cost, Cost::of_numbers(&[4, 0, 7]));
-    assert_eq!(rt; cost.minus(&weight), Some(Cost::zero(3)));
-    assert_eq!(rt; cost.minus(&Weight::of_numbers(&[0, 1, 0])), None);
+    assert!(rt; cost == Cost::of_numbers(&[4, 0, 7]), "added");
+    assert!(rt; cost.minus(&weight) == Some(Cost::zero(3)), "taken back");
+    assert!(rt;
+        cost.minus(&Weight::of_numbers(&[0, 1, 0])).is_none(),
+        "too much taken"
+    );
 }
 
 #[test]
 fn only_zeros_are_a_zero_weight(rt: HostRuntime) {
-    assert!(rt; !Weight::of_numbers(&[4, 0, 7]).is_zero());
-    assert!(rt; Weight::of_numbers(&[0, 0]).is_zero());
+    assert!(rt;
+        !Weight::of_numbers(&[4, 0, 7]).is_zero(),
+        "one zero of three"
+    );
+    assert!(rt; Weight::of_numbers(&[0, 0]).is_zero(), "zeros alone");
 }
 
 #[test]
 fn a_limit_holds_up_to_its_places(rt: HostRuntime) {
     let limit = Limit::of_places(&[None, Some(6)]);
-    assert!(rt; limit.holds(&Cost::of_numbers(&[u64::MAX, 6])));
-    assert!(rt; !limit.holds(&Cost::of_numbers(&[0, 7])));
-    assert!(rt; Limit::none(2).holds(&Cost::of_numbers(&[0, u64::MAX])));
-    assert!(rt; Limit::none(2) < limit);
+    assert!(rt;
+        limit.holds(&Cost::of_numbers(&[u64::MAX, 6])),
+        "at the limit"
+    );
+    assert!(rt; !limit.holds(&Cost::of_numbers(&[0, 7])), "past the limit");
+    assert!(rt;
+        Limit::none(2).holds(&Cost::of_numbers(&[0, u64::MAX])),
+        "no limit"
+    );
+    assert!(rt; Limit::none(2) < limit, "no limit is the least");
+}
+
+fn label(node: u32, cost: &[u64; 2], arc: u32) -> Label {
+    Label {
+        node: NodeNo(node),
+        cost: Cost::of_numbers(cost),
+        arc: ArcNo(arc),
+    }
 }
 
 #[test]
-fn labels_are_sorted_by_node_then_cost_then_arc(rt: HostRuntime) -> Result<(), Fail> {
-    let label = |node: u32, cost: Cost, arc: u32| Label {
-        node: NodeNo(node),
-        cost,
-        arc: ArcNo(arc),
-    };
-    let (near, far) = (Cost::of_numbers(&[2, 8]), Cost::of_numbers(&[4, 2]));
-    let mut labels = vec![in rt.alloc();
-        label(2, near, 1),
-        label(1, far, 3),
-        label(1, near, 7),
-        label(1, far, 2),
-    ]?;
-    labels.sort()?;
-    let sorted = [
-        label(1, near, 7),
-        label(1, far, 2),
-        label(1, far, 3),
-        label(2, near, 1),
-    ];
-    assert_eq!(rt; labels.as_slice(), sorted.as_slice());
-    Ok(())
+fn labels_are_sorted_by_node_then_cost_then_arc(rt: HostRuntime) {
+    assert!(rt;
+        label(1, &[4, 2], 3).cmp(&label(2, &[2, 8], 1)).is_lt(),
+        "by node"
+    );
+    assert!(rt;
+        label(1, &[2, 8], 7).cmp(&label(1, &[4, 2], 2)).is_lt(),
+        "by cost"
+    );
+    assert!(rt;
+        label(1, &[4, 2], 2).cmp(&label(1, &[4, 2], 3)).is_lt(),
+        "by arc"
+    );
+}
+
+fn spot(numbers: &[u64]) -> Spot
+    requires at_least_two { 2 ≤ length numbers.now }
+    requires at_most_four { length numbers.now ≤ 4 }
+{
+    Spot {
+        node: NodeNo(1),
+        cost: Cost::of_numbers(numbers),
+    }
 }
 
 #[test]
 fn a_proper_prefix_is_the_lesser(rt: HostRuntime) {
-    let short = Spot {
-        node: NodeNo(1),
-        cost: Cost::of_numbers(&[1, 1]),
-    };
-    let long = Spot {
-        node: NodeNo(1),
-        cost: Cost::of_numbers(&[1, 1, 0]),
-    };
-    assert!(rt; short < long);
-    assert!(rt; short != long);
+    let (short, long) = (spot(&[1, 1]), spot(&[1, 1, 0]));
+    assert!(rt; short < long, "the shorter is the lesser");
+    assert!(rt; short != long, "they differ");
 }
 
-#[test]
-fn vectors_are_shown_as_their_lists(rt: HostRuntime) -> Result<(), Fail> {
-    let alloc = rt.alloc();
+/// A cost, a weight and a limit as they are shown.
+fn shown(alloc: Global) -> Result<String, AllocError> {
     let (cost, weight) = (Cost::of_numbers(&[2, 8, 0]), Weight::of_numbers(&[0, 7]));
     let limit = Limit::of_places(&[None, Some(6)]);
-    let shown = format!(in alloc; "{cost:?} {weight:?} {limit:?}")?;
-    assert_eq!(rt; shown.as_str(), "[2, 8, 0] [0, 7] [None, Some(6)]");
-    Ok(())
+    format!(in alloc; "{cost:?} {weight:?} {limit:?}")
 }
 
 #[test]
-fn numbers_are_shown_as_digits(rt: HostRuntime) -> Result<(), Fail> {
-    let alloc = rt.alloc();
-    let numbers = format!(in alloc; "{} {}", NodeNo(3), ArcNo(12))?;
-    assert_eq!(rt; numbers.as_str(), "3 12");
-    Ok(())
+fn vectors_are_shown_as_their_lists(rt: HostRuntime) {
+    assert_text(&rt, shown(rt.alloc()), "[2, 8, 0] [0, 7] [None, Some(6)]");
+}
+
+#[test]
+fn numbers_are_shown_as_digits(rt: HostRuntime) {
+    let numbers = format!(in rt.alloc(); "{} {}", NodeNo(3), ArcNo(12));
+    assert_text(&rt, numbers, "3 12");
 }

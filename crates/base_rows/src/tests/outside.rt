@@ -1,12 +1,11 @@
 use route_io::host::{HostFolder, HostSink};
 use route_io::memory::{MemoryFolder, MemorySink, MemorySource, NamedFile};
 use route_io::sure::{SureFolder, SureSink, SureSource};
-use route_io::{Failed, Folder, Sink, Source, WriteFault, put_all};
+use route_io::{Folder, Sink, Source, WriteFault, put_all};
 use std::alloc::{AllocError, Global};
 use std::fmt::Display;
 use std::fs::{self, File, OpenOptions};
 use std::io::{self, Print, Write};
-use std::test::Fail;
 
 fn file(alloc: Global, name: &str, bytes: &[u8]) -> Result<NamedFile, AllocError> {
     Ok(NamedFile {
@@ -27,121 +26,164 @@ fn three_reads<S: Source>(source: &mut S) -> [Option<usize>; 3] {
     [first, second, source.read(&mut buf).ok()]
 }
 
-#[test]
-fn a_folder_gives_its_files_in_pieces(rt: HostRuntime) -> Result<(), Fail> {
-    let alloc = rt.alloc();
+/// Whether there is a file of a name, and what three reads give then.
+type Reads = (bool, [Option<usize>; 3]);
+
+fn reads_of<F: Folder>(folder: &mut F, name: &str) -> Reads
+    requires { F.admits name.now }
+{
+    let is_there = folder.select(name).is_ok();
+    (is_there, three_reads(folder))
+}
+
+/// The reads of the file of this name in a folder that gives pieces of this size.
+fn reads_in_pieces(alloc: Global, piece: usize, name: &str) -> Result<Reads, AllocError> {
+    let folder = MemoryFolder::new(two_files(alloc)?, Vec::new(alloc));
+    Ok(reads_of(&mut folder.with_piece(piece.max(1)), name))
+}
+
+/// The reads of two files of a folder, one after the other.
+fn reads_of_two(alloc: Global) -> Result<[Reads; 2], AllocError> {
     let mut folder = MemoryFolder::new(two_files(alloc)?, Vec::new(alloc));
-    folder.select("a")?;
-    assert_eq!(rt; three_reads(&mut folder), [Some(2), Some(1), Some(0)]);
-    folder.select("b")?;
-    assert_eq!(rt; three_reads(&mut folder), [Some(1), Some(0), Some(0)]);
-    Ok(())
+    let first = reads_of(&mut folder, "a");
+    Ok([first, reads_of(&mut folder, "b")])
 }
 
 #[test]
-fn pieces_of_a_folder_have_their_size(rt: HostRuntime) -> Result<(), Fail> {
+fn a_folder_gives_its_files_in_pieces(rt: HostRuntime) {
+    let wanted = [
+        (true, [Some(2), Some(1), Some(0)]),
+        (true, [Some(1), Some(0), Some(0)]),
+    ];
+    assert!(rt; reads_of_two(rt.alloc()) == Ok(wanted), "two bytes a read");
+    let wanted = (true, [Some(1), Some(1), Some(1)]);
+    assert!(rt;
+        reads_in_pieces(rt.alloc(), 1, "a") == Ok(wanted),
+        "a byte a read"
+    );
+}
+
+/// The reads of a source of three bytes in pieces of this size, of which that of this number fails.
+fn source_reads(
+    alloc: Global,
+    piece: usize,
+    failing: u64,
+) -> Result<[Option<usize>; 3], AllocError> {
+    let fails = vec![in alloc; failing]?;
+    let source = MemorySource::new([7, 8, 9].to_vec(alloc)?, fails);
+    Ok(three_reads(&mut source.with_piece(piece.max(1))))
+}
+
+#[test]
+fn a_source_gives_pieces_and_fails_where_it_is_told(rt: HostRuntime) {
     let alloc = rt.alloc();
-    let mut folder = MemoryFolder::new(two_files(alloc)?, Vec::new(alloc)).with_piece(1);
-    folder.select("a")?;
-    assert_eq!(rt; three_reads(&mut folder), [Some(1), Some(1), Some(1)]);
-    Ok(())
+    assert!(rt;
+        source_reads(alloc, 1, 9) == Ok([Some(1); 3]),
+        "a byte a read"
+    );
+    assert!(rt;
+        source_reads(alloc, 8, 1) == Ok([Some(2), None, Some(1)]),
+        "the second fails"
+    );
+}
+
+/// The reads of a file that is there, and then of one that isn't.
+fn sure_folder_reads(alloc: Global) -> Result<[Reads; 2], AllocError> {
+    let mut folder = SureFolder::new(two_files(alloc)?);
+    let first = reads_of(&mut folder, "a");
+    Ok([first, reads_of(&mut folder, "c")])
 }
 
 #[test]
-fn pieces_of_a_source_have_their_size(rt: HostRuntime) -> Result<(), Fail> {
-    let alloc = rt.alloc();
-    let mut source = MemorySource::new([7, 8, 9].to_vec(alloc)?, Vec::new(alloc)).with_piece(1);
-    assert_eq!(rt; three_reads(&mut source), [Some(1), Some(1), Some(1)]);
-    Ok(())
+fn a_missing_name_leaves_nothing(rt: HostRuntime) {
+    let wanted = [
+        (true, [Some(2), Some(1), Some(0)]),
+        (false, [Some(0), Some(0), Some(0)]),
+    ];
+    assert!(rt;
+        sure_folder_reads(rt.alloc()) == Ok(wanted),
+        "the second name is missing"
+    );
+}
+
+fn sure_reads(alloc: Global) -> Result<[Option<usize>; 3], AllocError> {
+    Ok(three_reads(&mut SureSource::new([7].to_vec(alloc)?)))
 }
 
 #[test]
-fn pieces_of_a_sink_have_their_size(rt: HostRuntime) -> Result<(), Fail> {
-    let alloc = rt.alloc();
-    let mut sink = MemorySink::new(alloc, 5, Vec::new(alloc)).with_piece(2);
-    assert_eq!(rt; sink.write(b"abc"), Ok(2));
-    put_all(&mut sink, b"cde")?;
-    assert_eq!(rt; sink.sent(), b"abcde".as_slice());
-    Ok(())
+fn a_sure_source_ends(rt: HostRuntime) {
+    assert!(rt;
+        sure_reads(rt.alloc()) == Ok([Some(1), Some(0), Some(0)]),
+        "a byte"
+    );
 }
 
 #[test]
-fn a_missing_name_leaves_nothing(rt: HostRuntime) -> Result<(), Fail> {
-    let mut folder = SureFolder::new(two_files(rt.alloc())?);
-    folder.select("a")?;
-    assert_eq!(rt; folder.select("c"), Err(Failed));
-    assert_eq!(rt; three_reads(&mut folder), [Some(0), Some(0), Some(0)]);
-    Ok(())
+fn pieces_of_a_sink_have_their_size(rt: HostRuntime) {
+    let mut sink = MemorySink::new(rt.alloc(), 5, Vec::new(rt.alloc())).with_piece(2);
+    assert!(rt; sink.write(b"abc") == Ok(2), "two bytes of three");
+    assert!(rt; put_all(&mut sink, b"cde") == Ok(()), "the rest");
+    assert!(rt; sink.sent() == b"abcde".as_slice(), "all bytes");
 }
 
 #[test]
-fn a_listed_call_fails(rt: HostRuntime) -> Result<(), Fail> {
-    let alloc = rt.alloc();
-    let mut source = MemorySource::new([7, 8, 9].to_vec(alloc)?, vec![in alloc; 1]?);
-    assert_eq!(rt; three_reads(&mut source), [Some(2), None, Some(1)]);
-    Ok(())
+fn a_bound_cuts_the_text(rt: HostRuntime) {
+    let mut sink = MemorySink::new(rt.alloc(), 3, Vec::new(rt.alloc()));
+    assert!(rt;
+        put_all(&mut sink, b"abcde") == Err(WriteFault::Failed),
+        "five bytes"
+    );
+    assert!(rt; sink.sent() == b"abc".as_slice(), "three are taken");
 }
 
 #[test]
-fn a_sure_source_ends(rt: HostRuntime) -> Result<(), Fail> {
-    let mut source = SureSource::new([7].to_vec(rt.alloc())?);
-    assert_eq!(rt; three_reads(&mut source), [Some(1), Some(0), Some(0)]);
-    Ok(())
-}
-
-#[test]
-fn a_bound_cuts_the_text(rt: HostRuntime) -> Result<(), Fail> {
-    let alloc = rt.alloc();
-    let mut sink = MemorySink::new(alloc, 3, Vec::new(alloc));
-    assert_eq!(rt; put_all(&mut sink, b"abcde"), Err(WriteFault::Failed));
-    assert_eq!(rt; sink.sent(), b"abc".as_slice());
-    Ok(())
-}
-
-#[test]
-fn a_sure_sink_takes_the_whole_text(rt: HostRuntime) -> Result<(), Fail> {
+fn a_sure_sink_takes_the_whole_text(rt: HostRuntime) {
     let mut sink = SureSink::new(rt.alloc());
-    put_all(&mut sink, b"ab")?;
-    put_all(&mut sink, b"c")?;
-    assert_eq!(rt; sink.sent(), b"abc".as_slice());
-    Ok(())
+    assert!(rt; put_all(&mut sink, b"ab") == Ok(()), "two bytes");
+    assert!(rt; put_all(&mut sink, b"c") == Ok(()), "a third");
+    assert!(rt; sink.sent() == b"abc".as_slice(), "all three");
 }
 
 #[test]
-fn a_file_of_the_host_is_read(rt: HostRuntime) -> Result<(), Fail> {
-    fs::write(&rt, "route_io_host.txt", "abc")?;
+fn a_file_of_the_host_is_read(rt: HostRuntime) {
+    let name = "route_io_host.txt";
     let mut folder = HostFolder::new(rt);
-    folder.select("route_io_host.txt")?;
-    fs::remove_file(&rt, "route_io_host.txt")?;
-    assert_eq!(rt; three_reads(&mut folder), [Some(2), Some(1), Some(0)]);
-    assert_eq!(rt; folder.select("route_io_host.txt"), Err(Failed));
-    assert_eq!(rt; three_reads(&mut folder), [Some(0), Some(0), Some(0)]);
-    Ok(())
+    assert!(rt; fs::write(&rt, name, "abc").is_ok(), "written");
+    let wanted = (true, [Some(2), Some(1), Some(0)]);
+    assert!(rt; reads_of(&mut folder, name) == wanted, "while it is there");
+    assert!(rt; fs::remove_file(&rt, name).is_ok(), "removed");
+    let wanted = (false, [Some(0), Some(0), Some(0)]);
+    assert!(rt; reads_of(&mut folder, name) == wanted, "when it is gone");
+}
+
+const NAMED: [(&str, u8); 2] = [("route_io_a.txt", b'a'), ("route_io_b.txt", b'b')];
+
+/// Whether a read of the file of this name gives this byte alone.
+fn has_byte<F: Folder>(folder: &mut F, name: &str, byte: u8) -> bool
+    requires { F.admits name.now }
+{
+    let mut buf = [0; 2];
+    let is_there = folder.select(name).is_ok();
+    let got = folder.read(&mut buf);
+    is_there && got == Ok(1) && buf == [byte, 0]
 }
 
 #[test]
-fn the_named_file_of_the_host_is_opened(rt: HostRuntime) -> Result<(), Fail> {
-    let files = [("route_io_a.txt", b'a'), ("route_io_b.txt", b'b')];
-    for (name, byte) in files {
-        fs::write(&rt, name, [byte].as_slice())?;
+fn the_named_file_of_the_host_is_opened(rt: HostRuntime) {
+    for (name, byte) in NAMED {
+        assert!(rt; fs::write(&rt, name, [byte].as_slice()).is_ok(), "{name}");
     }
     let mut folder = HostFolder::new(rt);
-    for (name, byte) in files {
-        folder.select(name)?;
-        let mut buf = [0; 2];
-        assert_eq!(rt; folder.read(&mut buf), Ok(1));
-        assert_eq!(rt; buf, [byte, 0], "{name}");
-        fs::remove_file(&rt, name)?;
+    for (name, byte) in NAMED {
+        assert!(rt; has_byte(&mut folder, name, byte), "{name}");
+        assert!(rt; fs::remove_file(&rt, name).is_ok(), "{name}");
     }
-    Ok(())
 }
 
 #[test]
-fn a_folder_in_place_of_a_file_is_a_fault(rt: HostRuntime) -> Result<(), Fail> {
-    let mut folder = HostFolder::new(rt);
-    folder.select(".")?;
-    assert_eq!(rt; three_reads(&mut folder), [None, None, None]);
-    Ok(())
+fn a_folder_in_place_of_a_file_is_a_fault(rt: HostRuntime) {
+    let got = reads_of(&mut HostFolder::new(rt), ".");
+    assert!(rt; got == (true, [None, None, None]), "each read fails");
 }
 
 /// Prints at most so many bytes at a time.
@@ -167,13 +209,14 @@ impl Print for Narrow {
 }
 
 #[test]
-fn a_print_of_no_bytes_is_a_fault(rt: HostRuntime) -> Result<(), Fail> {
-    put_all(&mut HostSink::new(Narrow(2)), b"abc")?;
-    assert_eq!(rt;
-        put_all(&mut HostSink::new(Narrow(0)), b"abc"),
-        Err(WriteFault::Failed)
+fn a_print_of_no_bytes_is_a_fault(rt: HostRuntime) {
+    let (two, none) = (Narrow(2), Narrow(0));
+    assert!(rt;
+        put_all(&mut HostSink::new(two), b"abc") == Ok(()),
+        "two bytes a print"
     );
-    Ok(())
+    let got = put_all(&mut HostSink::new(none), b"abc");
+    assert!(rt; got == Err(WriteFault::Failed), "no bytes a print");
 }
 
 /// Prints to a file.
@@ -198,24 +241,43 @@ impl Print for ToFile {
     }
 }
 
-#[test]
-fn what_the_host_took_is_kept_at_once(rt: HostRuntime) -> Result<(), Fail> {
-    let mut sink = HostSink::new(ToFile(File::create(&rt, "route_io_sink.txt")?));
-    put_all(&mut sink, b"abc")?;
-    assert_eq!(rt;
-        fs::read(&rt, "route_io_sink.txt")?.as_slice(),
-        b"abc".as_slice()
-    );
-    fs::remove_file(&rt, "route_io_sink.txt")?;
-    Ok(())
+/// Whether a file takes a text, if it can be opened.
+fn takes_text(file: io::Result<File>) -> Option<bool> {
+    match file {
+        Ok(file) => Some(put_all(&mut HostSink::new(ToFile(file)), b"abc").is_ok()),
+        Err(_) => None,
+    }
+}
+
+/// Whether the file of this name has the text.
+fn has_text(rt: &HostRuntime, name: &str) -> bool {
+    match fs::read(rt, name) {
+        Ok(got) => got.as_slice() == b"abc".as_slice(),
+        Err(_) => false,
+    }
+}
+
+/// Whether a sink to a file takes the text, and the file has it while the sink is open.
+fn is_kept_at_once(rt: &HostRuntime, name: &str) -> io::Result<bool> {
+    let mut sink = HostSink::new(ToFile(File::create(rt, name)?));
+    let is_taken = put_all(&mut sink, b"abc").is_ok();
+    Ok(has_text(rt, name) && is_taken)
 }
 
 #[test]
-fn a_full_device_is_a_fault(rt: HostRuntime) -> Result<(), Fail> {
-    let full = OpenOptions::new().write(true).open(&rt, "/dev/full")?;
-    let mut sink = HostSink::new(ToFile(full));
-    assert_eq!(rt; put_all(&mut sink, b"abc"), Err(WriteFault::Failed));
-    Ok(())
+fn what_the_host_took_is_kept_at_once(rt: HostRuntime) {
+    let name = "route_io_sink.txt";
+    assert!(rt;
+        matches!(is_kept_at_once(&rt, name), Ok(true)),
+        "the file has the text"
+    );
+    assert!(rt; fs::remove_file(&rt, name).is_ok(), "the file is removed");
+}
+
+#[test]
+fn a_full_device_is_a_fault(rt: HostRuntime) {
+    let full = OpenOptions::new().write(true).open(&rt, "/dev/full");
+    assert!(rt; takes_text(full) == Some(false), "nothing is taken");
 }
 
 fn takes_sent<T: Send + Drop>(_value: T) {}

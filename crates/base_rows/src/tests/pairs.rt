@@ -1,15 +1,11 @@
-ghost use Rattle.std.specs.Prelude.{◌≤◌, ◌^◌};
-
-use super::lines::{left_in, pieces};
-use super::weight_files::shown_fault;
-use gr_reader::FileLimits;
-use query_reader::{Pair, read_p2p};
+use super::assert_text;
+use super::files::{Form, WIDE, assert_cuts, assert_limited, assert_rows, shown};
+use super::lines::failing;
+use query_reader::Pair;
 use std::alloc::{AllocError, Global};
-use std::process::Abort;
-use std::test::Fail;
 
 /// The pairs of a file, behind `ok`.
-fn shown_pairs(alloc: Global, pairs: &[Pair]) -> Result<String, AllocError> {
+pub(super) fn shown_pairs(alloc: Global, pairs: &[Pair]) -> Result<String, AllocError> {
     let mut text = String::from_str(alloc, "ok")?;
     for pair in pairs {
         let (from, to) = (pair.from, pair.to);
@@ -17,48 +13,6 @@ fn shown_pairs(alloc: Global, pairs: &[Pair]) -> Result<String, AllocError> {
     }
     Ok(text)
 }
-
-/// What a text says that comes in pieces of this length: pairs, or its fault.
-fn shown_in_pieces(
-    alloc: Global,
-    text: &[u8],
-    length: usize,
-    limits: FileLimits,
-) -> Result<String, AllocError>
-    requires some { 1 ≤ limits.line }
-    requires line { limits.line ≤ 65536 }
-    requires file { limits.file ≤ 2 ^ 63 }
-{
-    let mut source = pieces(alloc, text, length, Vec::new(alloc))?;
-    match read_p2p(alloc, &mut source, limits) {
-        Ok(pairs) => shown_pairs(alloc, &pairs),
-        Err(fault) => shown_fault(alloc, fault),
-    }
-}
-
-/// This is shown of a text, in whatever pieces it comes.
-fn assert_shown(
-    rt: &impl Abort,
-    alloc: Global,
-    text: &str,
-    limits: FileLimits,
-    wanted: &str,
-) -> Result<(), AllocError>
-    requires some { 1 ≤ limits.line }
-    requires line { limits.line ≤ 65536 }
-    requires file { limits.file ≤ 2 ^ 63 }
-{
-    for length in [1, 2, 1000] {
-        let got = shown_in_pieces(alloc, text.as_bytes(), length, limits)?;
-        assert_eq!(rt; got.as_str(), wanted, "{text:?} in pieces of {length}");
-    }
-    Ok(())
-}
-
-const WIDE: FileLimits = FileLimits {
-    line: 100,
-    file: 1 << 29,
-};
 
 /// A text, and what is shown of it.
 const FORMS: &[(&str, &str)] = &[
@@ -107,11 +61,8 @@ const FORMS: &[(&str, &str)] = &[
 ];
 
 #[test]
-fn forms_and_faults(rt: HostRuntime) -> Result<(), Fail> {
-    for (text, wanted) in FORMS {
-        assert_shown(&rt, rt.alloc(), text, WIDE, wanted)?;
-    }
-    Ok(())
+fn forms_and_faults(rt: HostRuntime) {
+    assert_rows(&rt, rt.alloc(), FORMS, Form::Pairs);
 }
 
 /// A text, the greatest size of a file, and what is shown where a line has 14 bytes at most.
@@ -127,67 +78,33 @@ const LIMITED: &[(&str, u32, &str)] = &[
 ];
 
 #[test]
-fn limits_come_before_forms(rt: HostRuntime) -> Result<(), Fail> {
-    for (text, file, wanted) in LIMITED {
-        let limits = FileLimits {
-            line: 14,
-            file: u64::from(*file),
-        };
-        assert_shown(&rt, rt.alloc(), text, limits, wanted)?;
-    }
-    Ok(())
+fn limits_come_before_forms(rt: HostRuntime) {
+    assert_limited(&rt, rt.alloc(), LIMITED, 14, Form::Pairs);
 }
 
 const THREE_PAIRS: &[u8] = b"p aux sp p2p 3\nq 1 4\nq 4 1\nq 9 1\n";
 
-/// The fault of the file of three pairs where it is cut to a length below 32. Its first line has 15 bytes, and each
-/// pair 6.
-fn cut_fault(length: usize) -> (u8, u64) {
-    match length {
-        0 => (2, 1),
-        1..=13 => (1, 1),
-        14 => (7, 2),
-        _ => {
-            let line = (length as u64 - 15) / 6 + 2;
-            match (length - 15) % 6 {
-                0 => (7, line),
-                5 => (7, line + 1),
-                _ => (1, line),
-            }
-        }
-    }
-}
+/// What is shown of the file of three pairs where it is cut to a length from the first to the second number. Its first
+/// line has 15 bytes, and each pair 6.
+const CUTS: &[(usize, usize, &str)] = &[
+    (0, 0, "2 at 1"),
+    (1, 13, "1 at 1"),
+    (14, 15, "7 at 2"),
+    (16, 19, "1 at 2"),
+    (20, 21, "7 at 3"),
+    (22, 25, "1 at 3"),
+    (26, 27, "7 at 4"),
+    (28, 31, "1 at 4"),
+    (32, 33, "ok 1>4 4>1 9>1"),
+];
 
-/// What is to be shown of the file of three pairs where it is cut to a length.
-fn wanted_of_cut(alloc: Global, length: usize) -> Result<String, AllocError> {
-    if length >= 32 {
-        return String::from_str(alloc, "ok 1>4 4>1 9>1");
-    }
-    let (kind, line) = cut_fault(length);
-    format!(in alloc; "{kind} at {line}")
+#[test]
+fn cut_files(rt: HostRuntime) {
+    assert_cuts(&rt, rt.alloc(), THREE_PAIRS, CUTS, Form::Pairs);
 }
 
 #[test]
-fn cut_files(rt: HostRuntime) -> Result<(), Fail> {
-    for length in 0..=THREE_PAIRS.len() {
-        let wanted = wanted_of_cut(rt.alloc(), length)?;
-        for piece in [1, 1000] {
-            let got = shown_in_pieces(rt.alloc(), &THREE_PAIRS[..length], piece, WIDE)?;
-            assert_eq!(rt; got.as_str(), wanted.as_str(), "length {length}");
-        }
-    }
-    Ok(())
-}
-
-#[test]
-fn a_failed_read_is_told(rt: HostRuntime) -> Result<(), Fail> {
-    let alloc = rt.alloc();
-    let mut source = pieces(alloc, b"p aux sp p2p 1\nq 1 4\n", 1, vec![in alloc; 19]?)?;
-    let got = match read_p2p(alloc, &mut source, WIDE) {
-        Ok(pairs) => shown_pairs(alloc, &pairs)?,
-        Err(fault) => shown_fault(alloc, fault)?,
-    };
-    assert_eq!(rt; got.as_str(), "r");
-    assert_eq!(rt; left_in(&mut source), 2);
-    Ok(())
+fn a_failed_read_is_told(rt: HostRuntime) {
+    let text = failing(b"p aux sp p2p 1\nq 1 4\n", 1, &[19]);
+    assert_text(&rt, shown(rt.alloc(), text, WIDE, Form::Pairs), "r, 2 left");
 }

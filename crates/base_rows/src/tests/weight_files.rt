@@ -1,14 +1,14 @@
-ghost use Rattle.std.specs.Prelude.{◌≡◌, ◌≤◌, ◌<◌, ◌+◌, ◌^◌, OnOk};
+ghost use Rattle.std.specs.Prelude.{◌≡◌, ◌<◌, ◌+◌, OnOk};
 
-use super::lines::{left_in, pieces};
+use super::files::{Form, WIDE, assert_cuts, assert_limited, assert_rows};
+use super::lines::{failing, left_in, pieces, source_of};
 use arc_graph::{ArcFile, Joiner};
-use gr_reader::{FileFault, FileLimits, RecordLines, Sizes, WeightFiles, read_gr, read_into};
+use gr_reader::{FileFault, RecordLines, Sizes, WeightFiles, read_into};
 use std::alloc::{AllocError, Global};
-use std::process::Abort;
 use std::test::Fail;
 
 /// The nodes and the arcs of a file.
-fn shown_file(alloc: Global, file: &ArcFile) -> Result<String, AllocError> {
+pub(super) fn shown_weights(alloc: Global, file: &ArcFile) -> Result<String, AllocError> {
     let mut text = format!(in alloc; "{}:", file.nodes())?;
     for arc in file.arcs() {
         let (tail, head, weight) = (arc.tail, arc.head, arc.weight);
@@ -16,57 +16,6 @@ fn shown_file(alloc: Global, file: &ArcFile) -> Result<String, AllocError> {
     }
     Ok(text)
 }
-
-/// The kind's number and the line of a fault, `r` or `m`.
-pub(super) fn shown_fault(alloc: Global, fault: FileFault) -> Result<String, AllocError> {
-    match fault {
-        FileFault::Line { kind, line } => format!(in alloc; "{} at {line}", kind.number()),
-        FileFault::Read => String::from_str(alloc, "r"),
-        FileFault::OutOfMemory => String::from_str(alloc, "m"),
-    }
-}
-
-/// What a text says that comes in pieces of this length: a file, or its fault.
-fn shown_in_pieces(
-    alloc: Global,
-    text: &[u8],
-    length: usize,
-    limits: FileLimits,
-) -> Result<String, AllocError>
-    requires some { 1 ≤ limits.line }
-    requires line { limits.line ≤ 65536 }
-    requires file { limits.file ≤ 2 ^ 63 }
-{
-    let mut source = pieces(alloc, text, length, Vec::new(alloc))?;
-    match read_gr(alloc, &mut source, limits) {
-        Ok(file) => shown_file(alloc, &file),
-        Err(fault) => shown_fault(alloc, fault),
-    }
-}
-
-/// This is shown of a text, in whatever pieces it comes.
-fn assert_shown(
-    rt: &impl Abort,
-    alloc: Global,
-    text: &str,
-    limits: FileLimits,
-    wanted: &str,
-) -> Result<(), AllocError>
-    requires some { 1 ≤ limits.line }
-    requires line { limits.line ≤ 65536 }
-    requires file { limits.file ≤ 2 ^ 63 }
-{
-    for length in [1, 1000] {
-        let got = shown_in_pieces(alloc, text.as_bytes(), length, limits)?;
-        assert_eq!(rt; got.as_str(), wanted, "{text:?} in pieces of {length}");
-    }
-    Ok(())
-}
-
-const WIDE: FileLimits = FileLimits {
-    line: 100,
-    file: 1 << 29,
-};
 
 /// A text, and what is shown of it.
 const FORMS: &[(&str, &str)] = &[
@@ -110,11 +59,8 @@ const FORMS: &[(&str, &str)] = &[
 ];
 
 #[test]
-fn forms_and_faults(rt: HostRuntime) -> Result<(), Fail> {
-    for (text, wanted) in FORMS {
-        assert_shown(&rt, rt.alloc(), text, WIDE, wanted)?;
-    }
-    Ok(())
+fn forms_and_faults(rt: HostRuntime) {
+    assert_rows(&rt, rt.alloc(), FORMS, Form::Weights);
 }
 
 /// A text, the greatest size of a file, and what is shown where a line has eight bytes at most.
@@ -129,67 +75,55 @@ const LIMITED: &[(&str, u32, &str)] = &[
 ];
 
 #[test]
-fn limits_come_before_forms(rt: HostRuntime) -> Result<(), Fail> {
-    for (text, file, wanted) in LIMITED {
-        let limits = FileLimits {
-            line: 8,
-            file: u64::from(*file),
-        };
-        assert_shown(&rt, rt.alloc(), text, limits, wanted)?;
-    }
-    Ok(())
-}
-
-/// The fault of the six-arc file where it is cut to a length below 56.
-fn cut_fault(length: usize) -> (u8, u64) {
-    match length {
-        0 => (2, 1),
-        1..=7 => (1, 1),
-        8 => (7, 2),
-        _ => {
-            let line = (length as u64 - 1) / 8;
-            match (length - 1) % 8 {
-                0 => (7, line + 1),
-                7 => (7, line + 2),
-                _ => (1, line + 1),
-            }
-        }
-    }
+fn limits_come_before_forms(rt: HostRuntime) {
+    assert_limited(&rt, rt.alloc(), LIMITED, 8, Form::Weights);
 }
 
 const SIX_ARCS: &[u8] = b"p sp 4 6\na 1 2 1\na 1 3 2\na 2 4 1\na 3 4 2\na 2 3 1\na 1 4 9\n";
 
-/// What is to be shown of the six-arc file where it is cut to a length.
-fn wanted_of_cut(alloc: Global, length: usize) -> Result<String, AllocError> {
-    if length >= 56 {
-        return String::from_str(alloc, "4: 1>2 1 1>3 2 2>4 1 3>4 2 2>3 1 1>4 9");
-    }
-    let (kind, line) = cut_fault(length);
-    format!(in alloc; "{kind} at {line}")
+/// What is shown of the six-arc file where it is cut to a length from the first to the second number. Its first line has
+/// nine bytes, and each arc eight.
+const CUTS: &[(usize, usize, &str)] = &[
+    (0, 0, "2 at 1"),
+    (1, 7, "1 at 1"),
+    (8, 9, "7 at 2"),
+    (10, 15, "1 at 2"),
+    (16, 17, "7 at 3"),
+    (18, 23, "1 at 3"),
+    (24, 25, "7 at 4"),
+    (26, 31, "1 at 4"),
+    (32, 33, "7 at 5"),
+    (34, 39, "1 at 5"),
+    (40, 41, "7 at 6"),
+    (42, 47, "1 at 6"),
+    (48, 49, "7 at 7"),
+    (50, 55, "1 at 7"),
+    (56, 57, "4: 1>2 1 1>3 2 2>4 1 3>4 2 2>3 1 1>4 9"),
+];
+
+#[test]
+fn cut_files(rt: HostRuntime) {
+    assert_cuts(&rt, rt.alloc(), SIX_ARCS, CUTS, Form::Weights);
+}
+
+/// Whether the sizes come, and then twice the fault of a read that fails; and how many bytes are left.
+fn fault_twice(alloc: Global) -> Result<([bool; 3], usize), AllocError> {
+    let mut source = source_of(alloc, failing(b"p sp 2 1\na 1 2 5\n", 1, &[14]))?;
+    let Ok(mut lines) = RecordLines::<WeightFiles>::new(alloc, WIDE) else {
+        return Err(AllocError);
+    };
+    let sizes = lines.begin(&mut source) == Ok(Sizes { nodes: 2, arcs: 1 });
+    let first = lines.next_record(&mut source) == Err(FileFault::Read);
+    let again = lines.next_record(&mut source) == Err(FileFault::Read);
+    Ok(([sizes, first, again], left_in(&mut source)))
 }
 
 #[test]
-fn cut_files(rt: HostRuntime) -> Result<(), Fail> {
-    for length in 0..=SIX_ARCS.len() {
-        let wanted = wanted_of_cut(rt.alloc(), length)?;
-        for piece in [1, 1000] {
-            let got = shown_in_pieces(rt.alloc(), &SIX_ARCS[..length], piece, WIDE)?;
-            assert_eq!(rt; got.as_str(), wanted.as_str(), "length {length}");
-        }
-    }
-    Ok(())
-}
-
-#[test]
-fn an_end_is_answered_again(rt: HostRuntime) -> Result<(), Fail> {
-    let alloc = rt.alloc();
-    let mut source = pieces(alloc, b"p sp 2 1\na 1 2 5\n", 1, vec![in alloc; 14]?)?;
-    let mut lines: RecordLines<WeightFiles> = RecordLines::new(alloc, WIDE)?;
-    assert!(rt; lines.begin(&mut source) == Ok(Sizes { nodes: 2, arcs: 1 }));
-    assert!(rt; lines.next_record(&mut source) == Err(FileFault::Read));
-    assert!(rt; lines.next_record(&mut source) == Err(FileFault::Read));
-    assert_eq!(rt; left_in(&mut source), 3);
-    Ok(())
+fn an_end_is_answered_again(rt: HostRuntime) {
+    assert!(rt;
+        fault_twice(rt.alloc()) == Ok(([true; 3], 3)),
+        "the fault of a read is kept"
+    );
 }
 
 /// Hands the joiner the file of a text that comes in pieces of this length.
@@ -199,7 +133,7 @@ fn take(alloc: Global, joiner: &mut Joiner, text: &[u8], length: usize) -> Resul
     ensures begun { OnOk result (joiner.new.begun ≡ joiner.old.begun + 1) }
     ensures whole { OnOk result (joiner.new.come ≡ joiner.new.due_arcs) }
 {
-    let mut source = pieces(alloc, text, length, Vec::new(alloc))?;
+    let mut source = source_of(alloc, pieces(text, length))?;
     read_into(alloc, &mut source, WIDE, joiner)?;
     Ok(())
 }
@@ -211,6 +145,7 @@ fn files_come_to_a_joiner(rt: HostRuntime) -> Result<(), Fail> {
     take(alloc, &mut joiner, b"p sp 2 1\na 1 2 5\n", 1)?;
     take(alloc, &mut joiner, b"c\np sp 2 1\na 1 2 7\n", 100)?;
     let (graph, _) = joiner.finish()?;
-    assert_eq!(rt; (graph.nodes(), graph.arcs(), graph.criteria()), (2, 1, 2));
+    let sizes = (graph.nodes(), graph.arcs(), graph.criteria());
+    assert!(rt; sizes == (2, 1, 2), "nodes, arcs and criteria");
     Ok(())
 }

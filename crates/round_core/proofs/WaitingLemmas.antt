@@ -15,7 +15,7 @@ use Rattle.list_laws.proofs.OnceLaws.{IsTold, in_append, told_as, told_either, t
 use Rattle.list_laws.proofs.Pairs.{pairs_push}
 use Rattle.list_laws.proofs.Retained.{without_by_retain}
 use Rattle.pareto_front.specs.Fronts.{Entry, HasCost, IsDominated, entries}
-use Rattle.pareto_queue.specs.Queues.{IsDominatedBy, LosesWhere, TakesUndominated}
+use Rattle.pareto_queue.specs.Queues.{IsDominatedBy, LosesWhere}
 use Rattle.pareto_queue.proofs.RetainedLemmas.{fails_by_test, loses_by_without}
 use Rattle.round_core.specs.Bounds.{Bounds, IsUseless}
 use Rattle.round_core.specs.Waiting.{AreOnce, Waiting, all_waiting}

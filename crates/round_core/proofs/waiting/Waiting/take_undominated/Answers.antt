@@ -1,4 +1,4 @@
-use Rattle.std.proofs.Common.{rules, List, ◌++◌, ◌≡◌, sym, subst, ap, ◌∙◌}
+use Rattle.std.proofs.Common.{List, ◌++◌, ◌≡◌, sym, subst}
 use Rattle.compact_labels.specs.declared.label.CompactSpot.{CompactSpot}
 use Rattle.list_laws.specs.Sets.{SameMembers}
 use Rattle.pareto_queue.specs.Queues.{TakesUndominated}

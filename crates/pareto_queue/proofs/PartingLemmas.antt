@@ -1,16 +1,16 @@
 -- The spots of a list and those that come, parted in turn.
-use Rattle.std.proofs.Common.{◌≡◌, ◌≢◌, ℕ, ◌+◌, ◌<◌, ◌≤◌, List, [], ◌∷◌, ◌++◌, take, drop, length, Bor, Option, Some, None, ◌⊎◌, ◌↔◌, inl, inr, refl, sym, ap, subst, ◌∙◌, arith}
-use Rattle.std.specs.Prelude.{All, AllPairs, Contains, IfSome, slice_get}
+use Rattle.std.proofs.Common.{◌≡◌, ◌≢◌, ℕ, ◌<◌, ◌≤◌, List, [], ◌∷◌, ◌++◌, take, drop, length, Bor, Option, Some, None, ◌⊎◌, ◌↔◌, inl, inr, refl, sym, subst, arith}
+use Rattle.std.specs.Prelude.{AllPairs, Contains, IfSome, slice_get}
 use Rattle.std.specs.Option.{option_copied}
 use Rattle.compact_labels.specs.declared.cost.CompactCost.{CompactCost}
 use Rattle.compact_labels.specs.declared.label.CompactSpot.{CompactSpot}
 use Rattle.list_laws.specs.Sets.{Loses}
-use Rattle.list_laws.proofs.Members.{all_from_in, cases_in, cases_push, each_in, in_first, in_none, in_one}
+use Rattle.list_laws.proofs.Members.{all_from_in, cases_in, cases_push, each_in, in_first, in_none}
 use Rattle.list_laws.proofs.OnceLaws.{in_append}
 use Rattle.list_laws.proofs.Pairs.{pairs_take, pair_with_first}
-use Rattle.pareto_queue.specs.Passing.{BeginsWith, IsEarliest, IsSplit, LeavesOut, NoneBefore}
-use Rattle.pareto_queue.specs.Queues.{AreSorted, IsDominatedBy, SpotLess, without}
-use Rattle.pareto_queue.specs.Shadows.{AreNext, Descends, HasParted, IsExtracted, IsTaken, PartsNext, StaysBehind}
+use Rattle.pareto_queue.specs.Passing.{BeginsWith, IsEarliest, IsSplit, WithoutFirst, NoneBefore}
+use Rattle.pareto_queue.specs.Queues.{AreSorted, SpotLess, without}
+use Rattle.pareto_queue.specs.Shadows.{AreNext, Descends, HasParted, IsExtracted, PartsNext, TakesUnshadowed}
 use Rattle.pareto_queue.proofs.ExtractionLemmas.{IsNext, parts_one}
 use Rattle.pareto_queue.proofs.ListLemmas.{in_parts, pairs_drop}
 use Rattle.pareto_queue.proofs.OrderLemmas.{SpotLess-irrefl, SpotLess-trans, after_unless, cases_spot, less_unless}
@@ -171,7 +171,7 @@ module _ {D : ℕ} where
         before = each_in (λ z. SpotLess z s) (take i left) split.before
 
     module _ (s : CompactSpot D) (earliest : IsEarliest lost new s) (none : NoneBefore s left) (left_after lost_after new_after : List (CompactSpot D))
-        (left_without : LeavesOut left s left_after) (lost_without : LeavesOut lost s lost_after) (new_without : LeavesOut new s new_after) where
+        (left_without : WithoutFirst left s left_after) (lost_without : WithoutFirst lost s lost_after) (new_without : WithoutFirst new s new_after) where
       left_loses : Loses left s left_after
       left_loses = loses_first left s left_after left_without is.left_ascends none
 
@@ -187,10 +187,13 @@ module _ {D : ℕ} where
           | inr came ↦ inr ((new_loses x).1 (came, other))
         ],
         λ h. elim h [
-          | inl there ↦ inl (((left_loses x).0 there.0).0, λ k. elim (still_there lost s lost_after lost_without x k) [
-            | inl same ↦ other same
-            | inr lost_still ↦ there.1 lost_still
-          ])
+          | inl there ↦ inl (
+            ((left_loses x).0 there.0).0,
+            λ k. elim (still_there lost s lost_after lost_without x k) [
+              | inl same ↦ other same
+              | inr lost_still ↦ there.1 lost_still
+            ],
+          )
           | inr came ↦ inr ((new_loses x).0 came).0
         ],
       )
@@ -284,13 +287,12 @@ module _ {D : ℕ} where
       }
 
       pub new_parted : length new_after < length new → (costs_after : List (CompactCost D)) (took_after rest_after : List (CompactSpot D))
-          → (IsDominatedBy costs s.cost.0 → StaysBehind s costs took rest costs_after took_after rest_after)
-          → (¬ IsDominatedBy costs s.cost.0 → IsTaken s costs took rest costs_after took_after rest_after) → Descends costs_after
+          → TakesUnshadowed s costs took rest costs_after took_after rest_after → Descends costs_after
           → IsParting all left_after lost_after new_after costs_after took_after rest_after
-      new_parted fewer costs_after took_after rest_after stays taken descends =
+      new_parted fewer costs_after took_after rest_after takes descends =
           let came = there_if_shorter new s new_after new_without fewer in
           new_extracted came costs_after took_after rest_after
-          (parts_one all is.seen costs took rest s costs_after took_after rest_after (new_is_next came) is.extracted stays taken descends)
+          (parts_one all is.seen costs took rest s costs_after took_after rest_after (new_is_next came) is.extracted takes descends)
 
   -- what is left at the end is parted
   pub all_parted : (all left lost new : List (CompactSpot D)) (costs : List (CompactCost D)) (took rest : List (CompactSpot D))

@@ -107,11 +107,6 @@ pub by_error : {X E : Type 0} (r : Result X E) (b : Bool) (P : Type 0) → b ≡
 by_error (Ok x) b P is wrong h = absurd (false≢true (sym is ∙ wrong))
 by_error (Err e) b P is wrong h = h
 
--- a list whose length is tested to be 0
-pub empty_by_test : {X : Type 0} (xs : List X) (b : Bool) → b ≡ nat_eq (length xs) 0 → b ≡ true → xs ≡ []
-empty_by_test [] b is holds = refl
-empty_by_test (x ∷ xs) b is holds = let none : length (x ∷ xs) ≡ 0 = grind (arith, nat_tests) in absurd (omega (arith, none))
-
 -- the members that are left where a test tells where P fails
 pub left_by_retain : {F X : Type 0} (R : F → X → Bool → F → Type 0) (f : F) (before after : List X) → IsFiltered R f before after → (P : X → Type 0)
     → ((x : X) → IsTold (P x)) → ((x : X) (b : Bool) (f' : F) → R f x b f' → (IsTrue b ↔ (¬ P x)) × (f' ≡ f))

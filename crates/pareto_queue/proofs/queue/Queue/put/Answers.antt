@@ -1,8 +1,8 @@
 use Rattle.std.proofs.Common.{◌≡◌, ◌∷◌, [], ◌∙◌, rules, sym, subst}
 use Rattle.std.specs.Prelude.{Contains}
 use Rattle.pareto_queue.specs.Queues.{Gains, IsGap, without}
-use Rattle.pareto_queue.proofs.QueueLemmas.{queue_alike, queue_by_insert, gains_by_insert}
-use Rattle.pareto_queue.proofs.WithoutLemmas.{holds_on_error, struck, unstruck}
+use Rattle.pareto_queue.proofs.QueueLemmas.{queue_alike, queue_by_insert, gains_by_insert, holds_on_error}
+use Rattle.pareto_queue.proofs.WithoutLemmas.{struck, unstruck}
 use Rattle.pareto_queue.proofs.queue.Queue.put.Goals as goal
 
 pub gap_of-at-requires : goal.gap_of-at-requires

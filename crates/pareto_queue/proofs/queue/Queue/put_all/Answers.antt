@@ -1,8 +1,8 @@
-use Rattle.std.proofs.Common.{◌≡◌, ◌∙◌, rules, sym, subst}
+use Rattle.std.proofs.Common.{◌∙◌, rules, sym, subst}
 use Rattle.std.specs.Prelude.{All, Contains}
 use Rattle.pareto_queue.specs.Queues.{Gains}
-use Rattle.pareto_queue.proofs.QueueLemmas.{ascending_by_sort, gains_in_order, new_in_order, queue_alike}
-use Rattle.pareto_queue.proofs.WithoutLemmas.{holds_on_error, struck, unstruck}
+use Rattle.pareto_queue.proofs.QueueLemmas.{ascending_by_sort, gains_in_order, new_in_order, queue_alike, holds_on_error}
+use Rattle.pareto_queue.proofs.WithoutLemmas.{struck, unstruck}
 use Rattle.pareto_queue.proofs.queue.Queue.put_all.Goals as goal
 
 pub merge-requires : goal.merge-requires

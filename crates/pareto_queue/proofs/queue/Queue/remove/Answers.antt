@@ -28,9 +28,15 @@ pub returns-in-Ok-clause-answer : goal.returns-in-Ok-clause-answer
 returns-in-Ok-clause-answer g c =
     let s = c.args.spot.now in
     let there = contained_at c.self.inside.spots.items c.in-Ok.at s
-        (subst (λ xs. slice_get xs c.in-Ok.at ≡ Some s) c.deref-2.ensures.value c.in-Ok.ensures.there) in
-    rw (← c.self.view_is) (λ yes. (in_without c.self.inside.spots.items c.self.inside.gone.items s).1 (there, λ lost.
-        false≢true (sym c.if-is_among.false ∙ c.is_among.ensures.1 (subst (λ xs. Contains xs s) (sym c.deref.ensures.value) lost))), λ h. refl)
+    (subst (λ xs. slice_get xs c.in-Ok.at ≡ Some s) c.deref-2.ensures.value c.in-Ok.ensures.there) in
+    rw (← c.self.view_is) (
+      λ yes. (in_without c.self.inside.spots.items c.self.inside.gone.items s).1 (
+        there,
+        λ lost.
+            false≢true (sym c.if-is_among.false ∙ c.is_among.ensures.1 (subst (λ xs. Contains xs s) (sym c.deref.ensures.value) lost)),
+      ),
+      λ h. refl,
+    )
 
 pub returns-in-Ok-clause-removed : goal.returns-in-Ok-clause-removed
 returns-in-Ok-clause-removed g c =

@@ -164,7 +164,8 @@ next_of {D} all seen spots i s next within at = record {
 -- s is parted, which is next
 pub parts_one : {D : ℕ} (all seen : List (CompactSpot D)) (costs : List (CompactCost D)) (took left : List (CompactSpot D)) (s : CompactSpot D)
     (costs_after : List (CompactCost D)) (took_after left_after : List (CompactSpot D)) → IsNext all seen s → IsExtracted all seen costs took left
-    → TakesUnshadowed s costs took left costs_after took_after left_after → Descends costs_after → IsExtracted all (seen ++ s ∷ []) costs_after took_after left_after
+    → TakesUnshadowed s costs took left costs_after took_after left_after → Descends costs_after
+    → IsExtracted all (seen ++ s ∷ []) costs_after took_after left_after
 parts_one all seen costs took left s costs_after took_after left_after next is takes descends = elim (cases_IsDominatedBy costs s.cost.0) [
   | inl by ↦
       let now = takes.stays by in

@@ -49,8 +49,8 @@ module _ {D : ℕ} where
   }
 
   -- the first spot of the other list is less
-  pub earliest_other : (spots others : List (CompactSpot D)) (s t : CompactSpot D) → AreSorted spots → AreSorted others → BeginsWith spots s → BeginsWith others t
-      → SpotLess t s → IsEarliest spots others t
+  pub earliest_other : (spots others : List (CompactSpot D)) (s t : CompactSpot D) → AreSorted spots → AreSorted others → BeginsWith spots s
+      → BeginsWith others t → SpotLess t s → IsEarliest spots others t
   earliest_other spots others s t sorted others_sorted at others_at less = record {
     first = inr others_at;
     none_before = all_from_in (λ x. ¬ SpotLess x t) spots (λ x h back.
@@ -109,8 +109,8 @@ module _ {D : ℕ} where
     front_parted : (front back : List (CompactSpot D)) → ((x : CompactSpot D) → Contains left x ↔ (Contains front x ⊎ Contains back x))
         → AllPairs SpotLess front → AllPairs SpotLess back → ((y : CompactSpot D) → Contains front y → ¬ Contains lost y)
         → ((y x : CompactSpot D) → Contains front y → Contains back x ⊎ Contains new x → SpotLess y x)
-        → (costs_after : List (CompactCost D)) (took_after rest_after : List (CompactSpot D)) → PartsNext front costs took rest costs_after took_after rest_after
-        → IsParting all back lost new costs_after took_after rest_after
+        → (costs_after : List (CompactCost D)) (took_after rest_after : List (CompactSpot D))
+        → PartsNext front costs took rest costs_after took_after rest_after → IsParting all back lost new costs_after took_after rest_after
     front_parted front back parts front_up back_up free first costs_after took_after rest_after on = record {
       seen = is.seen ++ front;
       extracted = on all is.seen next is.extracted;
@@ -296,8 +296,8 @@ module _ {D : ℕ} where
 
   -- what is left at the end is parted
   pub all_parted : (all left lost new : List (CompactSpot D)) (costs : List (CompactCost D)) (took rest : List (CompactSpot D))
-      → IsParting all left lost new costs took rest → (lost ≡ []) × (new ≡ []) → (costs_after : List (CompactCost D)) (took_after rest_after : List (CompactSpot D))
-      → PartsNext left costs took rest costs_after took_after rest_after → HasParted all costs_after took_after rest_after
+      → IsParting all left lost new costs took rest → (lost ≡ []) × (new ≡ [])
+      → (costs_after : List (CompactCost D)) (took_after rest_after : List (CompactSpot D)) → PartsNext left costs took rest costs_after took_after rest_after → HasParted all costs_after took_after rest_after
   all_parted all left lost new costs took rest going none costs_after took_after rest_after on = (end.seen, same, end.extracted)
     where
       is : IsParting all left [] [] costs took rest

@@ -108,7 +108,8 @@ module _ {D : ℕ} (spots gone lost : List (CompactSpot D)) (same : IsPermutatio
       )
 
   -- nor does that of those that come
-  pub renewed_in_order : (given order : List (CompactSpot D)) → IsPermutation given order → SameMembers (without spots lost ++ order) (without spots gone ++ given)
+  pub renewed_in_order : (given order : List (CompactSpot D)) → IsPermutation given order
+      → SameMembers (without spots lost ++ order) (without spots gone ++ given)
   renewed_in_order given order moved x =
       let come = same_by_permutation given order moved x in
       let stay = without_in_order x in (

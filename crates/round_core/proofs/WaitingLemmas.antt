@@ -1,10 +1,9 @@
 -- The spots that wait, in the queue and fresh.
-use Rattle.std.proofs.Common.{nat_eq, ◌≡◌, ◌≢◌, ◌↔◌, ℕ, List, [], ◌∷◌, ◌++◌, inl, inr, refl, sym, subst, ◌∙◌, arith, length}
+use Rattle.std.proofs.Common.{◌≡◌, ◌≢◌, ◌↔◌, ℕ, List, [], ◌∷◌, ◌++◌, inl, inr, refl, sym, subst, ◌∙◌, arith}
 use Rattle.std.specs.Prelude.{All, AllPairs, Bool, true, IsTrue, Contains, OnErr, Result, Ok, Err}
 use Rattle.std.specs.List.Retain.{IsFiltered}
 use Rattle.std.specs.Result.{is_err}
 use Rattle.std.proofs.lemmas.Bool.{false≢true}
-use Rattle.std.proofs.lemmas.Bool.Decides.{nat_tests}
 use Rattle.compact_labels.specs.declared.label.CompactSpot.{CompactSpot}
 use Rattle.compact_labels.specs.declared.cost.CompactCost.{CompactCost}
 use Rattle.cost_vector.specs.Costs.{Dominates}
@@ -15,7 +14,7 @@ use Rattle.list_laws.proofs.OnceLaws.{IsTold, in_append, told_as, told_either, t
 use Rattle.list_laws.proofs.Pairs.{pairs_push}
 use Rattle.list_laws.proofs.Retained.{without_by_retain}
 use Rattle.pareto_front.specs.Fronts.{Entry, HasCost, IsDominated, entries}
-use Rattle.pareto_queue.specs.Queues.{IsDominatedBy, LosesWhere, TakesUndominated}
+use Rattle.pareto_queue.specs.Queues.{IsDominatedBy, LosesWhere}
 use Rattle.pareto_queue.proofs.RetainedLemmas.{fails_by_test, loses_by_without}
 use Rattle.round_core.specs.Bounds.{Bounds, IsUseless}
 use Rattle.round_core.specs.Waiting.{AreOnce, Waiting, all_waiting}

@@ -11,7 +11,8 @@ gap_of-at-requires g c = (
   (
     rw c.deref.ensures.value c.strike.ensures.ascending,
     rw c.deref.ensures.value (subst (λ xs. ¬ Contains xs c.args.spot)
-        (sym (struck c.strike.new.spots.items c.strike.new.gone.items c.args.self.now (c.strike.ensures.same ∙ c.self.view_is) c.in_ok-strike.ensures.none_gone))
+        (sym (struck c.strike.new.spots.items c.strike.new.gone.items c.args.self.now (c.strike.ensures.same ∙ c.self.view_is)
+        c.in_ok-strike.ensures.none_gone))
         c.requires),
   ),
 )

@@ -1,18 +1,18 @@
 -- The spots of a queue, extracted one after another in ascending order.
-use Rattle.std.proofs.Common.{◌≡◌, ℕ, ◌+◌, ◌<◌, List, [], ◌∷◌, ◌++◌, append_assoc, take, drop, get_or, length, ◌⊎◌, inl, inr, sym, ap, subst, ◌∙◌, arith, length-take-le, take-append-drop}
+use Rattle.std.proofs.Common.{◌≡◌, ℕ, ◌+◌, ◌<◌, List, [], ◌∷◌, ◌++◌, append_assoc, take, get_or, length, ◌⊎◌, inl, inr, sym, ap, subst, ◌∙◌, arith, length-take-le}
 use Rattle.std.specs.Prelude.{AllPairs, Contains}
 use Rattle.std.proofs.lemmas.Bool.{cases_lt}
-use Rattle.std.proofs.lemmas.List.{get_or-take, get_or_default, take_more}
+use Rattle.std.proofs.lemmas.List.{get_or-take, get_or_default}
 use Rattle.std.proofs.lemmas.List.Elements.{Contains-append_left, Contains-get_or, Contains-push}
 use Rattle.compact_labels.specs.declared.cost.CompactCost.{CompactCost}
 use Rattle.compact_labels.specs.declared.label.CompactSpot.{CompactSpot}
 use Rattle.cost_vector.specs.Costs.{Dominates, LexLess}
 use Rattle.cost_vector.proofs.Vectors.{LexLess-irrefl, LexLess-trans, LexLess_from_Dominates, Dominates-irrefl}
-use Rattle.list_laws.proofs.Members.{in_none, each_in, cases_push}
+use Rattle.list_laws.proofs.Members.{each_in, cases_push}
 use Rattle.list_laws.proofs.OnceLaws.{in_append}
-use Rattle.list_laws.proofs.Pairs.{pairs_none, pairs_push}
+use Rattle.list_laws.proofs.Pairs.{pairs_push}
 use Rattle.pareto_queue.specs.Queues.{IsDominatedBy, IsUndominated, SpotLess, TakesUndominated}
-use Rattle.pareto_queue.specs.Shadows.{AreNext, Descends, FallsTo, HasParted, IsExtracted, IsLater, IsTaken, Joins, Sifts, StaysBehind}
+use Rattle.pareto_queue.specs.Shadows.{AreNext, Descends, HasParted, IsExtracted, IsLater, Joins, Sifts, TakesUnshadowed}
 use Rattle.pareto_queue.proofs.OrderLemmas.{before_place}
 use Rattle.pareto_queue.proofs.ListLemmas.{in_take}
 use Rattle.pareto_queue.proofs.PassingLemmas.{one_more}
@@ -24,18 +24,6 @@ module _ {D : ℕ} where
   not_less : (a b : CompactSpot D) → SpotLess a b → ¬ LexLess b.cost.0 a.cost.0
   not_less a b (inl less) back = LexLess-irrefl a.cost.0 (LexLess-trans a.cost.0 b.cost.0 a.cost.0 less back)
   not_less a b (inr tie) back = LexLess-irrefl b.cost.0 (subst (LexLess b.cost.0) tie.0 back)
-
-  sifts_none : (P : CompactSpot D → Type 0) → Sifts P [] []
-  sifts_none P = record { members = λ x. (λ h. absurd (in_none x h), λ h. absurd (in_none x h.0)); ascending = pairs_none SpotLess }
-
-  -- nothing is seen
-  pub none_extracted : (spots : List (CompactSpot D)) → IsExtracted spots [] [] [] []
-  none_extracted spots = record {
-    shadow = record { from = λ c h. absurd (in_none c h); dominates = λ c later s h. absurd (in_none s h) };
-    descends = pairs_none FallsTo;
-    taken = sifts_none (λ x. IsUndominated spots x.cost.0);
-    rest = sifts_none (λ x. ¬ IsUndominated spots x.cost.0);
-  }
 
   -- the spots that were seen come before s, and all others after it
   pub record IsNext (spots seen : List (CompactSpot D)) (s : CompactSpot D) : Type 0 where
@@ -176,15 +164,14 @@ next_of {D} all seen spots i s next within at = record {
 -- s is parted, which is next
 pub parts_one : {D : ℕ} (all seen : List (CompactSpot D)) (costs : List (CompactCost D)) (took left : List (CompactSpot D)) (s : CompactSpot D)
     (costs_after : List (CompactCost D)) (took_after left_after : List (CompactSpot D)) → IsNext all seen s → IsExtracted all seen costs took left
-    → (IsDominatedBy costs s.cost.0 → StaysBehind s costs took left costs_after took_after left_after)
-    → (¬ IsDominatedBy costs s.cost.0 → IsTaken s costs took left costs_after took_after left_after) → Descends costs_after
+    → TakesUnshadowed s costs took left costs_after took_after left_after → Descends costs_after
     → IsExtracted all (seen ++ s ∷ []) costs_after took_after left_after
-parts_one all seen costs took left s costs_after took_after left_after next is stays taken descends = elim (cases_IsDominatedBy costs s.cost.0) [
+parts_one all seen costs took left s costs_after took_after left_after next is takes descends = elim (cases_IsDominatedBy costs s.cost.0) [
   | inl by ↦
-      let now = stays by in
+      let now = takes.stays by in
       rw (now.costs_same, now.took_same, now.left_more) (extracted_skip all seen costs took left s next is by)
   | inr none ↦
-      let now = taken none in
+      let now = takes.taken none in
       rw (now.took_more, now.left_same) (extracted_cast all seen costs took left s next is none costs_after now.joins descends)
 ]
 
@@ -199,14 +186,13 @@ pub one_more_parted : {D : ℕ} (spots : List (CompactSpot D)) (i : ℕ) (s : Co
     → (costs : List (CompactCost D)) (took left : List (CompactSpot D)) (costs_now : List (CompactCost D)) (took_now left_now : List (CompactSpot D))
     → PartsFront spots i costs took left costs_now took_now left_now
     → (costs_after : List (CompactCost D)) (took_after left_after : List (CompactSpot D))
-    → (IsDominatedBy costs_now s.cost.0 → StaysBehind s costs_now took_now left_now costs_after took_after left_after)
-    → (¬ IsDominatedBy costs_now s.cost.0 → IsTaken s costs_now took_now left_now costs_after took_after left_after) → Descends costs_after
+    → TakesUnshadowed s costs_now took_now left_now costs_after took_after left_after → Descends costs_after
     → PartsFront spots (i + 1) costs took left costs_after took_after left_after
-one_more_parted spots i s within at costs took left costs_now took_now left_now parts costs_after took_after left_after stays taken descends =
+one_more_parted spots i s within at costs took left costs_now took_now left_now parts costs_after took_after left_after takes descends =
     λ all seen next is. subst (λ met. IsExtracted all met costs_after took_after left_after)
-        (append_assoc seen (take i spots) (s ∷ []) ∙ ap (λ ys. seen ++ ys) (one_more spots i s within at))
-        (parts_one all (seen ++ take i spots) costs_now took_now left_now s costs_after took_after left_after (next_of all seen spots i s next within at)
-        (parts all seen next is) stays taken descends)
+    (append_assoc seen (take i spots) (s ∷ []) ∙ ap (λ ys. seen ++ ys) (one_more spots i s within at))
+    (parts_one all (seen ++ take i spots) costs_now took_now left_now s costs_after took_after left_after (next_of all seen spots i s next within at)
+    (parts all seen next is) takes descends)
 
 -- all are parted
 pub takes_all : {D : ℕ} (all : List (CompactSpot D)) (costs : List (CompactCost D)) (took left : List (CompactSpot D)) → HasParted all costs took left

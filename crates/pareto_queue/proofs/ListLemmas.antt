@@ -1,7 +1,8 @@
--- Lists of which each element stands in a relation to each later one, cut or with one element more.
-use Rattle.std.proofs.Common.{ℕ, zero, suc, List, [], ◌∷◌, take, drop, take-append-drop, ◌⊎◌, ◌↔◌, inl, inr, sym, subst}
+-- Lists that are cut, and lists of which each element stands in a relation to each later one.
+use Rattle.std.proofs.Common.{◌≡◌, ℕ, zero, Bool, true, nat_eq, length, refl, arith, suc, List, [], ◌∷◌, take, drop, take-append-drop, ◌⊎◌, ◌↔◌, inl, inr, sym, subst}
 use Rattle.std.specs.Prelude.{AllPairs, Contains}
 use Rattle.std.specs.List.{insert}
+use Rattle.std.proofs.lemmas.Bool.Decides.{nat_tests}
 use Rattle.list_laws.proofs.Members.{cases_in, each_in}
 use Rattle.list_laws.proofs.OnceLaws.{in_append, pairs_append}
 use Rattle.list_laws.proofs.Pairs.{pairs_none, pairs_cons, pairs_rest, pairs_take}
@@ -34,3 +35,8 @@ in_parts xs i x = (
 
 pub in_take : {X : Type 0} (xs : List X) (i : ℕ) (x : X) → Contains (take i xs) x → Contains xs x
 in_take xs i x h = (in_parts xs i x).1 (inl h)
+
+-- a list whose length is tested to be 0
+pub empty_by_test : {X : Type 0} (xs : List X) (b : Bool) → b ≡ nat_eq (length xs) 0 → b ≡ true → xs ≡ []
+empty_by_test [] b is holds = refl
+empty_by_test (x ∷ xs) b is holds = let none : length (x ∷ xs) ≡ 0 = grind (arith, nat_tests) in absurd (omega (arith, none))

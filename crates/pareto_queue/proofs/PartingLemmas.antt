@@ -1,16 +1,16 @@
 -- The spots of a list and those that come, parted in turn.
-use Rattle.std.proofs.Common.{◌≡◌, ◌≢◌, ℕ, ◌+◌, ◌<◌, ◌≤◌, List, [], ◌∷◌, ◌++◌, take, drop, length, Bor, Option, Some, None, ◌⊎◌, ◌↔◌, inl, inr, refl, sym, ap, subst, ◌∙◌, arith}
-use Rattle.std.specs.Prelude.{All, AllPairs, Contains, IfSome, slice_get}
+use Rattle.std.proofs.Common.{◌≡◌, ◌≢◌, ℕ, ◌<◌, ◌≤◌, List, [], ◌∷◌, ◌++◌, take, drop, length, Bor, Option, Some, None, ◌⊎◌, ◌↔◌, inl, inr, refl, sym, subst, arith}
+use Rattle.std.specs.Prelude.{AllPairs, Contains, IfSome, slice_get}
 use Rattle.std.specs.Option.{option_copied}
 use Rattle.compact_labels.specs.declared.cost.CompactCost.{CompactCost}
 use Rattle.compact_labels.specs.declared.label.CompactSpot.{CompactSpot}
 use Rattle.list_laws.specs.Sets.{Loses}
-use Rattle.list_laws.proofs.Members.{all_from_in, cases_in, cases_push, each_in, in_first, in_none, in_one}
+use Rattle.list_laws.proofs.Members.{all_from_in, cases_in, cases_push, each_in, in_first, in_none}
 use Rattle.list_laws.proofs.OnceLaws.{in_append}
 use Rattle.list_laws.proofs.Pairs.{pairs_take, pair_with_first}
-use Rattle.pareto_queue.specs.Passing.{BeginsWith, IsEarliest, IsSplit, LeavesOut, NoneBefore}
-use Rattle.pareto_queue.specs.Queues.{AreSorted, IsDominatedBy, SpotLess, without}
-use Rattle.pareto_queue.specs.Shadows.{AreNext, Descends, HasParted, IsExtracted, IsTaken, PartsNext, StaysBehind}
+use Rattle.pareto_queue.specs.Passing.{BeginsWith, IsEarliest, IsSplit, WithoutFirst, NoneBefore}
+use Rattle.pareto_queue.specs.Queues.{AreSorted, SpotLess, without}
+use Rattle.pareto_queue.specs.Shadows.{AreNext, Descends, HasParted, IsExtracted, PartsNext, TakesUnshadowed}
 use Rattle.pareto_queue.proofs.ExtractionLemmas.{IsNext, parts_one}
 use Rattle.pareto_queue.proofs.ListLemmas.{in_parts, pairs_drop}
 use Rattle.pareto_queue.proofs.OrderLemmas.{SpotLess-irrefl, SpotLess-trans, after_unless, cases_spot, less_unless}
@@ -49,8 +49,8 @@ module _ {D : ℕ} where
   }
 
   -- the first spot of the other list is less
-  pub earliest_other : (spots others : List (CompactSpot D)) (s t : CompactSpot D) → AreSorted spots → AreSorted others → BeginsWith spots s → BeginsWith others t
-      → SpotLess t s → IsEarliest spots others t
+  pub earliest_other : (spots others : List (CompactSpot D)) (s t : CompactSpot D) → AreSorted spots → AreSorted others → BeginsWith spots s
+      → BeginsWith others t → SpotLess t s → IsEarliest spots others t
   earliest_other spots others s t sorted others_sorted at others_at less = record {
     first = inr others_at;
     none_before = all_from_in (λ x. ¬ SpotLess x t) spots (λ x h back.
@@ -109,8 +109,8 @@ module _ {D : ℕ} where
     front_parted : (front back : List (CompactSpot D)) → ((x : CompactSpot D) → Contains left x ↔ (Contains front x ⊎ Contains back x))
         → AllPairs SpotLess front → AllPairs SpotLess back → ((y : CompactSpot D) → Contains front y → ¬ Contains lost y)
         → ((y x : CompactSpot D) → Contains front y → Contains back x ⊎ Contains new x → SpotLess y x)
-        → (costs_after : List (CompactCost D)) (took_after rest_after : List (CompactSpot D)) → PartsNext front costs took rest costs_after took_after rest_after
-        → IsParting all back lost new costs_after took_after rest_after
+        → (costs_after : List (CompactCost D)) (took_after rest_after : List (CompactSpot D))
+        → PartsNext front costs took rest costs_after took_after rest_after → IsParting all back lost new costs_after took_after rest_after
     front_parted front back parts front_up back_up free first costs_after took_after rest_after on = record {
       seen = is.seen ++ front;
       extracted = on all is.seen next is.extracted;
@@ -171,7 +171,7 @@ module _ {D : ℕ} where
         before = each_in (λ z. SpotLess z s) (take i left) split.before
 
     module _ (s : CompactSpot D) (earliest : IsEarliest lost new s) (none : NoneBefore s left) (left_after lost_after new_after : List (CompactSpot D))
-        (left_without : LeavesOut left s left_after) (lost_without : LeavesOut lost s lost_after) (new_without : LeavesOut new s new_after) where
+        (left_without : WithoutFirst left s left_after) (lost_without : WithoutFirst lost s lost_after) (new_without : WithoutFirst new s new_after) where
       left_loses : Loses left s left_after
       left_loses = loses_first left s left_after left_without is.left_ascends none
 
@@ -187,10 +187,13 @@ module _ {D : ℕ} where
           | inr came ↦ inr ((new_loses x).1 (came, other))
         ],
         λ h. elim h [
-          | inl there ↦ inl (((left_loses x).0 there.0).0, λ k. elim (still_there lost s lost_after lost_without x k) [
-            | inl same ↦ other same
-            | inr lost_still ↦ there.1 lost_still
-          ])
+          | inl there ↦ inl (
+            ((left_loses x).0 there.0).0,
+            λ k. elim (still_there lost s lost_after lost_without x k) [
+              | inl same ↦ other same
+              | inr lost_still ↦ there.1 lost_still
+            ],
+          )
           | inr came ↦ inr ((new_loses x).0 came).0
         ],
       )
@@ -284,18 +287,17 @@ module _ {D : ℕ} where
       }
 
       pub new_parted : length new_after < length new → (costs_after : List (CompactCost D)) (took_after rest_after : List (CompactSpot D))
-          → (IsDominatedBy costs s.cost.0 → StaysBehind s costs took rest costs_after took_after rest_after)
-          → (¬ IsDominatedBy costs s.cost.0 → IsTaken s costs took rest costs_after took_after rest_after) → Descends costs_after
+          → TakesUnshadowed s costs took rest costs_after took_after rest_after → Descends costs_after
           → IsParting all left_after lost_after new_after costs_after took_after rest_after
-      new_parted fewer costs_after took_after rest_after stays taken descends =
+      new_parted fewer costs_after took_after rest_after takes descends =
           let came = there_if_shorter new s new_after new_without fewer in
           new_extracted came costs_after took_after rest_after
-          (parts_one all is.seen costs took rest s costs_after took_after rest_after (new_is_next came) is.extracted stays taken descends)
+          (parts_one all is.seen costs took rest s costs_after took_after rest_after (new_is_next came) is.extracted takes descends)
 
   -- what is left at the end is parted
   pub all_parted : (all left lost new : List (CompactSpot D)) (costs : List (CompactCost D)) (took rest : List (CompactSpot D))
-      → IsParting all left lost new costs took rest → (lost ≡ []) × (new ≡ []) → (costs_after : List (CompactCost D)) (took_after rest_after : List (CompactSpot D))
-      → PartsNext left costs took rest costs_after took_after rest_after → HasParted all costs_after took_after rest_after
+      → IsParting all left lost new costs took rest → (lost ≡ []) × (new ≡ [])
+      → (costs_after : List (CompactCost D)) (took_after rest_after : List (CompactSpot D)) → PartsNext left costs took rest costs_after took_after rest_after → HasParted all costs_after took_after rest_after
   all_parted all left lost new costs took rest going none costs_after took_after rest_after on = (end.seen, same, end.extracted)
     where
       is : IsParting all left [] [] costs took rest

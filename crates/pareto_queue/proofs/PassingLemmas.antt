@@ -1,5 +1,5 @@
 -- Two ascending lists, gone through side by side.
-use Rattle.std.proofs.Common.{◌≡◌, ◌≢◌, ℕ, zero, suc, ◌+◌, ◌-◌, ◌<◌, ◌≤◌, List, [], ◌∷◌, ◌++◌, take, drop, get_or, length, ◌⊎◌, ◌↔◌, inl, inr, refl, sym, subst, ◌∙◌, arith, ap, Some, length-drop, length-take, length-take-le, take-append-drop}
+use Rattle.std.proofs.Common.{◌≡◌, ◌≢◌, ℕ, zero, suc, ◌+◌, ◌-◌, ◌<◌, List, [], ◌∷◌, ◌++◌, take, drop, get_or, length, ◌⊎◌, ◌↔◌, inl, inr, refl, sym, subst, ◌∙◌, arith, ap, Some, length-drop, length-take, length-take-le, take-append-drop}
 use Rattle.std.specs.Prelude.{All, AllPairs, Contains, slice_get}
 use Rattle.std.proofs.Math.Nat.{add-zero}
 use Rattle.std.proofs.lemmas.List.{drop_more, get_or-drop, get_or-take, take_all, take_more, take-take}
@@ -10,7 +10,7 @@ use Rattle.list_laws.specs.Sets.{Loses}
 use Rattle.list_laws.proofs.Members.{in_none, in_first, in_rest, all_from_in, cases_in, cases_push, each_in}
 use Rattle.list_laws.proofs.OnceLaws.{in_append, pairs_append}
 use Rattle.list_laws.proofs.Pairs.{pairs_none, pairs_rest, pairs_push, pairs_take, pair_with_first}
-use Rattle.pareto_queue.specs.Passing.{BeginsWith, IsSplit, LeavesOut, NoneBefore, PassesOn}
+use Rattle.pareto_queue.specs.Passing.{BeginsWith, IsSplit, WithoutFirst, NoneBefore, PassesOn}
 use Rattle.pareto_queue.specs.Queues.{AreSorted, SpotLess}
 use Rattle.pareto_queue.proofs.ListLemmas.{pairs_drop}
 use Rattle.pareto_queue.proofs.OrderLemmas.{SpotLess-irrefl, SpotLess-trans, after_unless, before_place, less_unless}
@@ -31,7 +31,7 @@ module _ {D : ℕ} where
 
   -- it is s
   pub leaves_first : (first s : CompactSpot D) (xs : List (CompactSpot D)) → slice_get xs 0 ≡ Some first → first ≡ s
-      → LeavesOut xs s (take (length xs - 1) (drop 1 xs))
+      → WithoutFirst xs s (take (length xs - 1) (drop 1 xs))
   leaves_first first s [] at same = absurd (cc)
   leaves_first first s (y ∷ ys) at same =
       let e : y ≡ s = get_or_from_slice_get (y ∷ ys) 0 first s at ∙ same in
@@ -39,10 +39,10 @@ module _ {D : ℕ} where
       inl (ap (λ z. z ∷ ys) e ∙ ap (λ zs. s ∷ zs) (sym all))
 
   -- it is another
-  pub leaves_none : (first s : CompactSpot D) (xs : List (CompactSpot D)) → slice_get xs 0 ≡ Some first → first ≢ s → LeavesOut xs s xs
+  pub leaves_none : (first s : CompactSpot D) (xs : List (CompactSpot D)) → slice_get xs 0 ≡ Some first → first ≢ s → WithoutFirst xs s xs
   leaves_none first s xs at other = inr (refl, λ begun. other (sym (get_or_from_slice_get xs 0 first s at) ∙ get_or_from_slice_get xs 0 s s begun))
 
-  module _ (xs : List (CompactSpot D)) (s : CompactSpot D) (ys : List (CompactSpot D)) (leaves : LeavesOut xs s ys) where
+  module _ (xs : List (CompactSpot D)) (s : CompactSpot D) (ys : List (CompactSpot D)) (leaves : WithoutFirst xs s ys) where
     -- the others stand in the same order
     pub pairs_left : (R : CompactSpot D → CompactSpot D → Type 0) → AllPairs R xs → AllPairs R ys
     pairs_left R pairs = elim leaves [
@@ -77,13 +77,7 @@ module _ {D : ℕ} where
           | inr none ↦ none.1 (begun_if_there xs s up none_before (was_there s h))
         ]
 
-    -- there are no more of them, and fewer if the list begins with s
-    pub no_longer : length ys ≤ length xs
-    no_longer = elim leaves [
-      | inl first ↦ let e : length xs ≡ suc (length ys) = ap length first in omega arith
-      | inr none ↦ let e : length ys ≡ length xs = ap length none.0 in omega arith
-    ]
-
+    -- they are fewer just where the list begins with s
     pub there_if_shorter : length ys < length xs → Contains xs s
     there_if_shorter fewer = elim leaves [
       | inl first ↦ subst (λ zs. Contains zs s) (sym first) (in_first s ys)
@@ -265,7 +259,7 @@ module _ {D : ℕ} where
         none h = elim ((is.has s).0 ((same s).0 (inr h))) [ inl old ↦ new old | inr one ↦ not_met one ]
 
     -- s is left out
-    pub subtracted_more : ((t : CompactSpot D) → Contains todo t → ¬ SpotLess t s) → (others : List (CompactSpot D)) → LeavesOut rest s others
+    pub subtracted_more : ((t : CompactSpot D) → Contains todo t → ¬ SpotLess t s) → (others : List (CompactSpot D)) → WithoutFirst rest s others
         → IsUnderWay (λ x. Contains spots x × (¬ Contains met x)) passed left (s ∷ todo)
         → IsUnderWay (λ x. Contains spots x × (¬ Contains (met ++ s ∷ []) x)) after others todo
     subtracted_more later others leaves is = record {
@@ -333,7 +327,7 @@ module _ {D : ℕ} (more : List (CompactSpot D)) (i : ℕ) (s : CompactSpot D) (
         (subst (IsUnderWay (λ x. Contains spots x ⊎ Contains (take i more) x) passed left) met_here is)))
 
     -- the next spot is left out
-    pub subtracted_step : AreSorted more → (others : List (CompactSpot D)) → LeavesOut rest s others
+    pub subtracted_step : AreSorted more → (others : List (CompactSpot D)) → WithoutFirst rest s others
         → IsUnderWay (λ x. Contains spots x × (¬ Contains (take i more) x)) passed left (drop i more)
         → IsUnderWay (λ x. Contains spots x × (¬ Contains (take (i + 1) more) x)) after others (drop (i + 1) more)
     subtracted_step sorted others leaves is =
@@ -352,23 +346,3 @@ module _ {D : ℕ} (Has : CompactSpot D → Type 0) (passed left todo final : Li
     λ h. (is.has x).0 ((in_append passed left x).0 (subst (λ ys. Contains ys x) all h)),
     λ h. subst (λ ys. Contains ys x) (sym all) ((in_append passed left x).1 ((is.has x).1 h)),
   )
-
-module _ {D : ℕ} (spots more : List (CompactSpot D)) (up : AllPairs SpotLess spots) where
-  -- nothing was met
-  pub merged_none : IsUnderWay (λ x. Contains spots x ⊎ Contains [] x) [] spots more
-  merged_none = record {
-    passes = passes_none spots more up;
-    has = λ x. (
-      λ h. elim h [ inl none ↦ absurd (in_none x none) | inr there ↦ inl there ],
-      λ h. elim h [ inl there ↦ inr there | inr none ↦ absurd (in_none x none) ],
-    );
-  }
-
-  pub subtracted_none : IsUnderWay (λ x. Contains spots x × (¬ Contains [] x)) [] spots more
-  subtracted_none = record {
-    passes = passes_none spots more up;
-    has = λ x. (
-      λ h. elim h [ inl none ↦ absurd (in_none x none) | inr there ↦ (there, in_none x) ],
-      λ h. inr h.0,
-    );
-  }

@@ -1,6 +1,6 @@
 -- What becomes of a queue.
 use Rattle.std.proofs.Common.{◌≡◌, ◌≢◌, ℕ, Bool, false, IsTrue, List, [], ◌∷◌, get_or, Some, ◌⊎◌, ◌↔◌, inl, inr, sym, subst, arith}
-use Rattle.std.specs.Prelude.{All, AllPairs, Contains, IsPermutation, slice_get}
+use Rattle.std.specs.Prelude.{All, AllPairs, Contains, IsPermutation, OnErr, Result, Ok, Err, slice_get}
 use Rattle.std.proofs.lemmas.Bool.{false≢true}
 use Rattle.std.specs.List.{insert, remove}
 use Rattle.std.specs.List.Retain.{IsFiltered}
@@ -125,3 +125,8 @@ module _ {D : ℕ} where
 
     others : {R A B N Z : Type 0} → (R ↔ (A × N)) → (A ↔ B) → (Z ↔ R) → (Z ↔ (B × N))
     others r a z = grind arith
+
+-- what holds holds where there is an error
+pub holds_on_error : {X E : Type 0} (r : Result X E) (P : Type 0) → P → OnErr r P
+holds_on_error (Ok x) P holds = tt
+holds_on_error (Err e) P holds = holds

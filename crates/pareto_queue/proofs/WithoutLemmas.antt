@@ -1,13 +1,12 @@
 -- The spots of a list that aren't gone.
-use Rattle.std.proofs.Common.{◌≡◌, ℕ, Bool, true, false, Decides, List, [], ◌∷◌, ◌++◌, ◌⊎◌, ◌↔◌, inl, inr, refl, sym, ap, subst, ◌∙◌, arith, length}
-use Rattle.std.specs.Prelude.{not, nat_eq, ◌&&◌, All, AllPairs, Contains, IsPermutation, OnErr, Result, Ok, Err}
+use Rattle.std.proofs.Common.{◌≡◌, ℕ, Bool, true, false, Decides, List, [], ◌∷◌, ◌++◌, ◌↔◌, inl, inr, refl, sym, ap, subst, ◌∙◌}
+use Rattle.std.specs.Prelude.{not, nat_eq, ◌&&◌, All, AllPairs, Contains, IsPermutation}
 use Rattle.std.specs.Cmp.Lexicographic.{pointwise}
 use Rattle.std.proofs.lemmas.Bool.{false≢true}
-use Rattle.std.proofs.lemmas.Bool.Decides.{nat_tests}
 use Rattle.std.proofs.lemmas.List.Folds.{Any-from_list_any, list_any-from_Any}
 use Rattle.std.proofs.lemmas.List.Kept.{AllPairs-filter}
 use Rattle.compact_labels.specs.declared.label.CompactSpot.{CompactSpot}
-use Rattle.list_laws.specs.Sets.{Loses, SameMembers}
+use Rattle.list_laws.specs.Sets.{SameMembers}
 use Rattle.list_laws.proofs.Ascending.{ascending_same}
 use Rattle.list_laws.proofs.Members.{all_from_in, any_in, each_in, found_in, in_filter, in_none, of_filter}
 use Rattle.list_laws.proofs.OnceLaws.{empty_if_none, in_append, told_in}
@@ -109,7 +108,8 @@ module _ {D : ℕ} (spots gone lost : List (CompactSpot D)) (same : IsPermutatio
       )
 
   -- nor does that of those that come
-  pub renewed_in_order : (given order : List (CompactSpot D)) → IsPermutation given order → SameMembers (without spots lost ++ order) (without spots gone ++ given)
+  pub renewed_in_order : (given order : List (CompactSpot D)) → IsPermutation given order
+      → SameMembers (without spots lost ++ order) (without spots gone ++ given)
   renewed_in_order given order moved x =
       let come = same_by_permutation given order moved x in
       let stay = without_in_order x in (
@@ -122,13 +122,3 @@ module _ {D : ℕ} (spots gone lost : List (CompactSpot D)) (same : IsPermutatio
           | inr new ↦ inr (come.1 new)
         ]),
       )
-
--- a list whose length is tested to be 0
-pub empty_by_test : {X : Type 0} (xs : List X) (b : Bool) → b ≡ nat_eq (length xs) 0 → b ≡ true → xs ≡ []
-empty_by_test [] b is holds = refl
-empty_by_test (x ∷ xs) b is holds = let none : length (x ∷ xs) ≡ 0 = grind (arith, nat_tests) in absurd (omega (arith, none))
-
--- what holds holds where there is an error
-pub holds_on_error : {X E : Type 0} (r : Result X E) (P : Type 0) → P → OnErr r P
-holds_on_error (Ok x) P holds = tt
-holds_on_error (Err e) P holds = holds

@@ -24,8 +24,8 @@ module _ {D : ℕ} where
   BeginsWith spots s = slice_get spots 0 ≡ Some s
 
   -- the list without its first spot, if that is s
-  abbrev pub LeavesOut : List (CompactSpot D) → CompactSpot D → List (CompactSpot D) → Type 0
-  LeavesOut spots s rest = (spots ≡ s ∷ rest) ⊎ ((rest ≡ spots) × (¬ BeginsWith spots s))
+  abbrev pub WithoutFirst : List (CompactSpot D) → CompactSpot D → List (CompactSpot D) → Type 0
+  WithoutFirst spots s rest = (spots ≡ s ∷ rest) ⊎ ((rest ≡ spots) × (¬ BeginsWith spots s))
 
   -- one of two lists begins with s, and no spot of them comes before it
   pub record IsEarliest (spots others : List (CompactSpot D)) (s : CompactSpot D) : Type 0 where

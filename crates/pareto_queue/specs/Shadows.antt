@@ -73,15 +73,21 @@ module _ {D : ℕ} where
   HasParted all costs took left = (seen : List (CompactSpot D)) × SameMembers all seen × IsExtracted all seen costs took left
 
   -- the spot comes to the end of what is left
-  pub record StaysBehind (s : CompactSpot D) (costs : List (CompactCost D)) (took left : List (CompactSpot D))
+  pub record LeavesSpot (s : CompactSpot D) (costs : List (CompactCost D)) (took left : List (CompactSpot D))
       (costs_after : List (CompactCost D)) (took_after left_after : List (CompactSpot D)) : Type 0 where
     pub costs_same : costs_after ≡ costs
     pub took_same : took_after ≡ took
     pub left_more : left_after ≡ left ++ s ∷ []
 
   -- the spot comes to the end of what is taken, and its cost joins the shadow
-  pub record IsTaken (s : CompactSpot D) (costs : List (CompactCost D)) (took left : List (CompactSpot D))
+  pub record TakesSpot (s : CompactSpot D) (costs : List (CompactCost D)) (took left : List (CompactSpot D))
       (costs_after : List (CompactCost D)) (took_after left_after : List (CompactSpot D)) : Type 0 where
     pub joins : Joins costs s.cost costs_after
     pub took_more : took_after ≡ took ++ s ∷ []
     pub left_same : left_after ≡ left
+
+  -- the spot is taken, unless the shadow dominates its cost
+  pub record TakesUnshadowed (s : CompactSpot D) (costs : List (CompactCost D)) (took left : List (CompactSpot D))
+      (costs_after : List (CompactCost D)) (took_after left_after : List (CompactSpot D)) : Type 0 where
+    pub taken : ¬ IsDominatedBy costs s.cost.0 → TakesSpot s costs took left costs_after took_after left_after
+    pub stays : IsDominatedBy costs s.cost.0 → LeavesSpot s costs took left costs_after took_after left_after

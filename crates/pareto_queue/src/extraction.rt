@@ -1,8 +1,8 @@
 ghost use Rattle.std.specs.Prelude.{◌≡◌, ◌≤◌, ◌++◌, [], AllPairs, IfOk, IfSome, IfNone};
 ghost use Rattle.cost_vector.specs.Costs.{max_criteria, min_criteria};
 ghost use Rattle.pareto_queue.specs.Passing.{IsEarliest};
-ghost use Rattle.pareto_queue.specs.Queues.{AreSorted, IsDominatedBy, IsQueue, SpotLess, TakesUndominated, without};
-ghost use Rattle.pareto_queue.specs.Shadows.{Descends, HasParted, IsExtracted, IsTaken, PartsNext, StaysBehind};
+ghost use Rattle.pareto_queue.specs.Queues.{AreSorted, IsQueue, SpotLess, TakesUndominated, without};
+ghost use Rattle.pareto_queue.specs.Shadows.{Descends, HasParted, IsExtracted, PartsNext, TakesUnshadowed};
 
 use crate::merging::leave_out;
 use crate::order::count_before;
@@ -118,12 +118,9 @@ fn part<const D: usize>(
     requires four { D ≤ max_criteria }
     requires descends { Descends shadow.old.items }
     ensures descends { IfOk result (λ _. Descends shadow.new.items) }
-    ensures left { IfOk result (λ _. IsDominatedBy shadow.old.items spot.now.cost.0
-        → StaysBehind spot.now shadow.old.items taken.old.items rest.old.items
-            shadow.new.items taken.new.items rest.new.items) }
-    ensures taken { IfOk result (λ _. ¬ IsDominatedBy shadow.old.items spot.now.cost.0
-        → IsTaken spot.now shadow.old.items taken.old.items rest.old.items
-            shadow.new.items taken.new.items rest.new.items) }
+    ensures taken { IfOk result (λ _. TakesUnshadowed spot.now
+        shadow.old.items taken.old.items rest.old.items
+        shadow.new.items taken.new.items rest.new.items) }
 {
     if is_shadowed(shadow, &spot.cost) {
         rest.push(*spot)?;

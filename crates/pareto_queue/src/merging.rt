@@ -1,5 +1,5 @@
 ghost use Rattle.std.specs.Prelude.{◌≡◌, ◌↔◌, [], AllPairs, All, Contains, IfOk, IsTrue, OnOk};
-ghost use Rattle.pareto_queue.specs.Passing.{LeavesOut, PassesOn};
+ghost use Rattle.pareto_queue.specs.Passing.{WithoutFirst, PassesOn};
 ghost use Rattle.pareto_queue.specs.Queues.{AreSorted, Gains, LosesWhere, SpotLess, without};
 
 use crate::order::{count_before, list_sorted};
@@ -27,7 +27,7 @@ pub(crate) fn leave_out<'a, const D: usize>(
     spots: &'a [CompactSpot<D>],
     spot: &CompactSpot<D>,
 ) -> &'a [CompactSpot<D>]
-    ensures { LeavesOut spots.now spot.now result.now }
+    ensures { WithoutFirst spots.now spot.now result.now }
 {
     match spots.first() {
         Some(first) if first == spot => &spots[1..],

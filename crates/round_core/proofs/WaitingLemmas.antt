@@ -1,10 +1,9 @@
 -- The spots that wait, in the queue and fresh.
-use Rattle.std.proofs.Common.{nat_eq, ◌≡◌, ◌≢◌, ◌↔◌, ℕ, List, [], ◌∷◌, ◌++◌, inl, inr, refl, sym, subst, ◌∙◌, arith, length}
+use Rattle.std.proofs.Common.{◌≡◌, ◌≢◌, ◌↔◌, ℕ, List, [], ◌∷◌, ◌++◌, inl, inr, refl, sym, subst, ◌∙◌, arith}
 use Rattle.std.specs.Prelude.{All, AllPairs, Bool, true, IsTrue, Contains, OnErr, Result, Ok, Err}
 use Rattle.std.specs.List.Retain.{IsFiltered}
 use Rattle.std.specs.Result.{is_err}
 use Rattle.std.proofs.lemmas.Bool.{false≢true}
-use Rattle.std.proofs.lemmas.Bool.Decides.{nat_tests}
 use Rattle.compact_labels.specs.declared.label.CompactSpot.{CompactSpot}
 use Rattle.compact_labels.specs.declared.cost.CompactCost.{CompactCost}
 use Rattle.cost_vector.specs.Costs.{Dominates}
@@ -106,11 +105,6 @@ module _ {D : ℕ} where
 pub by_error : {X E : Type 0} (r : Result X E) (b : Bool) (P : Type 0) → b ≡ is_err r → b ≡ true → OnErr r P → P
 by_error (Ok x) b P is wrong h = absurd (false≢true (sym is ∙ wrong))
 by_error (Err e) b P is wrong h = h
-
--- a list whose length is tested to be 0
-pub empty_by_test : {X : Type 0} (xs : List X) (b : Bool) → b ≡ nat_eq (length xs) 0 → b ≡ true → xs ≡ []
-empty_by_test [] b is holds = refl
-empty_by_test (x ∷ xs) b is holds = let none : length (x ∷ xs) ≡ 0 = grind (arith, nat_tests) in absurd (omega (arith, none))
 
 -- the members that are left where a test tells where P fails
 pub left_by_retain : {F X : Type 0} (R : F → X → Bool → F → Type 0) (f : F) (before after : List X) → IsFiltered R f before after → (P : X → Type 0)

@@ -102,7 +102,7 @@ fn are_renewed<L: Ledger>(alloc: Global, blank: Blank, count: u32) -> Result<boo
 }
 
 #[test]
-fn takes_among_removed_and_fresh_what_comparing_all_pairs_gives(
+fn lets_in_what_is_fresh_and_not_what_was_removed(
     rt: HostRuntime,
 ) -> Result<(), Fail> {
     assert!(rt; are_renewed::<Brand>(rt.alloc(), Blank::new(1), 300)?);

@@ -23,6 +23,7 @@ returns-in_default-first-clause-earliest g c =
     earliest_first c.args.spots.now c.args.others.now s c.requires.sorted (sym c.in-Some.ensures.value) (elim c.in_default-first.branch [
       | in_default-first-via-in-Some-first+else-is_lt w ↦
           none_before_other c.args.others.now s w.in-Some-first.other.now c.requires.others_sorted (sym w.in-Some-first.ensures.value)
-          (λ less. false≢true (sym w.if-is_lt.false ∙ (less_by_test w.in-Some-first.other.now s w.is_lt.result (w.is_lt.ensures ∙ ap is_lt w.cmp.ensures)).1 less))
+          (λ less. false≢true (sym w.if-is_lt.false
+          ∙ (less_by_test w.in-Some-first.other.now s w.is_lt.result (w.is_lt.ensures ∙ ap is_lt w.cmp.ensures)).1 less))
       | in_default-first-via-in_default-first w ↦ none_before_none c.args.others.now s (sym w.in_default-first.ensures.value)
     ])

@@ -1,4 +1,4 @@
-use Rattle.std.proofs.Common.{rules, ◌++◌, drop, sym, subst}
+use Rattle.std.proofs.Common.{rules, ◌++◌, sym, subst}
 use Rattle.std.proofs.lemmas.Result.{IfOk-weaker}
 use Rattle.pareto_queue.specs.Passing.{NoneBefore}
 use Rattle.pareto_queue.specs.Queues.{without}
@@ -35,7 +35,7 @@ loop-spot-preserved g c =
           rw (w.shadow-is, w.taken-is, w.rest-is)
           (new_parted all others lost new costs took rest now s c.in-Some.ensures.earliest none c.leave_out-left.result.now c.leave_out-lost.result.now
           c.leave_out-later.result.now c.leave_out-left.ensures c.leave_out-lost.ensures c.leave_out-later.ensures w.if-later-new.true
-          w.part.new.shadow.items w.part.new.taken.items w.part.new.rest.items w.in_ok-part.ensures.left w.in_ok-part.ensures.taken w.in_ok-part.ensures.descends)
+          w.part.new.shadow.items w.part.new.taken.items w.part.new.rest.items w.in_ok-part.ensures.taken w.in_ok-part.ensures.descends)
       | else-later-new w ↦
           rw (w.shadow-is, w.taken-is, w.rest-is)
           (lost_parted all others lost new costs took rest now s c.in-Some.ensures.earliest none c.leave_out-left.result.now c.leave_out-lost.result.now

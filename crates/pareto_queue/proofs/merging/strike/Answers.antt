@@ -1,7 +1,7 @@
 use Rattle.std.proofs.Common.{rules, ◌∙◌}
-use Rattle.pareto_queue.specs.Queues.{LosesWhere, without}
+use Rattle.pareto_queue.proofs.ListLemmas.{empty_by_test}
 use Rattle.pareto_queue.proofs.QueueLemmas.{loses_in_order}
-use Rattle.pareto_queue.proofs.WithoutLemmas.{empty_by_test, same_without, unstruck}
+use Rattle.pareto_queue.proofs.WithoutLemmas.{same_without, unstruck}
 use Rattle.pareto_queue.proofs.merging.strike.Goals as goal
 
 pub returns-then-is_empty-clause-none_gone : goal.returns-then-is_empty-clause-none_gone

@@ -12,5 +12,6 @@ invariant_of-self g c = queue_by_retain _ _ _ _ c.retain.ensures.filtered c.self
 
 pub returns : goal.returns
 returns g c =
-    rw (← c.self.view_is) (loses_where_without (λ x. ¬ Within c.args.limit.now x.cost.0) _ _ c.self.inside.gone.items (loses_by_without (λ x. ¬ Within c.args.limit.now x.cost.0) _ _
-    (without_by_retain _ _ _ _ _ (λ x b f r. (holds_by_test _ (cases_Within c.args.limit.now x.cost.0) b (search rules), search rules)) c.retain.ensures.filtered)))
+    rw (← c.self.view_is) (loses_where_without (λ x. ¬ Within c.args.limit.now x.cost.0) _ _ c.self.inside.gone.items
+    (loses_by_without (λ x. ¬ Within c.args.limit.now x.cost.0) _ _ (without_by_retain _ _ _ _ _
+    (λ x b f r. (holds_by_test _ (cases_Within c.args.limit.now x.cost.0) b (search rules), search rules)) c.retain.ensures.filtered)))

@@ -1,8 +1,8 @@
 use Rattle.std.proofs.Common.{◌≡◌, ◌∷◌, [], ◌∙◌, rules, sym, subst}
 use Rattle.std.specs.Prelude.{Contains}
 use Rattle.pareto_queue.specs.Queues.{Gains, IsGap, without}
-use Rattle.pareto_queue.proofs.QueueLemmas.{queue_alike, queue_by_insert, gains_by_insert}
-use Rattle.pareto_queue.proofs.WithoutLemmas.{holds_on_error, struck, unstruck}
+use Rattle.pareto_queue.proofs.QueueLemmas.{queue_alike, queue_by_insert, gains_by_insert, holds_on_error}
+use Rattle.pareto_queue.proofs.WithoutLemmas.{struck, unstruck}
 use Rattle.pareto_queue.proofs.queue.Queue.put.Goals as goal
 
 pub gap_of-at-requires : goal.gap_of-at-requires
@@ -11,7 +11,8 @@ gap_of-at-requires g c = (
   (
     rw c.deref.ensures.value c.strike.ensures.ascending,
     rw c.deref.ensures.value (subst (λ xs. ¬ Contains xs c.args.spot)
-        (sym (struck c.strike.new.spots.items c.strike.new.gone.items c.args.self.now (c.strike.ensures.same ∙ c.self.view_is) c.in_ok-strike.ensures.none_gone))
+        (sym (struck c.strike.new.spots.items c.strike.new.gone.items c.args.self.now (c.strike.ensures.same ∙ c.self.view_is)
+        c.in_ok-strike.ensures.none_gone))
         c.requires),
   ),
 )

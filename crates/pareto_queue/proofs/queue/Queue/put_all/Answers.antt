@@ -1,8 +1,8 @@
-use Rattle.std.proofs.Common.{◌≡◌, ◌∙◌, rules, sym, subst}
+use Rattle.std.proofs.Common.{◌∙◌, rules, sym, subst}
 use Rattle.std.specs.Prelude.{All, Contains}
 use Rattle.pareto_queue.specs.Queues.{Gains}
-use Rattle.pareto_queue.proofs.QueueLemmas.{ascending_by_sort, gains_in_order, new_in_order, queue_alike}
-use Rattle.pareto_queue.proofs.WithoutLemmas.{holds_on_error, struck, unstruck}
+use Rattle.pareto_queue.proofs.QueueLemmas.{ascending_by_sort, gains_in_order, new_in_order, queue_alike, holds_on_error}
+use Rattle.pareto_queue.proofs.WithoutLemmas.{struck, unstruck}
 use Rattle.pareto_queue.proofs.queue.Queue.put_all.Goals as goal
 
 pub merge-requires : goal.merge-requires
@@ -16,7 +16,8 @@ merge-requires g c = (
       rw (c.deref.ensures.value, c.deref-2.ensures.value)
           (new_in_order c.strike.new.spots.items c.args.spots.now c.list_sorted.new.list.items c.in_ok-list_sorted.ensures.same
           (subst (λ xs. All (λ x. ¬ Contains xs x) c.args.spots.now)
-          (sym (struck c.strike.new.spots.items c.strike.new.gone.items c.args.self.now (c.strike.ensures.same ∙ c.self.view_is) c.in_ok-strike.ensures.none_gone))
+          (sym (struck c.strike.new.spots.items c.strike.new.gone.items c.args.self.now (c.strike.ensures.same ∙ c.self.view_is)
+          c.in_ok-strike.ensures.none_gone))
           c.requires.new)),
     ),
   ),

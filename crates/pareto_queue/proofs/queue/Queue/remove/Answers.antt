@@ -13,7 +13,8 @@ is_gone g c h = ((in_without c.self.inside.spots.items c.self.inside.gone.items 
     (subst (λ xs. Contains xs c.args.spot.now) c.deref.ensures.value (c.is_among.ensures.0 c.if-is_among.true))
 
 pub returns-then-is_among-clause-answer : goal.returns-then-is_among-clause-answer
-returns-then-is_among-clause-answer g c = rw (← c.self.view_is) (none_there (without c.self.inside.spots.items c.self.inside.gone.items) c.args.spot.now (is_gone g c))
+returns-then-is_among-clause-answer g c =
+    rw (← c.self.view_is) (none_there (without c.self.inside.spots.items c.self.inside.gone.items) c.args.spot.now (is_gone g c))
 
 pub returns-then-is_among-clause-removed : goal.returns-then-is_among-clause-removed
 returns-then-is_among-clause-removed g c =
@@ -28,9 +29,15 @@ pub returns-in-Ok-clause-answer : goal.returns-in-Ok-clause-answer
 returns-in-Ok-clause-answer g c =
     let s = c.args.spot.now in
     let there = contained_at c.self.inside.spots.items c.in-Ok.at s
-        (subst (λ xs. slice_get xs c.in-Ok.at ≡ Some s) c.deref-2.ensures.value c.in-Ok.ensures.there) in
-    rw (← c.self.view_is) (λ yes. (in_without c.self.inside.spots.items c.self.inside.gone.items s).1 (there, λ lost.
-        false≢true (sym c.if-is_among.false ∙ c.is_among.ensures.1 (subst (λ xs. Contains xs s) (sym c.deref.ensures.value) lost))), λ h. refl)
+    (subst (λ xs. slice_get xs c.in-Ok.at ≡ Some s) c.deref-2.ensures.value c.in-Ok.ensures.there) in
+    rw (← c.self.view_is) (
+      λ yes. (in_without c.self.inside.spots.items c.self.inside.gone.items s).1 (
+        there,
+        λ lost.
+            false≢true (sym c.if-is_among.false ∙ c.is_among.ensures.1 (subst (λ xs. Contains xs s) (sym c.deref.ensures.value) lost)),
+      ),
+      λ h. refl,
+    )
 
 pub returns-in-Ok-clause-removed : goal.returns-in-Ok-clause-removed
 returns-in-Ok-clause-removed g c =
@@ -45,7 +52,8 @@ isnt_there g c h =
     ((in_without c.self.inside.spots.items c.self.inside.gone.items c.args.spot.now).0 h).0
 
 pub returns-in-Err-clause-answer : goal.returns-in-Err-clause-answer
-returns-in-Err-clause-answer g c = rw (← c.self.view_is) (none_there (without c.self.inside.spots.items c.self.inside.gone.items) c.args.spot.now (isnt_there g c))
+returns-in-Err-clause-answer g c =
+    rw (← c.self.view_is) (none_there (without c.self.inside.spots.items c.self.inside.gone.items) c.args.spot.now (isnt_there g c))
 
 pub returns-in-Err-clause-removed : goal.returns-in-Err-clause-removed
 returns-in-Err-clause-removed g c =

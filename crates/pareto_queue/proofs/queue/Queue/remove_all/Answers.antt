@@ -1,6 +1,3 @@
-use Rattle.std.proofs.Common.{◌++◌, sym, subst}
-use Rattle.std.specs.Prelude.{Contains}
-use Rattle.pareto_queue.specs.Queues.{LosesWhere, without}
 use Rattle.pareto_queue.proofs.WithoutLemmas.{loses_by_more_gone}
 use Rattle.pareto_queue.proofs.queue.Queue.remove_all.Goals as goal
 

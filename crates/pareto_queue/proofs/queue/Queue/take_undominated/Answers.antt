@@ -14,7 +14,8 @@ part_renewed-requires g c = (
       (
         rw c.deref-3.ensures.value c.in_ok-list_sorted.ensures.sorted,
         rw c.deref-4.ensures.value
-            (ascending_by_sort c.args.fresh.now c.list_sorted-2.new.list.items c.requires c.in_ok-list_sorted-2.ensures.same c.in_ok-list_sorted-2.ensures.sorted),
+            (ascending_by_sort c.args.fresh.now c.list_sorted-2.new.list.items c.requires
+            c.in_ok-list_sorted-2.ensures.same c.in_ok-list_sorted-2.ensures.sorted),
       ),
     ),
   ),

@@ -1,7 +1,8 @@
 use Rattle.std.proofs.Common.{refl, subst}
 use Rattle.pareto_queue.specs.Queues.{IsDominatedBy, LosesWhere}
+use Rattle.pareto_queue.proofs.ListLemmas.{empty_by_test}
 use Rattle.round_core.specs.Waiting.{Waiting}
-use Rattle.round_core.proofs.WaitingLemmas.{empty_by_test, no_news, once_in_less}
+use Rattle.round_core.proofs.WaitingLemmas.{no_news, once_in_less}
 use Rattle.round_core.proofs.waiting.Waiting.drop_dominated.Goals as goal
 
 pub returns-then-is_empty-clause-queued : goal.returns-then-is_empty-clause-queued

@@ -27,4 +27,5 @@ returns-clause-taken g c =
     (by_success c.take_undominated.result c.is_err.result (TakesUndominated (c.self.inside.queue ++ c.deref.result.now) took queue)
     c.is_err.ensures.value c.if-is_err.false c.take_undominated.ensures.taken) in
     subst (λ (v : Waiting g.row.D). TakesUndominated (all_waiting v) took (queue ++ c.clear-2.new.self.items)) c.self.view_is
-    (takes_alike before before took queue (queue ++ c.clear-2.new.self.items) (λ x. (λ h. h, λ h. h)) (none_fresh queue c.clear-2.new.self.items c.clear-2.ensures.items) takes)
+    (takes_alike before before took queue (queue ++ c.clear-2.new.self.items) (λ x. (λ h. h, λ h. h))
+    (none_fresh queue c.clear-2.new.self.items c.clear-2.ensures.items) takes)

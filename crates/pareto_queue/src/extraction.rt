@@ -108,6 +108,7 @@ fn part_all<const D: usize>(
 }
 
 /// Takes the spot, unless the shadow dominates its cost.
+#[inline(always)]
 fn part<const D: usize>(
     spot: &CompactSpot<D>,
     shadow: &mut Vec<CompactCost<D>>,

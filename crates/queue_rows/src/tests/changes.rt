@@ -83,7 +83,11 @@ fn drops_only_what_is_dominated(rt: HostRuntime) -> Result<(), Fail> {
         spot([4, 6], 4),
         spot([6, 1], 5),
     ];
-    assert_eq!(rt; left.as_slice(), wanted.as_slice(), "a cost equal to a given one stays");
+    assert_eq!(rt;
+        left.as_slice(),
+        wanted.as_slice(),
+        "a cost equal to a given one stays"
+    );
     assert!(rt; queue.is_empty());
     Ok(())
 }
@@ -112,6 +116,10 @@ fn is_empty_once_all_are_removed(rt: HostRuntime) -> Result<(), Fail> {
     assert!(rt; queue.is_empty());
     wait(&mut queue, spot([3, 7], 3))?;
     let left = take_two(alloc, &mut queue)?;
-    assert_eq!(rt; left.as_slice(), [spot([3, 7], 3)].as_slice(), "one that was put again");
+    assert_eq!(rt;
+        left.as_slice(),
+        [spot([3, 7], 3)].as_slice(),
+        "one that was put again"
+    );
     Ok(())
 }

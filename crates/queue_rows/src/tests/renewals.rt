@@ -102,9 +102,7 @@ fn are_renewed<L: Ledger>(alloc: Global, blank: Blank, count: u32) -> Result<boo
 }
 
 #[test]
-fn lets_in_what_is_fresh_and_not_what_was_removed(
-    rt: HostRuntime,
-) -> Result<(), Fail> {
+fn lets_in_what_is_fresh_and_not_what_was_removed(rt: HostRuntime) -> Result<(), Fail> {
     assert!(rt; are_renewed::<Brand>(rt.alloc(), Blank::new(1), 300)?);
     Ok(())
 }

@@ -4,7 +4,6 @@ use route_top::route;
 use std::alloc::{AllocError, Global};
 use std::process::Abort;
 use std::sync::Wait;
-use std::test::Fail;
 use std::thread::Threads;
 
 mod batches;
@@ -26,8 +25,13 @@ struct Row {
 
 impl Row {
     fn expected(&self) -> Wanted<'_> {
+        self.expected_of(self.words)
+    }
+
+    /// What is expected of these words.
+    fn expected_of<'a>(&'a self, words: &'a str) -> Wanted<'a> {
         Wanted {
-            words: self.words,
+            words,
             status: self.status,
             out: self.out.as_bytes(),
             err: self.err.as_bytes(),
@@ -139,91 +143,103 @@ fn failing(alloc: Global, call: u64) -> Result<MemorySink, AllocError> {
     Ok(MemorySink::new(alloc, u64::MAX, vec![in alloc; call]?))
 }
 
-fn assert_out(rt: &impl Abort, got: &[u8], wanted: &Wanted, number: usize) {
-    assert_eq!(rt; got, wanted.out, "out of {:?} at {number}", wanted.words);
+fn assert_bytes(rt: &impl Abort, got: &[u8], wanted: &[u8], words: &str, number: usize) {
+    assert!(rt; got == wanted, "out or err of {words:?} at {number}");
 }
 
-fn assert_err(rt: &impl Abort, got: &[u8], wanted: &Wanted, number: usize) {
-    assert_eq!(rt; got, wanted.err, "err of {:?} at {number}", wanted.words);
+fn assert_status(rt: &impl Abort, got: u8, wanted: u8, words: &str) {
+    assert!(rt; got == wanted, "status {got} of {words:?}");
 }
 
-fn assert_status(rt: &impl Abort, got: u8, wanted: &Wanted, number: usize) {
-    assert_eq!(rt;
-        got,
-        wanted.status,
-        "status of {:?} at {number}",
-        wanted.words
-    );
+/// The status of the run, and what it read from and sent to.
+fn ended(
+    rt: &(impl Threads + Wait + Sync),
+    alloc: Global,
+    words: &str,
+    outside: Result<Outside, AllocError>,
+) -> Result<(u8, Outside), AllocError> {
+    let mut outside = outside?;
+    let status = outside.run(rt, alloc, words)?;
+    Ok((status, outside))
 }
 
 /// The run ends as is wanted. The number tells it from other runs of the same words.
+fn assert_ended(
+    rt: &impl Abort,
+    ended: Result<(u8, Outside), AllocError>,
+    wanted: &Wanted,
+    number: usize,
+) {
+    match ended {
+        Ok((status, outside)) => {
+            assert_bytes(rt, outside.out.sent(), wanted.out, wanted.words, number);
+            assert_bytes(rt, outside.err.sent(), wanted.err, wanted.words, number);
+            assert_status(rt, status, wanted.status, wanted.words);
+        }
+        Err(_) => panic!(rt; "no memory is left"),
+    }
+}
+
 fn assert_run(
     rt: &(impl Abort + Threads + Wait + Sync),
     alloc: Global,
     wanted: &Wanted,
     number: usize,
-    outside: &mut Outside,
-) -> Result<(), AllocError> {
-    let status = outside.run(rt, alloc, wanted.words)?;
-    assert_out(rt, outside.out.sent(), wanted, number);
-    assert_err(rt, outside.err.sent(), wanted, number);
-    assert_status(rt, status, wanted, number);
-    Ok(())
+    outside: Result<Outside, AllocError>,
+) {
+    let ended = ended(rt, alloc, wanted.words, outside);
+    assert_ended(rt, ended, wanted, number);
 }
 
-fn assert_row(
-    rt: &(impl Abort + Threads + Wait + Sync),
-    alloc: Global,
-    row: &Row,
-    piece: usize,
-) -> Result<(), AllocError> {
-    let folder = folder_of(alloc, row.files)?.with_piece(piece.max(1));
-    let mut outside = Outside::of_folder(alloc, folder);
-    assert_run(rt, alloc, &row.expected(), piece, &mut outside)
+/// A folder of these files, in pieces of this size, and sinks that never fail.
+fn outside_of(alloc: Global, files: &[(&str, &str)], piece: usize) -> Result<Outside, AllocError> {
+    let folder = folder_of(alloc, files)?.with_piece(piece.max(1));
+    Ok(Outside::of_folder(alloc, folder))
+}
+
+fn assert_row(rt: &(impl Abort + Threads + Wait + Sync), alloc: Global, row: &Row, piece: usize) {
+    let outside = outside_of(alloc, row.files, piece);
+    assert_run(rt, alloc, &row.expected(), piece, outside);
 }
 
 /// Each run ends as its row says, over a folder that gives one byte a read and over one that gives all.
-fn assert_rows(
-    rt: &(impl Abort + Threads + Wait + Sync),
-    alloc: Global,
-    rows: &[Row],
-) -> Result<(), AllocError> {
+fn assert_rows(rt: &(impl Abort + Threads + Wait + Sync), alloc: Global, rows: &[Row]) {
     for row in rows {
-        for piece in [1, usize::MAX] {
-            assert_row(rt, alloc, row, piece)?;
-        }
+        assert_row(rt, alloc, row, 1);
+        assert_row(rt, alloc, row, usize::MAX);
     }
-    Ok(())
 }
 
-#[test]
-fn rows_have_their_output(rt: HostRuntime) -> Result<(), Fail> {
-    assert_rows(&rt, rt.alloc(), rows::ROWS)?;
-    assert_rows(&rt, rt.alloc(), walks::ROWS)?;
-    assert_rows(&rt, rt.alloc(), batches::ROWS)?;
-    Ok(())
-}
-
-#[test]
-fn lanes_have_their_output(rt: HostRuntime) -> Result<(), Fail> {
-    assert_rows(&rt, rt.alloc(), lanes::ROWS)?;
-    Ok(())
-}
-
-#[test]
-fn generated_files_have_their_bytes(rt: HostRuntime) -> Result<(), Fail> {
-    for row in generated::ROWS {
-        assert_row(&rt, rt.alloc(), row, 1)?;
+fn assert_tables(rt: &(impl Abort + Threads + Wait + Sync), alloc: Global, tables: &[&[Row]]) {
+    for rows in tables {
+        assert_rows(rt, alloc, rows);
     }
-    Ok(())
 }
 
 #[test]
-fn summaries_have_their_counts(rt: HostRuntime) -> Result<(), Fail> {
-    for row in generated::SUMMARIES {
-        assert_row(&rt, rt.alloc(), row, 1)?;
+fn rows_have_their_output(rt: HostRuntime) {
+    assert_tables(&rt, rt.alloc(), &rows::tables());
+    assert_tables(&rt, rt.alloc(), &walks::tables());
+    assert_tables(&rt, rt.alloc(), &batches::tables());
+}
+
+#[test]
+fn lanes_have_their_output(rt: HostRuntime) {
+    assert_tables(&rt, rt.alloc(), &lanes::tables());
+}
+
+#[test]
+fn generated_files_have_their_bytes(rt: HostRuntime) {
+    for row in generated::file_rows() {
+        assert_row(&rt, rt.alloc(), row, 1);
     }
-    Ok(())
+}
+
+#[test]
+fn summaries_have_their_counts(rt: HostRuntime) {
+    for row in generated::summary_rows() {
+        assert_row(&rt, rt.alloc(), row, 1);
+    }
 }
 
 /// The line and the kind of the fault of the first file where it is cut to a length below 56.
@@ -255,20 +271,14 @@ fn cut_file(alloc: Global, length: usize, piece: usize) -> Result<Outside, Alloc
     Ok(Outside::of_folder(alloc, folder.with_piece(piece.max(1))))
 }
 
-fn assert_told_cut(
-    rt: &(impl Abort + Threads + Wait + Sync),
-    alloc: Global,
-    length: usize,
-    outside: &mut Outside,
-) -> Result<(), AllocError> {
-    let note = cut_note(alloc, length)?;
-    let wanted = Wanted {
+/// What is wanted where the file is cut, with this note.
+fn told_cut(note: &str) -> Wanted<'_> {
+    Wanted {
         words: "check CUT B.gr",
         status: 5,
         out: b"",
         err: note.as_bytes(),
-    };
-    assert_run(rt, alloc, &wanted, length, outside)
+    }
 }
 
 /// What is wanted where nothing but the last LF is cut off.
@@ -279,19 +289,28 @@ const WHOLE: Wanted = Wanted {
     err: b"",
 };
 
-#[test]
-fn cut_files_are_told(rt: HostRuntime) -> Result<(), Fail> {
-    for length in 0..=rows::A.len() {
-        for piece in [1, usize::MAX] {
-            let mut outside = cut_file(rt.alloc(), length, piece)?;
-            if length >= 56 {
-                assert_run(&rt, rt.alloc(), &WHOLE, length, &mut outside)?;
-            } else {
-                assert_told_cut(&rt, rt.alloc(), length, &mut outside)?;
-            }
-        }
+fn assert_cut(
+    rt: &(impl Abort + Threads + Wait + Sync),
+    alloc: Global,
+    length: usize,
+    piece: usize,
+) {
+    let outside = cut_file(alloc, length, piece);
+    if length >= 56 {
+        return assert_run(rt, alloc, &WHOLE, length, outside);
     }
-    Ok(())
+    match cut_note(alloc, length) {
+        Ok(note) => assert_run(rt, alloc, &told_cut(note.as_str()), length, outside),
+        Err(_) => panic!(rt; "no memory is left"),
+    }
+}
+
+#[test]
+fn cut_files_are_told(rt: HostRuntime) {
+    for length in 0..=rows::A.len() {
+        assert_cut(&rt, rt.alloc(), length, 1);
+        assert_cut(&rt, rt.alloc(), length, usize::MAX);
+    }
 }
 
 /// An arc with the greatest weight.
@@ -309,25 +328,23 @@ fn greatest_path(alloc: Global) -> Result<String, AllocError> {
     Ok(text)
 }
 
-#[test]
-fn greatest_weights_add_up(rt: HostRuntime) -> Result<(), Fail> {
-    let alloc = rt.alloc();
+/// The path in a folder.
+fn path_outside(alloc: Global) -> Result<Outside, AllocError> {
     let text = greatest_path(alloc)?;
-    let folder = folder_of(alloc, &[("P.gr", text.as_str())])?;
-    let wanted = Wanted {
-        words: "costs --from 1 --to 1001 P.gr P.gr",
-        status: 0,
-        out: b"r 0 1 1001 1\nv 4294967295000 4294967295000\n",
-        err: b"",
-    };
-    assert_run(
-        &rt,
-        alloc,
-        &wanted,
-        0,
-        &mut Outside::of_folder(alloc, folder),
-    )?;
-    Ok(())
+    outside_of(alloc, &[("P.gr", text.as_str())], usize::MAX)
+}
+
+/// The sum of the path's weights.
+const SUM: Wanted = Wanted {
+    words: "costs --from 1 --to 1001 P.gr P.gr",
+    status: 0,
+    out: b"r 0 1 1001 1\nv 4294967295000 4294967295000\n",
+    err: b"",
+};
+
+#[test]
+fn greatest_weights_add_up(rt: HostRuntime) {
+    assert_run(&rt, rt.alloc(), &SUM, 0, path_outside(rt.alloc()));
 }
 
 /// The line of the walk over the path, which names each arc.
@@ -341,26 +358,23 @@ fn walk_over_path(alloc: Global) -> Result<String, AllocError> {
     Ok(text)
 }
 
-#[test]
-fn a_long_walk_is_told(rt: HostRuntime) -> Result<(), Fail> {
-    let alloc = rt.alloc();
-    let text = greatest_path(alloc)?;
-    let folder = folder_of(alloc, &[("P.gr", text.as_str())])?;
-    let out = walk_over_path(alloc)?;
-    let wanted = Wanted {
+/// What is wanted of the walk over the path, with this line.
+fn told_walk(line: &str) -> Wanted<'_> {
+    Wanted {
         words: "one --from 1 --to 1001 P.gr P.gr",
         status: 0,
-        out: out.as_bytes(),
+        out: line.as_bytes(),
         err: b"",
-    };
-    assert_run(
-        &rt,
-        alloc,
-        &wanted,
-        0,
-        &mut Outside::of_folder(alloc, folder),
-    )?;
-    Ok(())
+    }
+}
+
+#[test]
+fn a_long_walk_is_told(rt: HostRuntime) {
+    let outside = path_outside(rt.alloc());
+    match walk_over_path(rt.alloc()) {
+        Ok(line) => assert_run(&rt, rt.alloc(), &told_walk(line.as_str()), 0, outside),
+        Err(_) => panic!(rt; "no memory is left"),
+    }
 }
 
 /// The six arcs in a folder whose call of this number fails.
@@ -394,30 +408,30 @@ const FIRST: Wanted = Wanted {
 };
 
 #[test]
-fn each_failing_call_of_the_folder_is_told(rt: HostRuntime) -> Result<(), Fail> {
+fn each_failing_call_of_the_folder_is_told(rt: HostRuntime) {
     for call in 0..20u64 {
-        let mut outside = failing_folder(rt.alloc(), call)?;
-        let wanted = wanted_of_call(call);
-        assert_run(&rt, rt.alloc(), &wanted, call as usize, &mut outside)?;
+        let outside = failing_folder(rt.alloc(), call);
+        assert_run(
+            &rt,
+            rt.alloc(),
+            &wanted_of_call(call),
+            call as usize,
+            outside,
+        );
     }
-    Ok(())
 }
 
 /// The first run, with this sink for its reply.
-fn first_to(alloc: Global, out: MemorySink) -> Result<Outside, AllocError> {
-    Ok(Outside {
-        folder: folder_of(alloc, rows::SIX_ARCS)?,
-        out,
-        err: ample(alloc),
-    })
+fn first_to(alloc: Global, out: Result<MemorySink, AllocError>) -> Result<Outside, AllocError> {
+    let mut outside = outside_of(alloc, rows::SIX_ARCS, usize::MAX)?;
+    outside.out = out?;
+    Ok(outside)
 }
 
 #[test]
-fn a_failing_out_is_told(rt: HostRuntime) -> Result<(), Fail> {
-    let alloc = rt.alloc();
-    let mut outside = first_to(alloc, failing(alloc, 0)?)?;
-    assert_run(&rt, alloc, &told_out(b""), 0, &mut outside)?;
-    Ok(())
+fn a_failing_out_is_told(rt: HostRuntime) {
+    let outside = first_to(rt.alloc(), failing(rt.alloc(), 0));
+    assert_run(&rt, rt.alloc(), &told_out(b""), 0, outside);
 }
 
 /// What is wanted where a part of the first reply was sent.
@@ -431,19 +445,17 @@ fn told_out(part: &[u8]) -> Wanted<'_> {
 }
 
 #[test]
-fn a_full_out_has_the_front_of_the_reply(rt: HostRuntime) -> Result<(), Fail> {
-    let alloc = rt.alloc();
+fn a_full_out_has_the_front_of_the_reply(rt: HostRuntime) {
     for bound in 0..FIRST.out.len() {
-        let mut outside = first_to(alloc, bounded(alloc, bound))?;
+        let outside = first_to(rt.alloc(), Ok(bounded(rt.alloc(), bound)));
         assert_run(
             &rt,
-            alloc,
+            rt.alloc(),
             &told_out(&FIRST.out[..bound]),
             bound,
-            &mut outside,
-        )?;
+            outside,
+        );
     }
-    Ok(())
 }
 
 /// A file whose first line has this length.
@@ -455,23 +467,37 @@ fn long_line(alloc: Global, length: usize) -> Result<Outside, AllocError> {
     Ok(Outside::of_folder(alloc, folder))
 }
 
+/// The status of a run over the file with a long line.
+fn status_of_long_line(
+    rt: &(impl Threads + Wait + Sync),
+    alloc: Global,
+    length: usize,
+) -> Result<u8, AllocError> {
+    long_line(alloc, length)?.run(rt, alloc, "check LONG B.gr")
+}
+
 #[test]
-fn a_line_has_65536_bytes_at_most(rt: HostRuntime) -> Result<(), Fail> {
-    for (length, status) in [(65_536, 0), (65_537, 5)] {
-        let mut outside = long_line(rt.alloc(), length)?;
-        let got = outside.run(&rt, rt.alloc(), "check LONG B.gr")?;
-        assert_eq!(rt; got, status, "length {length}");
-    }
-    Ok(())
+fn a_line_has_65536_bytes_at_most(rt: HostRuntime) {
+    let alloc = rt.alloc();
+    assert!(rt;
+        status_of_long_line(&rt, alloc, 65_536) == Ok(0),
+        "as long as may be"
+    );
+    assert!(rt;
+        status_of_long_line(&rt, alloc, 65_537) == Ok(5),
+        "longer by a byte"
+    );
 }
 
 /// The run of a row, with this sink for its note.
-fn row_noting_to(alloc: Global, row: &Row, err: MemorySink) -> Result<Outside, AllocError> {
-    Ok(Outside {
-        folder: folder_of(alloc, row.files)?,
-        out: ample(alloc),
-        err,
-    })
+fn row_noting_to(
+    alloc: Global,
+    row: &Row,
+    err: Result<MemorySink, AllocError>,
+) -> Result<Outside, AllocError> {
+    let mut outside = outside_of(alloc, row.files, usize::MAX)?;
+    outside.err = err?;
+    Ok(outside)
 }
 
 fn assert_cut_note(
@@ -479,65 +505,67 @@ fn assert_cut_note(
     alloc: Global,
     row: &Row,
     bound: usize,
-) -> Result<(), AllocError> {
-    let mut outside = row_noting_to(alloc, row, bounded(alloc, bound))?;
+) {
+    let outside = row_noting_to(alloc, row, Ok(bounded(alloc, bound)));
     let mut wanted = row.expected();
     wanted.err = &wanted.err[..bound.min(wanted.err.len())];
-    assert_run(rt, alloc, &wanted, bound, &mut outside)
+    assert_run(rt, alloc, &wanted, bound, outside);
+}
+
+fn assert_cut_notes(rt: &(impl Abort + Threads + Wait + Sync), alloc: Global, rows: &[Row]) {
+    for row in rows {
+        assert_cut_note(rt, alloc, row, 0);
+        assert_cut_note(rt, alloc, row, 9);
+        assert_cut_note(rt, alloc, row, 16);
+    }
 }
 
 #[test]
-fn a_full_err_cuts_the_note_alone(rt: HostRuntime) -> Result<(), Fail> {
-    for row in rows::ROWS {
-        for bound in [0, 9, 16] {
-            assert_cut_note(&rt, rt.alloc(), row, bound)?;
-        }
+fn a_full_err_cuts_the_note_alone(rt: HostRuntime) {
+    for rows in &rows::tables() {
+        assert_cut_notes(&rt, rt.alloc(), rows);
     }
-    Ok(())
 }
 
 /// The run of a missing file, whose note comes in pieces of 14 bytes, of which that of this number fails.
 fn noting_in_pieces(alloc: Global, call: u64) -> Result<Outside, AllocError> {
-    let err = failing(alloc, call)?.with_piece(14);
-    Ok(Outside {
-        folder: folder_of(alloc, rows::SIX_ARCS)?,
-        out: ample(alloc),
-        err,
-    })
+    let mut outside = outside_of(alloc, rows::SIX_ARCS, usize::MAX)?;
+    outside.err = failing(alloc, call)?.with_piece(14);
+    Ok(outside)
+}
+
+/// What is wanted of the run of a missing file, where so much of the note is sent.
+fn told_missing(note: &str) -> Wanted<'_> {
+    Wanted {
+        words: "check A.gr N.gr",
+        status: 3,
+        out: b"",
+        err: note.as_bytes(),
+    }
+}
+
+fn assert_noted(rt: &(impl Abort + Threads + Wait + Sync), alloc: Global, call: u64, note: &str) {
+    let outside = noting_in_pieces(alloc, call);
+    assert_run(rt, alloc, &told_missing(note), call as usize, outside);
 }
 
 #[test]
-fn a_failing_err_cuts_the_note_alone(rt: HostRuntime) -> Result<(), Fail> {
-    for (call, note) in [
-        (0u64, ""),
-        (1, "route: folder "),
-        (2, "route: folder N.gr\n"),
-    ] {
-        let wanted = Wanted {
-            words: "check A.gr N.gr",
-            status: 3,
-            out: b"",
-            err: note.as_bytes(),
-        };
-        let mut outside = noting_in_pieces(rt.alloc(), call)?;
-        assert_run(&rt, rt.alloc(), &wanted, call as usize, &mut outside)?;
-    }
-    Ok(())
+fn a_failing_err_cuts_the_note_alone(rt: HostRuntime) {
+    assert_noted(&rt, rt.alloc(), 0, "");
+    assert_noted(&rt, rt.alloc(), 1, "route: folder ");
+    assert_noted(&rt, rt.alloc(), 2, "route: folder N.gr\n");
 }
 
-fn assert_noted_at_once(
-    rt: &(impl Abort + Threads + Wait + Sync),
-    alloc: Global,
-    row: &Row,
-) -> Result<(), AllocError> {
-    let mut outside = row_noting_to(alloc, row, failing(alloc, 1)?)?;
-    assert_run(rt, alloc, &row.expected(), 1, &mut outside)
+fn assert_noted_at_once(rt: &(impl Abort + Threads + Wait + Sync), alloc: Global, rows: &[Row]) {
+    for row in rows {
+        let outside = row_noting_to(alloc, row, failing(alloc, 1));
+        assert_run(rt, alloc, &row.expected(), 1, outside);
+    }
 }
 
 #[test]
-fn a_note_is_sent_at_once(rt: HostRuntime) -> Result<(), Fail> {
-    for row in rows::ROWS {
-        assert_noted_at_once(&rt, rt.alloc(), row)?;
+fn a_note_is_sent_at_once(rt: HostRuntime) {
+    for rows in &rows::tables() {
+        assert_noted_at_once(&rt, rt.alloc(), rows);
     }
-    Ok(())
 }

@@ -118,45 +118,56 @@ fn a_sure_source_ends(rt: HostRuntime) {
     );
 }
 
+fn takes<S: Sink>(sink: &mut S, text: &[u8]) -> bool {
+    put_all(sink, text).is_ok()
+}
+
+fn fails<S: Sink>(sink: &mut S, text: &[u8]) -> bool {
+    put_all(sink, text) == Err(WriteFault::Failed)
+}
+
 #[test]
 fn pieces_of_a_sink_have_their_size(rt: HostRuntime) {
     let mut sink = MemorySink::new(rt.alloc(), 5, Vec::new(rt.alloc())).with_piece(2);
-    assert!(rt; sink.write(b"abc") == Ok(2), "two bytes of three");
-    assert!(rt; put_all(&mut sink, b"cde") == Ok(()), "the rest");
+    assert!(rt; matches!(sink.write(b"abc"), Ok(2)), "two bytes of three");
+    assert!(rt; takes(&mut sink, b"cde"), "the rest");
     assert!(rt; sink.sent() == b"abcde".as_slice(), "all bytes");
 }
 
 #[test]
 fn a_bound_cuts_the_text(rt: HostRuntime) {
     let mut sink = MemorySink::new(rt.alloc(), 3, Vec::new(rt.alloc()));
-    assert!(rt;
-        put_all(&mut sink, b"abcde") == Err(WriteFault::Failed),
-        "five bytes"
-    );
+    assert!(rt; fails(&mut sink, b"abcde"), "five bytes");
     assert!(rt; sink.sent() == b"abc".as_slice(), "three are taken");
 }
 
 #[test]
 fn a_sure_sink_takes_the_whole_text(rt: HostRuntime) {
     let mut sink = SureSink::new(rt.alloc());
-    assert!(rt; put_all(&mut sink, b"ab") == Ok(()), "two bytes");
-    assert!(rt; put_all(&mut sink, b"c") == Ok(()), "a third");
+    assert!(rt; takes(&mut sink, b"ab"), "two bytes");
+    assert!(rt; takes(&mut sink, b"c"), "a third");
     assert!(rt; sink.sent() == b"abc".as_slice(), "all three");
+}
+
+fn writes(rt: &HostRuntime, name: &str, text: &str) -> bool {
+    fs::write(rt, name, text).is_ok()
+}
+
+fn removes(rt: &HostRuntime, name: &str) -> bool {
+    fs::remove_file(rt, name).is_ok()
 }
 
 #[test]
 fn a_file_of_the_host_is_read(rt: HostRuntime) {
     let name = "route_io_host.txt";
     let mut folder = HostFolder::new(rt);
-    assert!(rt; fs::write(&rt, name, "abc").is_ok(), "written");
+    assert!(rt; writes(&rt, name, "abc"), "written");
     let wanted = (true, [Some(2), Some(1), Some(0)]);
     assert!(rt; reads_of(&mut folder, name) == wanted, "while it is there");
-    assert!(rt; fs::remove_file(&rt, name).is_ok(), "removed");
+    assert!(rt; removes(&rt, name), "removed");
     let wanted = (false, [Some(0), Some(0), Some(0)]);
     assert!(rt; reads_of(&mut folder, name) == wanted, "when it is gone");
 }
-
-const NAMED: [(&str, u8); 2] = [("route_io_a.txt", b'a'), ("route_io_b.txt", b'b')];
 
 /// Whether a read of the file of this name gives this byte alone.
 fn has_byte<F: Folder>(folder: &mut F, name: &str, byte: u8) -> bool
@@ -170,14 +181,20 @@ fn has_byte<F: Folder>(folder: &mut F, name: &str, byte: u8) -> bool
 
 #[test]
 fn the_named_file_of_the_host_is_opened(rt: HostRuntime) {
-    for (name, byte) in NAMED {
-        assert!(rt; fs::write(&rt, name, [byte].as_slice()).is_ok(), "{name}");
-    }
+    let (one, other) = ("route_io_a.txt", "route_io_b.txt");
+    assert!(rt; writes(&rt, one, "a"), "the first is written");
+    assert!(rt; writes(&rt, other, "b"), "the second is written");
     let mut folder = HostFolder::new(rt);
-    for (name, byte) in NAMED {
-        assert!(rt; has_byte(&mut folder, name, byte), "{name}");
-        assert!(rt; fs::remove_file(&rt, name).is_ok(), "{name}");
-    }
+    assert!(rt;
+        has_byte(&mut folder, one, b'a'),
+        "the first has its own byte"
+    );
+    assert!(rt;
+        has_byte(&mut folder, other, b'b'),
+        "the second has its own byte"
+    );
+    assert!(rt; removes(&rt, one), "the first is removed");
+    assert!(rt; removes(&rt, other), "the second is removed");
 }
 
 #[test]
@@ -210,13 +227,14 @@ impl Print for Narrow {
 
 #[test]
 fn a_print_of_no_bytes_is_a_fault(rt: HostRuntime) {
-    let (two, none) = (Narrow(2), Narrow(0));
     assert!(rt;
-        put_all(&mut HostSink::new(two), b"abc") == Ok(()),
+        takes(&mut HostSink::new(Narrow(2)), b"abc"),
         "two bytes a print"
     );
-    let got = put_all(&mut HostSink::new(none), b"abc");
-    assert!(rt; got == Err(WriteFault::Failed), "no bytes a print");
+    assert!(rt;
+        fails(&mut HostSink::new(Narrow(0)), b"abc"),
+        "no bytes a print"
+    );
 }
 
 /// Prints to a file.
@@ -241,14 +259,6 @@ impl Print for ToFile {
     }
 }
 
-/// Whether a file takes a text, if it can be opened.
-fn takes_text(file: io::Result<File>) -> Option<bool> {
-    match file {
-        Ok(file) => Some(put_all(&mut HostSink::new(ToFile(file)), b"abc").is_ok()),
-        Err(_) => None,
-    }
-}
-
 /// Whether the file of this name has the text.
 fn has_text(rt: &HostRuntime, name: &str) -> bool {
     match fs::read(rt, name) {
@@ -260,7 +270,7 @@ fn has_text(rt: &HostRuntime, name: &str) -> bool {
 /// Whether a sink to a file takes the text, and the file has it while the sink is open.
 fn is_kept_at_once(rt: &HostRuntime, name: &str) -> io::Result<bool> {
     let mut sink = HostSink::new(ToFile(File::create(rt, name)?));
-    let is_taken = put_all(&mut sink, b"abc").is_ok();
+    let is_taken = takes(&mut sink, b"abc");
     Ok(has_text(rt, name) && is_taken)
 }
 
@@ -271,13 +281,16 @@ fn what_the_host_took_is_kept_at_once(rt: HostRuntime) {
         matches!(is_kept_at_once(&rt, name), Ok(true)),
         "the file has the text"
     );
-    assert!(rt; fs::remove_file(&rt, name).is_ok(), "the file is removed");
+    assert!(rt; removes(&rt, name), "the file is removed");
 }
 
 #[test]
 fn a_full_device_is_a_fault(rt: HostRuntime) {
-    let full = OpenOptions::new().write(true).open(&rt, "/dev/full");
-    assert!(rt; takes_text(full) == Some(false), "nothing is taken");
+    let is_fault = match OpenOptions::new().write(true).open(&rt, "/dev/full") {
+        Ok(full) => fails(&mut HostSink::new(ToFile(full)), b"abc"),
+        Err(_) => false,
+    };
+    assert!(rt; is_fault, "nothing is taken");
 }
 
 fn takes_sent<T: Send + Drop>(_value: T) {}

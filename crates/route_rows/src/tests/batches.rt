@@ -1,9 +1,8 @@
 //! The rows of batches, and each failing call of a batch.
 use super::rows::{A, B, EXCHANGED};
-use super::{Outside, Row, Wanted, ample, assert_run, bounded, failing, files_of, folder_of};
+use super::{Outside, Row, Wanted, assert_run, bounded, failing, files_of, outside_of};
 use route_io::memory::{MemoryFolder, MemorySink};
 use std::alloc::{AllocError, Global};
-use std::test::Fail;
 
 /// The words of a batch over the six arcs.
 const WORDS: &str = "batch --pairs P A.gr B.gr";
@@ -17,7 +16,8 @@ const FILES: &[(&str, &str)] = &[("A.gr", A), ("B.gr", B), ("P", PAIRS)];
 /// The replies to the three pairs.
 const OUT: &str = "r 0 1 4 2\np 2 8 2 1 3\np 4 2 2 2 4\nr 0 4 1 0\nx 0 9 1 node\n";
 
-pub(super) const ROWS: &[Row] = &[
+/// Batches that are answered.
+const REPLY: &[Row] = &[
     Row {
         words: WORDS,
         files: FILES,
@@ -56,6 +56,14 @@ pub(super) const ROWS: &[Row] = &[
         out: "",
         err: "",
     },
+];
+
+fn reply_rows() -> &'static [Row] {
+    REPLY
+}
+
+/// Batches whose files are faulty.
+const FAULT: &[Row] = &[
     // Faulty files of pairs: cut, a node that is none, and a file of weights.
     Row {
         words: WORDS,
@@ -106,6 +114,16 @@ pub(super) const ROWS: &[Row] = &[
     },
 ];
 
+fn fault_rows() -> &'static [Row] {
+    FAULT
+}
+
+/// The tables of these rows. The proof of a function takes in each table that it names, at a cost that grows with the
+/// square of its rows: so a table is short, and one function alone names it.
+pub(super) fn tables() -> [&'static [Row]; 2] {
+    [reply_rows(), fault_rows()]
+}
+
 /// The batch over a folder whose call of this number fails.
 fn failing_folder(alloc: Global, call: u64) -> Result<Outside, AllocError> {
     let folder = MemoryFolder::new(files_of(alloc, FILES)?, vec![in alloc; call]?);
@@ -134,37 +152,48 @@ fn wanted<'a>(status: u8, out: &'a str, err: &'a str) -> Wanted<'a> {
 }
 
 #[test]
-fn each_failing_call_of_the_folder_is_told(rt: HostRuntime) -> Result<(), Fail> {
+fn each_failing_call_of_the_folder_is_told(rt: HostRuntime) {
     for call in 0..20u64 {
-        let mut outside = failing_folder(rt.alloc(), call)?;
-        let wanted = wanted_of_call(call);
-        assert_run(&rt, rt.alloc(), &wanted, call as usize, &mut outside)?;
+        let outside = failing_folder(rt.alloc(), call);
+        assert_run(
+            &rt,
+            rt.alloc(),
+            &wanted_of_call(call),
+            call as usize,
+            outside,
+        );
     }
-    Ok(())
 }
 
 /// The batch with this sink for its replies.
-fn batch_to(alloc: Global, out: MemorySink) -> Result<Outside, AllocError> {
-    Ok(Outside {
-        folder: folder_of(alloc, FILES)?,
-        out,
-        err: ample(alloc),
-    })
+fn batch_to(alloc: Global, out: Result<MemorySink, AllocError>) -> Result<Outside, AllocError> {
+    let mut outside = outside_of(alloc, FILES, usize::MAX)?;
+    outside.out = out?;
+    Ok(outside)
+}
+
+/// What is wanted where this was sent before `out` took no more.
+fn cut_off(sent: &[u8]) -> Wanted<'_> {
+    Wanted {
+        words: WORDS,
+        status: 4,
+        out: sent,
+        err: b"route: out\n",
+    }
 }
 
 #[test]
-fn a_full_out_has_the_front_of_the_replies(rt: HostRuntime) -> Result<(), Fail> {
+fn a_full_out_has_the_front_of_the_replies(rt: HostRuntime) {
     for bound in 0..OUT.len() {
-        let mut outside = batch_to(rt.alloc(), bounded(rt.alloc(), bound))?;
-        let wanted = Wanted {
-            words: WORDS,
-            status: 4,
-            out: &OUT.as_bytes()[..bound],
-            err: b"route: out\n",
-        };
-        assert_run(&rt, rt.alloc(), &wanted, bound, &mut outside)?;
+        let outside = batch_to(rt.alloc(), Ok(bounded(rt.alloc(), bound)));
+        assert_run(
+            &rt,
+            rt.alloc(),
+            &cut_off(&OUT.as_bytes()[..bound]),
+            bound,
+            outside,
+        );
     }
-    Ok(())
 }
 
 /// What was sent before each call of `out`, which sends one reply.
@@ -175,11 +204,9 @@ const SENT: [&str; 3] = [
 ];
 
 #[test]
-fn each_failing_call_of_out_is_told(rt: HostRuntime) -> Result<(), Fail> {
+fn each_failing_call_of_out_is_told(rt: HostRuntime) {
     for (call, sent) in SENT.iter().enumerate() {
-        let mut outside = batch_to(rt.alloc(), failing(rt.alloc(), call as u64)?)?;
-        let wanted = wanted(4, sent, "route: out\n");
-        assert_run(&rt, rt.alloc(), &wanted, call, &mut outside)?;
+        let outside = batch_to(rt.alloc(), failing(rt.alloc(), call as u64));
+        assert_run(&rt, rt.alloc(), &cut_off(sent.as_bytes()), call, outside);
     }
-    Ok(())
 }

@@ -9,7 +9,7 @@ a 4 1 89\na 5 6 14\na 5 8 99\na 5 4 1\na 5 2 70\n\
 a 6 9 21\na 6 5 76\na 6 3 26\na 7 8 14\na 7 4 69\n\
 a 8 9 36\na 8 7 46\na 8 5 19\na 9 8 29\na 9 6 68\n";
 
-pub(super) const ROWS: &[Row] = &[
+const FILES: &[Row] = &[
     // All files of the smallest grid, and one that isn't there.
     Row {
         words: "gen --start 1 --side 2 --criteria 2 --pairs 1 --file 0",
@@ -71,8 +71,12 @@ pub(super) const ROWS: &[Row] = &[
     },
 ];
 
+pub(super) fn file_rows() -> &'static [Row] {
+    FILES
+}
+
 /// What all files of a plan come to.
-pub(super) const SUMMARIES: &[Row] = &[
+const SUMMARIES: &[Row] = &[
     Row {
         words: "gen --start 1 --side 2 --criteria 2 --pairs 1",
         files: &[],
@@ -110,3 +114,7 @@ pub(super) const SUMMARIES: &[Row] = &[
         err: "",
     },
 ];
+
+pub(super) fn summary_rows() -> &'static [Row] {
+    SUMMARIES
+}

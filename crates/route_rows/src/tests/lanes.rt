@@ -2,9 +2,10 @@
 use super::rows::{A, B};
 use super::{Outside, Row, Wanted, assert_run, file_of, files_of};
 use route_io::memory::MemoryFolder;
-use std::test::Fail;
+use std::alloc::{AllocError, Global};
 
-pub(super) const ROWS: &[Row] = &[
+/// Epochs and sessions.
+const LANE: &[Row] = &[
     // A published epoch is seen by the session that waits for it.
     Row {
         words: "lanes --operator op --sessions day A.gr B.gr",
@@ -70,6 +71,14 @@ pub(super) const ROWS: &[Row] = &[
         out: "operator\nx last\nlane 1\nk 4294967295\n",
         err: "",
     },
+];
+
+fn lane_rows() -> &'static [Row] {
+    LANE
+}
+
+/// More sessions, and arcs that are shut.
+const SHUT: &[Row] = &[
     // Two sessions, of which the second ends at once.
     Row {
         words: "lanes --lanes 2 --operator op --sessions day A.gr B.gr",
@@ -123,6 +132,14 @@ pub(super) const ROWS: &[Row] = &[
         out: "operator\nok\nok\nk 1\nlane 1\nk 1\nr 1 1 4 2\np 2 8 2 1 3\np 4 6 3 1 5 4\nr 1 1 4 2\np 2 8 2 1 3\np 4 6 3 1 5 4\n",
         err: "",
     },
+];
+
+fn shut_rows() -> &'static [Row] {
+    SHUT
+}
+
+/// Scripts that are missing, and words that ask for nothing.
+const FAULT: &[Row] = &[
     // Scripts that aren't there: the operator's comes first.
     Row {
         words: "lanes --operator op --sessions day A.gr B.gr",
@@ -170,19 +187,33 @@ pub(super) const ROWS: &[Row] = &[
     },
 ];
 
+fn fault_rows() -> &'static [Row] {
+    FAULT
+}
+
+/// The tables of these rows. The proof of a function takes in each table that it names, at a cost that grows with the
+/// square of its rows: so a table is short, and one function alone names it.
+pub(super) fn tables() -> [&'static [Row]; 3] {
+    [lane_rows(), shut_rows(), fault_rows()]
+}
+
+/// Scripts of which that of the session is longer by a byte than it may be.
+fn long_script(alloc: Global) -> Result<Outside, AllocError> {
+    let mut list = files_of(alloc, &[("A.gr", A), ("B.gr", B), ("op", "")])?;
+    let long = vec![in alloc; b'\n'; (1 << 24) + 1]?;
+    list.push(file_of(alloc, "day1", &long)?)?;
+    let folder = MemoryFolder::new(list, Vec::new(alloc));
+    Ok(Outside::of_folder(alloc, folder))
+}
+
+const TOO_LONG: Wanted = Wanted {
+    words: "lanes --operator op --sessions day A.gr B.gr",
+    status: 7,
+    out: b"",
+    err: b"route: script day1 too long\n",
+};
+
 #[test]
-fn a_script_of_one_byte_too_many_ends_the_run(rt: HostRuntime) -> Result<(), Fail> {
-    let mut list = files_of(rt.alloc(), &[("A.gr", A), ("B.gr", B), ("op", "")])?;
-    let long = vec![in rt.alloc(); b'\n'; (1 << 24) + 1]?;
-    list.push(file_of(rt.alloc(), "day1", &long)?)?;
-    let folder = MemoryFolder::new(list, Vec::new(rt.alloc()));
-    let wanted = Wanted {
-        words: "lanes --operator op --sessions day A.gr B.gr",
-        status: 7,
-        out: b"",
-        err: b"route: script day1 too long\n",
-    };
-    let mut outside = Outside::of_folder(rt.alloc(), folder);
-    assert_run(&rt, rt.alloc(), &wanted, 0, &mut outside)?;
-    Ok(())
+fn a_script_of_one_byte_too_many_ends_the_run(rt: HostRuntime) {
+    assert_run(&rt, rt.alloc(), &TOO_LONG, 0, long_script(rt.alloc()));
 }

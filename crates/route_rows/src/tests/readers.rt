@@ -5,7 +5,7 @@ use super::folder_of;
 use gr_reader::{FileFault, FileLimits, LineKind, read_gr};
 use route_io::Folder;
 use std::alloc::{AllocError, Global};
-use std::test::Fail;
+use std::process::Abort;
 
 /// The limits of the program.
 const WIDE: FileLimits = FileLimits {
@@ -45,18 +45,36 @@ const FAULTS: &[(&str, LineKind, u64)] = &[
     ("", LineKind::NoProblem, 1),
 ];
 
-#[test]
-fn texts_have_their_faults(rt: HostRuntime) -> Result<(), Fail> {
-    for (text, kind, line) in FAULTS {
-        let want = Some(FileFault::Line {
-            kind: *kind,
-            line: *line,
-        });
-        for size in [1, usize::MAX] {
-            assert!(rt; fault_of(rt.alloc(), text, WIDE, size)? == want, "{text:?}");
-        }
+/// The text has this fault, in whatever pieces it comes.
+fn assert_fault(
+    rt: &impl Abort,
+    alloc: Global,
+    text: &str,
+    limits: FileLimits,
+    wanted: Option<FileFault>,
+)
+    requires some { 1 ≤ limits.line }
+    requires line { limits.line ≤ 65536 }
+    requires file { limits.file ≤ 2 ^ 63 }
+{
+    for size in [1, usize::MAX] {
+        assert!(rt;
+            fault_of(alloc, text, limits, size) == Ok(wanted),
+            "{text:?}"
+        );
     }
-    Ok(())
+}
+
+/// A fault of this kind in this line.
+fn fault(kind: LineKind, line: u64) -> Option<FileFault> {
+    Some(FileFault::Line { kind, line })
+}
+
+#[test]
+fn texts_have_their_faults(rt: HostRuntime) {
+    for (text, kind, line) in FAULTS {
+        assert_fault(&rt, rt.alloc(), text, WIDE, fault(*kind, *line));
+    }
 }
 
 const SHORT_LINES: FileLimits = FileLimits {
@@ -70,23 +88,14 @@ const SHORT_FILE: FileLimits = FileLimits {
 };
 
 #[test]
-fn lines_have_a_limit(rt: HostRuntime) -> Result<(), Fail> {
-    let kind = LineKind::LineTooLong;
-    let want = Some(FileFault::Line { kind, line: 2 });
-    for size in [1, usize::MAX] {
-        let fault = fault_of(rt.alloc(), "p sp 1 0\nc 3456789", SHORT_LINES, size)?;
-        assert!(rt; fault == want);
-    }
-    Ok(())
+fn lines_have_a_limit(rt: HostRuntime) {
+    let wanted = fault(LineKind::LineTooLong, 2);
+    assert_fault(&rt, rt.alloc(), "p sp 1 0\nc 3456789", SHORT_LINES, wanted);
 }
 
 #[test]
-fn files_have_a_limit(rt: HostRuntime) -> Result<(), Fail> {
-    let kind = LineKind::FileTooLong;
-    let want = Some(FileFault::Line { kind, line: 2 });
-    for size in [1, usize::MAX] {
-        assert!(rt; fault_of(rt.alloc(), "p sp 1 0\n", SHORT_FILE, size)? == None);
-        assert!(rt; fault_of(rt.alloc(), "p sp 1 0\n\n", SHORT_FILE, size)? == want);
-    }
-    Ok(())
+fn files_have_a_limit(rt: HostRuntime) {
+    let wanted = fault(LineKind::FileTooLong, 2);
+    assert_fault(&rt, rt.alloc(), "p sp 1 0\n", SHORT_FILE, None);
+    assert_fault(&rt, rt.alloc(), "p sp 1 0\n\n", SHORT_FILE, wanted);
 }

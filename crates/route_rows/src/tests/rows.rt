@@ -33,7 +33,8 @@ pub(super) const SIX_ARCS: &[(&str, &str)] = &[("A.gr", A), ("B.gr", B)];
 /// The words of the first run.
 pub(super) const FIRST: &str = "costs --from 1 --to 4 A.gr B.gr";
 
-pub(super) const ROWS: &[Row] = &[
+/// The first run with words in other orders, and with more criteria.
+const FIRST_RUN: &[Row] = &[
     // The first run, and its words in another order.
     Row {
         words: FIRST,
@@ -71,6 +72,14 @@ pub(super) const ROWS: &[Row] = &[
         out: "r 0 1 4 3\nv 2 8 2 2\nv 4 2 2 4\nv 9 9 1 9\n",
         err: "",
     },
+];
+
+pub(super) fn first_run_rows() -> &'static [Row] {
+    FIRST_RUN
+}
+
+/// Ends that are equal, or are no nodes.
+const NODE: &[Row] = &[
     // Equal ends, an unreachable target, and numbers that are no node.
     Row {
         words: "costs --from 4 --to 4 A.gr B.gr",
@@ -107,6 +116,14 @@ pub(super) const ROWS: &[Row] = &[
         out: "x 0 4294967295 1 node\n",
         err: "",
     },
+];
+
+fn node_rows() -> &'static [Row] {
+    NODE
+}
+
+/// Budgets, exact and one less.
+const BUDGET: &[Row] = &[
     // The exact budget: five relevant pairs.
     Row {
         words: "costs --from 1 --to 4 --budget 5 A.gr B.gr",
@@ -167,6 +184,14 @@ pub(super) const ROWS: &[Row] = &[
         out: "x 0 1 2 budget\n",
         err: "",
     },
+];
+
+fn budget_rows() -> &'static [Row] {
+    BUDGET
+}
+
+/// Networks of several shapes.
+const NETWORK: &[Row] = &[
     // Zero components, and walks of one cost.
     Row {
         words: "costs --from 1 --to 3 X.gr Y.gr",
@@ -209,6 +234,14 @@ pub(super) const ROWS: &[Row] = &[
         out: "r 0 1 4 2\nv 2 8\nv 4 2\n",
         err: "",
     },
+];
+
+fn network_rows() -> &'static [Row] {
+    NETWORK
+}
+
+/// Files that are cut, missing or no text.
+const FAULT: &[Row] = &[
     // Cut files: within a line, before the last line, and before the last LF.
     Row {
         words: FIRST,
@@ -279,6 +312,14 @@ pub(super) const ROWS: &[Row] = &[
         out: "",
         err: "route: file A.gr line 2 kind 1\n",
     },
+];
+
+fn fault_rows() -> &'static [Row] {
+    FAULT
+}
+
+/// Files that do not agree.
+const DISAGREEMENT: &[Row] = &[
     // Files that don't agree: in their arcs, in their sizes, and in what is zero.
     Row {
         words: "costs --from 1 --to 4 A.gr C.gr",
@@ -330,6 +371,14 @@ pub(super) const ROWS: &[Row] = &[
         out: "",
         err: "route: file CUT line 7 kind 1\n",
     },
+];
+
+fn disagreement_rows() -> &'static [Row] {
+    DISAGREEMENT
+}
+
+/// Files that are checked, and are well or missing.
+const CHECK: &[Row] = &[
     // Whether files make up a network: its nodes, arcs and criteria, or the first thing that is wrong.
     Row {
         words: "check A.gr B.gr",
@@ -366,6 +415,14 @@ pub(super) const ROWS: &[Row] = &[
         out: "",
         err: "route: folder N.gr\n",
     },
+];
+
+fn check_rows() -> &'static [Row] {
+    CHECK
+}
+
+/// Files that are checked and do not agree, and words that are none of `check`.
+const CHECK_FAULT: &[Row] = &[
     Row {
         words: "check A.gr C.gr",
         files: &[("A.gr", A), ("C.gr", EXCHANGED)],
@@ -422,6 +479,14 @@ pub(super) const ROWS: &[Row] = &[
         out: "",
         err: "route: words\n",
     },
+];
+
+fn check_fault_rows() -> &'static [Row] {
+    CHECK_FAULT
+}
+
+/// Words of no command.
+const WORD: &[Row] = &[
     // Words of no command.
     Row {
         words: "",
@@ -465,6 +530,14 @@ pub(super) const ROWS: &[Row] = &[
         out: "",
         err: "route: words\n",
     },
+];
+
+fn word_rows() -> &'static [Row] {
+    WORD
+}
+
+/// Options out of range or twice, and names of no command.
+const OPTION: &[Row] = &[
     Row {
         words: "costs --from 1 --to 4 --budget 0 A.gr B.gr",
         files: SIX_ARCS,
@@ -501,3 +574,24 @@ pub(super) const ROWS: &[Row] = &[
         err: "route: words\n",
     },
 ];
+
+fn option_rows() -> &'static [Row] {
+    OPTION
+}
+
+/// The tables of these rows. The proof of a function takes in each table that it names, at a cost that grows with the
+/// square of its rows: so a table is short, and one function alone names it.
+pub(super) fn tables() -> [&'static [Row]; 10] {
+    [
+        first_run_rows(),
+        node_rows(),
+        budget_rows(),
+        network_rows(),
+        fault_rows(),
+        disagreement_rows(),
+        check_rows(),
+        check_fault_rows(),
+        word_rows(),
+        option_rows(),
+    ]
+}

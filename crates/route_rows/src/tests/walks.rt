@@ -11,7 +11,8 @@ const ZEROS: &[(&str, &str)] = &[
     ("Y.gr", "p sp 3 4\na 1 2 3\na 1 2 0\na 2 3 3\na 2 3 0\n"),
 ];
 
-pub(super) const ROWS: &[Row] = &[
+/// Walks over the six arcs.
+const WALK: &[Row] = &[
     Row {
         words: "one --from 1 --to 4 A.gr B.gr",
         files: SIX_ARCS,
@@ -64,6 +65,14 @@ pub(super) const ROWS: &[Row] = &[
         out: "x 0 1 4 budget\n",
         err: "",
     },
+];
+
+fn walk_rows() -> &'static [Row] {
+    WALK
+}
+
+/// Walks in networks of several shapes.
+const SHAPE: &[Row] = &[
     // Of two walks of one cost the backward-least is told: arcs 2 and 3, and not 1 and 4.
     Row {
         words: "one --from 1 --to 4 T.gr T.gr",
@@ -112,3 +121,13 @@ pub(super) const ROWS: &[Row] = &[
         err: "",
     },
 ];
+
+fn shape_rows() -> &'static [Row] {
+    SHAPE
+}
+
+/// The tables of these rows. The proof of a function takes in each table that it names, at a cost that grows with the
+/// square of its rows: so a table is short, and one function alone names it.
+pub(super) fn tables() -> [&'static [Row]; 2] {
+    [walk_rows(), shape_rows()]
+}

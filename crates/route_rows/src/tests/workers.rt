@@ -1,16 +1,19 @@
 //! What several workers share: the answers don't tell how many they are, and merging runs on two threads at once.
-use super::rows::{FIRST, SIX_ARCS};
+use super::rows::{FIRST, SIX_ARCS, first_run_rows};
 use super::{
-    FIRST as WANTED, Outside, Row, Wanted, assert_err, assert_out, assert_run, assert_status,
-    folder_of, generated, rows, walks,
+    FIRST as WANTED, Outside, Row, assert_ended, assert_run, generated, outside_of, walks,
 };
 use route_io::{Gate, Phase};
 use std::alloc::{AllocError, Global};
 use std::process::Abort;
 use std::sync::Wait;
 use std::sync::atomic::{AtomicBool, AtomicU32, Ordering};
-use std::test::Fail;
 use std::thread::Threads;
+
+/// The words of a row, and so many workers.
+fn words_with(alloc: Global, words: &str, workers: u32) -> Result<String, AllocError> {
+    format!(in alloc; "{words} --workers {workers}")
+}
 
 /// The run of the row with so many workers ends as that without the option.
 fn assert_with_workers(
@@ -18,39 +21,43 @@ fn assert_with_workers(
     alloc: Global,
     row: &Row,
     workers: u32,
-) -> Result<(), AllocError> {
-    let words = format!(in alloc; "{} --workers {workers}", row.words)?;
-    let wanted = Wanted {
-        words: words.as_str(),
-        status: row.status,
-        out: row.out.as_bytes(),
-        err: row.err.as_bytes(),
-    };
-    let mut outside = Outside::of_folder(alloc, folder_of(alloc, row.files)?);
-    assert_run(rt, alloc, &wanted, workers as usize, &mut outside)
+) {
+    let outside = outside_of(alloc, row.files, usize::MAX);
+    match words_with(alloc, row.words, workers) {
+        Ok(words) => {
+            let wanted = row.expected_of(words.as_str());
+            assert_run(rt, alloc, &wanted, workers as usize, outside);
+        }
+        Err(_) => panic!(rt; "no memory is left"),
+    }
+}
+
+/// Each row's run ends so with this many workers.
+fn assert_all_with_workers(
+    rt: &(impl Abort + Threads + Wait + Sync),
+    alloc: Global,
+    rows: &[Row],
+    workers: u32,
+) {
+    for row in rows {
+        assert_with_workers(rt, alloc, row, workers);
+    }
 }
 
 #[test]
-fn answers_do_not_tell_the_workers(rt: HostRuntime) -> Result<(), Fail> {
-    for workers in [1u32, 3, 64] {
-        for row in walks::ROWS {
-            assert_with_workers(&rt, rt.alloc(), row, workers)?;
+fn answers_do_not_tell_the_workers(rt: HostRuntime) {
+    for workers in [1, 3, 64] {
+        for rows in &walks::tables() {
+            assert_all_with_workers(&rt, rt.alloc(), rows, workers);
         }
-        for row in rows::ROWS.iter().take(5) {
-            assert_with_workers(&rt, rt.alloc(), row, workers)?;
-        }
+        assert_all_with_workers(&rt, rt.alloc(), first_run_rows(), workers);
     }
-    Ok(())
 }
 
 #[test]
-fn summaries_do_not_tell_the_workers(rt: HostRuntime) -> Result<(), Fail> {
-    for workers in [1u32, 8] {
-        for row in generated::SUMMARIES {
-            assert_with_workers(&rt, rt.alloc(), row, workers)?;
-        }
-    }
-    Ok(())
+fn summaries_do_not_tell_the_workers(rt: HostRuntime) {
+    assert_all_with_workers(&rt, rt.alloc(), generated::summary_rows(), 1);
+    assert_all_with_workers(&rt, rt.alloc(), generated::summary_rows(), 8);
 }
 
 /// Counts the pieces of work, and holds each of the pieces 0 and 1 of merging until the other has come, for a limited time.
@@ -118,25 +125,32 @@ fn came(flag: &AtomicBool) -> bool {
     false
 }
 
+/// The first run with two workers, through the gate.
+fn met(
+    rt: &(impl Threads + Wait + Sync),
+    alloc: Global,
+    gate: &Meeting,
+) -> Result<(u8, Outside), AllocError> {
+    let mut outside = outside_of(alloc, SIX_ARCS, usize::MAX)?;
+    let words = words_with(alloc, FIRST, 2)?;
+    let status = outside.run_through(rt, alloc, words.as_str(), gate)?;
+    Ok((status, outside))
+}
+
 #[test]
-fn two_workers_merge_at_once(rt: HostRuntime) -> Result<(), Fail> {
-    let alloc = rt.alloc();
+fn two_workers_merge_at_once(rt: HostRuntime) {
     let gate = Meeting::new();
-    let mut outside = Outside::of_folder(alloc, folder_of(alloc, SIX_ARCS)?);
-    let words = format!(in alloc; "{FIRST} --workers 2")?;
-    let status = outside.run_through(&rt, alloc, words.as_str(), &gate)?;
-    assert_out(&rt, outside.out.sent(), &WANTED, 2);
-    assert_err(&rt, outside.err.sent(), &WANTED, 2);
-    assert_status(&rt, status, &WANTED, 2);
-    assert_eq!(rt;
-        gate.relaxed.load(Ordering::SeqCst),
-        3,
+    assert_ended(&rt, met(&rt, rt.alloc(), &gate), &WANTED, 2);
+    assert!(rt;
+        gate.relaxed.load(Ordering::SeqCst) == 3,
         "pieces of relaxing"
     );
-    assert_eq!(rt; gate.merged.load(Ordering::SeqCst), 5, "pieces of merging");
+    assert!(rt;
+        gate.merged.load(Ordering::SeqCst) == 5,
+        "pieces of merging"
+    );
     assert!(rt;
         !gate.gave_up.load(Ordering::SeqCst),
         "the pieces didn't meet"
     );
-    Ok(())
 }

@@ -42,7 +42,8 @@ const FOUR_CHOICES: [[u32; 6]; 8] = [
     [4, 5, 0, 8, 0, 0],
 ];
 
-pub(super) const CASES: [Case; 31] = [
+/// A diamond, with several limits.
+const DIAMONDS: &[Case] = &[
     Case {
         name: "a diamond with a chord and a direct arc",
         nodes: 4,
@@ -83,6 +84,14 @@ pub(super) const CASES: [Case; 31] = [
         costs: &[],
         relevant: 2,
     },
+];
+
+fn all_diamonds() -> &'static [Case] {
+    DIAMONDS
+}
+
+/// Ends that are out of reach, equal, or on loops.
+const ENDS: &[Case] = &[
     Case {
         name: "a target out of reach",
         nodes: 4,
@@ -123,6 +132,14 @@ pub(super) const CASES: [Case; 31] = [
         costs: &[&[2, 2]],
         relevant: 2,
     },
+];
+
+fn all_ends() -> &'static [Case] {
+    ENDS
+}
+
+/// Equal vectors and costs.
+const EQUALS: &[Case] = &[
     Case {
         name: "parallel arcs of equal vectors",
         nodes: 2,
@@ -183,6 +200,14 @@ pub(super) const CASES: [Case; 31] = [
         costs: &[&[1, 1]],
         relevant: 2,
     },
+];
+
+fn all_equals() -> &'static [Case] {
+    EQUALS
+}
+
+/// Several best costs on the way, a cycle, and three criteria.
+const CYCLES: &[Case] = &[
     Case {
         name: "two best costs on the way",
         nodes: 4,
@@ -234,6 +259,14 @@ pub(super) const CASES: [Case; 31] = [
         costs: &[&[2, 5, 5], &[4, 4, 4]],
         relevant: 5,
     },
+];
+
+fn all_cycles() -> &'static [Case] {
+    CYCLES
+}
+
+/// Four criteria, no arcs, and many best costs.
+const SIZES: &[Case] = &[
     Case {
         name: "four criteria",
         nodes: 3,
@@ -307,6 +340,14 @@ pub(super) const CASES: [Case; 31] = [
         costs: &[&[4, 11], &[5, 10], &[6, 9], &[7, 8], &[8, 7], &[9, 6]],
         relevant: 21,
     },
+];
+
+fn all_sizes() -> &'static [Case] {
+    SIZES
+}
+
+/// Graphs that were drawn at random.
+const DRAWN_ONE: &[Case] = &[
     Case {
         name: "at random: 5 nodes, 14 arcs, two criteria",
         nodes: 5,
@@ -361,6 +402,14 @@ pub(super) const CASES: [Case; 31] = [
         costs: &[&[7, 6]],
         relevant: 3,
     },
+];
+
+fn all_drawn_one() -> &'static [Case] {
+    DRAWN_ONE
+}
+
+/// Further ones.
+const DRAWN_TWO: &[Case] = &[
     Case {
         name: "at random: 6 nodes, 16 arcs, three criteria, the first limited",
         nodes: 6,
@@ -413,6 +462,14 @@ pub(super) const CASES: [Case; 31] = [
         costs: &[],
         relevant: 2,
     },
+];
+
+fn all_drawn_two() -> &'static [Case] {
+    DRAWN_TWO
+}
+
+/// Further ones.
+const DRAWN_THREE: &[Case] = &[
     Case {
         name: "at random: 7 nodes, 24 arcs, two criteria",
         nodes: 7,
@@ -479,6 +536,14 @@ pub(super) const CASES: [Case; 31] = [
         costs: &[&[6, 1, 4]],
         relevant: 8,
     },
+];
+
+fn all_drawn_three() -> &'static [Case] {
+    DRAWN_THREE
+}
+
+/// Further ones.
+const DRAWN_FOUR: &[Case] = &[
     Case {
         name: "at random: 4 nodes, 8 arcs, four criteria, the last limited",
         nodes: 4,
@@ -537,3 +602,23 @@ pub(super) const CASES: [Case; 31] = [
         relevant: 4,
     },
 ];
+
+fn all_drawn_four() -> &'static [Case] {
+    DRAWN_FOUR
+}
+
+/// The tables of these cases. The proof of a function takes in each table that it names, at a cost that grows with the
+/// square of its length: so a table is short, and one function alone names it.
+pub(super) fn tables() -> [&'static [Case]; 9] {
+    [
+        all_diamonds(),
+        all_ends(),
+        all_equals(),
+        all_cycles(),
+        all_sizes(),
+        all_drawn_one(),
+        all_drawn_two(),
+        all_drawn_three(),
+        all_drawn_four(),
+    ]
+}

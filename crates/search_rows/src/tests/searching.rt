@@ -1,7 +1,7 @@
 ghost use Rattle.std.specs.Prelude.{IfOk};
 ghost use Rattle.arc_graph.specs.Graph.{Match};
 
-use super::cases::{CASES, Case};
+use super::cases::{Case, tables};
 use arc_graph::{ArcFile, ArcLine, Graph, Weights, join_files};
 use cost_vector::{Cost, Limit, NodeNo};
 use plain_search::{Query, SearchFault, plain_search};
@@ -82,22 +82,39 @@ fn expect_costs(rt: &impl Abort, case: &Case, costs: &[Cost]) {
     }
 }
 
+fn assert_found(rt: &impl Abort, alloc: Global, cases: &[Case]) -> Result<(), Fail> {
+    for case in cases {
+        let costs = answer(rt, alloc, case, case.relevant)??;
+        expect_costs(rt, case, &costs);
+    }
+    Ok(())
+}
+
 #[test]
 fn finds_the_best_costs_of_small_graphs(rt: HostRuntime) -> Result<(), Fail> {
-    for case in &CASES {
-        let costs = answer(&rt, rt.alloc(), case, case.relevant)??;
-        expect_costs(&rt, case, &costs);
+    for cases in &tables() {
+        assert_found(&rt, rt.alloc(), cases)?;
+    }
+    Ok(())
+}
+
+fn assert_refused(rt: &impl Abort, alloc: Global, cases: &[Case]) -> Result<(), Fail> {
+    for case in cases {
+        let name = case.name;
+        assert!(rt; 1 <= case.relevant, "{name}: relevant pairs");
+        let refused = answer(rt, alloc, case, case.relevant - 1)?;
+        assert!(rt;
+            matches!(refused, Err(SearchFault::Budget)),
+            "{name}: refusal"
+        );
     }
     Ok(())
 }
 
 #[test]
 fn refuses_a_budget_that_is_one_too_small(rt: HostRuntime) -> Result<(), Fail> {
-    for case in &CASES {
-        let name = case.name;
-        assert!(rt; 1 <= case.relevant, "{name}: relevant pairs");
-        let refused = answer(&rt, rt.alloc(), case, case.relevant - 1)?;
-        assert_eq!(rt; refused.err(), Some(SearchFault::Budget), "{name}: refusal");
+    for cases in &tables() {
+        assert_refused(&rt, rt.alloc(), cases)?;
     }
     Ok(())
 }

@@ -132,6 +132,19 @@ const SHUT: &[Row] = &[
         out: "operator\nok\nok\nk 1\nlane 1\nk 1\nr 1 1 4 2\np 2 8 2 1 3\np 4 6 3 1 5 4\nr 1 1 4 2\np 2 8 2 1 3\np 4 6 3 1 5 4\n",
         err: "",
     },
+    // A shut arc has got other weights behind the epoch in which it was shut; no epoch comes after that.
+    Row {
+        words: "lanes --operator op --sessions day A.gr B.gr",
+        files: &[
+            ("A.gr", A),
+            ("B.gr", B),
+            ("op", "x 2\npublish\ns 2 3 3\npublish\n"),
+            ("day1", "w 2\nq 1 4\nl 1 4 - 7\nw 4294967295\n"),
+        ],
+        status: 0,
+        out: "operator\nok\nk 1\nok\nk 2\nlane 1\nk 2\nr 2 1 4 3\np 2 8 2 1 3\np 4 6 3 1 5 4\np 5 4 2 2 4\nl 2 1 4 - 7 2\np 4 6 3 1 5 4\np 5 4 2 2 4\nx 2 closed\n",
+        err: "",
+    },
 ];
 
 fn shut_rows() -> &'static [Row] {

@@ -34,7 +34,10 @@ fn is_number(line: &[u8], number: Numeral, rest: &[u8]) -> bool {
 
 #[test]
 fn the_first_field_is_read_as_a_number(rt: HostRuntime) {
-    assert!(rt; is_number(b" 12\t3", Numeral::Value(12), b"\t3"), "the greatest");
+    assert!(rt;
+        is_number(b" 12\t3", Numeral::Value(12), b"\t3"),
+        "the greatest"
+    );
     assert!(rt; is_number(b"13\t3", Numeral::Above, b"\t3"), "one more");
     assert!(rt; is_number(b"1x\t3", Numeral::NotDigits, b"\t3"), "a letter");
     assert!(rt; next_number(b" ", 12).is_none(), "blanks alone");

@@ -10,7 +10,7 @@ use Rattle.std.proofs.lemmas.List.Edits.{get_or-remove_above, get_or-remove_belo
 use Rattle.std.proofs.lemmas.List.Elements.{All-weaker, Contains-append_cases, Contains-append_right}
 use Rattle.cost_vector.specs.Costs.{AtMost, Dominates, LexLess, lex_cmp}
 use Rattle.cost_vector.proofs.Vectors.{AtMost-refl, LexLess-irrefl, LexLess-trans, LexLess_from_AtMost, LexLess_from_Dominates, cases_LexLess, cases_same, same_from_lex_cmp}
-use Rattle.list_laws.proofs.Members.{all_from_in, cases_in, each_in, of_map}
+use Rattle.list_laws.proofs.Members.{all_from_in, cases_in, each_in, in_map, of_map}
 use Rattle.list_laws.proofs.Pairs.{pairs_cons}
 use Rattle.list_laws.proofs.OnceLaws.{pairs_append}
 use Rattle.pareto_front.specs.declared.front.FrontEntry.{FrontEntry}
@@ -219,3 +219,12 @@ module _ {D : ℕ} (list : List (FrontEntry D)) (i : ℕ) where
           | inr back ↦ (record { arc = h.0.arc; contains = back }, h.1)
         ],
   )
+
+  -- so none is dominated where none behind is
+  pub none_behind_dominated : (by : List ℕ) → IsBeforeOf list by i → All (λ (e : FrontEntry D). ¬ Dominates by e.cost.0) (drop i list)
+      → All (λ (e : FrontEntry D). ¬ Dominates by e.cost.0) list
+  none_behind_dominated by at none = all_from_in (λ (e : FrontEntry D). ¬ Dominates by e.cost.0) list (λ e h dominated.
+      let there = (dominated_behind by at e.cost.0).1 (record { arc = e.arc.0; contains = in_map told_entry list e h }, dominated) in
+      let (y, y_in, is) = of_map told_entry (drop i list) (record { cost = e.cost.0; arc = there.0.arc }) there.0.contains in
+      each_in (λ (x : FrontEntry D). ¬ Dominates by x.cost.0) (drop i list) none y y_in
+      (subst (Dominates by) (ap (λ (x : Entry). x.cost) is) dominated))

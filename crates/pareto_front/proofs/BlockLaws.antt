@@ -1,12 +1,14 @@
 -- Blocks of entries, and their corners.
 use Rattle.std.proofs.Common.{◌≡◌, ℕ, ◌+◌, ◌-◌, ◌*◌, ◌/◌, ◌<◌, ◌≤◌, inl, inr, List, [], ◌∷◌, ◌++◌, length, take, drop, get_or, set, min, refl, sym, ap}
-use Rattle.std.proofs.Common.{subst, ◌∙◌, arith}
-use Rattle.std.specs.Prelude.{All}
+use Rattle.std.proofs.Common.{subst, subst₂, ◌∙◌, arith, take-append-drop}
+use Rattle.std.specs.Prelude.{All, Contains, IsPermutation}
 use Rattle.std.proofs.Math.Nat.{div-lt_iff_lt-mul}
 use Rattle.std.proofs.lemmas.Bool.{cases_lt, cases_eq}
 use Rattle.std.proofs.lemmas.Nat.{div-mul-add}
 use Rattle.std.proofs.lemmas.List.{get_or-take, get_or-drop, get_or_append_left, get_or_push, get_or-set_same, get_or-set_other}
-use Rattle.std.proofs.lemmas.List.{take_all, length-take, length-drop, length-set, length_push}
+use Rattle.std.proofs.lemmas.List.{length-take, length-drop, length-set, length_push}
+use Rattle.std.proofs.lemmas.List.Elements.{Contains-get_or}
+use Rattle.std.proofs.lemmas.List.Sorted.{Contains-permutation, IsPermutation-append_right, IsPermutation-sym, length_permutation}
 use Rattle.cost_vector.specs.Costs.{AtMost}
 use Rattle.cost_vector.proofs.Vectors.{AtMost-refl, AtMost-trans}
 use Rattle.compact_labels.specs.declared.cost.CompactCost.{CompactCost}
@@ -24,30 +26,30 @@ module _ {X : Type 0} (n m : ℕ) (xs : List X) (k : ℕ) (inside : k < length (
   pub get_or-part : (d : X) → get_or (take n (drop m xs)) k d ≡ get_or xs (m + k) d
   get_or-part d = get_or-take n (drop m xs) k d within_part ∙ get_or-drop m xs k d
 
--- what holds of a part and of all before it
-all_more : {X : Type 0} (P : X → Type 0) (n m : ℕ) (xs : List X) → All P (take m xs) → All P (take n (drop m xs)) → All P (take (m + n) xs)
-all_more P n m xs front part = λ k d within.
-    let long = length-take (m + n) xs in
-    elim (cases_lt k m) [
+-- what holds of a part and of all behind it
+all_more : {X : Type 0} (P : X → Type 0) (n m : ℕ) (xs : List X) → All P (take n (drop m xs)) → All P (drop (m + n) xs) → All P (drop m xs)
+all_more P n m xs part rest = λ k d within.
+    elim (cases_lt k n) [
       | inl before ↦
-          let inside : k < length (take m xs) = omega (arith, within, long, length-take m xs) in
-          subst P (get_or-take m xs k d before ∙ sym (get_or-take (m + n) xs k d (omega arith))) (front k d inside)
+          let inside : k < length (take n (drop m xs)) = omega (arith, within, before, length-take n (drop m xs)) in
+          subst P (get_or-take n (drop m xs) k d before) (part k d inside)
       | inr behind ↦
-          let i : ℕ = k - m in
-          let inside : i < length (take n (drop m xs)) = omega (arith, within, long, length-take n (drop m xs), length-drop m xs) in
-          let there : get_or xs (m + i) d ≡ get_or xs k d = ap (λ j. get_or xs j d) (omega arith) in
-          subst P (get_or-part n m xs i inside d ∙ there ∙ sym (get_or-take (m + n) xs k d (omega (arith, within, long)))) (part i d inside)
+          let i : ℕ = k - n in
+          let inside : i < length (drop (m + n) xs) = omega (arith, within, length-drop (m + n) xs, length-drop m xs) in
+          let there : get_or xs ((m + n) + i) d ≡ get_or xs (m + k) d = ap (λ j. get_or xs j d) (omega arith) in
+          subst P (get_or-drop (m + n) xs i d ∙ there ∙ sym (get_or-drop m xs k d)) (rest i d inside)
     ]
 
--- a block more without an entry that is at most a cost, and all blocks
-pub none_more : {D : ℕ} (size b : ℕ) (list : List (FrontEntry D)) (c : List ℕ) → CoversNone (take (b * size) list) c
-    → CoversNone (take size (drop (b * size) list)) c → CoversNone (take ((b + 1) * size) list) c
-none_more {D} size b list c before block =
-    let more : b * size + size ≡ (b + 1) * size = omega arith in
-    subst (λ n. CoversNone (take n list) c) more (all_more (λ (e : FrontEntry D). ¬ AtMost e.cost.0 c) size (b * size) list before block)
+-- a block more without an entry that is at most a cost, before the next
+pub none_more : {D : ℕ} (size b next : ℕ) (list : List (FrontEntry D)) (c : List ℕ) → next ≡ b + 1 → CoversNone (take size (drop (b * size) list)) c
+    → CoversNone (drop (next * size) list) c → CoversNone (drop (b * size) list) c
+none_more {D} size b next list c follows block behind =
+    let more : next * size ≡ b * size + size = ap (λ n. n * size) follows ∙ omega arith in
+    all_more (λ (e : FrontEntry D). ¬ AtMost e.cost.0 c) size (b * size) list block (subst (λ n. CoversNone (drop n list) c) more behind)
 
-pub none_at_all : {D : ℕ} (n : ℕ) (list : List (FrontEntry D)) (c : List ℕ) → length list ≤ n → CoversNone (take n list) c → CoversNone list c
-none_at_all n list c past none = subst (λ l. CoversNone l c) (take_all n list past) none
+-- behind all entries there is none
+pub none_behind : {D : ℕ} (n : ℕ) (list : List (FrontEntry D)) (c : List ℕ) → length list ≤ n → CoversNone (drop n list) c
+none_behind n list c past = λ k d within. absurd (omega (arith, past, within, length-drop n list))
 
 -- an entry of a part that is at most a cost
 pub covers_in_part : {D : ℕ} (n m : ℕ) (list : List (FrontEntry D)) (c : List ℕ) (i : ℕ) → CoversAt (take n (drop m list)) c i → CoversAt list c (m + i)
@@ -170,3 +172,55 @@ corners_of_part {D} b {settled} {corners} have = record {
 
   inner : length (take 8 (drop (b * 8) corners)) ≡ min 8 (length corners - b * 8)
   inner = length-take 8 (drop (b * 8) corners) ∙ ap (min 8) (length-drop (b * 8) corners)
+
+-- the corners of the first blocks
+pub corners_of_front : {D : ℕ} (m : ℕ) {settled : List (FrontEntry D)} {corners : List (CompactCost D)} → HaveCorners 16 settled corners
+    → m * 16 ≤ length settled → HaveCorners 16 (take (m * 16) settled) (take m corners)
+corners_of_front {D} m {settled} {corners} have within = record {
+  enough = omega (arith, long, as_many, within);
+  no_more = omega (arith, long, as_many, within);
+  at_most = λ j e c inside.
+      let near : j < m * 16 = omega (arith, inside, long) in
+      let block : j / 16 < m = omega (arith, near) in
+      rw (get_or-take (m * 16) settled j e near, get_or-take m corners (j / 16) c block) (have.at_most j e c (omega (arith, near, within)));
+} where
+  long : length (take (m * 16) settled) ≡ m * 16
+  long = omega (arith, within, length-take (m * 16) settled)
+
+  as_many : length (take m corners) ≡ m
+  as_many = omega (arith, within, have.enough, length-take m corners)
+
+-- the entries from the place `start` on in another order
+module _ {D : ℕ} (old new : List (FrontEntry D)) (start : ℕ) (front : take start new ≡ take start old)
+    (moved : IsPermutation (drop start old) (drop start new)) where
+  pub moved_behind : IsPermutation old new
+  moved_behind = subst₂ IsPermutation (take-append-drop start old) (ap (λ l. l ++ drop start new) (sym front) ∙ take-append-drop start new)
+      (IsPermutation-append_right (take start old) (drop start old) (drop start new) moved)
+
+  -- where they are those of the last wide block, it keeps its corner
+  pub corner_of_moved : (b : ℕ) → start ≡ b * 128 → length old ≡ start + 128 → (wide : List (CompactCost D)) → HaveCorners 128 old wide
+      → HaveCorners 128 new wide
+  corner_of_moved b begins ends wide have = record {
+    enough = omega (arith, have.enough, as_long);
+    no_more = omega (arith, have.no_more, as_long);
+    at_most = λ j e c inside.
+        elim (cases_lt j start) [
+          | inl before ↦
+              let same : get_or new j e ≡ get_or old j e = sym (get_or-take start new j e before) ∙ ap (λ l. get_or l j e) front ∙ get_or-take start old j e before in
+              rw same (have.at_most j e c (omega (arith, inside, as_long)))
+          | inr behind ↦
+              let x : FrontEntry D = get_or new j e in
+              let k : ℕ = j - start in
+              let k_in : k < length (drop start new) = omega (arith, inside, length-drop start new) in
+              let x_is : get_or (drop start new) k e ≡ x = get_or-drop start new k e ∙ ap (λ i. get_or new i e) (omega arith) in
+              let there = Contains-permutation (drop start new) (drop start old) x (IsPermutation-sym (drop start old) (drop start new) moved)
+              (subst (Contains (drop start new)) x_is (Contains-get_or (drop start new) k e k_in)) in
+              let was : get_or old (start + there.0) x ≡ x = sym (get_or-drop start old there.0 x) ∙ there.2 in
+              let within : start + there.0 < length old = omega (arith, there.1, length-drop start old) in
+              let block : (start + there.0) / 128 ≡ j / 128 = omega (arith, begins, ends, within, behind, inside, as_long) in
+              subst (λ (y : FrontEntry D). AtMost (get_or wide (j / 128) c).0 y.cost.0) was
+              (rw block at (have.at_most (start + there.0) x c within))
+        ];
+  } where
+    as_long : length new ≡ length old
+    as_long = length_permutation old new moved_behind

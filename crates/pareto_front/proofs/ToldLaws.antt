@@ -9,19 +9,18 @@ use Rattle.std.proofs.lemmas.Cmp.{nat_list_cmp_total}
 use Rattle.std.proofs.lemmas.Option.{same_Some, none-some}
 use Rattle.std.proofs.lemmas.List.{get_or-map, length-map, map_push, map-set}
 use Rattle.std.proofs.lemmas.List.Elements.{All-map, Contains-get_or, Contains-append_left, Contains-append_right, Contains-append_cases}
-use Rattle.std.proofs.lemmas.List.Sorted.{IsPermutation-append_comm, IsPermutation-append_right, IsPermutation-map, IsPermutation-remove, IsPermutation-trans, sorted_far, ranks_by}
-use Rattle.cost_vector.specs.Costs.{AtMost, Dominates, LexLess, lex_cmp}
+use Rattle.std.proofs.lemmas.List.Sorted.{IsPermutation-append_comm, IsPermutation-append_left, IsPermutation-append_right, IsPermutation-map, IsPermutation-remove, IsPermutation-trans, sorted_far, ranks_by}
+use Rattle.cost_vector.specs.Costs.{AtMost, LexLess, lex_cmp}
 use Rattle.cost_vector.specs.declared.label.ArcNo.{ArcNo}
 use Rattle.cost_vector.proofs.Vectors.{AtMost-refl, cases_LexLess}
-use Rattle.list_laws.specs.Without.{IsWithout}
-use Rattle.list_laws.proofs.Members.{all_from_in, each_in, in_map}
+use Rattle.list_laws.proofs.Members.{all_from_in, each_in, in_map, of_map}
 use Rattle.list_laws.proofs.Pairs.{pairs_map}
 use Rattle.list_laws.proofs.SetLaws.{same_by_permutation}
 use Rattle.pareto_front.specs.declared.front.FrontEntry.{FrontEntry}
-use Rattle.pareto_front.specs.Fronts.{Entry, AreIncomparable, entries, HasCost, IsCovered, IsFront, SparesSettled}
+use Rattle.pareto_front.specs.Fronts.{Entry, Front, AreIncomparable, entries, HasCost, IsCovered, IsFront, SparesSettled}
 use Rattle.pareto_front.specs.Calls.{told_entry, Enters, ListsSettled, Relabels, Settles}
-use Rattle.pareto_front.specs.Blocks.{CoversAt, CoversNone, told_front}
-use Rattle.pareto_front.proofs.FrontLaws.{front_in_any_order, incomparable_in_any_order, pairs_before, pairs_of_map, only_one, same_cost}
+use Rattle.pareto_front.specs.Blocks.{CoversAt, CoversNone, TakesIn, told_front}
+use Rattle.pareto_front.proofs.FrontLaws.{front_in_any_order, incomparable_in_any_order, pairs_before, pairs_behind, pairs_of_map, only_one, same_cost}
 use Rattle.pareto_front.proofs.FrontChanges.{enters, entered_front, settled_front, settles, settled_relabelled, settled_relabelled_front}
 use Rattle.pareto_front.proofs.FrontChanges.{unsettled_relabelled, unsettled_relabelled_front}
 
@@ -75,33 +74,40 @@ module _ {D : ℕ} (settled unsettled : List (FrontEntry D)) (front : IsFront D 
       (settles (map told_entry settled) (map told_entry unsettled) (map told_entry (remove unsettled i)) (told_entry x) front out c
       (same_cost front c has (told_entry x) (told_unsettled there x is settled) (covers there x is)))
 
--- none of the unsettled entries that are kept has the cost of the entry x, which is told so, where none is at most it
-pub told_new_cost : {D : ℕ} (settled unsettled kept : List (FrontEntry D)) (x : FrontEntry D) (new : Entry) → told_entry x ≡ new
-    → All (Contains (map told_entry unsettled)) (map told_entry kept) → ¬ IsCovered (entries (told_front settled unsettled)) new.cost
-    → All (λ (e : FrontEntry D). e.cost.0 ≢ x.cost.0) kept
-told_new_cost {D} settled unsettled kept x new told old fresh = all_from_in (λ (e : FrontEntry D). e.cost.0 ≢ x.cost.0) kept (λ e h same.
+-- where no entry is at most the cost of the entry x, no unsettled one has it
+pub told_new_cost : {D : ℕ} (settled unsettled : List (FrontEntry D)) (x : FrontEntry D) → ¬ IsCovered (entries (told_front settled unsettled)) x.cost.0
+    → All (λ (e : FrontEntry D). e.cost.0 ≢ x.cost.0) unsettled
+told_new_cost {D} settled unsettled x fresh = all_from_in (λ (e : FrontEntry D). e.cost.0 ≢ x.cost.0) unsettled (λ e h same.
     fresh (record {
       by = told_entry e;
-      contains = Contains-append_right (map told_entry settled) (map told_entry unsettled) (told_entry e)
-          (each_in (Contains (map told_entry unsettled)) (map told_entry kept) old (told_entry e) (in_map told_entry kept e h));
-      at_most = subst (AtMost e.cost.0) (same ∙ ap (λ (z : Entry). z.cost) told) (AtMost-refl e.cost.0);
+      contains = Contains-append_right (map told_entry settled) (map told_entry unsettled) (told_entry e) (in_map told_entry unsettled e h);
+      at_most = subst (AtMost e.cost.0) same (AtMost-refl e.cost.0);
     }))
 
--- the entry x, which is told so, comes among the unsettled ones, of which kept are those that it doesn't dominate
-module _ {D : ℕ} (settled unsettled kept after : List (FrontEntry D)) (x : FrontEntry D) (new : Entry) (told : told_entry x ≡ new)
-    (front : IsFront D (told_front settled unsettled)) (out : IsWithout (λ e. Dominates new.cost e.cost) (map told_entry unsettled) (map told_entry kept))
-    (moved : IsPermutation (x ∷ kept) after) where
+-- none of the entries that are kept has a cost that no entry had
+pub other_costs : {D : ℕ} (before kept : List (FrontEntry D)) (c : List ℕ) → All (Contains (map told_entry before)) (map told_entry kept)
+    → All (λ (e : FrontEntry D). e.cost.0 ≢ c) before → All (λ (e : FrontEntry D). e.cost.0 ≢ c) kept
+other_costs {D} before kept c old other = all_from_in (λ (e : FrontEntry D). e.cost.0 ≢ c) kept (λ e h same.
+    let there = each_in (Contains (map told_entry before)) (map told_entry kept) old (told_entry e) (in_map told_entry kept e h) in
+    let (y, y_in, is) = of_map told_entry before (told_entry e) there in
+    each_in (λ (x : FrontEntry D). x.cost.0 ≢ c) before other y y_in (ap (λ (x : Entry). x.cost) (sym is) ∙ same))
+
+-- the entry x comes among the unsettled ones
+module _ {D : ℕ} (settled unsettled after : List (FrontEntry D)) (x : FrontEntry D) (front : IsFront D (told_front settled unsettled))
+    (taken : TakesIn unsettled x after) where
+  abbrev kept : List Entry
+  kept = map told_entry taken.kept
+
   abbrev behind : List Entry
-  behind = map told_entry kept ++ new ∷ []
+  behind = kept ++ told_entry x ∷ []
 
   told_behind : IsPermutation behind (map told_entry after)
-  told_behind = IsPermutation-trans behind (new ∷ map told_entry kept) (map told_entry after)
-      (IsPermutation-append_comm (map told_entry kept) (new ∷ []))
-      (subst (λ e. IsPermutation (e ∷ map told_entry kept) (map told_entry after)) told (IsPermutation-map told_entry (x ∷ kept) after moved))
+  told_behind = IsPermutation-trans behind (told_entry x ∷ kept) (map told_entry after)
+      (IsPermutation-append_comm kept (told_entry x ∷ [])) (IsPermutation-map told_entry (x ∷ taken.kept) after taken.moved)
 
-  pub told_enters : Enters (told_front settled unsettled) new (told_front settled after)
+  pub told_enters : Enters (told_front settled unsettled) (told_entry x) (told_front settled after)
   told_enters =
-      let entered = enters (map told_entry settled) (map told_entry unsettled) (map told_entry kept) new front out in
+      let entered = enters (map told_entry settled) (map told_entry unsettled) kept (told_entry x) front taken.out in
       record {
         settled = entered.settled;
         unsettled = λ e.
@@ -110,12 +116,11 @@ module _ {D : ℕ} (settled unsettled kept after : List (FrontEntry D)) (x : Fro
             (λ h. was.0 (same.0 h), λ h. same.1 (was.1 h));
       }
 
-  pub told_entered_front : AllPairs AreIncomparable (map told_entry kept) → length x.cost.0 ≡ D
-      → ¬ IsCovered (entries (told_front settled unsettled)) new.cost → SparesSettled (told_front settled unsettled) new.cost
-      → IsFront D (told_front settled after)
-  told_entered_front apart long fresh spares =
-      let as_long = ap (λ (e : Entry). length e.cost) (sym told) ∙ long in
-      let entered = entered_front (map told_entry settled) (map told_entry unsettled) (map told_entry kept) new front out apart as_long fresh spares in
+  pub told_entered_front : length x.cost.0 ≡ D → ¬ IsCovered (entries (told_front settled unsettled)) x.cost.0
+      → SparesSettled (told_front settled unsettled) x.cost.0 → IsFront D (told_front settled after)
+  told_entered_front long fresh spares =
+      let apart = taken.apart (pairs_behind AreIncomparable (map told_entry settled) (map told_entry unsettled) front.incomparable) in
+      let entered = entered_front (map told_entry settled) (map told_entry unsettled) kept (told_entry x) front taken.out apart long fresh spares in
       front_in_any_order entered (told_front settled after) (IsPermutation-append_right (map told_entry settled) behind (map told_entry after) told_behind)
 
 -- the entry with this arc
@@ -192,14 +197,28 @@ pub no_arc : {D : ℕ} (settled : List (FrontEntry D)) (c : List ℕ) → Covers
     → (None ≡ Some arc) ↔ Contains (map told_entry settled) (record { cost = c; arc = arc.0 })
 no_arc settled c none arc = (λ e. absurd (none-some arc e), λ h. absurd (told_none settled c none (record { cost = c; arc = arc.0 }) h (AtMost-refl c)))
 
--- the settled entries in another order, sorted by their costs
-module _ {D : ℕ} (settled unsettled : List (FrontEntry D)) (front : IsFront D (told_front settled unsettled)) (list : List (FrontEntry D))
-    (moved : IsPermutation settled list) (sorted : IsSortedBy (λ x y. is_lt (lex_cmp x.cost.0 y.cost.0)) list) where
+-- the settled entries in another order
+module _ {D : ℕ} (settled unsettled list : List (FrontEntry D)) (moved : IsPermutation settled list) where
   told_moved : IsPermutation (map told_entry settled) (map told_entry list)
   told_moved = IsPermutation-map told_entry settled list moved
 
+  pub moved_front : IsFront D (told_front settled unsettled) → IsFront D (told_front list unsettled)
+  moved_front front = front_in_any_order front (told_front list unsettled)
+      (IsPermutation-append_left (map told_entry unsettled) (map told_entry settled) (map told_entry list) told_moved)
+
+  pub moved_settles : (f : Front) (c : List ℕ) → Settles f c (told_front settled unsettled) → Settles f c (told_front list unsettled)
+  moved_settles f c was = record {
+    settled = λ e.
+        let same = same_by_permutation (map told_entry settled) (map told_entry list) told_moved e in
+        (λ h. (was.settled e).0 (same.0 h), λ h. same.1 ((was.settled e).1 h));
+    unsettled = was.unsettled;
+  }
+
+-- ..sorted by their costs
+module _ {D : ℕ} (settled unsettled : List (FrontEntry D)) (front : IsFront D (told_front settled unsettled)) (list : List (FrontEntry D))
+    (moved : IsPermutation settled list) (sorted : IsSortedBy (λ x y. is_lt (lex_cmp x.cost.0 y.cost.0)) list) where
   apart : AllPairs AreIncomparable (map told_entry list)
-  apart = incomparable_in_any_order (map told_entry settled) (map told_entry list) told_moved
+  apart = incomparable_in_any_order (map told_entry settled) (map told_entry list) (told_moved settled unsettled list moved)
       (pairs_before AreIncomparable (map told_entry settled) (map told_entry unsettled) front.incomparable)
 
   less : (a b : List ℕ) → is_lt (lex_cmp b a) ≡ false → ¬ AtMost a b → LexLess a b
@@ -217,5 +236,5 @@ module _ {D : ℕ} (settled unsettled : List (FrontEntry D)) (front : IsFront D 
         (sorted_far (λ x y. is_lt (lex_cmp x.cost.0 y.cost.0)) (ranks_by nat_list_cmp_total (λ (e : FrontEntry D). e.cost.0)) list sorted i j d
         (omega arith) within)
         (pairs_of_map AreIncomparable told_entry list apart i j d before within).one_way);
-    exact = same_by_permutation (map told_entry settled) (map told_entry list) told_moved;
+    exact = same_by_permutation (map told_entry settled) (map told_entry list) (told_moved settled unsettled list moved);
   }

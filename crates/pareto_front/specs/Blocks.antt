@@ -1,9 +1,10 @@
 -- How a front of three or four criteria lies in memory, with its settled entries in blocks.
-use Rattle.std.specs.Prelude.{◌≡◌, ℕ, ◌+◌, ◌-◌, ◌*◌, ◌/◌, ◌<◌, ◌≤◌, List, length, map, slice_index_or, take, drop, min, All, AllPairs}
-use Rattle.cost_vector.specs.Costs.{AtMost, LexLess}
+use Rattle.std.specs.Prelude.{◌≡◌, ℕ, ◌+◌, ◌-◌, ◌*◌, ◌/◌, ◌<◌, ◌≤◌, List, ◌∷◌, length, map, slice_index_or, take, drop, min, All, AllPairs, IsPermutation}
+use Rattle.cost_vector.specs.Costs.{AtMost, Dominates, LexLess}
+use Rattle.list_laws.specs.Without.{IsWithout}
 use Rattle.compact_labels.specs.declared.cost.CompactCost.{CompactCost}
 use Rattle.pareto_front.specs.declared.front.FrontEntry.{FrontEntry}
-use Rattle.pareto_front.specs.Fronts.{Front, IsFront}
+use Rattle.pareto_front.specs.Fronts.{AreIncomparable, Front, IsFront}
 use Rattle.pareto_front.specs.Calls.{told_entry}
 
 -- a front, and for how many entries more it has room
@@ -76,3 +77,10 @@ settled_room entries corners wide_corners = min entries (min (block_size * corne
 -- for how many entries more there is room, among the unsettled ones and to settle all
 abbrev pub spare_of : ℕ → ℕ → ℕ → ℕ → ℕ
 spare_of settled unsettled room unsettled_room = min (unsettled_room - unsettled) (room - (settled + unsettled))
+
+-- the new entry has come, those are gone that it dominates, and the others are kept
+pub record TakesIn {D : ℕ} (before : List (FrontEntry D)) (new : FrontEntry D) (after : List (FrontEntry D)) : Type 0 where
+  pub kept : List (FrontEntry D)
+  pub out : IsWithout (λ e. Dominates new.cost.0 e.cost) (map told_entry before) (map told_entry kept)
+  pub apart : AllPairs AreIncomparable (map told_entry before) → AllPairs AreIncomparable (map told_entry kept)
+  pub moved : IsPermutation (new ∷ kept) after

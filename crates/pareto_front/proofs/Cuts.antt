@@ -1,12 +1,12 @@
 -- Where a sorted front is cut in two by a component of a cost.
-use Rattle.std.proofs.Common.{◌≡◌, ◌≢◌, ℕ, ◌+◌, ◌-◌, ◌<◌, ◌≤◌, Bool, List, length, drop, get_or, inl, inr, sym, ap, ◌∙◌, arith, nat_le}
-use Rattle.std.specs.List.{AllWithin, prefix_len}
-use Rattle.std.specs.List.Sorted.{IsNonDecreasingBy}
-use Rattle.std.proofs.lemmas.Bool.{cases_lt, leb-true, leb-false}
-use Rattle.std.proofs.lemmas.List.{get_or_default, get_or-drop, length-drop}
+use Rattle.std.proofs.Common.{◌≡◌, ℕ, ◌+◌, ◌-◌, ◌<◌, ◌≤◌, Bool, true, false, List, length, drop, get_or, inl, inr, sym, ap, ◌∙◌, arith, nat_lt, nat_le}
+use Rattle.std.specs.List.{prefix_len}
+use Rattle.std.specs.List.Sorted.{IsPartitionPoint, IsNonDecreasingBy}
+use Rattle.std.proofs.lemmas.Bool.{cases_lt, ltb-true, ltb-false, leb-true, leb-false}
+use Rattle.std.proofs.lemmas.List.{get_or-drop, length-drop}
 use Rattle.std.proofs.lemmas.List.Sums.{prefix_len_passes, prefix_len_stops, prefix_len-le-length}
 use Rattle.pareto_front.specs.declared.front.FrontEntry.{FrontEntry}
-use Rattle.pareto_front.specs.Sorted.{Descends, first, second, IsBefore, IsUpTo, AreAtLeast}
+use Rattle.pareto_front.specs.Sorted.{Descends, first, second, IsBefore, AreAtLeast}
 
 -- the first components rise
 pub firsts_rise : (list : List (FrontEntry 2)) → Descends list → IsNonDecreasingBy (λ e. first e.cost.0) list
@@ -15,76 +15,14 @@ firsts_rise list descends = λ i j d up within. elim (cases_lt i j) [
   | inr same ↦ let e : i ≡ j = omega arith in rw e (omega arith)
 ]
 
--- the entries before `start` are less than t in the first component, and those from `len` places behind it on aren't
-pub record IsCutWithin (t : ℕ) (list : List (FrontEntry 2)) (start len : ℕ) : Type 0 where
-  pub within : start + len ≤ length list
-  pub lesser : AllWithin (λ e. first e.cost.0 < t) list 0 start
-  pub others : AllWithin (λ e. t ≤ first e.cost.0) list (start + len) (length list)
+module _ {X : Type 0} (n : X → ℕ) (t : ℕ) (xs : List X) (i : ℕ) where
+  pub cut_below : IsPartitionPoint (λ y. nat_lt (n y) t ≡ true) (λ y. nat_lt (n y) t ≡ false) xs i
+      → IsPartitionPoint (λ y. n y < t) (λ y. t ≤ n y) xs i
+  cut_below cut = (λ k d up below. ltb-true _ _ (cut.0 k d up below), λ k d up below. ltb-false _ _ (cut.1 k d up below))
 
--- a look at the entry at the place m, behind which `rest` are left, passes `count` entries or none
-module _ {t : ℕ} {list : List (FrontEntry 2)} {start len : ℕ} (descends : Descends list) (cut : IsCutWithin t list start len) (m count rest passed : ℕ)
-    (at : start + count ≡ m + 1) (parts : count + rest ≡ len) (x : FrontEntry 2) where
-  pub cut_passed : count ≤ rest + 1 → (first (get_or list m x).cost.0 < t → passed ≡ count) → (t ≤ first (get_or list m x).cost.0 → passed ≡ 0)
-      → IsCutWithin t list (start + passed) rest
-  cut_passed few lesser other = elim (cases_lt (first (get_or list m x).cost.0) t) [
-    | inl below ↦
-        let all = lesser below in
-        record {
-          within = omega (arith, cut.within, parts, all);
-          lesser = λ k d from up.
-              let near : k ≤ m = omega (arith, at, up, all) in
-              omega (arith, rises k m d near (omega (arith, at, parts, cut.within)), below);
-          others = λ k d from up. cut.others k d (omega (arith, from, all, parts)) up;
-        }
-    | inr above ↦
-        let none = other above in
-        record {
-          within = omega (arith, cut.within, parts, none);
-          lesser = λ k d from up. cut.lesser k d from (omega (arith, up, none));
-          others = λ k d from up.
-              let far : m ≤ k = omega (arith, at, few, from, none) in
-              omega (arith, rises_from m k d far up, above);
-        }
-  ] where
-    told : (k : ℕ) (d : FrontEntry 2) → k < length list → first (get_or list k x).cost.0 ≡ first (get_or list k d).cost.0
-    told k d within = ap (λ (e : FrontEntry 2). first e.cost.0) (get_or_default list k x d within)
-
-    rises : (k j : ℕ) (d : FrontEntry 2) → k ≤ j → j < length list → first (get_or list k d).cost.0 ≤ first (get_or list j x).cost.0
-    rises k j d up within = omega (arith, firsts_rise list descends k j x up within, told k d (omega (arith, up, within)))
-
-    rises_from : (k j : ℕ) (d : FrontEntry 2) → k ≤ j → j < length list → first (get_or list k x).cost.0 ≤ first (get_or list j d).cost.0
-    rises_from k j d up within = omega (arith, firsts_rise list descends k j x up within, told j d within)
-
--- behind the entries that are less than t in the first component one at most is equal
-module _ (t : ℕ) (list : List (FrontEntry 2)) (i : ℕ) (descends : Descends list) (cut : IsBefore list t i) (x : FrontEntry 2) where
-  told : (k : ℕ) (d : FrontEntry 2) → k < length list → first (get_or list k x).cost.0 ≡ first (get_or list k d).cost.0
-  told k d inside = ap (λ (e : FrontEntry 2). first e.cost.0) (get_or_default list k x d inside)
-
-  pub up_to_next : i < length list → first (get_or list i x).cost.0 ≡ t → IsUpTo list t (i + 1)
-  up_to_next inside equal = (
-    λ k d from up. elim (cases_lt k i) [
-      | inl below ↦ omega (arith, cut.0 k d from below)
-      | inr here ↦
-          let same : k ≡ i = omega (arith, here, up) in
-          rw same (omega (arith, told i d inside, equal))
-    ],
-    λ k d from up. omega (arith, (descends i k d (omega (arith, from)) up).0, told i d inside, equal),
-  )
-
-  pub up_to_here : (i < length list → first (get_or list i x).cost.0 ≢ t) → IsUpTo list t i
-  up_to_here other = (
-    λ k d from up. omega (arith, cut.0 k d from up),
-    λ k d from up.
-        let inside : i < length list = omega (arith, from, up) in
-        let least = cut.1 i x (omega arith) inside in
-        let more : t < first (get_or list i x).cost.0 = omega (arith, least, other inside) in
-        elim (cases_lt i k) [
-          | inl behind ↦ omega (arith, (descends i k d behind up).0, told i d inside, more)
-          | inr here ↦
-              let same : k ≡ i = omega (arith, here, from) in
-              rw same (omega (arith, told i d inside, more))
-        ],
-  )
+  pub cut_up_to : IsPartitionPoint (λ y. nat_le (n y) t ≡ true) (λ y. nat_le (n y) t ≡ false) xs i
+      → IsPartitionPoint (λ y. n y ≤ t) (λ y. t < n y) xs i
+  cut_up_to cut = (λ k d up below. leb-true _ _ (cut.0 k d up below), λ k d up below. leb-false _ _ (cut.1 k d up below))
 
 -- the entry isn't less in the second component
 abbrev pub reaches : ℕ → FrontEntry 2 → Bool

@@ -1,6 +1,6 @@
 ghost use Rattle.std.specs.Prelude.{◌≡◌, ◌<◌, ◌≤◌, ◌++◌, ◌∷◌, length, take, drop, nat_le, slice_index, vec_len, vec_capacity};
 ghost use Rattle.std.specs.List.{items_where_true, prefix_len};
-ghost use Rattle.pareto_front.specs.Sorted.{first, Descends, IsBefore, IsUpTo, AreAtLeast};
+ghost use Rattle.pareto_front.specs.Sorted.{Descends, IsBefore, IsUpTo, AreAtLeast};
 
 use crate::front::{FrontEntry, ParetoFront, Standing};
 use compact_labels::{CompactCost, CompactSpot};
@@ -143,34 +143,13 @@ impl ParetoFront<2> for SortedFront {
     }
 }
 
-/// How many entries have a lesser first component. The search has no branch but that of its loop: which way it goes can't be
-/// foreseen, and a wrong guess of the processor costs more than a step.
+/// How many entries have a lesser first component.
 fn before(entries: &[FrontEntry<2>], first: u64) -> usize
     requires { Descends entries.now }
     ensures within { result ≤ length entries.now }
     ensures cut { IsBefore entries.now first result }
 {
-    let mut start = 0;
-    let mut len = entries.len();
-    while len > 1 {
-        let half = len / 2;
-        start += passed(&entries[start + half - 1], first, half);
-        len -= half;
-    }
-    if len == 0 {
-        return start;
-    }
-    start + passed(&entries[start], first, 1)
-}
-
-/// So many where the entry has a lesser first component, and else none.
-#[inline(always)]
-fn passed(entry: &FrontEntry<2>, bound: u64, count: usize) -> usize
-    ensures lesser { first entry.now.cost.0 < bound → result ≡ count }
-    ensures other { bound ≤ first entry.now.cost.0 → result ≡ 0 }
-{
-    let is_less = entry.cost.0[0] < bound;
-    count * is_less as usize
+    entries.partition_point(|e| e.cost.0[0] < first)
 }
 
 /// How many entries have a first component that isn't greater.
@@ -179,12 +158,7 @@ fn up_to(entries: &[FrontEntry<2>], first: u64) -> usize
     ensures within { result ≤ length entries.now }
     ensures cut { IsUpTo entries.now first result }
 {
-    let at = before(entries, first);
-    if at < entries.len() && entries[at].cost.0[0] == first {
-        at + 1
-    } else {
-        at
-    }
+    entries.partition_point(|e| e.cost.0[0] <= first)
 }
 
 /// Where the entries begin and end that are at least the cost in both components.

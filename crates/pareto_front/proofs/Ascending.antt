@@ -7,10 +7,10 @@ use Rattle.std.specs.Ordering.{ordering_index, ordering_reverse}
 use Rattle.std.proofs.lemmas.Bool.{cases_eq, cases_lt}
 use Rattle.std.proofs.lemmas.List.{get_or-drop, get_or-set_other, get_or-set_same, get_or-take, length-set, map-append}
 use Rattle.std.proofs.lemmas.List.Edits.{get_or-remove_above, get_or-remove_below, length-remove}
-use Rattle.std.proofs.lemmas.List.Elements.{All-weaker, Contains-append_cases, Contains-append_right}
+use Rattle.std.proofs.lemmas.List.Elements.{All-append, All-weaker, Contains-append_cases, Contains-append_right}
 use Rattle.cost_vector.specs.Costs.{AtMost, Dominates, LexLess, lex_cmp}
 use Rattle.cost_vector.proofs.Vectors.{AtMost-refl, LexLess-irrefl, LexLess-trans, LexLess_from_AtMost, LexLess_from_Dominates, cases_LexLess, cases_same, same_from_lex_cmp}
-use Rattle.list_laws.proofs.Members.{all_from_in, cases_in, each_in, in_map, of_map}
+use Rattle.list_laws.proofs.Members.{all_from_in, cases_in, each_in, of_map}
 use Rattle.list_laws.proofs.Pairs.{pairs_cons}
 use Rattle.list_laws.proofs.OnceLaws.{pairs_append}
 use Rattle.pareto_front.specs.declared.front.FrontEntry.{FrontEntry}
@@ -201,30 +201,30 @@ module _ {D : ℕ} (list : List (FrontEntry D)) (i : ℕ) where
   apart_behind pairs =
       pairs_behind AreIncomparable (map told_entry (take i list)) (map told_entry (drop i list)) (subst (AllPairs AreIncomparable) (sym told_parts) pairs)
 
-  pub dominated_behind : (by : List ℕ) → IsBeforeOf list by i → (c : List ℕ)
-      → (HasCost (map told_entry (drop i list)) c × Dominates by c) ↔ (HasCost (map told_entry list) c × Dominates by c)
-  dominated_behind by at c = (
-    λ h.
-        let e : Entry = record { cost = c; arc = h.0.arc } in
-        let there = Contains-append_right (map told_entry (take i list)) (map told_entry (drop i list)) e h.0.contains in
-        (record { arc = h.0.arc; contains = subst (λ l. Contains l e) told_parts there }, h.1),
-    λ h.
-        let e : Entry = record { cost = c; arc = h.0.arc } in
-        elim (Contains-append_cases (map told_entry (take i list)) (map told_entry (drop i list)) e (subst (λ l. Contains l e) (sym told_parts) h.0.contains)) [
-          | inl front ↦
-              let (y, y_in, is) = of_map told_entry (take i list) e front in
-              let less = each_in (λ (x : FrontEntry D). LexLess x.cost.0 by) (take i list) at.before y y_in in
-              let more = subst (LexLess by) (ap (λ (x : Entry). x.cost) is) (LexLess_from_Dominates by c h.1) in
-              absurd (LexLess-irrefl by (LexLess-trans by y.cost.0 by more less))
-          | inr back ↦ (record { arc = h.0.arc; contains = back }, h.1)
-        ],
-  )
+  -- those of no less cost stand behind
+  pub undominated_before : (by : List ℕ) → IsBeforeOf list by i → All (λ (e : FrontEntry D). ¬ Dominates by e.cost.0) (take i list)
+  undominated_before by at = all_from_in (λ (e : FrontEntry D). ¬ Dominates by e.cost.0) (take i list) (λ e h dominated.
+      let less = each_in (λ (x : FrontEntry D). LexLess x.cost.0 by) (take i list) at.before e h in
+      LexLess-irrefl by (LexLess-trans by e.cost.0 by (LexLess_from_Dominates by e.cost.0 dominated) less))
 
-  -- so none is dominated where none behind is
-  pub none_behind_dominated : (by : List ℕ) → IsBeforeOf list by i → All (λ (e : FrontEntry D). ¬ Dominates by e.cost.0) (drop i list)
-      → All (λ (e : FrontEntry D). ¬ Dominates by e.cost.0) list
-  none_behind_dominated by at none = all_from_in (λ (e : FrontEntry D). ¬ Dominates by e.cost.0) list (λ e h dominated.
-      let there = (dominated_behind by at e.cost.0).1 (record { arc = e.arc.0; contains = in_map told_entry list e h }, dominated) in
-      let (y, y_in, is) = of_map told_entry (drop i list) (record { cost = e.cost.0; arc = there.0.arc }) there.0.contains in
-      each_in (λ (x : FrontEntry D). ¬ Dominates by x.cost.0) (drop i list) none y y_in
-      (subst (Dominates by) (ap (λ (x : Entry). x.cost) is) dominated))
+  module _ (by : List ℕ) (none : All (λ (e : FrontEntry D). ¬ Dominates by e.cost.0) (take i list)) where
+    pub dominated_behind : (c : List ℕ) → (HasCost (map told_entry (drop i list)) c × Dominates by c) ↔ (HasCost (map told_entry list) c × Dominates by c)
+    dominated_behind c = (
+      λ h.
+          let e : Entry = record { cost = c; arc = h.0.arc } in
+          let there = Contains-append_right (map told_entry (take i list)) (map told_entry (drop i list)) e h.0.contains in
+          (record { arc = h.0.arc; contains = subst (λ l. Contains l e) told_parts there }, h.1),
+      λ h.
+          let e : Entry = record { cost = c; arc = h.0.arc } in
+          elim (Contains-append_cases (map told_entry (take i list)) (map told_entry (drop i list)) e (subst (λ l. Contains l e) (sym told_parts) h.0.contains)) [
+            | inl front ↦
+                let (y, y_in, is) = of_map told_entry (take i list) e front in
+                absurd (each_in (λ (x : FrontEntry D). ¬ Dominates by x.cost.0) (take i list) none y y_in (subst (Dominates by) (ap (λ (x : Entry). x.cost) is) h.1))
+            | inr back ↦ (record { arc = h.0.arc; contains = back }, h.1)
+          ],
+    )
+
+    -- so none is dominated where none behind is
+    pub none_dominated_at_all : All (λ (e : FrontEntry D). ¬ Dominates by e.cost.0) (drop i list) → All (λ (e : FrontEntry D). ¬ Dominates by e.cost.0) list
+    none_dominated_at_all behind = subst (All (λ (e : FrontEntry D). ¬ Dominates by e.cost.0)) (take-append-drop i list)
+        (All-append (λ (e : FrontEntry D). ¬ Dominates by e.cost.0) (take i list) (drop i list) none behind)

@@ -3,11 +3,12 @@ use Rattle.std.proofs.Common.{◌≡◌, ℕ, ◌+◌, ◌-◌, ◌*◌, ◌/◌
 use Rattle.std.proofs.Common.{subst, subst₂, ◌∙◌, arith, take-append-drop}
 use Rattle.std.specs.Prelude.{All, Contains, IsPermutation}
 use Rattle.std.proofs.Math.Nat.{div-lt_iff_lt-mul}
+use Rattle.std.proofs.Math.Seq.{take-add}
 use Rattle.std.proofs.lemmas.Bool.{cases_lt, cases_eq}
 use Rattle.std.proofs.lemmas.Nat.{div-mul-add}
 use Rattle.std.proofs.lemmas.List.{get_or-take, get_or-drop, get_or_append_left, get_or_push, get_or-set_same, get_or-set_other}
 use Rattle.std.proofs.lemmas.List.{length-take, length-drop, length-set, length_push}
-use Rattle.std.proofs.lemmas.List.Elements.{Contains-get_or}
+use Rattle.std.proofs.lemmas.List.Elements.{All-append, Contains-get_or}
 use Rattle.std.proofs.lemmas.List.Sorted.{Contains-permutation, IsPermutation-append_right, IsPermutation-sym, length_permutation}
 use Rattle.cost_vector.specs.Costs.{AtMost}
 use Rattle.cost_vector.proofs.Vectors.{AtMost-refl, AtMost-trans}
@@ -27,7 +28,7 @@ module _ {X : Type 0} (n m : ℕ) (xs : List X) (k : ℕ) (inside : k < length (
   get_or-part d = get_or-take n (drop m xs) k d within_part ∙ get_or-drop m xs k d
 
 -- what holds of a part and of all behind it
-all_more : {X : Type 0} (P : X → Type 0) (n m : ℕ) (xs : List X) → All P (take n (drop m xs)) → All P (drop (m + n) xs) → All P (drop m xs)
+pub all_more : {X : Type 0} (P : X → Type 0) (n m : ℕ) (xs : List X) → All P (take n (drop m xs)) → All P (drop (m + n) xs) → All P (drop m xs)
 all_more P n m xs part rest = λ k d within.
     elim (cases_lt k n) [
       | inl before ↦
@@ -39,6 +40,10 @@ all_more P n m xs part rest = λ k d within.
           let there : get_or xs ((m + n) + i) d ≡ get_or xs (m + k) d = ap (λ j. get_or xs j d) (omega arith) in
           subst P (get_or-drop (m + n) xs i d ∙ there ∙ sym (get_or-drop m xs k d)) (rest i d inside)
     ]
+
+-- what holds of a part and of all before it
+pub all_before : {X : Type 0} (P : X → Type 0) (n m : ℕ) (xs : List X) → All P (take m xs) → All P (take n (drop m xs)) → All P (take (m + n) xs)
+all_before P n m xs front part = subst (All P) (sym (take-add m n xs)) (All-append P (take m xs) (take n (drop m xs)) front part)
 
 -- a block more without an entry that is at most a cost, before the next
 pub none_more : {D : ℕ} (size b next : ℕ) (list : List (FrontEntry D)) (c : List ℕ) → next ≡ b + 1 → CoversNone (take size (drop (b * size) list)) c

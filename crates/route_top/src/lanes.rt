@@ -137,7 +137,8 @@ fn put_lanes<K: Sink>(out: &mut K, links: &[SureLink]) -> Result<(), WriteFault>
 
 /// Sends the replies of one lane below its heading.
 fn put_lane<K: Sink>(out: &mut K, number: usize, link: &SureLink) -> Result<(), WriteFault>
-    ensures { Sends (K.state out.old) (K.state out.new) (heading number ++ link.now.to.sent) result }
+    ensures { Sends (K.state out.old) (K.state out.new)
+        (heading number ++ link.now.to.sent) result }
 {
     put_heading(out, number)?;
     put_all(out, link.to.sent())

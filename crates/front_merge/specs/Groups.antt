@@ -1,13 +1,16 @@
 -- Candidates cut into one group for each node, and what is merged of a group.
-use Rattle.std.specs.Prelude.{◌≡◌, ℕ, ◌<◌, ◌≤◌, List, ◌++◌, length, map, flat_map, All, AllPairs}
-use Rattle.std.specs.List.{HoldsAt}
+use Rattle.std.specs.Prelude.{◌≡◌, ℕ, ◌*◌, ◌<◌, ◌≤◌, List, ◌++◌, length, map, take, drop, flat_map, All, AllPairs}
 use Rattle.cost_vector.specs.Costs.{max_criteria}
 use Rattle.compact_labels.specs.declared.label.CompactLabel.{CompactLabel}
 use Rattle.pareto_front.specs.Calls.{entry_of}
 use Rattle.pareto_front.specs.Fronts.{SparesSettled}
 use Rattle.road_network.specs.Network.{IsNode}
-use Rattle.node_front.specs.Deltas.{AppendsDelta, Deltas, no_deltas}
+use Rattle.node_front.specs.Deltas.{AppendsDelta, AppendsDeltas, AreDeltas, Deltas}
 use Rattle.node_front.specs.NodeFronts.{Fronts, front_at}
+
+-- so many runs come to each worker at most, on the average
+abbrev pub runs_per_worker : ℕ
+runs_per_worker = 8
 
 module _ {D : ℕ} where
   -- their nodes ascend
@@ -51,13 +54,18 @@ module _ {D : ℕ} where
     pub at_node : All (λ l. l.node.0 ≡ node) group
     pub exact : AppendsDelta node (front_at f node) (map entry_of group) before after
 
-  -- there is a group of this number, and the groups can be merged
-  pub record CanMergePiece (f : Fronts) (list : List (List (CompactLabel D))) (piece : ℕ) : Type 0 where
+  -- the deltas of these groups: behind those of any earlier groups, they make the deltas of all
+  abbrev pub AreDeltasBehind : Fronts → List (List (CompactLabel D)) → Deltas D → Type 0
+  AreDeltasBehind f groups more = (earlier : List (List (CompactLabel D))) (before after : Deltas D) → AreGroups (earlier ++ groups)
+      → AreDeltas f (joined earlier) before → AppendsDeltas before more after → AreDeltas f (joined (earlier ++ groups)) after
+
+  -- the groups of the run of this number, where so many are a run; the last run may have fewer
+  abbrev pub run_of : ℕ → List (List (CompactLabel D)) → ℕ → List (List (CompactLabel D))
+  run_of size groups run = take size (drop (run * size) groups)
+
+  -- there is such a run, and the groups can be merged
+  pub record CanMergeRun (f : Fronts) (size : ℕ) (list : List (List (CompactLabel D))) (run : ℕ) : Type 0 where
     pub criteria : D ≤ max_criteria
-    pub within : piece < length list
+    pub there : run * size < length list
     pub groups : AreGroups list
     pub can_merge : CanMerge f (joined list)
-
-  -- what the group of this number makes of its node's front
-  abbrev pub MergesPiece : Fronts → List (List (CompactLabel D)) → ℕ → Deltas D → Type 0
-  MergesPiece f groups piece out = HoldsAt (λ group. MergesGroup f group (no_deltas D) out) groups piece

@@ -4,6 +4,7 @@
 mod groups;
 mod marks;
 mod merging;
+mod runs;
 
 pub use groups::sort_by_node;
 pub use marks::Marks;

@@ -1,23 +1,25 @@
-ghost use Rattle.std.specs.Prelude.{◌<◌, ◌≤◌, [], length, map, All, IfOk, IsPermutation};
+ghost use Rattle.std.specs.Prelude.{◌≡◌, ◌≤◌, [], map, All, IfOk, IsPermutation};
 ghost use Rattle.cost_vector.specs.Costs.{max_criteria};
-ghost use Rattle.front_merge.specs.Groups.{AreGroups, AscendByNode, CanMerge, CanMergePiece, HaveOneNode, MergesGroup, MergesPiece, joined};
+ghost use Rattle.front_merge.specs.Groups.{AreGroups, AscendByNode, CanMerge, joined};
 ghost use Rattle.node_front.specs.Deltas.{AreDeltas};
 ghost use Rattle.node_front.specs.NodeFronts.{front_at};
 ghost use Rattle.pareto_front.specs.Fronts.{SparesSettled};
 ghost use Rattle.road_network.specs.Network.{IsNode};
 
 use crate::groups::{list_groups, sort_by_node};
+use crate::runs::{Runs, run_size};
 use compact_labels::CompactLabel;
 use cost_vector::OutOfMemory;
 use node_front::{Deltas, Fronts};
 use pareto_front::ParetoFront;
-use route_io::{Gate, Phase};
+use route_io::{Gate, OpenGate, Phase};
 use std::alloc::Global;
 use std::thread::Threads;
-use work_claim::{Crew, Job, run_pieces};
+use work_claim::{Crew, run_pieces};
 
 /// What the candidates make of the fronts, for every number of workers. What the deltas held before is gone, and the
-/// candidates are sorted. Each node that has candidates is a piece of work.
+/// candidates are sorted. The candidates of each node are a group, which passes the gate before it is merged; workers draw
+/// runs of groups.
 pub fn merge_all<const D: usize, F: ParetoFront<D> + Drop + Sync, R: Threads + Sync, G: Gate>(
     crew: &Crew<'_, R, G>,
     alloc: Global,
@@ -58,51 +60,11 @@ fn merge_sorted<const D: usize, F: ParetoFront<D> + Drop + Sync, R: Threads + Sy
     ensures { IfOk result (λ _. AreDeltas fronts.now sorted.now deltas.new) }
 {
     let groups = list_groups(alloc, sorted)?;
-    if crew.workers == 1 {
-        merge_here(crew, fronts, &groups, deltas)
-    } else {
-        merge_apart(crew, alloc, fronts, &groups, deltas)
-    }
+    merge_groups(crew, alloc, fronts, &groups, deltas)
 }
 
-/// Merges the groups one after another.
-fn merge_here<const D: usize, F: ParetoFront<D> + Drop, R, G: Gate>(
-    crew: &Crew<'_, R, G>,
-    fronts: &Fronts<D, F>,
-    groups: &[&[CompactLabel<D>]],
-    deltas: &mut Deltas<D>,
-) -> Result<(), OutOfMemory>
-    requires criteria { D ≤ max_criteria }
-    requires groups { AreGroups (map (λ g. g.now) groups.now) }
-    requires can_merge { CanMerge fronts.now (joined (map (λ g. g.now) groups.now)) }
-    requires none { AreDeltas fronts.now [] deltas.old }
-    ensures { IfOk result (λ _.
-        AreDeltas fronts.now (joined (map (λ g. g.now) groups.now)) deltas.new) }
-{
-    fronts.deltas_grow_node_by_node();
-    for (piece, group) in groups.iter().enumerate() {
-        crew.gate.pass(Phase::Merge, piece as u64);
-        merge_group(fronts, group, deltas)?;
-    }
-    Ok(())
-}
-
-/// Appends what a group makes of the front of its node.
-fn merge_group<const D: usize, F: ParetoFront<D> + Drop>(
-    fronts: &Fronts<D, F>,
-    group: &[CompactLabel<D>],
-    deltas: &mut Deltas<D>,
-) -> Result<(), OutOfMemory>
-    requires criteria { D ≤ max_criteria }
-    requires one_node { HaveOneNode group.now }
-    requires can_merge { CanMerge fronts.now group.now }
-    ensures { IfOk result (λ _. MergesGroup fronts.now group.now deltas.old deltas.new) }
-{
-    fronts.merge(group[0].node, group, deltas)
-}
-
-/// Has the workers merge the groups, each into deltas of its own.
-fn merge_apart<const D: usize, F: ParetoFront<D> + Drop + Sync, R: Threads + Sync, G: Gate>(
+/// Has the workers merge runs of the groups, each into deltas of its own, which are then put together in order.
+fn merge_groups<const D: usize, F: ParetoFront<D> + Drop + Sync, R: Threads + Sync, G: Gate>(
     crew: &Crew<'_, R, G>,
     alloc: Global,
     fronts: &Fronts<D, F>,
@@ -118,41 +80,31 @@ fn merge_apart<const D: usize, F: ParetoFront<D> + Drop + Sync, R: Threads + Syn
     ensures { IfOk result (λ _.
         AreDeltas fronts.now (joined (map (λ g. g.now) groups.now)) deltas.new) }
 {
-    let job = Merging {
-        alloc,
-        fronts,
-        groups,
-    };
     let nodes = fronts.nodes() as usize;
     prove!(groups.len() <= nodes);
-    let outs = run_pieces(crew, alloc, groups.len(), Phase::Merge, &job)?;
-    fronts.deltas_grow_node_by_node();
+    let size = run_size(groups.len(), crew.workers);
+    let runs = Runs {
+        alloc,
+        gate: crew.gate,
+        fronts,
+        groups,
+        size,
+    };
+    let ungated = without_gate(crew);
+    let outs = run_pieces(&ungated, alloc, runs.count(), Phase::Merge, &runs)?;
     for out in &outs {
         deltas.append(out)?;
     }
     Ok(())
 }
 
-/// Groups of candidates that are to be merged with these fronts.
-#[derive(Drop)]
-struct Merging<'c, const D: usize, F: ParetoFront<D>> {
-    alloc: Global,
-    fronts: &'c Fronts<D, F>,
-    groups: &'c [&'c [CompactLabel<D>]],
-}
-
-impl<const D: usize, F: ParetoFront<D> + Drop + Sync> Job for Merging<'_, D, F> {
-    type Out = Deltas<D>;
-
-    ghost accepts = { λ job piece.
-        CanMergePiece job.fronts.now (map (λ g. g.now) job.groups.now) piece };
-
-    ghost gives = { λ job piece out.
-        MergesPiece job.fronts.now (map (λ g. g.now) job.groups.now) piece out };
-
-    fn run(&self, piece: usize) -> Result<Deltas<D>, OutOfMemory> {
-        let mut deltas = Deltas::new(self.alloc);
-        merge_group(self.fronts, self.groups[piece], &mut deltas)?;
-        Ok(deltas)
+/// The crew without its gate, which each group passes as it is merged.
+fn without_gate<'c, R, G: Gate>(crew: &Crew<'c, R, G>) -> Crew<'c, R, OpenGate>
+    ensures { result.workers ≡ crew.now.workers }
+{
+    Crew {
+        rt: crew.rt,
+        workers: crew.workers,
+        gate: &OpenGate,
     }
 }

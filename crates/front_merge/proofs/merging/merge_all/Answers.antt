@@ -1,11 +1,12 @@
-use Rattle.std.proofs.Common.{◌≡◌, List, length, drop, arith, sym, subst, subst₂, ◌∙◌}
+use Rattle.std.proofs.Common.{◌≡◌, List, [], length, drop, arith, sym, subst, subst₂, ◌∙◌}
 use Rattle.std.specs.Prelude.{IsPermutation}
 use Rattle.std.proofs.lemmas.List.{take_at}
 use Rattle.std.proofs.lemmas.List.Sorted.{IsPermutation-sym}
 use Rattle.rayon.proofs.ListFacts.{IfOk-then}
 use Rattle.compact_labels.specs.declared.label.CompactLabel.{CompactLabel}
+use Rattle.node_front.specs.Deltas.{AreDeltas, no_deltas}
 use Rattle.front_merge.specs.Groups.{AscendByNode}
-use Rattle.front_merge.proofs.MergeLemmas.{can_in_any_order, none_of_empty}
+use Rattle.front_merge.proofs.MergeLemmas.{can_in_any_order, same_deltas}
 use Rattle.front_merge.proofs.merging.merge_all.Goals as goal
 
 pub merge_sorted-requires-after_bounds : goal.merge_sorted-requires-after_bounds
@@ -15,6 +16,7 @@ merge_sorted-requires-after_bounds g c κs within =
     let sorted = c.sort_by_node.new.candidates in
     let long : length sorted ≡ old.len = omega (arith, c.deref_mut.ensures.len, c.sort_by_node.auto.candidates) in
     let is = c.deref.ensures.value ∙ take_at sorted (drop (length sorted) old.items) old.len long in
+    let empty = same_deltas c.clear.new.self (no_deltas g.row.D) c.clear.ensures.added c.clear.ensures.removed c.clear.ensures.lowered in
     let moved = subst₂ IsPermutation c.deref_mut.ensures.value (sym is) c.sort_by_node.ensures.permutation in (
       omega arith,
       (
@@ -31,7 +33,7 @@ merge_sorted-requires-after_bounds g c κs within =
                   subst (λ (ls : List (CompactLabel g.row.D)). AscendByNode ls) (sym is) c.sort_by_node.ensures.ascending,
                   (
                     can_in_any_order f old.items c.deref.result.now moved (record { nodes = c.requires.nodes; spares = c.requires.spares }),
-                    none_of_empty f c.clear.new.self c.deltas_grow_node_by_node.ensures.none c.clear.ensures.added c.clear.ensures.removed c.clear.ensures.lowered,
+                    subst (AreDeltas f []) (sym empty) c.deltas_grow_node_by_node.ensures.none,
                   ),
                 ),
               ),

@@ -1,9 +1,10 @@
 -- Lists that are cut, and lists of which each element stands in a relation to each later one.
-use Rattle.std.proofs.Common.{◌≡◌, ℕ, zero, Bool, true, nat_eq, length, refl, arith, suc, List, [], ◌∷◌, take, drop, take-append-drop, ◌⊎◌, ◌↔◌, inl, inr, sym, subst}
-use Rattle.std.specs.Prelude.{AllPairs, Contains}
+use Rattle.std.proofs.Common.{◌≡◌, ℕ, zero, Bool, true, nat_eq, length, refl, arith, suc, List, [], ◌∷◌, ◌++◌, take, drop, take-append-drop, ◌⊎◌, ◌↔◌, inl, inr, sym, subst}
+use Rattle.std.specs.Prelude.{AllPairs, Contains, Some, slice_get}
 use Rattle.std.specs.List.{insert}
 use Rattle.std.proofs.lemmas.Bool.Decides.{nat_tests}
-use Rattle.list_laws.proofs.Members.{cases_in, each_in}
+use Rattle.std.proofs.lemmas.Option.{slice_get_within, get_or_from_slice_get}
+use Rattle.list_laws.proofs.Members.{cases_in, each_in, in_front}
 use Rattle.list_laws.proofs.OnceLaws.{in_append, pairs_append}
 use Rattle.list_laws.proofs.Pairs.{pairs_none, pairs_cons, pairs_rest, pairs_take}
 use Rattle.pareto_queue.specs.Queues.{SplitsAt}
@@ -33,8 +34,16 @@ in_parts xs i x = (
   λ h. subst (λ ys. Contains ys x) (take-append-drop i xs) ((in_append (take i xs) (drop i xs) x).1 h),
 )
 
-pub in_take : {X : Type 0} (xs : List X) (i : ℕ) (x : X) → Contains (take i xs) x → Contains xs x
-in_take xs i x h = (in_parts xs i x).1 (inl h)
+-- what stands at a place is contained
+pub contained_at : {X : Type 0} (xs : List X) (i : ℕ) (x : X) → slice_get xs i ≡ Some x → Contains xs x
+contained_at xs i x e = (i, slice_get_within xs i x e, get_or_from_slice_get xs i x x e)
+
+-- one element more at the end
+pub in_push : {X : Type 0} (xs : List X) (y x : X) → Contains xs x → Contains (xs ++ y ∷ []) x
+in_push xs y x h = (in_append xs (y ∷ []) x).1 (inl h)
+
+pub last_in : {X : Type 0} (xs : List X) (y x : X) → x ≡ y → Contains (xs ++ y ∷ []) x
+last_in xs y x same = (in_append xs (y ∷ []) x).1 (inr (in_front y [] x same))
 
 -- a list whose length is tested to be 0
 pub empty_by_test : {X : Type 0} (xs : List X) (b : Bool) → b ≡ nat_eq (length xs) 0 → b ≡ true → xs ≡ []

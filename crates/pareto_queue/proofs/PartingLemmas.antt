@@ -1,17 +1,17 @@
 -- The spots of a list and those that come, parted in turn.
-use Rattle.std.proofs.Common.{◌≡◌, ◌≢◌, ℕ, ◌<◌, ◌≤◌, List, [], ◌∷◌, ◌++◌, take, drop, length, Bor, Option, Some, None, ◌⊎◌, ◌↔◌, inl, inr, refl, sym, subst, arith}
+use Rattle.std.proofs.Common.{◌≡◌, ℕ, ◌<◌, ◌≤◌, List, [], ◌∷◌, ◌++◌, take, drop, length, Bor, Option, Some, None, ◌⊎◌, ◌↔◌, inl, inr, refl, sym, ap, subst, arith}
 use Rattle.std.specs.Prelude.{AllPairs, Contains, IfSome, slice_get}
 use Rattle.std.specs.Option.{option_copied}
 use Rattle.compact_labels.specs.declared.cost.CompactCost.{CompactCost}
 use Rattle.compact_labels.specs.declared.label.CompactSpot.{CompactSpot}
 use Rattle.list_laws.specs.Sets.{Loses}
-use Rattle.list_laws.proofs.Members.{all_from_in, cases_in, cases_push, each_in, in_first, in_none}
+use Rattle.list_laws.proofs.Members.{all_from_in, cases_in, each_in, in_front, in_none, in_one}
 use Rattle.list_laws.proofs.OnceLaws.{in_append}
-use Rattle.list_laws.proofs.Pairs.{pairs_take, pair_with_first}
+use Rattle.list_laws.proofs.Pairs.{pairs_none, pairs_take, pair_with_first}
 use Rattle.pareto_queue.specs.Passing.{BeginsWith, IsEarliest, IsSplit, WithoutFirst, NoneBefore}
 use Rattle.pareto_queue.specs.Queues.{AreSorted, SpotLess, without}
-use Rattle.pareto_queue.specs.Shadows.{AreNext, Descends, HasParted, IsExtracted, PartsNext, TakesUnshadowed}
-use Rattle.pareto_queue.proofs.ExtractionLemmas.{IsNext, parts_one}
+use Rattle.pareto_queue.specs.Shadows.{AreNext, HasParted, IsExtracted, PartsNext}
+use Rattle.pareto_queue.proofs.ExtractionLemmas.{none_next}
 use Rattle.pareto_queue.proofs.ListLemmas.{in_parts, pairs_drop}
 use Rattle.pareto_queue.proofs.OrderLemmas.{SpotLess-irrefl, SpotLess-trans, after_unless, cases_spot, less_unless}
 use Rattle.pareto_queue.proofs.PassingLemmas.{begun_if_there, in_begun, loses_first, pairs_left, shorter, still_there, there_if_shorter, was_there}
@@ -69,6 +69,13 @@ module _ {D : ℕ} where
 
   -- ---- under way
 
+  -- what is still to be parted: what is left and not lost, and what comes
+  abbrev Waits : List (CompactSpot D) → List (CompactSpot D) → List (CompactSpot D) → CompactSpot D → Type 0
+  Waits left lost new x = (Contains left x × ¬ Contains lost x) ⊎ Contains new x
+
+  there : (left lost new : List (CompactSpot D)) (x : CompactSpot D) → Waits left lost new x → Contains left x ⊎ Contains new x
+  there left lost new x h = elim h [ inl old ↦ inl old.0 | inr came ↦ inr came ]
+
   -- Some of all were seen, and are parted. The others are those that are left and not among the lost, and those that come; none of
   -- them comes before one that was seen.
   pub record IsParting (all left lost new : List (CompactSpot D)) (costs : List (CompactCost D)) (took rest : List (CompactSpot D)) : Type 0 where
@@ -77,9 +84,8 @@ module _ {D : ℕ} where
     pub left_ascends : AllPairs SpotLess left
     pub lost_sorted : AreSorted lost
     pub new_ascends : AllPairs SpotLess new
-    pub before_left : (x y : CompactSpot D) → Contains seen x → Contains left y → SpotLess x y
-    pub before_new : (x y : CompactSpot D) → Contains seen x → Contains new y → SpotLess x y
-    pub has : (x : CompactSpot D) → Contains all x ↔ (Contains seen x ⊎ ((Contains left x × ¬ Contains lost x) ⊎ Contains new x))
+    pub before : (x y : CompactSpot D) → Contains seen x → Contains left y ⊎ Contains new y → SpotLess x y
+    pub has : (x : CompactSpot D) → Contains all x ↔ (Contains seen x ⊎ Waits left lost new x)
 
   -- none was seen
   pub none_parted : (spots gone coming : List (CompactSpot D)) (costs : List (CompactCost D)) (took rest : List (CompactSpot D)) → AllPairs SpotLess spots
@@ -91,67 +97,48 @@ module _ {D : ℕ} where
     left_ascends = up;
     lost_sorted = sorted;
     new_ascends = new_up;
-    before_left = λ x y h. absurd (in_none x h);
-    before_new = λ x y h. absurd (in_none x h);
-    has = λ x. (
-      λ h. elim ((in_append (without spots gone) coming x).0 h) [ inl old ↦ inr (inl ((in_without spots gone x).0 old)) | inr new ↦ inr (inr new) ],
-      λ h. (in_append (without spots gone) coming x).1 (elim h [
-        | inl none ↦ absurd (in_none x none)
-        | inr (inl old) ↦ inl ((in_without spots gone x).1 old)
-        | inr (inr new) ↦ inr new
-      ]),
-    );
+    before = λ x y h. absurd (in_none x h);
+    has = λ x. at_first (in_append (without spots gone) coming x) (in_without spots gone x) (in_none x);
   }
+    where
+      at_first : {A W S G C Z : Type 0} → A ↔ (W ⊎ C) → W ↔ (S × ¬ G) → ¬ Z → A ↔ (Z ⊎ ((S × ¬ G) ⊎ C))
+      at_first a w z = grind arith
 
   module _ (all left lost new : List (CompactSpot D)) (costs : List (CompactCost D)) (took rest : List (CompactSpot D))
       (is : IsParting all left lost new costs took rest) where
-    -- the front of those that are left is parted, which comes before all others
-    front_parted : (front back : List (CompactSpot D)) → ((x : CompactSpot D) → Contains left x ↔ (Contains front x ⊎ Contains back x))
-        → AllPairs SpotLess front → AllPairs SpotLess back → ((y : CompactSpot D) → Contains front y → ¬ Contains lost y)
-        → ((y x : CompactSpot D) → Contains front y → Contains back x ⊎ Contains new x → SpotLess y x)
+    -- a front of those that wait is parted, which comes before all others
+    front_parted : (front left_after lost_after new_after : List (CompactSpot D)) → AllPairs SpotLess front → AllPairs SpotLess left_after
+        → AreSorted lost_after → AllPairs SpotLess new_after
+        → ((x : CompactSpot D) → Waits left lost new x ↔ (Contains front x ⊎ Waits left_after lost_after new_after x))
+        → ((x : CompactSpot D) → Contains left_after x ⊎ Contains new_after x → Contains left x ⊎ Contains new x)
+        → ((y x : CompactSpot D) → Contains front y → Contains left_after x ⊎ Contains new_after x → SpotLess y x)
         → (costs_after : List (CompactCost D)) (took_after rest_after : List (CompactSpot D))
-        → PartsNext front costs took rest costs_after took_after rest_after → IsParting all back lost new costs_after took_after rest_after
-    front_parted front back parts front_up back_up free first costs_after took_after rest_after on = record {
+        → PartsNext front costs took rest costs_after took_after rest_after → IsParting all left_after lost_after new_after costs_after took_after rest_after
+    front_parted front left_after lost_after new_after up left_up lost_up new_up parts was first costs_after took_after rest_after on = record {
       seen = is.seen ++ front;
       extracted = on all is.seen next is.extracted;
-      left_ascends = back_up;
-      lost_sorted = is.lost_sorted;
-      new_ascends = is.new_ascends;
-      before_left = λ x y h k. elim ((in_append is.seen front x).0 h) [
-        | inl old ↦ is.before_left x y old ((parts y).1 (inr k))
-        | inr here ↦ first x y here (inl k)
-      ];
-      before_new = λ x y h k. elim ((in_append is.seen front x).0 h) [ inl old ↦ is.before_new x y old k | inr here ↦ first x y here (inr k) ];
-      has = λ x. (
-        λ h. elim ((is.has x).0 h) [
-          | inl old ↦ inl ((in_append is.seen front x).1 (inl old))
-          | inr (inl there) ↦ elim ((parts x).0 there.0) [
-            | inl here ↦ inl ((in_append is.seen front x).1 (inr here))
-            | inr behind ↦ inr (inl (behind, there.1))
-          ]
-          | inr (inr came) ↦ inr (inr came)
-        ],
-        λ h. elim h [
-          | inl seen ↦ elim ((in_append is.seen front x).0 seen) [ inl old ↦ (is.has x).1 (inl old) | inr here ↦ in_all x here ]
-          | inr (inl there) ↦ (is.has x).1 (inr (inl ((parts x).1 (inr there.0), there.1)))
-          | inr (inr came) ↦ (is.has x).1 (inr (inr came))
-        ],
-      );
+      left_ascends = left_up;
+      lost_sorted = lost_up;
+      new_ascends = new_up;
+      before = λ x y h k. elim ((in_append is.seen front x).0 h) [ inl old ↦ is.before x y old (was y k) | inr here ↦ first x y here k ];
+      has = λ x. regrouped (is.has x) (parts x) (in_append is.seen front x);
     }
       where
-        in_all : (y : CompactSpot D) → Contains front y → Contains all y
-        in_all y h = (is.has y).1 (inr (inl ((parts y).1 (inl h), free y h)))
+        regrouped : {A S W F V T : Type 0} → A ↔ (S ⊎ W) → W ↔ (F ⊎ V) → T ↔ (S ⊎ F) → A ↔ (T ⊎ V)
+        regrouped a w t = grind arith
 
         next : AreNext all is.seen front
         next = record {
-          ascending = front_up;
+          ascending = up;
           seen_in = λ x h. (is.has x).1 (inl h);
-          behind = λ x y h k. is.before_left x y h ((parts y).1 (inl k));
-          in_all = in_all;
+          behind = λ x y h k. is.before x y h (there left lost new y ((parts y).1 (inl k)));
+          in_all = λ y k. (is.has y).1 (inr ((parts y).1 (inl k)));
           others = λ x h. elim ((is.has x).0 h) [
             | inl old ↦ inl old
-            | inr (inl there) ↦ inr (elim ((parts x).0 there.0) [ inl here ↦ inl here | inr behind ↦ inr (λ y k. first y x k (inl behind)) ])
-            | inr (inr came) ↦ inr (inr (λ y k. first y x k (inr came)))
+            | inr waits ↦ inr (elim ((parts x).0 waits) [
+              | inl here ↦ inl here
+              | inr later ↦ inr (λ y k. first y x k (there left_after lost_after new_after x later))
+            ])
           ];
         }
 
@@ -160,8 +147,10 @@ module _ {D : ℕ} where
         → (costs_after : List (CompactCost D)) (took_after rest_after : List (CompactSpot D))
         → PartsNext (take i left) costs took rest costs_after took_after rest_after → IsParting all (drop i left) lost new costs_after took_after rest_after
     parted_before s i earliest split =
-        front_parted (take i left) (drop i left) (in_parts left i) (pairs_take SpotLess i left is.left_ascends) (pairs_drop SpotLess i left is.left_ascends)
-        (λ y h k. each_in (λ z. ¬ SpotLess z s) lost earliest.none_before y k (before y h))
+        front_parted (take i left) (drop i left) lost new (pairs_take SpotLess i left is.left_ascends) (pairs_drop SpotLess i left is.left_ascends)
+        is.lost_sorted is.new_ascends
+        (λ x. cut (in_parts left i x) (λ h k. each_in (λ z. ¬ SpotLess z s) lost earliest.none_before x k (before x h)))
+        (λ x h. elim h [ inl behind ↦ inl ((in_parts left i x).1 (inr behind)) | inr came ↦ inr came ])
         (λ y x h k. less_unless y x s (before y h) (elim k [
           | inl behind ↦ each_in (λ z. ¬ SpotLess z s) (drop i left) split.after x behind
           | inr came ↦ each_in (λ z. ¬ SpotLess z s) new earliest.none_other x came
@@ -169,6 +158,9 @@ module _ {D : ℕ} where
       where
         before : (y : CompactSpot D) → Contains (take i left) y → SpotLess y s
         before = each_in (λ z. SpotLess z s) (take i left) split.before
+
+        cut : {L T B G N : Type 0} → L ↔ (T ⊎ B) → (T → ¬ G) → ((L × ¬ G) ⊎ N) ↔ (T ⊎ ((B × ¬ G) ⊎ N))
+        cut l free = grind arith
 
     module _ (s : CompactSpot D) (earliest : IsEarliest lost new s) (none : NoneBefore s left) (left_after lost_after new_after : List (CompactSpot D))
         (left_without : WithoutFirst left s left_after) (lost_without : WithoutFirst lost s lost_after) (new_without : WithoutFirst new s new_after) where
@@ -178,138 +170,82 @@ module _ {D : ℕ} where
       new_loses : Loses new s new_after
       new_loses = loses_first new s new_after new_without is.new_ascends earliest.none_other
 
-      -- what is left or comes, where s is left out of all
-      still : (x : CompactSpot D) → x ≢ s → ((Contains left x × ¬ Contains lost x) ⊎ Contains new x)
-          ↔ ((Contains left_after x × ¬ Contains lost_after x) ⊎ Contains new_after x)
-      still x other = (
-        λ h. elim h [
-          | inl there ↦ inl ((left_loses x).1 (there.0, other), λ k. there.1 (was_there lost s lost_after lost_without x k))
-          | inr came ↦ inr ((new_loses x).1 (came, other))
-        ],
-        λ h. elim h [
-          | inl there ↦ inl (
-            ((left_loses x).0 there.0).0,
-            λ k. elim (still_there lost s lost_after lost_without x k) [
-              | inl same ↦ other same
-              | inr lost_still ↦ there.1 lost_still
-            ],
-          )
-          | inr came ↦ inr ((new_loses x).0 came).0
-        ],
-      )
+      -- what is there behind s comes after it
+      after : (x : CompactSpot D) → Contains left_after x ⊎ Contains new_after x → SpotLess s x
+      after x h = elim h [
+        | inl old ↦ let was = (left_loses x).0 old in after_unless s x (each_in (λ z. ¬ SpotLess z s) left none x was.0) was.1
+        | inr came ↦ let was = (new_loses x).0 came in after_unless s x (each_in (λ z. ¬ SpotLess z s) new earliest.none_other x was.0) was.1
+      ]
 
-      not_after : ¬ ((Contains left_after s × ¬ Contains lost_after s) ⊎ Contains new_after s)
-      not_after h = elim h [ inl there ↦ ((left_loses s).0 there.0).1 refl | inr came ↦ ((new_loses s).0 came).1 refl ]
+      -- s comes, unless it is lost
+      comes_or_lost : Contains lost s ⊎ Contains new s
+      comes_or_lost = elim earliest.first [ inl first ↦ inl (in_begun lost s first) | inr first ↦ inr (in_begun new s first) ]
 
-      other_than : (x : CompactSpot D) → (Contains left_after x × ¬ Contains lost_after x) ⊎ Contains new_after x → x ≢ s
-      other_than x h same = not_after (subst (λ z. (Contains left_after z × ¬ Contains lost_after z) ⊎ Contains new_after z) same h)
+      -- s is parted, if it comes, and left out of all lists
+      spot_parted : (front : List (CompactSpot D)) → AllPairs SpotLess front → ((x : CompactSpot D) → Contains front x ↔ ((x ≡ s) × Contains new x))
+          → (costs_after : List (CompactCost D)) (took_after rest_after : List (CompactSpot D))
+          → PartsNext front costs took rest costs_after took_after rest_after → IsParting all left_after lost_after new_after costs_after took_after rest_after
+      spot_parted front up front_is =
+          front_parted front left_after lost_after new_after up (pairs_left left s left_after left_without SpotLess is.left_ascends)
+          (pairs_left lost s lost_after lost_without (λ a b. ¬ SpotLess b a) is.lost_sorted)
+          (pairs_left new s new_after new_without SpotLess is.new_ascends)
+          (λ x. apart (cases_spot x s) (left_loses x) (new_loses x) (still_there lost s lost_after lost_without x) (was_there lost s lost_after lost_without x)
+          (λ same. subst (λ z. Contains lost z ⊎ Contains new z) (sym same) comes_or_lost) (front_is x))
+          (λ x h. elim h [ inl old ↦ inl ((left_loses x).0 old).0 | inr came ↦ inr ((new_loses x).0 came).0 ])
+          (λ y x h k. subst (λ z. SpotLess z x) (sym ((front_is y).0 h).0) (after x k))
+        where
+          apart : {E L L' G G' N N' F : Type 0} → E ⊎ (¬ E) → L' ↔ (L × ¬ E) → N' ↔ (N × ¬ E) → (G → E ⊎ G') → (G' → G) → (E → G ⊎ N) → F ↔ (E × N)
+              → ((L × ¬ G) ⊎ N) ↔ (F ⊎ ((L' × ¬ G') ⊎ N'))
+          apart told l n still was either f = grind arith
 
-      -- s isn't one of those that come: it is left out
+      pub new_parted : length new_after < length new → (costs_after : List (CompactCost D)) (took_after rest_after : List (CompactSpot D))
+          → PartsNext (take 1 new) costs took rest costs_after took_after rest_after
+          → IsParting all left_after lost_after new_after costs_after took_after rest_after
+      new_parted fewer = spot_parted (take 1 new) (pairs_take SpotLess 1 new is.new_ascends)
+          (λ x. subst (λ xs. Contains xs x ↔ ((x ≡ s) × Contains new x)) (sym only) (
+            λ h. (in_one s x h, subst (Contains new) (sym (in_one s x h)) (there_if_shorter new s new_after new_without fewer)),
+            λ h. in_front s [] x h.0,
+          ))
+        where
+          only : take 1 new ≡ s ∷ []
+          only = elim new_without [
+            | inl first ↦ ap (take 1) first
+            | inr none ↦ let e : length new_after ≡ length new = ap length none.0 in absurd (omega arith)
+          ]
+
+      -- s isn't one of those that come
       pub lost_parted : length new ≤ length new_after → IsParting all left_after lost_after new_after costs took rest
-      lost_parted no_fewer = record {
-        seen = is.seen;
-        extracted = is.extracted;
-        left_ascends = pairs_left left s left_after left_without SpotLess is.left_ascends;
-        lost_sorted = pairs_left lost s lost_after lost_without (λ a b. ¬ SpotLess b a) is.lost_sorted;
-        new_ascends = pairs_left new s new_after new_without SpotLess is.new_ascends;
-        before_left = λ x y h k. is.before_left x y h (was_there left s left_after left_without y k);
-        before_new = λ x y h k. is.before_new x y h (was_there new s new_after new_without y k);
-        has = λ x. (
-          λ h. elim ((is.has x).0 h) [ inl old ↦ inl old | inr there ↦ inr ((still x (not_s x there)).0 there) ],
-          λ h. (is.has x).1 (elim h [ inl old ↦ inl old | inr there ↦ inr ((still x (other_than x there)).1 there) ]),
-        );
-      }
+      lost_parted no_fewer =
+          spot_parted [] (pairs_none SpotLess) (λ x. (λ h. absurd (in_none x h), λ h. absurd (not_new (subst (Contains new) h.0 h.1))))
+          costs took rest (none_next costs took rest)
         where
           not_new : ¬ Contains new s
           not_new h =
               let fewer = shorter new s new_after new_without (begun_if_there new s is.new_ascends earliest.none_other h) in
               omega (arith, fewer, no_fewer)
 
-          is_lost : Contains lost s
-          is_lost = elim earliest.first [ inl first ↦ in_begun lost s first | inr first ↦ absurd (not_new (in_begun new s first)) ]
-
-          not_s : (x : CompactSpot D) → (Contains left x × ¬ Contains lost x) ⊎ Contains new x → x ≢ s
-          not_s x h same = elim (subst (λ z. (Contains left z × ¬ Contains lost z) ⊎ Contains new z) same h) [
-            | inl there ↦ there.1 is_lost
-            | inr came ↦ not_new came
-          ]
-
-      -- s comes: it is next
-      new_is_next : Contains new s → IsNext all is.seen s
-      new_is_next came = record {
-        old = λ x h. ((is.has x).1 (inl h), is.before_new x s h came);
-        new = λ x h. elim ((is.has x).0 h) [ inl old ↦ inl old | inr there ↦ inr (same_or_after x there) ];
-        here = (is.has s).1 (inr (inr came));
-      }
-        where
-          not_less : (x : CompactSpot D) → (Contains left x × ¬ Contains lost x) ⊎ Contains new x → ¬ SpotLess x s
-          not_less x h = elim h [
-            | inl there ↦ each_in (λ z. ¬ SpotLess z s) left none x there.0
-            | inr also ↦ each_in (λ z. ¬ SpotLess z s) new earliest.none_other x also
-          ]
-
-          same_or_after : (x : CompactSpot D) → (Contains left x × ¬ Contains lost x) ⊎ Contains new x → (x ≡ s) ⊎ SpotLess s x
-          same_or_after x h = elim (cases_spot x s) [ inl same ↦ inl same | inr other ↦ inr (after_unless s x (not_less x h) other) ]
-
-      -- and is parted
-      new_extracted : Contains new s → (costs_after : List (CompactCost D)) (took_after rest_after : List (CompactSpot D))
-          → IsExtracted all (is.seen ++ s ∷ []) costs_after took_after rest_after
-          → IsParting all left_after lost_after new_after costs_after took_after rest_after
-      new_extracted came costs_after took_after rest_after extracted = record {
-        seen = is.seen ++ s ∷ [];
-        extracted = extracted;
-        left_ascends = pairs_left left s left_after left_without SpotLess is.left_ascends;
-        lost_sorted = pairs_left lost s lost_after lost_without (λ a b. ¬ SpotLess b a) is.lost_sorted;
-        new_ascends = pairs_left new s new_after new_without SpotLess is.new_ascends;
-        before_left = λ x y h k. elim (cases_push is.seen s x h) [
-          | inl old ↦ is.before_left x y old ((left_loses y).0 k).0
-          | inr last ↦ subst (λ z. SpotLess z y) (sym last)
-              (after_unless s y (each_in (λ z. ¬ SpotLess z s) left none y ((left_loses y).0 k).0) ((left_loses y).0 k).1)
-        ];
-        before_new = λ x y h k. elim (cases_push is.seen s x h) [
-          | inl old ↦ is.before_new x y old ((new_loses y).0 k).0
-          | inr last ↦ subst (λ z. SpotLess z y) (sym last)
-              (after_unless s y (each_in (λ z. ¬ SpotLess z s) new earliest.none_other y ((new_loses y).0 k).0) ((new_loses y).0 k).1)
-        ];
-        has = λ x. (
-          λ h. elim ((is.has x).0 h) [
-            | inl old ↦ inl ((in_append is.seen (s ∷ []) x).1 (inl old))
-            | inr there ↦ elim (cases_spot x s) [
-              | inl same ↦ inl ((in_append is.seen (s ∷ []) x).1 (inr (subst (Contains (s ∷ [])) (sym same) (in_first s []))))
-              | inr other ↦ inr ((still x other).0 there)
-            ]
-          ],
-          λ h. (is.has x).1 (elim h [
-            | inl seen ↦ elim (cases_push is.seen s x seen) [ inl old ↦ inl old | inr last ↦ inr (inr (subst (Contains new) (sym last) came)) ]
-            | inr there ↦ inr ((still x (other_than x there)).1 there)
-          ]),
-        );
-      }
-
-      pub new_parted : length new_after < length new → (costs_after : List (CompactCost D)) (took_after rest_after : List (CompactSpot D))
-          → TakesUnshadowed s costs took rest costs_after took_after rest_after → Descends costs_after
-          → IsParting all left_after lost_after new_after costs_after took_after rest_after
-      new_parted fewer costs_after took_after rest_after takes descends =
-          let came = there_if_shorter new s new_after new_without fewer in
-          new_extracted came costs_after took_after rest_after
-          (parts_one all is.seen costs took rest s costs_after took_after rest_after (new_is_next came) is.extracted takes descends)
-
   -- what is left at the end is parted
   pub all_parted : (all left lost new : List (CompactSpot D)) (costs : List (CompactCost D)) (took rest : List (CompactSpot D))
       → IsParting all left lost new costs took rest → (lost ≡ []) × (new ≡ [])
-      → (costs_after : List (CompactCost D)) (took_after rest_after : List (CompactSpot D)) → PartsNext left costs took rest costs_after took_after rest_after → HasParted all costs_after took_after rest_after
-  all_parted all left lost new costs took rest going none costs_after took_after rest_after on = (end.seen, same, end.extracted)
+      → (costs_after : List (CompactCost D)) (took_after rest_after : List (CompactSpot D)) → PartsNext left costs took rest costs_after took_after rest_after
+      → HasParted all costs_after took_after rest_after
+  all_parted all left lost new costs took rest going none costs_after took_after rest_after on = (
+    is.seen ++ left,
+    λ x. (
+      λ h. (in_append is.seen left x).1 (elim ((is.has x).0 h) [ inl old ↦ inl old | inr waits ↦ inr (is_left x waits) ]),
+      λ h. (is.has x).1 (elim ((in_append is.seen left x).0 h) [ inl old ↦ inl old | inr here ↦ inr (inl (here, in_none x)) ]),
+    ),
+    on all is.seen (record {
+      ascending = is.left_ascends;
+      seen_in = λ x h. (is.has x).1 (inl h);
+      behind = λ x y h k. is.before x y h (inl k);
+      in_all = λ y k. (is.has y).1 (inr (inl (k, in_none y)));
+      others = λ x h. elim ((is.has x).0 h) [ inl old ↦ inl old | inr waits ↦ inr (inl (is_left x waits)) ];
+    }) is.extracted,
+  )
     where
       is : IsParting all left [] [] costs took rest
       is = rw (none.0, none.1) at going
 
-      end : IsParting all [] [] [] costs_after took_after rest_after
-      end = front_parted all left [] [] costs took rest is left [] (λ x. (inl, λ h. elim h [ inl here ↦ here | inr none ↦ absurd (in_none x none) ]))
-          is.left_ascends (λ i j d before within. absurd (omega (arith, within))) (λ y h k. in_none y k)
-          (λ y x h k. elim k [ inl none ↦ absurd (in_none x none) | inr none ↦ absurd (in_none x none) ]) costs_after took_after rest_after on
-
-      same : (x : CompactSpot D) → Contains all x ↔ Contains end.seen x
-      same x = (
-        λ h. elim ((end.has x).0 h) [ inl seen ↦ seen | inr (inl none) ↦ absurd (in_none x none.0) | inr (inr none) ↦ absurd (in_none x none) ],
-        λ h. (end.has x).1 (inl h),
-      )
+      is_left : (x : CompactSpot D) → Waits left [] [] x → Contains left x
+      is_left x h = elim h [ inl there ↦ there.0 | inr none ↦ absurd (in_none x none) ]

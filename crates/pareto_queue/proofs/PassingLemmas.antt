@@ -3,22 +3,22 @@ use Rattle.std.proofs.Common.{◌≡◌, ◌≢◌, ℕ, zero, suc, ◌+◌, ◌
 use Rattle.std.specs.Prelude.{All, AllPairs, Contains, slice_get}
 use Rattle.std.proofs.Math.Nat.{add-zero}
 use Rattle.std.proofs.lemmas.List.{drop_more, get_or-drop, get_or-take, take_all, take_more, take-take}
-use Rattle.std.proofs.lemmas.Option.{get_or_from_slice_get, slice_get_within}
-use Rattle.std.proofs.lemmas.List.Elements.{Contains-append_left, Contains-get_or, Contains-push}
+use Rattle.std.proofs.lemmas.Option.{get_or_from_slice_get}
+use Rattle.std.proofs.lemmas.List.Elements.{Contains-get_or}
 use Rattle.compact_labels.specs.declared.label.CompactSpot.{CompactSpot}
 use Rattle.list_laws.specs.Sets.{Loses}
 use Rattle.list_laws.proofs.Members.{in_none, in_first, in_rest, all_from_in, cases_in, cases_push, each_in}
 use Rattle.list_laws.proofs.OnceLaws.{in_append, pairs_append}
-use Rattle.list_laws.proofs.Pairs.{pairs_none, pairs_rest, pairs_push, pairs_take, pair_with_first}
+use Rattle.list_laws.proofs.Pairs.{pairs_rest, pairs_push, pairs_take, pair_with_first}
 use Rattle.pareto_queue.specs.Passing.{BeginsWith, IsSplit, WithoutFirst, NoneBefore, PassesOn}
 use Rattle.pareto_queue.specs.Queues.{AreSorted, SpotLess}
-use Rattle.pareto_queue.proofs.ListLemmas.{pairs_drop}
+use Rattle.pareto_queue.proofs.ListLemmas.{contained_at, in_push, last_in, pairs_drop}
 use Rattle.pareto_queue.proofs.OrderLemmas.{SpotLess-irrefl, SpotLess-trans, after_unless, before_place, less_unless}
 
 module _ {D : ℕ} where
   -- what begins a list stands in it, and what stands in it and comes before all begins it
   pub in_begun : (xs : List (CompactSpot D)) (s : CompactSpot D) → BeginsWith xs s → Contains xs s
-  in_begun xs s at = (0, slice_get_within xs 0 s at, get_or_from_slice_get xs 0 s s at)
+  in_begun xs s at = contained_at xs 0 s at
 
   pub begun_if_there : (xs : List (CompactSpot D)) (s : CompactSpot D) → AllPairs SpotLess xs → NoneBefore s xs → Contains xs s → BeginsWith xs s
   begun_if_there [] s up none h = absurd (in_none s h)
@@ -122,15 +122,6 @@ module _ {D : ℕ} where
     pub before_left : (x y : CompactSpot D) → Contains passed x → Contains left y → SpotLess x y
     pub before_todo : (x t : CompactSpot D) → Contains passed x → Contains todo t → SpotLess x t
 
-  -- nothing was passed on
-  pub passes_none : (left todo : List (CompactSpot D)) → AllPairs SpotLess left → Passes [] left todo
-  passes_none left todo up = record {
-    passed_ascends = pairs_none SpotLess;
-    left_ascends = up;
-    before_left = λ x y h. absurd (in_none x h);
-    before_todo = λ x t h. absurd (in_none x h);
-  }
-
   -- all is passed on
   pub passes_all : (passed left todo : List (CompactSpot D)) → Passes passed left todo → AllPairs SpotLess (passed ++ left)
   passes_all passed left todo p = pairs_append SpotLess passed left p.passed_ascends p.left_ascends p.before_left
@@ -227,12 +218,12 @@ module _ {D : ℕ} where
       passes = passes_push passed left todo s after rest is.passes not_before on less none;
       has = λ x. (
         λ h. elim h [
-          | inl there ↦ elim (cases_push after s x there) [ inl old ↦ old_has x (inl old) | inr last ↦ inr (is_last met x last) ]
+          | inl there ↦ elim (cases_push after s x there) [ inl old ↦ old_has x (inl old) | inr last ↦ inr (last_in met s x last) ]
           | inr other ↦ old_has x (inr other)
         ],
         λ h. elim h [
           | inl old ↦ still x (inl old)
-          | inr one ↦ elim (cases_push met s x one) [ inl old ↦ still x (inr old) | inr last ↦ inl (is_last after x last) ]
+          | inr one ↦ elim (cases_push met s x one) [ inl old ↦ still x (inr old) | inr last ↦ inl (last_in after s x last) ]
         ],
       );
     }
@@ -243,17 +234,14 @@ module _ {D : ℕ} where
         same : (x : CompactSpot D) → (Contains after x ⊎ Contains rest x) ↔ (Contains passed x ⊎ Contains left x)
         same = passed_same passed left todo s after rest is.passes not_before on
 
-        is_last : (xs : List (CompactSpot D)) (x : CompactSpot D) → x ≡ s → Contains (xs ++ s ∷ []) x
-        is_last xs x e = subst (Contains (xs ++ s ∷ [])) (sym e) (Contains-push xs s)
-
         more_met : (x : CompactSpot D) → Contains spots x ⊎ Contains met x → Contains spots x ⊎ Contains (met ++ s ∷ []) x
-        more_met x h = elim h [ inl old ↦ inl old | inr one ↦ inr (Contains-append_left met (s ∷ []) x one) ]
+        more_met x h = elim h [ inl old ↦ inl old | inr one ↦ inr (in_push met s x one) ]
 
         old_has : (x : CompactSpot D) → Contains after x ⊎ Contains rest x → Contains spots x ⊎ Contains (met ++ s ∷ []) x
         old_has x h = more_met x ((is.has x).0 ((same x).0 h))
 
         still : (x : CompactSpot D) → Contains spots x ⊎ Contains met x → Contains (after ++ s ∷ []) x ⊎ Contains rest x
-        still x h = elim ((same x).1 ((is.has x).1 h)) [ inl old ↦ inl (Contains-append_left after (s ∷ []) x old) | inr other ↦ inr other ]
+        still x h = elim ((same x).1 ((is.has x).1 h)) [ inl old ↦ inl (in_push after s x old) | inr other ↦ inr other ]
 
         none : ¬ Contains rest s
         none h = elim ((is.has s).0 ((same s).0 (inr h))) [ inl old ↦ new old | inr one ↦ not_met one ]
@@ -269,9 +257,9 @@ module _ {D : ℕ} where
           | inl there ↦ unmet x ((is.has x).0 ((same x).0 (inl there))) (λ e. SpotLess-irrefl s (subst (λ z. SpotLess z s) e (before x there)))
           | inr other ↦ let was = (loses x).0 other in unmet x ((is.has x).0 ((same x).0 (inr was.0))) was.1
         ],
-        λ h. elim ((same x).1 ((is.has x).1 (h.0, λ k. h.1 (Contains-append_left met (s ∷ []) x k)))) [
+        λ h. elim ((same x).1 ((is.has x).1 (h.0, λ k. h.1 (in_push met s x k)))) [
           | inl there ↦ inl there
-          | inr other ↦ inr ((loses x).1 (other, λ e. h.1 (subst (Contains (met ++ s ∷ [])) (sym e) (Contains-push met s))))
+          | inr other ↦ inr ((loses x).1 (other, λ e. h.1 (last_in met s x e)))
         ],
       );
     }

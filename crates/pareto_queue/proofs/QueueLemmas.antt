@@ -22,10 +22,6 @@ use Rattle.pareto_queue.proofs.ListLemmas.{pairs_insert}
 use Rattle.pareto_queue.proofs.RetainedLemmas.{pairs_by_retain}
 
 module _ {D : ℕ} where
-  -- what stands at a place is contained
-  pub contained_at : (xs : List (CompactSpot D)) (i : ℕ) (x : CompactSpot D) → slice_get xs i ≡ Some x → Contains xs x
-  contained_at xs i x e = (i, slice_get_within xs i x e, get_or_from_slice_get xs i x x e)
-
   once : (xs : List (CompactSpot D)) → IsQueue xs → AllPairs ◌≢◌ xs
   once xs q = ascending_distinct SpotLess SpotLess-irrefl SpotLess-trans xs q.ascending
 

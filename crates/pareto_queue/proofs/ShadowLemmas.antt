@@ -1,12 +1,11 @@
 -- The shadow of the costs taken so far.
-use Rattle.std.proofs.Common.{◌≡◌, ℕ, ◌<◌, ◌≤◌, ◌⊎◌, ◌↔◌, List, [], ◌∷◌, ◌++◌, take, drop, take-append-drop, get_or, length, true, false, nat_lt, inl, inr, refl, sym, ap, subst, arith, Less}
+use Rattle.std.proofs.Common.{◌≡◌, ℕ, ◌<◌, ◌≤◌, ◌↔◌, List, [], ◌∷◌, ◌++◌, take, drop, get_or, length, true, false, nat_lt, inl, inr, refl, sym, ap, subst, arith, Less}
 use Rattle.std.specs.Prelude.{Contains, IsPermutation}
 use Rattle.std.specs.List.{insert}
 use Rattle.std.specs.Ordering.{nat_cmp, ordering_then}
 use Rattle.std.proofs.lemmas.Bool.{cases_lt, ltb-true, ltb-false, lt-ltb}
 use Rattle.std.specs.List.Sorted.{IsPartitionPoint, IsPartitionedBy}
 use Rattle.std.proofs.lemmas.Bool.Decides.{nat_tests}
-use Rattle.std.proofs.lemmas.List.Elements.{Contains-append_left, Contains-push}
 use Rattle.std.proofs.lemmas.List.Sorted.{IsPermutation-insert}
 use Rattle.compact_labels.specs.declared.cost.CompactCost.{CompactCost}
 use Rattle.compact_labels.specs.declared.label.CompactSpot.{CompactSpot}
@@ -14,9 +13,8 @@ use Rattle.cost_vector.specs.Costs.{AtMost, Dominates, LexLess, lex_cmp}
 use Rattle.cost_vector.proofs.Vectors.{AtMost-trans, Dominates-trans, cases_AtMost}
 use Rattle.list_laws.specs.Without.{IsWithout}
 use Rattle.list_laws.proofs.Members.{all_from_in, cases_push, each_in}
-use Rattle.list_laws.proofs.OnceLaws.{in_append}
 use Rattle.list_laws.proofs.SetLaws.{gains_by_permutation}
-use Rattle.pareto_queue.proofs.ListLemmas.{pairs_insert}
+use Rattle.pareto_queue.proofs.ListLemmas.{in_parts, in_push, last_in, pairs_insert}
 use Rattle.pareto_queue.proofs.OrderLemmas.{splits_by_partition}
 use Rattle.pareto_queue.proofs.RetainedLemmas.{loses_by_without}
 use Rattle.pareto_queue.specs.Queues.{IsDominatedBy}
@@ -39,11 +37,11 @@ covers_on (c ∷ cs) (x ∷ xs) (z ∷ zs) later below k = elim (cases_lt z c) [
 
 module _ {D : ℕ} (seen : List (CompactSpot D)) (shadow : List (CompactCost D)) (s : CompactSpot D) where
   later_before : (c : List ℕ) → IsLater (seen ++ s ∷ []) c → IsLater seen c
-  later_before c later x h = later x (Contains-append_left seen (s ∷ []) x h)
+  later_before c later x h = later x (in_push seen s x h)
 
   from_before : (c : CompactCost D) → (x : CompactSpot D) × Contains seen x × (x.cost ≡ c)
       → (x : CompactSpot D) × Contains (seen ++ s ∷ []) x × (x.cost ≡ c)
-  from_before c from = (from.0, Contains-append_left seen (s ∷ []) from.0 from.1, from.2)
+  from_before c from = (from.0, in_push seen s from.0 from.1, from.2)
 
   -- a spot is seen that the shadow dominates
   pub shadow_skip : IsShadow seen shadow → IsDominatedBy shadow s.cost.0 → IsShadow (seen ++ s ∷ []) shadow
@@ -68,7 +66,7 @@ module _ {D : ℕ} (seen : List (CompactSpot D)) (shadow : List (CompactCost D))
         by = s.cost;
         contains = (joins s.cost).1 (inr refl);
         dominates = record {
-          at_most = covers_on s.cost.0 by.by.0 c (later s (Contains-push seen s)) leaves by.dominates.at_most;
+          at_most = covers_on s.cost.0 by.by.0 c (later s (last_in seen s s refl)) leaves by.dominates.at_most;
           differs = λ same. free (record { by = by.by; contains = by.contains; dominates = subst (Dominates by.by.0) (sym same) by.dominates });
         };
       }
@@ -79,7 +77,7 @@ module _ {D : ℕ} (seen : List (CompactSpot D)) (shadow : List (CompactCost D))
     shadow_cast = record {
       from = λ c h. elim ((joins c).0 h) [
         | inl old ↦ from_before c (is.from c old.0)
-        | inr joined ↦ (s, Contains-push seen s, sym joined)
+        | inr joined ↦ (s, last_in seen s s refl, sym joined)
       ];
       dominates = λ c later x h below. elim (cases_push seen s x h) [
         | inl old ↦ still_dominated c later (is.dominates c (later_before c later) x old below)
@@ -121,10 +119,10 @@ module _ {D : ℕ} (shadow : List (CompactCost D)) (c : List ℕ) (i : ℕ) (spl
   -- what exceeds a cost in the second component doesn't dominate it
   pub dominated_behind : IsDominatedBy (drop i shadow) c ↔ IsDominatedBy shadow c
   dominated_behind = (
-    λ h. record { by = h.by; contains = whole h.by (inr h.contains); dominates = h.dominates },
+    λ h. record { by = h.by; contains = (in_parts shadow i h.by).1 (inr h.contains); dominates = h.dominates },
     λ h. record {
       by = h.by;
-      contains = elim ((in_append (take i shadow) (drop i shadow) h.by).0 (subst (λ ys. Contains ys h.by) (sym (take-append-drop i shadow)) h.contains)) [
+      contains = elim ((in_parts shadow i h.by).0 h.contains) [
         | inl above ↦
             let more = each_in (λ x. second_of c < second_of x.0) (take i shadow) split.before h.by above in
             absurd (omega (arith, more, second_at_most h.by.0 c h.dominates.at_most))
@@ -133,9 +131,6 @@ module _ {D : ℕ} (shadow : List (CompactCost D)) (c : List ℕ) (i : ℕ) (spl
       dominates = h.dominates;
     },
   )
-    where
-      whole : (x : CompactCost D) → Contains (take i shadow) x ⊎ Contains (drop i shadow) x → Contains shadow x
-      whole x h = subst (λ ys. Contains ys x) (take-append-drop i shadow) ((in_append (take i shadow) (drop i shadow) x).1 h)
 
   -- a cost fits behind those that exceed it
   pub descends_by_insert : (d : CompactCost D) → d.0 ≡ c → Descends shadow → (after : List (CompactCost D)) → after ≡ insert shadow i d → Descends after

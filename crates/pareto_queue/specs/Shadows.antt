@@ -1,9 +1,10 @@
 -- The shadow of an ascending list of spots: few of their costs, which tell of each later cost whether one of all dominates it.
-use Rattle.std.specs.Prelude.{◌≡◌, ℕ, ◌<◌, ◌≤◌, ◌↔◌, ◌⊎◌, List, [], ◌∷◌, ◌++◌, slice_index_or, AllPairs, Contains}
+use Rattle.std.specs.Prelude.{◌≡◌, ℕ, ◌<◌, ◌≤◌, ◌↔◌, ◌⊎◌, List, [], ◌∷◌, ◌++◌, length, take, drop, slice_index_or, All, AllPairs, Contains}
 use Rattle.cost_vector.specs.Costs.{AtMost, Dominates, LexLess}
 use Rattle.compact_labels.specs.declared.cost.CompactCost.{CompactCost}
 use Rattle.compact_labels.specs.declared.label.CompactSpot.{CompactSpot}
 use Rattle.list_laws.specs.Sets.{SameMembers}
+use Rattle.pareto_queue.specs.Passing.{BeginsWith}
 use Rattle.pareto_queue.specs.Queues.{IsDominatedBy, IsUndominated, SplitsAt, SpotLess}
 
 -- the cost with zero as its first component
@@ -72,22 +73,8 @@ module _ {D : ℕ} where
   abbrev pub HasParted : List (CompactSpot D) → List (CompactCost D) → List (CompactSpot D) → List (CompactSpot D) → Type 0
   HasParted all costs took left = (seen : List (CompactSpot D)) × SameMembers all seen × IsExtracted all seen costs took left
 
-  -- the spot comes to the end of what is left
-  pub record LeavesSpot (s : CompactSpot D) (costs : List (CompactCost D)) (took left : List (CompactSpot D))
-      (costs_after : List (CompactCost D)) (took_after left_after : List (CompactSpot D)) : Type 0 where
-    pub costs_same : costs_after ≡ costs
-    pub took_same : took_after ≡ took
-    pub left_more : left_after ≡ left ++ s ∷ []
-
-  -- the spot comes to the end of what is taken, and its cost joins the shadow
-  pub record TakesSpot (s : CompactSpot D) (costs : List (CompactCost D)) (took left : List (CompactSpot D))
-      (costs_after : List (CompactCost D)) (took_after left_after : List (CompactSpot D)) : Type 0 where
-    pub joins : Joins costs s.cost costs_after
-    pub took_more : took_after ≡ took ++ s ∷ []
-    pub left_same : left_after ≡ left
-
-  -- the spot is taken, unless the shadow dominates its cost
-  pub record TakesUnshadowed (s : CompactSpot D) (costs : List (CompactCost D)) (took left : List (CompactSpot D))
-      (costs_after : List (CompactCost D)) (took_after left_after : List (CompactSpot D)) : Type 0 where
-    pub taken : ¬ IsDominatedBy costs s.cost.0 → TakesSpot s costs took left costs_after took_after left_after
-    pub stays : IsDominatedBy costs s.cost.0 → LeavesSpot s costs took left costs_after took_after left_after
+  -- the shadow dominates the first n of the spots, and not the next
+  pub record IsRun (costs : List (CompactCost D)) (spots : List (CompactSpot D)) (n : ℕ) : Type 0 where
+    pub within : n ≤ length spots
+    pub shadowed : All (λ s. IsDominatedBy costs s.cost.0) (take n spots)
+    pub ends : (s : CompactSpot D) → BeginsWith (drop n spots) s → ¬ IsDominatedBy costs s.cost.0

@@ -2,11 +2,11 @@ ghost use Rattle.std.specs.Prelude.{◌≡◌, ◌≤◌, ◌++◌, [], AllPairs
 ghost use Rattle.cost_vector.specs.Costs.{max_criteria, min_criteria};
 ghost use Rattle.pareto_queue.specs.Passing.{IsEarliest};
 ghost use Rattle.pareto_queue.specs.Queues.{AreSorted, IsQueue, SpotLess, TakesUndominated, without};
-ghost use Rattle.pareto_queue.specs.Shadows.{Descends, HasParted, IsExtracted, PartsNext, TakesUnshadowed};
+ghost use Rattle.pareto_queue.specs.Shadows.{Descends, HasParted, IsExtracted, PartsNext};
 
 use crate::merging::leave_out;
 use crate::order::count_before;
-use crate::shadow::{cast, is_shadowed};
+use crate::shadow::{cast, count_shadowed};
 use compact_labels::{CompactCost, CompactSpot};
 use cost_vector::OutOfMemory;
 
@@ -58,7 +58,7 @@ fn part_in_turn<const D: usize>(
         part_all(front, shadow, taken, rest)?;
         let later = leave_out(new, spot);
         if later.len() < new.len() {
-            part(spot, shadow, taken, rest)?;
+            part_all(&new[..1], shadow, taken, rest)?;
         }
         left = leave_out(others, spot);
         lost = leave_out(lost, spot);
@@ -86,7 +86,8 @@ fn earliest<'a, const D: usize>(
     }
 }
 
-/// Parts spots that come next.
+/// Parts spots that come next. A run of those that the shadow dominates is left at once, since the shadow only changes with a
+/// spot that is taken.
 fn part_all<const D: usize>(
     spots: &[CompactSpot<D>],
     shadow: &mut Vec<CompactCost<D>>,
@@ -101,33 +102,15 @@ fn part_all<const D: usize>(
         shadow.old.items taken.old.items rest.old.items
         shadow.new.items taken.new.items rest.new.items) }
 {
-    for spot in spots {
-        part(spot, shadow, taken, rest)?;
-    }
-    Ok(())
-}
-
-/// Takes the spot, unless the shadow dominates its cost.
-#[inline(always)]
-fn part<const D: usize>(
-    spot: &CompactSpot<D>,
-    shadow: &mut Vec<CompactCost<D>>,
-    taken: &mut Vec<CompactSpot<D>>,
-    rest: &mut Vec<CompactSpot<D>>,
-) -> Result<(), OutOfMemory>
-    requires two { min_criteria ≤ D }
-    requires four { D ≤ max_criteria }
-    requires descends { Descends shadow.old.items }
-    ensures descends { IfOk result (λ _. Descends shadow.new.items) }
-    ensures taken { IfOk result (λ _. TakesUnshadowed spot.now
-        shadow.old.items taken.old.items rest.old.items
-        shadow.new.items taken.new.items rest.new.items) }
-{
-    if is_shadowed(shadow, &spot.cost) {
-        rest.push(*spot)?;
-    } else {
+    let mut left = spots;
+    loop {
+        let (run, others) = left.split_at(count_shadowed(shadow, left));
+        rest.extend_from_slice(run)?;
+        let Some((spot, later)) = others.split_first() else {
+            return Ok(());
+        };
         cast(shadow, &spot.cost)?;
         taken.push(*spot)?;
+        left = later;
     }
-    Ok(())
 }

@@ -1,24 +1,36 @@
-ghost use Rattle.std.specs.Prelude.{◌≡◌, ◌≤◌, ◌↔◌, nat_lt, IfOk, IsTrue};
-ghost use Rattle.cost_vector.specs.Costs.{AtMost, max_criteria, min_criteria};
+ghost use Rattle.std.specs.Prelude.{◌≡◌, ◌≤◌, ◌↔◌, nat_lt, Contains, IfNone, IfOk, IfSome, IsTrue};
+ghost use Rattle.cost_vector.specs.Costs.{AtMost, Dominates, max_criteria, min_criteria};
 ghost use Rattle.pareto_queue.specs.Queues.{IsDominatedBy};
-ghost use Rattle.pareto_queue.specs.Shadows.{Descends, ExceedsBefore, Joins, grounded, second_of};
+ghost use Rattle.pareto_queue.specs.Shadows.{Descends, ExceedsBefore, IsRun, Joins, grounded, second_of};
 
-use compact_labels::CompactCost;
+use compact_labels::{CompactCost, CompactSpot};
 use cost_vector::OutOfMemory;
 
 /// So few costs are gone through faster than searched.
 const FEW: usize = 8;
 
+/// A cost of the list that dominates this one.
+fn find_dominating<'a, const D: usize>(
+    by: &'a [CompactCost<D>],
+    cost: &CompactCost<D>,
+) -> Option<&'a CompactCost<D>>
+    ensures listed { IfSome result (λ c. Contains by.now c.now) }
+    ensures dominates { IfSome result (λ c. Dominates c.now.0 cost.now.0) }
+    ensures none { IfNone result (¬ IsDominatedBy by.now cost.now.0) }
+{
+    for other in by {
+        if other.dominates(cost) {
+            return Some(other);
+        }
+    }
+    None
+}
+
 /// Whether a cost of the list dominates this one.
 pub(crate) fn is_dominated<const D: usize>(by: &[CompactCost<D>], cost: &CompactCost<D>) -> bool
     ensures { IsTrue result ↔ IsDominatedBy by.now cost.now.0 }
 {
-    for other in by {
-        if other.dominates(cost) {
-            return true;
-        }
-    }
-    false
+    find_dominating(by, cost).is_some()
 }
 
 /// The second component.
@@ -44,15 +56,61 @@ fn count_above<const D: usize>(shadow: &[CompactCost<D>], cost: &CompactCost<D>)
     )
 }
 
-/// Whether a cost of the shadow dominates this one.
-pub(crate) fn is_shadowed<const D: usize>(shadow: &[CompactCost<D>], cost: &CompactCost<D>) -> bool
+/// A cost of the shadow that dominates this one. It is kept out of its caller: there the comparisons of costs would become
+/// branches, which can't be foreseen.
+#[inline(never)]
+fn search_shadowing<'a, const D: usize>(
+    shadow: &'a [CompactCost<D>],
+    cost: &CompactCost<D>,
+) -> Option<&'a CompactCost<D>>
     requires { Descends shadow.now }
-    ensures { IsTrue result ↔ IsDominatedBy shadow.now cost.now.0 }
+    ensures listed { IfSome result (λ c. Contains shadow.now c.now) }
+    ensures dominates { IfSome result (λ c. Dominates c.now.0 cost.now.0) }
+    ensures none { IfNone result (¬ IsDominatedBy shadow.now cost.now.0) }
 {
-    if shadow.len() < FEW {
-        return is_dominated(shadow, cost);
+    find_dominating(&shadow[count_above(shadow, cost)..], cost)
+}
+
+/// A cost of the shadow that dominates this one. The last that dominated one is tried first: mostly it dominates the next too.
+#[inline(always)]
+fn find_shadowing<'a, const D: usize>(
+    shadow: &'a [CompactCost<D>],
+    last: &'a CompactCost<D>,
+    cost: &CompactCost<D>,
+) -> Option<&'a CompactCost<D>>
+    requires descends { Descends shadow.now }
+    requires last { Contains shadow.now last.now }
+    ensures listed { IfSome result (λ c. Contains shadow.now c.now) }
+    ensures dominates { IfSome result (λ c. Dominates c.now.0 cost.now.0) }
+    ensures none { IfNone result (¬ IsDominatedBy shadow.now cost.now.0) }
+{
+    if last.dominates(cost) {
+        return Some(last);
     }
-    is_dominated(&shadow[count_above(shadow, cost)..], cost)
+    if shadow.len() < FEW {
+        return find_dominating(shadow, cost);
+    }
+    search_shadowing(shadow, cost)
+}
+
+/// How many of the spots the shadow dominates, up to the first that it doesn't.
+pub(crate) fn count_shadowed<const D: usize>(
+    shadow: &[CompactCost<D>],
+    spots: &[CompactSpot<D>],
+) -> usize
+    requires { Descends shadow.now }
+    ensures { IsRun shadow.now spots.now result }
+{
+    let Some(mut last) = shadow.first() else {
+        return 0;
+    };
+    for (count, spot) in spots.iter().enumerate() {
+        let Some(found) = find_shadowing(shadow, last, &spot.cost) else {
+            return count;
+        };
+        last = found;
+    }
+    spots.len()
 }
 
 /// The cost with zero as its first component.
@@ -65,7 +123,8 @@ fn floor<const D: usize>(cost: &CompactCost<D>) -> CompactCost<D>
     low
 }
 
-/// A taken cost joins the shadow. Those leave that it covers.
+/// A taken cost joins the shadow. Those leave that it covers. As part of its caller this would be slower.
+#[inline(never)]
 pub(crate) fn cast<const D: usize>(
     shadow: &mut Vec<CompactCost<D>>,
     cost: &CompactCost<D>,

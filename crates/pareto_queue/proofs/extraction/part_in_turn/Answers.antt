@@ -4,7 +4,7 @@ use Rattle.pareto_queue.specs.Passing.{NoneBefore}
 use Rattle.pareto_queue.specs.Queues.{without}
 use Rattle.pareto_queue.proofs.OrderLemmas.{sorted_if_ascending}
 use Rattle.pareto_queue.proofs.PartingLemmas.{IsParting, all_parted, lost_parted, new_parted, none_parted, parted_before}
-use Rattle.pareto_queue.proofs.extraction.part_in_turn.Goals.{then-later-new+in_ok-part, else-later-new}
+use Rattle.pareto_queue.proofs.extraction.part_in_turn.Goals.{then-later-new+in_ok-part_all-2, else-later-new}
 use Rattle.pareto_queue.proofs.extraction.part_in_turn.Goals as goal
 
 pub loop-spot-init : goal.loop-spot-init
@@ -31,11 +31,12 @@ loop-spot-preserved g c =
     c.count_before.result c.in-Some.ensures.earliest c.count_before.ensures costs took rest (rw c.split_at.ensures.front at c.in_ok-part_all.ensures.parted)) in
     let none : NoneBefore s others = subst (NoneBefore s) (sym c.split_at.ensures.back) c.count_before.ensures.after in
     elim c.if-later-new.branch [
-      | then-later-new+in_ok-part w ↦
+      | then-later-new+in_ok-part_all-2 w ↦
           rw (w.shadow-is, w.taken-is, w.rest-is)
           (new_parted all others lost new costs took rest now s c.in-Some.ensures.earliest none c.leave_out-left.result.now c.leave_out-lost.result.now
           c.leave_out-later.result.now c.leave_out-left.ensures c.leave_out-lost.ensures c.leave_out-later.ensures w.if-later-new.true
-          w.part.new.shadow.items w.part.new.taken.items w.part.new.rest.items w.in_ok-part.ensures.taken w.in_ok-part.ensures.descends)
+          w.part_all-then-later-new.new.shadow.items w.part_all-then-later-new.new.taken.items w.part_all-then-later-new.new.rest.items
+          w.in_ok-part_all-2.ensures.parted)
       | else-later-new w ↦
           rw (w.shadow-is, w.taken-is, w.rest-is)
           (lost_parted all others lost new costs took rest now s c.in-Some.ensures.earliest none c.leave_out-left.result.now c.leave_out-lost.result.now

@@ -1,4 +1,4 @@
-use Rattle.pareto_queue.proofs.QueueLemmas.{contained_at}
+use Rattle.pareto_queue.proofs.ListLemmas.{contained_at}
 use Rattle.pareto_queue.proofs.order.gap_of.Goals as goal
 
 pub returns-in-Ok : goal.returns-in-Ok

@@ -3,8 +3,9 @@ use Rattle.std.specs.Prelude.{Contains, slice_get}
 use Rattle.std.proofs.lemmas.Bool.{false≢true}
 use Rattle.std.proofs.lemmas.Option.{slice_get_within}
 use Rattle.pareto_queue.specs.Queues.{IsGap, without}
+use Rattle.pareto_queue.proofs.ListLemmas.{contained_at}
 use Rattle.pareto_queue.proofs.OrderLemmas.{none_in_gap}
-use Rattle.pareto_queue.proofs.QueueLemmas.{contained_at, loses_by_remove, loses_none, none_there}
+use Rattle.pareto_queue.proofs.QueueLemmas.{loses_by_remove, loses_none, none_there}
 use Rattle.pareto_queue.proofs.WithoutLemmas.{in_without, loses_where_without}
 use Rattle.pareto_queue.proofs.queue.Queue.remove.Goals as goal
 

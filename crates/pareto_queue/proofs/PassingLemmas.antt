@@ -9,7 +9,7 @@ use Rattle.compact_labels.specs.declared.label.CompactSpot.{CompactSpot}
 use Rattle.list_laws.specs.Sets.{Loses}
 use Rattle.list_laws.proofs.Members.{in_none, in_first, in_rest, all_from_in, cases_in, cases_push, each_in}
 use Rattle.list_laws.proofs.OnceLaws.{in_append, pairs_append}
-use Rattle.list_laws.proofs.Pairs.{pairs_none, pairs_rest, pairs_push, pairs_take, pair_with_first}
+use Rattle.list_laws.proofs.Pairs.{pairs_rest, pairs_push, pairs_take, pair_with_first}
 use Rattle.pareto_queue.specs.Passing.{BeginsWith, IsSplit, WithoutFirst, NoneBefore, PassesOn}
 use Rattle.pareto_queue.specs.Queues.{AreSorted, SpotLess}
 use Rattle.pareto_queue.proofs.ListLemmas.{contained_at, in_push, last_in, pairs_drop}
@@ -121,15 +121,6 @@ module _ {D : ℕ} where
     pub left_ascends : AllPairs SpotLess left
     pub before_left : (x y : CompactSpot D) → Contains passed x → Contains left y → SpotLess x y
     pub before_todo : (x t : CompactSpot D) → Contains passed x → Contains todo t → SpotLess x t
-
-  -- nothing was passed on
-  pub passes_none : (left todo : List (CompactSpot D)) → AllPairs SpotLess left → Passes [] left todo
-  passes_none left todo up = record {
-    passed_ascends = pairs_none SpotLess;
-    left_ascends = up;
-    before_left = λ x y h. absurd (in_none x h);
-    before_todo = λ x t h. absurd (in_none x h);
-  }
 
   -- all is passed on
   pub passes_all : (passed left todo : List (CompactSpot D)) → Passes passed left todo → AllPairs SpotLess (passed ++ left)

@@ -1,3 +1,4 @@
+<<<<<<< HEAD
 use Rattle.std.proofs.Common.{◌≡◌, ◌∷◌, ◌+◌, drop, take, length, length-drop, arith, sym, subst}
 use Rattle.std.specs.Prelude.{All}
 use Rattle.std.proofs.lemmas.Option.{slice_get_within}
@@ -27,6 +28,15 @@ returns-in_default-find_shadowing g c =
           c.in_default-find_shadowing.ensures.none (subst (λ (x : CompactSpot g.row.D). IsDominatedBy c.args.shadow.now x.cost.0) same by);
     }
 
+=======
+use Rattle.std.proofs.Common.{◌≡◌, drop, take, length, length-drop, arith, subst}
+use Rattle.std.specs.Prelude.{All}
+use Rattle.std.proofs.lemmas.Option.{slice_get_within}
+use Rattle.pareto_queue.specs.Queues.{IsDominatedBy}
+use Rattle.pareto_queue.proofs.PassingLemmas.{all_more}
+use Rattle.pareto_queue.proofs.shadow.count_shadowed.Goals as goal
+
+>>>>>>> cf007d26fc72dc5906171de7036a4c3eaf87d4b7
 pub loop-count-preserved : goal.loop-count-preserved
 loop-count-preserved g c = record {
   listed = c.in-Some-find_shadowing.ensures.listed;

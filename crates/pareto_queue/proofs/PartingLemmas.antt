@@ -216,12 +216,8 @@ module _ {D : ℕ} where
       -- s isn't one of those that come
       pub lost_parted : length new ≤ length new_after → IsParting all left_after lost_after new_after costs took rest
       lost_parted no_fewer =
-<<<<<<< HEAD
-          spot_parted [] (pairs_none SpotLess) (λ x. (λ h. absurd (in_none x h), λ h. absurd (not_new (subst (Contains new) h.0 h.1)))) costs took rest (none_next costs took rest)
-=======
           spot_parted [] (pairs_none SpotLess) (λ x. (λ h. absurd (in_none x h), λ h. absurd (not_new (subst (Contains new) h.0 h.1))))
           costs took rest (none_next costs took rest)
->>>>>>> cf007d26fc72dc5906171de7036a4c3eaf87d4b7
         where
           not_new : ¬ Contains new s
           not_new h =

@@ -282,7 +282,7 @@ module _ {D : ℕ} where
 
 -- the spot at a place of the list that is met
 module _ {D : ℕ} (more : List (CompactSpot D)) (i : ℕ) (s : CompactSpot D) (within : i < length more) (at : s ≡ get_or more i s) where
-  pub met_here : drop i more ≡ s ∷ drop (i + 1) more
+  met_here : drop i more ≡ s ∷ drop (i + 1) more
   met_here = subst (λ z. drop i more ≡ z ∷ drop (i + 1) more) (sym at) (drop_more more i s within)
 
   -- one more was met

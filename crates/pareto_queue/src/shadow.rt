@@ -56,17 +56,6 @@ fn count_above<const D: usize>(shadow: &[CompactCost<D>], cost: &CompactCost<D>)
     )
 }
 
-<<<<<<< HEAD
-/// A cost of the shadow that dominates this one. The last that dominated one is tried first: mostly it dominates the next too.
-#[inline(always)]
-fn find_shadowing<'a, const D: usize>(
-    shadow: &'a [CompactCost<D>],
-    last: &'a CompactCost<D>,
-    cost: &CompactCost<D>,
-) -> Option<&'a CompactCost<D>>
-    requires descends { Descends shadow.now }
-    requires last { Contains shadow.now last.now }
-=======
 /// A cost of the shadow that dominates this one. It is kept out of its caller: there the comparisons of costs would become
 /// branches, which can't be foreseen.
 #[inline(never)]
@@ -75,13 +64,10 @@ fn search_shadowing<'a, const D: usize>(
     cost: &CompactCost<D>,
 ) -> Option<&'a CompactCost<D>>
     requires { Descends shadow.now }
->>>>>>> cf007d26fc72dc5906171de7036a4c3eaf87d4b7
     ensures listed { IfSome result (λ c. Contains shadow.now c.now) }
     ensures dominates { IfSome result (λ c. Dominates c.now.0 cost.now.0) }
     ensures none { IfNone result (¬ IsDominatedBy shadow.now cost.now.0) }
 {
-<<<<<<< HEAD
-=======
     find_dominating(&shadow[count_above(shadow, cost)..], cost)
 }
 
@@ -98,18 +84,13 @@ fn find_shadowing<'a, const D: usize>(
     ensures dominates { IfSome result (λ c. Dominates c.now.0 cost.now.0) }
     ensures none { IfNone result (¬ IsDominatedBy shadow.now cost.now.0) }
 {
->>>>>>> cf007d26fc72dc5906171de7036a4c3eaf87d4b7
     if last.dominates(cost) {
         return Some(last);
     }
     if shadow.len() < FEW {
         return find_dominating(shadow, cost);
     }
-<<<<<<< HEAD
-    find_dominating(&shadow[count_above(shadow, cost)..], cost)
-=======
     search_shadowing(shadow, cost)
->>>>>>> cf007d26fc72dc5906171de7036a4c3eaf87d4b7
 }
 
 /// How many of the spots the shadow dominates, up to the first that it doesn't.

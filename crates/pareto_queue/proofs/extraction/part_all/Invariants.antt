@@ -7,12 +7,8 @@ use Rattle.pareto_queue.proofs.extraction.part_all.Given as goal
 abbrev pub invariant-loop-spot : goal.invariant-loop-spot
 invariant-loop-spot g l = record {
   descends : Descends l.shadow.items;
-<<<<<<< HEAD
-  parted : (costs : List (CompactCost g.row.D)) (took left : List (CompactSpot g.row.D)) → PartsNext l.left l.shadow.items l.taken.items l.rest.items costs took left
-=======
   parted : (costs : List (CompactCost g.row.D)) (took left : List (CompactSpot g.row.D))
       → PartsNext l.left l.shadow.items l.taken.items l.rest.items costs took left
->>>>>>> cf007d26fc72dc5906171de7036a4c3eaf87d4b7
       → PartsNext l.spots l.fn.shadow.items l.fn.taken.items l.fn.rest.items costs took left;
 }
 

@@ -10,9 +10,10 @@ use Rattle.std.proofs.lemmas.Option.{same_Some, none-some}
 use Rattle.std.proofs.lemmas.List.{get_or-map, length-map, map_push, map-set}
 use Rattle.std.proofs.lemmas.List.Elements.{All-map, Contains-get_or, Contains-append_left, Contains-append_right, Contains-append_cases}
 use Rattle.std.proofs.lemmas.List.Sorted.{IsPermutation-append_comm, IsPermutation-append_left, IsPermutation-append_right, IsPermutation-map, IsPermutation-remove, IsPermutation-trans, sorted_far, ranks_by}
-use Rattle.cost_vector.specs.Costs.{AtMost, LexLess, lex_cmp}
+use Rattle.cost_vector.specs.Costs.{AtMost, Dominates, LexLess, lex_cmp}
 use Rattle.cost_vector.specs.declared.label.ArcNo.{ArcNo}
 use Rattle.cost_vector.proofs.Vectors.{AtMost-refl, cases_LexLess}
+use Rattle.list_laws.specs.Without.{IsWithout}
 use Rattle.list_laws.proofs.Members.{all_from_in, each_in, in_map, of_map}
 use Rattle.list_laws.proofs.Pairs.{pairs_map}
 use Rattle.list_laws.proofs.SetLaws.{same_by_permutation}
@@ -74,16 +75,6 @@ module _ {D : ℕ} (settled unsettled : List (FrontEntry D)) (front : IsFront D 
       (settles (map told_entry settled) (map told_entry unsettled) (map told_entry (remove unsettled i)) (told_entry x) front out c
       (same_cost front c has (told_entry x) (told_unsettled there x is settled) (covers there x is)))
 
--- where no entry is at most the cost of the entry x, no unsettled one has it
-pub told_new_cost : {D : ℕ} (settled unsettled : List (FrontEntry D)) (x : FrontEntry D) → ¬ IsCovered (entries (told_front settled unsettled)) x.cost.0
-    → All (λ (e : FrontEntry D). e.cost.0 ≢ x.cost.0) unsettled
-told_new_cost {D} settled unsettled x fresh = all_from_in (λ (e : FrontEntry D). e.cost.0 ≢ x.cost.0) unsettled (λ e h same.
-    fresh (record {
-      by = told_entry e;
-      contains = Contains-append_right (map told_entry settled) (map told_entry unsettled) (told_entry e) (in_map told_entry unsettled e h);
-      at_most = subst (AtMost e.cost.0) same (AtMost-refl e.cost.0);
-    }))
-
 -- none of the entries that are kept has a cost that no entry had
 pub other_costs : {D : ℕ} (before kept : List (FrontEntry D)) (c : List ℕ) → All (Contains (map told_entry before)) (map told_entry kept)
     → All (λ (e : FrontEntry D). e.cost.0 ≢ c) before → All (λ (e : FrontEntry D). e.cost.0 ≢ c) kept
@@ -92,36 +83,52 @@ other_costs {D} before kept c old other = all_from_in (λ (e : FrontEntry D). e.
     let (y, y_in, is) = of_map told_entry before (told_entry e) there in
     each_in (λ (x : FrontEntry D). x.cost.0 ≢ c) before other y y_in (ap (λ (x : Entry). x.cost) (sym is) ∙ same))
 
--- the entry x comes among the unsettled ones
-module _ {D : ℕ} (settled unsettled after : List (FrontEntry D)) (x : FrontEntry D) (front : IsFront D (told_front settled unsettled))
-    (taken : TakesIn unsettled x after) where
-  abbrev kept : List Entry
-  kept = map told_entry taken.kept
+-- the entry x, which is told so, comes among the unsettled ones, at a cost that no entry is at most and that dominates no settled one
+module _ {D : ℕ} (settled unsettled : List (FrontEntry D)) (x : FrontEntry D) (new : Entry) (told : told_entry x ≡ new)
+    (front : IsFront D (told_front settled unsettled)) (fresh : ¬ IsCovered (entries (told_front settled unsettled)) new.cost)
+    (spares : SparesSettled (told_front settled unsettled) new.cost) where
+  same : x.cost.0 ≡ new.cost
+  same = ap (λ (e : Entry). e.cost) told
 
-  abbrev behind : List Entry
-  behind = kept ++ told_entry x ∷ []
+  pub told_new_cost : All (λ (e : FrontEntry D). e.cost.0 ≢ x.cost.0) unsettled
+  told_new_cost = all_from_in (λ (e : FrontEntry D). e.cost.0 ≢ x.cost.0) unsettled (λ e h is.
+      fresh (record {
+        by = told_entry e;
+        contains = Contains-append_right (map told_entry settled) (map told_entry unsettled) (told_entry e) (in_map told_entry unsettled e h);
+        at_most = subst (AtMost e.cost.0) (is ∙ same) (AtMost-refl e.cost.0);
+      }))
 
-  told_behind : IsPermutation behind (map told_entry after)
-  told_behind = IsPermutation-trans behind (told_entry x ∷ kept) (map told_entry after)
-      (IsPermutation-append_comm kept (told_entry x ∷ [])) (IsPermutation-map told_entry (x ∷ taken.kept) after taken.moved)
+  module _ (after : List (FrontEntry D)) (taken : TakesIn unsettled x after) where
+    abbrev kept : List Entry
+    kept = map told_entry taken.kept
 
-  pub told_enters : Enters (told_front settled unsettled) (told_entry x) (told_front settled after)
-  told_enters =
-      let entered = enters (map told_entry settled) (map told_entry unsettled) kept (told_entry x) front taken.out in
-      record {
-        settled = entered.settled;
-        unsettled = λ e.
-            let same = same_by_permutation behind (map told_entry after) told_behind e in
-            let was = entered.unsettled e in
-            (λ h. was.0 (same.0 h), λ h. same.1 (was.1 h));
-      }
+    abbrev behind : List Entry
+    behind = kept ++ new ∷ []
 
-  pub told_entered_front : length x.cost.0 ≡ D → ¬ IsCovered (entries (told_front settled unsettled)) x.cost.0
-      → SparesSettled (told_front settled unsettled) x.cost.0 → IsFront D (told_front settled after)
-  told_entered_front long fresh spares =
-      let apart = taken.apart (pairs_behind AreIncomparable (map told_entry settled) (map told_entry unsettled) front.incomparable) in
-      let entered = entered_front (map told_entry settled) (map told_entry unsettled) kept (told_entry x) front taken.out apart long fresh spares in
-      front_in_any_order entered (told_front settled after) (IsPermutation-append_right (map told_entry settled) behind (map told_entry after) told_behind)
+    left_out : IsWithout (λ e. Dominates new.cost e.cost) (map told_entry unsettled) kept
+    left_out = subst (λ k. IsWithout (λ e. Dominates k e.cost) (map told_entry unsettled) kept) same taken.out
+
+    told_behind : IsPermutation behind (map told_entry after)
+    told_behind = IsPermutation-trans behind (new ∷ kept) (map told_entry after) (IsPermutation-append_comm kept (new ∷ []))
+        (subst (λ e. IsPermutation (e ∷ kept) (map told_entry after)) told (IsPermutation-map told_entry (x ∷ taken.kept) after taken.moved))
+
+    pub told_enters : Enters (told_front settled unsettled) new (told_front settled after)
+    told_enters =
+        let entered = enters (map told_entry settled) (map told_entry unsettled) kept new front left_out in
+        record {
+          settled = entered.settled;
+          unsettled = λ e.
+              let moved = same_by_permutation behind (map told_entry after) told_behind e in
+              let was = entered.unsettled e in
+              (λ h. was.0 (moved.0 h), λ h. moved.1 (was.1 h));
+        }
+
+    pub told_entered_front : length x.cost.0 ≡ D → IsFront D (told_front settled after)
+    told_entered_front long =
+        let apart = taken.apart (pairs_behind AreIncomparable (map told_entry settled) (map told_entry unsettled) front.incomparable) in
+        let entered = entered_front (map told_entry settled) (map told_entry unsettled) kept new front left_out apart
+        (ap length (sym same) ∙ long) fresh spares in
+        front_in_any_order entered (told_front settled after) (IsPermutation-append_right (map told_entry settled) behind (map told_entry after) told_behind)
 
 -- the entry with this arc
 abbrev pub with_arc : {D : ℕ} → FrontEntry D → ArcNo → FrontEntry D

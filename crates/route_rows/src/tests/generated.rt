@@ -113,16 +113,9 @@ const SUMMARIES: &[Row] = &[
         out: "gen 49 168 2 5 3 2 18 162 11016\n",
         err: "",
     },
-    // A large grid, by one worker and by several.
+    // A large grid.
     Row {
-        words: "gen --start 1 --side 500 --criteria 2 --pairs 10 --workers 1",
-        files: &[],
-        status: 0,
-        out: "gen 250000 998000 2 10 10 0 41 356 27236\n",
-        err: "",
-    },
-    Row {
-        words: "gen --start 1 --side 500 --criteria 2 --pairs 10 --workers 8",
+        words: "gen --start 1 --side 500 --criteria 2 --pairs 10",
         files: &[],
         status: 0,
         out: "gen 250000 998000 2 10 10 0 41 356 27236\n",

@@ -197,6 +197,15 @@ impl<T: Store> Session<T> {
         replied
     }
 
+    /// Looks at what is published.
+    pub fn look(&mut self) -> Result<(), OutOfMemory>
+        ensures begins { IsPrefix self.old.seen self.new.seen }
+        ensures unchanged { OnErr result (self.new ≡ self.old) }
+        ensures named { self.new.named ≡ self.old.named }
+    {
+        self.reader.read()
+    }
+
     /// The number of the last epoch that was seen.
     pub fn last(&self) -> u32
         ensures number { result ≡ last_number T.origin self.now.seen }

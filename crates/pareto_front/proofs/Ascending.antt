@@ -201,7 +201,7 @@ module _ {D : ℕ} (list : List (FrontEntry D)) (i : ℕ) where
   apart_behind pairs =
       pairs_behind AreIncomparable (map told_entry (take i list)) (map told_entry (drop i list)) (subst (AllPairs AreIncomparable) (sym told_parts) pairs)
 
-  -- those of no less cost stand behind
+  -- a cost dominates none of the entries before its place
   pub undominated_before : (by : List ℕ) → IsBeforeOf list by i → All (λ (e : FrontEntry D). ¬ Dominates by e.cost.0) (take i list)
   undominated_before by at = all_from_in (λ (e : FrontEntry D). ¬ Dominates by e.cost.0) (take i list) (λ e h dominated.
       let less = each_in (λ (x : FrontEntry D). LexLess x.cost.0 by) (take i list) at.before e h in

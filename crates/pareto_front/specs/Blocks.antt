@@ -78,7 +78,7 @@ settled_room entries corners wide_corners = min entries (min (block_size * corne
 abbrev pub spare_of : ℕ → ℕ → ℕ → ℕ → ℕ
 spare_of settled unsettled room unsettled_room = min (unsettled_room - unsettled) (room - (settled + unsettled))
 
--- the new entry has come, those are gone that it dominates, and the others are kept
+-- the new entry has come, those are gone that it dominates, and the others are kept, and stay incomparable if they were
 pub record TakesIn {D : ℕ} (before : List (FrontEntry D)) (new : FrontEntry D) (after : List (FrontEntry D)) : Type 0 where
   pub kept : List (FrontEntry D)
   pub out : IsWithout (λ e. Dominates new.cost.0 e.cost) (map told_entry before) (map told_entry kept)

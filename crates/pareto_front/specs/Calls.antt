@@ -22,6 +22,11 @@ pub record Enters (before : Front) (new : Entry) (after : Front) : Type 0 where
   pub unsettled : (e : Entry) → Contains after.unsettled e
       ↔ ((Contains before.unsettled e × ¬ Dominates new.cost e.cost) ⊎ (e ≡ new))
 
+-- the entry of this cost, which isn't settled, is gone, and all else is as it was
+pub record Discards (before : Front) (c : List ℕ) (after : Front) : Type 0 where
+  pub settled : SameMembers after.settled before.settled
+  pub unsettled : (e : Entry) → Contains after.unsettled e ↔ (Contains before.unsettled e × (e.cost ≢ c))
+
 -- in a list the entry of the new one's cost, if there is one, has got the new one's arc
 abbrev pub GetsArc : List Entry → Entry → List Entry → Type 0
 GetsArc before new after = (e : Entry) → Contains after e

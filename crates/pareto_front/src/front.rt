@@ -1,7 +1,7 @@
-ghost use Rattle.std.specs.Prelude.{◌≡◌, ℕ, ◌+◌, ◌≤◌, ◌↔◌, length, Contains, IfOk, OnErr, OnOk, Some};
+ghost use Rattle.std.specs.Prelude.{◌≡◌, ℕ, ◌+◌, ◌≤◌, ◌↔◌, length, All, Contains, IfOk, OnErr, OnOk, Some};
 ghost use Rattle.cost_vector.specs.Costs.{Dominates, max_criteria, min_criteria};
 ghost use Rattle.pareto_front.specs.Fronts.{Front, HasCost, IsCovered, IsFront, SparesSettled, empty_front, entries};
-ghost use Rattle.pareto_front.specs.Calls.{Enters, GrowsBy, ListsSettled, Relabels, Settles, StandsTo};
+ghost use Rattle.pareto_front.specs.Calls.{Discards, Enters, GrowsBy, ListsSettled, Relabels, Settles, StandsTo};
 
 use compact_labels::{CompactCost, CompactSpot};
 use cost_vector::{ArcNo, OutOfMemory};
@@ -95,6 +95,22 @@ pub trait ParetoFront<const D: usize> {
         ensures entered { IfOk result (λ _. Enters (state self.old)
             (record { cost = by.now.cost.0; arc = arc.0 }) (state self.new)) }
         ensures same { OnErr result (state self.new ≡ state self.old) };
+
+    /// Takes out the entry of this cost, which isn't settled.
+    fn discard(&mut self, cost: &CompactCost<D>)
+        requires { HasCost (state self.old).unsettled cost.now.0 }
+        ensures discarded { Discards (state self.old) cost.now.0 (state self.new) }
+        ensures room { spare self.old ≤ spare self.new };
+
+    /// Puts in an entry that isn't settled, at a cost that no entry is at most and that dominates none: what `enter` does there,
+    /// without looking for entries that it dominates.
+    fn put(&mut self, cost: &CompactCost<D>, arc: ArcNo)
+        requires room { 1 ≤ spare self.old }
+        requires new { ¬ IsCovered (entries (state self.old)) cost.now.0 }
+        requires spares { All (λ e. ¬ Dominates cost.now.0 e.cost) (entries (state self.old)) }
+        ensures entered { Enters (state self.old)
+            (record { cost = cost.now.0; arc = arc.0 }) (state self.new) }
+        ensures room_left { spare self.old ≤ spare self.new + 1 };
 
     /// Gives the entry of this cost this arc.
     fn relabel(&mut self, cost: &CompactCost<D>, arc: ArcNo)

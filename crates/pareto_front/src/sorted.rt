@@ -123,6 +123,16 @@ impl ParetoFront<2> for SortedFront {
         Ok(())
     }
 
+    fn discard(&mut self, cost: &CompactCost<2>) {
+        let at = before(&self.entries, cost.0[0]);
+        self.entries.remove(at);
+        self.marks.remove(at);
+    }
+
+    fn put(&mut self, cost: &CompactCost<2>, arc: ArcNo) {
+        self.enter(cost, arc);
+    }
+
     fn relabel(&mut self, cost: &CompactCost<2>, arc: ArcNo) {
         let at = before(&self.entries, cost.0[0]);
         self.entries[at].arc = arc;

@@ -39,7 +39,7 @@ module _ {D : ℕ} where
   groups_more refs k d within = take_more (map list refs) k (list d) (omega (arith, within, length-map refs list))
       ∙ ap (λ g. take k (map list refs) ++ g ∷ []) (get_or-map list refs k d (list d) within)
 
-  -- the first of the groups
+  -- the first groups are groups
   groups_front : (hs ks : List (List (CompactLabel D))) → AreGroups (hs ++ ks) → AreGroups hs
   groups_front hs ks groups = record {
     each = all_from_in HaveOneNode hs (λ h h_in. each_in HaveOneNode (hs ++ ks) groups.each h ((in_append hs ks h).1 (inl h_in)));

@@ -63,7 +63,7 @@ module _ {D : ℕ} where
   abbrev pub run_of : ℕ → List (List (CompactLabel D)) → ℕ → List (List (CompactLabel D))
   run_of size groups run = take size (drop (run * size) groups)
 
-  -- there is such a run, and the groups can be merged
+  -- in at most four criteria there is such a run, and the groups can be merged
   pub record CanMergeRun (f : Fronts) (size : ℕ) (list : List (List (CompactLabel D))) (run : ℕ) : Type 0 where
     pub criteria : D ≤ max_criteria
     pub there : run * size < length list

@@ -11,8 +11,8 @@ use route_io::{Gate, Phase};
 use std::alloc::Global;
 use work_claim::Job;
 
-/// How many runs come to each worker, where there are enough groups: so many that the work is shared evenly, and so few
-/// that it takes little to share it.
+/// At most so many runs come to each worker on the average: so many that the work is shared evenly, and so few that it takes
+/// little to share it.
 const RUNS_PER_WORKER: usize = 8;
 
 /// How many groups are a run.

@@ -1,20 +1,21 @@
 -- Merging in parts, and merging the delta in place of its candidates, leads to the same front.
 use Rattle.std.proofs.Common.{◌≡◌, ◌≢◌, ◌⊎◌, ◌↔◌, ℕ, ◌<◌, ◌≤◌, List, [], ◌∷◌, ◌++◌, inl, inr, refl, sym, ap, subst, ◌∙◌, arith, append_assoc}
-use Rattle.std.specs.Prelude.{Contains}
+use Rattle.std.specs.Prelude.{All, Contains}
 use Rattle.std.proofs.lemmas.Bool.{cases_lt}
 use Rattle.std.proofs.lemmas.List.{append-nil}
-use Rattle.cost_vector.specs.Costs.{AtMost}
+use Rattle.cost_vector.specs.Costs.{AtMost, Dominates}
 use Rattle.cost_vector.proofs.Vectors.{AtMost-Dominates, cases_same}
-use Rattle.list_laws.proofs.Members.{in_none}
+use Rattle.list_laws.specs.Sets.{SameMembers}
+use Rattle.list_laws.proofs.Members.{all_from_in, each_in, in_first, in_none, in_one}
 use Rattle.list_laws.proofs.OnceLaws.{in_append}
 use Rattle.pareto_front.specs.Fronts.{Entry, Front, HasCost, IsCovered, IsDominated, SparesSettled, entries}
 use Rattle.pareto_front.specs.Calls.{Enters, Relabels}
-use Rattle.pareto_front.specs.Merging.{Stays, Delta, IsDelta, IsMerged}
+use Rattle.pareto_front.specs.Merging.{Stays, Delta, IsAdded, IsDelta, IsMerged}
 use Rattle.node_front.specs.Apart.{AreApart}
-use Rattle.node_front.proofs.ApartLemmas.{same_entry, AtMost-same, has_cost_of, apart_not_dominated}
+use Rattle.node_front.proofs.ApartLemmas.{same_entry, AtMost-same, has_append, has_cost_of, apart_not_dominated}
 use Rattle.node_front.proofs.StaysLemmas.{stays_below, stays_of_cost}
 use Rattle.node_front.proofs.NeedlessLemmas.{told_entry_in, told_has_cost}
-use Rattle.node_front.proofs.MergedLemmas.{entered_merges, relabelled_merges, merged_apart}
+use Rattle.node_front.proofs.MergedLemmas.{relabelled_merges, merged_apart}
 
 -- of fewer known entries, among which all that stays still is, the same stays
 pub stays_core : (known fewer : List Entry) → ((x : Entry) → Contains fewer x → Contains known x) → ((x : Entry) → Stays known x → Contains fewer x)
@@ -105,6 +106,11 @@ merged_then first second third xs ys merged again = record {
     ],
   )
 
+-- the entries of these costs have left those that aren't settled, and these have come
+pub record HasPut (before : Front) (removed : List (List ℕ)) (xs : List Entry) (after : Front) : Type 0 where
+  pub settled : SameMembers after.settled before.settled
+  pub unsettled : (x : Entry) → Contains after.unsettled x ↔ ((Contains before.unsettled x × (¬ Contains removed x.cost)) ⊎ Contains xs x)
+
 -- ---- the delta in place of the candidates
 
 module _ (before : Front) (candidates : List Entry) (delta : Delta) (is : IsDelta before candidates delta) (apart : AreApart (entries before)) where
@@ -194,6 +200,156 @@ module _ (before : Front) (candidates : List Entry) (delta : Delta) (is : IsDelt
               absurd (apart_not_dominated (entries before) apart b (record { cost = c; arc = was.arc }) old there less)
         ]
 
+  -- ---- the removed costs leave, and then added entries come one by one
+
+  module _ (spares : (x : Entry) → Contains candidates x → SparesSettled before x.cost) where
+    -- no settled entry is removed
+    pub removed_unsettled : (c : List ℕ) → Contains delta.removed c → HasCost before.unsettled c
+    removed_unsettled c there =
+        let removed = (is.removed.exact c).0 there in
+        let by = removed.dominated in
+        elim ((has_append before.settled before.unsettled c).0 removed.old) [
+          | inr unsettled ↦ unsettled
+          | inl settled ↦ absurd (spares by.by by.contains (record { cost = c; arc = settled.arc }) settled.contains by.dominates)
+        ]
+
+    -- these have come
+    module _ (xs : List Entry) (mid : Front) (sub : (x : Entry) → Contains xs x → Contains delta.added x) (puts : HasPut before delta.removed xs mid) where
+      added_stays : (x : Entry) → Contains xs x → IsAdded before candidates x
+      added_stays x there = (is.added.exact x).0 (sub x there)
+
+      candidate_of : (x : Entry) → Contains delta.added x → Contains candidates x
+      candidate_of x there = brought_candidate x ((in_append delta.added delta.lowered x).1 (inl there))
+
+      put_entry : (x : Entry) → Contains (entries mid) x
+          → Contains before.settled x ⊎ ((Contains before.unsettled x × (¬ Contains delta.removed x.cost)) ⊎ Contains xs x)
+      put_entry x there = elim ((in_append mid.settled mid.unsettled x).0 there) [
+        | inl settled ↦ inl ((puts.settled x).0 settled)
+        | inr unsettled ↦ inr ((puts.unsettled x).0 unsettled)
+      ]
+
+      put_old : (x : Entry) → Contains (entries mid) x → Contains (entries before) x ⊎ Contains xs x
+      put_old x there = elim (put_entry x there) [
+        | inl settled ↦ inl ((in_append before.settled before.unsettled x).1 (inl settled))
+        | inr (inl unsettled) ↦ inl ((in_append before.settled before.unsettled x).1 (inr unsettled.0))
+        | inr (inr new) ↦ inr new
+      ]
+
+      -- an added entry that hasn't come yet can be put in
+      pub put_uncovered : (e : Entry) → Contains delta.added e → ((x : Entry) → Contains xs x → x ≢ e) → ¬ IsCovered (entries mid) e.cost
+      put_uncovered e there not_yet covered =
+          let b = covered.by in
+          let added = (is.added.exact e).0 there in
+          let either = put_old b covered.contains in
+          let b_known = (in_append (entries before) candidates b).1 (elim either [ inl old ↦ inl old | inr new ↦ inr (candidate_of b (sub b new)) ]) in
+          elim (cases_same b.cost e.cost) [
+            | inr other ↦ added.stays.nondominated
+                (record { by = b; contains = b_known; dominates = record { at_most = covered.at_most; differs = other } })
+            | inl same ↦ elim either [
+              | inl old ↦ added.new (subst (HasCost (entries before)) same (has_cost_of (entries before) b old))
+              | inr new ↦
+                  let low = added.stays.least b b_known same in
+                  let high = (added_stays b new).stays.least e added.stays.contains (sym same) in
+                  not_yet b new (same_entry b e same (omega (arith, low, high)))
+            ]
+          ]
+
+      -- and dominates no entry
+      pub put_spares : (e : Entry) → Contains delta.added e → All (λ (x : Entry). ¬ Dominates e.cost x.cost) (entries mid)
+      put_spares e there = all_from_in (λ (x : Entry). ¬ Dominates e.cost x.cost) (entries mid) (λ x x_in less.
+          elim (put_entry x x_in) [
+            | inl settled ↦ spares e (candidate_of e there) x settled less
+            | inr (inl unsettled) ↦ unsettled.1 ((is.removed.exact x.cost).1 (record {
+              old = (has_append before.settled before.unsettled x.cost).1 (inr (has_cost_of before.unsettled x unsettled.0));
+              dominated = record { by = e; contains = candidate_of e there; dominates = less };
+            }))
+            | inr (inr new) ↦ (added_stays x new).stays.nondominated
+                (record { by = e; contains = ((is.added.exact e).0 there).stays.contains; dominates = less })
+          ])
+
+      pub put_then : (e : Entry) (after : Front) → Contains delta.added e → Enters mid e after → HasPut before delta.removed (xs ++ e ∷ []) after
+      put_then e after there enters = record {
+        settled = λ x. (λ h. (puts.settled x).0 ((enters.settled x).0 h), λ h. (enters.settled x).1 ((puts.settled x).1 h));
+        unsettled = λ x. through (enters.unsettled x) (puts.unsettled x) (in_append xs (e ∷ []) x) (λ h. in_one e x h, λ same. subst (Contains (e ∷ []))
+            (sym same) (in_first e [])) (λ h. each_in (λ (y : Entry). ¬ Dominates e.cost y.cost) (entries mid) (put_spares e there) x
+            ((in_append mid.settled mid.unsettled x).1 (inr h)));
+      } where
+        through : {A M N E S X L O : Type 0} → (A ↔ ((M × (¬ N)) ⊎ E)) → (M ↔ (S ⊎ X)) → (L ↔ (X ⊎ O)) → (O ↔ E) → (M → ¬ N) → (A ↔ (S ⊎ L))
+        through a m l o none = grind arith
+
+      -- all have come: the front is what they make of it
+      pub put_all : ((x : Entry) → Contains delta.added x → Contains xs x) → IsMerged before delta.added mid
+      put_all all = record {
+        entries = λ x. (λ there. elim (put_entry x there) [
+            | inl settled ↦
+                let old = (in_append before.settled before.unsettled x).1 (inl settled) in
+                old_stays x old (λ y y_in less. spares y (candidate_of y y_in) x settled less)
+            | inr (inl unsettled) ↦
+                let old = (in_append before.settled before.unsettled x).1 (inr unsettled.0) in
+                old_stays x old (λ y y_in less. unsettled.1 ((is.removed.exact x.cost).1 (record {
+                  old = has_cost_of (entries before) x old;
+                  dominated = record { by = y; contains = candidate_of y y_in; dominates = less };
+                })))
+            | inr (inr new) ↦ new_stays x (sub x new)
+          ], λ stays. (in_append mid.settled mid.unsettled x).1 (elim ((in_append (entries before) delta.added x).0 stays.contains) [
+            | inr new ↦ inr ((puts.unsettled x).1 (inr (all x new)))
+            | inl old ↦ elim ((in_append before.settled before.unsettled x).0 old) [
+              | inl settled ↦ inl ((puts.settled x).1 settled)
+              | inr unsettled ↦ inr ((puts.unsettled x).1 (inl (unsettled, not_removed x old stays)))
+            ]
+          ]));
+        settled = λ c. (
+          λ h. (
+            record { arc = h.arc; contains = (puts.settled _).0 h.contains },
+            λ by. spares by.by (candidate_of by.by by.contains) (record { cost = c; arc = h.arc }) ((puts.settled _).0 h.contains) by.dominates,
+          ),
+          λ h. record { arc = h.0.arc; contains = (puts.settled _).1 h.0.contains },
+        );
+      } where
+        old_stays : (x : Entry) → Contains (entries before) x → ((y : Entry) → Contains delta.added y → ¬ Dominates y.cost x.cost)
+            → Stays (entries before ++ delta.added) x
+        old_stays x old none = record {
+          contains = (in_append (entries before) delta.added x).1 (inl old);
+          nondominated = λ h. elim ((in_append (entries before) delta.added h.by).0 h.contains) [
+            | inl by_old ↦ apart_not_dominated (entries before) apart h.by x by_old old h.dominates
+            | inr by_new ↦ none h.by by_new h.dominates
+          ];
+          least = λ y y_in same. elim ((in_append (entries before) delta.added y).0 y_in) [
+            | inl y_old ↦ let one = apart y x y_old old (AtMost-same y.cost x.cost same) in omega (arith, ap (λ (w : Entry). w.arc) one)
+            | inr y_new ↦ absurd (((is.added.exact y).0 y_new).new (subst (HasCost (entries before)) (sym same) (has_cost_of (entries before) x old)))
+          ];
+        }
+
+        known_of : (x : Entry) → Contains (entries before ++ delta.added) x → Contains (entries before ++ candidates) x
+        known_of x there = (in_append (entries before) candidates x).1 (elim ((in_append (entries before) delta.added x).0 there) [
+          | inl old ↦ inl old
+          | inr new ↦ inr (candidate_of x new)
+        ])
+
+        new_stays : (x : Entry) → Contains delta.added x → Stays (entries before ++ delta.added) x
+        new_stays x there =
+            let stays = ((is.added.exact x).0 there).stays in
+            record {
+              contains = (in_append (entries before) delta.added x).1 (inr there);
+              nondominated = λ h. stays.nondominated (record { by = h.by; contains = known_of h.by h.contains; dominates = h.dominates });
+              least = λ y y_in. stays.least y (known_of y y_in);
+            }
+
+        not_removed : (x : Entry) → Contains (entries before) x → Stays (entries before ++ delta.added) x → ¬ Contains delta.removed x.cost
+        not_removed x old stays there =
+            let by = ((is.removed.exact x.cost).0 there).dominated in
+            let (b, b_stays, below) = stays_below (entries before ++ candidates) by.by ((in_append (entries before) candidates by.by).1 (inr by.contains)) in
+            let less = AtMost-Dominates b.cost by.by.cost x.cost below by.dominates in
+            elim (stays_brought b b_stays) [
+              | inl b_old ↦ apart_not_dominated (entries before) apart b x b_old old less
+              | inr brought ↦ elim ((in_append delta.added delta.lowered b).0 brought) [
+                | inl added ↦ stays.nondominated (record { by = b; contains = (in_append (entries before) delta.added b).1 (inr added); dominates = less })
+                | inr lowered ↦
+                    let low = (is.lowered.exact b).0 lowered in
+                    apart_not_dominated (entries before) apart (record { cost = b.cost; arc = low.arc }) x low.old old less
+              ]
+            ]
+
   -- ---- step by step
 
   module _ (xs : List Entry) (mid : Front) (sub : (x : Entry) → Contains xs x
@@ -203,31 +359,6 @@ module _ (before : Front) (candidates : List Entry) (delta : Delta) (is : IsDelt
       | inl old ↦ inl old
       | inr new ↦ inr (brought_candidate x (sub x new))
     ])
-
-    -- an added entry can be put in, if it hasn't come yet
-    pub step_uncovered : Contains delta.added e → ((x : Entry) → Contains xs x → x ≢ e) → ¬ IsCovered (entries mid) e.cost
-    step_uncovered there not_yet covered =
-        let b = covered.by in
-        let added = (is.added.exact e).0 there in
-        let stays = (merged.entries b).0 covered.contains in
-        let b_known = mid_known b stays.contains in
-        elim (cases_same b.cost e.cost) [
-          | inr other ↦ added.stays.nondominated
-              (record { by = b; contains = b_known; dominates = record { at_most = covered.at_most; differs = other } })
-          | inl same ↦ elim ((in_append (entries before) xs b).0 stays.contains) [
-            | inl old ↦ added.new (subst (HasCost (entries before)) same (has_cost_of (entries before) b old))
-            | inr new ↦
-                let low = added.stays.least b b_known same in
-                let high = (brought_stays b (sub b new)).least e added.stays.contains (sym same) in
-                not_yet b new (same_entry b e same (omega (arith, low, high)))
-          ]
-        ]
-
-    -- it dominates no settled entry
-    pub step_spares : Contains (delta.added ++ delta.lowered) e → SparesSettled before e.cost → SparesSettled mid e.cost
-    step_spares there spares s s_in less =
-        let was = ((merged.settled s.cost).0 (has_cost_of mid.settled s s_in)).0 in
-        spares (record { cost = s.cost; arc = was.arc }) was.contains less
 
     -- where a lowered entry comes, the entry of its cost is there, with no lesser arc
     pub step_lowered : Contains delta.lowered e → (b : Entry) × Contains (entries mid) b × (b.cost ≡ e.cost) × (e.arc ≤ b.arc)
@@ -241,9 +372,6 @@ module _ (before : Front) (candidates : List Entry) (delta : Delta) (is : IsDelt
 
     mid_apart : AreApart (entries mid)
     mid_apart = merged_apart before mid xs merged
-
-    pub entered_then : (after : Front) → ¬ IsCovered (entries mid) e.cost → SparesSettled mid e.cost → Enters mid e after → IsMerged before (xs ++ e ∷ []) after
-    entered_then after new spares enters = merged_then before mid after xs (e ∷ []) merged (entered_merges mid e mid_apart new spares after enters)
 
     pub relabelled_then : (after : Front) → Contains delta.lowered e → Relabels mid e after → IsMerged before (xs ++ e ∷ []) after
     relabelled_then after there relabels =

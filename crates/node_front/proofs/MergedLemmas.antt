@@ -1,13 +1,13 @@
 -- What one label more makes of a front.
 use Rattle.std.proofs.Common.{◌≡◌, ◌≢◌, ◌⊎◌, ◌↔◌, ℕ, ◌≤◌, List, [], ◌∷◌, ◌++◌, inl, inr, refl, sym, ap, subst, ◌∙◌, arith}
-use Rattle.std.specs.Prelude.{Contains, Result, Ok, Err, IfOk, OnErr}
+use Rattle.std.specs.Prelude.{All, Contains, Result, Ok, Err, IfOk, OnErr}
 use Rattle.std.proofs.lemmas.List.Elements.{Contains-append_left, Contains-append_right}
 use Rattle.cost_vector.specs.Costs.{AtMost, Dominates}
 use Rattle.cost_vector.proofs.Vectors.{AtMost-Dominates, cases_same}
-use Rattle.list_laws.proofs.Members.{in_one, in_first, cases_push}
+use Rattle.list_laws.proofs.Members.{each_in, in_one, in_first, cases_push}
 use Rattle.list_laws.proofs.OnceLaws.{in_append}
 use Rattle.pareto_front.specs.Fronts.{Entry, Front, entries, HasCost, IsCovered, IsDominated, SparesSettled}
-use Rattle.pareto_front.specs.Calls.{Enters, Relabels, Settles}
+use Rattle.pareto_front.specs.Calls.{Discards, Enters, Relabels, Settles}
 use Rattle.pareto_front.specs.Merging.{Stays, IsMerged, IsAdded, IsRemoved}
 use Rattle.node_front.specs.Apart.{AreApart}
 use Rattle.node_front.proofs.ApartLemmas.{same_entry, AtMost-same, has_append, has_cost_of, apart_not_dominated}
@@ -237,6 +237,20 @@ settled_apart before after c settles apart x y x_in y_in = apart x y (old x x_in
     | inl settled ↦ (in_append before.settled before.unsettled z).1 (elim ((settles.settled z).0 settled) [ inl was ↦ inl was | inr new ↦ inr new.0 ])
     | inr unsettled ↦ (in_append before.settled before.unsettled z).1 (inr ((settles.unsettled z).0 unsettled).0)
   ]
+
+-- a cost that dominates no entry spares the settled ones
+pub spares_settled : (front : Front) (c : List ℕ) → All (λ (x : Entry). ¬ Dominates c x.cost) (entries front) → SparesSettled front c
+spares_settled front c none x there =
+    each_in (λ (y : Entry). ¬ Dominates c y.cost) (entries front) none x ((in_append front.settled front.unsettled x).1 (inl there))
+
+-- entries of which one is gone stay apart
+pub discarded_apart : (before after : Front) (c : List ℕ) → Discards before c after → AreApart (entries before) → AreApart (entries after)
+discarded_apart before after c discards apart x y x_in y_in = apart x y (old x x_in) (old y y_in) where
+  old : (z : Entry) → Contains (entries after) z → Contains (entries before) z
+  old z there = (in_append before.settled before.unsettled z).1 (elim ((in_append after.settled after.unsettled z).0 there) [
+    | inl settled ↦ inl ((discards.settled z).0 settled)
+    | inr unsettled ↦ inr ((discards.unsettled z).0 unsettled).0
+  ])
 
 -- where an entry has got another arc, the entries stay apart
 pub relabelled_apart : (before after : Front) (e : Entry) → Relabels before e after → AreApart (entries before) → AreApart (entries after)

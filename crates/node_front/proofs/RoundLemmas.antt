@@ -1,24 +1,26 @@
 -- The fronts of all nodes, while the deltas of a round are applied label by label.
-use Rattle.std.proofs.Common.{◌≡◌, ◌≢◌, ◌⊎◌, ℕ, ◌+◌, ◌<◌, ◌≤◌, Bool, true, false, cond, nat_eq, List, [], ◌∷◌, ◌++◌, length, map, get_or, take, drop, inl, inr, refl, sym, ap, subst, ◌∙◌, arith, append_assoc, take-append-drop, length-take, length-drop}
+use Rattle.std.proofs.Common.{◌≡◌, ◌≢◌, ◌⊎◌, ◌↔◌, ℕ, ◌+◌, ◌<◌, ◌≤◌, Bool, true, false, cond, nat_eq, List, [], ◌∷◌, ◌++◌, length, map, get_or, take, drop, inl, inr, refl, sym, ap, subst, ◌∙◌, arith, append_assoc, take-append-drop, length-take, length-drop}
 use Rattle.std.specs.Prelude.{All, AllPairs, Contains, filter}
+use Rattle.cost_vector.specs.Costs.{Dominates}
 use Rattle.std.proofs.lemmas.Bool.{cases_Bool, false≢true}
 use Rattle.std.proofs.lemmas.Bool.Decides.{nat_tests}
 use Rattle.std.proofs.lemmas.List.{take_more, drop_more, get_or-drop, get_or_default, length-append, map-append, append-nil}
 use Rattle.std.proofs.lemmas.List.Elements.{filter-append, All-nil, All-push}
-use Rattle.list_laws.proofs.Members.{in_first, of_map, of_filter, each_in, all_from_in}
+use Rattle.list_laws.proofs.Members.{in_first, in_none, in_one, of_map, of_filter, each_in, all_from_in}
 use Rattle.list_laws.proofs.OnceLaws.{in_append, empty_if_none}
 use Rattle.compact_labels.specs.declared.label.CompactLabel.{CompactLabel}
-use Rattle.pareto_front.specs.Calls.{Enters, Relabels, entry_of}
+use Rattle.compact_labels.specs.declared.label.CompactSpot.{CompactSpot}
+use Rattle.pareto_front.specs.Calls.{Discards, Enters, Relabels, entry_of}
 use Rattle.pareto_front.specs.Fronts.{Entry, Front, HasCost, IsCovered, SparesSettled, empty_front, entries}
 use Rattle.road_network.specs.Network.{IsNode}
 use Rattle.pareto_front.specs.Merging.{IsDelta, IsMerged}
 use Rattle.node_front.specs.Apart.{AreApart}
-use Rattle.node_front.specs.Deltas.{Deltas, AreDeltas, HasRoom, MergesAll, delta_at, told_at}
+use Rattle.node_front.specs.Deltas.{Deltas, AreDeltas, HasRoom, MergesAll, costs_told_at, delta_at, told_at}
 use Rattle.node_front.specs.NodeFronts.{Fronts, SameElsewhere, SameFronts, front_at, spare_at}
 use Rattle.node_front.proofs.ApartLemmas.{has_cost_of}
 use Rattle.node_front.proofs.PlacedLemmas.{cases_number}
 use Rattle.node_front.proofs.RemovedLemmas.{pairs_front, pairs_across}
-use Rattle.node_front.proofs.MergeLaws.{merged_none, merged_by_delta, brought_candidate, step_uncovered, step_spares, step_lowered, entered_then, relabelled_then}
+use Rattle.node_front.proofs.MergeLaws.{HasPut, merged_by_delta, put_all, put_spares, put_then, put_uncovered, removed_unsettled, step_lowered, relabelled_then}
 
 -- ---- the labels of one node
 
@@ -38,23 +40,78 @@ same_numbers a b test is passes = test_same a b (sym is ∙ passes)
 pub other_numbers : (a b : ℕ) (test : Bool) → test ≡ nat_eq a b → test ≡ false → a ≢ b
 other_numbers a b test is fails same = false≢true (sym fails ∙ is ∙ same_test a b same)
 
+-- what things tell whose node is v
+module _ {X Y : Type 0} (node : X → ℕ) (tell : X → Y) where
+  abbrev told_of : ℕ → List X → List Y
+  told_of v xs = map tell (filter (λ x. nat_eq (node x) v) xs)
+
+  of_append : (v : ℕ) (xs ys : List X) → told_of v (xs ++ ys) ≡ told_of v xs ++ told_of v ys
+  of_append v xs ys =
+      ap (map tell) (filter-append (λ x. nat_eq (node x) v) xs ys)
+      ∙ map-append tell (filter (λ x. nat_eq (node x) v) xs) (filter (λ x. nat_eq (node x) v) ys)
+
+  of_push : (v : ℕ) (xs : List X) (x : X) → node x ≡ v → told_of v (xs ++ x ∷ []) ≡ told_of v xs ++ tell x ∷ []
+  of_push v xs x same =
+      of_append v xs (x ∷ []) ∙ ap (λ ys. told_of v xs ++ ys) (ap (λ b. map tell (cond b (x ∷ []) [])) (same_test (node x) v same))
+
+  of_push_other : (v : ℕ) (xs : List X) (x : X) → node x ≢ v → told_of v (xs ++ x ∷ []) ≡ told_of v xs
+  of_push_other v xs x other =
+      of_append v xs (x ∷ []) ∙ ap (λ ys. told_of v xs ++ ys) (ap (λ b. map tell (cond b (x ∷ []) [])) (other_test (node x) v other))
+      ∙ append-nil (told_of v xs)
+
+  -- a list in two parts
+  of_parts : (v i : ℕ) (xs : List X) → told_of v xs ≡ told_of v (take i xs) ++ told_of v (drop i xs)
+  of_parts v i xs = ap (told_of v) (sym (take-append-drop i xs)) ∙ of_append v (take i xs) (drop i xs)
+
+  of_take : (v i : ℕ) (xs : List X) (y : Y) → Contains (told_of v (take i xs)) y → Contains (told_of v xs) y
+  of_take v i xs y there =
+      subst (λ ys. Contains ys y) (sym (of_parts v i xs)) ((in_append (told_of v (take i xs)) (told_of v (drop i xs)) y).1 (inl there))
+
+  -- the next one, among those of its node
+  module _ (v i : ℕ) (xs : List X) (x : X) (at : node x ≡ v) (more : take (i + 1) xs ≡ take i xs ++ x ∷ []) where
+    next_more : told_of v (take (i + 1) xs) ≡ told_of v (take i xs) ++ tell x ∷ []
+    next_more = ap (told_of v) more ∙ of_push v (take i xs) x at
+
+    next_split : told_of v xs ≡ (told_of v (take i xs) ++ tell x ∷ []) ++ told_of v (drop (i + 1) xs)
+    next_split = of_parts v (i + 1) xs ∙ ap (λ ys. ys ++ told_of v (drop (i + 1) xs)) next_more
+
+    next_in : Contains (told_of v xs) (tell x)
+    next_in = of_take v (i + 1) xs (tell x) (subst (λ ys. Contains ys (tell x)) (sym next_more)
+        ((in_append (told_of v (take i xs)) (tell x ∷ []) (tell x)).1 (inr (in_first (tell x) []))))
+
+    next_apart : AllPairs ◌≢◌ (told_of v xs) → (y : Y) → Contains (told_of v (take i xs)) y → y ≢ tell x
+    next_apart pairs y there =
+        let whole = subst (AllPairs ◌≢◌) next_split pairs in
+        let front = pairs_front ◌≢◌ (told_of v (take i xs) ++ tell x ∷ []) (told_of v (drop (i + 1) xs)) whole in
+        pairs_across ◌≢◌ (told_of v (take i xs)) (tell x ∷ []) front y (tell x) there (in_first (tell x) [])
+
+    next_length : length (told_of v (take (i + 1) xs)) ≡ length (told_of v (take i xs)) + 1
+    next_length = ap length next_more ∙ length-append (told_of v (take i xs)) (tell x ∷ [])
+
+    next_fits : length (told_of v (take i xs)) + 1 ≤ length (told_of v xs)
+    next_fits =
+        let whole = ap length next_split ∙ length-append (told_of v (take i xs) ++ tell x ∷ []) (told_of v (drop (i + 1) xs)) in
+        let front = length-append (told_of v (take i xs)) (tell x ∷ []) in
+        omega (arith, whole, front)
+
 module _ {D : ℕ} where
+  abbrev label_node : CompactLabel D → ℕ
+  label_node l = l.node.0
+
+  abbrev spot_node : CompactSpot D → ℕ
+  spot_node s = s.node.0
+
+  abbrev spot_cost : CompactSpot D → List ℕ
+  spot_cost s = s.cost.0
+
   pub at_append : (v : ℕ) (ls ms : List (CompactLabel D)) → told_at v (ls ++ ms) ≡ told_at v ls ++ told_at v ms
-  at_append v ls ms =
-      ap (map (entry_of {D = D})) (filter-append (λ (l : CompactLabel D). nat_eq l.node.0 v) ls ms)
-      ∙ map-append (entry_of {D = D}) (filter (λ (l : CompactLabel D). nat_eq l.node.0 v) ls) (filter (λ (l : CompactLabel D). nat_eq l.node.0 v) ms)
-
-  at_one : (v : ℕ) (l : CompactLabel D) → l.node.0 ≡ v → told_at v (l ∷ []) ≡ entry_of l ∷ []
-  at_one v l same = ap (λ b. map (entry_of {D = D}) (cond b (l ∷ []) [])) (same_test l.node.0 v same)
-
-  at_none : (v : ℕ) (l : CompactLabel D) → l.node.0 ≢ v → told_at v (l ∷ []) ≡ []
-  at_none v l other = ap (λ b. map (entry_of {D = D}) (cond b (l ∷ []) [])) (other_test l.node.0 v other)
+  at_append = of_append label_node (entry_of {D = D})
 
   pub at_push : (v : ℕ) (ls : List (CompactLabel D)) (l : CompactLabel D) → l.node.0 ≡ v → told_at v (ls ++ l ∷ []) ≡ told_at v ls ++ entry_of l ∷ []
-  at_push v ls l same = at_append v ls (l ∷ []) ∙ ap (λ es. told_at v ls ++ es) (at_one v l same)
+  at_push = of_push label_node (entry_of {D = D})
 
   pub at_push_other : (v : ℕ) (ls : List (CompactLabel D)) (l : CompactLabel D) → l.node.0 ≢ v → told_at v (ls ++ l ∷ []) ≡ told_at v ls
-  at_push_other v ls l other = at_append v ls (l ∷ []) ∙ ap (λ es. told_at v ls ++ es) (at_none v l other) ∙ append-nil (told_at v ls)
+  at_push_other = of_push_other label_node (entry_of {D = D})
 
   -- what a label of the node tells
   pub of_at : (v : ℕ) (ls : List (CompactLabel D)) (e : Entry) → Contains (told_at v ls) e
@@ -74,128 +131,168 @@ module _ {D : ℕ} where
         | inr fails ↦ rw fails (omega arith)
       ]
 
-  -- a list in two parts
-  split : (v i : ℕ) (ls : List (CompactLabel D)) → told_at v ls ≡ told_at v (take i ls) ++ told_at v (drop i ls)
-  split v i ls = ap (told_at v) (sym (take-append-drop i ls)) ∙ at_append v (take i ls) (drop i ls)
-
-  at_take : (v i : ℕ) (ls : List (CompactLabel D)) (e : Entry) → Contains (told_at v (take i ls)) e → Contains (told_at v ls) e
-  at_take v i ls e there = subst (λ l. Contains l e) (sym (split v i ls)) ((in_append (told_at v (take i ls)) (told_at v (drop i ls)) e).1 (inl there))
-
-  -- the next label, among those of its node
-  module _ (v i : ℕ) (ls : List (CompactLabel D)) (l : CompactLabel D) (at : l.node.0 ≡ v) (more : take (i + 1) ls ≡ take i ls ++ l ∷ []) where
-    next_more : told_at v (take (i + 1) ls) ≡ told_at v (take i ls) ++ entry_of l ∷ []
-    next_more = ap (told_at v) more ∙ at_push v (take i ls) l at
-
-    next_split : told_at v ls ≡ (told_at v (take i ls) ++ entry_of l ∷ []) ++ told_at v (drop (i + 1) ls)
-    next_split = split v (i + 1) ls ∙ ap (λ es. es ++ told_at v (drop (i + 1) ls)) next_more
-
-    next_in : Contains (told_at v ls) (entry_of l)
-    next_in = at_take v (i + 1) ls (entry_of l) (subst (λ es. Contains es (entry_of l)) (sym next_more)
-        ((in_append (told_at v (take i ls)) (entry_of l ∷ []) (entry_of l)).1 (inr (in_first (entry_of l) []))))
-
-    next_apart : AllPairs ◌≢◌ (told_at v ls) → (x : Entry) → Contains (told_at v (take i ls)) x → x ≢ entry_of l
-    next_apart pairs x there =
-        let whole = subst (AllPairs ◌≢◌) next_split pairs in
-        let front = pairs_front ◌≢◌ (told_at v (take i ls) ++ entry_of l ∷ []) (told_at v (drop (i + 1) ls)) whole in
-        pairs_across ◌≢◌ (told_at v (take i ls)) (entry_of l ∷ []) front x (entry_of l) there (in_first (entry_of l) [])
-
-    next_fits : length (told_at v (take i ls)) + 1 ≤ length (told_at v ls)
-    next_fits =
-        let whole = ap length next_split ∙ length-append (told_at v (take i ls) ++ entry_of l ∷ []) (told_at v (drop (i + 1) ls)) in
-        let front = length-append (told_at v (take i ls)) (entry_of l ∷ []) in
-        omega (arith, whole, front)
-
-    next_length : length (told_at v (take (i + 1) ls)) ≡ length (told_at v (take i ls)) + 1
-    next_length = ap length next_more ∙ length-append (told_at v (take i ls)) (entry_of l ∷ [])
-
 -- the next element, of a list that was read at another name
 pub next_taken : {X : Type 0} (items list : List X) (i : ℕ) (x : X) → items ≡ list → i < length items → x ≡ get_or items i x
     → take (i + 1) list ≡ take i list ++ x ∷ []
 next_taken {X} items list i x same within read =
     subst (λ (l : List X). take (i + 1) l ≡ take i l ++ x ∷ []) same (take_more items i x within ∙ ap (λ (y : X). take i items ++ y ∷ []) (sym read))
 
--- ---- the first i added labels have come
+-- ---- the first i removed spots have left
 
-pub record IsEntering {D : ℕ} (before : Fronts) (d : Deltas D) (i : ℕ) (now : Fronts) : Type 0 where
+pub record IsDiscarding {D : ℕ} (before : Fronts) (d : Deltas D) (i : ℕ) (now : Fronts) : Type 0 where
   pub nodes : now.nodes ≡ before.nodes
-  pub merged : (v : ℕ) → IsMerged (front_at before v) (told_at v (take i d.added)) (front_at now v)
+  pub fronts : (v : ℕ) → HasPut (front_at before v) (costs_told_at v (take i d.removed)) [] (front_at now v)
+  pub room : (v : ℕ) → length (told_at v d.added) ≤ spare_at now v
+
+-- all removed spots have left, and the first i added labels have come
+pub record IsPutting {D : ℕ} (before : Fronts) (d : Deltas D) (i : ℕ) (now : Fronts) : Type 0 where
+  pub nodes : now.nodes ≡ before.nodes
+  pub fronts : (v : ℕ) → HasPut (front_at before v) (costs_told_at v d.removed) (told_at v (take i d.added)) (front_at now v)
   pub room : (v : ℕ) → length (told_at v d.added) ≤ spare_at now v + length (told_at v (take i d.added))
 
--- all added labels and the first i lowered ones have come
+-- all removed spots have left, all added labels have come, and the first i lowered ones
 pub record IsLowering {D : ℕ} (before : Fronts) (d : Deltas D) (i : ℕ) (now : Fronts) : Type 0 where
   pub nodes : now.nodes ≡ before.nodes
   pub merged : (v : ℕ) → IsMerged (front_at before v) (told_at v d.added ++ told_at v (take i d.lowered)) (front_at now v)
 
-module _ {D : ℕ} (before : Fronts) (d : Deltas D) (apart : (v : ℕ) → AreApart (entries (front_at before v))) where
-  pub entering_none : HasRoom before d.added → IsEntering before d 0 before
-  entering_none room = record {
-    nodes = refl;
-    merged = λ v. merged_none (front_at before v) (apart v);
-    room = λ v. let fits = room v in omega (arith, fits);
-  }
+-- nothing has left or come
+put_none : (front : Front) → HasPut front [] [] front
+put_none front = record {
+  settled = λ x. (λ h. h, λ h. h);
+  unsettled = λ x. (λ h. inl (h, in_none x.cost), elim [ inl h ↦ h.0 | inr none ↦ absurd (in_none x none) ]);
+}
 
-  pub lowering_none : (i : ℕ) (now : Fronts) → take i d.added ≡ d.added → IsEntering before d i now → IsLowering before d 0 now
-  lowering_none i now all entering = record {
-    nodes = entering.nodes;
-    merged = λ v. subst (λ es. IsMerged (front_at before v) es (front_at now v))
-        (ap (told_at v) all ∙ sym (append-nil (told_at v d.added))) (entering.merged v);
+-- one more cost has left
+put_discards : (before now after : Front) (gone : List (List ℕ)) (c : List ℕ) → HasPut before gone [] now → Discards now c after
+    → HasPut before (gone ++ c ∷ []) [] after
+put_discards before now after gone c puts discards = record {
+  settled = λ x. (λ h. (puts.settled x).0 ((discards.settled x).0 h), λ h. (discards.settled x).1 ((puts.settled x).1 h));
+  unsettled = λ x. through (discards.unsettled x) (puts.unsettled x) (in_append gone (c ∷ []) x.cost)
+      (λ h. in_one c x.cost h, λ same. subst (Contains (c ∷ [])) (sym same) (in_first c [])) (in_none x);
+} where
+  through : {A M E B G N L O : Type 0} → (A ↔ (M × (¬ E))) → (M ↔ ((B × (¬ G)) ⊎ N)) → (L ↔ (G ⊎ O)) → (O ↔ E) → (¬ N) → (A ↔ ((B × (¬ L)) ⊎ N))
+  through a m l o none = grind arith
+
+module _ {D : ℕ} (before : Fronts) (d : Deltas D) (apart : (v : ℕ) → AreApart (entries (front_at before v))) where
+  pub discarding_none : HasRoom before d.added → IsDiscarding before d 0 before
+  discarding_none room = record { nodes = refl; fronts = λ v. put_none (front_at before v); room = room }
+
+  pub putting_none : (i : ℕ) (now : Fronts) → take i d.removed ≡ d.removed → IsDiscarding before d i now → IsPutting before d 0 now
+  putting_none i now all discarding = record {
+    nodes = discarding.nodes;
+    fronts = λ v. subst (λ (ss : List (CompactSpot D)). HasPut (front_at before v) (costs_told_at v ss) [] (front_at now v)) all (discarding.fronts v);
+    room = λ v. let room = discarding.room v in omega (arith, room);
   }
 
   module _ (candidates : List (CompactLabel D)) (are : AreDeltas before candidates d) where
+    -- a candidate spares the settled entries of its node
+    told_spares : (v : ℕ) (x : Entry) → Contains (told_at v candidates) x → SparesSettled (front_at before v) x.cost
+    told_spares v x there =
+        let (m, m_in, m_at, is) = of_at v candidates x there in
+        let spares = each_in (λ (k : CompactLabel D). SparesSettled (front_at before k.node.0) k.cost.0) candidates are.spares m m_in in
+        subst (λ u. SparesSettled (front_at before u) x.cost) m_at (subst (λ (y : Entry). SparesSettled (front_at before m.node.0) y.cost) (sym is) spares)
+
+    pub lowering_none : (i : ℕ) (now : Fronts) → take i d.added ≡ d.added → IsPutting before d i now → IsLowering before d 0 now
+    lowering_none i now all putting = record {
+      nodes = putting.nodes;
+      merged = λ v. subst (λ es. IsMerged (front_at before v) es (front_at now v)) (sym (append-nil (told_at v d.added)))
+          (put_all (front_at before v) (told_at v candidates) (delta_at v d) (are.exact v) (apart v) (told_spares v) (told_at v d.added) (front_at now v)
+          (λ x there. there) (subst (λ (ls : List (CompactLabel D)). HasPut (front_at before v) (costs_told_at v d.removed) (told_at v ls)
+          (front_at now v)) all (putting.fronts v)) (λ x there. there));
+    }
+
     pub lowering_all : (i : ℕ) (now : Fronts) → take i d.lowered ≡ d.lowered → IsLowering before d i now → MergesAll before candidates now
     lowering_all i now all lowering = record {
       merged = λ v. merged_by_delta (front_at before v) (told_at v candidates) (delta_at v d) (are.exact v) (apart v) (front_at now v)
           (subst (λ ls. IsMerged (front_at before v) (told_at v d.added ++ told_at v ls) (front_at now v)) all (lowering.merged v));
     }
 
+    -- the next removed spot
+    module _ (i : ℕ) (now : Fronts) (discarding : IsDiscarding before d i now) (s : CompactSpot D) (more : take (i + 1) d.removed ≡ take i d.removed ++
+        s ∷ []) where
+      gone_next : costs_told_at s.node.0 (take (i + 1) d.removed) ≡ costs_told_at s.node.0 (take i d.removed) ++ s.cost.0 ∷ []
+      gone_next = next_more spot_node spot_cost s.node.0 i d.removed s refl more
+
+      pub discard_has : HasCost (front_at now s.node.0).unsettled s.cost.0
+      discard_has =
+          let v = s.node.0 in
+          let has = removed_unsettled (front_at before v) (told_at v candidates) (delta_at v d) (are.exact v) (apart v) (told_spares v) s.cost.0
+          (next_in spot_node spot_cost v i d.removed s refl more) in
+          record {
+            arc = has.arc;
+            contains = ((discarding.fronts v).unsettled (record { cost = s.cost.0; arc = has.arc })).1 (inl (
+              has.contains,
+              λ there. next_apart spot_node spot_cost v i d.removed s refl more (are.exact v).removed.once s.cost.0 there refl,
+            ));
+          }
+
+      pub discarding_more : (after : Fronts) → SameElsewhere s.node.0 now after → ((v : ℕ) → spare_at now v ≤ spare_at after v)
+          → Discards (front_at now s.node.0) s.cost.0 (front_at after s.node.0) → IsDiscarding before d (i + 1) after
+      discarding_more after elsewhere room discards = record {
+        nodes = elsewhere.nodes ∙ discarding.nodes;
+        fronts = λ v. elim (cases_number v s.node.0) [
+          | inl same ↦ subst (λ u. HasPut (front_at before u) (costs_told_at u (take (i + 1) d.removed)) [] (front_at after u)) (sym same)
+              (subst (λ cs. HasPut (front_at before s.node.0) cs [] (front_at after s.node.0)) (sym gone_next)
+              (put_discards (front_at before s.node.0) (front_at now s.node.0) (front_at after s.node.0) (costs_told_at s.node.0 (take i d.removed)) s.cost.0
+              (discarding.fronts s.node.0) discards))
+          | inr other ↦ subst (λ (f : Front). HasPut (front_at before v) (costs_told_at v (take (i + 1) d.removed)) [] f) (sym (elsewhere.others v other))
+              (subst (λ cs. HasPut (front_at before v) cs [] (front_at now v))
+              (sym (ap (costs_told_at v) more ∙ of_push_other spot_node spot_cost v (take i d.removed) s (λ e. other (sym e)))) (discarding.fronts v))
+        ];
+        room = λ v. let old = discarding.room v in let grown = room v in omega (arith, old, grown);
+      }
+
     -- the next added label
-    module _ (i : ℕ) (now : Fronts) (entering : IsEntering before d i now) (l : CompactLabel D) (more : take (i + 1) d.added ≡ take i d.added ++ l ∷ []) where
-      arrived : (x : Entry) → Contains (told_at l.node.0 (take i d.added)) x → Contains (told_at l.node.0 d.added ++ told_at l.node.0 d.lowered) x
-      arrived x there = (in_append (told_at l.node.0 d.added) (told_at l.node.0 d.lowered) x).1 (inl (at_take l.node.0 i d.added x there))
+    module _ (i : ℕ) (now : Fronts) (putting : IsPutting before d i now) (l : CompactLabel D) (more : take (i + 1) d.added ≡ take i d.added ++ l ∷ []) where
+      came_before : (x : Entry) → Contains (told_at l.node.0 (take i d.added)) x → Contains (told_at l.node.0 d.added) x
+      came_before = of_take label_node (entry_of {D = D}) l.node.0 i d.added
 
       here : Contains (told_at l.node.0 d.added) (entry_of l)
-      here = next_in l.node.0 i d.added l refl more
+      here = next_in label_node (entry_of {D = D}) l.node.0 i d.added l refl more
 
-      pub enter_room : 1 ≤ spare_at now l.node.0
-      enter_room = let fits = next_fits l.node.0 i d.added l refl more in let room = entering.room l.node.0 in omega (arith, fits, room)
+      pub put_room : 1 ≤ spare_at now l.node.0
+      put_room =
+          let fits = next_fits label_node (entry_of {D = D}) l.node.0 i d.added l refl more in
+          let room = putting.room l.node.0 in omega (arith, fits, room)
 
-      pub enter_new : ¬ IsCovered (entries (front_at now l.node.0)) l.cost.0
-      enter_new = step_uncovered (front_at before l.node.0) (told_at l.node.0 candidates) (delta_at l.node.0 d) (are.exact l.node.0) (apart l.node.0)
-          (told_at l.node.0 (take i d.added)) (front_at now l.node.0) arrived (entering.merged l.node.0) (entry_of l) here
-          (next_apart l.node.0 i d.added l refl more (are.exact l.node.0).added.once)
-
-      pub enter_spares : SparesSettled (front_at now l.node.0) l.cost.0
-      enter_spares =
+      pub put_new : ¬ IsCovered (entries (front_at now l.node.0)) l.cost.0
+      put_new =
           let v = l.node.0 in
-          let there = (in_append (told_at v d.added) (told_at v d.lowered) (entry_of l)).1 (inl here) in
-          let (m, m_in, m_at, is) = of_at v candidates (entry_of l)
-          (brought_candidate (front_at before v) (told_at v candidates) (delta_at v d) (are.exact v) (apart v) (entry_of l) there) in
-          let spares = each_in (λ (k : CompactLabel D). SparesSettled (front_at before k.node.0) k.cost.0) candidates are.spares m m_in in
-          step_spares (front_at before v) (told_at v candidates) (delta_at v d) (are.exact v) (apart v) (told_at v (take i d.added)) (front_at now v) arrived
-          (entering.merged v) (entry_of l) there
-          (subst (λ u. SparesSettled (front_at before u) l.cost.0) m_at (subst (λ (x : Entry). SparesSettled (front_at before m.node.0) x.cost) (sym
-          is) spares))
+          put_uncovered (front_at before v) (told_at v candidates) (delta_at v d) (are.exact v) (apart v) (told_spares v) (told_at v (take i d.added))
+          (front_at now v) came_before (putting.fronts v) (entry_of l) here
+          (next_apart label_node (entry_of {D = D}) v i d.added l refl more (are.exact v).added.once)
 
-      pub entering_more : (after : Fronts) → SameElsewhere l.node.0 now after → ((v : ℕ) → v ≢ l.node.0 → spare_at after v ≡ spare_at now v)
+      pub put_spares_all : All (λ (e : Entry). ¬ Dominates l.cost.0 e.cost) (entries (front_at now l.node.0))
+      put_spares_all =
+          let v = l.node.0 in
+          put_spares (front_at before v) (told_at v candidates) (delta_at v d) (are.exact v) (apart v) (told_spares v) (told_at v (take i d.added))
+          (front_at now v) came_before (putting.fronts v) (entry_of l) here
+
+      pub putting_more : (after : Fronts) → SameElsewhere l.node.0 now after → ((v : ℕ) → v ≢ l.node.0 → spare_at after v ≡ spare_at now v)
           → Enters (front_at now l.node.0) (entry_of l) (front_at after l.node.0) → spare_at now l.node.0 ≤ spare_at after l.node.0 + 1
-          → IsEntering before d (i + 1) after
-      entering_more after elsewhere others enters room_left = record {
-        nodes = elsewhere.nodes ∙ entering.nodes;
-        merged = λ v. elim (cases_number v l.node.0) [
-          | inl same ↦ subst (λ u. IsMerged (front_at before u) (told_at u (take (i + 1) d.added)) (front_at after u)) (sym same)
-              (subst (λ es. IsMerged (front_at before l.node.0) es (front_at after l.node.0)) (sym (next_more l.node.0 i d.added l refl more))
-              (entered_then (front_at before l.node.0) (told_at l.node.0 candidates) (delta_at l.node.0 d) (are.exact l.node.0) (apart l.node.0)
-              (told_at l.node.0 (take i d.added)) (front_at now l.node.0) arrived (entering.merged l.node.0) (entry_of l) (front_at after l.node.0)
-              enter_new enter_spares enters))
-          | inr other ↦ subst (λ (f : Front). IsMerged (front_at before v) (told_at v (take (i + 1) d.added)) f) (sym (elsewhere.others v other))
-              (subst (λ es. IsMerged (front_at before v) es (front_at now v)) (sym (kept v other)) (entering.merged v))
+          → IsPutting before d (i + 1) after
+      putting_more after elsewhere others enters room_left = record {
+        nodes = elsewhere.nodes ∙ putting.nodes;
+        fronts = λ v. elim (cases_number v l.node.0) [
+          | inl same ↦ subst (λ u. HasPut (front_at before u) (costs_told_at u d.removed) (told_at u (take (i + 1) d.added)) (front_at after u)) (sym same)
+              (subst (λ es. HasPut (front_at before l.node.0) (costs_told_at l.node.0 d.removed) es (front_at after l.node.0)) (sym grown)
+              (put_then (front_at before l.node.0) (told_at l.node.0 candidates) (delta_at l.node.0 d) (are.exact l.node.0) (apart l.node.0)
+              (told_spares l.node.0) (told_at l.node.0 (take i d.added)) (front_at now l.node.0) came_before (putting.fronts l.node.0) (entry_of l)
+              (front_at after l.node.0) here enters))
+          | inr other ↦ subst (λ (f : Front). HasPut (front_at before v) (costs_told_at v d.removed) (told_at v (take (i + 1) d.added)) f)
+              (sym (elsewhere.others v other))
+              (subst (λ es. HasPut (front_at before v) (costs_told_at v d.removed) es (front_at now v)) (sym (kept v other)) (putting.fronts v))
         ];
-        room = λ v. let room = entering.room v in elim (cases_number v l.node.0) [
+        room = λ v. let room = putting.room v in elim (cases_number v l.node.0) [
           | inl same ↦ subst (λ u. length (told_at u d.added) ≤ spare_at after u + length (told_at u (take (i + 1) d.added))) (sym same)
-              (let old = entering.room l.node.0 in omega (arith, old, room_left, next_length l.node.0 i d.added l refl more))
+              (let old = putting.room l.node.0 in
+              omega (arith, old, room_left, next_length label_node (entry_of {D = D}) l.node.0 i d.added l refl more))
           | inr other ↦ omega (arith, room, others v other, ap length (kept v other))
         ];
       } where
+        grown : told_at l.node.0 (take (i + 1) d.added) ≡ told_at l.node.0 (take i d.added) ++ entry_of l ∷ []
+        grown = next_more label_node (entry_of {D = D}) l.node.0 i d.added l refl more
+
         kept : (v : ℕ) → v ≢ l.node.0 → told_at v (take (i + 1) d.added) ≡ told_at v (take i d.added)
         kept v other = ap (told_at v) more ∙ at_push_other v (take i d.added) l (λ e. other (sym e))
 
@@ -206,11 +303,11 @@ module _ {D : ℕ} (before : Fronts) (d : Deltas D) (apart : (v : ℕ) → AreAp
       came v x there = (in_append (told_at v d.added) (told_at v d.lowered) x).1
           (elim ((in_append (told_at v d.added) (told_at v (take i d.lowered)) x).0 there) [
             | inl added ↦ inl added
-            | inr lowered ↦ inr (at_take v i d.lowered x lowered)
+            | inr lowered ↦ inr (of_take label_node (entry_of {D = D}) v i d.lowered x lowered)
           ])
 
       lowered_here : Contains (told_at l.node.0 d.lowered) (entry_of l)
-      lowered_here = next_in l.node.0 i d.lowered l refl more
+      lowered_here = next_in label_node (entry_of {D = D}) l.node.0 i d.lowered l refl more
 
       pub relabel_has : HasCost (entries (front_at now l.node.0)) l.cost.0
       relabel_has =
@@ -237,7 +334,7 @@ module _ {D : ℕ} (before : Fronts) (d : Deltas D) (apart : (v : ℕ) → AreAp
       } where
         grown : told_at l.node.0 d.added ++ told_at l.node.0 (take (i + 1) d.lowered)
             ≡ (told_at l.node.0 d.added ++ told_at l.node.0 (take i d.lowered)) ++ entry_of l ∷ []
-        grown = ap (λ es. told_at l.node.0 d.added ++ es) (next_more l.node.0 i d.lowered l refl more)
+        grown = ap (λ es. told_at l.node.0 d.added ++ es) (next_more label_node (entry_of {D = D}) l.node.0 i d.lowered l refl more)
             ∙ sym (append_assoc (told_at l.node.0 d.added) (told_at l.node.0 (take i d.lowered)) (entry_of l ∷ []))
 
 -- ---- the room for the first i added labels is made; so many of them are of the last one's node
@@ -286,13 +383,13 @@ module _ {D : ℕ} (before : Fronts) (added : List (CompactLabel D)) where
         → next ≡ length (told_at l.node.0 (take (i + 1) added))
     counted_next next (inl same) =
         let old = subst (λ v. count ≡ length (told_at v (take i added))) (sym same.1) reserving.counted in
-        omega (arith, same.0, old, next_length l.node.0 i added l refl more)
+        omega (arith, same.0, old, next_length label_node (entry_of {D = D}) l.node.0 i added l refl more)
     counted_next next (inr other) =
         let none = empty_if_none (told_at l.node.0 (take i added)) (λ e there.
         let (m, m_in, m_at, is) = of_at l.node.0 (take i added) e there in
         let low = each_in (λ (k : CompactLabel D). k.node.0 ≤ last) (take i added) reserving.earlier m m_in in
         other.1 (let high = next_later in omega (arith, low, high, m_at))) in
-        omega (arith, other.0, ap length none, next_length l.node.0 i added l refl more)
+        omega (arith, other.0, ap length none, next_length label_node (entry_of {D = D}) l.node.0 i added l refl more)
 
     pub reserving_more : (next : ℕ) (after : Fronts) → (next ≡ count + 1) × (l.node.0 ≡ last) ⊎ ((next ≡ 1) × (l.node.0 ≢ last)) → SameFronts now after
         → next ≤ spare_at after l.node.0 → ((v : ℕ) → v ≢ l.node.0 → spare_at now v ≤ spare_at after v)

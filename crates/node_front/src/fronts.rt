@@ -1,7 +1,7 @@
 ghost use Rattle.std.specs.Prelude.{◌≡◌, ◌≢◌, ◌↔◌, ℕ, ◌≤◌, ◌+◌, ◌<◌, List, [], ◌∷◌, map, length, slice_index, IsTrue, IfOk, OnOk, OnErr, All, AllPairs, Contains, Some};
-ghost use Rattle.cost_vector.specs.Costs.{max_criteria, min_criteria};
+ghost use Rattle.cost_vector.specs.Costs.{Dominates, max_criteria, min_criteria};
 ghost use Rattle.node_front.specs.Deltas.{AppendsDelta, AreDeltas, AreSomeDeltas, FitAnyOrder, GrowNodeByNode, HasRoom, MergesAll, no_deltas};
-ghost use Rattle.pareto_front.specs.Calls.{Enters, GrowsBy, ListsSettled, Relabels, Settles, entry_of};
+ghost use Rattle.pareto_front.specs.Calls.{Discards, Enters, GrowsBy, ListsSettled, Relabels, Settles, entry_of};
 ghost use Rattle.pareto_front.specs.Fronts.{HasCost, IsCovered, IsFront, SparesSettled, empty_front, entries};
 ghost use Rattle.pareto_front.specs.Merging.{IsMerged, IsAdded, IsRemoved};
 ghost use Rattle.node_front.specs.FoundFronts.{counted_labels, settled_from};
@@ -177,19 +177,35 @@ impl<const D: usize, F: ParetoFront<D> + Drop> Fronts<D, F> {
             → AreDeltas self.old candidates deltas.now → MergesAll self.old candidates self.new }
     {
         let _kept = &self.places;
+        for spot in deltas.removed() {
+            self.discard(spot);
+        }
         for label in deltas.added() {
-            self.enter(label);
+            self.put(label);
         }
         for label in deltas.lowered() {
             self.relabel(label);
         }
     }
 
-    /// Puts in a new entry.
-    fn enter(&mut self, label: &CompactLabel<D>)
+    /// Takes out the entry of this spot, which isn't settled.
+    fn discard(&mut self, spot: &CompactSpot<D>)
+        requires { HasCost (front_at self.old spot.now.node.0).unsettled spot.now.cost.0 }
+        ensures elsewhere { SameElsewhere spot.now.node.0 self.old self.new }
+        ensures discarded { Discards (front_at self.old spot.now.node.0) spot.now.cost.0
+            (front_at self.new spot.now.node.0) }
+        ensures room { (v : ℕ) → spare_at self.old v ≤ spare_at self.new v }
+    {
+        let place = self.places[spot.node.0 as usize] as usize;
+        self.fronts[place].discard(&spot.cost);
+    }
+
+    /// Puts in a new entry, which dominates none.
+    fn put(&mut self, label: &CompactLabel<D>)
         requires room { 1 ≤ spare_at self.old label.now.node.0 }
         requires new { ¬ IsCovered (entries (front_at self.old label.now.node.0)) label.now.cost.0 }
-        requires spares { SparesSettled (front_at self.old label.now.node.0) label.now.cost.0 }
+        requires spares { All (λ e. ¬ Dominates label.now.cost.0 e.cost)
+            (entries (front_at self.old label.now.node.0)) }
         ensures elsewhere { SameElsewhere label.now.node.0 self.old self.new }
         ensures others { (v : ℕ) → v ≢ label.now.node.0
             → spare_at self.new v ≡ spare_at self.old v }
@@ -199,7 +215,7 @@ impl<const D: usize, F: ParetoFront<D> + Drop> Fronts<D, F> {
             ≤ spare_at self.new label.now.node.0 + 1 }
     {
         let place = self.places[label.node.0 as usize] as usize;
-        self.fronts[place].enter(&label.cost, label.arc);
+        self.fronts[place].put(&label.cost, label.arc);
     }
 
     /// Gives the entry of the label's cost its arc.

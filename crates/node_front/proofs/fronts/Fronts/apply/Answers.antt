@@ -1,22 +1,59 @@
 use Rattle.std.proofs.Common.{◌≤◌, ℕ, List, map, length, subst, arith}
 use Rattle.std.proofs.lemmas.List.{take_all}
 use Rattle.compact_labels.specs.declared.label.CompactLabel.{CompactLabel}
+use Rattle.compact_labels.specs.declared.label.CompactSpot.{CompactSpot}
 use Rattle.pareto_front.specs.Fronts.{entries}
 use Rattle.node_front.specs.Apart.{AreApart}
 use Rattle.node_front.specs.NodeFronts.{Fronts, front_at}
 use Rattle.node_front.proofs.PlacedLemmas.{front_apart}
-use Rattle.node_front.proofs.RoundLemmas.{next_taken, entering_none, enter_room, enter_new, enter_spares, entering_more}
+use Rattle.node_front.proofs.RoundLemmas.{next_taken, discarding_none, discard_has, discarding_more}
+use Rattle.node_front.proofs.RoundLemmas.{putting_none, put_room, put_new, put_spares_all, putting_more}
 use Rattle.node_front.proofs.RoundLemmas.{lowering_none, relabel_has, lowering_more, lowering_all}
 use Rattle.node_front.proofs.fronts.Fronts.apply.Goals as goal
 
-pub loop-label-init : goal.loop-label-init
-loop-label-init g c =
+pub loop-spot-init : goal.loop-spot-init
+loop-spot-init g c =
     let apart = λ (v : ℕ). subst (λ (f : Fronts). AreApart (entries (front_at f v))) c.self.view_is
     (front_apart c.self.inside.places.items (map g.F.ParetoFront.state c.self.inside.fronts.items) c.self.invariant.placed v) in
-    entering_none c.args.self.now c.args.deltas.now apart c.requires.room
+    discarding_none c.args.self.now c.args.deltas.now apart c.requires.room
 
-pub enter-requires : goal.enter-requires
-enter-requires g c =
+pub discard-requires : goal.discard-requires
+discard-requires g c =
+    let d = c.args.deltas.now in
+    let apart = λ (v : ℕ). subst (λ (f : Fronts). AreApart (entries (front_at f v))) c.self.view_is
+    (front_apart c.self.inside.places.items (map g.F.ParetoFront.state c.self.inside.fronts.items) c.self.invariant.placed v) in
+    let i = c.loop-spot.spot-index in
+    let s = c.spot-item.result in
+    let more = next_taken c.removed-spot-items.result.now d.removed i s c.removed-spot-items.ensures c.loop-spot-test.true c.spot-item.is in (
+      omega arith,
+      (
+        omega arith,
+        discard_has c.args.self.now d apart c.requires.deltas.candidates c.requires.deltas.deltas i c.loop-spot.self c.loop-spot.invariant s more,
+      ),
+    )
+
+pub loop-spot-preserved : goal.loop-spot-preserved
+loop-spot-preserved g c =
+    let d = c.args.deltas.now in
+    let apart = λ (v : ℕ). subst (λ (f : Fronts). AreApart (entries (front_at f v))) c.self.view_is
+    (front_apart c.self.inside.places.items (map g.F.ParetoFront.state c.self.inside.fronts.items) c.self.invariant.placed v) in
+    let i = c.loop-spot.spot-index in
+    let s = c.spot-item.result in
+    let more = next_taken c.removed-spot-items.result.now d.removed i s c.removed-spot-items.ensures c.loop-spot-test.true c.spot-item.is in
+    discarding_more c.args.self.now d apart c.requires.deltas.candidates c.requires.deltas.deltas i c.loop-spot.self c.loop-spot.invariant s more
+    c.discard.new.self c.discard.ensures.elsewhere c.discard.ensures.room c.discard.ensures.discarded
+
+pub loop-label-init : goal.loop-label-init
+loop-label-init g c =
+    let d = c.args.deltas.now in
+    let apart = λ (v : ℕ). subst (λ (f : Fronts). AreApart (entries (front_at f v))) c.self.view_is
+    (front_apart c.self.inside.places.items (map g.F.ParetoFront.state c.self.inside.fronts.items) c.self.invariant.placed v) in
+    let past : length d.removed ≤ c.loop-spot.spot-index =
+    subst (λ (ss : List (CompactSpot g.row.D)). length ss ≤ c.loop-spot.spot-index) c.removed-spot-items.ensures c.loop-spot-test.false in
+    putting_none c.args.self.now d apart c.loop-spot.spot-index c.loop-spot.self (take_all c.loop-spot.spot-index d.removed past) c.loop-spot.invariant
+
+pub put-requires : goal.put-requires
+put-requires g c =
     let before = c.args.self.now in
     let d = c.args.deltas.now in
     let apart = λ (v : ℕ). subst (λ (f : Fronts). AreApart (entries (front_at f v))) c.self.view_is
@@ -30,10 +67,10 @@ enter-requires g c =
       (
         omega arith,
         (
-          enter_room before d apart some.candidates some.deltas i now c.loop-label.invariant l more,
+          put_room before d apart some.candidates some.deltas i now c.loop-label.invariant l more,
           (
-            enter_new before d apart some.candidates some.deltas i now c.loop-label.invariant l more,
-            enter_spares before d apart some.candidates some.deltas i now c.loop-label.invariant l more,
+            put_new before d apart some.candidates some.deltas i now c.loop-label.invariant l more,
+            put_spares_all before d apart some.candidates some.deltas i now c.loop-label.invariant l more,
           ),
         ),
       ),
@@ -48,8 +85,8 @@ loop-label-preserved g c =
     let l = c.label-item.result in
     let more = next_taken c.added-label-items.result.now d.added c.loop-label.label-index l c.added-label-items.ensures c.loop-label-test.true
     c.label-item.is in
-    entering_more before d apart c.requires.deltas.candidates c.requires.deltas.deltas c.loop-label.label-index c.loop-label.self c.loop-label.invariant l more
-    c.enter.new.self c.enter.ensures.elsewhere c.enter.ensures.others c.enter.ensures.entered c.enter.ensures.room_left
+    putting_more before d apart c.requires.deltas.candidates c.requires.deltas.deltas c.loop-label.label-index c.loop-label.self c.loop-label.invariant l more
+    c.put.new.self c.put.ensures.elsewhere c.put.ensures.others c.put.ensures.entered c.put.ensures.room_left
 
 pub loop-label-2-init : goal.loop-label-2-init
 loop-label-2-init g c =
@@ -58,7 +95,8 @@ loop-label-2-init g c =
     (front_apart c.self.inside.places.items (map g.F.ParetoFront.state c.self.inside.fronts.items) c.self.invariant.placed v) in
     let past : length d.added ≤ c.loop-label.label-index =
     subst (λ (ls : List (CompactLabel g.row.D)). length ls ≤ c.loop-label.label-index) c.added-label-items.ensures c.loop-label-test.false in
-    lowering_none c.args.self.now d apart c.loop-label.label-index c.loop-label.self (take_all c.loop-label.label-index d.added past) c.loop-label.invariant
+    lowering_none c.args.self.now d apart c.requires.deltas.candidates c.requires.deltas.deltas c.loop-label.label-index c.loop-label.self
+    (take_all c.loop-label.label-index d.added past) c.loop-label.invariant
 
 pub relabel-requires : goal.relabel-requires
 relabel-requires g c =

@@ -6,8 +6,8 @@ use Rattle.std.specs.List.Sorted.{IsBinarySearchResult, IsNonDecreasingBy, IsPar
 use Rattle.std.specs.Ordering.{ordering_index, ordering_reverse}
 use Rattle.std.proofs.lemmas.Bool.{cases_eq, cases_lt}
 use Rattle.std.proofs.lemmas.List.{get_or-drop, get_or-set_other, get_or-set_same, get_or-take, length-set, map-append}
-use Rattle.std.proofs.lemmas.List.Edits.{get_or-remove_above, get_or-remove_below, length-remove}
 use Rattle.std.proofs.lemmas.List.Elements.{All-append, All-weaker, Contains-append_cases, Contains-append_right}
+use Rattle.std.proofs.lemmas.List.Quantifiers.{all_pairs_remove}
 use Rattle.cost_vector.specs.Costs.{AtMost, Dominates, LexLess, lex_cmp}
 use Rattle.cost_vector.proofs.Vectors.{AtMost-refl, LexLess-irrefl, LexLess-trans, LexLess_from_AtMost, LexLess_from_Dominates, cases_LexLess, cases_same, same_from_lex_cmp}
 use Rattle.list_laws.proofs.Members.{all_from_in, cases_in, each_in, of_map}
@@ -73,6 +73,16 @@ module _ {D : ℕ} (list : List (FrontEntry D)) (c : List ℕ) where
         | inl front ↦ each_in (λ (y : FrontEntry D). ¬ AtMost y.cost.0 c) (take i list) none x front
         | inr back ↦ not_most x.cost.0 c (each_in (λ (y : FrontEntry D). LexLess c y.cost.0) (drop i list) gap.after x back)
       ])
+
+  -- where there is a gap no entry has the cost
+  pub gap_lacks : (i : ℕ) → IsGapOf list c i → ¬ HasCost (map told_entry list) c
+  gap_lacks i gap has =
+      let (y, y_in, is) = of_map told_entry list (record { cost = c; arc = has.arc }) has.contains in
+      let same : y.cost.0 ≡ c = ap (λ (e : Entry). e.cost) (sym is) in
+      elim (Contains-append_cases (take i list) (drop i list) y (subst (λ l. Contains l y) (sym (take-append-drop i list)) y_in)) [
+        | inl front ↦ LexLess-irrefl c (subst (λ z. LexLess z c) same (each_in (λ (e : FrontEntry D). LexLess e.cost.0 c) (take i list) gap.before y front))
+        | inr back ↦ LexLess-irrefl c (subst (LexLess c) same (each_in (λ (e : FrontEntry D). LexLess c e.cost.0) (drop i list) gap.after y back))
+      ]
 
   -- before a gap all costs are less, and behind it none is
   pub before_gap : (i : ℕ) → IsGapOf list c i → IsBeforeOf list c i
@@ -159,25 +169,7 @@ module _ {D : ℕ} (list : List (FrontEntry D)) (c : List ℕ) where
 module _ {D : ℕ} (list : List (FrontEntry D)) (up : AscendByCost list) (i : ℕ) (within : i < length list) where
   -- one entry less
   pub ascend_out : AscendByCost (remove list i)
-  ascend_out a b d before inside = elim (cases_lt a i) [
-    | inl a_less ↦ elim (cases_lt b i) [
-      | inl b_less ↦ less (below a a_less) (below b b_less) (up a b d before (omega (arith, b_less, within)))
-      | inr b_more ↦ less (below a a_less) (above b b_more) (up a (b + 1) d (omega (arith, before)) (omega (arith, inside, shorter)))
-    ]
-    | inr a_more ↦ less (above a a_more) (above b (omega (arith, a_more, before)))
-        (up (a + 1) (b + 1) d (omega (arith, before)) (omega (arith, inside, shorter)))
-  ] where
-    shorter : length (remove list i) + 1 ≡ length list
-    shorter = length-remove list i within
-
-    below : (k : ℕ) → k < i → get_or (remove list i) k d ≡ get_or list k d
-    below k k_less = get_or-remove_below list i d k k_less within
-
-    above : (k : ℕ) → i ≤ k → get_or (remove list i) k d ≡ get_or list (k + 1) d
-    above k k_more = get_or-remove_above list i d k k_more within
-
-    less : {x y v w : FrontEntry D} → x ≡ v → y ≡ w → LexLess v.cost.0 w.cost.0 → LexLess x.cost.0 y.cost.0
-    less x_is y_is h = rw (x_is, y_is) h
+  ascend_out = all_pairs_remove (λ (a b : FrontEntry D). LexLess a.cost.0 b.cost.0) list i within up
 
   -- an entry of the same cost
   pub ascend_set : (x : FrontEntry D) → ((d : FrontEntry D) → (get_or list i d).cost.0 ≡ x.cost.0) → AscendByCost (set list i x)

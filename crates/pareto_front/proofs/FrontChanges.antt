@@ -1,23 +1,23 @@
 -- What the calls of a front make of it.
-use Rattle.std.proofs.Common.{◌≡◌, ◌≢◌, ℕ, ◌<◌, ◌⊎◌, inl, inr, List, [], ◌∷◌, ◌++◌, length, get_or, set, sym, ap, subst, ◌∙◌, arith, append_assoc}
+use Rattle.std.proofs.Common.{◌≡◌, ◌≢◌, ◌↔◌, ℕ, ◌<◌, ◌⊎◌, inl, inr, List, [], ◌∷◌, ◌++◌, length, get_or, set, sym, ap, subst, ◌∙◌, arith, append_assoc}
 use Rattle.std.specs.Prelude.{All, AllPairs, Contains, IsPermutation}
 use Rattle.std.proofs.lemmas.Bool.{cases_eq}
 use Rattle.std.proofs.lemmas.List.{get_or_default, length-set, get_or-set_same, get_or-set_other, map-append}
-use Rattle.std.proofs.lemmas.List.Elements.{Contains-append_left, Contains-append_right, Contains-append_cases, Contains-push, Contains-get_or}
-use Rattle.std.proofs.lemmas.List.Sorted.{IsPermutation-append_right}
+use Rattle.std.proofs.lemmas.List.Elements.{All-tail, Contains-append_left, Contains-append_right, Contains-append_cases, Contains-push, Contains-get_or}
+use Rattle.std.proofs.lemmas.List.Sorted.{IsPermutation-append_comm, IsPermutation-append_left, IsPermutation-append_right}
 use Rattle.cost_vector.specs.Costs.{AtMost, Dominates}
 use Rattle.cost_vector.proofs.Vectors.{AtMost-refl, cases_same}
 use Rattle.list_laws.specs.Without.{IsWithout}
 use Rattle.list_laws.proofs.Members.{in_first, in_rest, cases_in, each_in, all_from_in, cases_push}
-use Rattle.list_laws.proofs.Pairs.{pairs_push}
+use Rattle.list_laws.proofs.Pairs.{pairs_push, pairs_rest}
 use Rattle.list_laws.proofs.OnceLaws.{pairs_append}
 use Rattle.list_laws.proofs.SetLaws.{same_by_permutation}
 use Rattle.pareto_front.specs.Fronts.{Entry, Front, HasCost, IsCovered, AreIncomparable, IsFront, SparesSettled}
-use Rattle.pareto_front.specs.Calls.{Enters, GetsArc, Relabels, Settles}
+use Rattle.pareto_front.specs.Calls.{Discards, Enters, GetsArc, Relabels, Settles}
 use Rattle.pareto_front.proofs.FrontLaws.{pairs_apart_places, pairs_before, pairs_behind, pairs_across, at_most_same, only_one}
 use Rattle.pareto_front.proofs.FrontLaws.{front_in_any_order, front_by_costs, costs, costs-set}
 
--- ---- a front of which an entry is settled
+-- ---- a front of which an entry is settled, or taken out
 
 -- the entry x is taken from the unsettled ones, of which rest is left
 module _ {d : ℕ} (settled unsettled rest : List Entry) (x : Entry) (front : IsFront d (record { settled = settled; unsettled = unsettled }))
@@ -29,24 +29,19 @@ module _ {d : ℕ} (settled unsettled rest : List Entry) (x : Entry) (front : Is
   pub settled_front : IsFront d (record { settled = settled ++ x ∷ []; unsettled = rest })
   settled_front = front_in_any_order front (record { settled = settled ++ x ∷ []; unsettled = rest }) moved
 
-  pub settles : (c : List ℕ) → x.cost ≡ c
-      → Settles (record { settled = settled; unsettled = unsettled }) c (record { settled = settled ++ x ∷ []; unsettled = rest })
-  settles c same = record {
-    settled = λ e. (
-      λ h. elim (cases_push settled x e h) [ inl old ↦ inl old | inr is ↦ inr (subst (λ z. Contains unsettled z × (z.cost ≡ c)) (sym is) (x_in, same)) ],
-      λ either. elim either [
-        | inl old ↦ Contains-append_left settled (x ∷ []) e old
-        | inr here ↦ subst (Contains (settled ++ x ∷ [])) (x_is e here.0 here.1) (Contains-push settled x)
-      ],
-    );
-    unsettled = λ e. (
-      λ h. ((same_by_permutation unsettled (x ∷ rest) out e).0 (in_rest x rest e h), λ e_is. other e h (e_is ∙ sym same)),
-      λ h. elim (cases_in x rest e ((same_by_permutation unsettled (x ∷ rest) out e).1 h.0)) [
-        | inl is ↦ absurd (h.1 (ap (λ (z : Entry). z.cost) is ∙ same))
-        | inr there ↦ there
-      ],
-    );
-  } where
+  -- the rest is a front too
+  pub discarded_front : IsFront d (record { settled = settled; unsettled = rest })
+  discarded_front =
+      let first = front_in_any_order settled_front (record { settled = x ∷ settled; unsettled = rest })
+      (IsPermutation-append_left rest (settled ++ x ∷ []) (x ∷ settled) (IsPermutation-append_comm settled (x ∷ []))) in
+      record {
+        two = front.two;
+        four = front.four;
+        components = All-tail (λ (e : Entry). length e.cost ≡ d) x (settled ++ rest) first.components;
+        incomparable = pairs_rest AreIncomparable x (settled ++ rest) first.incomparable;
+      }
+
+  module _ (c : List ℕ) (same : x.cost ≡ c) where
     x_in : Contains unsettled x
     x_in = (same_by_permutation unsettled (x ∷ rest) out x).0 (in_first x rest)
 
@@ -57,6 +52,33 @@ module _ {d : ℕ} (settled unsettled rest : List Entry) (x : Entry) (front : Is
     other : (e : Entry) → Contains rest e → e.cost ≢ x.cost
     other e h e_is = (pairs_across AreIncomparable (settled ++ x ∷ []) rest settled_front.incomparable x e (Contains-push settled x) h).other_way
         (at_most_same e x e_is)
+
+    -- the unsettled entries of other costs are left
+    others_left : (e : Entry) → Contains rest e ↔ (Contains unsettled e × (e.cost ≢ c))
+    others_left e = (
+      λ h. ((same_by_permutation unsettled (x ∷ rest) out e).0 (in_rest x rest e h), λ e_is. other e h (e_is ∙ sym same)),
+      λ h. elim (cases_in x rest e ((same_by_permutation unsettled (x ∷ rest) out e).1 h.0)) [
+        | inl is ↦ absurd (h.1 (ap (λ (z : Entry). z.cost) is ∙ same))
+        | inr there ↦ there
+      ],
+    )
+
+    -- where x is settled
+    pub settles : Settles (record { settled = settled; unsettled = unsettled }) c (record { settled = settled ++ x ∷ []; unsettled = rest })
+    settles = record {
+      settled = λ e. (
+        λ h. elim (cases_push settled x e h) [ inl old ↦ inl old | inr is ↦ inr (subst (λ z. Contains unsettled z × (z.cost ≡ c)) (sym is) (x_in, same)) ],
+        λ either. elim either [
+          | inl old ↦ Contains-append_left settled (x ∷ []) e old
+          | inr here ↦ subst (Contains (settled ++ x ∷ [])) (x_is e here.0 here.1) (Contains-push settled x)
+        ],
+      );
+      unsettled = others_left;
+    }
+
+    -- where x is taken out
+    pub discards : Discards (record { settled = settled; unsettled = unsettled }) c (record { settled = settled; unsettled = rest })
+    discards = record { settled = λ e. (λ h. h, λ h. h); unsettled = others_left }
 
 -- no unsettled entry has the cost
 pub settles_none : (f : Front) (c : List ℕ) → All (λ (e : Entry). ¬ AtMost e.cost c) f.unsettled → Settles f c f

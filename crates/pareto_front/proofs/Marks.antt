@@ -1,9 +1,10 @@
 -- Lists with marks: the marked elements, and the others.
-use Rattle.std.proofs.Common.{◌≡◌, ℕ, zero, suc, ◌+◌, ◌<◌, ◌≤◌, Bool, true, false, not, List, [], ◌∷◌, ◌++◌, length, map, take, drop, set, get_or, inl, inr, refl, sym, ap, subst, ◌∙◌, arith}
-use Rattle.std.specs.Prelude.{AllPairs, Contains}
+use Rattle.std.proofs.Common.{◌≡◌, ℕ, zero, suc, ◌+◌, ◌<◌, ◌≤◌, Bool, true, false, not, List, [], ◌∷◌, ◌++◌, length, map, take, drop, remove, set, get_or, inl, inr, refl, sym, ap, subst, ◌∙◌, arith}
+use Rattle.std.specs.Prelude.{AllPairs, Contains, IsPermutation}
 use Rattle.std.specs.List.{items_where_true}
 use Rattle.std.proofs.lemmas.Bool.{false≢true}
 use Rattle.std.proofs.lemmas.List.{append-nil, take_more, drop_more, take_all, length-set, length-take, take-set-le, get_or-set_same, drop-set-lt}
+use Rattle.std.proofs.lemmas.List.Sorted.{IsPermutation-cons, IsPermutation-middle, IsPermutation-refl, IsPermutation-trans}
 use Rattle.list_laws.proofs.Members.{in_none, in_rest, in_front, cases_in}
 use Rattle.list_laws.proofs.Pairs.{pairs_none, pairs_rest, pairs_cons, pair_with_first}
 
@@ -104,6 +105,32 @@ module _ {X : Type 0} where
   length-mark_more (true ∷ bs) (x ∷ xs) zero long within mark = absurd (false≢true (sym mark))
   length-mark_more (true ∷ bs) (x ∷ xs) (suc i) long within mark = omega (arith, length-mark_more bs xs i (omega arith) (omega arith) mark)
   length-mark_more (false ∷ bs) (x ∷ xs) (suc i) long within mark = length-mark_more bs xs i (omega arith) (omega arith) mark
+
+  -- an unmarked element is taken out, and its mark: the marked ones stay
+  pub marked_without : (bs : List Bool) (xs : List X) (i : ℕ) → length bs ≡ length xs → i < length xs → get_or bs i false ≡ false
+      → items_where_true (remove bs i) (remove xs i) ≡ items_where_true bs xs
+  marked_without bs [] i long within mark = absurd (omega arith)
+  marked_without [] (x ∷ xs) i long within mark = absurd (omega arith)
+  marked_without (false ∷ bs) (x ∷ xs) zero long within mark = refl
+  marked_without (true ∷ bs) (x ∷ xs) zero long within mark = absurd (false≢true (sym mark))
+  marked_without (true ∷ bs) (x ∷ xs) (suc i) long within mark = ap (λ zs. x ∷ zs) (marked_without bs xs i (omega arith) (omega arith) mark)
+  marked_without (false ∷ bs) (x ∷ xs) (suc i) long within mark = marked_without bs xs i (omega arith) (omega arith) mark
+
+  -- and of the others it alone is gone
+  pub unmarked_without : (bs : List Bool) (xs : List X) (i : ℕ) (x : X) → length bs ≡ length xs → i < length xs → get_or bs i false ≡ false
+      → get_or xs i x ≡ x → IsPermutation (items_where_true (map not bs) xs) (x ∷ items_where_true (map not (remove bs i)) (remove xs i))
+  unmarked_without bs [] i x long within mark is = absurd (omega arith)
+  unmarked_without [] (y ∷ xs) i x long within mark is = absurd (omega arith)
+  unmarked_without (false ∷ bs) (y ∷ xs) zero x long within mark is =
+      subst (λ z. IsPermutation (y ∷ items_where_true (map not bs) xs) (z ∷ items_where_true (map not bs) xs)) is
+      (IsPermutation-refl (y ∷ items_where_true (map not bs) xs))
+  unmarked_without (true ∷ bs) (y ∷ xs) zero x long within mark is = absurd (false≢true (sym mark))
+  unmarked_without (false ∷ bs) (y ∷ xs) (suc i) x long within mark is =
+      let left = items_where_true (map not (remove bs i)) (remove xs i) in
+      IsPermutation-trans (y ∷ items_where_true (map not bs) xs) (y ∷ x ∷ left) (x ∷ y ∷ left)
+      (IsPermutation-cons y (items_where_true (map not bs) xs) (x ∷ left) (unmarked_without bs xs i x (omega arith) (omega arith) mark is))
+      (IsPermutation-middle (y ∷ []) x left)
+  unmarked_without (true ∷ bs) (y ∷ xs) (suc i) x long within mark is = unmarked_without bs xs i x (omega arith) (omega arith) mark is
 
   pub length-marked_le : (bs : List Bool) (xs : List X) → length (items_where_true bs xs) ≤ length xs
   length-marked_le [] xs = omega arith

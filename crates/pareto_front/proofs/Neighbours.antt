@@ -226,6 +226,14 @@ module _ {list : List (FrontEntry 2)} {marks : List Bool} {n : ℕ} (s : IsSorte
         let e : there.place ≡ i = sym here in
         (omega (arith, there.within, e), ap (λ k. get_or marks k false) here ∙ there.mark, ap (λ k. told_entry (at list k)) here ∙ there.is)
 
+    -- and an unsettled one
+    pub unsettled_at : HasCost (front_of list marks).unsettled c → IsAt list c i × (get_or marks i false ≡ false)
+    unsettled_at found =
+        let there = of_unsettled list marks s.marked (record { cost = c; arc = found.arc }) found.contains in
+        let cost_is : cost_at list there.place ≡ c = ap (λ (e : Entry). e.cost) there.is in
+        let here = stands_at there.place there.within cost_is in
+        (record { within = omega (arith, there.within, here); cost = ap (cost_at list) here ∙ cost_is }, ap (λ k. get_or marks k false) here ∙ there.mark)
+
   module _ (c : List ℕ) (long : length c ≡ 2) (i : ℕ) (cut : IsUpTo list (first c) i) where
     uncovered : ((k : ℕ) → k < i → second c < second (cost_at list k)) → ¬ IsCovered (entries (front_of list marks)) c
     uncovered above h =

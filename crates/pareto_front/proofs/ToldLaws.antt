@@ -19,11 +19,11 @@ use Rattle.list_laws.proofs.Pairs.{pairs_map}
 use Rattle.list_laws.proofs.SetLaws.{same_by_permutation}
 use Rattle.pareto_front.specs.declared.front.FrontEntry.{FrontEntry}
 use Rattle.pareto_front.specs.Fronts.{Entry, Front, AreIncomparable, entries, HasCost, IsCovered, IsFront, SparesSettled}
-use Rattle.pareto_front.specs.Calls.{told_entry, Enters, ListsSettled, Relabels, Settles}
+use Rattle.pareto_front.specs.Calls.{told_entry, Discards, Enters, ListsSettled, Relabels, Settles}
 use Rattle.pareto_front.specs.Blocks.{CoversAt, CoversNone, TakesIn, told_front}
 use Rattle.pareto_front.proofs.FrontLaws.{front_in_any_order, incomparable_in_any_order, pairs_before, pairs_behind, pairs_of_map, only_one, same_cost}
 use Rattle.pareto_front.proofs.FrontChanges.{enters, entered_front, settled_front, settles, settled_relabelled, settled_relabelled_front}
-use Rattle.pareto_front.proofs.FrontChanges.{unsettled_relabelled, unsettled_relabelled_front}
+use Rattle.pareto_front.proofs.FrontChanges.{discarded_front, discards, unsettled_relabelled, unsettled_relabelled_front}
 
 -- the entry x that was read where one is at most the cost
 module _ {D : ℕ} {list : List (FrontEntry D)} {c : List ℕ} {i : ℕ} (there : CoversAt list c i) (x : FrontEntry D) (is : x ≡ get_or list i x) where
@@ -59,7 +59,7 @@ module _ {D : ℕ} (settled unsettled : List (FrontEntry D)) (c : List ℕ) (fir
   pub uncovered_none : ¬ HasCost (entries (told_front settled unsettled)) c
   uncovered_none h = uncovered (record { by = record { cost = c; arc = h.arc }; contains = h.contains; at_most = AtMost-refl c })
 
--- the entry x is settled
+-- the entry x is settled, or taken out
 module _ {D : ℕ} (settled unsettled : List (FrontEntry D)) (front : IsFront D (told_front settled unsettled)) {c : List ℕ} {i : ℕ}
     (there : CoversAt unsettled c i) (x : FrontEntry D) (is : x ≡ get_or unsettled i x) where
   out : IsPermutation (map told_entry unsettled) (told_entry x ∷ map told_entry (remove unsettled i))
@@ -74,6 +74,29 @@ module _ {D : ℕ} (settled unsettled : List (FrontEntry D)) (front : IsFront D 
   told_settles has = rw (map_push told_entry settled x)
       (settles (map told_entry settled) (map told_entry unsettled) (map told_entry (remove unsettled i)) (told_entry x) front out c
       (same_cost front c has (told_entry x) (told_unsettled there x is settled) (covers there x is)))
+
+  -- taken out, it leaves a front
+  pub told_discarded_front : IsFront D (told_front settled (remove unsettled i))
+  told_discarded_front =
+      discarded_front (map told_entry settled) (map told_entry unsettled) (map told_entry (remove unsettled i)) (told_entry x) front out
+
+  -- and no other entry is gone
+  pub told_discards : x.cost.0 ≡ c → Discards (told_front settled unsettled) c (told_front settled (remove unsettled i))
+  told_discards = discards (map told_entry settled) (map told_entry unsettled) (map told_entry (remove unsettled i)) (told_entry x) front out c
+
+-- a cost that dominates no entry
+module _ {D : ℕ} (settled unsettled : List (FrontEntry D)) (c : List ℕ)
+    (spares : All (λ (e : Entry). ¬ Dominates c e.cost) (entries (told_front settled unsettled))) where
+  -- dominates no settled one
+  pub spares_settled : SparesSettled (told_front settled unsettled) c
+  spares_settled e h = each_in (λ (x : Entry). ¬ Dominates c x.cost) (entries (told_front settled unsettled)) spares e
+      (Contains-append_left (map told_entry settled) (map told_entry unsettled) e h)
+
+  -- and none of the others
+  pub spares_unsettled : All (λ (e : FrontEntry D). ¬ Dominates c e.cost.0) unsettled
+  spares_unsettled = all_from_in (λ (e : FrontEntry D). ¬ Dominates c e.cost.0) unsettled (λ e h.
+      each_in (λ (x : Entry). ¬ Dominates c x.cost) (entries (told_front settled unsettled)) spares (told_entry e)
+      (Contains-append_right (map told_entry settled) (map told_entry unsettled) (told_entry e) (in_map told_entry unsettled e h)))
 
 -- none of the entries that are kept has a cost that no entry had
 pub other_costs : {D : ℕ} (before kept : List (FrontEntry D)) (c : List ℕ) → All (Contains (map told_entry before)) (map told_entry kept)

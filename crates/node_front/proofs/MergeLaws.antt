@@ -270,8 +270,11 @@ module _ (before : Front) (candidates : List Entry) (delta : Delta) (is : IsDelt
       pub put_then : (e : Entry) (after : Front) → Contains delta.added e → Enters mid e after → HasPut before delta.removed (xs ++ e ∷ []) after
       put_then e after there enters = record {
         settled = λ x. (λ h. (puts.settled x).0 ((enters.settled x).0 h), λ h. (enters.settled x).1 ((puts.settled x).1 h));
-        unsettled = λ x. through (enters.unsettled x) (puts.unsettled x) (in_append xs (e ∷ []) x) (λ h. in_one e x h, λ same. subst (Contains (e ∷ []))
-            (sym same) (in_first e [])) (λ h. each_in (λ (y : Entry). ¬ Dominates e.cost y.cost) (entries mid) (put_spares e there) x
+        unsettled = λ x. through (enters.unsettled x) (puts.unsettled x) (in_append xs (e ∷ []) x) (
+          λ h. in_one e x h,
+          λ same. subst (Contains (e ∷ []))
+              (sym same) (in_first e []),
+        ) (λ h. each_in (λ (y : Entry). ¬ Dominates e.cost y.cost) (entries mid) (put_spares e there) x
             ((in_append mid.settled mid.unsettled x).1 (inr h)));
       } where
         through : {A M N E S X L O : Type 0} → (A ↔ ((M × (¬ N)) ⊎ E)) → (M ↔ (S ⊎ X)) → (L ↔ (X ⊎ O)) → (O ↔ E) → (M → ¬ N) → (A ↔ (S ⊎ L))
@@ -280,7 +283,8 @@ module _ (before : Front) (candidates : List Entry) (delta : Delta) (is : IsDelt
       -- all have come: the front is what they make of it
       pub put_all : ((x : Entry) → Contains delta.added x → Contains xs x) → IsMerged before delta.added mid
       put_all all = record {
-        entries = λ x. (λ there. elim (put_entry x there) [
+        entries = λ x. (
+          λ there. elim (put_entry x there) [
             | inl settled ↦
                 let old = (in_append before.settled before.unsettled x).1 (inl settled) in
                 old_stays x old (λ y y_in less. spares y (candidate_of y y_in) x settled less)
@@ -291,13 +295,15 @@ module _ (before : Front) (candidates : List Entry) (delta : Delta) (is : IsDelt
                   dominated = record { by = y; contains = candidate_of y y_in; dominates = less };
                 })))
             | inr (inr new) ↦ new_stays x (sub x new)
-          ], λ stays. (in_append mid.settled mid.unsettled x).1 (elim ((in_append (entries before) delta.added x).0 stays.contains) [
+          ],
+          λ stays. (in_append mid.settled mid.unsettled x).1 (elim ((in_append (entries before) delta.added x).0 stays.contains) [
             | inr new ↦ inr ((puts.unsettled x).1 (inr (all x new)))
             | inl old ↦ elim ((in_append before.settled before.unsettled x).0 old) [
               | inl settled ↦ inl ((puts.settled x).1 settled)
               | inr unsettled ↦ inr ((puts.unsettled x).1 (inl (unsettled, not_removed x old stays)))
             ]
-          ]));
+          ]),
+        );
         settled = λ c. (
           λ h. (
             record { arc = h.arc; contains = (puts.settled _).0 h.contains },

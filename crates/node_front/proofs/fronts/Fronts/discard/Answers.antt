@@ -1,8 +1,8 @@
-use Rattle.std.proofs.Common.{◌≡◌, ◌≢◌, ◌≤◌, ◌⊎◌, ℕ, inl, inr, map, sym, ap, subst, subst₂, refl, ◌∙◌, arith}
+use Rattle.std.proofs.Common.{◌≡◌, ◌≤◌, inl, inr, get_or, map, set, sym, ap, subst, subst₂, refl, ◌∙◌, arith}
 use Rattle.pareto_front.specs.Calls.{Discards}
 use Rattle.pareto_front.specs.Fronts.{Front, HasCost, entries}
 use Rattle.node_front.specs.Apart.{AreApart}
-use Rattle.node_front.specs.NodeFronts.{Fronts, front_at, fronts_by, spare_at}
+use Rattle.node_front.specs.NodeFronts.{Fronts, front_at, fronts_by, spare_at, spares_by}
 use Rattle.node_front.proofs.ApartLemmas.{has_append}
 use Rattle.node_front.proofs.MergedLemmas.{discarded_apart}
 use Rattle.node_front.proofs.PlacedLemmas.{cases_number, has_place, place_read, front_apart, state_there, front_before, changed_there, same_elsewhere, placed_changed}
@@ -16,9 +16,10 @@ invariant_of-self g c =
     let places = c.self.inside.places.items in
     let fronts = c.self.inside.fronts.items in
     let placed = c.self.invariant.placed in
-    let has = subst (λ (f : Fronts). HasCost (front_at f v).unsettled c.args.spot.now.cost.0) (sym c.self.view_is) c.requires in
-    let entry = (has_append (front_at _ v).settled (front_at _ v).unsettled c.args.spot.now.cost.0).1 (inr has) in
-    let some = has_place places (map state fronts) placed v c.args.spot.now.cost.0 entry in
+    let front = front_at c.args.self.now v in
+    let entry = (has_append front.settled front.unsettled c.args.spot.now.cost.0).1 (inr c.requires) in
+    let has = subst (λ (f : Fronts). HasCost (entries (front_at f v)) c.args.spot.now.cost.0) (sym c.self.view_is) entry in
+    let some = has_place places (map state fronts) placed v c.args.spot.now.cost.0 has in
     let at = place_read places (map state fronts) placed v c.index.result.now some c.index.ensures in
     let there = state_there state places fronts placed v c.index.result.now at c.index_mut.result.now c.index_mut.ensures.value in
     let apart = subst (λ (f : Front). AreApart (entries f)) there (front_apart places (map state fronts) placed v) in
@@ -33,9 +34,10 @@ returns g c =
     let places = c.self.inside.places.items in
     let fronts = c.self.inside.fronts.items in
     let placed = c.self.invariant.placed in
-    let has = subst (λ (f : Fronts). HasCost (front_at f v).unsettled c.args.spot.now.cost.0) (sym c.self.view_is) c.requires in
-    let entry = (has_append (front_at _ v).settled (front_at _ v).unsettled c.args.spot.now.cost.0).1 (inr has) in
-    let some = has_place places (map state fronts) placed v c.args.spot.now.cost.0 entry in
+    let front = front_at c.args.self.now v in
+    let entry = (has_append front.settled front.unsettled c.args.spot.now.cost.0).1 (inr c.requires) in
+    let has = subst (λ (f : Fronts). HasCost (entries (front_at f v)) c.args.spot.now.cost.0) (sym c.self.view_is) entry in
+    let some = has_place places (map state fronts) placed v c.args.spot.now.cost.0 has in
     let at = place_read places (map state fronts) placed v c.index.result.now some c.index.ensures in
     let was : c.args.self.now.fronts ≡ fronts_by places (map state fronts) = ap (λ (f : Fronts). f.fronts) (sym c.self.view_is) in
     let before = front_before state c.args.self.now c.args.self.now places fronts placed v c.index.result.now at was refl
@@ -52,8 +54,13 @@ returns g c =
           begun c.discard.new.self refl;
       discarded = subst₂ (λ (b a : Front). Discards b c.args.spot.now.cost.0 a) (sym before) (sym after) c.discard.ensures.discarded;
       room = λ w. elim (cases_number w v) [
-        | inl same ↦ subst (λ u. spare_at c.args.self.now u ≤ spare_at _ u) (sym same) (omega (arith, room_before, room_after, c.discard.ensures.room))
-        | inr other ↦ omega (arith, ap (λ (f : Fronts). spare_at f w) (sym c.self.view_is), spare_elsewhere state spare places fronts placed v k at begun
-            c.discard.new.self w other)
+        | inl same ↦ subst (λ u. spare_at c.args.self.now u ≤ get_or (spares_by places (map spare (set fronts k c.discard.new.self))) u 0)
+            (sym same) (omega (arith, room_before, room_after, c.discard.ensures.room))
+        | inr other ↦ omega (
+          arith,
+          ap (λ (f : Fronts). spare_at f w) (sym c.self.view_is),
+          spare_elsewhere state spare places fronts placed v k at begun
+              c.discard.new.self w other,
+        )
       ];
     }

@@ -10,8 +10,7 @@ use std::alloc::Global;
 use std::thread::Threads;
 use work_claim::Crew;
 
-/// Sorts candidates by node. For one worker, who lets them arrive one after another, those of a node come by cost and arc,
-/// so that few arrive in vain; several workers merge those of a node at once, and to compare nodes alone is faster.
+/// Sorts candidates by node, cost and arc.
 pub fn sort_by_node<const D: usize, R: Threads + Sync, G: Gate>(
     crew: &Crew<'_, R, G>,
     candidates: &mut [CompactLabel<D>],
@@ -22,13 +21,7 @@ pub fn sort_by_node<const D: usize, R: Threads + Sync, G: Gate>(
     if crew.workers == 1 {
         candidates.sort_unstable();
     } else {
-        par_sort_unstable_by_key(
-            crew.rt,
-            candidates,
-            |label| -> NodeNo
-                ensures { result ≡ label.now.node }
-            { label.node },
-        );
+        par_sort_unstable(crew.rt, candidates);
     }
 }
 

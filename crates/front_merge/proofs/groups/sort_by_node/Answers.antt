@@ -1,14 +1,10 @@
-use Rattle.std.proofs.Common.{◌≡◌, ℕ, ◌<◌, Bool, true, Less, ap, arith, rules}
+use Rattle.std.proofs.Common.{◌≡◌, ℕ, ◌<◌, Bool, true, Less, ap, arith}
 use Rattle.std.specs.Ordering.{is_lt, nat_cmp, ordering_then}
 use Rattle.std.proofs.lemmas.Bool.Decides.{nat_tests}
-use Rattle.std.proofs.lemmas.List.Sorted.{answers_always}
 use Rattle.cost_vector.specs.Costs.{lex_cmp}
 use Rattle.compact_labels.specs.declared.label.CompactLabel.{CompactLabel}
 use Rattle.front_merge.proofs.GroupLemmas.{ascend_by}
 use Rattle.front_merge.proofs.groups.sort_by_node.Goals as goal
-
-before : (a b : ℕ) → a < b → nat_cmp a b ≡ Less
-before a b below = grind (arith, nat_tests)
 
 -- a label is less than those of greater nodes
 abbrev is_less : {D : ℕ} → CompactLabel D → CompactLabel D → Bool
@@ -16,12 +12,12 @@ is_less l m = is_lt (ordering_then (nat_cmp l.node.0 m.node.0) (ordering_then (l
 
 less_by_node : {D : ℕ} (l m : CompactLabel D) → l.node.0 < m.node.0 → is_less l m ≡ true
 less_by_node l m less = ap (λ o. is_lt (ordering_then o (ordering_then (lex_cmp l.cost.0 m.cost.0) (nat_cmp l.arc.0 m.arc.0))))
-    (before l.node.0 m.node.0 less)
+    (before l.node.0 m.node.0 less) where
+      before : (a b : ℕ) → a < b → nat_cmp a b ≡ Less
+      before a b below = grind (arith, nat_tests)
 
 pub returns-then-crew-eq1-clause-ascending : goal.returns-then-crew-eq1-clause-ascending
 returns-then-crew-eq1-clause-ascending g c = ascend_by is_less less_by_node c.sort_unstable.new.self c.sort_unstable.ensures.sorted
 
 pub returns-else-crew-eq1-clause-ascending : goal.returns-else-crew-eq1-clause-ascending
-returns-else-crew-eq1-clause-ascending g c =
-    let sorted = c.par_sort_unstable_by_key.ensures.sorted (λ (l : CompactLabel g.row.D). l.node) (answers_always _ _ _ (λ f a r f' k. search rules)) in
-    ascend_by (λ l m. is_lt (nat_cmp l.node.0 m.node.0)) (λ l m less. ap is_lt (before l.node.0 m.node.0 less)) c.par_sort_unstable_by_key.new.s sorted
+returns-else-crew-eq1-clause-ascending g c = ascend_by is_less less_by_node c.par_sort_unstable.new.s c.par_sort_unstable.ensures.sorted

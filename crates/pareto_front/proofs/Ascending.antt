@@ -17,7 +17,7 @@ use Rattle.pareto_front.specs.declared.front.FrontEntry.{FrontEntry}
 use Rattle.pareto_front.specs.Calls.{told_entry}
 use Rattle.pareto_front.specs.Fronts.{AreIncomparable, Entry, HasCost}
 use Rattle.pareto_front.specs.Blocks.{AscendByCost, CoversAt, CoversNone, HasCostAt, IsBeforeOf, IsGapOf}
-use Rattle.pareto_front.proofs.FrontLaws.{pairs_before, pairs_behind}
+use Rattle.pareto_front.proofs.FrontLaws.{pairs_before, pairs_behind, set_costs}
 
 -- how a cost stands to another, a lesser one does too, or is less than that
 pub rises_to : (a b c : List ℕ) → LexLess a b → ordering_index (lex_cmp a c) ≤ ordering_index (lex_cmp b c)
@@ -174,15 +174,7 @@ module _ {D : ℕ} (list : List (FrontEntry D)) (up : AscendByCost list) (i : �
   -- an entry of the same cost
   pub ascend_set : (x : FrontEntry D) → ((d : FrontEntry D) → (get_or list i d).cost.0 ≡ x.cost.0) → AscendByCost (set list i x)
   ascend_set x same a b d before inside =
-      rw (cost_at a, cost_at b) (up a b d before (omega (arith, inside, length-set list i x)))
-    where
-      cost_at : (k : ℕ) → (get_or (set list i x) k d).cost.0 ≡ (get_or list k d).cost.0
-      cost_at k = elim (cases_eq k i) [
-        | inl here ↦
-            ap (λ j. (get_or (set list i x) j d).cost.0) here ∙ ap (λ (e : FrontEntry D). e.cost.0) (get_or-set_same list i x d within)
-            ∙ sym (same d) ∙ ap (λ j. (get_or list j d).cost.0) (sym here)
-        | inr other ↦ ap (λ (e : FrontEntry D). e.cost.0) (get_or-set_other list i k x d other)
-      ]
+      rw (set_costs list i x within same a d, set_costs list i x within same b d) (up a b d before (omega (arith, inside, length-set list i x)))
 
 -- entries that a cost dominates stand behind its place
 module _ {D : ℕ} (list : List (FrontEntry D)) (i : ℕ) where

@@ -1,10 +1,10 @@
 -- What `retain` keeps of a list.
-use Rattle.std.proofs.Common.{◌⊎◌, inl, inr, Bool, List, map, sym, subst}
+use Rattle.std.proofs.Common.{◌↔◌, ◌⊎◌, inl, inr, Bool, List, map, sym, subst, arith}
 use Rattle.std.specs.Prelude.{AllPairs, Contains}
 use Rattle.std.specs.List.Retain.{IsFiltered}
 use Rattle.std.proofs.lemmas.List.Elements.{All-map, All-weaker}
 use Rattle.list_laws.specs.Without.{IsWithout}
-use Rattle.list_laws.proofs.Members.{in_map}
+use Rattle.list_laws.proofs.Members.{each_in, in_map}
 use Rattle.pareto_front.proofs.Marks.{pairs_marked}
 
 -- any two of those that are kept stood in the list
@@ -22,3 +22,12 @@ without_images f P before after out = record {
       (λ x either. elim either [ inl holds ↦ inl holds | inr there ↦ inr (in_map f after x there) ]) before out.kept);
   gone = All-map (λ y. ¬ P y) f after out.gone;
 }
+
+-- what is left is what was there, but for those that P holds of
+pub left_without : {X : Type 0} (P : X → Type 0) (before after : List X) → IsWithout P before after → (x : X)
+    → Contains after x ↔ (Contains before x × ¬ P x)
+left_without P before after out x = by (each_in (Contains before) after out.old x) (each_in (λ y. P y ⊎ Contains after y) before out.kept x)
+    (each_in (λ y. ¬ P y) after out.gone x)
+  where
+    by : {A B N : Type 0} → (A → B) → (B → N ⊎ A) → (A → ¬ N) → (A ↔ (B × ¬ N))
+    by old kept gone = grind arith

@@ -1,10 +1,10 @@
 -- Lists with marks: the marked elements, and the others.
-use Rattle.std.proofs.Common.{◌≡◌, ℕ, zero, suc, ◌+◌, ◌<◌, ◌≤◌, Bool, true, false, not, List, [], ◌∷◌, ◌++◌, length, map, take, drop, remove, set, get_or, inl, inr, refl, sym, ap, subst, ◌∙◌, arith}
+use Rattle.std.proofs.Common.{◌≡◌, ℕ, zero, suc, ◌+◌, ◌<◌, ◌≤◌, Bool, true, false, not, List, [], ◌∷◌, ◌++◌, length, map, take, drop, remove, set, get_or, inl, inr, refl, sym, ap, ◌∙◌, arith, drop-cons, take-append-drop}
 use Rattle.std.specs.Prelude.{AllPairs, Contains, IsPermutation}
 use Rattle.std.specs.List.{items_where_true}
 use Rattle.std.proofs.lemmas.Bool.{false≢true}
-use Rattle.std.proofs.lemmas.List.{append-nil, take_more, drop_more, take_all, length-set, length-take, take-set-le, get_or-set_same, drop-set-lt}
-use Rattle.std.proofs.lemmas.List.Sorted.{IsPermutation-cons, IsPermutation-middle, IsPermutation-refl, IsPermutation-trans}
+use Rattle.std.proofs.lemmas.List.{append-nil, get_or-map, take_more, drop_more, take_all, length-set, length-take, take-set-le, get_or-set_same, drop-set-lt}
+use Rattle.std.proofs.lemmas.List.Sorted.{IsPermutation-middle}
 use Rattle.list_laws.proofs.Members.{in_none, in_rest, in_front, cases_in}
 use Rattle.list_laws.proofs.Pairs.{pairs_none, pairs_rest, pairs_cons, pair_with_first}
 
@@ -14,6 +14,10 @@ pub record IsMarked {X : Type 0} (b : Bool) (bs : List Bool) (xs : List X) (x : 
   pub within : place < length xs
   pub mark : get_or bs place false ≡ b
   pub is : get_or xs place x ≡ x
+
+-- a mark that is turned
+pub turned_mark : {b : Bool} (bs : List Bool) (k : ℕ) → k < length bs → get_or bs k false ≡ b → get_or (map not bs) k false ≡ not b
+turned_mark bs k within mark = get_or-map not bs k false false within ∙ ap not mark
 
 module _ {X : Type 0} where
   -- of two lists one behind the other
@@ -52,28 +56,17 @@ module _ {X : Type 0} where
 
   -- the others
   pub of_unmarked : (bs : List Bool) (xs : List X) (x : X) → Contains (items_where_true (map not bs) xs) x → IsMarked false bs xs x
-  of_unmarked [] xs x h = absurd (in_none x h)
-  of_unmarked (b ∷ bs) [] x h = absurd (in_none x (subst (λ zs. Contains zs x) (none b bs) h)) where
-    none : (b : Bool) (bs : List Bool) → items_where_true {X = X} (map not (b ∷ bs)) [] ≡ []
-    none b bs = refl
-  of_unmarked (false ∷ bs) (y ∷ xs) x h = elim (cases_in y (items_where_true (map not bs) xs) x h) [
-    | inl same ↦ record { place = 0; within = omega arith; mark = refl; is = sym same }
-    | inr more ↦ later y (of_unmarked bs xs x more)
-  ]
-  of_unmarked (true ∷ bs) (y ∷ xs) x h = later y (of_unmarked bs xs x h)
-
-  at_unmarked : (bs : List Bool) (xs : List X) (x : X) (k : ℕ) → length bs ≡ length xs → k < length xs → get_or bs k false ≡ false → get_or xs k x ≡ x
-      → Contains (items_where_true (map not bs) xs) x
-  at_unmarked bs [] x k long within mark is = absurd (omega arith)
-  at_unmarked [] (y ∷ xs) x k long within mark is = absurd (omega arith)
-  at_unmarked (false ∷ bs) (y ∷ xs) x zero long within mark is = in_front y (items_where_true (map not bs) xs) x (sym is)
-  at_unmarked (true ∷ bs) (y ∷ xs) x zero long within mark is = absurd (false≢true (sym mark))
-  at_unmarked (false ∷ bs) (y ∷ xs) x (suc k) long within mark is =
-      in_rest y (items_where_true (map not bs) xs) x (at_unmarked bs xs x k (omega arith) (omega arith) mark is)
-  at_unmarked (true ∷ bs) (y ∷ xs) x (suc k) long within mark is = at_unmarked bs xs x k (omega arith) (omega arith) mark is
+  of_unmarked bs xs x h =
+      let m = of_marked (map not bs) xs x h in record { place = m.place; within = m.within; mark = turned bs m.place m.mark; is = m.is }
+    where
+      turned : (bs : List Bool) (k : ℕ) → get_or (map not bs) k false ≡ true → get_or bs k false ≡ false
+      turned [] k mark = refl
+      turned (true ∷ bs) zero mark = absurd (false≢true mark)
+      turned (false ∷ bs) zero mark = refl
+      turned (b ∷ bs) (suc k) mark = turned bs k mark
 
   pub in_unmarked : (bs : List Bool) (xs : List X) (x : X) → length bs ≡ length xs → IsMarked false bs xs x → Contains (items_where_true (map not bs) xs) x
-  in_unmarked bs xs x long m = at_unmarked bs xs x m.place long m.within m.mark m.is
+  in_unmarked bs xs x long m = at_marked (map not bs) xs x m.place m.within (turned_mark bs m.place (omega (arith, long, m.within)) m.mark) m.is
 
   -- what holds of any two elements holds of any two marked ones
   pub pairs_marked : (R : X → X → Type 0) (bs : List Bool) (xs : List X) → AllPairs R xs → AllPairs R (items_where_true bs xs)
@@ -96,41 +89,32 @@ module _ {X : Type 0} where
   length-marked_set (true ∷ bs) (x ∷ xs) (suc i) y = ap suc (length-marked_set bs xs i y)
   length-marked_set (false ∷ bs) (x ∷ xs) (suc i) y = length-marked_set bs xs i y
 
-  -- one mark more
-  pub length-mark_more : (bs : List Bool) (xs : List X) (i : ℕ) → length bs ≡ length xs → i < length xs → get_or bs i false ≡ false
-      → length (items_where_true (set bs i true) xs) ≡ length (items_where_true bs xs) + 1
-  length-mark_more bs [] i long within mark = absurd (omega arith)
-  length-mark_more [] (x ∷ xs) i long within mark = absurd (omega arith)
-  length-mark_more (false ∷ bs) (x ∷ xs) zero long within mark = omega arith
-  length-mark_more (true ∷ bs) (x ∷ xs) zero long within mark = absurd (false≢true (sym mark))
-  length-mark_more (true ∷ bs) (x ∷ xs) (suc i) long within mark = omega (arith, length-mark_more bs xs i (omega arith) (omega arith) mark)
-  length-mark_more (false ∷ bs) (x ∷ xs) (suc i) long within mark = length-mark_more bs xs i (omega arith) (omega arith) mark
+  -- the element x at the place i, and its mark, are taken out
+  module _ (bs : List Bool) (xs : List X) (i : ℕ) (x : X) (long : length bs ≡ length xs) (within : i < length xs) (is : get_or xs i x ≡ x) where
+    abbrev before : List X
+    before = items_where_true (take i bs) (take i xs)
 
-  -- an unmarked element is taken out, and its mark: the marked ones stay
-  pub marked_without : (bs : List Bool) (xs : List X) (i : ℕ) → length bs ≡ length xs → i < length xs → get_or bs i false ≡ false
-      → items_where_true (remove bs i) (remove xs i) ≡ items_where_true bs xs
-  marked_without bs [] i long within mark = absurd (omega arith)
-  marked_without [] (x ∷ xs) i long within mark = absurd (omega arith)
-  marked_without (false ∷ bs) (x ∷ xs) zero long within mark = refl
-  marked_without (true ∷ bs) (x ∷ xs) zero long within mark = absurd (false≢true (sym mark))
-  marked_without (true ∷ bs) (x ∷ xs) (suc i) long within mark = ap (λ zs. x ∷ zs) (marked_without bs xs i (omega arith) (omega arith) mark)
-  marked_without (false ∷ bs) (x ∷ xs) (suc i) long within mark = marked_without bs xs i (omega arith) (omega arith) mark
+    as_long : length (take i bs) ≡ length (take i xs)
+    as_long = omega (arith, long, length-take i bs, length-take i xs)
 
-  -- and of the others it alone is gone
-  pub unmarked_without : (bs : List Bool) (xs : List X) (i : ℕ) (x : X) → length bs ≡ length xs → i < length xs → get_or bs i false ≡ false
-      → get_or xs i x ≡ x → IsPermutation (items_where_true (map not bs) xs) (x ∷ items_where_true (map not (remove bs i)) (remove xs i))
-  unmarked_without bs [] i x long within mark is = absurd (omega arith)
-  unmarked_without [] (y ∷ xs) i x long within mark is = absurd (omega arith)
-  unmarked_without (false ∷ bs) (y ∷ xs) zero x long within mark is =
-      subst (λ z. IsPermutation (y ∷ items_where_true (map not bs) xs) (z ∷ items_where_true (map not bs) xs)) is
-      (IsPermutation-refl (y ∷ items_where_true (map not bs) xs))
-  unmarked_without (true ∷ bs) (y ∷ xs) zero x long within mark is = absurd (false≢true (sym mark))
-  unmarked_without (false ∷ bs) (y ∷ xs) (suc i) x long within mark is =
-      let left = items_where_true (map not (remove bs i)) (remove xs i) in
-      IsPermutation-trans (y ∷ items_where_true (map not bs) xs) (y ∷ x ∷ left) (x ∷ y ∷ left)
-      (IsPermutation-cons y (items_where_true (map not bs) xs) (x ∷ left) (unmarked_without bs xs i x (omega arith) (omega arith) mark is))
-      (IsPermutation-middle (y ∷ []) x left)
-  unmarked_without (true ∷ bs) (y ∷ xs) (suc i) x long within mark is = unmarked_without bs xs i x (omega arith) (omega arith) mark is
+    parts : (b : Bool) → get_or bs i false ≡ b → items_where_true bs xs ≡ before ++ items_where_true (b ∷ drop (suc i) bs) (x ∷ drop (suc i) xs)
+    parts b mark =
+        let marks = sym (take-append-drop i bs) ∙ ap (λ l. take i bs ++ l) (drop-cons bs i false (omega (arith, long, within))
+        ∙ ap (λ c. c ∷ drop (suc i) bs) mark) in
+        let items = sym (take-append-drop i xs) ∙ ap (λ l. take i xs ++ l) (drop-cons xs i x within ∙ ap (λ y. y ∷ drop (suc i) xs) is) in
+        (λ t. items_where_true (marks t) (items t))
+        ∙ marked-append (take i bs) (take i xs) (b ∷ drop (suc i) bs) (x ∷ drop (suc i) xs) as_long
+
+    left : items_where_true (remove bs i) (remove xs i) ≡ before ++ items_where_true (drop (suc i) bs) (drop (suc i) xs)
+    left = marked-append (take i bs) (take i xs) (drop (suc i) bs) (drop (suc i) xs) as_long
+
+    -- where it isn't marked the marked ones stay
+    pub marked_without : get_or bs i false ≡ false → items_where_true bs xs ≡ items_where_true (remove bs i) (remove xs i)
+    marked_without mark = parts false mark ∙ sym left
+
+    -- and where it is marked it alone is gone
+    pub marked_out : get_or bs i false ≡ true → IsPermutation (items_where_true bs xs) (x ∷ items_where_true (remove bs i) (remove xs i))
+    marked_out mark = rw (parts true mark, left) (IsPermutation-middle before x (items_where_true (drop (suc i) bs) (drop (suc i) xs)))
 
   pub length-marked_le : (bs : List Bool) (xs : List X) → length (items_where_true bs xs) ≤ length xs
   length-marked_le [] xs = omega arith

@@ -1,10 +1,10 @@
 -- What `retain` keeps of a list.
-use Rattle.std.proofs.Common.{◌↔◌, ◌⊎◌, inl, inr, Bool, List, map, sym, subst, arith}
-use Rattle.std.specs.Prelude.{AllPairs, Contains}
+use Rattle.std.proofs.Common.{◌↔◌, ◌⊎◌, inl, inr, Bool, List, ◌++◌, map, sym, subst, arith}
+use Rattle.std.specs.Prelude.{All, AllPairs, Contains}
 use Rattle.std.specs.List.Retain.{IsFiltered}
-use Rattle.std.proofs.lemmas.List.Elements.{All-map, All-weaker}
+use Rattle.std.proofs.lemmas.List.Elements.{All-append, All-map, All-weaker, Contains-append_cases, Contains-append_left, Contains-append_right}
 use Rattle.list_laws.specs.Without.{IsWithout}
-use Rattle.list_laws.proofs.Members.{each_in, in_map}
+use Rattle.list_laws.proofs.Members.{all_from_in, each_in, in_map}
 use Rattle.pareto_front.proofs.Marks.{pairs_marked}
 
 -- any two of those that are kept stood in the list
@@ -21,6 +21,22 @@ without_images f P before after out = record {
       (All-weaker (λ x. P (f x) ⊎ Contains after x) (λ x. P (f x) ⊎ Contains (map f after) (f x))
       (λ x either. elim either [ inl holds ↦ inl holds | inr there ↦ inr (in_map f after x there) ]) before out.kept);
   gone = All-map (λ y. ¬ P y) f after out.gone;
+}
+
+-- a list without its middle part
+pub without_middle : {X : Type 0} (P : X → Type 0) (near middle far : List X) → All P middle → All (λ x. ¬ P x) near → All (λ x. ¬ P x) far
+    → IsWithout P ((near ++ middle) ++ far) (near ++ far)
+without_middle P near middle far holds fails_near fails_far = record {
+  old = all_from_in (Contains ((near ++ middle) ++ far)) (near ++ far) (λ x h. elim (Contains-append_cases near far x h) [
+    | inl front ↦ Contains-append_left (near ++ middle) far x (Contains-append_left near middle x front)
+    | inr back ↦ Contains-append_right (near ++ middle) far x back
+  ]);
+  kept = All-append (λ x. P x ⊎ Contains (near ++ far) x) (near ++ middle) far
+      (All-append (λ x. P x ⊎ Contains (near ++ far) x) near middle
+      (all_from_in (λ x. P x ⊎ Contains (near ++ far) x) near (λ x h. inr (Contains-append_left near far x h)))
+      (All-weaker P (λ x. P x ⊎ Contains (near ++ far) x) (λ x h. inl h) middle holds))
+      (all_from_in (λ x. P x ⊎ Contains (near ++ far) x) far (λ x h. inr (Contains-append_right near far x h)));
+  gone = All-append (λ x. ¬ P x) near far fails_near fails_far;
 }
 
 -- what is left is what was there, but for those that P holds of

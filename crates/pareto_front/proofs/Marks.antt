@@ -1,11 +1,11 @@
 -- Lists with marks: the marked elements, and the others.
 use Rattle.std.proofs.Common.{◌≡◌, ℕ, zero, suc, ◌+◌, ◌<◌, ◌≤◌, Bool, true, false, not, List, [], ◌∷◌, ◌++◌, length, map, take, drop, remove, set, get_or, inl, inr, refl, sym, ap, ◌∙◌, arith, drop-cons, take-append-drop}
-use Rattle.std.specs.Prelude.{AllPairs, Contains, IsPermutation}
+use Rattle.std.specs.Prelude.{All, AllPairs, Contains, IsPermutation}
 use Rattle.std.specs.List.{items_where_true}
 use Rattle.std.proofs.lemmas.Bool.{false≢true}
 use Rattle.std.proofs.lemmas.List.{append-nil, get_or-map, take_more, drop_more, take_all, length-set, length-take, take-set-le, get_or-set_same, drop-set-lt}
 use Rattle.std.proofs.lemmas.List.Sorted.{IsPermutation-middle}
-use Rattle.list_laws.proofs.Members.{in_none, in_rest, in_front, cases_in}
+use Rattle.list_laws.proofs.Members.{all_from_in, each_in, in_none, in_rest, in_front, cases_in}
 use Rattle.list_laws.proofs.Pairs.{pairs_none, pairs_rest, pairs_cons, pair_with_first}
 
 -- x stands at a place whose mark is b
@@ -28,6 +28,13 @@ module _ {X : Type 0} where
   marked-append (b ∷ bs) [] cs ys e = absurd (omega arith)
   marked-append (true ∷ bs) (x ∷ xs) cs ys e = ap (λ zs. x ∷ zs) (marked-append bs xs cs ys (omega arith))
   marked-append (false ∷ bs) (x ∷ xs) cs ys e = marked-append bs xs cs ys (omega arith)
+
+  -- of a list cut in two
+  pub cut_at : (bs : List Bool) (xs : List X) (i : ℕ) → length bs ≡ length xs
+      → items_where_true bs xs ≡ items_where_true (take i bs) (take i xs) ++ items_where_true (drop i bs) (drop i xs)
+  cut_at bs xs i long =
+      (λ t. items_where_true (sym (take-append-drop i bs) t) (sym (take-append-drop i xs) t))
+      ∙ marked-append (take i bs) (take i xs) (drop i bs) (drop i xs) (omega (arith, long, length-take i bs, length-take i xs))
 
   later : {b c : Bool} {bs : List Bool} {xs : List X} {x : X} (y : X) → IsMarked b bs xs x → IsMarked b (c ∷ bs) (y ∷ xs) x
   later y m = record { place = suc m.place; within = omega (arith, m.within); mark = m.mark; is = m.is }
@@ -68,16 +75,21 @@ module _ {X : Type 0} where
   pub in_unmarked : (bs : List Bool) (xs : List X) (x : X) → length bs ≡ length xs → IsMarked false bs xs x → Contains (items_where_true (map not bs) xs) x
   in_unmarked bs xs x long m = at_marked (map not bs) xs x m.place m.within (turned_mark bs m.place (omega (arith, long, m.within)) m.mark) m.is
 
+  -- a marked element is one
+  pub in_whole : (bs : List Bool) (xs : List X) (x : X) → Contains (items_where_true bs xs) x → Contains xs x
+  in_whole bs xs x h = let m = of_marked bs xs x h in (m.place, m.within, m.is)
+
+  -- what holds of all elements holds of the marked ones
+  pub all_marked : (P : X → Type 0) (bs : List Bool) (xs : List X) → All P xs → All P (items_where_true bs xs)
+  all_marked P bs xs each = all_from_in P (items_where_true bs xs) (λ x h. each_in P xs each x (in_whole bs xs x h))
+
   -- what holds of any two elements holds of any two marked ones
   pub pairs_marked : (R : X → X → Type 0) (bs : List Bool) (xs : List X) → AllPairs R xs → AllPairs R (items_where_true bs xs)
   pairs_marked R [] xs pairs = pairs_none R
   pairs_marked R (b ∷ bs) [] pairs = pairs_none R
   pairs_marked R (true ∷ bs) (x ∷ xs) pairs =
-      pairs_cons R x (items_where_true bs xs) (λ y h. pair_with_first R x xs pairs y (member (of_marked bs xs y h)))
+      pairs_cons R x (items_where_true bs xs) (λ y h. pair_with_first R x xs pairs y (in_whole bs xs y h))
       (pairs_marked R bs xs (pairs_rest R x xs pairs))
-    where
-      member : {b : Bool} {bs : List Bool} {xs : List X} {x : X} → IsMarked b bs xs x → Contains xs x
-      member m = (m.place, m.within, m.is)
   pairs_marked R (false ∷ bs) (x ∷ xs) pairs = pairs_marked R bs xs (pairs_rest R x xs pairs)
 
   -- marks alone tell how many elements are marked
@@ -94,19 +106,14 @@ module _ {X : Type 0} where
     abbrev before : List X
     before = items_where_true (take i bs) (take i xs)
 
-    as_long : length (take i bs) ≡ length (take i xs)
-    as_long = omega (arith, long, length-take i bs, length-take i xs)
-
     parts : (b : Bool) → get_or bs i false ≡ b → items_where_true bs xs ≡ before ++ items_where_true (b ∷ drop (suc i) bs) (x ∷ drop (suc i) xs)
     parts b mark =
-        let marks = sym (take-append-drop i bs) ∙ ap (λ l. take i bs ++ l) (drop-cons bs i false (omega (arith, long, within))
-        ∙ ap (λ c. c ∷ drop (suc i) bs) mark) in
-        let items = sym (take-append-drop i xs) ∙ ap (λ l. take i xs ++ l) (drop-cons xs i x within ∙ ap (λ y. y ∷ drop (suc i) xs) is) in
-        (λ t. items_where_true (marks t) (items t))
-        ∙ marked-append (take i bs) (take i xs) (b ∷ drop (suc i) bs) (x ∷ drop (suc i) xs) as_long
+        let marks = drop-cons bs i false (omega (arith, long, within)) ∙ ap (λ c. c ∷ drop (suc i) bs) mark in
+        let items = drop-cons xs i x within ∙ ap (λ y. y ∷ drop (suc i) xs) is in
+        cut_at bs xs i long ∙ (λ t. before ++ items_where_true (marks t) (items t))
 
     left : items_where_true (remove bs i) (remove xs i) ≡ before ++ items_where_true (drop (suc i) bs) (drop (suc i) xs)
-    left = marked-append (take i bs) (take i xs) (drop (suc i) bs) (drop (suc i) xs) as_long
+    left = marked-append (take i bs) (take i xs) (drop (suc i) bs) (drop (suc i) xs) (omega (arith, long, length-take i bs, length-take i xs))
 
     -- where it isn't marked the marked ones stay
     pub marked_without : get_or bs i false ≡ false → items_where_true bs xs ≡ items_where_true (remove bs i) (remove xs i)

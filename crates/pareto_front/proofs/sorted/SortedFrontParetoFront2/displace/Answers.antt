@@ -1,4 +1,4 @@
-use Rattle.std.proofs.Common.{◌-◌, take, drop, arith, refl, sym, ◌∙◌}
+use Rattle.std.proofs.Common.{◌-◌, take, drop, arith, sym, ◌∙◌}
 use Rattle.pareto_front.specs.Sorted.{AreAtLeast}
 use Rattle.pareto_front.proofs.Entering.{sorted_entered, enters}
 use Rattle.pareto_front.proofs.Finding.{grows, found_more, found_no_more}
@@ -23,11 +23,9 @@ loop-entry-preserved c =
 
 pub invariant_of-self : goal.invariant_of-self
 invariant_of-self c =
-    let span = rw c.deref.ensures.value at c.at_least-from.ensures.span in
-    let new = rw (← c.self.view_is) at c.requires.new in
-    let spares = rw (← c.self.view_is) at c.requires.spares in
-    rw (c.replace.ensures.items, c.replace-2.ensures.items)
-    (sorted_entered c.self.invariant c.at_least-from.ensures.two span new spares (record { cost = c.args.by.now.cost; arc = c.args.arc }) refl)
+    let given = rw (← c.self.view_is) at c.requires in
+    rw (c.replace.ensures.items, c.replace-2.ensures.items) (sorted_entered c.self.invariant (record { cost = c.args.by.now.cost; arc = c.args.arc })
+    c.at_least-from.ensures.two (rw c.deref.ensures.value at c.at_least-from.ensures.span) given.new given.spares)
 
 pub returns-clause-found : goal.returns-clause-found
 returns-clause-found c =
@@ -39,8 +37,6 @@ returns-clause-found c =
 
 pub returns-clause-entered : goal.returns-clause-entered
 returns-clause-entered c =
-    let span = rw c.deref.ensures.value at c.at_least-from.ensures.span in
-    let new = rw (← c.self.view_is) at c.requires.new in
-    let spares = rw (← c.self.view_is) at c.requires.spares in
-    rw (← c.self.view_is, c.replace.ensures.items, c.replace-2.ensures.items)
-    (enters c.self.invariant c.at_least-from.ensures.two span new spares (record { cost = c.args.by.now.cost; arc = c.args.arc }) refl)
+    let given = rw (← c.self.view_is) at c.requires in
+    rw (← c.self.view_is, c.replace.ensures.items, c.replace-2.ensures.items) (enters c.self.invariant (record { cost = c.args.by.now.cost; arc = c.args.arc })
+    c.at_least-from.ensures.two (rw c.deref.ensures.value at c.at_least-from.ensures.span) given.new given.spares)

@@ -5,7 +5,7 @@ use Rattle.std.specs.Cmp.Lexicographic.{pointwise, bytes_decides}
 use Rattle.std.proofs.lemmas.Bool.{cases_lt, cases_Bool, false≢true}
 use Rattle.std.proofs.lemmas.List.{get_or_default, get_or-take, get_or-drop, length-take, length-drop, append_assoc, append-nil, map-append, take_all}
 use Rattle.std.proofs.lemmas.Simd.{map-map}
-use Rattle.std.proofs.lemmas.List.Elements.{All-map, filter_more}
+use Rattle.std.proofs.lemmas.List.Elements.{All-map, Contains-append_cases, Contains-append_right, filter_more}
 use Rattle.std.proofs.lemmas.List.Kept.{AllPairs-filter}
 use Rattle.cost_vector.specs.Costs.{Dominates}
 use Rattle.list_laws.specs.Sets.{ListsOnce}
@@ -17,7 +17,7 @@ use Rattle.pareto_front.specs.declared.front.FrontEntry.{FrontEntry}
 use Rattle.pareto_front.specs.Fronts.{Entry, HasCost, SparesSettled}
 use Rattle.pareto_front.specs.Calls.{told_entry, GrowsBy}
 use Rattle.pareto_front.specs.Sorted.{IsSorted, front_of, AreAtLeast}
-use Rattle.pareto_front.proofs.Neighbours.{filler, at, cost_at, in_settled, of_unsettled, in_unsettled, long_at, same_place, at_most_pair, first_at_most, second_at_most}
+use Rattle.pareto_front.proofs.Neighbours.{filler, at, cost_at, in_entries, of_entries, long_at, same_place, at_most_pair, first_at_most, second_at_most}
 
 -- the entry has another cost
 abbrev pub differs : List ℕ → FrontEntry 2 → Bool
@@ -69,14 +69,12 @@ module _ {list : List (FrontEntry 2)} {marks : List Bool} {n : ℕ} (s : IsSorte
 
   -- an entry that the cost dominates isn't settled
   unsettled_at : (k : ℕ) → k < length list → Dominates c (cost_at list k) → HasCost (front_of list marks).unsettled (cost_at list k)
-  unsettled_at k within h = elim (cases_Bool (get_or marks k false)) [
-    | inl mark ↦ absurd (spares (told_entry (at list k))
-        (in_settled list marks s.marked (told_entry (at list k)) (record { place = k; within = within; mark = mark; is = refl })) h)
-    | inr mark ↦ record {
-      arc = (at list k).arc.0;
-      contains = in_unsettled list marks s.marked (told_entry (at list k)) (record { place = k; within = within; mark = mark; is = refl });
-    }
-  ]
+  unsettled_at k within h =
+      let f = front_of list marks in
+      elim (Contains-append_cases f.settled f.unsettled (told_entry (at list k)) (in_entries s k within)) [
+        | inl near ↦ absurd (spares (told_entry (at list k)) near h)
+        | inr far ↦ record { arc = (at list k).arc.0; contains = far }
+      ]
 
   -- what the cost dominates stands between the places
   between_at : (k : ℕ) → k < length list → Dominates c (cost_at list k) → (a ≤ k) × (k < b)
@@ -112,15 +110,16 @@ module _ {list : List (FrontEntry 2)} {marks : List Bool} {n : ℕ} (s : IsSorte
 
   in_dominated : (v : List ℕ) → HasCost (front_of list marks).unsettled v × Dominates c v → (e : FrontEntry 2) × Contains dominated e × (v ≡ e.cost.0)
   in_dominated v (has, out) =
-      let there = of_unsettled list marks s.marked _ has.contains in
-      let k = there.place in
-      let cost : cost_at list k ≡ v = ap (λ (e : Entry). e.cost) there.is in
-      let where_at = between_at k there.within (subst (Dominates c) (sym cost) out) in
+      let f = front_of list marks in
+      let v_entry : Entry = record { cost = v; arc = has.arc } in
+      let (k, inside_list, is_told) = of_entries s v_entry (Contains-append_right f.settled f.unsettled v_entry has.contains) in
+      let cost : cost_at list k ≡ v = ap (λ (e : Entry). e.cost) is_told in
+      let where_at = between_at k inside_list (subst (Dominates c) (sym cost) out) in
       let j = k - a in
       let inside : j < length middle = omega (arith, where_at.0, where_at.1, length-middle) in
       let whole : a + j ≡ k = omega (arith, where_at.0) in
       let e = at list k in
-      let is : get_or middle j e ≡ e = middle_at j e inside ∙ ap (λ i. get_or list i e) whole ∙ get_or_default list k e filler there.within in
+      let is : get_or middle j e ≡ e = middle_at j e inside ∙ ap (λ i. get_or list i e) whole ∙ get_or_default list k e filler inside_list in
       (e, in_filter (differs c) middle e (j, inside, is) (ap not (differ (cost_at list k) (λ same. out.differs (sym same ∙ cost)))), sym cost)
     where
       differ : (v : List ℕ) → v ≢ c → pointwise nat_eq v c ≡ false

@@ -4,20 +4,27 @@ use Rattle.std.specs.Prelude.{All, AllPairs, Contains, IsPermutation}
 use Rattle.std.specs.List.{items_where_true}
 use Rattle.std.proofs.lemmas.Bool.{false≢true}
 use Rattle.std.proofs.lemmas.List.{append-nil, get_or-map, take_more, drop_more, take_all, length-set, length-take, take-set-le, get_or-set_same, drop-set-lt}
-use Rattle.std.proofs.lemmas.List.Sorted.{IsPermutation-middle}
-use Rattle.list_laws.proofs.Members.{all_from_in, each_in, in_none, in_rest, in_front, cases_in}
+use Rattle.std.proofs.lemmas.List.Sorted.{IsPermutation-cons, IsPermutation-middle, IsPermutation-refl, IsPermutation-sym, IsPermutation-trans}
+use Rattle.list_laws.proofs.Members.{all_from_in, each_in, in_none, in_first, cases_in}
+use Rattle.list_laws.proofs.SetLaws.{same_by_permutation}
 use Rattle.list_laws.proofs.Pairs.{pairs_none, pairs_rest, pairs_cons, pair_with_first}
 
--- x stands at a place whose mark is b
-pub record IsMarked {X : Type 0} (b : Bool) (bs : List Bool) (xs : List X) (x : X) : Type 0 where
+-- x stands at a place with a mark
+pub record IsMarked {X : Type 0} (bs : List Bool) (xs : List X) (x : X) : Type 0 where
   pub place : ℕ
   pub within : place < length xs
-  pub mark : get_or bs place false ≡ b
+  pub mark : get_or bs place false ≡ true
   pub is : get_or xs place x ≡ x
 
 -- a mark that is turned
 pub turned_mark : {b : Bool} (bs : List Bool) (k : ℕ) → k < length bs → get_or bs k false ≡ b → get_or (map not bs) k false ≡ not b
 turned_mark bs k within mark = get_or-map not bs k false false within ∙ ap not mark
+
+pub turned_back : (bs : List Bool) (k : ℕ) → get_or (map not bs) k false ≡ true → get_or bs k false ≡ false
+turned_back [] k mark = refl
+turned_back (true ∷ bs) zero mark = absurd (false≢true mark)
+turned_back (false ∷ bs) zero mark = refl
+turned_back (b ∷ bs) (suc k) mark = turned_back bs k mark
 
 module _ {X : Type 0} where
   -- of two lists one behind the other
@@ -36,11 +43,11 @@ module _ {X : Type 0} where
       (λ t. items_where_true (sym (take-append-drop i bs) t) (sym (take-append-drop i xs) t))
       ∙ marked-append (take i bs) (take i xs) (drop i bs) (drop i xs) (omega (arith, long, length-take i bs, length-take i xs))
 
-  later : {b c : Bool} {bs : List Bool} {xs : List X} {x : X} (y : X) → IsMarked b bs xs x → IsMarked b (c ∷ bs) (y ∷ xs) x
+  later : {c : Bool} {bs : List Bool} {xs : List X} {x : X} (y : X) → IsMarked bs xs x → IsMarked (c ∷ bs) (y ∷ xs) x
   later y m = record { place = suc m.place; within = omega (arith, m.within); mark = m.mark; is = m.is }
 
   -- the marked elements
-  pub of_marked : (bs : List Bool) (xs : List X) (x : X) → Contains (items_where_true bs xs) x → IsMarked true bs xs x
+  pub of_marked : (bs : List Bool) (xs : List X) (x : X) → Contains (items_where_true bs xs) x → IsMarked bs xs x
   of_marked [] xs x h = absurd (in_none x h)
   of_marked (b ∷ bs) [] x h = absurd (in_none x h)
   of_marked (true ∷ bs) (y ∷ xs) x h = elim (cases_in y (items_where_true bs xs) x h) [
@@ -49,31 +56,20 @@ module _ {X : Type 0} where
   ]
   of_marked (false ∷ bs) (y ∷ xs) x h = later y (of_marked bs xs x h)
 
-  at_marked : (bs : List Bool) (xs : List X) (x : X) (k : ℕ) → k < length xs → get_or bs k false ≡ true → get_or xs k x ≡ x
-      → Contains (items_where_true bs xs) x
-  at_marked bs [] x k within mark is = absurd (omega arith)
-  at_marked [] (y ∷ xs) x k within mark is = absurd (false≢true mark)
-  at_marked (true ∷ bs) (y ∷ xs) x zero within mark is = in_front y (items_where_true bs xs) x (sym is)
-  at_marked (false ∷ bs) (y ∷ xs) x zero within mark is = absurd (false≢true mark)
-  at_marked (true ∷ bs) (y ∷ xs) x (suc k) within mark is = in_rest y (items_where_true bs xs) x (at_marked bs xs x k (omega arith) mark is)
-  at_marked (false ∷ bs) (y ∷ xs) x (suc k) within mark is = at_marked bs xs x k (omega arith) mark is
-
-  pub in_marked : (bs : List Bool) (xs : List X) (x : X) → IsMarked true bs xs x → Contains (items_where_true bs xs) x
-  in_marked bs xs x m = at_marked bs xs x m.place m.within m.mark m.is
-
-  -- the others
-  pub of_unmarked : (bs : List Bool) (xs : List X) (x : X) → Contains (items_where_true (map not bs) xs) x → IsMarked false bs xs x
-  of_unmarked bs xs x h =
-      let m = of_marked (map not bs) xs x h in record { place = m.place; within = m.within; mark = turned bs m.place m.mark; is = m.is }
-    where
-      turned : (bs : List Bool) (k : ℕ) → get_or (map not bs) k false ≡ true → get_or bs k false ≡ false
-      turned [] k mark = refl
-      turned (true ∷ bs) zero mark = absurd (false≢true mark)
-      turned (false ∷ bs) zero mark = refl
-      turned (b ∷ bs) (suc k) mark = turned bs k mark
-
-  pub in_unmarked : (bs : List Bool) (xs : List X) (x : X) → length bs ≡ length xs → IsMarked false bs xs x → Contains (items_where_true (map not bs) xs) x
-  in_unmarked bs xs x long m = at_marked (map not bs) xs x m.place m.within (turned_mark bs m.place (omega (arith, long, m.within)) m.mark) m.is
+  -- the marked and the others are all
+  pub marked_and_others : (bs : List Bool) (xs : List X) → length bs ≡ length xs
+      → IsPermutation xs (items_where_true bs xs ++ items_where_true (map not bs) xs)
+  marked_and_others [] [] long = IsPermutation-refl []
+  marked_and_others [] (x ∷ xs) long = absurd (omega arith)
+  marked_and_others (b ∷ bs) [] long = absurd (omega arith)
+  marked_and_others (true ∷ bs) (x ∷ xs) long =
+      IsPermutation-cons x xs (items_where_true bs xs ++ items_where_true (map not bs) xs) (marked_and_others bs xs (omega arith))
+  marked_and_others (false ∷ bs) (x ∷ xs) long =
+      let near = items_where_true bs xs in
+      let far = items_where_true (map not bs) xs in
+      IsPermutation-trans (x ∷ xs) (x ∷ (near ++ far)) (near ++ x ∷ far)
+      (IsPermutation-cons x xs (near ++ far) (marked_and_others bs xs (omega arith)))
+      (IsPermutation-sym (near ++ x ∷ far) (x ∷ (near ++ far)) (IsPermutation-middle near x far))
 
   -- a marked element is one
   pub in_whole : (bs : List Bool) (xs : List X) (x : X) → Contains (items_where_true bs xs) x → Contains xs x
@@ -122,6 +118,11 @@ module _ {X : Type 0} where
     -- and where it is marked it alone is gone
     pub marked_out : get_or bs i false ≡ true → IsPermutation (items_where_true bs xs) (x ∷ items_where_true (remove bs i) (remove xs i))
     marked_out mark = rw (parts true mark, left) (IsPermutation-middle before x (items_where_true (drop (suc i) bs) (drop (suc i) xs)))
+
+  pub in_marked : (bs : List Bool) (xs : List X) (x : X) → length bs ≡ length xs → IsMarked bs xs x → Contains (items_where_true bs xs) x
+  in_marked bs xs x long m =
+      let left = items_where_true (remove bs m.place) (remove xs m.place) in
+      (same_by_permutation (items_where_true bs xs) (x ∷ left) (marked_out bs xs m.place x long m.within m.is m.mark) x).0 (in_first x left)
 
   pub length-marked_le : (bs : List Bool) (xs : List X) → length (items_where_true bs xs) ≤ length xs
   length-marked_le [] xs = omega arith

@@ -1,20 +1,22 @@
 -- A sorted front, read place by place.
-use Rattle.std.proofs.Common.{◌≡◌, ◌≢◌, ℕ, zero, suc, ◌-◌, ◌<◌, ◌≤◌, ◌↔◌, Bool, true, false, not, List, [], length, map, take, get_or, inl, inr, refl, sym, ap, subst, subst₂, ◌∙◌, arith}
-use Rattle.std.specs.Prelude.{AllPairs, Contains}
+use Rattle.std.proofs.Common.{◌≡◌, ◌≢◌, ℕ, zero, suc, ◌-◌, ◌<◌, ◌≤◌, Bool, true, false, not, List, [], ◌++◌, length, map, take, get_or, inl, inr, sym, ap, subst, ◌∙◌, arith}
+use Rattle.std.specs.Prelude.{AllPairs, Contains, IsPermutation}
 use Rattle.std.specs.List.{items_where_true}
-use Rattle.std.proofs.lemmas.Bool.{cases_lt, cases_order, false≢true}
-use Rattle.std.proofs.lemmas.List.{get_or_default, get_or-take, length-take}
-use Rattle.std.proofs.lemmas.List.Elements.{AllZip-get_or, Contains-append_left, Contains-append_right, Contains-append_cases}
+use Rattle.std.proofs.lemmas.Bool.{cases_lt, cases_order}
+use Rattle.std.proofs.lemmas.List.{get_or_default, get_or-take, length-take, map-append}
+use Rattle.std.proofs.lemmas.List.Elements.{All-map, AllZip-get_or, Contains-get_or}
+use Rattle.std.proofs.lemmas.List.Sorted.{All-permutation, IsPermutation-map}
 use Rattle.cost_vector.specs.Costs.{AtMost}
-use Rattle.list_laws.proofs.Members.{in_map, of_map, all_from_in}
+use Rattle.list_laws.proofs.Members.{in_map, of_map}
 use Rattle.list_laws.proofs.Pairs.{pairs_map}
-use Rattle.list_laws.proofs.OnceLaws.{pairs_append}
+use Rattle.list_laws.proofs.SetLaws.{same_by_permutation}
 use Rattle.compact_labels.proofs.Components.{AtMost_from_places}
 use Rattle.pareto_front.specs.declared.front.FrontEntry.{FrontEntry}
 use Rattle.pareto_front.specs.Fronts.{Entry, entries, HasCost, IsFront, IsCovered, AreIncomparable}
 use Rattle.pareto_front.specs.Calls.{told_entry}
 use Rattle.pareto_front.specs.Sorted.{IsSorted, first, second, front_of, IsBefore, IsUpTo}
-use Rattle.pareto_front.proofs.Marks.{IsMarked, of_marked, in_marked, of_unmarked, in_unmarked, pairs_marked}
+use Rattle.pareto_front.proofs.FrontLaws.{incomparable_in_any_order}
+use Rattle.pareto_front.proofs.Marks.{in_marked, marked_and_others, of_marked, turned_back}
 
 -- ---- costs of two components
 
@@ -73,65 +75,36 @@ pub record IsAt (list : List (FrontEntry 2)) (c : List ℕ) (i : ℕ) : Type 0 w
   pub within : i < length list
   pub cost : cost_at list i ≡ c
 
--- the entry at a place whose mark is b
-pub record Stands (b : Bool) (marks : List Bool) (list : List (FrontEntry 2)) (e : Entry) : Type 0 where
-  pub place : ℕ
-  pub within : place < length list
-  pub mark : get_or marks place false ≡ b
-  pub is : told_entry (at list place) ≡ e
-
-module _ (list : List (FrontEntry 2)) (marks : List Bool) (marked : length marks ≡ length list) where
-  stands : (b : Bool) (x : FrontEntry 2) → IsMarked b marks list x → Stands b marks list (told_entry x)
-  stands b x m = record { place = m.place; within = m.within; mark = m.mark; is = ap told_entry (get_or_default list m.place filler x m.within ∙ m.is) }
-
-  is_marked : (b : Bool) (k : ℕ) → k < length list → get_or marks k false ≡ b → IsMarked b marks list (at list k)
-  is_marked b k within mark = record { place = k; within = within; mark = mark; is = get_or_default list k (at list k) filler within }
-
-  -- the settled entries are those at the places with a mark
-  pub of_settled : (e : Entry) → Contains (front_of list marks).settled e → Stands true marks list e
-  of_settled e h =
-      let from = of_map told_entry (items_where_true marks list) e h in
-      subst (Stands true marks list) (sym from.2) (stands true from.0 (of_marked marks list from.0 from.1))
-
-  pub in_settled : (e : Entry) → Stands true marks list e → Contains (front_of list marks).settled e
-  in_settled e s = subst (Contains (front_of list marks).settled) s.is
-      (in_map told_entry (items_where_true marks list) (at list s.place) (in_marked marks list (at list s.place) (is_marked true s.place s.within s.mark)))
-
-  pub of_unsettled : (e : Entry) → Contains (front_of list marks).unsettled e → Stands false marks list e
-  of_unsettled e h =
-      let from = of_map told_entry (items_where_true (map not marks) list) e h in
-      subst (Stands false marks list) (sym from.2) (stands false from.0 (of_unmarked marks list from.0 from.1))
-
-  pub in_unsettled : (e : Entry) → Stands false marks list e → Contains (front_of list marks).unsettled e
-  in_unsettled e s = subst (Contains (front_of list marks).unsettled) s.is
-      (in_map told_entry (items_where_true (map not marks) list) (at list s.place)
-      (in_unmarked marks list (at list s.place) marked (is_marked false s.place s.within s.mark)))
-
-  pub settled_stands : (e : Entry) → Contains (front_of list marks).settled e ↔ Stands true marks list e
-  settled_stands e = (of_settled e, in_settled e)
-
-  pub unsettled_stands : (e : Entry) → Contains (front_of list marks).unsettled e ↔ Stands false marks list e
-  unsettled_stands e = (of_unsettled e, in_unsettled e)
-
-  -- the entries are those at all places
-  pub of_entries : (e : Entry) → Contains (entries (front_of list marks)) e → (k : ℕ) × (k < length list) × (told_entry (at list k) ≡ e)
-  of_entries e h = elim (Contains-append_cases (front_of list marks).settled (front_of list marks).unsettled e h) [
-    | inl old ↦ let s = of_settled e old in (s.place, s.within, s.is)
-    | inr open_one ↦ let s = of_unsettled e open_one in (s.place, s.within, s.is)
-  ]
-
-  pub in_entries : (k : ℕ) → k < length list → Contains (entries (front_of list marks)) (told_entry (at list k))
-  in_entries k within = by (get_or marks k false) refl
-    where
-      by : (b : Bool) → get_or marks k false ≡ b → Contains (entries (front_of list marks)) (told_entry (at list k))
-      by true mark = Contains-append_left (front_of list marks).settled (front_of list marks).unsettled _
-          (in_settled (told_entry (at list k)) (record { place = k; within = within; mark = mark; is = refl }))
-      by false mark = Contains-append_right (front_of list marks).settled (front_of list marks).unsettled _
-          (in_unsettled (told_entry (at list k)) (record { place = k; within = within; mark = mark; is = refl }))
-
 -- ---- what the order of a sorted front tells
 
 module _ {list : List (FrontEntry 2)} {marks : List Bool} {n : ℕ} (s : IsSorted list marks n) where
+  -- the entries of the front are those of the list
+  all_moved : IsPermutation (map told_entry list) (entries (front_of list marks))
+  all_moved = rw (← map-append told_entry (items_where_true marks list) (items_where_true (map not marks) list))
+      (IsPermutation-map told_entry list (items_where_true marks list ++ items_where_true (map not marks) list) (marked_and_others marks list s.marked))
+
+  pub of_entries : (e : Entry) → Contains (entries (front_of list marks)) e → (k : ℕ) × (k < length list) × (told_entry (at list k) ≡ e)
+  of_entries e h =
+      let (x, there, is) = of_map told_entry list e ((same_by_permutation (map told_entry list) (entries (front_of list marks)) all_moved e).0 h) in
+      (there.0, there.1, ap told_entry (get_or_default list there.0 filler x there.1 ∙ there.2) ∙ sym is)
+
+  pub in_entries : (k : ℕ) → k < length list → Contains (entries (front_of list marks)) (told_entry (at list k))
+  in_entries k within = (same_by_permutation (map told_entry list) (entries (front_of list marks)) all_moved (told_entry (at list k))).1
+      (in_map told_entry list (at list k) (Contains-get_or list k filler within))
+
+  -- where a marked entry stands
+  marked_place : (bs : List Bool) (e : Entry) → Contains (map told_entry (items_where_true bs list)) e
+      → (k : ℕ) × (k < length list) × (get_or bs k false ≡ true) × (told_entry (at list k) ≡ e)
+  marked_place bs e h =
+      let (x, there, is) = of_map told_entry (items_where_true bs list) e h in
+      let m = of_marked bs list x there in
+      (m.place, m.within, m.mark, ap told_entry (get_or_default list m.place filler x m.within ∙ m.is) ∙ sym is)
+
+  -- where a mark is an entry is settled
+  pub in_settled : (k : ℕ) → k < length list → get_or marks k false ≡ true → Contains (front_of list marks).settled (told_entry (at list k))
+  in_settled k within mark = in_map told_entry (items_where_true marks list) (at list k) (in_marked marks list (at list k) s.marked
+      (record { place = k; within = within; mark = mark; is = get_or_default list k (at list k) filler within }))
+
   pub long_at : (k : ℕ) → k < length list → length (cost_at list k) ≡ 2
   long_at k within = s.components k filler within
 
@@ -139,15 +112,22 @@ module _ {list : List (FrontEntry 2)} {marks : List Bool} {n : ℕ} (s : IsSorte
       → (first (cost_at list i) < first (cost_at list j)) × (second (cost_at list j) < second (cost_at list i))
   falls i j before within = s.descends i j filler before within
 
-  apart : (i j : ℕ) → i < j → j < length list → AreIncomparable (told_entry (at list i)) (told_entry (at list j))
-  apart i j before within =
-      let f = falls i j before within in record {
-        one_way = λ h. omega (arith, second_at_most (cost_at list i) (cost_at list j) (long_at i (omega arith)) h, f.1);
-        other_way = λ h. omega (arith, first_at_most (cost_at list j) (cost_at list i) (long_at j within) h, f.0);
+  apart : AllPairs (λ (x z : FrontEntry 2). AreIncomparable (told_entry x) (told_entry z)) list
+  apart i j d before within =
+      let f = s.descends i j d before within in record {
+        one_way = λ h. omega (arith, second_at_most (get_or list i d).cost.0 (get_or list j d).cost.0 (s.components i d (omega arith)) h, f.1);
+        other_way = λ h. omega (arith, first_at_most (get_or list j d).cost.0 (get_or list i d).cost.0 (s.components j d within) h, f.0);
       }
 
-  turned : {a b : Entry} → AreIncomparable a b → AreIncomparable b a
-  turned h = record { one_way = h.other_way; other_way = h.one_way }
+  pub is_front : IsFront 2 (front_of list marks)
+  is_front = record {
+    two = omega arith;
+    four = omega arith;
+    components = All-permutation (λ (e : Entry). length e.cost ≡ 2) (map told_entry list) (entries (front_of list marks)) all_moved
+        (All-map (λ (e : Entry). length e.cost ≡ 2) told_entry list s.components);
+    incomparable = incomparable_in_any_order (map told_entry list) (entries (front_of list marks)) all_moved
+        (pairs_map (λ (x z : FrontEntry 2). AreIncomparable (told_entry x) (told_entry z)) AreIncomparable told_entry (λ x z h. h) list apart);
+  }
 
   -- entries of one cost stand at one place
   pub same_place : (i j : ℕ) → i < length list → j < length list → cost_at list i ≡ cost_at list j → i ≡ j
@@ -157,49 +137,23 @@ module _ {list : List (FrontEntry 2)} {marks : List Bool} {n : ℕ} (s : IsSorte
     | inr (inr after) ↦ absurd (omega (arith, (falls j i after within).0, ap first e))
   ]
 
-  pub is_front : IsFront 2 (front_of list marks)
-  is_front = record {
-    two = omega arith;
-    four = omega arith;
-    components = all_from_in (λ e. length e.cost ≡ 2) (entries (front_of list marks)) (λ e h.
-        let (k, within, is) = of_entries list marks s.marked e h in
-        subst (λ (x : Entry). length x.cost ≡ 2) is (long_at k within));
-    incomparable = pairs_append AreIncomparable (front_of list marks).settled (front_of list marks).unsettled (images marks) (images (map not marks)) across;
-  }
-    where
-      images : (bs : List Bool) → AllPairs AreIncomparable (map told_entry (items_where_true bs list))
-      images bs = pairs_map (λ x y. AreIncomparable (told_entry x) (told_entry y)) AreIncomparable told_entry (λ x y h. h) (items_where_true bs list)
-          (pairs_marked (λ x y. AreIncomparable (told_entry x) (told_entry y)) bs list (λ i j d before within.
-          subst₂ (λ x y. AreIncomparable (told_entry x) (told_entry y)) (get_or_default list i filler d (omega arith)) (get_or_default list j filler d within)
-          (apart i j before within)))
-
-      across : (x y : Entry) → Contains (front_of list marks).settled x → Contains (front_of list marks).unsettled y → AreIncomparable x y
-      across x y h k =
-          let a = of_settled list marks s.marked x h in
-          let b = of_unsettled list marks s.marked y k in
-          subst₂ AreIncomparable a.is b.is (elim (cases_order a.place b.place) [
-            | inl same ↦ absurd (false≢true (sym b.mark ∙ ap (λ i. get_or marks i false) (sym same) ∙ a.mark))
-            | inr (inl before) ↦ apart a.place b.place before b.within
-            | inr (inr after) ↦ turned (apart b.place a.place after a.within)
-          ])
-
   -- a cost is covered where the cost at some place is at most it
   pub covered_at : (c : List ℕ) → IsCovered (entries (front_of list marks)) c → (k : ℕ) × (k < length list) × AtMost (cost_at list k) c
   covered_at c h =
-      let (k, within, is) = of_entries list marks s.marked h.by h.contains in
+      let (k, within, is) = of_entries h.by h.contains in
       (k, within, subst (λ (e : Entry). AtMost e.cost c) (sym is) h.at_most)
 
   pub covers : (c : List ℕ) (k : ℕ) → k < length list → AtMost (cost_at list k) c → IsCovered (entries (front_of list marks)) c
   covers c k within below = record {
     by = told_entry (at list k);
-    contains = in_entries list marks s.marked k within;
+    contains = in_entries k within;
     at_most = below;
   }
 
   -- the place of a cost
   pub cost_place : (c : List ℕ) → HasCost (entries (front_of list marks)) c → (k : ℕ) × (k < length list) × (cost_at list k ≡ c)
   cost_place c h =
-      let (k, within, is) = of_entries list marks s.marked (record { cost = c; arc = h.arc }) h.contains in
+      let (k, within, is) = of_entries (record { cost = c; arc = h.arc }) h.contains in
       (k, within, ap (λ (e : Entry). e.cost) is)
 
   module _ (c : List ℕ) (i : ℕ) (cut : IsBefore list (first c) i) where
@@ -221,18 +175,17 @@ module _ {list : List (FrontEntry 2)} {marks : List Bool} {n : ℕ} (s : IsSorte
     pub settled_at : (arc : ℕ) → Contains (front_of list marks).settled (record { cost = c; arc = arc })
         → (i < length list) × (get_or marks i false ≡ true) × (told_entry (at list i) ≡ record { cost = c; arc = arc })
     settled_at arc h =
-        let there = of_settled list marks s.marked (record { cost = c; arc = arc }) h in
-        let here = stands_at there.place there.within (ap (λ (e : Entry). e.cost) there.is) in
-        let e : there.place ≡ i = sym here in
-        (omega (arith, there.within, e), ap (λ k. get_or marks k false) here ∙ there.mark, ap (λ k. told_entry (at list k)) here ∙ there.is)
+        let (k, within, mark, is) = marked_place marks (record { cost = c; arc = arc }) h in
+        let here = stands_at k within (ap (λ (e : Entry). e.cost) is) in
+        (omega (arith, within, here), ap (λ j. get_or marks j false) here ∙ mark, ap (λ j. told_entry (at list j)) here ∙ is)
 
     -- and an unsettled one
     pub unsettled_at : HasCost (front_of list marks).unsettled c → IsAt list c i × (get_or marks i false ≡ false)
     unsettled_at found =
-        let there = of_unsettled list marks s.marked (record { cost = c; arc = found.arc }) found.contains in
-        let cost_is : cost_at list there.place ≡ c = ap (λ (e : Entry). e.cost) there.is in
-        let here = stands_at there.place there.within cost_is in
-        (record { within = omega (arith, there.within, here); cost = ap (cost_at list) here ∙ cost_is }, ap (λ k. get_or marks k false) here ∙ there.mark)
+        let (k, within, mark, is) = marked_place (map not marks) (record { cost = c; arc = found.arc }) found.contains in
+        let cost_is : cost_at list k ≡ c = ap (λ (e : Entry). e.cost) is in
+        let here = stands_at k within cost_is in
+        (record { within = omega (arith, within, here); cost = ap (cost_at list) here ∙ cost_is }, ap (λ j. get_or marks j false) here ∙ turned_back marks k mark)
 
   module _ (c : List ℕ) (long : length c ≡ 2) (i : ℕ) (cut : IsUpTo list (first c) i) where
     uncovered : ((k : ℕ) → k < i → second c < second (cost_at list k)) → ¬ IsCovered (entries (front_of list marks)) c
@@ -270,4 +223,4 @@ module _ {list : List (FrontEntry 2)} {marks : List Bool} {n : ℕ} (s : IsSorte
   pub nearest_in : {i : ℕ} {x : FrontEntry 2} → IsNearest list i x → Contains (entries (front_of list marks)) (told_entry x)
   nearest_in {i} near =
       subst (λ (e : FrontEntry 2). Contains (entries (front_of list marks)) (told_entry e)) near.is
-      (in_entries list marks s.marked (i - 1) (omega (arith, near.some, near.within)))
+      (in_entries (i - 1) (omega (arith, near.some, near.within)))

@@ -1,11 +1,12 @@
-use Rattle.std.proofs.Common.{◌≡◌, ◌<◌, length, arith, sym, ap, ◌∙◌, Some}
+use Rattle.std.proofs.Common.{◌≡◌, ◌<◌, length, arith, sym, ap, subst, ◌∙◌, Some}
+use Rattle.std.specs.Prelude.{Contains}
 use Rattle.std.specs.Cmp.Lexicographic.{bytes_decides}
 use Rattle.std.proofs.lemmas.Bool.{false≢true}
 use Rattle.cost_vector.specs.declared.label.ArcNo.{ArcNo}
 use Rattle.pareto_front.specs.declared.front.FrontEntry.{FrontEntry}
 use Rattle.pareto_front.specs.Calls.{told_entry}
 use Rattle.pareto_front.specs.Fronts.{Entry}
-use Rattle.pareto_front.specs.Sorted.{first, IsBefore}
+use Rattle.pareto_front.specs.Sorted.{first, front_of, IsBefore}
 use Rattle.pareto_front.proofs.Neighbours.{at, read_at, mark_at, in_settled, settled_at}
 use Rattle.pareto_front.proofs.sorted.SortedFrontParetoFront2.settled_arc.Goals as goal
 use Rattle.pareto_front.proofs.sorted.SortedFrontParetoFront2.settled_arc.Goals.{else-at-len-via-then-at-len+then-index+else-eq, else-at-len-via-then-at-len+else-index, else-at-len-via-else-at-len}
@@ -28,12 +29,8 @@ returns-then-eq c =
     let told : told_entry (at list i) ≡ record { cost = cost; arc = c.index-then-eq.result.now.arc.0 } =
     λ j. record { cost = (ap (λ (x : FrontEntry 2). x.cost.0) read ∙ same) j; arc = ap (λ (x : FrontEntry 2). x.arc.0) taken j } in
     rw (← c.self.view_is) (λ arc. (
-      λ is. in_settled list marks c.self.invariant.marked (record { cost = cost; arc = arc.0 }) (record {
-        place = i;
-        within = within;
-        mark = mark;
-        is = told ∙ ap (λ (a : ArcNo). record { cost = cost; arc = a.0 }) (cc);
-      }),
+      λ is. subst (Contains (front_of list marks).settled) (told ∙ ap (λ (a : ArcNo). record { cost = cost; arc = a.0 }) (cc))
+          (in_settled c.self.invariant i within mark),
       λ h.
           let there = settled_at c.self.invariant cost i cut arc.0 h in
           let number : c.index-then-eq.result.now.arc.0 ≡ arc.0 = ap (λ (e : Entry). e.arc) (sym told ∙ there.2) in

@@ -3,18 +3,19 @@ use Rattle.std.proofs.Common.{◌≡◌, ℕ, ◌+◌, ◌-◌, ◌*◌, ◌/◌
 use Rattle.std.proofs.Common.{subst, subst₂, ◌∙◌, arith, take-append-drop}
 use Rattle.std.specs.Prelude.{All, Contains, IsPermutation}
 use Rattle.std.proofs.Math.Nat.{div-lt_iff_lt-mul}
-use Rattle.std.proofs.Math.Seq.{take-add}
 use Rattle.std.proofs.lemmas.Bool.{cases_lt, cases_eq}
 use Rattle.std.proofs.lemmas.Nat.{div-mul-add}
 use Rattle.std.proofs.lemmas.List.{get_or-take, get_or-drop, get_or_append_left, get_or_push, get_or-set_same, get_or-set_other}
 use Rattle.std.proofs.lemmas.List.{length-take, length-drop, length-set, length_push}
-use Rattle.std.proofs.lemmas.List.Elements.{All-append, Contains-get_or}
+use Rattle.std.proofs.lemmas.List.Elements.{Contains-get_or}
 use Rattle.std.proofs.lemmas.List.Sorted.{Contains-permutation, IsPermutation-append_right, IsPermutation-sym, length_permutation}
 use Rattle.cost_vector.specs.Costs.{AtMost}
 use Rattle.cost_vector.proofs.Vectors.{AtMost-refl, AtMost-trans}
 use Rattle.compact_labels.specs.declared.cost.CompactCost.{CompactCost}
 use Rattle.pareto_front.specs.declared.front.FrontEntry.{FrontEntry}
 use Rattle.pareto_front.specs.Blocks.{CoversAt, CoversNone, HaveCorners}
+use Rattle.pareto_front.proofs.FrontLaws.{set_costs}
+use Rattle.pareto_front.proofs.Parts.{all_more}
 
 -- an element of a part of a list
 module _ {X : Type 0} (n m : ℕ) (xs : List X) (k : ℕ) (inside : k < length (take n (drop m xs))) where
@@ -26,24 +27,6 @@ module _ {X : Type 0} (n m : ℕ) (xs : List X) (k : ℕ) (inside : k < length (
 
   pub get_or-part : (d : X) → get_or (take n (drop m xs)) k d ≡ get_or xs (m + k) d
   get_or-part d = get_or-take n (drop m xs) k d within_part ∙ get_or-drop m xs k d
-
--- what holds of a part and of all behind it
-pub all_more : {X : Type 0} (P : X → Type 0) (n m : ℕ) (xs : List X) → All P (take n (drop m xs)) → All P (drop (m + n) xs) → All P (drop m xs)
-all_more P n m xs part rest = λ k d within.
-    elim (cases_lt k n) [
-      | inl before ↦
-          let inside : k < length (take n (drop m xs)) = omega (arith, within, before, length-take n (drop m xs)) in
-          subst P (get_or-take n (drop m xs) k d before) (part k d inside)
-      | inr behind ↦
-          let i : ℕ = k - n in
-          let inside : i < length (drop (m + n) xs) = omega (arith, within, length-drop (m + n) xs, length-drop m xs) in
-          let there : get_or xs ((m + n) + i) d ≡ get_or xs (m + k) d = ap (λ j. get_or xs j d) (omega arith) in
-          subst P (get_or-drop (m + n) xs i d ∙ there ∙ sym (get_or-drop m xs k d)) (rest i d inside)
-    ]
-
--- what holds of a part and of all before it
-pub all_before : {X : Type 0} (P : X → Type 0) (n m : ℕ) (xs : List X) → All P (take m xs) → All P (take n (drop m xs)) → All P (take (m + n) xs)
-all_before P n m xs front part = subst (All P) (sym (take-add m n xs)) (All-append P (take m xs) (take n (drop m xs)) front part)
 
 -- a block more without an entry that is at most a cost, before the next
 pub none_more : {D : ℕ} (size b next : ℕ) (list : List (FrontEntry D)) (c : List ℕ) → next ≡ b + 1 → CoversNone (take size (drop (b * size) list)) c
@@ -78,22 +61,13 @@ module _ {D : ℕ} (size : ℕ) {settled : List (FrontEntry D)} {corners : List 
       above (AtMost-trans corner.0 (get_or settled j d).cost.0 c under there)
 
   -- corners are about costs alone
-  pub corners_relabelled : (i : ℕ) (x : FrontEntry D) → ((d : FrontEntry D) → (get_or settled i d).cost ≡ x.cost)
+  pub corners_relabelled : (i : ℕ) (x : FrontEntry D) → i < length settled → ((d : FrontEntry D) → (get_or settled i d).cost ≡ x.cost)
       → HaveCorners size (set settled i x) corners
-  corners_relabelled i x same = record {
+  corners_relabelled i x within same = record {
     enough = omega (arith, have.enough, length-set settled i x);
     no_more = omega (arith, have.no_more, length-set settled i x);
-    at_most = λ j e c inside.
-        let old : j < length settled = omega (arith, inside, length-set settled i x) in
-        let corner : CompactCost D = get_or corners (j / size) c in
-        elim (cases_eq j i) [
-          | inl here ↦
-              let is : get_or (set settled i x) j e ≡ x =
-              ap (λ k. get_or (set settled i x) k e) here ∙ get_or-set_same settled i x e (omega (arith, here, old)) in
-              let cost_is : (get_or settled j e).cost ≡ x.cost = ap (λ k. (get_or settled k e).cost) here ∙ same e in
-              rw is (subst (λ (y : CompactCost D). AtMost corner.0 y.0) cost_is (have.at_most j e c old))
-          | inr other ↦ rw (get_or-set_other settled i j x e other) (have.at_most j e c old)
-        ];
+    at_most = λ j e c inside. rw (set_costs settled i x within (λ d. ap (λ (k : CompactCost D). k.0) (same d)) j e)
+        (have.at_most j e c (omega (arith, inside, length-set settled i x)));
   }
 
   -- one entry more: its block has a corner, or it begins a block

@@ -206,8 +206,8 @@ module _ {D : ℕ} {settled unsettled : List (FrontEntry D)} {corners wide : Lis
     relabelled_settled_blocks = record {
       front = front_by_costs (told_front settled unsettled) (told_front (set settled i (with_arc x arc)) unsettled)
           (same_costs settled arc i x there.within is) refl held.front;
-      cornered = corners_relabelled 16 held.cornered i (with_arc x arc) (cost_there settled arc i x there.within is);
-      wide_cornered = corners_relabelled 128 held.wide_cornered i (with_arc x arc) (cost_there settled arc i x there.within is);
+      cornered = corners_relabelled 16 held.cornered i (with_arc x arc) there.within (cost_there settled arc i x there.within is);
+      wide_cornered = corners_relabelled 128 held.wide_cornered i (with_arc x arc) there.within (cost_there settled arc i x there.within is);
       ascend = held.ascend;
       fits = omega (arith, held.fits, length-set settled i (with_arc x arc));
     }

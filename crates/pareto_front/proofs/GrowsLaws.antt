@@ -96,6 +96,11 @@ module _ {D : ℕ} (list : List (FrontEntry D)) (i : ℕ) (x : FrontEntry D) (wi
 abbrev pub DominatedBefore : {D : ℕ} → List ℕ → List (FrontEntry D) → ℕ → List ℕ → Type 0
 DominatedBefore by list i c = HasCost (map told_entry (take i list)) c × Dominates by c
 
+-- before the first place there are none
+pub finds_none : {D : ℕ} (v : ℕ) (by : List ℕ) (list : List (FrontEntry D)) (xs : List (CompactSpot D)) → GrowsBy v (DominatedBefore by list 0) xs xs
+finds_none v by list xs = grows_none v (DominatedBefore by list 0) (DominatedBefore by list 0) xs xs
+    (λ c h. in_none (record { cost = c; arc = h.0.arc }) h.0.contains)
+
 -- one place on, at the entry x
 module _ {D : ℕ} (v : ℕ) (by : List ℕ) (list : List (FrontEntry D)) (i : ℕ) (x : FrontEntry D) (within : i < length list) (is : x ≡ get_or list i x)
     (xs ys : List (CompactSpot D)) (grown : GrowsBy v (DominatedBefore by list i) xs ys) where

@@ -83,14 +83,16 @@ module _ {list : List (FrontEntry 2)} {marks : List Bool} {n : ℕ} (s : IsSorte
   all_moved = rw (← map-append told_entry (items_where_true marks list) (items_where_true (map not marks) list))
       (IsPermutation-map told_entry list (items_where_true marks list ++ items_where_true (map not marks) list) (marked_and_others marks list s.marked))
 
-  pub of_entries : (e : Entry) → Contains (entries (front_of list marks)) e → (k : ℕ) × (k < length list) × (told_entry (at list k) ≡ e)
-  of_entries e h =
-      let (x, there, is) = of_map told_entry list e ((same_by_permutation (map told_entry list) (entries (front_of list marks)) all_moved e).0 h) in
-      (there.0, there.1, ap told_entry (get_or_default list there.0 filler x there.1 ∙ there.2) ∙ sym is)
+  pub of_entry : (e : Entry) → Contains (entries (front_of list marks)) e → (x : FrontEntry 2) × Contains list x × (e ≡ told_entry x)
+  of_entry e h = of_map told_entry list e ((same_by_permutation (map told_entry list) (entries (front_of list marks)) all_moved e).0 h)
 
-  pub in_entries : (k : ℕ) → k < length list → Contains (entries (front_of list marks)) (told_entry (at list k))
-  in_entries k within = (same_by_permutation (map told_entry list) (entries (front_of list marks)) all_moved (told_entry (at list k))).1
-      (in_map told_entry list (at list k) (Contains-get_or list k filler within))
+  pub entry_in : (x : FrontEntry 2) → Contains list x → Contains (entries (front_of list marks)) (told_entry x)
+  entry_in x h = (same_by_permutation (map told_entry list) (entries (front_of list marks)) all_moved (told_entry x)).1 (in_map told_entry list x h)
+
+  of_entries : (e : Entry) → Contains (entries (front_of list marks)) e → (k : ℕ) × (k < length list) × (told_entry (at list k) ≡ e)
+  of_entries e h =
+      let (x, there, is) = of_entry e h in
+      (there.0, there.1, ap told_entry (get_or_default list there.0 filler x there.1 ∙ there.2) ∙ sym is)
 
   -- where a marked entry stands
   marked_place : (bs : List Bool) (e : Entry) → Contains (map told_entry (items_where_true bs list)) e
@@ -112,7 +114,7 @@ module _ {list : List (FrontEntry 2)} {marks : List Bool} {n : ℕ} (s : IsSorte
       → (first (cost_at list i) < first (cost_at list j)) × (second (cost_at list j) < second (cost_at list i))
   falls i j before within = s.descends i j filler before within
 
-  apart : AllPairs (λ (x z : FrontEntry 2). AreIncomparable (told_entry x) (told_entry z)) list
+  pub apart : AllPairs (λ (x z : FrontEntry 2). AreIncomparable (told_entry x) (told_entry z)) list
   apart i j d before within =
       let f = s.descends i j d before within in record {
         one_way = λ h. omega (arith, second_at_most (get_or list i d).cost.0 (get_or list j d).cost.0 (s.components i d (omega arith)) h, f.1);
@@ -146,7 +148,7 @@ module _ {list : List (FrontEntry 2)} {marks : List Bool} {n : ℕ} (s : IsSorte
   pub covers : (c : List ℕ) (k : ℕ) → k < length list → AtMost (cost_at list k) c → IsCovered (entries (front_of list marks)) c
   covers c k within below = record {
     by = told_entry (at list k);
-    contains = in_entries k within;
+    contains = entry_in (at list k) (Contains-get_or list k filler within);
     at_most = below;
   }
 
@@ -223,4 +225,4 @@ module _ {list : List (FrontEntry 2)} {marks : List Bool} {n : ℕ} (s : IsSorte
   pub nearest_in : {i : ℕ} {x : FrontEntry 2} → IsNearest list i x → Contains (entries (front_of list marks)) (told_entry x)
   nearest_in {i} near =
       subst (λ (e : FrontEntry 2). Contains (entries (front_of list marks)) (told_entry e)) near.is
-      (in_entries (i - 1) (omega (arith, near.some, near.within)))
+      (entry_in (at list (i - 1)) (Contains-get_or list (i - 1) filler (omega (arith, near.some, near.within))))

@@ -25,17 +25,19 @@ without_images f P before after out = record {
 
 -- a list without its middle part
 pub without_middle : {X : Type 0} (P : X → Type 0) (near middle far : List X) → All P middle → All (λ x. ¬ P x) near → All (λ x. ¬ P x) far
-    → IsWithout P ((near ++ middle) ++ far) (near ++ far)
+    → IsWithout P (near ++ (middle ++ far)) (near ++ far)
 without_middle P near middle far holds fails_near fails_far = record {
-  old = all_from_in (Contains ((near ++ middle) ++ far)) (near ++ far) (λ x h. elim (Contains-append_cases near far x h) [
-    | inl front ↦ Contains-append_left (near ++ middle) far x (Contains-append_left near middle x front)
-    | inr back ↦ Contains-append_right (near ++ middle) far x back
+  old = all_from_in (Contains (near ++ (middle ++ far))) (near ++ far) (λ x h. elim (Contains-append_cases near far x h) [
+    | inl front ↦ Contains-append_left near (middle ++ far) x front
+    | inr back ↦ Contains-append_right near (middle ++ far) x (Contains-append_right middle far x back)
   ]);
-  kept = All-append (λ x. P x ⊎ Contains (near ++ far) x) (near ++ middle) far
-      (All-append (λ x. P x ⊎ Contains (near ++ far) x) near middle
-      (all_from_in (λ x. P x ⊎ Contains (near ++ far) x) near (λ x h. inr (Contains-append_left near far x h)))
-      (All-weaker P (λ x. P x ⊎ Contains (near ++ far) x) (λ x h. inl h) middle holds))
-      (all_from_in (λ x. P x ⊎ Contains (near ++ far) x) far (λ x h. inr (Contains-append_right near far x h)));
+  kept = all_from_in (λ x. P x ⊎ Contains (near ++ far) x) (near ++ (middle ++ far)) (λ x h. elim (Contains-append_cases near (middle ++ far) x h) [
+    | inl front ↦ inr (Contains-append_left near far x front)
+    | inr behind ↦ elim (Contains-append_cases middle far x behind) [
+      | inl there ↦ inl (each_in P middle holds x there)
+      | inr back ↦ inr (Contains-append_right near far x back)
+    ]
+  ]);
   gone = All-append (λ x. ¬ P x) near far fails_near fails_far;
 }
 

@@ -131,36 +131,9 @@ module _ {list : List (FrontEntry 2)} {marks : List Bool} {n : ℕ} (s : IsSorte
         (pairs_map (λ (x z : FrontEntry 2). AreIncomparable (told_entry x) (told_entry z)) AreIncomparable told_entry (λ x z h. h) list apart);
   }
 
-  -- entries of one cost stand at one place
-  pub same_place : (i j : ℕ) → i < length list → j < length list → cost_at list i ≡ cost_at list j → i ≡ j
-  same_place i j within within_too e = elim (cases_order i j) [
-    | inl same ↦ same
-    | inr (inl before) ↦ absurd (omega (arith, (falls i j before within_too).0, ap first e))
-    | inr (inr after) ↦ absurd (omega (arith, (falls j i after within).0, ap first e))
-  ]
-
-  -- a cost is covered where the cost at some place is at most it
-  pub covered_at : (c : List ℕ) → IsCovered (entries (front_of list marks)) c → (k : ℕ) × (k < length list) × AtMost (cost_at list k) c
-  covered_at c h =
-      let (k, within, is) = of_entries h.by h.contains in
-      (k, within, subst (λ (e : Entry). AtMost e.cost c) (sym is) h.at_most)
-
-  pub covers : (c : List ℕ) (k : ℕ) → k < length list → AtMost (cost_at list k) c → IsCovered (entries (front_of list marks)) c
-  covers c k within below = record {
-    by = told_entry (at list k);
-    contains = entry_in (at list k) (Contains-get_or list k filler within);
-    at_most = below;
-  }
-
-  -- the place of a cost
-  pub cost_place : (c : List ℕ) → HasCost (entries (front_of list marks)) c → (k : ℕ) × (k < length list) × (cost_at list k ≡ c)
-  cost_place c h =
-      let (k, within, is) = of_entries (record { cost = c; arc = h.arc }) h.contains in
-      (k, within, ap (λ (e : Entry). e.cost) is)
-
   module _ (c : List ℕ) (i : ℕ) (cut : IsBefore list (first c) i) where
     -- an entry of the cost stands behind those with a lesser first component
-    pub stands_at : (k : ℕ) → k < length list → cost_at list k ≡ c → i ≡ k
+    stands_at : (k : ℕ) → k < length list → cost_at list k ≡ c → i ≡ k
     stands_at k within is = elim (cases_order i k) [
       | inl same ↦ same
       | inr (inl before) ↦ absurd (omega (arith, (falls i k before within).0, cut.1 i filler (omega arith) (omega arith), ap first is))
@@ -169,9 +142,10 @@ module _ {list : List (FrontEntry 2)} {marks : List Bool} {n : ℕ} (s : IsSorte
 
     pub is_at : HasCost (entries (front_of list marks)) c → IsAt list c i
     is_at found =
-        let (k, within, is) = cost_place c found in
-        let same : k ≡ i = sym (stands_at k within is) in
-        record { within = omega (arith, within, same); cost = ap (cost_at list) (sym same) ∙ is }
+        let (k, within, is) = of_entries (record { cost = c; arc = found.arc }) found.contains in
+        let cost_is = ap (λ (e : Entry). e.cost) is in
+        let here = stands_at k within cost_is in
+        record { within = omega (arith, within, here); cost = ap (cost_at list) here ∙ cost_is }
 
     -- so does a settled one
     pub settled_at : (arc : ℕ) → Contains (front_of list marks).settled (record { cost = c; arc = arc })
@@ -192,7 +166,8 @@ module _ {list : List (FrontEntry 2)} {marks : List Bool} {n : ℕ} (s : IsSorte
   module _ (c : List ℕ) (long : length c ≡ 2) (i : ℕ) (cut : IsUpTo list (first c) i) where
     uncovered : ((k : ℕ) → k < i → second c < second (cost_at list k)) → ¬ IsCovered (entries (front_of list marks)) c
     uncovered above h =
-        let (k, within, below) = covered_at c h in
+        let (k, within, is) = of_entries h.by h.contains in
+        let below = subst (λ (e : Entry). AtMost e.cost c) (sym is) h.at_most in
         elim (cases_lt k i) [
           | inl near ↦ omega (arith, above k near, second_at_most (cost_at list k) c (long_at k within) below)
           | inr far ↦ omega (arith, cut.1 k filler far within, first_at_most (cost_at list k) c (long_at k within) below)

@@ -35,7 +35,7 @@ module _ {D : ℕ} {list : List (FrontEntry D)} {c : List ℕ} {i : ℕ} (there 
   pub covers : AtMost x.cost.0 c
   covers = subst (λ (y : FrontEntry D). AtMost y.cost.0 c) (sym is) (there.at_most x)
 
-  told_in : Contains (map told_entry list) (told_entry x)
+  pub told_in : Contains (map told_entry list) (told_entry x)
   told_in = in_map told_entry list x (subst (Contains list) (sym is) (Contains-get_or list i x there.within))
 
   pub told_settled : (unsettled : List (FrontEntry D)) → Contains (entries (told_front list unsettled)) (told_entry x)
@@ -233,23 +233,22 @@ module _ {D : ℕ} {settled unsettled : List (FrontEntry D)} {corners wide : Lis
       fits = omega (arith, held.fits, length-set unsettled i (with_arc x arc));
     }
 
--- the settled entry that is at most a cost tells the arc of the settled entry of this cost
-module _ {D : ℕ} (settled unsettled : List (FrontEntry D)) (front : IsFront D (told_front settled unsettled)) {c : List ℕ} {i : ℕ}
-    (there : CoversAt settled c i) (x : FrontEntry D) (is : x ≡ get_or settled i x) where
-  only_this : (arc : ℕ) → Contains (map told_entry settled) (record { cost = c; arc = arc }) → told_entry x ≡ record { cost = c; arc = arc }
-  only_this arc h = only_one front (told_entry x) (record { cost = c; arc = arc }) (told_settled there x is unsettled)
-      (Contains-append_left (map told_entry settled) (map told_entry unsettled) (record { cost = c; arc = arc }) h) (covers there x is)
+-- the settled entry x, which is at most a cost, tells the arc of the settled entry of this cost
+module _ {D : ℕ} {f : Front} (front : IsFront D f) {c : List ℕ} (x : FrontEntry D) (there : Contains f.settled (told_entry x)) (below : AtMost x.cost.0 c) where
+  only_this : (arc : ℕ) → Contains f.settled (record { cost = c; arc = arc }) → told_entry x ≡ record { cost = c; arc = arc }
+  only_this arc h = only_one front (told_entry x) (record { cost = c; arc = arc }) (Contains-append_left f.settled f.unsettled (told_entry x) there)
+      (Contains-append_left f.settled f.unsettled (record { cost = c; arc = arc }) h) below
 
-  pub arc_of_same : x.cost.0 ≡ c → (arc : ArcNo) → (Some x.arc ≡ Some arc) ↔ Contains (map told_entry settled) (record { cost = c; arc = arc.0 })
+  pub arc_of_same : x.cost.0 ≡ c → (arc : ArcNo) → (Some x.arc ≡ Some arc) ↔ Contains f.settled (record { cost = c; arc = arc.0 })
   arc_of_same same arc = (
     λ e.
         let told : told_entry x ≡ record { cost = c; arc = arc.0 } =
         ap (λ c'. record { cost = c'; arc = x.arc.0 }) same ∙ ap (λ (a : ArcNo). record { cost = c; arc = a.0 }) (same_Some x.arc arc e) in
-        subst (Contains (map told_entry settled)) told (told_in there x is),
+        subst (Contains f.settled) told there,
     λ h. ap (λ (n : ℕ). Some (record { 0 = n })) (ap (λ (e : Entry). e.arc) (only_this arc.0 h)),
   )
 
-  pub no_arc_of_other : x.cost.0 ≢ c → (arc : ArcNo) → (None ≡ Some arc) ↔ Contains (map told_entry settled) (record { cost = c; arc = arc.0 })
+  pub no_arc_of_other : x.cost.0 ≢ c → (arc : ArcNo) → (None ≡ Some arc) ↔ Contains f.settled (record { cost = c; arc = arc.0 })
   no_arc_of_other differs arc = (λ e. absurd (none-some arc e), λ h. absurd (differs (ap (λ (e : Entry). e.cost) (only_this arc.0 h))))
 
 -- where no settled entry is at most a cost, none is settled at it

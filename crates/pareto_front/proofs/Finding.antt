@@ -96,8 +96,7 @@ module _ {list : List (FrontEntry 2)} {marks : List Bool} {n : ℕ} (s : IsSorte
       found_more differs =
           let there = each_in (λ (e : FrontEntry 2). AtMost c e.cost.0) middle at_least_cost (at middle i) (Contains-get_or middle i filler within) in
           let other = λ (same : c ≡ (at middle i).cost.0). not_both (pointwise nat_eq (at middle i).cost.0 c) differs ((bytes_decides _ _).1 (sym same)) in
-          finds_more node.0 c middle i (at middle i) within read before found so_far middle_apart (record { at_most = there; differs = other })
-          (record { cost = (at middle i).cost; node = node }) refl refl
+          finds_more node c middle i (at middle i) within read before found so_far middle_apart (record { at_most = there; differs = other })
         where
           not_both : (b : Bool) → not b ≡ true → ¬ (b ≡ true)
           not_both true fails holds = false≢true fails
@@ -105,7 +104,7 @@ module _ {list : List (FrontEntry 2)} {marks : List Bool} {n : ℕ} (s : IsSorte
 
       -- and one of this cost isn't
       pub found_no_more : not (pointwise nat_eq (at middle i).cost.0 c) ≡ false → GrowsBy node.0 (DominatedBefore c middle (i + 1)) before found
-      found_no_more same = finds_no_more node.0 c middle i (at middle i) within read before found so_far
+      found_no_more same = finds_no_more node c middle i (at middle i) within read before found so_far
           (λ dominated. dominated.differs (sym ((bytes_decides _ _).0 (holds (pointwise nat_eq (at middle i).cost.0 c) same))))
         where
           holds : (b : Bool) → not b ≡ false → b ≡ true

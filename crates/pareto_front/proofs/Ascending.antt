@@ -89,11 +89,10 @@ module _ {D : ℕ} (list : List (FrontEntry D)) (c : List ℕ) where
     rises : IsNonDecreasingBy (λ (e : FrontEntry D). ordering_index (lex_cmp e.cost.0 c)) list
     rises a b e upto inside = elim (cases_lt a b) [
       | inl less ↦ rises_to (get_or list a e).cost.0 (get_or list b e).cost.0 c (up a b e less inside)
-      | inr not_less ↦
-          let one : a ≡ b = omega (arith, upto, not_less) in
-          subst (λ n. ordering_index (lex_cmp (get_or list a e).cost.0 c) ≤ ordering_index (lex_cmp (get_or list n e).cost.0 c)) one (omega arith)
+      | inr not_less ↦ let one : a ≡ b = omega (arith, upto, not_less) in rw one (omega arith)
     ]
 
+    -- or where the cost would stand
     pub place_missing : (r : Result ℕ ℕ) → IsSearchInRange r (length list)
         → IsBinarySearchResult (λ (e : FrontEntry D). lex_cmp e.cost.0 c) list r → IfErr r (IsGapOf list c)
     place_missing (Ok i) within at = tt
@@ -104,11 +103,9 @@ module _ {D : ℕ} (list : List (FrontEntry D)) (c : List ℕ) where
           within = within;
           before = λ k d inside.
               let below : k < i = omega (arith, length-take i list, inside) in
-              subst (λ (e : FrontEntry D). LexLess e.cost.0 c) (sym (get_or-take i list k d below)) (parts.0 k d (omega (arith, within, below)) below);
-          after = λ k d inside.
-              let behind : i + k < length list = omega (arith, length-drop i list, inside) in
-              subst (λ (e : FrontEntry D). LexLess c e.cost.0) (sym (get_or-drop i list k d))
-              (nat_list_cmp_total.antisymm c (get_or list (i + k) d).cost.0 ∙ ap ordering_reverse (parts.1 (i + k) d (omega arith) behind));
+              rw (get_or-take i list k d below) (parts.0 k d (omega (arith, within, below)) below);
+          after = λ k d inside. rw (get_or-drop i list k d) (nat_list_cmp_total.antisymm c (get_or list (i + k) d).cost.0
+              ∙ ap ordering_reverse (parts.1 (i + k) d (omega arith) (omega (arith, length-drop i list, inside))));
         }
 
     -- before the entry of a cost all costs are less, and behind it none is
@@ -117,19 +114,13 @@ module _ {D : ℕ} (list : List (FrontEntry D)) (c : List ℕ) where
       within = omega (arith, there.within);
       before = λ k d inside.
           let below : k < i = omega (arith, length-take i list, inside) in
-          subst (λ (e : FrontEntry D). LexLess e.cost.0 c) (sym (get_or-take i list k d below))
-          (subst (LexLess (get_or list k d).cost.0) (there.cost d) (up k i d below there.within));
-      after = λ k d inside less.
-          let behind : i + k < length list = omega (arith, length-drop i list, inside) in
-          let back = subst (λ (e : FrontEntry D). LexLess e.cost.0 c) (get_or-drop i list k d) less in
+          rw (get_or-take i list k d below) (subst (LexLess (get_or list k d).cost.0) (there.cost d) (up k i d below there.within));
+      after = λ k d inside. rw (get_or-drop i list k d) (λ back.
           elim (cases_lt i (i + k)) [
-            | inl later ↦
-                let ahead = subst (λ a. LexLess a (get_or list (i + k) d).cost.0) (there.cost d) (up i (i + k) d later behind) in
-                LexLess-irrefl c (LexLess-trans c (get_or list (i + k) d).cost.0 c ahead back)
-            | inr here ↦
-                let same : i + k ≡ i = omega (arith, here) in
-                LexLess-irrefl c (subst (λ a. LexLess a c) (ap (λ j. (get_or list j d).cost.0) same ∙ there.cost d) back)
-          ];
+            | inl later ↦ LexLess-irrefl c (LexLess-trans c (get_or list (i + k) d).cost.0 c
+                (rw (there.cost d) at (up i (i + k) d later (omega (arith, length-drop i list, inside)))) back)
+            | inr here ↦ let same : i + k ≡ i = omega (arith, here) in LexLess-irrefl c (rw (same, there.cost d) at back)
+          ]);
     }
 
     -- one entry more, where its cost stands
@@ -166,6 +157,7 @@ module _ {D : ℕ} (list : List (FrontEntry D)) (up : AscendByCost list) (i : �
 
 -- entries that a cost dominates stand behind its place
 module _ {D : ℕ} (list : List (FrontEntry D)) (i : ℕ) where
+  -- the entries behind it are incomparable, if all are
   pub apart_behind : AllPairs AreIncomparable (map told_entry list) → AllPairs AreIncomparable (map told_entry (drop i list))
   apart_behind pairs = subst (AllPairs AreIncomparable) (drop-map told_entry i list) (pairs_drop i (map told_entry list) AreIncomparable pairs)
 
@@ -176,6 +168,7 @@ module _ {D : ℕ} (list : List (FrontEntry D)) (i : ℕ) where
       LexLess-irrefl by (LexLess-trans by e.cost.0 by (LexLess_from_Dominates by e.cost.0 dominated) less))
 
   module _ (by : List ℕ) (none : All (λ (e : FrontEntry D). ¬ Dominates by e.cost.0) (take i list)) where
+    -- what a cost dominates stands behind it, if it dominates none before it
     pub dominated_behind : (c : List ℕ) → (HasCost (map told_entry (drop i list)) c × Dominates by c) ↔ (HasCost (map told_entry list) c × Dominates by c)
     dominated_behind c = (
       λ h.

@@ -19,12 +19,15 @@ use Rattle.pareto_front.proofs.Parts.{all_more}
 
 -- an element of a part of a list
 module _ {X : Type 0} (n m : ℕ) (xs : List X) (k : ℕ) (inside : k < length (take n (drop m xs))) where
+  -- its place is within the part
   pub within_part : k < n
   within_part = omega (arith, inside, length-take n (drop m xs))
 
+  -- and, counted from the front, within the list
   pub within_whole : m + k < length xs
   within_whole = omega (arith, inside, length-take n (drop m xs), length-drop m xs)
 
+  -- where it stands too
   pub get_or-part : (d : X) → get_or (take n (drop m xs)) k d ≡ get_or xs (m + k) d
   get_or-part d = get_or-take n (drop m xs) k d within_part ∙ get_or-drop m xs k d
 
@@ -173,6 +176,7 @@ corners_of_front {D} m {settled} {corners} have within = record {
 -- the entries from the place `start` on in another order
 module _ {D : ℕ} (old new : List (FrontEntry D)) (start : ℕ) (front : take start new ≡ take start old)
     (moved : IsPermutation (drop start old) (drop start new)) where
+  -- all are in another order
   pub moved_behind : IsPermutation old new
   moved_behind = subst₂ IsPermutation (take-append-drop start old) (ap (λ l. l ++ drop start new) (sym front) ∙ take-append-drop start new)
       (IsPermutation-append_right (take start old) (drop start old) (drop start new) moved)

@@ -105,6 +105,7 @@ module _ {list : List (FrontEntry 2)} {marks : List Bool} {n : ℕ} (s : IsSorte
       marked-append (take a marks) (take a list) (false ∷ drop b marks) (y ∷ drop b list) (front_length marks s.marked)
       ∙ sym (whole ∙ ap (λ zs. near ++ (zs ++ far)) none)
 
+  -- the order stays
   pub sorted_entered : IsSorted list_now marks_now n
   sorted_entered =
       let Long = λ (e : FrontEntry 2). length e.cost.0 ≡ 2 in

@@ -24,6 +24,7 @@ module _ {list : List (FrontEntry 2)} {marks : List Bool} {n : ℕ} (s : IsSorte
   abbrev pub middle : List (FrontEntry 2)
   middle = take (b - a) (drop a list)
 
+  -- the cost is at most each of them
   pub at_least_cost : All (λ (e : FrontEntry 2). AtMost c e.cost.0) middle
   at_least_cost k d inside =
       let low : k < b - a = omega (arith, inside, length-take (b - a) (drop a list)) in
@@ -41,6 +42,7 @@ module _ {list : List (FrontEntry 2)} {marks : List Bool} {n : ℕ} (s : IsSorte
   pub rest_is : drop (b - a) (drop a list) ≡ drop b list
   rest_is = let whole : a + (b - a) ≡ b = omega (arith, span.ascend) in drop-drop (b - a) a list ∙ ap (λ k. drop k list) whole
 
+  -- which are less in the second component
   pub less_second : All (λ (e : FrontEntry 2). second e.cost.0 < second c) (drop b list)
   less_second k d inside = rw (get_or-drop b list k d) (span.after (b + k) d (omega arith) (omega (arith, inside, length-drop b list)))
 
@@ -111,6 +113,7 @@ module _ {list : List (FrontEntry 2)} {marks : List Bool} {n : ℕ} (s : IsSorte
           holds true same = refl
           holds false same = sym same
 
+    -- all that it dominates were found
     pub found_all : length middle ≤ i → SparesSettled (front_of list marks) c
         → GrowsBy node.0 (λ v. HasCost (front_of list marks).unsettled v × Dominates c v) before found
     found_all past spares =

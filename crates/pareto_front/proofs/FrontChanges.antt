@@ -62,6 +62,7 @@ module _ {d : ℕ} {f : Front} (front : IsFront d f) (rest : List Entry) (x : En
     left : (e : Entry) → Contains rest e ↔ (Contains f.unsettled e × (e.cost ≢ c))
     left = others_left f.unsettled rest x (pairs_behind AreIncomparable f.settled f.unsettled front.incomparable) out same
 
+    -- so no other entry is settled
     pub settles : (now : List Entry) → IsPermutation (x ∷ f.settled) now → Settles f c (record { settled = now; unsettled = rest })
     settles now come = record {
       settled = λ e. by (gains_by_permutation x f.settled now come e)
@@ -71,6 +72,7 @@ module _ {d : ℕ} {f : Front} (front : IsFront d f) (rest : List Entry) (x : En
       by : {A B D E : Type 0} → (A ↔ (B ⊎ E)) → (D ↔ E) → (A ↔ (B ⊎ D))
       by f g = grind arith
 
+    -- or no other entry is gone
     pub discards : Discards f c (record { settled = f.settled; unsettled = rest })
     discards = record { settled = λ e. (λ h. h, λ h. h); unsettled = left }
 
@@ -89,6 +91,7 @@ settles_none f c none = record { settled = λ e. either (apart e); unsettled = �
 module _ {d : ℕ} {f : Front} (front : IsFront d f) (kept : List Entry) (new : Entry)
     (stays : (e : Entry) → Contains kept e ↔ (Contains f.unsettled e × ¬ Dominates new.cost e.cost)) (now : List Entry)
     (come : IsPermutation (new ∷ kept) now) where
+  -- so the new entry enters
   pub enters : Enters f new (record { settled = f.settled; unsettled = now })
   enters = record { settled = λ e. (λ h. h, λ h. h); unsettled = λ e. by (gains_by_permutation new kept now come e) (stays e) } where
     by : {A B C E : Type 0} → (A ↔ (B ⊎ E)) → (B ↔ C) → (A ↔ (C ⊎ E))
@@ -112,6 +115,7 @@ module _ {d : ℕ} {f : Front} (front : IsFront d f) (kept : List Entry) (new : 
       other_way = λ below. fresh (record { by = e; contains = (spared e h).0; at_most = below });
     }
 
+    -- the new entry leaves a front
     pub entered_front : IsFront d (record { settled = f.settled; unsettled = now })
     entered_front =
         let first : IsFront d (record { settled = new ∷ f.settled; unsettled = kept }) = record {
@@ -153,6 +157,7 @@ gets_no_arc xs new none e = by (none e) (λ h. none (record { cost = new.cost; a
 
 module _ {d : ℕ} {f : Front} (front : IsFront d f) (rest : List Entry) (x new : Entry) (same : x.cost ≡ new.cost) (now : List Entry)
     (come : IsPermutation (new ∷ rest) now) where
+  -- a settled one
   pub relabels_settled : IsPermutation f.settled (x ∷ rest) → Relabels f new (record { settled = now; unsettled = f.unsettled })
   relabels_settled out = record {
     settled = gets_arc f.settled rest x new out same (pairs_before AreIncomparable f.settled f.unsettled front.incomparable) now come;
@@ -161,6 +166,7 @@ module _ {d : ℕ} {f : Front} (front : IsFront d f) (rest : List Entry) (x new 
         (at_most_same x e (same ∙ sym e_is)));
   }
 
+  -- or an unsettled one
   pub relabels_unsettled : IsPermutation f.unsettled (x ∷ rest) → Relabels f new (record { settled = f.settled; unsettled = now })
   relabels_unsettled out = record {
     settled = gets_no_arc f.settled new (λ e h e_is.

@@ -42,6 +42,7 @@ pairs_of_map S f xs pairs = λ i j d before within.
     subst (λ x. S x (f (get_or xs j d))) (get_or-map f xs i d (f d) (omega (arith, before, within)))
     (subst (λ y. S (get_or (map f xs) i (f d)) y) (get_or-map f xs j d (f d) within) (pairs i j (f d) before (omega (arith, within, length-map xs f))))
 
+-- it doesn't matter which comes first
 pub turned : {x y : Entry} → AreIncomparable x y → AreIncomparable y x
 turned h = record { one_way = h.other_way; other_way = h.one_way }
 
@@ -91,6 +92,7 @@ module _ {d : ℕ} {f : Front} (front : IsFront d f) where
 
 -- ---- costs alone
 
+-- the costs of entries
 abbrev pub costs : List Entry → List (List ℕ)
 costs = map (λ e. e.cost)
 
@@ -115,6 +117,7 @@ front_by_costs {d} f g settled unsettled front = record {
 
 -- ---- an element that is replaced
 
+-- without it the list is as before
 pub remove-set : {X : Type 0} (xs : List X) (i : ℕ) (y : X) → remove (set xs i y) i ≡ remove xs i
 remove-set xs i y = λ t. take-set xs i y t ++ drop-set-lt (suc i) xs i y (omega arith) t
 

@@ -101,6 +101,7 @@ module _ {D : ℕ} (node : NodeNo) (by : List ℕ) (list : List (FrontEntry D)) 
       (pairs_across AreIncomparable (map told_entry (take i list)) (told_entry x ∷ []) front (record { cost = x.cost.0; arc = h.arc }) (told_entry x) h.contains
       (in_first (told_entry x) [])).one_way (AtMost-refl x.cost.0)
 
+  -- x is dominated: its spot is added
   pub finds_more : AllPairs AreIncomparable (map told_entry list) → Dominates by x.cost.0
       → GrowsBy node.0 (DominatedBefore by list (i + 1)) xs (ys ++ record { cost = x.cost; node = node } ∷ [])
   finds_more pairs dominated =
@@ -110,6 +111,7 @@ module _ {D : ℕ} (node : NodeNo) (by : List ℕ) (list : List (FrontEntry D)) 
       with_it : {A B E N : Type 0} → (A ↔ (B ⊎ E)) → (E → N) → ((A × N) ↔ ((B × N) ⊎ E))
       with_it f so = grind arith
 
+  -- or it isn't: none is
   pub finds_no_more : ¬ Dominates by x.cost.0 → GrowsBy node.0 (DominatedBefore by list (i + 1)) xs ys
   finds_no_more spared =
       grows_as node.0 (DominatedBefore by list i) (DominatedBefore by list (i + 1)) xs ys

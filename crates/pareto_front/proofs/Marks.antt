@@ -20,6 +20,7 @@ pub record IsMarked {X : Type 0} (bs : List Bool) (xs : List X) (x : X) : Type 0
 pub turned_mark : {b : Bool} (bs : List Bool) (k : ℕ) → k < length bs → get_or bs k false ≡ b → get_or (map not bs) k false ≡ not b
 turned_mark bs k within mark = get_or-map not bs k false false within ∙ ap not mark
 
+-- and back again
 pub turned_back : (bs : List Bool) (k : ℕ) → get_or (map not bs) k false ≡ true → get_or bs k false ≡ false
 turned_back [] k mark = refl
 turned_back (true ∷ bs) zero mark = absurd (false≢true mark)
@@ -119,11 +120,13 @@ module _ {X : Type 0} where
     pub marked_out : get_or bs i false ≡ true → IsPermutation (items_where_true bs xs) (x ∷ items_where_true (remove bs i) (remove xs i))
     marked_out mark = rw (parts true mark, left) (IsPermutation-middle before x (items_where_true (drop (suc i) bs) (drop (suc i) xs)))
 
+  -- what stands at a mark is marked
   pub in_marked : (bs : List Bool) (xs : List X) (x : X) → length bs ≡ length xs → IsMarked bs xs x → Contains (items_where_true bs xs) x
   in_marked bs xs x long m =
       let left = items_where_true (remove bs m.place) (remove xs m.place) in
       (same_by_permutation (items_where_true bs xs) (x ∷ left) (marked_out bs xs m.place x long m.within m.is m.mark) x).0 (in_first x left)
 
+  -- there are no more marked elements than elements
   pub length-marked_le : (bs : List Bool) (xs : List X) → length (items_where_true bs xs) ≤ length xs
   length-marked_le [] xs = omega arith
   length-marked_le (b ∷ bs) [] = omega arith
@@ -139,6 +142,7 @@ pub record KeepsInPlace {X : Type 0} (bs : List Bool) (xs ys : List X) (k i : �
   pub marked : length bs ≡ length xs
 
 module _ {X : Type 0} {bs : List Bool} {xs ys : List X} {k i : ℕ} (h : KeepsInPlace bs xs ys k i) where
+  -- at the end the marked ones stand in front
   pub keeps_all : length xs ≤ i → take k ys ≡ items_where_true bs xs
   keeps_all past = h.front ∙ (λ t. items_where_true (take_all i bs (omega arith) t) (take_all i xs past t))
 
@@ -159,6 +163,7 @@ module _ {X : Type 0} {bs : List Bool} {xs ys : List X} {k i : ℕ} (h : KeepsIn
         ∙ marked-append (take i bs) (take i xs) (get_or bs i false ∷ []) (get_or xs i x ∷ []) long
         ∙ (λ t. sym h.front t ++ items_where_true (mark t ∷ []) (read t ∷ []))
 
+    -- the next element isn't marked
     pub keeps_none : get_or bs i false ≡ false → KeepsInPlace bs xs ys k (i + 1)
     keeps_none mark = record {
       front = sym (step false mark ∙ append-nil (take k ys));
@@ -168,6 +173,7 @@ module _ {X : Type 0} {bs : List Bool} {xs ys : List X} {k i : ℕ} (h : KeepsIn
       marked = h.marked;
     }
 
+    -- or it is, and is kept
     pub keeps_more : get_or bs i false ≡ true → KeepsInPlace bs xs (set ys k x) (k + 1) (i + 1)
     keeps_more mark =
         let behind = h.behind in

@@ -20,6 +20,7 @@ use Rattle.pareto_front.proofs.Marks.{in_marked, marked_and_others, of_marked, t
 
 -- ---- costs of two components
 
+-- a cost is at most another if both components are
 pub at_most_pair : (a b : List ℕ) → length a ≡ 2 → length b ≡ 2 → first a ≤ first b → second a ≤ second b → AtMost a b
 at_most_pair a b long long_too less less_too = AtMost_from_places a b (omega arith) each
   where
@@ -28,9 +29,11 @@ at_most_pair a b long long_too less less_too = AtMost_from_places a b (omega ari
     each (suc zero) within = less_too
     each (suc (suc k)) within = absurd (omega arith)
 
+-- and only if the first ones are
 pub first_at_most : (a b : List ℕ) → length a ≡ 2 → AtMost a b → first a ≤ first b
 first_at_most a b long h = AllZip-get_or ◌≤◌ a b 0 0 0 h (omega arith)
 
+-- and the second ones
 pub second_at_most : (a b : List ℕ) → length a ≡ 2 → AtMost a b → second a ≤ second b
 second_at_most a b long h = AllZip-get_or ◌≤◌ a b 1 0 0 h (omega arith)
 
@@ -44,6 +47,7 @@ filler = record { cost = record { 0 = [] }; arc = record { 0 = 0 } }
 abbrev pub at : List (FrontEntry 2) → ℕ → FrontEntry 2
 at list k = get_or list k filler
 
+-- the cost of the entry at k
 abbrev pub cost_at : List (FrontEntry 2) → ℕ → List ℕ
 cost_at list k = (at list k).cost.0
 
@@ -51,6 +55,7 @@ cost_at list k = (at list k).cost.0
 pub read_at : (list : List (FrontEntry 2)) (k : ℕ) (x : FrontEntry 2) → k < length list → x ≡ get_or list k x → at list k ≡ x
 read_at list k x within is = get_or_default list k filler x within ∙ sym is
 
+-- the mark that was read at k
 pub mark_at : (marks : List Bool) (k : ℕ) (b : Bool) → k < length marks → b ≡ get_or marks k b → get_or marks k false ≡ b
 mark_at marks k b within is = get_or_default marks k false b within ∙ sym is
 
@@ -60,6 +65,7 @@ pub record IsNearest (list : List (FrontEntry 2)) (i : ℕ) (x : FrontEntry 2) :
   pub within : i ≤ length list
   pub is : at list (i - 1) ≡ x
 
+-- what was read as the last of the first i entries
 pub nearest_read : (list : List (FrontEntry 2)) (i : ℕ) (x : FrontEntry 2) → i ≤ length list → 0 < length (take i list)
     → x ≡ get_or (take i list) (length (take i list) - 1) x → IsNearest list i x
 nearest_read list i x within some is =
@@ -83,9 +89,11 @@ module _ {list : List (FrontEntry 2)} {marks : List Bool} {n : ℕ} (s : IsSorte
   all_moved = rw (← map-append told_entry (items_where_true marks list) (items_where_true (map not marks) list))
       (IsPermutation-map told_entry list (items_where_true marks list ++ items_where_true (map not marks) list) (marked_and_others marks list s.marked))
 
+  -- an entry of the front is one of the list
   pub of_entry : (e : Entry) → Contains (entries (front_of list marks)) e → (x : FrontEntry 2) × Contains list x × (e ≡ told_entry x)
   of_entry e h = of_map told_entry list e ((same_by_permutation (map told_entry list) (entries (front_of list marks)) all_moved e).0 h)
 
+  -- and an entry of the list is one of the front
   pub entry_in : (x : FrontEntry 2) → Contains list x → Contains (entries (front_of list marks)) (told_entry x)
   entry_in x h = (same_by_permutation (map told_entry list) (entries (front_of list marks)) all_moved (told_entry x)).1 (in_map told_entry list x h)
 
@@ -107,13 +115,16 @@ module _ {list : List (FrontEntry 2)} {marks : List Bool} {n : ℕ} (s : IsSorte
   in_settled k within mark = in_map told_entry (items_where_true marks list) (at list k) (in_marked marks list (at list k) s.marked
       (record { place = k; within = within; mark = mark; is = get_or_default list k (at list k) filler within }))
 
+  -- each cost has two components
   pub long_at : (k : ℕ) → k < length list → length (cost_at list k) ≡ 2
   long_at k within = s.components k filler within
 
+  -- the first ones rise, and the second ones fall
   pub falls : (i j : ℕ) → i < j → j < length list
       → (first (cost_at list i) < first (cost_at list j)) × (second (cost_at list j) < second (cost_at list i))
   falls i j before within = s.descends i j filler before within
 
+  -- so no entry is at most another
   pub apart : AllPairs (λ (x z : FrontEntry 2). AreIncomparable (told_entry x) (told_entry z)) list
   apart i j d before within =
       let f = s.descends i j d before within in record {
@@ -121,6 +132,7 @@ module _ {list : List (FrontEntry 2)} {marks : List Bool} {n : ℕ} (s : IsSorte
         other_way = λ h. omega (arith, first_at_most (get_or list j d).cost.0 (get_or list i d).cost.0 (s.components j d within) h, f.0);
       }
 
+  -- and it is a front
   pub is_front : IsFront 2 (front_of list marks)
   is_front = record {
     two = omega arith;
@@ -140,6 +152,7 @@ module _ {list : List (FrontEntry 2)} {marks : List Bool} {n : ℕ} (s : IsSorte
       | inr (inr after) ↦ absurd (omega (arith, cut.0 k filler (omega arith) after, ap first is))
     ]
 
+    -- so it stands at that place
     pub is_at : HasCost (entries (front_of list marks)) c → IsAt list c i
     is_at found =
         let (k, within, is) = of_entries (record { cost = c; arc = found.arc }) found.contains in
@@ -190,6 +203,7 @@ module _ {list : List (FrontEntry 2)} {marks : List Bool} {n : ℕ} (s : IsSorte
             | inr last ↦ let e : k ≡ i - 1 = omega (arith, low, last) in rw e more
           ])
 
+      -- or is at most the cost
       pub nearest_at_most : second x.cost.0 ≤ second c → AtMost x.cost.0 c
       nearest_at_most below =
           let some = near.some in
@@ -197,6 +211,7 @@ module _ {list : List (FrontEntry 2)} {marks : List Bool} {n : ℕ} (s : IsSorte
           at_most_pair x.cost.0 c (ap length (sym same_cost) ∙ long_at (i - 1) (omega arith)) long
           (subst (λ v. first v ≤ first c) same_cost (cut.0 (i - 1) filler (omega arith) (omega arith))) below
 
+  -- the nearest is an entry of the front
   pub nearest_in : {i : ℕ} {x : FrontEntry 2} → IsNearest list i x → Contains (entries (front_of list marks)) (told_entry x)
   nearest_in {i} near =
       subst (λ (e : FrontEntry 2). Contains (entries (front_of list marks)) (told_entry e)) near.is

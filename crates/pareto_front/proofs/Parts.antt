@@ -11,6 +11,7 @@ module _ {X : Type 0} (i : ℕ) (xs : List X) where
   pub in_front_part : (x : X) → Contains (take i xs) x → Contains xs x
   in_front_part x h = subst (λ l. Contains l x) (take-append-drop i xs) (Contains-append_left (take i xs) (drop i xs) x h)
 
+  -- whichever part it is
   pub in_back_part : (x : X) → Contains (drop i xs) x → Contains xs x
   in_back_part x h = subst (λ l. Contains l x) (take-append-drop i xs) (Contains-append_right (take i xs) (drop i xs) x h)
 

@@ -32,15 +32,19 @@ use Rattle.pareto_front.proofs.Ascending.{ascend_out, ascend_set}
 
 -- the entry x that was read where one is at most the cost
 module _ {D : ℕ} {list : List (FrontEntry D)} {c : List ℕ} {i : ℕ} (there : CoversAt list c i) (x : FrontEntry D) (is : x ≡ get_or list i x) where
+  -- it is at most the cost
   pub covers : AtMost x.cost.0 c
   covers = subst (λ (y : FrontEntry D). AtMost y.cost.0 c) (sym is) (there.at_most x)
 
+  -- it is one of the list
   pub told_in : Contains (map told_entry list) (told_entry x)
   told_in = in_map told_entry list x (subst (Contains list) (sym is) (Contains-get_or list i x there.within))
 
+  -- an entry of the front, where these are the settled ones
   pub told_settled : (unsettled : List (FrontEntry D)) → Contains (entries (told_front list unsettled)) (told_entry x)
   told_settled unsettled = Contains-append_left (map told_entry list) (map told_entry unsettled) (told_entry x) told_in
 
+  -- or the others
   pub told_unsettled : (settled : List (FrontEntry D)) → Contains (entries (told_front settled list)) (told_entry x)
   told_unsettled settled = Contains-append_right (map told_entry settled) (map told_entry list) (told_entry x) told_in
 
@@ -194,6 +198,7 @@ module _ {D : ℕ} {settled unsettled : List (FrontEntry D)} {corners wide : Lis
     {i : ℕ} (x : FrontEntry D) where
   -- a settled one
   module _ (there : CoversAt settled c i) (is : x ≡ get_or settled i x) where
+    -- no other entry is another
     pub told_relabels_settled : Relabels (told_front settled unsettled) (record { cost = c; arc = arc.0 })
         (told_front (set settled i (with_arc x arc)) unsettled)
     told_relabels_settled = subst (λ k. Relabels (told_front settled unsettled) (record { cost = k; arc = arc.0 })
@@ -202,6 +207,7 @@ module _ {D : ℕ} {settled unsettled : List (FrontEntry D)} {corners wide : Lis
         (relabels_settled held.front (map told_entry (remove settled i)) (told_entry x) (told_entry (with_arc x arc)) refl
         (map told_entry (set settled i (with_arc x arc))) (told_in_set settled arc i x there.within is) (told_out settled i x there.within is))
 
+    -- and blocks stay blocks
     pub relabelled_settled_blocks : AreBlocks (set settled i (with_arc x arc)) corners wide unsettled room
     relabelled_settled_blocks = record {
       front = front_by_costs (told_front settled unsettled) (told_front (set settled i (with_arc x arc)) unsettled)
@@ -214,6 +220,7 @@ module _ {D : ℕ} {settled unsettled : List (FrontEntry D)} {corners wide : Lis
 
   -- or an unsettled one
   module _ (there : CoversAt unsettled c i) (is : x ≡ get_or unsettled i x) where
+    -- no other entry is another
     pub told_relabels_unsettled : Relabels (told_front settled unsettled) (record { cost = c; arc = arc.0 })
         (told_front settled (set unsettled i (with_arc x arc)))
     told_relabels_unsettled = subst (λ k. Relabels (told_front settled unsettled) (record { cost = k; arc = arc.0 })
@@ -222,6 +229,7 @@ module _ {D : ℕ} {settled unsettled : List (FrontEntry D)} {corners wide : Lis
         (relabels_unsettled held.front (map told_entry (remove unsettled i)) (told_entry x) (told_entry (with_arc x arc)) refl
         (map told_entry (set unsettled i (with_arc x arc))) (told_in_set unsettled arc i x there.within is) (told_out unsettled i x there.within is))
 
+    -- and blocks stay blocks
     pub relabelled_unsettled_blocks : AreBlocks settled corners wide (set unsettled i (with_arc x arc)) room
     relabelled_unsettled_blocks = record {
       front = front_by_costs (told_front settled unsettled) (told_front settled (set unsettled i (with_arc x arc)))
@@ -239,6 +247,7 @@ module _ {D : ℕ} {f : Front} (front : IsFront D f) {c : List ℕ} (x : FrontEn
   only_this arc h = only_one front (told_entry x) (record { cost = c; arc = arc }) (Contains-append_left f.settled f.unsettled (told_entry x) there)
       (Contains-append_left f.settled f.unsettled (record { cost = c; arc = arc }) h) below
 
+  -- it has this cost: its arc is that arc
   pub arc_of_same : x.cost.0 ≡ c → (arc : ArcNo) → (Some x.arc ≡ Some arc) ↔ Contains f.settled (record { cost = c; arc = arc.0 })
   arc_of_same same arc = (
     λ e.
@@ -248,6 +257,7 @@ module _ {D : ℕ} {f : Front} (front : IsFront D f) {c : List ℕ} (x : FrontEn
     λ h. ap (λ (n : ℕ). Some (record { 0 = n })) (ap (λ (e : Entry). e.arc) (only_this arc.0 h)),
   )
 
+  -- it has another cost: none of this cost is settled
   pub no_arc_of_other : x.cost.0 ≢ c → (arc : ArcNo) → (None ≡ Some arc) ↔ Contains f.settled (record { cost = c; arc = arc.0 })
   no_arc_of_other differs arc = (λ e. absurd (none-some arc e), λ h. absurd (differs (ap (λ (e : Entry). e.cost) (only_this arc.0 h))))
 
@@ -273,6 +283,7 @@ module _ {D : ℕ} (settled unsettled : List (FrontEntry D)) (front : IsFront D 
     | inr (inr after) ↦ absurd (false≢true (sym not_after ∙ ap is_lt after))
   ]
 
+  -- are listed in ascending order
   pub lists_settled : ListsSettled (told_front settled unsettled) list
   lists_settled = record {
     ascending = pairs_map (λ (x y : FrontEntry D). LexLess x.cost.0 y.cost.0) LexLess (λ (e : FrontEntry D). e.cost.0) (λ x y h. h) list

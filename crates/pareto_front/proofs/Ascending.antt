@@ -177,9 +177,10 @@ module _ {D : ℕ} (list : List (FrontEntry D)) (i : ℕ) where
           (record { arc = h.0.arc; contains = in_back_part i (map told_entry list) e there }, h.1),
       λ h.
           let e : Entry = record { cost = c; arc = h.0.arc } in
-          let front = All-map (λ (x : Entry). ¬ Dominates by x.cost) told_entry (take i list) none in
+          let Spared = λ (x : Entry). ¬ Dominates by x.cost in
+          let front : All Spared (take i (map told_entry list)) = rw (take-map told_entry i list) (All-map Spared told_entry (take i list) none) in
           elim (cases_part i (map told_entry list) e h.0.contains) [
-            | inl there ↦ absurd (each_in (λ (x : Entry). ¬ Dominates by x.cost) (take i (map told_entry list)) (rw (take-map told_entry i list) front) e there h.1)
+            | inl there ↦ absurd (each_in Spared (take i (map told_entry list)) front e there h.1)
             | inr there ↦ (record { arc = h.0.arc; contains = subst (λ l. Contains l e) (drop-map told_entry i list) there }, h.1)
           ],
     )

@@ -190,8 +190,7 @@ module _ {D : ℕ} (old new : List (FrontEntry D)) (start : ℕ) (front : take s
     at_most = λ j e c inside.
         elim (cases_lt j start) [
           | inl before ↦
-              let same : get_or new j e ≡ get_or old j e = sym (get_or-take start new j e before) ∙ ap (λ l. get_or l j e) front ∙ get_or-take start old j e before in
-              rw same (have.at_most j e c (omega (arith, inside, as_long)))
+              rw (← get_or-take start new j e before, front, get_or-take start old j e before) (have.at_most j e c (omega (arith, inside, as_long)))
           | inr behind ↦
               let x : FrontEntry D = get_or new j e in
               let k : ℕ = j - start in

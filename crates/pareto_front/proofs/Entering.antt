@@ -42,7 +42,8 @@ in_parts bs xs a b long ascend =
 
 -- the new entry y comes in place of those from a to b
 module _ {list : List (FrontEntry 2)} {marks : List Bool} {n : ℕ} (s : IsSorted list marks n) (y : FrontEntry 2) (long : length y.cost.0 ≡ 2) {a b : ℕ}
-    (span : AreAtLeast list y.cost.0 a b) (new : ¬ IsCovered (entries (front_of list marks)) y.cost.0) (spares : SparesSettled (front_of list marks) y.cost.0) where
+    (span : AreAtLeast list y.cost.0 a b) (new : ¬ IsCovered (entries (front_of list marks)) y.cost.0)
+    (spares : SparesSettled (front_of list marks) y.cost.0) where
   abbrev c : List ℕ
   c = y.cost.0
 
@@ -99,9 +100,9 @@ module _ {list : List (FrontEntry 2)} {marks : List Bool} {n : ℕ} (s : IsSorte
       let far = items_where_true (drop b marks) (drop b list) in
       let whole = in_parts marks list a b s.marked span.ascend in
       let none = empty_if_none inner (λ x h.
-          let settled = subst (λ l. Contains l x) (sym whole) (Contains-append_right near (inner ++ far) x (Contains-append_left inner far x h)) in
-          spares (told_entry x) (in_map told_entry (items_where_true marks list) x settled) (each_in (λ (e : FrontEntry 2). Dominates c e.cost.0)
-          (middle s long span) between x (in_whole (take (b - a) (drop a marks)) (middle s long span) x h))) in
+      let settled = subst (λ l. Contains l x) (sym whole) (Contains-append_right near (inner ++ far) x (Contains-append_left inner far x h)) in
+      spares (told_entry x) (in_map told_entry (items_where_true marks list) x settled) (each_in (λ (e : FrontEntry 2). Dominates c e.cost.0)
+      (middle s long span) between x (in_whole (take (b - a) (drop a marks)) (middle s long span) x h))) in
       marked-append (take a marks) (take a list) (false ∷ drop b marks) (y ∷ drop b list) (front_length marks s.marked)
       ∙ sym (whole ∙ ap (λ zs. near ++ (zs ++ far)) none)
 
@@ -114,8 +115,12 @@ module _ {list : List (FrontEntry 2)} {marks : List Bool} {n : ℕ} (s : IsSorte
             (All-cons Long y (drop b list) long (All-drop Long b list s.components));
         descends = pairs_append Falls (take a list) (y ∷ drop b list) (pairs_take Falls a list s.descends)
             (pairs_cons Falls y (drop b list) after (pairs_drop b list Falls s.descends)) across;
-        marked = omega (arith, length-replaced a b y list span.ascend span.within,
-            length-replaced a b false marks span.ascend (omega (arith, span.within, s.marked)), s.marked);
+        marked = omega (
+          arith,
+          length-replaced a b y list span.ascend span.within,
+          length-replaced a b false marks span.ascend (omega (arith, span.within, s.marked)),
+          s.marked,
+        );
         counted = s.counted ∙ sym (ap length settled_same);
       }
     where

@@ -49,12 +49,18 @@ module _ {list : List (FrontEntry 2)} {marks : List Bool} {n : ℕ} (s : IsSorte
   -- what the cost dominates stands between these
   in_middle : (e : FrontEntry 2) → Contains list e → Dominates c e.cost.0 → Contains middle e
   in_middle e h dominated = elim (cases_part a list e h) [
-    | inl front ↦ absurd (omega (arith, each_in (λ (x : FrontEntry 2). first x.cost.0 < first c) (take a list) less_first e front,
-        first_at_most c e.cost.0 long dominated.at_most))
+    | inl front ↦ absurd (omega (
+      arith,
+      each_in (λ (x : FrontEntry 2). first x.cost.0 < first c) (take a list) less_first e front,
+      first_at_most c e.cost.0 long dominated.at_most,
+    ))
     | inr behind ↦ elim (cases_part (b - a) (drop a list) e behind) [
       | inl there ↦ there
-      | inr far ↦ absurd (omega (arith, each_in (λ (x : FrontEntry 2). second x.cost.0 < second c) (drop b list) less_second e (rw rest_is at far),
-          second_at_most c e.cost.0 long dominated.at_most))
+      | inr far ↦ absurd (omega (
+        arith,
+        each_in (λ (x : FrontEntry 2). second x.cost.0 < second c) (drop b list) less_second e (rw rest_is at far),
+        second_at_most c e.cost.0 long dominated.at_most,
+      ))
     ]
   ]
 

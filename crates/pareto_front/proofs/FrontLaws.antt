@@ -113,7 +113,8 @@ front_by_costs {d} f g settled unsettled front = record {
       λ i j d before within. let h = again i j d before within in record { one_way = h.0; other_way = h.1 };
 } where
   same : costs (entries g) ≡ costs (entries f)
-  same = map-append (λ (e : Entry). e.cost) g.settled g.unsettled ∙ (λ t. settled t ++ unsettled t) ∙ sym (map-append (λ (e : Entry). e.cost) f.settled f.unsettled)
+  same = map-append (λ (e : Entry). e.cost) g.settled g.unsettled ∙ (λ t. settled t ++ unsettled t)
+      ∙ sym (map-append (λ (e : Entry). e.cost) f.settled f.unsettled)
 
 -- ---- an element that is replaced
 

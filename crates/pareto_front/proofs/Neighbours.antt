@@ -174,7 +174,8 @@ module _ {list : List (FrontEntry 2)} {marks : List Bool} {n : ℕ} (s : IsSorte
         let (k, within, mark, is) = marked_place (map not marks) (record { cost = c; arc = found.arc }) found.contains in
         let cost_is : cost_at list k ≡ c = ap (λ (e : Entry). e.cost) is in
         let here = stands_at k within cost_is in
-        (record { within = omega (arith, within, here); cost = ap (cost_at list) here ∙ cost_is }, ap (λ j. get_or marks j false) here ∙ turned_back marks k mark)
+        let at_i : IsAt list c i = record { within = omega (arith, within, here); cost = ap (cost_at list) here ∙ cost_is } in
+        (at_i, ap (λ j. get_or marks j false) here ∙ turned_back marks k mark)
 
   module _ (c : List ℕ) (long : length c ≡ 2) (i : ℕ) (cut : IsUpTo list (first c) i) where
     uncovered : ((k : ℕ) → k < i → second c < second (cost_at list k)) → ¬ IsCovered (entries (front_of list marks)) c

@@ -79,7 +79,8 @@ module _ {D : ℕ} (settled unsettled : List (FrontEntry D)) (front : IsFront D 
   module _ (list : List (FrontEntry D)) (moved : IsPermutation (settled ++ x ∷ []) list) where
     come : IsPermutation (map told_entry (x ∷ settled)) (map told_entry list)
     come = IsPermutation-map told_entry (x ∷ settled) list
-        (IsPermutation-trans (x ∷ settled) (settled ++ x ∷ []) list (IsPermutation-sym (settled ++ x ∷ []) (x ∷ settled) (IsPermutation-to_front settled x)) moved)
+        (IsPermutation-trans (x ∷ settled) (settled ++ x ∷ []) list
+        (IsPermutation-sym (settled ++ x ∷ []) (x ∷ settled) (IsPermutation-to_front settled x)) moved)
 
     -- it stands with the settled ones, in any order
     pub told_settled_front : IsFront D (told_front list (remove unsettled i))

@@ -9,7 +9,7 @@ use Rattle.list_laws.proofs.Members.{in_first, cases_in, each_in, all_from_in}
 use Rattle.list_laws.proofs.Pairs.{pair_with_first, pairs_cons, pairs_rest}
 use Rattle.list_laws.proofs.OnceLaws.{pairs_append}
 use Rattle.list_laws.proofs.SetLaws.{gains_by_permutation, same_by_permutation}
-use Rattle.pareto_front.specs.Fronts.{Entry, Front, entries, HasCost, IsCovered, AreIncomparable, IsFront, SparesSettled}
+use Rattle.pareto_front.specs.Fronts.{Entry, Front, entries, IsCovered, AreIncomparable, IsFront, SparesSettled}
 use Rattle.pareto_front.specs.Calls.{Discards, Enters, GetsArc, Relabels, Settles}
 use Rattle.pareto_front.proofs.FrontLaws.{pairs_before, pairs_behind, pairs_across, at_most_same, front_in_any_order, incomparable_in_any_order}
 

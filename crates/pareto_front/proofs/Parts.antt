@@ -1,5 +1,5 @@
 -- The two parts of a list that is cut at a place.
-use Rattle.std.proofs.Common.{◌⊎◌, ℕ, ◌+◌, List, ◌++◌, take, drop, sym, subst, take-append-drop}
+use Rattle.std.proofs.Common.{◌⊎◌, ℕ, ◌+◌, List, take, drop, sym, subst, take-append-drop}
 use Rattle.std.specs.Prelude.{All, AllPairs, Contains}
 use Rattle.std.proofs.Math.Seq.{take-add}
 use Rattle.std.proofs.lemmas.List.{drop-drop}

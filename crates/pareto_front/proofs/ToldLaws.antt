@@ -181,8 +181,10 @@ with_arc x arc = record { cost = x.cost; arc = arc }
 
 -- the entry x of a list gets another arc
 module _ {D : ℕ} (list : List (FrontEntry D)) (arc : ArcNo) (i : ℕ) (x : FrontEntry D) (within : i < length list) (is : x ≡ get_or list i x) where
-  told_in_set : IsPermutation (told_entry (with_arc x arc) ∷ map told_entry (remove list i)) (map told_entry (set list i (with_arc x arc)))
-  told_in_set = IsPermutation-map told_entry (with_arc x arc ∷ remove list i) (set list i (with_arc x arc)) (IsPermutation-set list i (with_arc x arc) within)
+  told_in_set : {c : List ℕ} → x.cost.0 ≡ c
+      → IsPermutation (record { cost = c; arc = arc.0 } ∷ map told_entry (remove list i)) (map told_entry (set list i (with_arc x arc)))
+  told_in_set same = rw (← same)
+      (IsPermutation-map told_entry (with_arc x arc ∷ remove list i) (set list i (with_arc x arc)) (IsPermutation-set list i (with_arc x arc) within))
 
   same_costs : costs (map told_entry (set list i (with_arc x arc))) ≡ costs (map told_entry list)
   same_costs =
@@ -202,11 +204,10 @@ module _ {D : ℕ} {settled unsettled : List (FrontEntry D)} {corners wide : Lis
     -- no other entry is another
     pub told_relabels_settled : Relabels (told_front settled unsettled) (record { cost = c; arc = arc.0 })
         (told_front (set settled i (with_arc x arc)) unsettled)
-    told_relabels_settled = subst (λ k. Relabels (told_front settled unsettled) (record { cost = k; arc = arc.0 })
-        (told_front (set settled i (with_arc x arc)) unsettled))
-        (same_cost held.front c has (told_entry x) (told_settled there x is unsettled) (covers there x is))
-        (relabels_settled held.front (map told_entry (remove settled i)) (told_entry x) (told_entry (with_arc x arc)) refl
-        (map told_entry (set settled i (with_arc x arc))) (told_in_set settled arc i x there.within is) (told_out settled i x there.within is))
+    told_relabels_settled =
+        let same = same_cost held.front c has (told_entry x) (told_settled there x is unsettled) (covers there x is) in
+        relabels_settled held.front (map told_entry (remove settled i)) (told_entry x) (record { cost = c; arc = arc.0 }) same
+        (map told_entry (set settled i (with_arc x arc))) (told_in_set settled arc i x there.within is same) (told_out settled i x there.within is)
 
     -- and blocks stay blocks
     pub relabelled_settled_blocks : AreBlocks (set settled i (with_arc x arc)) corners wide unsettled room
@@ -224,11 +225,10 @@ module _ {D : ℕ} {settled unsettled : List (FrontEntry D)} {corners wide : Lis
     -- no other entry is another
     pub told_relabels_unsettled : Relabels (told_front settled unsettled) (record { cost = c; arc = arc.0 })
         (told_front settled (set unsettled i (with_arc x arc)))
-    told_relabels_unsettled = subst (λ k. Relabels (told_front settled unsettled) (record { cost = k; arc = arc.0 })
-        (told_front settled (set unsettled i (with_arc x arc))))
-        (same_cost held.front c has (told_entry x) (told_unsettled there x is settled) (covers there x is))
-        (relabels_unsettled held.front (map told_entry (remove unsettled i)) (told_entry x) (told_entry (with_arc x arc)) refl
-        (map told_entry (set unsettled i (with_arc x arc))) (told_in_set unsettled arc i x there.within is) (told_out unsettled i x there.within is))
+    told_relabels_unsettled =
+        let same = same_cost held.front c has (told_entry x) (told_unsettled there x is settled) (covers there x is) in
+        relabels_unsettled held.front (map told_entry (remove unsettled i)) (told_entry x) (record { cost = c; arc = arc.0 }) same
+        (map told_entry (set unsettled i (with_arc x arc))) (told_in_set unsettled arc i x there.within is same) (told_out unsettled i x there.within is)
 
     -- and blocks stay blocks
     pub relabelled_unsettled_blocks : AreBlocks settled corners wide (set unsettled i (with_arc x arc)) room

@@ -1,6 +1,7 @@
 -- What a front is in whatever order its entries stand, and what becomes of it.
 use Rattle.std.proofs.Common.{◌≡◌, ◌≢◌, ℕ, ◌+◌, ◌<◌, ◌⊎◌, inl, inr, List, [], ◌∷◌, ◌++◌, length, map, get_or, remove, set, suc, sym, ap, subst, subst₂, ◌∙◌, arith}
 use Rattle.std.specs.Prelude.{AllPairs, Contains, IsPermutation}
+use Rattle.std.proofs.Math.Seq.{take-append_seam}
 use Rattle.std.proofs.lemmas.Bool.{cases_eq, cases_order}
 use Rattle.std.proofs.lemmas.List.{drop-set-lt, get_or-map, get_or-set_other, get_or-set_same, length-map, length-set, map-append, take-set, get_or_default, get_or_append_left, get_or-append-add, length-append}
 use Rattle.std.proofs.lemmas.List.Elements.{Contains-get_or}
@@ -9,7 +10,7 @@ use Rattle.cost_vector.specs.Costs.{AtMost}
 use Rattle.cost_vector.proofs.Vectors.{AtMost-refl}
 use Rattle.list_laws.proofs.Members.{each_in, all_from_in, in_map, of_map}
 use Rattle.list_laws.proofs.OnceLaws.{once_in_any_order}
-use Rattle.list_laws.proofs.Pairs.{pairs_rest, pairs_map}
+use Rattle.list_laws.proofs.Pairs.{pairs_rest, pairs_map, pairs_take}
 use Rattle.pareto_front.specs.declared.front.FrontEntry.{FrontEntry}
 use Rattle.pareto_front.specs.Fronts.{Entry, Front, entries, HasCost, AreIncomparable, IsFront}
 
@@ -23,9 +24,7 @@ pairs_across R xs ys pairs x y h k =
 
 -- the first of two lists
 pub pairs_before : {X : Type 0} (R : X → X → Type 0) (xs ys : List X) → AllPairs R (xs ++ ys) → AllPairs R xs
-pairs_before R xs ys pairs = λ i j d before within.
-    subst (λ x. R x (get_or xs j d)) (get_or_append_left xs ys d i (omega (arith, before, within)))
-    (subst (λ y. R (get_or (xs ++ ys) i d) y) (get_or_append_left xs ys d j within) (pairs i j d before (omega (arith, within, length-append xs ys))))
+pairs_before R xs ys pairs = subst (AllPairs R) (take-append_seam xs ys) (pairs_take R (length xs) (xs ++ ys) pairs)
 
 -- the second of two lists
 pub pairs_behind : {X : Type 0} (R : X → X → Type 0) (xs ys : List X) → AllPairs R (xs ++ ys) → AllPairs R ys

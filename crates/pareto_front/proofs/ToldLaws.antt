@@ -10,7 +10,7 @@ use Rattle.std.proofs.lemmas.Option.{same_Some, none-some}
 use Rattle.std.proofs.Math.Seq.{map-set_same}
 use Rattle.std.proofs.lemmas.List.{get_or_default, length-set}
 use Rattle.std.proofs.lemmas.List.Edits.{length-remove}
-use Rattle.std.proofs.lemmas.List.Elements.{All-map, Contains-get_or, Contains-append_left, Contains-append_right, Contains-append_cases}
+use Rattle.std.proofs.lemmas.List.Elements.{All-append, All-map, Contains-get_or, Contains-append_left, Contains-append_right}
 use Rattle.std.proofs.lemmas.List.Sorted.{IsPermutation-map, IsPermutation-remove, IsPermutation-sym, IsPermutation-to_front, IsPermutation-trans, sorted_far, ranks_by}
 use Rattle.std.proofs.lemmas.Simd.{map-map}
 use Rattle.cost_vector.specs.Costs.{AtMost, Dominates, LexLess, lex_cmp}
@@ -48,18 +48,14 @@ module _ {D : ℕ} {list : List (FrontEntry D)} {c : List ℕ} {i : ℕ} (there 
   pub told_unsettled : (settled : List (FrontEntry D)) → Contains (entries (told_front settled list)) (told_entry x)
   told_unsettled settled = Contains-append_right (map told_entry settled) (map told_entry list) (told_entry x) told_in
 
--- no entry of a list is at most the cost
-told_none : {D : ℕ} (list : List (FrontEntry D)) (c : List ℕ) → CoversNone list c → (e : Entry) → Contains (map told_entry list) e → ¬ AtMost e.cost c
-told_none list c none e h =
-    each_in (λ (x : Entry). ¬ AtMost x.cost c) (map told_entry list) (All-map (λ (x : Entry). ¬ AtMost x.cost c) told_entry list none) e h
-
+-- no entry is at most the cost
 module _ {D : ℕ} (settled unsettled : List (FrontEntry D)) (c : List ℕ) (first : CoversNone settled c) (second : CoversNone unsettled c) where
-  -- so none of either list is
+  -- so none of the front covers it
   pub uncovered : ¬ IsCovered (entries (told_front settled unsettled)) c
-  uncovered h = elim (Contains-append_cases (map told_entry settled) (map told_entry unsettled) h.by h.contains) [
-    | inl near ↦ told_none settled c first h.by near h.at_most
-    | inr far ↦ told_none unsettled c second h.by far h.at_most
-  ]
+  uncovered h =
+      let Above = λ (e : Entry). ¬ AtMost e.cost c in
+      each_in Above (entries (told_front settled unsettled)) (All-append Above (map told_entry settled) (map told_entry unsettled)
+      (All-map Above told_entry settled first) (All-map Above told_entry unsettled second)) h.by h.contains h.at_most
 
   -- and none has the cost
   pub uncovered_none : ¬ HasCost (entries (told_front settled unsettled)) c
@@ -265,7 +261,11 @@ module _ {D : ℕ} {f : Front} (front : IsFront D f) {c : List ℕ} (x : FrontEn
 -- where no settled entry is at most a cost, none is settled at it
 pub no_arc : {D : ℕ} (settled : List (FrontEntry D)) (c : List ℕ) → CoversNone settled c → (arc : ArcNo)
     → (None ≡ Some arc) ↔ Contains (map told_entry settled) (record { cost = c; arc = arc.0 })
-no_arc settled c none arc = (λ e. absurd (none-some arc e), λ h. absurd (told_none settled c none (record { cost = c; arc = arc.0 }) h (AtMost-refl c)))
+no_arc settled c none arc = (
+  λ e. absurd (none-some arc e),
+  λ h. absurd (each_in (λ (e : Entry). ¬ AtMost e.cost c) (map told_entry settled) (All-map (λ (e : Entry). ¬ AtMost e.cost c) told_entry settled none)
+      (record { cost = c; arc = arc.0 }) h (AtMost-refl c)),
+)
 
 -- the settled entries, sorted by their costs
 module _ {D : ℕ} (settled unsettled : List (FrontEntry D)) (front : IsFront D (told_front settled unsettled)) (list : List (FrontEntry D))

@@ -1,23 +1,25 @@
 -- Entries whose costs ascend: where a cost stands among them, and what keeps their order.
-use Rattle.std.proofs.Common.{◌≡◌, ◌≢◌, ◌↔◌, inl, inr, ℕ, ◌+◌, ◌<◌, ◌≤◌, List, ◌∷◌, ◌++◌, length, get_or, set, map, take, drop, insert, remove, Option, Some, None, Result, Ok, Err, Ordering, Less, Equal, Greater, refl, sym, ap, subst, ◌∙◌, arith, length-take, length-drop, take-append-drop}
+use Rattle.std.proofs.Common.{◌≡◌, ◌≢◌, ◌↔◌, inl, inr, ℕ, ◌+◌, ◌<◌, ◌≤◌, List, ◌∷◌, length, get_or, set, map, take, drop, insert, remove, Option, Some, None, Result, Ok, Err, Ordering, Less, Equal, Greater, refl, sym, ap, subst, ◌∙◌, arith, length-take, length-drop}
 use Rattle.std.specs.Prelude.{All, AllPairs, Contains, IfErr, IfOk, IfSome}
 use Rattle.std.specs.Cmp.Lexicographic.{nat_list_cmp_total}
 use Rattle.std.specs.List.Sorted.{IsBinarySearchResult, IsNonDecreasingBy, IsPartitionPoint, IsSearchInRange}
 use Rattle.std.specs.Ordering.{ordering_index, ordering_reverse}
-use Rattle.std.proofs.lemmas.Bool.{cases_eq, cases_lt}
-use Rattle.std.proofs.lemmas.List.{get_or-drop, get_or-set_other, get_or-set_same, get_or-take, length-set, map-append}
-use Rattle.std.proofs.lemmas.List.Elements.{All-append, All-weaker, Contains-append_cases, Contains-append_right}
+use Rattle.std.proofs.lemmas.Bool.{cases_lt}
+use Rattle.std.proofs.lemmas.List.{drop-map, get_or-drop, get_or-take, length-set, take-map}
+use Rattle.std.proofs.lemmas.List.Elements.{All-map, All-weaker}
 use Rattle.std.proofs.lemmas.List.Quantifiers.{all_pairs_remove}
 use Rattle.cost_vector.specs.Costs.{AtMost, Dominates, LexLess, lex_cmp}
 use Rattle.cost_vector.proofs.Vectors.{AtMost-refl, LexLess-irrefl, LexLess-trans, LexLess_from_AtMost, LexLess_from_Dominates, cases_LexLess, cases_same, same_from_lex_cmp}
 use Rattle.list_laws.proofs.Members.{all_from_in, cases_in, each_in, of_map}
-use Rattle.list_laws.proofs.Pairs.{pairs_cons}
+use Rattle.list_laws.proofs.Pairs.{pairs_cons, pairs_take}
 use Rattle.list_laws.proofs.OnceLaws.{pairs_append}
 use Rattle.pareto_front.specs.declared.front.FrontEntry.{FrontEntry}
 use Rattle.pareto_front.specs.Calls.{told_entry}
 use Rattle.pareto_front.specs.Fronts.{AreIncomparable, Entry, HasCost}
 use Rattle.pareto_front.specs.Blocks.{AscendByCost, CoversAt, CoversNone, HasCostAt, IsBeforeOf, IsGapOf}
-use Rattle.pareto_front.proofs.FrontLaws.{pairs_before, pairs_behind}
+use Rattle.pareto_front.proofs.BlockLaws.{covers_in_part}
+use Rattle.pareto_front.proofs.FrontLaws.{set_costs}
+use Rattle.pareto_front.proofs.Parts.{all_parts, cases_part, in_back_part, pairs_drop}
 
 -- how a cost stands to another, a lesser one does too, or is less than that
 pub rises_to : (a b c : List ℕ) → LexLess a b → ordering_index (lex_cmp a c) ≤ ordering_index (lex_cmp b c)
@@ -53,33 +55,23 @@ module _ {D : ℕ} (list : List (FrontEntry D)) (c : List ℕ) where
   pub covers_there : (i : ℕ) → HasCostAt list c i → CoversAt list c i
   covers_there i there = record { within = there.within; at_most = λ e. subst (λ a. AtMost a c) (sym (there.cost e)) (AtMost-refl c) }
 
-  -- an entry of the first ones is one of all
-  covers_in_all : (i j : ℕ) → CoversAt (take i list) c j → CoversAt list c j
-  covers_in_all i j there = record {
-    within = omega (arith, there.within, length-take i list);
-    at_most = λ e.
-        let below : j < i = omega (arith, there.within, length-take i list) in
-        subst (λ (x : FrontEntry D). AtMost x.cost.0 c) (get_or-take i list j e below) (there.at_most e);
-  }
-
+  -- one that was found among the first ones is one of all
   pub covers_found : (i : ℕ) (r : Option ℕ) → IfSome r (CoversAt (take i list) c) → IfSome r (CoversAt list c)
-  covers_found i (Some j) there = covers_in_all i j there
+  covers_found i (Some j) there = let same : 0 + j ≡ j = omega arith in subst (CoversAt list c) same (covers_in_part i 0 list c j there)
   covers_found i None there = tt
 
   -- those behind a gap aren't at most the cost
   pub covers_none : (i : ℕ) → IsGapOf list c i → CoversNone (take i list) c → CoversNone list c
-  covers_none i gap none = all_from_in (λ (x : FrontEntry D). ¬ AtMost x.cost.0 c) list (λ x h.
-      elim (Contains-append_cases (take i list) (drop i list) x (subst (λ l. Contains l x) (sym (take-append-drop i list)) h)) [
-        | inl front ↦ each_in (λ (y : FrontEntry D). ¬ AtMost y.cost.0 c) (take i list) none x front
-        | inr back ↦ not_most x.cost.0 c (each_in (λ (y : FrontEntry D). LexLess c y.cost.0) (drop i list) gap.after x back)
-      ])
+  covers_none i gap none = all_parts i list (λ (x : FrontEntry D). ¬ AtMost x.cost.0 c) none
+      (All-weaker (λ (x : FrontEntry D). LexLess c x.cost.0) (λ (x : FrontEntry D). ¬ AtMost x.cost.0 c) (λ x less. not_most x.cost.0 c less) (drop i list)
+      gap.after)
 
   -- where there is a gap no entry has the cost
   pub gap_lacks : (i : ℕ) → IsGapOf list c i → ¬ HasCost (map told_entry list) c
   gap_lacks i gap has =
       let (y, y_in, is) = of_map told_entry list (record { cost = c; arc = has.arc }) has.contains in
       let same : y.cost.0 ≡ c = ap (λ (e : Entry). e.cost) (sym is) in
-      elim (Contains-append_cases (take i list) (drop i list) y (subst (λ l. Contains l y) (sym (take-append-drop i list)) y_in)) [
+      elim (cases_part i list y y_in) [
         | inl front ↦ LexLess-irrefl c (subst (λ z. LexLess z c) same (each_in (λ (e : FrontEntry D). LexLess e.cost.0 c) (take i list) gap.before y front))
         | inr back ↦ LexLess-irrefl c (subst (LexLess c) same (each_in (λ (e : FrontEntry D). LexLess c e.cost.0) (drop i list) gap.after y back))
       ]
@@ -97,11 +89,10 @@ module _ {D : ℕ} (list : List (FrontEntry D)) (c : List ℕ) where
     rises : IsNonDecreasingBy (λ (e : FrontEntry D). ordering_index (lex_cmp e.cost.0 c)) list
     rises a b e upto inside = elim (cases_lt a b) [
       | inl less ↦ rises_to (get_or list a e).cost.0 (get_or list b e).cost.0 c (up a b e less inside)
-      | inr not_less ↦
-          let one : a ≡ b = omega (arith, upto, not_less) in
-          subst (λ n. ordering_index (lex_cmp (get_or list a e).cost.0 c) ≤ ordering_index (lex_cmp (get_or list n e).cost.0 c)) one (omega arith)
+      | inr not_less ↦ let one : a ≡ b = omega (arith, upto, not_less) in rw one (omega arith)
     ]
 
+    -- or where the cost would stand
     pub place_missing : (r : Result ℕ ℕ) → IsSearchInRange r (length list)
         → IsBinarySearchResult (λ (e : FrontEntry D). lex_cmp e.cost.0 c) list r → IfErr r (IsGapOf list c)
     place_missing (Ok i) within at = tt
@@ -112,11 +103,9 @@ module _ {D : ℕ} (list : List (FrontEntry D)) (c : List ℕ) where
           within = within;
           before = λ k d inside.
               let below : k < i = omega (arith, length-take i list, inside) in
-              subst (λ (e : FrontEntry D). LexLess e.cost.0 c) (sym (get_or-take i list k d below)) (parts.0 k d (omega (arith, within, below)) below);
-          after = λ k d inside.
-              let behind : i + k < length list = omega (arith, length-drop i list, inside) in
-              subst (λ (e : FrontEntry D). LexLess c e.cost.0) (sym (get_or-drop i list k d))
-              (nat_list_cmp_total.antisymm c (get_or list (i + k) d).cost.0 ∙ ap ordering_reverse (parts.1 (i + k) d (omega arith) behind));
+              rw (get_or-take i list k d below) (parts.0 k d (omega (arith, within, below)) below);
+          after = λ k d inside. rw (get_or-drop i list k d) (nat_list_cmp_total.antisymm c (get_or list (i + k) d).cost.0
+              ∙ ap ordering_reverse (parts.1 (i + k) d (omega arith) (omega (arith, length-drop i list, inside))));
         }
 
     -- before the entry of a cost all costs are less, and behind it none is
@@ -125,19 +114,13 @@ module _ {D : ℕ} (list : List (FrontEntry D)) (c : List ℕ) where
       within = omega (arith, there.within);
       before = λ k d inside.
           let below : k < i = omega (arith, length-take i list, inside) in
-          subst (λ (e : FrontEntry D). LexLess e.cost.0 c) (sym (get_or-take i list k d below))
-          (subst (LexLess (get_or list k d).cost.0) (there.cost d) (up k i d below there.within));
-      after = λ k d inside less.
-          let behind : i + k < length list = omega (arith, length-drop i list, inside) in
-          let back = subst (λ (e : FrontEntry D). LexLess e.cost.0 c) (get_or-drop i list k d) less in
+          rw (get_or-take i list k d below) (subst (LexLess (get_or list k d).cost.0) (there.cost d) (up k i d below there.within));
+      after = λ k d inside. rw (get_or-drop i list k d) (λ back.
           elim (cases_lt i (i + k)) [
-            | inl later ↦
-                let ahead = subst (λ a. LexLess a (get_or list (i + k) d).cost.0) (there.cost d) (up i (i + k) d later behind) in
-                LexLess-irrefl c (LexLess-trans c (get_or list (i + k) d).cost.0 c ahead back)
-            | inr here ↦
-                let same : i + k ≡ i = omega (arith, here) in
-                LexLess-irrefl c (subst (λ a. LexLess a c) (ap (λ j. (get_or list j d).cost.0) same ∙ there.cost d) back)
-          ];
+            | inl later ↦ LexLess-irrefl c (LexLess-trans c (get_or list (i + k) d).cost.0 c
+                (rw (there.cost d) at (up i (i + k) d later (omega (arith, length-drop i list, inside)))) back)
+            | inr here ↦ let same : i + k ≡ i = omega (arith, here) in LexLess-irrefl c (rw (same, there.cost d) at back)
+          ]);
     }
 
     -- one entry more, where its cost stands
@@ -145,9 +128,8 @@ module _ {D : ℕ} (list : List (FrontEntry D)) (c : List ℕ) where
         → AscendByCost (insert list i x)
     ascend_in i at new x is =
         let Before = λ (a b : FrontEntry D). LexLess a.cost.0 b.cost.0 in
-        let split = subst (AllPairs Before) (sym (take-append-drop i list)) up in
-        pairs_append Before (take i list) (x ∷ drop i list) (pairs_before Before (take i list) (drop i list) split)
-        (pairs_cons Before x (drop i list) (λ y h. later y h) (pairs_behind Before (take i list) (drop i list) split))
+        pairs_append Before (take i list) (x ∷ drop i list) (pairs_take Before i list up)
+        (pairs_cons Before x (drop i list) (λ y h. later y h) (pairs_drop i list Before up))
         (λ a b h k. elim (cases_in x (drop i list) b k) [
           | inl same ↦ subst (λ (z : FrontEntry D). LexLess a.cost.0 z.cost.0) (sym same) (earlier a h)
           | inr behind ↦ LexLess-trans a.cost.0 x.cost.0 b.cost.0 (earlier a h) (later b behind)
@@ -156,13 +138,10 @@ module _ {D : ℕ} (list : List (FrontEntry D)) (c : List ℕ) where
         earlier : (a : FrontEntry D) → Contains (take i list) a → LexLess a.cost.0 x.cost.0
         earlier a h = subst (LexLess a.cost.0) (sym is) (each_in (λ (e : FrontEntry D). LexLess e.cost.0 c) (take i list) at.before a h)
 
-        in_all : (b : FrontEntry D) → Contains (drop i list) b → Contains list b
-        in_all b h = subst (λ l. Contains l b) (take-append-drop i list) (Contains-append_right (take i list) (drop i list) b h)
-
         later : (b : FrontEntry D) → Contains (drop i list) b → LexLess x.cost.0 b.cost.0
         later b h = elim (cases_LexLess b.cost.0 c) [
           | inl less ↦ absurd (each_in (λ (e : FrontEntry D). ¬ LexLess e.cost.0 c) (drop i list) at.after b h less)
-          | inr (inl same) ↦ absurd (each_in (λ (e : FrontEntry D). e.cost.0 ≢ c) list new b (in_all b h) same)
+          | inr (inl same) ↦ absurd (each_in (λ (e : FrontEntry D). e.cost.0 ≢ c) list new b (in_back_part i list b h) same)
           | inr (inr more) ↦ subst (λ z. LexLess z b.cost.0) (sym is) more
         ]
 
@@ -174,24 +153,13 @@ module _ {D : ℕ} (list : List (FrontEntry D)) (up : AscendByCost list) (i : �
   -- an entry of the same cost
   pub ascend_set : (x : FrontEntry D) → ((d : FrontEntry D) → (get_or list i d).cost.0 ≡ x.cost.0) → AscendByCost (set list i x)
   ascend_set x same a b d before inside =
-      rw (cost_at a, cost_at b) (up a b d before (omega (arith, inside, length-set list i x)))
-    where
-      cost_at : (k : ℕ) → (get_or (set list i x) k d).cost.0 ≡ (get_or list k d).cost.0
-      cost_at k = elim (cases_eq k i) [
-        | inl here ↦
-            ap (λ j. (get_or (set list i x) j d).cost.0) here ∙ ap (λ (e : FrontEntry D). e.cost.0) (get_or-set_same list i x d within)
-            ∙ sym (same d) ∙ ap (λ j. (get_or list j d).cost.0) (sym here)
-        | inr other ↦ ap (λ (e : FrontEntry D). e.cost.0) (get_or-set_other list i k x d other)
-      ]
+      rw (set_costs list i x within same a d, set_costs list i x within same b d) (up a b d before (omega (arith, inside, length-set list i x)))
 
 -- entries that a cost dominates stand behind its place
 module _ {D : ℕ} (list : List (FrontEntry D)) (i : ℕ) where
-  told_parts : map told_entry (take i list) ++ map told_entry (drop i list) ≡ map told_entry list
-  told_parts = sym (map-append told_entry (take i list) (drop i list)) ∙ ap (map told_entry) (take-append-drop i list)
-
+  -- the entries behind it are incomparable, if all are
   pub apart_behind : AllPairs AreIncomparable (map told_entry list) → AllPairs AreIncomparable (map told_entry (drop i list))
-  apart_behind pairs =
-      pairs_behind AreIncomparable (map told_entry (take i list)) (map told_entry (drop i list)) (subst (AllPairs AreIncomparable) (sym told_parts) pairs)
+  apart_behind pairs = subst (AllPairs AreIncomparable) (drop-map told_entry i list) (pairs_drop i (map told_entry list) AreIncomparable pairs)
 
   -- a cost dominates none of the entries before its place
   pub undominated_before : (by : List ℕ) → IsBeforeOf list by i → All (λ (e : FrontEntry D). ¬ Dominates by e.cost.0) (take i list)
@@ -200,23 +168,23 @@ module _ {D : ℕ} (list : List (FrontEntry D)) (i : ℕ) where
       LexLess-irrefl by (LexLess-trans by e.cost.0 by (LexLess_from_Dominates by e.cost.0 dominated) less))
 
   module _ (by : List ℕ) (none : All (λ (e : FrontEntry D). ¬ Dominates by e.cost.0) (take i list)) where
+    -- what a cost dominates stands behind it, if it dominates none before it
     pub dominated_behind : (c : List ℕ) → (HasCost (map told_entry (drop i list)) c × Dominates by c) ↔ (HasCost (map told_entry list) c × Dominates by c)
     dominated_behind c = (
       λ h.
           let e : Entry = record { cost = c; arc = h.0.arc } in
-          let there = Contains-append_right (map told_entry (take i list)) (map told_entry (drop i list)) e h.0.contains in
-          (record { arc = h.0.arc; contains = subst (λ l. Contains l e) told_parts there }, h.1),
+          let there = subst (λ l. Contains l e) (sym (drop-map told_entry i list)) h.0.contains in
+          (record { arc = h.0.arc; contains = in_back_part i (map told_entry list) e there }, h.1),
       λ h.
           let e : Entry = record { cost = c; arc = h.0.arc } in
-          elim (Contains-append_cases (map told_entry (take i list)) (map told_entry (drop i list)) e (subst (λ l. Contains l e) (sym told_parts) h.0.contains)) [
-            | inl front ↦
-                let (y, y_in, is) = of_map told_entry (take i list) e front in
-                absurd (each_in (λ (x : FrontEntry D). ¬ Dominates by x.cost.0) (take i list) none y y_in (subst (Dominates by) (ap (λ (x : Entry). x.cost) is) h.1))
-            | inr back ↦ (record { arc = h.0.arc; contains = back }, h.1)
+          let Spared = λ (x : Entry). ¬ Dominates by x.cost in
+          let front : All Spared (take i (map told_entry list)) = rw (take-map told_entry i list) (All-map Spared told_entry (take i list) none) in
+          elim (cases_part i (map told_entry list) e h.0.contains) [
+            | inl there ↦ absurd (each_in Spared (take i (map told_entry list)) front e there h.1)
+            | inr there ↦ (record { arc = h.0.arc; contains = subst (λ l. Contains l e) (drop-map told_entry i list) there }, h.1)
           ],
     )
 
     -- so none is dominated where none behind is
     pub none_dominated_at_all : All (λ (e : FrontEntry D). ¬ Dominates by e.cost.0) (drop i list) → All (λ (e : FrontEntry D). ¬ Dominates by e.cost.0) list
-    none_dominated_at_all behind = subst (All (λ (e : FrontEntry D). ¬ Dominates by e.cost.0)) (take-append-drop i list)
-        (All-append (λ (e : FrontEntry D). ¬ Dominates by e.cost.0) (take i list) (drop i list) none behind)
+    none_dominated_at_all behind = all_parts i list (λ (e : FrontEntry D). ¬ Dominates by e.cost.0) none behind

@@ -1,49 +1,35 @@
 -- Blocks of entries, and their corners.
 use Rattle.std.proofs.Common.{◌≡◌, ℕ, ◌+◌, ◌-◌, ◌*◌, ◌/◌, ◌<◌, ◌≤◌, inl, inr, List, [], ◌∷◌, ◌++◌, length, take, drop, get_or, set, min, refl, sym, ap}
 use Rattle.std.proofs.Common.{subst, subst₂, ◌∙◌, arith, take-append-drop}
-use Rattle.std.specs.Prelude.{All, Contains, IsPermutation}
+use Rattle.std.specs.Prelude.{Contains, IsPermutation}
 use Rattle.std.proofs.Math.Nat.{div-lt_iff_lt-mul}
-use Rattle.std.proofs.Math.Seq.{take-add}
 use Rattle.std.proofs.lemmas.Bool.{cases_lt, cases_eq}
 use Rattle.std.proofs.lemmas.Nat.{div-mul-add}
-use Rattle.std.proofs.lemmas.List.{get_or-take, get_or-drop, get_or_append_left, get_or_push, get_or-set_same, get_or-set_other}
+use Rattle.std.proofs.lemmas.List.{get_or_default, get_or-take, get_or-drop, get_or_append_left, get_or_push, get_or-set_same, get_or-set_other}
 use Rattle.std.proofs.lemmas.List.{length-take, length-drop, length-set, length_push}
-use Rattle.std.proofs.lemmas.List.Elements.{All-append, Contains-get_or}
+use Rattle.std.proofs.lemmas.List.Elements.{Contains-get_or}
 use Rattle.std.proofs.lemmas.List.Sorted.{Contains-permutation, IsPermutation-append_right, IsPermutation-sym, length_permutation}
 use Rattle.cost_vector.specs.Costs.{AtMost}
 use Rattle.cost_vector.proofs.Vectors.{AtMost-refl, AtMost-trans}
 use Rattle.compact_labels.specs.declared.cost.CompactCost.{CompactCost}
 use Rattle.pareto_front.specs.declared.front.FrontEntry.{FrontEntry}
 use Rattle.pareto_front.specs.Blocks.{CoversAt, CoversNone, HaveCorners}
+use Rattle.pareto_front.proofs.FrontLaws.{set_costs}
+use Rattle.pareto_front.proofs.Parts.{all_more}
 
 -- an element of a part of a list
 module _ {X : Type 0} (n m : ℕ) (xs : List X) (k : ℕ) (inside : k < length (take n (drop m xs))) where
+  -- its place is within the part
   pub within_part : k < n
   within_part = omega (arith, inside, length-take n (drop m xs))
 
+  -- and, counted from the front, within the list
   pub within_whole : m + k < length xs
   within_whole = omega (arith, inside, length-take n (drop m xs), length-drop m xs)
 
+  -- where it stands too
   pub get_or-part : (d : X) → get_or (take n (drop m xs)) k d ≡ get_or xs (m + k) d
   get_or-part d = get_or-take n (drop m xs) k d within_part ∙ get_or-drop m xs k d
-
--- what holds of a part and of all behind it
-pub all_more : {X : Type 0} (P : X → Type 0) (n m : ℕ) (xs : List X) → All P (take n (drop m xs)) → All P (drop (m + n) xs) → All P (drop m xs)
-all_more P n m xs part rest = λ k d within.
-    elim (cases_lt k n) [
-      | inl before ↦
-          let inside : k < length (take n (drop m xs)) = omega (arith, within, before, length-take n (drop m xs)) in
-          subst P (get_or-take n (drop m xs) k d before) (part k d inside)
-      | inr behind ↦
-          let i : ℕ = k - n in
-          let inside : i < length (drop (m + n) xs) = omega (arith, within, length-drop (m + n) xs, length-drop m xs) in
-          let there : get_or xs ((m + n) + i) d ≡ get_or xs (m + k) d = ap (λ j. get_or xs j d) (omega arith) in
-          subst P (get_or-drop (m + n) xs i d ∙ there ∙ sym (get_or-drop m xs k d)) (rest i d inside)
-    ]
-
--- what holds of a part and of all before it
-pub all_before : {X : Type 0} (P : X → Type 0) (n m : ℕ) (xs : List X) → All P (take m xs) → All P (take n (drop m xs)) → All P (take (m + n) xs)
-all_before P n m xs front part = subst (All P) (sym (take-add m n xs)) (All-append P (take m xs) (take n (drop m xs)) front part)
 
 -- a block more without an entry that is at most a cost, before the next
 pub none_more : {D : ℕ} (size b next : ℕ) (list : List (FrontEntry D)) (c : List ℕ) → next ≡ b + 1 → CoversNone (take size (drop (b * size) list)) c
@@ -78,86 +64,78 @@ module _ {D : ℕ} (size : ℕ) {settled : List (FrontEntry D)} {corners : List 
       above (AtMost-trans corner.0 (get_or settled j d).cost.0 c under there)
 
   -- corners are about costs alone
-  pub corners_relabelled : (i : ℕ) (x : FrontEntry D) → ((d : FrontEntry D) → (get_or settled i d).cost ≡ x.cost)
+  pub corners_relabelled : (i : ℕ) (x : FrontEntry D) → i < length settled → ((d : FrontEntry D) → (get_or settled i d).cost ≡ x.cost)
       → HaveCorners size (set settled i x) corners
-  corners_relabelled i x same = record {
+  corners_relabelled i x within same = record {
     enough = omega (arith, have.enough, length-set settled i x);
     no_more = omega (arith, have.no_more, length-set settled i x);
-    at_most = λ j e c inside.
-        let old : j < length settled = omega (arith, inside, length-set settled i x) in
-        let corner : CompactCost D = get_or corners (j / size) c in
-        elim (cases_eq j i) [
-          | inl here ↦
-              let is : get_or (set settled i x) j e ≡ x =
-              ap (λ k. get_or (set settled i x) k e) here ∙ get_or-set_same settled i x e (omega (arith, here, old)) in
-              let cost_is : (get_or settled j e).cost ≡ x.cost = ap (λ k. (get_or settled k e).cost) here ∙ same e in
-              rw is (subst (λ (y : CompactCost D). AtMost corner.0 y.0) cost_is (have.at_most j e c old))
-          | inr other ↦ rw (get_or-set_other settled i j x e other) (have.at_most j e c old)
-        ];
+    at_most = λ j e c inside. rw (set_costs settled i x within (λ d. ap (λ (k : CompactCost D). k.0) (same d)) j e)
+        (have.at_most j e c (omega (arith, inside, length-set settled i x)));
   }
 
-  -- one entry more: its block has a corner, or it begins a block
+  -- one entry more
   module _ (some : 0 < size) (entry : FrontEntry D) where
     long : length (settled ++ entry ∷ []) ≡ length settled + 1
     long = length_push settled entry
 
-    pub corner_met : (corner met : CompactCost D) → length settled / size < length corners → corner ≡ get_or corners (length settled / size) corner
-        → AtMost met.0 corner.0 → AtMost met.0 entry.cost.0 → HaveCorners size (settled ++ entry ∷ []) (set corners (length settled / size) met)
-    corner_met corner met within is under_corner under_entry = record {
-      enough = omega (arith, (div-lt_iff_lt-mul some).0 within, as_many, long);
-      no_more = omega (arith, have.no_more, as_many, long);
-      at_most = λ j e c inside.
-          let met_there : get_or (set corners b met) b c ≡ met = get_or-set_same corners b met c within in
-          elim (cases_lt j (length settled)) [
-            | inl old ↦ rw (get_or_append_left settled (entry ∷ []) e j old) (elim (cases_eq (j / size) b) [
-              | inl here ↦
-                  let below : AtMost corner.0 (get_or settled j e).cost.0 =
-                  subst (λ (x : CompactCost D). AtMost x.0 (get_or settled j e).cost.0) (ap (λ i. get_or corners i corner) here ∙ sym is)
-                  (have.at_most j e corner old) in
-                  rw (here, met_there) (AtMost-trans met.0 corner.0 (get_or settled j e).cost.0 under_corner below)
-              | inr other ↦ rw (get_or-set_other corners b (j / size) met c other) (have.at_most j e c old)
-            ])
-            | inr last ↦
-                let here : j ≡ length settled = omega (arith, inside, long) in
-                rw (here, get_or_push settled entry e (length settled) refl, met_there) under_entry
-          ];
-    } where
-      b : ℕ
-      b = length settled / size
-
-      as_many : length (set corners b met) * size ≡ length corners * size
-      as_many = ap (λ n. n * size) (length-set corners b met)
-
-    pub corner_begun : length corners ≤ length settled / size → HaveCorners size (settled ++ entry ∷ []) (corners ++ entry.cost ∷ [])
-    corner_begun none = record {
-      enough = omega (arith, have.enough, some, one_more, long);
-      no_more = omega (arith, full, one_more, long);
+    -- corners of which none is above the old one, and one is at most the entry's cost
+    corner_more : (now : List (CompactCost D)) → length settled + 1 ≤ length now * size → length now * size < length settled + 1 + size
+        → ((k : ℕ) (c : CompactCost D) → k < length corners → AtMost (get_or now k c).0 (get_or corners k c).0)
+        → ((c : CompactCost D) → AtMost (get_or now (length settled / size) c).0 entry.cost.0) → HaveCorners size (settled ++ entry ∷ []) now
+    corner_more now enough no_more lower last = record {
+      enough = omega (arith, enough, long);
+      no_more = omega (arith, no_more, long);
       at_most = λ j e c inside.
           elim (cases_lt j (length settled)) [
             | inl old ↦
                 let block : j / size < length corners = (div-lt_iff_lt-mul some).1 (omega (arith, old, have.enough)) in
-                rw (get_or_append_left settled (entry ∷ []) e j old, get_or_append_left corners (entry.cost ∷ []) c (j / size) block)
-                (have.at_most j e c old)
-            | inr last ↦
+                rw (get_or_append_left settled (entry ∷ []) e j old) (AtMost-trans (get_or now (j / size) c).0 (get_or corners (j / size) c).0
+                (get_or settled j e).cost.0 (lower (j / size) c block) (have.at_most j e c old))
+            | inr behind ↦
                 let here : j ≡ length settled = omega (arith, inside, long) in
-                rw (here, get_or_push settled entry e (length settled) refl, get_or_push corners entry.cost c (length settled / size) begins)
-                (AtMost-refl entry.cost.0)
+                rw (here, get_or_push settled entry e (length settled) refl) (last c)
           ];
-    } where
-      one_more : length (corners ++ entry.cost ∷ []) * size ≡ length corners * size + size
-      one_more = ap (λ n. n * size) (length_push corners entry.cost) ∙ omega arith
+    }
 
-      full : length corners * size ≤ length settled
-      full = elim (cases_lt (length settled) (length corners * size)) [
-        | inl short ↦ absurd (omega (arith, none, (div-lt_iff_lt-mul some).1 short))
-        | inr past ↦ past
-      ]
+    -- the corner of its block is lowered
+    pub corner_met : (corner met : CompactCost D) → length settled / size < length corners → corner ≡ get_or corners (length settled / size) corner
+        → AtMost met.0 corner.0 → AtMost met.0 entry.cost.0 → HaveCorners size (settled ++ entry ∷ []) (set corners (length settled / size) met)
+    corner_met corner met within is under_corner under_entry =
+        corner_more (set corners b met) (omega (arith, (div-lt_iff_lt-mul some).0 within, as_many)) (omega (arith, have.no_more, as_many)) lower
+        (λ c. rw (get_or-set_same corners b met c within) under_entry)
+      where
+        b : ℕ
+        b = length settled / size
 
-      begins : length corners ≡ length settled / size
-      begins =
-          let next : length settled < (length corners + 1) * size = omega (arith, have.enough, some) in
-          let below : length settled / size < length corners + 1 = (div-lt_iff_lt-mul some).1 next in
-          omega (arith, none, below)
+        as_many : length (set corners b met) * size ≡ length corners * size
+        as_many = ap (λ n. n * size) (length-set corners b met)
+
+        lower : (k : ℕ) (c : CompactCost D) → k < length corners → AtMost (get_or (set corners b met) k c).0 (get_or corners k c).0
+        lower k c inside = elim (cases_eq k b) [
+          | inl here ↦ rw (here, get_or-set_same corners b met c within, get_or_default corners b c corner within, ← is) under_corner
+          | inr other ↦ rw (get_or-set_other corners b k met c other) (AtMost-refl (get_or corners k c).0)
+        ]
+
+    -- or it begins a block
+    pub corner_begun : length corners ≤ length settled / size → HaveCorners size (settled ++ entry ∷ []) (corners ++ entry.cost ∷ [])
+    corner_begun none = corner_more (corners ++ entry.cost ∷ []) (omega (arith, have.enough, some, one_more)) (omega (arith, full, one_more))
+        (λ k c inside. rw (get_or_append_left corners (entry.cost ∷ []) c k inside) (AtMost-refl (get_or corners k c).0))
+        (λ c. rw (get_or_push corners entry.cost c (length settled / size) begins) (AtMost-refl entry.cost.0))
+      where
+        one_more : length (corners ++ entry.cost ∷ []) * size ≡ length corners * size + size
+        one_more = ap (λ n. n * size) (length_push corners entry.cost) ∙ omega arith
+
+        full : length corners * size ≤ length settled
+        full = elim (cases_lt (length settled) (length corners * size)) [
+          | inl short ↦ absurd (omega (arith, none, (div-lt_iff_lt-mul some).1 short))
+          | inr past ↦ past
+        ]
+
+        begins : length corners ≡ length settled / size
+        begins =
+            let next : length settled < (length corners + 1) * size = omega (arith, have.enough, some) in
+            let below : length settled / size < length corners + 1 = (div-lt_iff_lt-mul some).1 next in
+            omega (arith, none, below)
 
 -- the corners of a wide block, which has 8 blocks of 16
 pub corners_of_part : {D : ℕ} (b : ℕ) {settled : List (FrontEntry D)} {corners : List (CompactCost D)} → HaveCorners 16 settled corners
@@ -198,6 +176,7 @@ corners_of_front {D} m {settled} {corners} have within = record {
 -- the entries from the place `start` on in another order
 module _ {D : ℕ} (old new : List (FrontEntry D)) (start : ℕ) (front : take start new ≡ take start old)
     (moved : IsPermutation (drop start old) (drop start new)) where
+  -- all are in another order
   pub moved_behind : IsPermutation old new
   moved_behind = subst₂ IsPermutation (take-append-drop start old) (ap (λ l. l ++ drop start new) (sym front) ∙ take-append-drop start new)
       (IsPermutation-append_right (take start old) (drop start old) (drop start new) moved)
@@ -211,8 +190,7 @@ module _ {D : ℕ} (old new : List (FrontEntry D)) (start : ℕ) (front : take s
     at_most = λ j e c inside.
         elim (cases_lt j start) [
           | inl before ↦
-              let same : get_or new j e ≡ get_or old j e = sym (get_or-take start new j e before) ∙ ap (λ l. get_or l j e) front ∙ get_or-take start old j e before in
-              rw same (have.at_most j e c (omega (arith, inside, as_long)))
+              rw (← get_or-take start new j e before, front, get_or-take start old j e before) (have.at_most j e c (omega (arith, inside, as_long)))
           | inr behind ↦
               let x : FrontEntry D = get_or new j e in
               let k : ℕ = j - start in

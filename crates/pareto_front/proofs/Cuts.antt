@@ -16,10 +16,12 @@ firsts_rise list descends = λ i j d up within. elim (cases_lt i j) [
 ]
 
 module _ {X : Type 0} (n : X → ℕ) (t : ℕ) (xs : List X) (i : ℕ) where
+  -- a cut by a test for less
   pub cut_below : IsPartitionPoint (λ y. nat_lt (n y) t ≡ true) (λ y. nat_lt (n y) t ≡ false) xs i
       → IsPartitionPoint (λ y. n y < t) (λ y. t ≤ n y) xs i
   cut_below cut = (λ k d up below. ltb-true _ _ (cut.0 k d up below), λ k d up below. ltb-false _ _ (cut.1 k d up below))
 
+  -- and by one for at most
   pub cut_up_to : IsPartitionPoint (λ y. nat_le (n y) t ≡ true) (λ y. nat_le (n y) t ≡ false) xs i
       → IsPartitionPoint (λ y. n y ≤ t) (λ y. t < n y) xs i
   cut_up_to cut = (λ k d up below. leb-true _ _ (cut.0 k d up below), λ k d up below. leb-false _ _ (cut.1 k d up below))

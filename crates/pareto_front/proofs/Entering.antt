@@ -1,99 +1,87 @@
 -- What a new entry makes of a sorted front, in place of the entries that it dominates.
-use Rattle.std.proofs.Common.{◌≡◌, ℕ, suc, ◌+◌, ◌-◌, ◌<◌, ◌≤◌, ◌⊎◌, ◌↔◌, Bool, true, false, List, [], ◌∷◌, ◌++◌, length, map, take, drop, get_or, inl, inr, refl, sym, ap, subst, subst₂, ◌∙◌, arith, take-append-drop, append_assoc}
+use Rattle.std.proofs.Common.{◌≡◌, ℕ, ◌+◌, ◌-◌, ◌<◌, ◌≤◌, ◌↔◌, Bool, true, false, not, List, ◌∷◌, ◌++◌, length, map, take, drop, inl, inr, sym, ap, subst, ◌∙◌, arith}
+use Rattle.std.specs.Prelude.{All, Contains, IsPermutation}
 use Rattle.std.specs.List.{items_where_true}
-use Rattle.std.proofs.lemmas.Bool.{cases_lt, cases_order}
-use Rattle.std.proofs.lemmas.List.{get_or_append_left, get_or-append_right, get_or-take, get_or-drop, length-append, length-take, length-drop, take-take}
+use Rattle.std.proofs.lemmas.Bool.{cases_lt}
+use Rattle.std.proofs.lemmas.List.{drop-drop, drop-map, length-append, length-drop, length-map, length-take, map-append, take-map}
+use Rattle.std.proofs.lemmas.List.Elements.{All-append, All-cons, All-drop, All-take, Contains-append_left, Contains-append_right}
+use Rattle.std.proofs.lemmas.List.Sorted.{IsPermutation-map, IsPermutation-middle, IsPermutation-sym}
 use Rattle.cost_vector.specs.Costs.{AtMost, Dominates}
 use Rattle.cost_vector.proofs.Vectors.{AtMost-refl}
-use Rattle.list_laws.proofs.OnceLaws.{empty_if_none}
-use Rattle.list_laws.specs.Sets.{SameMembers}
+use Rattle.list_laws.proofs.Members.{all_from_in, cases_in, each_in, in_map}
+use Rattle.list_laws.proofs.OnceLaws.{empty_if_none, pairs_append}
+use Rattle.list_laws.proofs.Pairs.{pairs_cons, pairs_take}
 use Rattle.pareto_front.specs.declared.front.FrontEntry.{FrontEntry}
 use Rattle.pareto_front.specs.Fronts.{Entry, entries, IsCovered, SparesSettled}
 use Rattle.pareto_front.specs.Calls.{told_entry, Enters}
 use Rattle.pareto_front.specs.Sorted.{IsSorted, first, second, front_of, AreAtLeast}
-use Rattle.pareto_front.proofs.Marks.{of_marked, marked-append}
-use Rattle.pareto_front.proofs.Neighbours.{filler, at, cost_at, Stands, in_settled, unsettled_stands, long_at, falls, covers, at_most_pair, first_at_most, second_at_most}
-use Rattle.pareto_front.proofs.Changes.{sorted_by_places}
+use Rattle.pareto_front.proofs.FrontChanges as changes
+use Rattle.pareto_front.proofs.KeptLaws.{left_without, without_images, without_middle}
+use Rattle.pareto_front.proofs.Marks.{all_marked, cut_at, in_whole, marked-append}
+use Rattle.pareto_front.proofs.Finding.{at_least_cost, less_first, less_second, middle}
+use Rattle.pareto_front.proofs.Parts.{in_back_part, in_front_part, pairs_drop}
+use Rattle.pareto_front.proofs.Neighbours.{entry_in, is_front, at_most_pair, first_at_most, second_at_most}
 
--- ---- a list with one element in place of those from a to b
-
-abbrev pub replaced : {X : Type 0} → ℕ → ℕ → X → List X → List X
+-- a list with one element in place of those from a to b
+abbrev replaced : {X : Type 0} → ℕ → ℕ → X → List X → List X
 replaced a b y xs = take a xs ++ y ∷ drop b xs
 
-module _ {X : Type 0} (a b : ℕ) (y : X) (xs : List X) (ascend : a ≤ b) (within : b ≤ length xs) where
-  front_length : length (take a xs) ≡ a
-  front_length = omega (arith, length-take a xs)
+length-replaced : {X : Type 0} (a b : ℕ) (y : X) (xs : List X) → a ≤ b → b ≤ length xs → length (replaced a b y xs) + b ≡ length xs + a + 1
+length-replaced a b y xs ascend within = omega (arith, length-append (take a xs) (y ∷ drop b xs), length-take a xs, length-drop b xs)
 
-  pub length-replaced : length (replaced a b y xs) + b ≡ length xs + a + 1
-  length-replaced = omega (arith, length-append (take a xs) (y ∷ drop b xs), front_length, length-drop b xs)
+-- the marked of the three parts of a list
+in_parts : {X : Type 0} (bs : List Bool) (xs : List X) (a b : ℕ) → length bs ≡ length xs → a ≤ b → items_where_true bs xs
+    ≡ items_where_true (take a bs) (take a xs)
+    ++ (items_where_true (take (b - a) (drop a bs)) (take (b - a) (drop a xs)) ++ items_where_true (drop b bs) (drop b xs))
+in_parts bs xs a b long ascend =
+    let whole : a + (b - a) ≡ b = omega (arith, ascend) in
+    cut_at bs xs a long ∙ ap (λ zs. items_where_true (take a bs) (take a xs) ++ zs)
+    (cut_at (drop a bs) (drop a xs) (b - a) (omega (arith, long, length-drop a bs, length-drop a xs))
+    ∙ (λ t. items_where_true (take (b - a) (drop a bs)) (take (b - a) (drop a xs))
+    ++ items_where_true ((drop-drop (b - a) a bs ∙ ap (λ k. drop k bs) whole) t) ((drop-drop (b - a) a xs ∙ ap (λ k. drop k xs) whole) t)))
 
-  pub replaced_before : (k : ℕ) (d : X) → k < a → get_or (replaced a b y xs) k d ≡ get_or xs k d
-  replaced_before k d before =
-      get_or_append_left (take a xs) (y ∷ drop b xs) d k (omega (arith, front_length, before)) ∙ get_or-take a xs k d before
+-- the new entry y comes in place of those from a to b
+module _ {list : List (FrontEntry 2)} {marks : List Bool} {n : ℕ} (s : IsSorted list marks n) (y : FrontEntry 2) (long : length y.cost.0 ≡ 2) {a b : ℕ}
+    (span : AreAtLeast list y.cost.0 a b) (new : ¬ IsCovered (entries (front_of list marks)) y.cost.0)
+    (spares : SparesSettled (front_of list marks) y.cost.0) where
+  abbrev c : List ℕ
+  c = y.cost.0
 
-  behind : (k : ℕ) (d : X) → a ≤ k → get_or (replaced a b y xs) k d ≡ get_or (y ∷ drop b xs) (k - a) d
-  behind k d from = get_or-append_right (take a xs) (y ∷ drop b xs) a k d front_length from
+  not_at_most : (e : FrontEntry 2) → Contains list e → ¬ AtMost e.cost.0 c
+  not_at_most e h below = new (record { by = told_entry e; contains = entry_in s e h; at_most = below })
 
-  pub replaced_here : (d : X) → get_or (replaced a b y xs) a d ≡ y
-  replaced_here d = let none : a - a ≡ 0 = omega arith in behind a d (omega arith) ∙ ap (λ n. get_or (y ∷ drop b xs) n d) none
+  long_in : (e : FrontEntry 2) → Contains list e → length e.cost.0 ≡ 2
+  long_in e h = each_in (λ (x : FrontEntry 2). length x.cost.0 ≡ 2) list s.components e h
 
-  pub replaced_after : (k j : ℕ) (d : X) → a < k → k + b ≡ j + a + 1 → get_or (replaced a b y xs) k d ≡ get_or xs j d
-  replaced_after k j d after moved =
-      let next : k - a ≡ suc (j - b) = omega arith in
-      let whole : b + (j - b) ≡ j = omega arith in
-      behind k d (omega arith) ∙ ap (λ n. get_or (y ∷ drop b xs) n d) next ∙ get_or-drop b xs (j - b) d ∙ ap (λ n. get_or xs n d) whole
+  abbrev Falls : FrontEntry 2 → FrontEntry 2 → Type 0
+  Falls e z = (first e.cost.0 < first z.cost.0) × (second z.cost.0 < second e.cost.0)
 
-  pub three_parts : xs ≡ take a xs ++ (drop a (take b xs) ++ drop b xs)
-  three_parts = sym (
-      sym (append_assoc (take a xs) (drop a (take b xs)) (drop b xs))
-      ∙ ap (λ zs. (zs ++ drop a (take b xs)) ++ drop b xs) (sym (take-take a b xs ascend))
-      ∙ ap (λ zs. zs ++ drop b xs) (take-append-drop a (take b xs))
-      ∙ take-append-drop b xs)
-
--- ---- a new entry
-
-module _ {list : List (FrontEntry 2)} {marks : List Bool} {n : ℕ} (s : IsSorted list marks n) {c : List ℕ} (long : length c ≡ 2) {a b : ℕ}
-    (span : AreAtLeast list c a b) (new : ¬ IsCovered (entries (front_of list marks)) c) (spares : SparesSettled (front_of list marks) c)
-    (y : FrontEntry 2) (is : y.cost.0 ≡ c) where
-  not_at_most : (k : ℕ) → k < length list → ¬ AtMost (cost_at list k) c
-  not_at_most k within below = new (covers s c k within below)
-
-  -- the entries before the new one
-  before : (k : ℕ) → k < a → (first (cost_at list k) < first c) × (second c < second (cost_at list k))
-  before k low =
-      let ascend = span.ascend in
-      let inside = span.within in
-      let less = span.before k filler (omega arith) low in
-      elim (cases_lt (second c) (second (cost_at list k))) [
+  -- the entries before it
+  before : (e : FrontEntry 2) → Contains (take a list) e → Falls e y
+  before e h =
+      let there = in_front_part a list e h in
+      let less = each_in (λ (x : FrontEntry 2). first x.cost.0 < first c) (take a list) (less_first s long span) e h in
+      elim (cases_lt (second c) (second e.cost.0)) [
         | inl above ↦ (less, above)
-        | inr below ↦ absurd (not_at_most k (omega arith)
-            (at_most_pair (cost_at list k) c (long_at s k (omega arith)) long (omega (arith, less)) below))
+        | inr below ↦ absurd (not_at_most e there (at_most_pair e.cost.0 c (long_in e there) long (omega (arith, less)) below))
       ]
 
   -- those after it
-  after : (k : ℕ) → b ≤ k → k < length list → (first c < first (cost_at list k)) × (second (cost_at list k) < second c)
-  after k high within =
-      let less = span.after k filler high within in
-      elim (cases_lt (first c) (first (cost_at list k))) [
+  after : (e : FrontEntry 2) → Contains (drop b list) e → Falls y e
+  after e h =
+      let there = in_back_part b list e h in
+      let less = each_in (λ (x : FrontEntry 2). second x.cost.0 < second c) (drop b list) (less_second s long span) e h in
+      elim (cases_lt (first c) (first e.cost.0)) [
         | inl above ↦ (above, less)
-        | inr below ↦ absurd (not_at_most k within
-            (at_most_pair (cost_at list k) c (long_at s k within) long below (omega (arith, less))))
+        | inr below ↦ absurd (not_at_most e there (at_most_pair e.cost.0 c (long_in e there) long below (omega (arith, less))))
       ]
 
   -- and those that it dominates
-  between : (k : ℕ) → a ≤ k → k < b → Dominates c (cost_at list k)
-  between k from to =
-      let inside = span.within in
-      let above = span.at_least k filler from to in record {
-        at_most = at_most_pair c (cost_at list k) long (long_at s k (omega arith)) above.0 above.1;
-        differs = λ same. not_at_most k (omega arith) (subst (λ v. AtMost v c) same (AtMost-refl c));
-      }
-
-  spared_before : (k : ℕ) → k < a → ¬ Dominates c (cost_at list k)
-  spared_before k low h = omega (arith, (before k low).0, first_at_most c (cost_at list k) long h.at_most)
-
-  spared_after : (k : ℕ) → b ≤ k → k < length list → ¬ Dominates c (cost_at list k)
-  spared_after k high within h = omega (arith, (after k high within).1, second_at_most c (cost_at list k) long h.at_most)
+  between : All (λ (e : FrontEntry 2). Dominates c e.cost.0) (middle s long span)
+  between = all_from_in (λ (e : FrontEntry 2). Dominates c e.cost.0) (middle s long span) (λ e h. record {
+    at_most = each_in (λ (x : FrontEntry 2). AtMost c x.cost.0) (middle s long span) (at_least_cost s long span) e h;
+    differs = λ same. not_at_most e (in_back_part a list e (in_front_part (b - a) (drop a list) e h)) (subst (λ v. AtMost v c) same (AtMost-refl c));
+  })
 
   abbrev list_now : List (FrontEntry 2)
   list_now = replaced a b y list
@@ -101,180 +89,95 @@ module _ {list : List (FrontEntry 2)} {marks : List Bool} {n : ℕ} (s : IsSorte
   abbrev marks_now : List Bool
   marks_now = replaced a b false marks
 
-  -- where the entries stand now
-  at_before : (k : ℕ) → k < a → at list_now k ≡ at list k
-  at_before k low = replaced_before a b y list span.ascend span.within k filler low
-
-  at_here : at list_now a ≡ y
-  at_here = replaced_here a b y list span.ascend span.within filler
-
-  at_after : (k j : ℕ) → a < k → k + b ≡ j + a + 1 → at list_now k ≡ at list j
-  at_after k j later moved = replaced_after a b y list span.ascend span.within k j filler later moved
-
-  within_marks : b ≤ length marks
-  within_marks = omega (arith, span.within, s.marked)
-
-  mark_before : (k : ℕ) → k < a → get_or marks_now k false ≡ get_or marks k false
-  mark_before k low = replaced_before a b false marks span.ascend within_marks k false low
-
-  mark_here : get_or marks_now a false ≡ false
-  mark_here = replaced_here a b false marks span.ascend within_marks false
-
-  mark_after : (k j : ℕ) → a < k → k + b ≡ j + a + 1 → get_or marks_now k false ≡ get_or marks j false
-  mark_after k j later moved = replaced_after a b false marks span.ascend within_marks k j false later moved
-
-  long_now : length list_now + b ≡ length list + a + 1
-  long_now = length-replaced a b y list span.ascend span.within
-
-  marked_now : length marks_now ≡ length list_now
-  marked_now = omega (arith, long_now, length-replaced a b false marks span.ascend within_marks, s.marked)
-
-  -- a place now: one before, the new one, or one after
-  data Place (k : ℕ) : Type 0 where
-    low : k < a → Place k
-    here : k ≡ a → Place k
-    high : (j : ℕ) → b ≤ j → j < length list → a < k → k + b ≡ j + a + 1 → Place k
-
-  place : (k : ℕ) → k < length list_now → Place k
-  place k within = elim (cases_order k a) [
-    | inl same ↦ here same
-    | inr (inl less) ↦ low less
-    | inr (inr more) ↦ high (k - a - 1 + b) (omega arith) (omega (arith, within, long_now)) more (omega arith)
-  ]
+  front_length : (bs : List Bool) → length bs ≡ length list → length (take a bs) ≡ length (take a list)
+  front_length bs marked = omega (arith, marked, length-take a bs, length-take a list)
 
   -- the settled ones stay, in their order
   settled_same : items_where_true marks_now list_now ≡ items_where_true marks list
   settled_same =
-      let ascend = span.ascend in
-      let inside = span.within in
-      let front : length (take a marks) ≡ length (take a list) = omega (arith, length-take a marks, length-take a list, s.marked) in
-      let middle : length (drop a (take b marks)) ≡ length (drop a (take b list)) =
-      omega (arith, length-drop a (take b marks), length-drop a (take b list), length-take b marks, length-take b list, s.marked) in
-      marked-append (take a marks) (take a list) (false ∷ drop b marks) (y ∷ drop b list) front
-      ∙ ap (λ zs. items_where_true (take a marks) (take a list) ++ (zs ++ items_where_true (drop b marks) (drop b list))) (sym none)
-      ∙ ap (λ zs. items_where_true (take a marks) (take a list) ++ zs)
-      (sym (marked-append (drop a (take b marks)) (drop a (take b list)) (drop b marks) (drop b list) middle))
-      ∙ sym (marked-append (take a marks) (take a list) (drop a (take b marks) ++ drop b marks) (drop a (take b list) ++ drop b list) front)
-      ∙ (λ t. items_where_true (sym (three_parts a b false marks span.ascend within_marks) t) (sym (three_parts a b y list span.ascend span.within) t))
-    where
-      none : items_where_true (drop a (take b marks)) (drop a (take b list)) ≡ []
-      none = empty_if_none _ (λ x h.
-          let m = of_marked (drop a (take b marks)) (drop a (take b list)) x h in
-          let inside = span.within in
-          let short : m.place < b - a = omega (arith, m.within, length-drop a (take b list), length-take b list) in
-          let mark : get_or marks (a + m.place) false ≡ true =
-          sym (get_or-take b marks (a + m.place) false (omega arith)) ∙ sym (get_or-drop a (take b marks) m.place false) ∙ m.mark in
-          spares (told_entry (at list (a + m.place)))
-          (in_settled list marks s.marked (told_entry (at list (a + m.place))) (record {
-            place = a + m.place;
-            within = omega arith;
-            mark = mark;
-            is = refl;
-          }))
-          (between (a + m.place) (omega arith) (omega arith)))
+      let near = items_where_true (take a marks) (take a list) in
+      let inner = items_where_true (take (b - a) (drop a marks)) (middle s long span) in
+      let far = items_where_true (drop b marks) (drop b list) in
+      let whole = in_parts marks list a b s.marked span.ascend in
+      let none = empty_if_none inner (λ x h.
+      let settled = subst (λ l. Contains l x) (sym whole) (Contains-append_right near (inner ++ far) x (Contains-append_left inner far x h)) in
+      spares (told_entry x) (in_map told_entry (items_where_true marks list) x settled) (each_in (λ (e : FrontEntry 2). Dominates c e.cost.0)
+      (middle s long span) between x (in_whole (take (b - a) (drop a marks)) (middle s long span) x h))) in
+      marked-append (take a marks) (take a list) (false ∷ drop b marks) (y ∷ drop b list) (front_length marks s.marked)
+      ∙ sym (whole ∙ ap (λ zs. near ++ (zs ++ far)) none)
 
-  abbrev Falls : List ℕ → List ℕ → Type 0
-  Falls v w = (first v < first w) × (second w < second v)
-
-  cost_before : (k : ℕ) → k < a → cost_at list k ≡ cost_at list_now k
-  cost_before k less = ap (λ (e : FrontEntry 2). e.cost.0) (sym (at_before k less))
-
-  cost_here : (k : ℕ) → k ≡ a → c ≡ cost_at list_now k
-  cost_here k same = sym (ap (cost_at list_now) same ∙ ap (λ (e : FrontEntry 2). e.cost.0) at_here ∙ is)
-
-  cost_after : (k j : ℕ) → a < k → k + b ≡ j + a + 1 → cost_at list j ≡ cost_at list_now k
-  cost_after k j more moved = ap (λ (e : FrontEntry 2). e.cost.0) (sym (at_after k j more moved))
-
+  -- the order stays
   pub sorted_entered : IsSorted list_now marks_now n
-  sorted_entered = sorted_by_places long_each falls_each marked_now (s.counted ∙ sym (ap length settled_same))
+  sorted_entered =
+      let Long = λ (e : FrontEntry 2). length e.cost.0 ≡ 2 in
+      record {
+        components = All-append Long (take a list) (y ∷ drop b list) (All-take Long a list s.components)
+            (All-cons Long y (drop b list) long (All-drop Long b list s.components));
+        descends = pairs_append Falls (take a list) (y ∷ drop b list) (pairs_take Falls a list s.descends)
+            (pairs_cons Falls y (drop b list) after (pairs_drop b list Falls s.descends)) across;
+        marked = omega (
+          arith,
+          length-replaced a b y list span.ascend span.within,
+          length-replaced a b false marks span.ascend (omega (arith, span.within, s.marked)),
+          s.marked,
+        );
+        counted = s.counted ∙ sym (ap length settled_same);
+      }
     where
-      long_each : (k : ℕ) → k < length list_now → length (cost_at list_now k) ≡ 2
-      long_each k within = elim (place k within) [
-        | low less ↦ sym (ap length (cost_before k less)) ∙ long_at s k (omega (arith, less, span.ascend, span.within))
-        | here same ↦ sym (ap length (cost_here k same)) ∙ long
-        | high j from to more moved ↦ sym (ap length (cost_after k j more moved)) ∙ long_at s j to
+      across : (e z : FrontEntry 2) → Contains (take a list) e → Contains (y ∷ drop b list) z → Falls e z
+      across e z h k = elim (cases_in y (drop b list) z k) [
+        | inl same ↦ subst (Falls e) (sym same) (before e h)
+        | inr behind ↦
+            let near = before e h in
+            let far = after z behind in
+            (omega (arith, near.0, far.0), omega (arith, near.1, far.1))
       ]
 
-      falls_each : (i j : ℕ) → i < j → j < length list_now → Falls (cost_at list_now i) (cost_at list_now j)
-      falls_each i j up within = elim (place i (omega arith)) [
-        | low less ↦ elim (place j within) [
-          | low less_too ↦ subst₂ Falls (cost_before i less) (cost_before j less_too)
-              (falls s i j up (omega (arith, less_too, span.ascend, span.within)))
-          | here same ↦ subst₂ Falls (cost_before i less) (cost_here j same) (before i less)
-          | high k from to more moved ↦ subst₂ Falls (cost_before i less) (cost_after j k more moved)
-              (falls s i k (omega (arith, less, span.ascend, from)) to)
-        ]
-        | here same ↦ elim (place j within) [
-          | low less ↦ absurd (omega arith)
-          | here same_too ↦ absurd (omega arith)
-          | high k from to more moved ↦ subst₂ Falls (cost_here i same) (cost_after j k more moved) (after k from to)
-        ]
-        | high k from to more moved ↦ elim (place j within) [
-          | low less ↦ absurd (omega arith)
-          | here same ↦ absurd (omega arith)
-          | high l from_too to_too more_too moved_too ↦ subst₂ Falls (cost_after i k more moved) (cost_after j l more_too moved_too)
-              (falls s k l (omega arith) to_too)
-        ]
-      ]
+  -- the unsettled ones, by the marks turned
+  abbrev bs : List Bool
+  bs = map not marks
 
-  abbrev newcomer : Entry
-  newcomer = record { cost = c; arc = y.arc.0 }
+  abbrev near : List (FrontEntry 2)
+  near = items_where_true (take a bs) (take a list)
 
-  -- an unsettled entry now was one before that the new one doesn't dominate, or is the new one
-  of_now : (e : Entry) → Stands false marks_now list_now e → (Stands false marks list e × ¬ Dominates c e.cost) ⊎ (e ≡ newcomer)
-  of_now e t = elim (place t.place t.within) [
-    | low less ↦
-        let told = ap told_entry (sym (at_before t.place less)) ∙ t.is in inl (
-          record {
-            place = t.place;
-            within = omega (arith, less, span.ascend, span.within);
-            mark = sym (mark_before t.place less) ∙ t.mark;
-            is = told;
-          },
-          λ h. spared_before t.place less (subst (λ (x : Entry). Dominates c x.cost) (sym told) h),
-        )
-    | here same ↦ inr (sym t.is ∙ ap (λ k. told_entry (at list_now k)) same ∙ ap told_entry at_here ∙ (λ i. record { cost = is i; arc = y.arc.0 }))
-    | high j from to more moved ↦
-        let told = ap told_entry (sym (at_after t.place j more moved)) ∙ t.is in inl (
-          record { place = j; within = to; mark = sym (mark_after t.place j more moved) ∙ t.mark; is = told },
-          λ h. spared_after j from to (subst (λ (x : Entry). Dominates c x.cost) (sym told) h),
-        )
-  ]
+  abbrev inner : List (FrontEntry 2)
+  inner = items_where_true (take (b - a) (drop a bs)) (middle s long span)
 
-  in_now : (e : Entry) → (Stands false marks list e × ¬ Dominates c e.cost) ⊎ (e ≡ newcomer) → Stands false marks_now list_now e
-  in_now e (inl (t, spared)) = elim (cases_lt t.place a) [
-    | inl less ↦ record {
-      place = t.place;
-      within = omega (arith, less, long_now, span.within);
-      mark = mark_before t.place less ∙ t.mark;
-      is = ap told_entry (at_before t.place less) ∙ t.is;
-    }
-    | inr from ↦ elim (cases_lt t.place b) [
-      | inl to ↦ absurd (spared (subst (λ (x : Entry). Dominates c x.cost) t.is (between t.place from to)))
-      | inr past ↦
-          let k = t.place + a + 1 - b in
-          let more : a < k = omega arith in
-          let moved : k + b ≡ t.place + a + 1 = omega arith in
-          record {
-            place = k;
-            within = omega (arith, t.within, long_now, moved);
-            mark = mark_after k t.place more moved ∙ t.mark;
-            is = ap told_entry (at_after k t.place more moved) ∙ t.is;
-          }
-    ]
-  ]
-  in_now e (inr same) = record {
-    place = a;
-    within = omega (arith, long_now, span.within);
-    mark = mark_here;
-    is = ap told_entry at_here ∙ (λ i. record { cost = is i; arc = y.arc.0 }) ∙ sym same;
-  }
+  abbrev far : List (FrontEntry 2)
+  far = items_where_true (drop b bs) (drop b list)
 
-  pub enters : Enters (front_of list marks) newcomer (front_of list_now marks_now)
-  enters = record {
-    settled = subst (λ zs. SameMembers (map told_entry zs) (front_of list marks).settled) (sym settled_same) (λ e. (λ h. h, λ h. h));
-    unsettled = λ e. through (unsettled_stands list_now marks_now marked_now e) (unsettled_stands list marks s.marked e) (of_now e, in_now e);
-  }
-    where
-      through : {A B X Y N E : Type 0} → (A ↔ X) → (B ↔ Y) → (X ↔ ((Y × N) ⊎ E)) → (A ↔ ((B × N) ⊎ E))
-      through f g same = grind arith
+  abbrev now : List Entry
+  now = (front_of list_now marks_now).unsettled
+
+  as_long : length bs ≡ length list
+  as_long = length-map marks not ∙ s.marked
+
+  abbrev Spared : FrontEntry 2 → Type 0
+  Spared e = ¬ Dominates c e.cost.0
+
+  spared_near : All Spared near
+  spared_near = all_marked Spared (take a bs) (take a list) (all_from_in Spared (take a list) (λ e there h.
+      omega (arith, (before e there).0, first_at_most c e.cost.0 long h.at_most)))
+
+  spared_far : All Spared far
+  spared_far = all_marked Spared (drop b bs) (drop b list) (all_from_in Spared (drop b list) (λ e there h.
+      omega (arith, (after e there).1, second_at_most c e.cost.0 long h.at_most)))
+
+  stays : (e : Entry) → Contains (map told_entry (near ++ far)) e ↔ (Contains (front_of list marks).unsettled e × ¬ Dominates c e.cost)
+  stays = left_without (λ (e : Entry). Dominates c e.cost) (front_of list marks).unsettled (map told_entry (near ++ far))
+      (without_images told_entry (λ (e : Entry). Dominates c e.cost) (items_where_true bs list) (near ++ far)
+      (rw (in_parts bs list a b as_long span.ascend) (without_middle (λ (e : FrontEntry 2). Dominates c e.cost.0) near inner far
+      (all_marked (λ (e : FrontEntry 2). Dominates c e.cost.0) (take (b - a) (drop a bs)) (middle s long span) between) spared_near spared_far)))
+
+  marks_are : map not marks_now ≡ take a bs ++ true ∷ drop b bs
+  marks_are = map-append not (take a marks) (false ∷ drop b marks) ∙ (λ t. sym (take-map not a marks) t ++ true ∷ sym (drop-map not b marks) t)
+
+  come : IsPermutation (told_entry y ∷ map told_entry (near ++ far)) now
+  come = rw (marks_are, marked-append (take a bs) (take a list) (true ∷ drop b bs) (y ∷ drop b list) (front_length bs as_long))
+      (IsPermutation-map told_entry (y ∷ (near ++ far)) (near ++ y ∷ far)
+      (IsPermutation-sym (near ++ y ∷ far) (y ∷ (near ++ far)) (IsPermutation-middle near y far)))
+
+  -- of the others, those that it dominates are gone
+  pub enters : Enters (front_of list marks) (told_entry y) (front_of list_now marks_now)
+  enters = subst (λ l. Enters (front_of list marks) (told_entry y) (record { settled = l; unsettled = now }))
+      (sym (ap (map told_entry) settled_same)) (changes.enters (is_front s) (map told_entry (near ++ far)) (told_entry y) stays now come)

@@ -1,159 +1,127 @@
 -- Which entries of a sorted front a cost dominates.
-use Rattle.std.proofs.Common.{◌≡◌, ◌≢◌, ℕ, ◌+◌, ◌-◌, ◌<◌, ◌≤◌, Bool, true, false, not, cond, nat_eq, List, [], ◌∷◌, ◌++◌, length, map, take, drop, get_or, inl, inr, refl, sym, ap, subst, ◌∙◌, arith}
-use Rattle.std.specs.Prelude.{AllPairs, Contains, filter}
+use Rattle.std.proofs.Common.{◌≡◌, ◌≤◌, ◌↔◌, get_or, ℕ, ◌+◌, ◌-◌, ◌<◌, Bool, true, false, not, nat_eq, List, [], ◌∷◌, ◌++◌, length, map, take, drop, inl, inr, refl, sym, ap, subst, ◌∙◌, arith}
+use Rattle.std.specs.Prelude.{All, AllPairs, Contains}
 use Rattle.std.specs.Cmp.Lexicographic.{pointwise, bytes_decides}
-use Rattle.std.proofs.lemmas.Bool.{cases_lt, cases_Bool, false≢true}
-use Rattle.std.proofs.lemmas.List.{get_or_default, get_or-take, get_or-drop, length-take, length-drop, append_assoc, append-nil, map-append, take_all}
-use Rattle.std.proofs.lemmas.Simd.{map-map}
-use Rattle.std.proofs.lemmas.List.Elements.{All-map, filter_more}
-use Rattle.std.proofs.lemmas.List.Kept.{AllPairs-filter}
-use Rattle.cost_vector.specs.Costs.{Dominates}
-use Rattle.list_laws.specs.Sets.{ListsOnce}
-use Rattle.list_laws.proofs.Members.{in_map, of_map, in_filter, of_filter}
-use Rattle.list_laws.proofs.Pairs.{pairs_map}
+use Rattle.std.proofs.lemmas.Bool.{false≢true}
+use Rattle.std.proofs.lemmas.List.{drop-drop, get_or_default, get_or-drop, get_or-take, length-drop, length-take}
+use Rattle.std.proofs.lemmas.List.Elements.{Contains-append_cases, Contains-append_right, Contains-get_or}
+use Rattle.cost_vector.specs.Costs.{AtMost, Dominates}
 use Rattle.cost_vector.specs.declared.label.NodeNo.{NodeNo}
+use Rattle.list_laws.proofs.Members.{each_in, in_map, of_map}
+use Rattle.list_laws.proofs.Pairs.{pairs_map, pairs_take}
 use Rattle.compact_labels.specs.declared.label.CompactSpot.{CompactSpot}
 use Rattle.pareto_front.specs.declared.front.FrontEntry.{FrontEntry}
-use Rattle.pareto_front.specs.Fronts.{Entry, HasCost, SparesSettled}
+use Rattle.pareto_front.specs.Fronts.{AreIncomparable, Entry, Front, entries, HasCost, SparesSettled}
 use Rattle.pareto_front.specs.Calls.{told_entry, GrowsBy}
-use Rattle.pareto_front.specs.Sorted.{IsSorted, front_of, AreAtLeast}
-use Rattle.pareto_front.proofs.Neighbours.{filler, at, cost_at, in_settled, of_unsettled, in_unsettled, long_at, same_place, at_most_pair, first_at_most, second_at_most}
-
--- the entry has another cost
-abbrev pub differs : List ℕ → FrontEntry 2 → Bool
-differs c e = not (pointwise nat_eq e.cost.0 c)
-
--- the spot of a node at the entry's cost
-abbrev pub spot_of : NodeNo → FrontEntry 2 → CompactSpot 2
-spot_of node e = record { cost = e.cost; node = node }
-
--- the spots of the first i entries of other costs
-abbrev pub spots_before : NodeNo → List ℕ → List (FrontEntry 2) → ℕ → List (CompactSpot 2)
-spots_before node c list i = map (spot_of node) (filter (differs c) (take i list))
-
-module _ (node : NodeNo) (c : List ℕ) (list : List (FrontEntry 2)) (i : ℕ) (within : i < length list) where
-  more : (b : Bool) → differs c (at list i) ≡ b → filter (differs c) (take (i + 1) list) ≡ filter (differs c) (take i list) ++ cond b (at list i ∷ []) []
-  more b told = filter_more (differs c) list i filler within ∙ ap (λ b. filter (differs c) (take i list) ++ cond b (at list i ∷ []) []) told
-
-  module _ (before found : List (CompactSpot 2)) (so_far : found ≡ before ++ spots_before node c list i) where
-    -- one spot more
-    pub found_more : differs c (at list i) ≡ true → found ++ spot_of node (at list i) ∷ [] ≡ before ++ spots_before node c list (i + 1)
-    found_more told =
-        ap (λ zs. zs ++ spot_of node (at list i) ∷ []) so_far
-        ∙ append_assoc before (spots_before node c list i) (spot_of node (at list i) ∷ [])
-        ∙ ap (λ zs. before ++ zs) (sym (map-append (spot_of node) (filter (differs c) (take i list)) (at list i ∷ [])))
-        ∙ ap (λ zs. before ++ map (spot_of node) zs) (sym (more true told))
-
-    -- or none
-    pub found_no_more : differs c (at list i) ≡ false → found ≡ before ++ spots_before node c list (i + 1)
-    found_no_more told =
-        so_far ∙ ap (λ zs. before ++ map (spot_of node) zs) (sym (more false told ∙ append-nil (filter (differs c) (take i list))))
+use Rattle.pareto_front.specs.Sorted.{IsSorted, first, second, front_of, AreAtLeast}
+use Rattle.pareto_front.proofs.GrowsLaws.{DominatedBefore, finds_all, finds_more, finds_no_more, grows_as}
+use Rattle.pareto_front.proofs.Neighbours.{filler, at, apart, entry_in, of_entry, at_most_pair, first_at_most, second_at_most}
+use Rattle.pareto_front.proofs.Parts.{cases_part, in_back_part, in_front_part, pairs_drop}
 
 module _ {list : List (FrontEntry 2)} {marks : List Bool} {n : ℕ} (s : IsSorted list marks n) {c : List ℕ} (long : length c ≡ 2) {a b : ℕ}
-    (span : AreAtLeast list c a b) (spares : SparesSettled (front_of list marks) c) where
-  abbrev middle : List (FrontEntry 2)
+    (span : AreAtLeast list c a b) where
+  -- the entries that are at least the cost
+  abbrev pub middle : List (FrontEntry 2)
   middle = take (b - a) (drop a list)
 
-  length-middle : length middle + a ≡ b
-  length-middle = omega (arith, length-take (b - a) (drop a list), length-drop a list, span.ascend, span.within)
+  -- the cost is at most each of them
+  pub at_least_cost : All (λ (e : FrontEntry 2). AtMost c e.cost.0) middle
+  at_least_cost k d inside =
+      let low : k < b - a = omega (arith, inside, length-take (b - a) (drop a list)) in
+      let within : a + k < length list = omega (arith, low, span.within) in
+      let above = span.at_least (a + k) d (omega arith) (omega (arith, low)) in
+      rw (get_or-take (b - a) (drop a list) k d low, get_or-drop a list k d)
+      (at_most_pair c (get_or list (a + k) d).cost.0 long (s.components (a + k) d within) above.0 above.1)
 
-  middle_at : (j : ℕ) (d : FrontEntry 2) → j < length middle → get_or middle j d ≡ get_or list (a + j) d
-  middle_at j d within = get_or-take (b - a) (drop a list) j d (omega (arith, within, length-middle)) ∙ get_or-drop a list j d
+  -- those before them
+  pub less_first : All (λ (e : FrontEntry 2). first e.cost.0 < first c) (take a list)
+  less_first k d inside =
+      let low : k < a = omega (arith, inside, length-take a list) in rw (get_or-take a list k d low) (span.before k d (omega arith) low)
 
-  dominated_at : (k : ℕ) → a ≤ k → k < b → cost_at list k ≢ c → Dominates c (cost_at list k)
-  dominated_at k from to other =
-      let above = span.at_least k filler from to in record {
-        at_most = at_most_pair c (cost_at list k) long (long_at s k (omega (arith, to, span.within))) above.0 above.1;
-        differs = λ same. other (sym same);
-      }
+  -- and those after them
+  pub rest_is : drop (b - a) (drop a list) ≡ drop b list
+  rest_is = let whole : a + (b - a) ≡ b = omega (arith, span.ascend) in drop-drop (b - a) a list ∙ ap (λ k. drop k list) whole
 
-  -- an entry that the cost dominates isn't settled
-  unsettled_at : (k : ℕ) → k < length list → Dominates c (cost_at list k) → HasCost (front_of list marks).unsettled (cost_at list k)
-  unsettled_at k within h = elim (cases_Bool (get_or marks k false)) [
-    | inl mark ↦ absurd (spares (told_entry (at list k))
-        (in_settled list marks s.marked (told_entry (at list k)) (record { place = k; within = within; mark = mark; is = refl })) h)
-    | inr mark ↦ record {
-      arc = (at list k).arc.0;
-      contains = in_unsettled list marks s.marked (told_entry (at list k)) (record { place = k; within = within; mark = mark; is = refl });
-    }
+  -- which are less in the second component
+  pub less_second : All (λ (e : FrontEntry 2). second e.cost.0 < second c) (drop b list)
+  less_second k d inside = rw (get_or-drop b list k d) (span.after (b + k) d (omega arith) (omega (arith, inside, length-drop b list)))
+
+  -- what the cost dominates stands between these
+  in_middle : (e : FrontEntry 2) → Contains list e → Dominates c e.cost.0 → Contains middle e
+  in_middle e h dominated = elim (cases_part a list e h) [
+    | inl front ↦ absurd (omega (
+      arith,
+      each_in (λ (x : FrontEntry 2). first x.cost.0 < first c) (take a list) less_first e front,
+      first_at_most c e.cost.0 long dominated.at_most,
+    ))
+    | inr behind ↦ elim (cases_part (b - a) (drop a list) e behind) [
+      | inl there ↦ there
+      | inr far ↦ absurd (omega (
+        arith,
+        each_in (λ (x : FrontEntry 2). second x.cost.0 < second c) (drop b list) less_second e (rw rest_is at far),
+        second_at_most c e.cost.0 long dominated.at_most,
+      ))
+    ]
   ]
 
-  -- what the cost dominates stands between the places
-  between_at : (k : ℕ) → k < length list → Dominates c (cost_at list k) → (a ≤ k) × (k < b)
-  between_at k within h = (
-    elim (cases_lt k a) [
-      | inl low ↦ absurd (omega (arith, span.before k filler (omega arith) low, first_at_most c (cost_at list k) long h.at_most))
-      | inr from ↦ from
-    ],
-    elim (cases_lt k b) [
-      | inl to ↦ to
-      | inr high ↦ absurd (omega (arith, span.after k filler high within, second_at_most c (cost_at list k) long h.at_most))
-    ],
+  -- and isn't settled, if the cost spares the settled ones
+  dominated_same : SparesSettled (front_of list marks) c → (v : List ℕ)
+      → (HasCost (map told_entry middle) v × Dominates c v) ↔ (HasCost (front_of list marks).unsettled v × Dominates c v)
+  dominated_same spares v = (
+    λ h.
+        let e : Entry = record { cost = v; arc = h.0.arc } in
+        let (x, there, is) = of_map told_entry middle e h.0.contains in
+        let known = entry_in s x (in_back_part a list x (in_front_part (b - a) (drop a list) x there)) in
+        elim (Contains-append_cases f.settled f.unsettled e (subst (Contains (entries f)) (sym is) known)) [
+          | inl near ↦ absurd (spares e near h.1)
+          | inr far ↦ (record { arc = h.0.arc; contains = far }, h.1)
+        ],
+    λ h.
+        let e : Entry = record { cost = v; arc = h.0.arc } in
+        let (x, there, is) = of_entry s e (Contains-append_right f.settled f.unsettled e h.0.contains) in
+        let inside = in_middle x there (subst (Dominates c) (ap (λ (z : Entry). z.cost) is) h.1) in
+        (record { arc = h.0.arc; contains = subst (Contains (map told_entry middle)) (sym is) (in_map told_entry middle x inside) }, h.1),
   )
-
-  abbrev dominated : List (FrontEntry 2)
-  dominated = filter (differs c) middle
-
-  of_dominated : (e : FrontEntry 2) → Contains dominated e → HasCost (front_of list marks).unsettled e.cost.0 × Dominates c e.cost.0
-  of_dominated e h =
-      let kept = of_filter (differs c) middle e h in
-      let (j, within, is) = kept.0 in
-      let k = a + j in
-      let inside : k < length list = omega (arith, within, length-middle, span.within) in
-      let same : at list k ≡ e = get_or_default list k filler e inside ∙ sym (middle_at j e within) ∙ is in
-      let cost : e.cost.0 ≡ cost_at list k = ap (λ (x : FrontEntry 2). x.cost.0) (sym same) in
-      let other : cost_at list k ≢ c = λ q. not_both (pointwise nat_eq e.cost.0 c) kept.1 ((bytes_decides _ _).1 (cost ∙ q)) in
-      let out = dominated_at k (omega arith) (omega (arith, within, length-middle)) other in
-      subst (λ (x : FrontEntry 2). HasCost (front_of list marks).unsettled x.cost.0 × Dominates c x.cost.0) same (unsettled_at k inside out, out)
     where
-      not_both : (b : Bool) → not b ≡ true → ¬ (b ≡ true)
-      not_both true fails holds = false≢true fails
-      not_both false fails holds = false≢true holds
+      f : Front
+      f = front_of list marks
 
-  in_dominated : (v : List ℕ) → HasCost (front_of list marks).unsettled v × Dominates c v → (e : FrontEntry 2) × Contains dominated e × (v ≡ e.cost.0)
-  in_dominated v (has, out) =
-      let there = of_unsettled list marks s.marked _ has.contains in
-      let k = there.place in
-      let cost : cost_at list k ≡ v = ap (λ (e : Entry). e.cost) there.is in
-      let where_at = between_at k there.within (subst (Dominates c) (sym cost) out) in
-      let j = k - a in
-      let inside : j < length middle = omega (arith, where_at.0, where_at.1, length-middle) in
-      let whole : a + j ≡ k = omega (arith, where_at.0) in
-      let e = at list k in
-      let is : get_or middle j e ≡ e = middle_at j e inside ∙ ap (λ i. get_or list i e) whole ∙ get_or_default list k e filler there.within in
-      (e, in_filter (differs c) middle e (j, inside, is) (ap not (differ (cost_at list k) (λ same. out.differs (sym same ∙ cost)))), sym cost)
-    where
-      differ : (v : List ℕ) → v ≢ c → pointwise nat_eq v c ≡ false
-      differ v other = elim (cases_Bool (pointwise nat_eq v c)) [
-        | inl same ↦ absurd (other ((bytes_decides v c).0 same))
-        | inr told ↦ told
-      ]
+  middle_apart : AllPairs AreIncomparable (map told_entry middle)
+  middle_apart =
+      let Apart = λ (x z : FrontEntry 2). AreIncomparable (told_entry x) (told_entry z) in
+      pairs_map Apart AreIncomparable told_entry (λ x z h. h) middle (pairs_take Apart (b - a) (drop a list) (pairs_drop a list Apart (apart s)))
 
-  pub grows : (node : NodeNo) (before after : List (CompactSpot 2)) (i : ℕ) → length middle ≤ i → after ≡ before ++ spots_before node c middle i
-      → GrowsBy node.0 (λ v. HasCost (front_of list marks).unsettled v × Dominates c v) before after
-  grows node before after i past is = record {
-    more = map (spot_of node) dominated;
-    appended = is ∙ ap (λ zs. before ++ map (spot_of node) (filter (differs c) zs)) (take_all i middle past);
-    node = All-map (λ (x : CompactSpot 2). x.node.0 ≡ node.0) (spot_of node) dominated (λ k d within. refl);
-    costs = subst (ListsOnce (λ v. HasCost (front_of list marks).unsettled v × Dominates c v))
-        (sym (map-map (λ (x : CompactSpot 2). x.cost.0) (spot_of node) dominated)) (record {
-          exact = λ v. (
-            λ h. let (e, there, same) = of_map (λ (x : FrontEntry 2). x.cost.0) dominated v h in
-                subst (λ w. HasCost (front_of list marks).unsettled w × Dominates c w) (sym same) (of_dominated e there),
-            λ h. let (e, there, same) = in_dominated v h in
-                subst (Contains (map (λ (x : FrontEntry 2). x.cost.0) dominated)) (sym same) (in_map (λ (x : FrontEntry 2). x.cost.0) dominated e there),
-          );
-          once = pairs_map (λ (x z : FrontEntry 2). x.cost.0 ≢ z.cost.0) ◌≢◌ (λ (x : FrontEntry 2). x.cost.0) (λ x z other. other) dominated
-              (AllPairs-filter (λ (x z : FrontEntry 2). x.cost.0 ≢ z.cost.0) (differs c) middle distinct);
-        });
-  }
-    where
-      distinct : AllPairs (λ (x z : FrontEntry 2). x.cost.0 ≢ z.cost.0) middle
-      distinct i j d up within same =
-          let inside : a + j < length list = omega (arith, within, length-middle, span.within) in
-          let inside_too : a + i < length list = omega (arith, inside, up) in
-          let first_read = get_or_default list (a + i) filler d inside_too ∙ sym (middle_at i d (omega (arith, up, within))) in
-          let second_read = middle_at j d within ∙ get_or_default list (a + j) d filler inside in
-          let same_costs : cost_at list (a + i) ≡ cost_at list (a + j) =
-          ap (λ (x : FrontEntry 2). x.cost.0) first_read ∙ same ∙ ap (λ (x : FrontEntry 2). x.cost.0) second_read in
-          omega (arith, same_place s (a + i) (a + j) inside_too inside same_costs, up)
+  -- ---- the spots of those that it dominates, one by one
+
+  module _ (node : NodeNo) (before found : List (CompactSpot 2)) (i : ℕ) (so_far : GrowsBy node.0 (DominatedBefore c middle i) before found) where
+    module _ (within : i < length middle) where
+      read : at middle i ≡ get_or middle i (at middle i)
+      read = sym (get_or_default middle i (at middle i) filler within)
+
+      -- an entry of another cost is dominated
+      pub found_more : not (pointwise nat_eq (at middle i).cost.0 c) ≡ true
+          → GrowsBy node.0 (DominatedBefore c middle (i + 1)) before (found ++ record { cost = (at middle i).cost; node = node } ∷ [])
+      found_more differs =
+          let there = each_in (λ (e : FrontEntry 2). AtMost c e.cost.0) middle at_least_cost (at middle i) (Contains-get_or middle i filler within) in
+          let other = λ (same : c ≡ (at middle i).cost.0). not_both (pointwise nat_eq (at middle i).cost.0 c) differs ((bytes_decides _ _).1 (sym same)) in
+          finds_more node c middle i (at middle i) within read before found so_far middle_apart (record { at_most = there; differs = other })
+        where
+          not_both : (b : Bool) → not b ≡ true → ¬ (b ≡ true)
+          not_both true fails holds = false≢true fails
+          not_both false fails holds = false≢true holds
+
+      -- and one of this cost isn't
+      pub found_no_more : not (pointwise nat_eq (at middle i).cost.0 c) ≡ false → GrowsBy node.0 (DominatedBefore c middle (i + 1)) before found
+      found_no_more same = finds_no_more node c middle i (at middle i) within read before found so_far
+          (λ dominated. dominated.differs (sym ((bytes_decides _ _).0 (holds (pointwise nat_eq (at middle i).cost.0 c) same))))
+        where
+          holds : (b : Bool) → not b ≡ false → b ≡ true
+          holds true same = refl
+          holds false same = sym same
+
+    -- all that it dominates were found
+    pub found_all : length middle ≤ i → SparesSettled (front_of list marks) c
+        → GrowsBy node.0 (λ v. HasCost (front_of list marks).unsettled v × Dominates c v) before found
+    found_all past spares =
+        grows_as node.0 (λ v. HasCost (map told_entry middle) v × Dominates c v) (λ v. HasCost (front_of list marks).unsettled v × Dominates c v)
+        before found (dominated_same spares) (finds_all node.0 c middle i before found past so_far)

@@ -1,42 +1,37 @@
 -- Lists to which the spots of a kind are added one by one.
-use Rattle.std.proofs.Common.{◌≡◌, ◌≢◌, ◌↔◌, ◌⊎◌, inl, inr, ℕ, ◌+◌, ◌<◌, ◌≤◌, List, [], ◌∷◌, ◌++◌, length, map, take, get_or, sym, ap, subst, ◌∙◌, append_assoc, arith}
+use Rattle.std.proofs.Common.{◌≡◌, ◌≢◌, ◌↔◌, refl, ◌⊎◌, inl, inr, ℕ, ◌+◌, ◌<◌, ◌≤◌, List, [], ◌∷◌, ◌++◌, length, map, take, get_or, sym, ap, subst, ◌∙◌, append_assoc, arith}
 use Rattle.std.specs.Prelude.{All, AllPairs, Contains}
 use Rattle.std.proofs.lemmas.List.{append-nil, length-append, length-map, map_push, take_all, take_more, take-map}
-use Rattle.std.proofs.lemmas.List.Elements.{All-nil, All-push, Contains-append_left, Contains-push}
+use Rattle.std.proofs.lemmas.List.Elements.{All-nil, All-push}
+use Rattle.std.proofs.lemmas.List.Sorted.{IsPermutation-sym, IsPermutation-to_front}
 use Rattle.cost_vector.specs.Costs.{Dominates}
 use Rattle.cost_vector.proofs.Vectors.{AtMost-refl}
 use Rattle.compact_labels.specs.declared.label.CompactSpot.{CompactSpot}
 use Rattle.list_laws.specs.Sets.{ListsOnce}
-use Rattle.list_laws.proofs.Members.{all_from_in, in_none, in_first, in_map, cases_push}
+use Rattle.cost_vector.specs.declared.label.NodeNo.{NodeNo}
+use Rattle.list_laws.proofs.Members.{all_from_in, in_none, in_first, in_map}
+use Rattle.list_laws.proofs.OnceLaws.{alike_through}
+use Rattle.list_laws.proofs.SetLaws.{gains_by_permutation}
 use Rattle.list_laws.proofs.Pairs.{pairs_none, pairs_push, pairs_take}
 use Rattle.pareto_front.specs.declared.front.FrontEntry.{FrontEntry}
 use Rattle.pareto_front.specs.Fronts.{Entry, AreIncomparable, HasCost}
 use Rattle.pareto_front.specs.Calls.{GrowsBy, told_entry}
 use Rattle.pareto_front.proofs.FrontLaws.{pairs_across}
 
+-- what a list has that has got an element more at its end
+in_push : {X : Type 0} (xs : List X) (y x : X) → Contains (xs ++ y ∷ []) x ↔ (Contains xs x ⊎ (x ≡ y))
+in_push xs y = gains_by_permutation y xs (xs ++ y ∷ []) (IsPermutation-sym (xs ++ y ∷ []) (y ∷ xs) (IsPermutation-to_front xs y))
+
 -- one thing more is of a kind
 lists_more : {X : Type 0} (P Q : X → Type 0) (xs : List X) (y : X) → ListsOnce P xs → ¬ P y → ((x : X) → Q x ↔ (P x ⊎ (x ≡ y))) → ListsOnce Q (xs ++ y ∷ [])
 lists_more P Q xs y lists new alike = record {
-  exact = λ x. (
-    λ h. (alike x).1 (elim (cases_push xs y x h) [ inl old ↦ inl ((lists.exact x).0 old) | inr last ↦ inr last ]),
-    λ h. elim ((alike x).0 h) [
-      | inl old ↦ Contains-append_left xs (y ∷ []) x ((lists.exact x).1 old)
-      | inr last ↦ subst (Contains (xs ++ y ∷ [])) (sym last) (Contains-push xs y)
-    ],
-  );
+  exact = λ x. by (in_push xs y x) (lists.exact x) (alike x);
   once = pairs_push ◌≢◌ xs y lists.once (λ x h same. new (subst P same ((lists.exact x).0 h)));
-}
+} where
+  by : {A B C D E : Type 0} → (A ↔ (B ⊎ E)) → (B ↔ C) → (D ↔ (C ⊎ E)) → (A ↔ D)
+  by f g h = grind arith
 
 module _ {D : ℕ} (v : ℕ) (P Q : List ℕ → Type 0) (xs ys : List (CompactSpot D)) where
-  -- nothing is of the kind
-  pub grows_none : ((c : List ℕ) → ¬ P c) → GrowsBy v P xs xs
-  grows_none none = record {
-    more = [];
-    appended = sym (append-nil xs);
-    node = All-nil (λ (s : CompactSpot D). s.node.0 ≡ v);
-    costs = record { exact = λ c. (λ h. absurd (in_none c h), λ h. absurd (none c h)); once = pairs_none ◌≢◌ };
-  }
-
   -- the same is of another kind
   pub grows_as : ((c : List ℕ) → P c ↔ Q c) → GrowsBy v P xs ys → GrowsBy v Q xs ys
   grows_as alike grown = record {
@@ -44,13 +39,13 @@ module _ {D : ℕ} (v : ℕ) (P Q : List ℕ → Type 0) (xs ys : List (CompactS
     appended = grown.appended;
     node = grown.node;
     costs = record {
-      exact = λ c. (λ h. (alike c).0 ((grown.costs.exact c).0 h), λ h. (grown.costs.exact c).1 ((alike c).1 h));
+      exact = λ c. alike_through (grown.costs.exact c) (alike c);
       once = grown.costs.once;
     };
   }
 
   -- one cost more is of the kind
-  pub grows_more : GrowsBy v P xs ys → (s : CompactSpot D) → s.node.0 ≡ v → ¬ P s.cost.0 → ((c : List ℕ) → Q c ↔ (P c ⊎ (c ≡ s.cost.0)))
+  grows_more : GrowsBy v P xs ys → (s : CompactSpot D) → s.node.0 ≡ v → ¬ P s.cost.0 → ((c : List ℕ) → Q c ↔ (P c ⊎ (c ≡ s.cost.0)))
       → GrowsBy v Q xs (ys ++ s ∷ [])
   grows_more grown s there new alike = record {
     more = grown.more ++ s ∷ [];
@@ -60,68 +55,70 @@ module _ {D : ℕ} (v : ℕ) (P Q : List ℕ → Type 0) (xs ys : List (CompactS
         (lists_more P Q (map (λ (t : CompactSpot D). t.cost.0) grown.more) s.cost.0 grown.costs new alike);
   }
 
--- the costs of the entries up to a place, and that of the next one
-module _ {D : ℕ} (list : List (FrontEntry D)) (i : ℕ) (x : FrontEntry D) (within : i < length list) (is : x ≡ get_or list i x) where
+-- the costs of a list that has got an entry more at its end
+has_cost_push : (xs : List Entry) (y : Entry) (c : List ℕ) → HasCost (xs ++ y ∷ []) c ↔ (HasCost xs c ⊎ (c ≡ y.cost))
+has_cost_push xs y c = (
+  λ h. elim ((in_push xs y (record { cost = c; arc = h.arc })).0 h.contains) [
+    | inl old ↦ inl (record { arc = h.arc; contains = old })
+    | inr last ↦ inr (ap (λ (e : Entry). e.cost) last)
+  ],
+  elim [
+    | inl old ↦ record { arc = old.arc; contains = (in_push xs y (record { cost = c; arc = old.arc })).1 (inl old.contains) }
+    | inr last ↦ record { arc = y.arc; contains = (in_push xs y (record { cost = c; arc = y.arc })).1 (inr (λ t. record { cost = last t; arc = y.arc })) }
+  ],
+)
+
+-- the costs of the entries before a place that a cost dominates
+abbrev pub DominatedBefore : {D : ℕ} → List ℕ → List (FrontEntry D) → ℕ → List ℕ → Type 0
+DominatedBefore by list i c = HasCost (map told_entry (take i list)) c × Dominates by c
+
+-- before the first place there are none
+pub finds_none : {D : ℕ} (v : ℕ) (by : List ℕ) (list : List (FrontEntry D)) (xs : List (CompactSpot D)) → GrowsBy v (DominatedBefore by list 0) xs xs
+finds_none {D} v by list xs = record {
+  more = [];
+  appended = sym (append-nil xs);
+  node = All-nil (λ (s : CompactSpot D). s.node.0 ≡ v);
+  costs = record {
+    exact = λ c. (λ h. absurd (in_none c h), λ h. absurd (in_none (record { cost = c; arc = h.0.arc }) h.0.contains));
+    once = pairs_none ◌≢◌;
+  };
+}
+
+-- one place on, at the entry x
+module _ {D : ℕ} (node : NodeNo) (by : List ℕ) (list : List (FrontEntry D)) (i : ℕ) (x : FrontEntry D) (within : i < length list)
+    (is : x ≡ get_or list i x) (xs ys : List (CompactSpot D)) (grown : GrowsBy node.0 (DominatedBefore by list i) xs ys) where
   one_more : map told_entry (take (i + 1) list) ≡ map told_entry (take i list) ++ told_entry x ∷ []
   one_more =
       ap (map told_entry) (take_more list i x within ∙ ap (λ y. take i list ++ y ∷ []) (sym is)) ∙ map_push told_entry (take i list) x
 
-  pub has_cost_more : (c : List ℕ) → HasCost (map told_entry (take (i + 1) list)) c ↔ (HasCost (map told_entry (take i list)) c ⊎ (c ≡ x.cost.0))
-  has_cost_more c = (
-    λ h. elim (cases_push (map told_entry (take i list)) (told_entry x) (record { cost = c; arc = h.arc })
-        (subst (λ l. Contains l (record { cost = c; arc = h.arc })) one_more h.contains)) [
-          | inl old ↦ inl (record { arc = h.arc; contains = old })
-          | inr last ↦ inr (ap (λ (e : Entry). e.cost) last)
-        ],
-    λ either. elim either [
-      | inl old ↦ record {
-        arc = old.arc;
-        contains = rw one_more (Contains-append_left (map told_entry (take i list)) (told_entry x ∷ []) (record { cost = c; arc = old.arc }) old.contains);
-      }
-      | inr last ↦ record {
-        arc = x.arc.0;
-        contains = rw (one_more, last) (Contains-push (map told_entry (take i list)) (told_entry x));
-      }
-    ],
-  )
+  has_cost_more : (c : List ℕ) → HasCost (map told_entry (take (i + 1) list)) c ↔ (HasCost (map told_entry (take i list)) c ⊎ (c ≡ x.cost.0))
+  has_cost_more c = rw one_more (has_cost_push (map told_entry (take i list)) (told_entry x) c)
 
-  pub not_before : AllPairs AreIncomparable (map told_entry list) → ¬ HasCost (map told_entry (take i list)) x.cost.0
+  not_before : AllPairs AreIncomparable (map told_entry list) → ¬ HasCost (map told_entry (take i list)) x.cost.0
   not_before pairs h =
       let front = subst (AllPairs AreIncomparable) (take-map told_entry (i + 1) list ∙ one_more)
       (pairs_take AreIncomparable (i + 1) (map told_entry list) pairs) in
       (pairs_across AreIncomparable (map told_entry (take i list)) (told_entry x ∷ []) front (record { cost = x.cost.0; arc = h.arc }) (told_entry x) h.contains
       (in_first (told_entry x) [])).one_way (AtMost-refl x.cost.0)
 
--- the costs of the entries before a place that a cost dominates
-abbrev pub DominatedBefore : {D : ℕ} → List ℕ → List (FrontEntry D) → ℕ → List ℕ → Type 0
-DominatedBefore by list i c = HasCost (map told_entry (take i list)) c × Dominates by c
+  -- x is dominated: its spot is added
+  pub finds_more : AllPairs AreIncomparable (map told_entry list) → Dominates by x.cost.0
+      → GrowsBy node.0 (DominatedBefore by list (i + 1)) xs (ys ++ record { cost = x.cost; node = node } ∷ [])
+  finds_more pairs dominated =
+      grows_more node.0 (DominatedBefore by list i) (DominatedBefore by list (i + 1)) xs ys grown (record { cost = x.cost; node = node }) refl
+      (λ h. not_before pairs h.0) (λ c. with_it (has_cost_more c) (λ last. subst (Dominates by) (sym last) dominated))
+    where
+      with_it : {A B E N : Type 0} → (A ↔ (B ⊎ E)) → (E → N) → ((A × N) ↔ ((B × N) ⊎ E))
+      with_it f so = grind arith
 
--- one place on, at the entry x
-module _ {D : ℕ} (v : ℕ) (by : List ℕ) (list : List (FrontEntry D)) (i : ℕ) (x : FrontEntry D) (within : i < length list) (is : x ≡ get_or list i x)
-    (xs ys : List (CompactSpot D)) (grown : GrowsBy v (DominatedBefore by list i) xs ys) where
-  pub finds_more : AllPairs AreIncomparable (map told_entry list) → Dominates by x.cost.0 → (s : CompactSpot D) → s.node.0 ≡ v → s.cost.0 ≡ x.cost.0
-      → GrowsBy v (DominatedBefore by list (i + 1)) xs (ys ++ s ∷ [])
-  finds_more pairs dominated s there same =
-      grows_more v (DominatedBefore by list i) (DominatedBefore by list (i + 1)) xs ys grown s there
-      (λ h. not_before list i x within is pairs (subst (HasCost (map told_entry (take i list))) same h.0))
-      (λ c. (
-        λ h. elim ((has_cost_more list i x within is c).0 h.0) [ inl old ↦ inl (old, h.1) | inr last ↦ inr (last ∙ sym same) ],
-        λ either. elim either [
-          | inl old ↦ ((has_cost_more list i x within is c).1 (inl old.0), old.1)
-          | inr last ↦ ((has_cost_more list i x within is c).1 (inr (last ∙ same)), subst (Dominates by) (sym (last ∙ same)) dominated)
-        ],
-      ))
-
-  pub finds_no_more : ¬ Dominates by x.cost.0 → GrowsBy v (DominatedBefore by list (i + 1)) xs ys
+  -- or it isn't: none is
+  pub finds_no_more : ¬ Dominates by x.cost.0 → GrowsBy node.0 (DominatedBefore by list (i + 1)) xs ys
   finds_no_more spared =
-      grows_as v (DominatedBefore by list i) (DominatedBefore by list (i + 1)) xs ys
-      (λ c. (
-        λ h. ((has_cost_more list i x within is c).1 (inl h.0), h.1),
-        λ h. elim ((has_cost_more list i x within is c).0 h.0) [
-          | inl old ↦ (old, h.1)
-          | inr last ↦ absurd (spared (subst (Dominates by) last h.1))
-        ],
-      )) grown
+      grows_as node.0 (DominatedBefore by list i) (DominatedBefore by list (i + 1)) xs ys
+      (λ c. without (has_cost_more c) (λ last dominated. spared (subst (Dominates by) last dominated))) grown
+    where
+      without : {A B E N : Type 0} → (A ↔ (B ⊎ E)) → (E → ¬ N) → ((B × N) ↔ (A × N))
+      without f not_so = grind arith
 
 -- all entries stand before the place
 pub finds_all : {D : ℕ} (v : ℕ) (by : List ℕ) (list : List (FrontEntry D)) (i : ℕ) (xs ys : List (CompactSpot D)) → length list ≤ i

@@ -6,6 +6,7 @@ pub mod Entering
 pub mod Finding
 pub mod Listing
 pub mod FrontLaws
+pub mod Parts
 pub mod FrontChanges
 pub mod KeptLaws
 pub mod GrowsLaws

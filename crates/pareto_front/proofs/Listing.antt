@@ -21,6 +21,7 @@ less_by_first (x ∷ xs) (y ∷ ys) long long_too less = ap (λ o. ordering_then
     nat_cmp-Less : (x y : ℕ) → x < y → nat_cmp x y ≡ Less
     nat_cmp-Less x y h = grind (arith, nat_tests)
 
+-- the marked entries are the settled ones, in ascending order
 pub lists_settled : {list : List (FrontEntry 2)} {marks : List Bool} {n : ℕ} → IsSorted list marks n
     → ListsSettled {D = 2} (front_of list marks) (items_where_true marks list)
 lists_settled {list} {marks} s = record {

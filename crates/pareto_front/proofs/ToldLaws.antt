@@ -1,88 +1,107 @@
 -- What happens to lists of stored entries, said of the fronts that they stand for.
 use Rattle.std.proofs.Common.{◌≡◌, ◌≢◌, ◌↔◌, ◌<◌, inl, inr, ℕ, None, Some, List, [], ◌∷◌, ◌++◌, length, map, get_or, remove, set, sym, ap, subst, ◌∙◌}
-use Rattle.std.proofs.Common.{false, arith}
+use Rattle.std.proofs.Common.{false, refl, arith, ◌+◌, ◌≤◌}
 use Rattle.std.specs.Prelude.{All, AllPairs, Contains, IsPermutation}
 use Rattle.std.specs.List.Sorted.{IsSortedBy}
 use Rattle.std.specs.Ordering.{is_lt}
 use Rattle.std.proofs.lemmas.Bool.{false≢true}
 use Rattle.std.proofs.lemmas.Cmp.{nat_list_cmp_total}
 use Rattle.std.proofs.lemmas.Option.{same_Some, none-some}
-use Rattle.std.proofs.lemmas.List.{get_or-map, length-map, map_push, map-set}
-use Rattle.std.proofs.lemmas.List.Elements.{All-map, Contains-get_or, Contains-append_left, Contains-append_right, Contains-append_cases}
-use Rattle.std.proofs.lemmas.List.Sorted.{IsPermutation-append_comm, IsPermutation-append_left, IsPermutation-append_right, IsPermutation-map, IsPermutation-remove, IsPermutation-trans, sorted_far, ranks_by}
+use Rattle.std.proofs.Math.Seq.{map-set_same}
+use Rattle.std.proofs.lemmas.List.{get_or_default, length-set}
+use Rattle.std.proofs.lemmas.List.Edits.{length-remove}
+use Rattle.std.proofs.lemmas.List.Elements.{All-append, All-map, Contains-get_or, Contains-append_left, Contains-append_right}
+use Rattle.std.proofs.lemmas.List.Sorted.{IsPermutation-map, IsPermutation-remove, IsPermutation-sym, IsPermutation-to_front, IsPermutation-trans, sorted_far, ranks_by}
+use Rattle.std.proofs.lemmas.Simd.{map-map}
 use Rattle.cost_vector.specs.Costs.{AtMost, Dominates, LexLess, lex_cmp}
 use Rattle.cost_vector.specs.declared.label.ArcNo.{ArcNo}
 use Rattle.cost_vector.proofs.Vectors.{AtMost-refl, cases_LexLess}
-use Rattle.list_laws.specs.Without.{IsWithout}
+use Rattle.compact_labels.specs.declared.cost.CompactCost.{CompactCost}
 use Rattle.list_laws.proofs.Members.{all_from_in, each_in, in_map, of_map}
 use Rattle.list_laws.proofs.Pairs.{pairs_map}
 use Rattle.list_laws.proofs.SetLaws.{same_by_permutation}
 use Rattle.pareto_front.specs.declared.front.FrontEntry.{FrontEntry}
 use Rattle.pareto_front.specs.Fronts.{Entry, Front, AreIncomparable, entries, HasCost, IsCovered, IsFront, SparesSettled}
 use Rattle.pareto_front.specs.Calls.{told_entry, Discards, Enters, ListsSettled, Relabels, Settles}
-use Rattle.pareto_front.specs.Blocks.{CoversAt, CoversNone, TakesIn, told_front}
-use Rattle.pareto_front.proofs.FrontLaws.{front_in_any_order, incomparable_in_any_order, pairs_before, pairs_behind, pairs_of_map, only_one, same_cost}
-use Rattle.pareto_front.proofs.FrontChanges.{enters, entered_front, settled_front, settles, settled_relabelled, settled_relabelled_front}
-use Rattle.pareto_front.proofs.FrontChanges.{discarded_front, discards, unsettled_relabelled, unsettled_relabelled_front}
+use Rattle.pareto_front.specs.Blocks.{AreBlocks, AscendByCost, CoversAt, CoversNone, TakesIn, told_front}
+use Rattle.pareto_front.proofs.FrontLaws.{incomparable_in_any_order, pairs_before, pairs_behind, pairs_of_map, only_one, same_cost, costs, front_by_costs, IsPermutation-set}
+use Rattle.pareto_front.proofs.FrontChanges.{discarded_front, discards, enters, entered_front, relabels_settled, relabels_unsettled, settled_front, settles}
+use Rattle.pareto_front.proofs.KeptLaws.{left_without}
+use Rattle.pareto_front.proofs.BlockLaws.{corners_relabelled}
+use Rattle.pareto_front.proofs.Ascending.{ascend_out, ascend_set}
 
 -- the entry x that was read where one is at most the cost
 module _ {D : ℕ} {list : List (FrontEntry D)} {c : List ℕ} {i : ℕ} (there : CoversAt list c i) (x : FrontEntry D) (is : x ≡ get_or list i x) where
+  -- it is at most the cost
   pub covers : AtMost x.cost.0 c
   covers = subst (λ (y : FrontEntry D). AtMost y.cost.0 c) (sym is) (there.at_most x)
 
-  told_in : Contains (map told_entry list) (told_entry x)
+  -- it is one of the list
+  pub told_in : Contains (map told_entry list) (told_entry x)
   told_in = in_map told_entry list x (subst (Contains list) (sym is) (Contains-get_or list i x there.within))
 
-  told_at : (new : Entry) → get_or (map told_entry list) i new ≡ told_entry x
-  told_at new = get_or-map told_entry list i x new there.within ∙ ap told_entry (sym is)
-
+  -- an entry of the front, where these are the settled ones
   pub told_settled : (unsettled : List (FrontEntry D)) → Contains (entries (told_front list unsettled)) (told_entry x)
   told_settled unsettled = Contains-append_left (map told_entry list) (map told_entry unsettled) (told_entry x) told_in
 
+  -- or the others
   pub told_unsettled : (settled : List (FrontEntry D)) → Contains (entries (told_front settled list)) (told_entry x)
   told_unsettled settled = Contains-append_right (map told_entry settled) (map told_entry list) (told_entry x) told_in
 
--- no entry of a list is at most the cost
-told_none : {D : ℕ} (list : List (FrontEntry D)) (c : List ℕ) → CoversNone list c → (e : Entry) → Contains (map told_entry list) e → ¬ AtMost e.cost c
-told_none list c none e h =
-    each_in (λ (x : Entry). ¬ AtMost x.cost c) (map told_entry list) (All-map (λ (x : Entry). ¬ AtMost x.cost c) told_entry list none) e h
-
+-- no entry is at most the cost
 module _ {D : ℕ} (settled unsettled : List (FrontEntry D)) (c : List ℕ) (first : CoversNone settled c) (second : CoversNone unsettled c) where
-  -- so none of either list is
+  -- so none of the front covers it
   pub uncovered : ¬ IsCovered (entries (told_front settled unsettled)) c
-  uncovered h = elim (Contains-append_cases (map told_entry settled) (map told_entry unsettled) h.by h.contains) [
-    | inl near ↦ told_none settled c first h.by near h.at_most
-    | inr far ↦ told_none unsettled c second h.by far h.at_most
-  ]
+  uncovered h =
+      let Above = λ (e : Entry). ¬ AtMost e.cost c in
+      each_in Above (entries (told_front settled unsettled)) (All-append Above (map told_entry settled) (map told_entry unsettled)
+      (All-map Above told_entry settled first) (All-map Above told_entry unsettled second)) h.by h.contains h.at_most
 
   -- and none has the cost
   pub uncovered_none : ¬ HasCost (entries (told_front settled unsettled)) c
   uncovered_none h = uncovered (record { by = record { cost = c; arc = h.arc }; contains = h.contains; at_most = AtMost-refl c })
 
--- the entry x is settled, or taken out
+-- the entry x is taken out
+module _ {D : ℕ} (list : List (FrontEntry D)) (i : ℕ) (x : FrontEntry D) (within : i < length list) (is : x ≡ get_or list i x) where
+  told_out : IsPermutation (map told_entry list) (told_entry x ∷ map told_entry (remove list i))
+  told_out = IsPermutation-map told_entry list (x ∷ remove list i) (IsPermutation-remove list i x within is)
+
+-- the unsettled entry x, which is at most a cost, is settled, or is gone
 module _ {D : ℕ} (settled unsettled : List (FrontEntry D)) (front : IsFront D (told_front settled unsettled)) {c : List ℕ} {i : ℕ}
     (there : CoversAt unsettled c i) (x : FrontEntry D) (is : x ≡ get_or unsettled i x) where
   out : IsPermutation (map told_entry unsettled) (told_entry x ∷ map told_entry (remove unsettled i))
-  out = IsPermutation-map told_entry unsettled (x ∷ remove unsettled i) (IsPermutation-remove unsettled i x there.within is)
+  out = told_out unsettled i x there.within is
 
-  pub told_settled_front : IsFront D (told_front (settled ++ x ∷ []) (remove unsettled i))
-  told_settled_front = rw (map_push told_entry settled x)
-      (settled_front (map told_entry settled) (map told_entry unsettled) (map told_entry (remove unsettled i)) (told_entry x) front out)
+  module _ (list : List (FrontEntry D)) (moved : IsPermutation (settled ++ x ∷ []) list) where
+    come : IsPermutation (map told_entry (x ∷ settled)) (map told_entry list)
+    come = IsPermutation-map told_entry (x ∷ settled) list
+        (IsPermutation-trans (x ∷ settled) (settled ++ x ∷ []) list
+        (IsPermutation-sym (settled ++ x ∷ []) (x ∷ settled) (IsPermutation-to_front settled x)) moved)
 
-  pub told_settles : HasCost (entries (told_front settled unsettled)) c
-      → Settles (told_front settled unsettled) c (told_front (settled ++ x ∷ []) (remove unsettled i))
-  told_settles has = rw (map_push told_entry settled x)
-      (settles (map told_entry settled) (map told_entry unsettled) (map told_entry (remove unsettled i)) (told_entry x) front out c
-      (same_cost front c has (told_entry x) (told_unsettled there x is settled) (covers there x is)))
+    -- it stands with the settled ones, in any order
+    pub told_settled_front : IsFront D (told_front list (remove unsettled i))
+    told_settled_front = settled_front front (map told_entry (remove unsettled i)) (told_entry x) out (map told_entry list) come
 
-  -- taken out, it leaves a front
-  pub told_discarded_front : IsFront D (told_front settled (remove unsettled i))
-  told_discarded_front =
-      discarded_front (map told_entry settled) (map told_entry unsettled) (map told_entry (remove unsettled i)) (told_entry x) front out
+    -- and no other entry is settled
+    pub told_settles : HasCost (entries (told_front settled unsettled)) c
+        → Settles (told_front settled unsettled) c (told_front list (remove unsettled i))
+    told_settles has = settles front (map told_entry (remove unsettled i)) (told_entry x) out
+        (same_cost front c has (told_entry x) (told_unsettled there x is settled) (covers there x is)) (map told_entry list) come
+
+  -- it is gone from the blocks
+  pub discarded_blocks : {corners wide : List (CompactCost D)} {room : ℕ} → AreBlocks settled corners wide unsettled room
+      → AreBlocks settled corners wide (remove unsettled i) room
+  discarded_blocks held = record {
+    front = discarded_front front (map told_entry (remove unsettled i)) (told_entry x) out;
+    cornered = held.cornered;
+    wide_cornered = held.wide_cornered;
+    ascend = ascend_out unsettled held.ascend i there.within;
+    fits = omega (arith, held.fits, there.within, length-remove unsettled i there.within);
+  }
 
   -- and no other entry is gone
   pub told_discards : x.cost.0 ≡ c → Discards (told_front settled unsettled) c (told_front settled (remove unsettled i))
-  told_discards = discards (map told_entry settled) (map told_entry unsettled) (map told_entry (remove unsettled i)) (told_entry x) front out c
+  told_discards = discards front (map told_entry (remove unsettled i)) (told_entry x) out
 
 -- a cost that dominates no entry
 module _ {D : ℕ} (settled unsettled : List (FrontEntry D)) (c : List ℕ)
@@ -98,6 +117,11 @@ module _ {D : ℕ} (settled unsettled : List (FrontEntry D)) (c : List ℕ)
       each_in (λ (x : Entry). ¬ Dominates c x.cost) (entries (told_front settled unsettled)) spares (told_entry e)
       (Contains-append_right (map told_entry settled) (map told_entry unsettled) (told_entry e) (in_map told_entry unsettled e h)))
 
+-- what the entry that x is told as doesn't dominate, x doesn't
+pub spared_by_told : {D : ℕ} (x : FrontEntry D) (new : Entry) → told_entry x ≡ new → (list : List (FrontEntry D))
+    → All (λ (e : FrontEntry D). ¬ Dominates new.cost e.cost.0) list → All (λ (e : FrontEntry D). ¬ Dominates x.cost.0 e.cost.0) list
+spared_by_told {D} x new told list = subst (λ k. All (λ (e : FrontEntry D). ¬ Dominates k e.cost.0) list) (ap (λ (e : Entry). e.cost) (sym told))
+
 -- none of the entries that are kept has a cost that no entry had
 pub other_costs : {D : ℕ} (before kept : List (FrontEntry D)) (c : List ℕ) → All (Contains (map told_entry before)) (map told_entry kept)
     → All (λ (e : FrontEntry D). e.cost.0 ≢ c) before → All (λ (e : FrontEntry D). e.cost.0 ≢ c) kept
@@ -106,13 +130,14 @@ other_costs {D} before kept c old other = all_from_in (λ (e : FrontEntry D). e.
     let (y, y_in, is) = of_map told_entry before (told_entry e) there in
     each_in (λ (x : FrontEntry D). x.cost.0 ≢ c) before other y y_in (ap (λ (x : Entry). x.cost) (sym is) ∙ same))
 
--- the entry x, which is told so, comes among the unsettled ones, at a cost that no entry is at most and that dominates no settled one
-module _ {D : ℕ} (settled unsettled : List (FrontEntry D)) (x : FrontEntry D) (new : Entry) (told : told_entry x ≡ new)
-    (front : IsFront D (told_front settled unsettled)) (fresh : ¬ IsCovered (entries (told_front settled unsettled)) new.cost)
-    (spares : SparesSettled (told_front settled unsettled) new.cost) where
+-- the entry x, which is told so, comes to blocks, at a cost that no entry is at most and that dominates no settled one
+module _ {D : ℕ} {settled unsettled : List (FrontEntry D)} {corners wide : List (CompactCost D)} {room : ℕ}
+    (held : AreBlocks settled corners wide unsettled room) (x : FrontEntry D) (new : Entry) (told : told_entry x ≡ new)
+    (fresh : ¬ IsCovered (entries (told_front settled unsettled)) new.cost) (spares : SparesSettled (told_front settled unsettled) new.cost) where
   same : x.cost.0 ≡ new.cost
   same = ap (λ (e : Entry). e.cost) told
 
+  -- no unsettled entry has its cost
   pub told_new_cost : All (λ (e : FrontEntry D). e.cost.0 ≢ x.cost.0) unsettled
   told_new_cost = all_from_in (λ (e : FrontEntry D). e.cost.0 ≢ x.cost.0) unsettled (λ e h is.
       fresh (record {
@@ -122,133 +147,134 @@ module _ {D : ℕ} (settled unsettled : List (FrontEntry D)) (x : FrontEntry D) 
       }))
 
   module _ (after : List (FrontEntry D)) (taken : TakesIn unsettled x after) where
-    abbrev kept : List Entry
-    kept = map told_entry taken.kept
+    stays : (e : Entry) → Contains (map told_entry taken.kept) e ↔ (Contains (map told_entry unsettled) e × ¬ Dominates new.cost e.cost)
+    stays = subst (λ k. (e : Entry) → Contains (map told_entry taken.kept) e ↔ (Contains (map told_entry unsettled) e × ¬ Dominates k e.cost)) same
+        (left_without (λ (e : Entry). Dominates x.cost.0 e.cost) (map told_entry unsettled) (map told_entry taken.kept) taken.out)
 
-    abbrev behind : List Entry
-    behind = kept ++ new ∷ []
+    come_in : IsPermutation (new ∷ map told_entry taken.kept) (map told_entry after)
+    come_in = subst (λ e. IsPermutation (e ∷ map told_entry taken.kept) (map told_entry after)) told
+        (IsPermutation-map told_entry (x ∷ taken.kept) after taken.moved)
 
-    left_out : IsWithout (λ e. Dominates new.cost e.cost) (map told_entry unsettled) kept
-    left_out = subst (λ k. IsWithout (λ e. Dominates k e.cost) (map told_entry unsettled) kept) same taken.out
-
-    told_behind : IsPermutation behind (map told_entry after)
-    told_behind = IsPermutation-trans behind (new ∷ kept) (map told_entry after) (IsPermutation-append_comm kept (new ∷ []))
-        (subst (λ e. IsPermutation (e ∷ kept) (map told_entry after)) told (IsPermutation-map told_entry (x ∷ taken.kept) after taken.moved))
-
+    -- so it enters
     pub told_enters : Enters (told_front settled unsettled) new (told_front settled after)
-    told_enters =
-        let entered = enters (map told_entry settled) (map told_entry unsettled) kept new front left_out in
-        record {
-          settled = entered.settled;
-          unsettled = λ e.
-              let moved = same_by_permutation behind (map told_entry after) told_behind e in
-              let was = entered.unsettled e in
-              (λ h. was.0 (moved.0 h), λ h. moved.1 (was.1 h));
-        }
+    told_enters = enters held.front (map told_entry taken.kept) new stays (map told_entry after) come_in
 
-    pub told_entered_front : length x.cost.0 ≡ D → IsFront D (told_front settled after)
-    told_entered_front long =
-        let apart = taken.apart (pairs_behind AreIncomparable (map told_entry settled) (map told_entry unsettled) front.incomparable) in
-        let entered = entered_front (map told_entry settled) (map told_entry unsettled) kept new front left_out apart
-        (ap length (sym same) ∙ long) fresh spares in
-        front_in_any_order entered (told_front settled after) (IsPermutation-append_right (map told_entry settled) behind (map told_entry after) told_behind)
+    -- and leaves blocks
+    pub entered_blocks : length x.cost.0 ≡ D → AscendByCost after → length settled + length after ≤ room → AreBlocks settled corners wide after room
+    entered_blocks long ascend fits = record {
+      front = entered_front held.front (map told_entry taken.kept) new stays (map told_entry after) come_in
+          (taken.apart (pairs_behind AreIncomparable (map told_entry settled) (map told_entry unsettled) held.front.incomparable))
+          (ap length (sym same) ∙ long) fresh spares;
+      cornered = held.cornered;
+      wide_cornered = held.wide_cornered;
+      ascend = ascend;
+      fits = fits;
+    }
 
 -- the entry with this arc
 abbrev pub with_arc : {D : ℕ} → FrontEntry D → ArcNo → FrontEntry D
 with_arc x arc = record { cost = x.cost; arc = arc }
 
--- the entry x gets another arc
-module _ {D : ℕ} (settled unsettled : List (FrontEntry D)) (front : IsFront D (told_front settled unsettled)) {c : List ℕ}
-    (has : HasCost (entries (told_front settled unsettled)) c) (arc : ArcNo) (i : ℕ) (x : FrontEntry D) where
-  told_set : (list : List (FrontEntry D)) → x.cost.0 ≡ c
-      → map told_entry (set list i (with_arc x arc)) ≡ set (map told_entry list) i (record { cost = c; arc = arc.0 })
-  told_set list same = map-set told_entry list i (with_arc x arc) ∙ ap (λ c'. set (map told_entry list) i (record { cost = c'; arc = arc.0 })) same
+-- the entry x of a list gets another arc
+module _ {D : ℕ} (list : List (FrontEntry D)) (arc : ArcNo) (i : ℕ) (x : FrontEntry D) (within : i < length list) (is : x ≡ get_or list i x) where
+  told_in_set : {c : List ℕ} → x.cost.0 ≡ c
+      → IsPermutation (record { cost = c; arc = arc.0 } ∷ map told_entry (remove list i)) (map told_entry (set list i (with_arc x arc)))
+  told_in_set same = rw (← same)
+      (IsPermutation-map told_entry (with_arc x arc ∷ remove list i) (set list i (with_arc x arc)) (IsPermutation-set list i (with_arc x arc) within))
 
+  same_costs : costs (map told_entry (set list i (with_arc x arc))) ≡ costs (map told_entry list)
+  same_costs =
+      map-map (λ (e : Entry). e.cost) told_entry (set list i (with_arc x arc))
+      ∙ map-set_same (λ (e : FrontEntry D). e.cost.0) list i (with_arc x arc) x (ap (λ (e : FrontEntry D). e.cost.0) is)
+      ∙ sym (map-map (λ (e : Entry). e.cost) told_entry list)
+
+  cost_there : (d : FrontEntry D) → (get_or list i d).cost ≡ x.cost
+  cost_there d = ap (λ (e : FrontEntry D). e.cost) (get_or_default list i d x within ∙ sym is)
+
+-- in blocks the entry x, which is at most the cost of an entry, gets another arc
+module _ {D : ℕ} {settled unsettled : List (FrontEntry D)} {corners wide : List (CompactCost D)} {room : ℕ}
+    (held : AreBlocks settled corners wide unsettled room) {c : List ℕ} (has : HasCost (entries (told_front settled unsettled)) c) (arc : ArcNo)
+    {i : ℕ} (x : FrontEntry D) where
+  -- a settled one
   module _ (there : CoversAt settled c i) (is : x ≡ get_or settled i x) where
-    settled_cost : x.cost.0 ≡ c
-    settled_cost = same_cost front c has (told_entry x) (told_settled there x is unsettled) (covers there x is)
-
-    settled_within : i < length (map told_entry settled)
-    settled_within = omega (arith, there.within, length-map settled (told_entry {D = D}))
-
-    settled_at : (get_or (map told_entry settled) i (record { cost = c; arc = arc.0 })).cost ≡ c
-    settled_at = ap (λ (e : Entry). e.cost) (told_at there x is (record { cost = c; arc = arc.0 })) ∙ settled_cost
-
+    -- no other entry is another
     pub told_relabels_settled : Relabels (told_front settled unsettled) (record { cost = c; arc = arc.0 })
         (told_front (set settled i (with_arc x arc)) unsettled)
-    told_relabels_settled = rw (told_set settled settled_cost)
-        (settled_relabelled (map told_entry settled) (map told_entry unsettled) i (record { cost = c; arc = arc.0 }) front settled_within settled_at)
+    told_relabels_settled =
+        let same = same_cost held.front c has (told_entry x) (told_settled there x is unsettled) (covers there x is) in
+        relabels_settled held.front (map told_entry (remove settled i)) (told_entry x) (record { cost = c; arc = arc.0 }) same
+        (map told_entry (set settled i (with_arc x arc))) (told_in_set settled arc i x there.within is same) (told_out settled i x there.within is)
 
-    pub told_relabelled_settled : IsFront D (told_front (set settled i (with_arc x arc)) unsettled)
-    told_relabelled_settled = rw (told_set settled settled_cost)
-        (settled_relabelled_front (map told_entry settled) (map told_entry unsettled) i (record { cost = c; arc = arc.0 }) front settled_within settled_at)
+    -- and blocks stay blocks
+    pub relabelled_settled_blocks : AreBlocks (set settled i (with_arc x arc)) corners wide unsettled room
+    relabelled_settled_blocks = record {
+      front = front_by_costs (told_front settled unsettled) (told_front (set settled i (with_arc x arc)) unsettled)
+          (same_costs settled arc i x there.within is) refl held.front;
+      cornered = corners_relabelled 16 held.cornered i (with_arc x arc) there.within (cost_there settled arc i x there.within is);
+      wide_cornered = corners_relabelled 128 held.wide_cornered i (with_arc x arc) there.within (cost_there settled arc i x there.within is);
+      ascend = held.ascend;
+      fits = omega (arith, held.fits, length-set settled i (with_arc x arc));
+    }
 
+  -- or an unsettled one
   module _ (there : CoversAt unsettled c i) (is : x ≡ get_or unsettled i x) where
-    unsettled_cost : x.cost.0 ≡ c
-    unsettled_cost = same_cost front c has (told_entry x) (told_unsettled there x is settled) (covers there x is)
-
-    unsettled_within : i < length (map told_entry unsettled)
-    unsettled_within = omega (arith, there.within, length-map unsettled (told_entry {D = D}))
-
-    unsettled_at : (get_or (map told_entry unsettled) i (record { cost = c; arc = arc.0 })).cost ≡ c
-    unsettled_at = ap (λ (e : Entry). e.cost) (told_at there x is (record { cost = c; arc = arc.0 })) ∙ unsettled_cost
-
+    -- no other entry is another
     pub told_relabels_unsettled : Relabels (told_front settled unsettled) (record { cost = c; arc = arc.0 })
         (told_front settled (set unsettled i (with_arc x arc)))
-    told_relabels_unsettled = rw (told_set unsettled unsettled_cost)
-        (unsettled_relabelled (map told_entry settled) (map told_entry unsettled) i (record { cost = c; arc = arc.0 }) front unsettled_within unsettled_at)
+    told_relabels_unsettled =
+        let same = same_cost held.front c has (told_entry x) (told_unsettled there x is settled) (covers there x is) in
+        relabels_unsettled held.front (map told_entry (remove unsettled i)) (told_entry x) (record { cost = c; arc = arc.0 }) same
+        (map told_entry (set unsettled i (with_arc x arc))) (told_in_set unsettled arc i x there.within is same) (told_out unsettled i x there.within is)
 
-    pub told_relabelled_unsettled : IsFront D (told_front settled (set unsettled i (with_arc x arc)))
-    told_relabelled_unsettled = rw (told_set unsettled unsettled_cost)
-        (unsettled_relabelled_front (map told_entry settled) (map told_entry unsettled) i (record { cost = c; arc = arc.0 }) front unsettled_within
-        unsettled_at)
+    -- and blocks stay blocks
+    pub relabelled_unsettled_blocks : AreBlocks settled corners wide (set unsettled i (with_arc x arc)) room
+    relabelled_unsettled_blocks = record {
+      front = front_by_costs (told_front settled unsettled) (told_front settled (set unsettled i (with_arc x arc)))
+          refl (same_costs unsettled arc i x there.within is) held.front;
+      cornered = held.cornered;
+      wide_cornered = held.wide_cornered;
+      ascend = ascend_set unsettled held.ascend i there.within (with_arc x arc)
+          (λ d. ap (λ (k : CompactCost D). k.0) (cost_there unsettled arc i x there.within is d));
+      fits = omega (arith, held.fits, length-set unsettled i (with_arc x arc));
+    }
 
--- the settled entry that is at most a cost tells the arc of the settled entry of this cost
-module _ {D : ℕ} (settled unsettled : List (FrontEntry D)) (front : IsFront D (told_front settled unsettled)) {c : List ℕ} {i : ℕ}
-    (there : CoversAt settled c i) (x : FrontEntry D) (is : x ≡ get_or settled i x) where
-  only_this : (arc : ℕ) → Contains (map told_entry settled) (record { cost = c; arc = arc }) → told_entry x ≡ record { cost = c; arc = arc }
-  only_this arc h = only_one front (told_entry x) (record { cost = c; arc = arc }) (told_settled there x is unsettled)
-      (Contains-append_left (map told_entry settled) (map told_entry unsettled) (record { cost = c; arc = arc }) h) (covers there x is)
+-- the settled entry x, which is at most a cost, tells the arc of the settled entry of this cost
+module _ {D : ℕ} {f : Front} (front : IsFront D f) {c : List ℕ} (x : FrontEntry D) (there : Contains f.settled (told_entry x)) (below : AtMost x.cost.0 c) where
+  only_this : (arc : ℕ) → Contains f.settled (record { cost = c; arc = arc }) → told_entry x ≡ record { cost = c; arc = arc }
+  only_this arc h = only_one front (told_entry x) (record { cost = c; arc = arc }) (Contains-append_left f.settled f.unsettled (told_entry x) there)
+      (Contains-append_left f.settled f.unsettled (record { cost = c; arc = arc }) h) below
 
-  pub arc_of_same : x.cost.0 ≡ c → (arc : ArcNo) → (Some x.arc ≡ Some arc) ↔ Contains (map told_entry settled) (record { cost = c; arc = arc.0 })
+  -- it has this cost: its arc is that arc
+  pub arc_of_same : x.cost.0 ≡ c → (arc : ArcNo) → (Some x.arc ≡ Some arc) ↔ Contains f.settled (record { cost = c; arc = arc.0 })
   arc_of_same same arc = (
     λ e.
         let told : told_entry x ≡ record { cost = c; arc = arc.0 } =
         ap (λ c'. record { cost = c'; arc = x.arc.0 }) same ∙ ap (λ (a : ArcNo). record { cost = c; arc = a.0 }) (same_Some x.arc arc e) in
-        subst (Contains (map told_entry settled)) told (told_in there x is),
+        subst (Contains f.settled) told there,
     λ h. ap (λ (n : ℕ). Some (record { 0 = n })) (ap (λ (e : Entry). e.arc) (only_this arc.0 h)),
   )
 
-  pub no_arc_of_other : x.cost.0 ≢ c → (arc : ArcNo) → (None ≡ Some arc) ↔ Contains (map told_entry settled) (record { cost = c; arc = arc.0 })
+  -- it has another cost: none of this cost is settled
+  pub no_arc_of_other : x.cost.0 ≢ c → (arc : ArcNo) → (None ≡ Some arc) ↔ Contains f.settled (record { cost = c; arc = arc.0 })
   no_arc_of_other differs arc = (λ e. absurd (none-some arc e), λ h. absurd (differs (ap (λ (e : Entry). e.cost) (only_this arc.0 h))))
 
 -- where no settled entry is at most a cost, none is settled at it
 pub no_arc : {D : ℕ} (settled : List (FrontEntry D)) (c : List ℕ) → CoversNone settled c → (arc : ArcNo)
     → (None ≡ Some arc) ↔ Contains (map told_entry settled) (record { cost = c; arc = arc.0 })
-no_arc settled c none arc = (λ e. absurd (none-some arc e), λ h. absurd (told_none settled c none (record { cost = c; arc = arc.0 }) h (AtMost-refl c)))
+no_arc settled c none arc = (
+  λ e. absurd (none-some arc e),
+  λ h. absurd (each_in (λ (e : Entry). ¬ AtMost e.cost c) (map told_entry settled) (All-map (λ (e : Entry). ¬ AtMost e.cost c) told_entry settled none)
+      (record { cost = c; arc = arc.0 }) h (AtMost-refl c)),
+)
 
--- the settled entries in another order
-module _ {D : ℕ} (settled unsettled list : List (FrontEntry D)) (moved : IsPermutation settled list) where
+-- the settled entries, sorted by their costs
+module _ {D : ℕ} (settled unsettled : List (FrontEntry D)) (front : IsFront D (told_front settled unsettled)) (list : List (FrontEntry D))
+    (moved : IsPermutation settled list) (sorted : IsSortedBy (λ x y. is_lt (lex_cmp x.cost.0 y.cost.0)) list) where
   told_moved : IsPermutation (map told_entry settled) (map told_entry list)
   told_moved = IsPermutation-map told_entry settled list moved
 
-  pub moved_front : IsFront D (told_front settled unsettled) → IsFront D (told_front list unsettled)
-  moved_front front = front_in_any_order front (told_front list unsettled)
-      (IsPermutation-append_left (map told_entry unsettled) (map told_entry settled) (map told_entry list) told_moved)
-
-  pub moved_settles : (f : Front) (c : List ℕ) → Settles f c (told_front settled unsettled) → Settles f c (told_front list unsettled)
-  moved_settles f c was = record {
-    settled = λ e.
-        let same = same_by_permutation (map told_entry settled) (map told_entry list) told_moved e in
-        (λ h. (was.settled e).0 (same.0 h), λ h. same.1 ((was.settled e).1 h));
-    unsettled = was.unsettled;
-  }
-
--- ..sorted by their costs
-module _ {D : ℕ} (settled unsettled : List (FrontEntry D)) (front : IsFront D (told_front settled unsettled)) (list : List (FrontEntry D))
-    (moved : IsPermutation settled list) (sorted : IsSortedBy (λ x y. is_lt (lex_cmp x.cost.0 y.cost.0)) list) where
   apart : AllPairs AreIncomparable (map told_entry list)
-  apart = incomparable_in_any_order (map told_entry settled) (map told_entry list) (told_moved settled unsettled list moved)
+  apart = incomparable_in_any_order (map told_entry settled) (map told_entry list) told_moved
       (pairs_before AreIncomparable (map told_entry settled) (map told_entry unsettled) front.incomparable)
 
   less : (a b : List ℕ) → is_lt (lex_cmp b a) ≡ false → ¬ AtMost a b → LexLess a b
@@ -258,6 +284,7 @@ module _ {D : ℕ} (settled unsettled : List (FrontEntry D)) (front : IsFront D 
     | inr (inr after) ↦ absurd (false≢true (sym not_after ∙ ap is_lt after))
   ]
 
+  -- are listed in ascending order
   pub lists_settled : ListsSettled (told_front settled unsettled) list
   lists_settled = record {
     ascending = pairs_map (λ (x y : FrontEntry D). LexLess x.cost.0 y.cost.0) LexLess (λ (e : FrontEntry D). e.cost.0) (λ x y h. h) list
@@ -266,5 +293,5 @@ module _ {D : ℕ} (settled unsettled : List (FrontEntry D)) (front : IsFront D 
         (sorted_far (λ x y. is_lt (lex_cmp x.cost.0 y.cost.0)) (ranks_by nat_list_cmp_total (λ (e : FrontEntry D). e.cost.0)) list sorted i j d
         (omega arith) within)
         (pairs_of_map AreIncomparable told_entry list apart i j d before within).one_way);
-    exact = same_by_permutation (map told_entry settled) (map told_entry list) (told_moved settled unsettled list moved);
+    exact = same_by_permutation (map told_entry settled) (map told_entry list) told_moved;
   }

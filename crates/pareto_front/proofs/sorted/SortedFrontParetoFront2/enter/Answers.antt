@@ -1,4 +1,3 @@
-use Rattle.std.proofs.Common.{refl}
 use Rattle.pareto_front.proofs.Entering.{sorted_entered, enters}
 use Rattle.pareto_front.proofs.sorted.SortedFrontParetoFront2.enter.Goals as goal
 
@@ -7,16 +6,12 @@ at_least-start-requires c = rw c.deref.ensures.value c.self.invariant.descends
 
 pub invariant_of-self : goal.invariant_of-self
 invariant_of-self c =
-    let span = rw c.deref.ensures.value at c.at_least-start.ensures.span in
-    let new = rw (← c.self.view_is) at c.requires.new in
-    let spares = rw (← c.self.view_is) at c.requires.spares in
-    rw (c.replace.ensures.items, c.replace-2.ensures.items)
-    (sorted_entered c.self.invariant c.at_least-start.ensures.two span new spares (record { cost = c.args.cost.now; arc = c.args.arc }) refl)
+    let given = rw (← c.self.view_is) at c.requires in
+    rw (c.replace.ensures.items, c.replace-2.ensures.items) (sorted_entered c.self.invariant (record { cost = c.args.cost.now; arc = c.args.arc })
+    c.at_least-start.ensures.two (rw c.deref.ensures.value at c.at_least-start.ensures.span) given.new given.spares)
 
 pub returns-clause-entered : goal.returns-clause-entered
 returns-clause-entered c =
-    let span = rw c.deref.ensures.value at c.at_least-start.ensures.span in
-    let new = rw (← c.self.view_is) at c.requires.new in
-    let spares = rw (← c.self.view_is) at c.requires.spares in
-    rw (← c.self.view_is, c.replace.ensures.items, c.replace-2.ensures.items)
-    (enters c.self.invariant c.at_least-start.ensures.two span new spares (record { cost = c.args.cost.now; arc = c.args.arc }) refl)
+    let given = rw (← c.self.view_is) at c.requires in
+    rw (← c.self.view_is, c.replace.ensures.items, c.replace-2.ensures.items) (enters c.self.invariant (record { cost = c.args.cost.now; arc = c.args.arc })
+    c.at_least-start.ensures.two (rw c.deref.ensures.value at c.at_least-start.ensures.span) given.new given.spares)

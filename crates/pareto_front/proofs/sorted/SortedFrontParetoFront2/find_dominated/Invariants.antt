@@ -1,6 +1,6 @@
-use Rattle.std.proofs.Common.{◌≡◌, ◌++◌}
-use Rattle.pareto_front.proofs.Finding.{spots_before}
+use Rattle.pareto_front.specs.Calls.{GrowsBy}
+use Rattle.pareto_front.proofs.GrowsLaws.{DominatedBefore}
 use Rattle.pareto_front.proofs.sorted.SortedFrontParetoFront2.find_dominated.Given as goal
 
 abbrev pub invariant-loop-entry : goal.invariant-loop-entry
-invariant-loop-entry l = l.found.items ≡ l.fn.found.items ++ spots_before l.by.node l.by.cost.0 l.entry-items l.entry-index
+invariant-loop-entry l = GrowsBy l.by.node.0 (DominatedBefore l.by.cost.0 l.entry-items l.entry-index) l.fn.found.items l.found.items

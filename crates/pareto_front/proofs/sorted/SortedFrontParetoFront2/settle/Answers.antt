@@ -34,7 +34,9 @@ invariant_of-self c =
 
 pub returns-then-not-index-clause-settled : goal.returns-then-not-index-clause-settled
 returns-then-not-index-clause-settled c =
-    rw (← c.self.view_is) (settles c.self.invariant (here (goal.at.returns-then-not-index-clause-settled c).After-before-at))
+    let path = goal.at.returns-then-not-index-clause-settled c in
+    let at = here path.After-before-at in
+    rw (← c.self.view_is) (settles c.self.invariant at (mark path.After-index at ∙ c.if-not-index.true))
 
 pub returns-else-not-index-clause-settled : goal.returns-else-not-index-clause-settled
 returns-else-not-index-clause-settled c =

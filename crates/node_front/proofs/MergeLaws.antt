@@ -1,9 +1,10 @@
 -- Merging in parts, and merging the delta in place of its candidates, leads to the same front.
-use Rattle.std.proofs.Common.{◌≡◌, ◌≢◌, ◌⊎◌, ◌↔◌, ℕ, ◌<◌, ◌≤◌, List, [], ◌∷◌, ◌++◌, inl, inr, refl, sym, ap, subst, ◌∙◌, arith, append_assoc}
+use Rattle.std.proofs.Common.{◌≡◌, ◌≢◌, ◌⊎◌, ◌↔◌, ℕ, ◌<◌, ◌≤◌, List, [], ◌∷◌, ◌++◌, inl, inr, refl, sym, ap, subst, arith, append_assoc}
 use Rattle.std.specs.Prelude.{All, Contains}
 use Rattle.std.proofs.lemmas.Bool.{cases_lt}
 use Rattle.std.proofs.lemmas.List.{append-nil}
-use Rattle.cost_vector.specs.Costs.{AtMost, Dominates}
+use Rattle.std.proofs.lemmas.List.Elements.{Contains-append_left}
+use Rattle.cost_vector.specs.Costs.{Dominates}
 use Rattle.cost_vector.proofs.Vectors.{AtMost-Dominates, cases_same}
 use Rattle.list_laws.specs.Sets.{SameMembers}
 use Rattle.list_laws.proofs.Members.{all_from_in, each_in, in_first, in_none, in_one}
@@ -13,55 +14,16 @@ use Rattle.pareto_front.specs.Calls.{Enters, Relabels}
 use Rattle.pareto_front.specs.Merging.{Stays, Delta, IsAdded, IsDelta, IsMerged}
 use Rattle.node_front.specs.Apart.{AreApart}
 use Rattle.node_front.proofs.ApartLemmas.{same_entry, AtMost-same, has_append, has_cost_of, apart_not_dominated}
-use Rattle.node_front.proofs.StaysLemmas.{stays_below, stays_of_cost}
+use Rattle.node_front.proofs.StaysLemmas.{apart_stays, stays_among, stays_below, stays_core, stays_of_cost}
 use Rattle.node_front.proofs.NeedlessLemmas.{told_entry_in, told_has_cost}
 use Rattle.node_front.proofs.MergedLemmas.{relabelled_merges, merged_apart}
-
--- of fewer known entries, among which all that stays still is, the same stays
-pub stays_core : (known fewer : List Entry) → ((x : Entry) → Contains fewer x → Contains known x) → ((x : Entry) → Stays known x → Contains fewer x)
-    → (x : Entry) → Stays fewer x ↔ Stays known x
-stays_core known fewer sub core x = (
-  λ stays. record {
-    contains = sub x stays.contains;
-    nondominated = λ h.
-        let (b, b_stays, below) = stays_below known h.by h.contains in
-        stays.nondominated (record { by = b; contains = core b b_stays; dominates = AtMost-Dominates b.cost h.by.cost x.cost below h.dominates });
-    least = λ y y_in same.
-        let (b, b_stays, below) = stays_below known y y_in in
-        elim (cases_same b.cost x.cost) [
-          | inl equal ↦
-              let low = stays.least b (core b b_stays) equal in
-              let high = b_stays.least y y_in (same ∙ sym equal) in
-              omega (arith, low, high)
-          | inr other ↦ absurd (stays.nondominated (record {
-            by = b;
-            contains = core b b_stays;
-            dominates = record { at_most = subst (AtMost b.cost) same below; differs = other };
-          }))
-        ];
-  },
-  λ stays. record {
-    contains = core x stays;
-    nondominated = λ h. stays.nondominated (record { by = h.by; contains = sub h.by h.contains; dominates = h.dominates });
-    least = λ y y_in. stays.least y (sub y y_in);
-  },
-)
 
 -- where no candidate comes, an apart front is as it was
 pub merged_none : (front : Front) → AreApart (entries front) → IsMerged front [] front
 merged_none front apart = record {
-  entries = λ x. (
-    λ there. record {
-      contains = (in_append (entries front) [] x).1 (inl there);
-      nondominated = λ h. apart_not_dominated (entries front) apart h.by x (old h.by h.contains) there h.dominates;
-      least = λ y y_in same. let one = apart y x (old y y_in) there (AtMost-same y.cost x.cost same) in omega (arith, ap (λ (w : Entry). w.arc) one);
-    },
-    λ stays. old x stays.contains,
-  );
+  entries = rw append-nil (apart_stays (entries front) (entries front) apart (λ x there. there) (λ x stays. stays.contains));
   settled = λ c. (λ h. (h, λ by. in_none by.by by.contains), λ h. h.0);
-} where
-  old : (x : Entry) → Contains (entries front ++ []) x → Contains (entries front) x
-  old x there = subst (λ l. Contains l x) (append-nil (entries front)) there
+}
 
 -- candidates and then others
 pub merged_then : (first second third : Front) (xs ys : List Entry) → IsMerged first xs second → IsMerged second ys third → IsMerged first (xs ++ ys) third
@@ -83,12 +45,8 @@ merged_then first second third xs ys merged again = record {
   core : (x : Entry) → Stays ((entries first ++ xs) ++ ys) x → Contains (entries second ++ ys) x
   core x stays = (in_append (entries second) ys x).1 (elim ((in_append (entries first ++ xs) ys x).0 stays.contains) [
     | inr new ↦ inr new
-    | inl old ↦ inl ((merged.entries x).1 (record {
-      contains = old;
-      nondominated = λ h. stays.nondominated
-          (record { by = h.by; contains = (in_append (entries first ++ xs) ys h.by).1 (inl h.contains); dominates = h.dominates });
-      least = λ y y_in. stays.least y ((in_append (entries first ++ xs) ys y).1 (inl y_in));
-    }))
+    | inl old ↦ inl ((merged.entries x).1 (stays_among ((entries first ++ xs) ++ ys) (entries first ++ xs)
+        (Contains-append_left (entries first ++ xs) ys) x stays old))
   ])
 
   both : {A B C M N L : Type 0} → (A ↔ (B × (¬ N))) → (B ↔ (C × (¬ M))) → (L ↔ (M ⊎ N)) → (A ↔ (C × (¬ L)))

@@ -18,7 +18,7 @@ use Rattle.node_front.specs.Apart.{AreApart}
 use Rattle.node_front.specs.Deltas.{Deltas, AppendsDelta, AreDeltas, ComeNext, FitAnyOrder, GrowNodeByNode, costs_told_at, delta_at, label_told, no_deltas, spot_told, told_at}
 use Rattle.node_front.specs.NodeFronts.{Fronts, front_at}
 use Rattle.node_front.proofs.ApartLemmas.{AtMost-same, has_cost_of}
-use Rattle.node_front.proofs.MergeLaws.{stays_core}
+use Rattle.node_front.proofs.StaysLemmas.{stays_core}
 use Rattle.node_front.proofs.PlacedLemmas.{cases_number}
 use Rattle.node_front.proofs.RoundLemmas.{same_test, other_test, of_at, at_append}
 

@@ -1,16 +1,16 @@
 -- What stays of the known entries: none of it is needless beside another, and it covers all that is known.
-use Rattle.std.proofs.Common.{◌≡◌, ◌≢◌, ◌⊎◌, ◌↔◌, ◌<◌, ◌≤◌, List, [], ◌∷◌, inl, inr, refl, sym, subst, ◌∙◌, arith}
+use Rattle.std.proofs.Common.{◌≡◌, ◌≢◌, ◌⊎◌, ◌↔◌, ◌<◌, ◌≤◌, List, [], ◌∷◌, inl, inr, refl, sym, ap, subst, ◌∙◌, arith}
 use Rattle.std.specs.Prelude.{Contains}
 use Rattle.std.proofs.lemmas.Bool.{cases_lt}
 use Rattle.cost_vector.specs.Costs.{AtMost, LexLess}
-use Rattle.cost_vector.proofs.Vectors.{AtMost-trans, cases_AtMost, cases_same, LexLess-irrefl, LexLess-trans, cases_LexLess, LexLess_from_Dominates}
+use Rattle.cost_vector.proofs.Vectors.{AtMost-Dominates, AtMost-trans, cases_AtMost, cases_same, LexLess-irrefl, LexLess-trans, cases_LexLess, LexLess_from_Dominates}
 use Rattle.list_laws.proofs.Members.{in_none, each_in}
 use Rattle.list_laws.proofs.OnceLaws.{in_cons}
 use Rattle.list_laws.proofs.LeastMember.{decided_by_cases, has_least}
 use Rattle.pareto_front.specs.Fronts.{Entry, IsDominated}
 use Rattle.pareto_front.specs.Merging.{Stays}
 use Rattle.node_front.specs.Apart.{AreApart}
-use Rattle.node_front.proofs.ApartLemmas.{same_entry, AtMost-same}
+use Rattle.node_front.proofs.ApartLemmas.{same_entry, AtMost-same, apart_not_dominated}
 
 -- what stays is apart
 pub apart_of_stays : (known list : List Entry) → ((x : Entry) → Contains list x → Stays known x) → AreApart list
@@ -95,3 +95,50 @@ stays_of_cost known x there nondominated =
       | inl same ↦ (b, stays, same)
       | inr other ↦ absurd (nondominated (record { by = b; contains = stays.contains; dominates = record { at_most = below; differs = other } }))
     ]
+
+-- what stays, stays among fewer known entries
+pub stays_among : (known fewer : List Entry) → ((x : Entry) → Contains fewer x → Contains known x) → (x : Entry) → Stays known x → Contains fewer x
+    → Stays fewer x
+stays_among known fewer sub x stays there = record {
+  contains = there;
+  nondominated = λ h. stays.nondominated (record { by = h.by; contains = sub h.by h.contains; dominates = h.dominates });
+  least = λ y y_in. stays.least y (sub y y_in);
+}
+
+-- among fewer known entries, with all that stays, the same stays
+pub stays_core : (known fewer : List Entry) → ((x : Entry) → Contains fewer x → Contains known x) → ((x : Entry) → Stays known x → Contains fewer x)
+    → (x : Entry) → Stays fewer x ↔ Stays known x
+stays_core known fewer sub core x = (
+  λ stays. record {
+    contains = sub x stays.contains;
+    nondominated = λ h.
+        let (b, b_stays, below) = stays_below known h.by h.contains in
+        stays.nondominated (record { by = b; contains = core b b_stays; dominates = AtMost-Dominates b.cost h.by.cost x.cost below h.dominates });
+    least = λ y y_in same.
+        let (b, b_stays, below) = stays_below known y y_in in
+        elim (cases_same b.cost x.cost) [
+          | inl equal ↦
+              let low = stays.least b (core b b_stays) equal in
+              let high = b_stays.least y y_in (same ∙ sym equal) in
+              omega (arith, low, high)
+          | inr other ↦ absurd (stays.nondominated (record {
+            by = b;
+            contains = core b b_stays;
+            dominates = record { at_most = subst (AtMost b.cost) same below; differs = other };
+          }))
+        ];
+  },
+  λ stays. stays_among known fewer sub x stays (core x stays),
+)
+
+-- known entries that are apart, with all that stays, are what stays
+pub apart_stays : (known list : List Entry) → AreApart list → ((x : Entry) → Contains list x → Contains known x)
+    → ((x : Entry) → Stays known x → Contains list x) → (x : Entry) → Contains list x ↔ Stays known x
+apart_stays known list apart sub core x = (
+  λ there. (stays_core known list sub core x).0 (record {
+    contains = there;
+    nondominated = λ h. apart_not_dominated list apart h.by x h.contains there h.dominates;
+    least = λ y y_in same. let one = apart y x y_in there (AtMost-same y.cost x.cost same) in omega (arith, ap (λ (w : Entry). w.arc) one);
+  }),
+  core x,
+)

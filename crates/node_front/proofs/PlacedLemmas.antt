@@ -221,6 +221,11 @@ none_reached {X} state n places xs ys x zeros none pushed empty v =
     subst₂ (λ ps fs. get_or (fronts_by ps fs) v empty_front ≡ empty_front) (sym zeros) (sym fronts)
     (front_by (replicate {A = ℕ} n 0) (empty_front ∷ []) refl v ∙ ap (λ k. get_or (empty_front ∷ []) k empty_front) (no_place n v))
 
+-- the entries of each front are apart
+pub fronts_apart : {d n : ℕ} {places spares : List ℕ} {states : List Front} {f : Fronts} → IsKept d places states
+    → record { nodes = n; fronts = fronts_by places states; spares = spares } ≡ f → (v : ℕ) → AreApart (entries (front_at f v))
+fronts_apart {places} {states} kept view v = subst (λ (f : Fronts). AreApart (entries (front_at f v))) view (front_apart places states kept.placed v)
+
 -- ---- what is kept of a node that was reached, and what another thing in its place changes
 
 -- the fronts that are kept so

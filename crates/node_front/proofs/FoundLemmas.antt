@@ -14,9 +14,9 @@ use Rattle.cost_vector.specs.declared.label.ArcNo.{ArcNo}
 use Rattle.cost_vector.proofs.Vectors.{LexLess-irrefl}
 use Rattle.list_laws.proofs.Members.{in_none, cases_in, in_map, of_map}
 use Rattle.list_laws.proofs.Pairs.{pairs_none, pairs_rest, pair_with_first, pairs_map}
-use Rattle.list_laws.proofs.OnceLaws.{in_append, pairs_append}
+use Rattle.list_laws.proofs.OnceLaws.{alike_through, in_append, pairs_append}
 use Rattle.event_machine.specs.Machine.{Label, IsSamePair}
-use Rattle.path_readback.specs.Found.{HasSettled, IsFound}
+use Rattle.path_readback.specs.Found.{IsFound}
 use Rattle.road_network.specs.Limits.{max_nodes}
 use Rattle.road_network.specs.Network.{IsNode}
 use Rattle.pareto_front.specs.declared.front.FrontEntry.{FrontEntry}
@@ -36,10 +36,7 @@ label v e = record { node = v; cost = e.cost; arc = e.arc }
 
 -- one more front at the end
 pub settled_push : (n : ℕ) (fs : List Front) (f : Front) → length (settled_from n (fs ++ f ∷ [])) ≡ length (settled_from n fs) + length f.settled
-settled_push n [] f =
-    let one = length-append (labels_told n f.settled) [] in
-    let long = length-map f.settled (λ (e : Entry). let l : Label = record { node = n; cost = e.cost; arc = e.arc } in l) in
-    omega (arith, one, long)
+settled_push n [] f = omega (arith, length-append (labels_told n f.settled) [], length-map f.settled (label n))
 settled_push n (g ∷ fs) f =
     let rest = settled_push (n + 1) fs f in
     let whole = length-append (labels_told n g.settled) (settled_from (n + 1) (fs ++ f ∷ [])) in
@@ -60,7 +57,7 @@ counted_more fs i f count n more within at counted is_n is_more =
 settled_first : (n : ℕ) (f : Front) (fs : List Front) → length (settled_from n (f ∷ fs)) ≡ length f.settled + length (settled_from (n + 1) fs)
 settled_first n f fs =
     length-append (labels_told n f.settled) (settled_from (n + 1) fs)
-    ∙ ap (λ long. long + length (settled_from (n + 1) fs)) (length-map f.settled (λ (e : Entry). label n e))
+    ∙ ap (λ long. long + length (settled_from (n + 1) fs)) (length-map f.settled (label n))
 
 -- two fronts at each place, which are the same but at the place n, where the second has no entries
 module _ (a b : ℕ → Front) (n : ℕ) (alike : (k : ℕ) → k ≢ n → a k ≡ b k) (none : b n ≡ empty_front) where
@@ -142,39 +139,42 @@ settled_of_begun places states placed = subst Alike (take_all (length states) st
 
 -- a label is that of an entry of its node
 in_labels : (n : ℕ) (es : List Entry) (v : ℕ) (e : Entry)
-    → Contains (labels_told n es) (record { node = v; cost = e.cost; arc = e.arc }) ↔ ((v ≡ n) × Contains es e)
+    → Contains (labels_told n es) (label v e) ↔ ((v ≡ n) × Contains es e)
 in_labels n es v e = (
   λ there.
-      let (x, x_in, is) = of_map (λ (y : Entry). let l : Label = record { node = n; cost = y.cost; arc = y.arc } in l) es
-      (record { node = v; cost = e.cost; arc = e.arc }) there in
+      let (x, x_in, is) = of_map (label n) es (label v e) there in
       (ap (λ (l : Label). l.node) is, subst (Contains es) (sym (ap (λ (l : Label). let y : Entry = record { cost = l.cost; arc = l.arc } in y) is)) x_in),
-  λ h. subst (λ u. Contains (labels_told n es) (record { node = u; cost = e.cost; arc = e.arc })) (sym h.0)
-      (in_map (λ (y : Entry). let l : Label = record { node = n; cost = y.cost; arc = y.arc } in l) es e h.1),
+  λ h. rw h.0 (in_map (label n) es e h.1),
 )
 
-pub in_settled : (n : ℕ) (fs : List Front) (v : ℕ) (e : Entry) → Contains (settled_from n fs) (record { node = v; cost = e.cost; arc = e.arc })
+-- of one of the fronts
+in_settled : (n : ℕ) (fs : List Front) (v : ℕ) (e : Entry) → Contains (settled_from n fs) (label v e)
     ↔ ((k : ℕ) × (v ≡ n + k) × Contains (get_or fs k empty_front).settled e)
-in_settled n [] v e = (λ there. absurd (in_none (record { node = v; cost = e.cost; arc = e.arc }) there), λ h. absurd (in_none e h.2))
+in_settled n [] v e = (λ there. absurd (in_none (label v e) there), λ h. absurd (in_none e h.2))
 in_settled n (f ∷ fs) v e = (
-  λ there. elim ((in_append (labels_told n f.settled) (settled_from (n + 1) fs) (record { node = v; cost = e.cost; arc = e.arc })).0 there) [
+  λ there. elim ((in_append (labels_told n f.settled) (settled_from (n + 1) fs) (label v e)).0 there) [
     | inl here ↦ let (at, e_in) = (in_labels n f.settled v e).0 here in (zero, omega (arith, at), e_in)
     | inr later ↦ let (k, at, e_in) = (in_settled (n + 1) fs v e).0 later in (suc k, omega (arith, at), e_in)
   ],
-  λ h. back (λ k at e_in. (in_settled (n + 1) fs v e).1 (k, at, e_in)) h,
+  λ h. (in_append (labels_told n f.settled) (settled_from (n + 1) fs) (label v e)).1 (back (in_settled (n + 1) fs v e).1 h),
 ) where
-  back : ((k : ℕ) → v ≡ (n + 1) + k → Contains (get_or fs k empty_front).settled e
-      → Contains (settled_from (n + 1) fs) (record { node = v; cost = e.cost; arc = e.arc }))
+  back : ((k : ℕ) × (v ≡ (n + 1) + k) × Contains (get_or fs k empty_front).settled e → Contains (settled_from (n + 1) fs) (label v e))
       → (k : ℕ) × (v ≡ n + k) × Contains (get_or (f ∷ fs) k empty_front).settled e
-      → Contains (settled_from n (f ∷ fs)) (record { node = v; cost = e.cost; arc = e.arc })
-  back later (zero, at, e_in) = (in_append (labels_told n f.settled) (settled_from (n + 1) fs) (record { node = v; cost = e.cost; arc = e.arc })).1
-      (inl ((in_labels n f.settled v e).1 (omega (arith, at), e_in)))
-  back later (suc k, at, e_in) = (in_append (labels_told n f.settled) (settled_from (n + 1) fs) (record { node = v; cost = e.cost; arc = e.arc })).1
-      (inr (later k (omega (arith, at)) e_in))
+      → Contains (labels_told n f.settled) (label v e) ⊎ Contains (settled_from (n + 1) fs) (label v e)
+  back later (zero, at, e_in) = inl ((in_labels n f.settled v e).1 (omega (arith, at), e_in))
+  back later (suc k, at, e_in) = inr (later (k, omega (arith, at), e_in))
+
+-- of the front of its node
+in_fronts : (f : Fronts) (v : ℕ) (e : Entry) → Contains (settled_from 0 f.fronts) (label v e) ↔ Contains (front_at f v).settled e
+in_fronts f v e = (
+  λ there. let (k, at, e_in) = (in_settled 0 f.fronts v e).0 there in subst (λ u. Contains (front_at f u).settled e) (omega (arith, at)) e_in,
+  λ there. (in_settled 0 f.fronts v e).1 (v, omega arith, there),
+)
 
 -- no two labels of different costs are of one pair
 labels_once : (n : ℕ) (es : List Entry) → AllPairs (λ a b. a.cost ≢ b.cost) es → AllPairs (λ l m. ¬ IsSamePair l m) (labels_told n es)
 labels_once n es differ = pairs_map (λ a b. a.cost ≢ b.cost) (λ l m. ¬ IsSamePair l m)
-    (λ (e : Entry). let l : Label = record { node = n; cost = e.cost; arc = e.arc } in l) (λ a b other same. other same.cost) es differ
+    (label n) (λ a b other same. other same.cost) es differ
 
 settled_once : (d n : ℕ) (fs : List Front) → ((k : ℕ) → IsFront d (get_or fs k empty_front)) → AllPairs (λ l m. ¬ IsSamePair l m) (settled_from n fs)
 settled_once d n [] fronts = pairs_none (λ l m. ¬ IsSamePair l m)
@@ -280,31 +280,26 @@ told_costs (x ∷ xs) = ap (λ (cs : List (List ℕ)). x.cost.0 ∷ cs) (told_co
 -- ---- what is found at the target, and elsewhere
 
 module _ (d start target : ℕ) (es : List Entry) (f : Fronts) (taken : front_at f target ≡ empty_front) where
+  in_found : (v : ℕ) (e : Entry) → Contains (found_in d start target es f).settled (label v e)
+      ↔ (((v ≡ target) × Contains es e) ⊎ Contains (front_at f v).settled e)
+  in_found v e = parts (in_append (labels_told target es) (settled_from 0 f.fronts) (label v e)) (in_labels target es v e) (in_fronts f v e) where
+    parts : {A B C M N : Type 0} → (A ↔ (B ⊎ C)) → (B ↔ M) → (C ↔ N) → (A ↔ (M ⊎ N))
+    parts f g h = grind arith
+
+  none_taken : (e : Entry) → ¬ Contains (front_at f target).settled e
+  none_taken e there = in_none e (subst (λ (g : Front). Contains g.settled e) taken there)
+
   pub found_at_target : (e : Entry) → Contains (found_in d start target es f).settled (record { node = target; cost = e.cost; arc = e.arc }) ↔ Contains es e
   found_at_target e = (
-    λ there. elim ((in_append (labels_told target es) (settled_from 0 f.fronts) (label target e)).0 there) [
-      | inl here ↦ ((in_labels target es target e).0 here).1
-      | inr later ↦
-          let (k, at, e_in) = (in_settled 0 f.fronts target e).0 later in
-          let is : k ≡ target = omega (arith, at) in
-          let there_too = subst (λ u. Contains (front_at f u).settled e) is e_in in
-          absurd (in_none e (subst (λ (g : Front). Contains g.settled e) taken there_too))
-    ],
-    λ there. (in_append (labels_told target es) (settled_from 0 f.fronts) (label target e)).1 (inl ((in_labels target es target e).1 (refl, there))),
+    λ there. elim ((in_found target e).0 there) [ inl here ↦ here.1 | inr later ↦ absurd (none_taken e later) ],
+    λ there. (in_found target e).1 (inl (refl, there)),
   )
 
   pub found_elsewhere : (v : ℕ) → v ≢ target → (e : Entry)
       → Contains (found_in d start target es f).settled (record { node = v; cost = e.cost; arc = e.arc }) ↔ Contains (front_at f v).settled e
   found_elsewhere v other e = (
-    λ there. elim ((in_append (labels_told target es) (settled_from 0 f.fronts) (label v e)).0 there) [
-      | inl here ↦ absurd (other ((in_labels target es v e).0 here).0)
-      | inr later ↦
-          let (k, at, e_in) = (in_settled 0 f.fronts v e).0 later in
-          let is : k ≡ v = omega (arith, at) in
-          subst (λ u. Contains (front_at f u).settled e) is e_in
-    ],
-    λ there. (in_append (labels_told target es) (settled_from 0 f.fronts) (label v e)).1
-        (inr ((in_settled 0 f.fronts v e).1 (v, omega arith, there))),
+    λ there. elim ((in_found v e).0 there) [ inl here ↦ absurd (other here.0) | inr later ↦ later ],
+    λ there. (in_found v e).1 (inr there),
   )
 
   -- so many labels there are
@@ -312,86 +307,52 @@ module _ (d start target : ℕ) (es : List Entry) (f : Fronts) (taken : front_at
       → more ≡ counted_labels (length (found_in d start target es f).settled)
   counted_all count more counted is_more =
       let whole = length-append (labels_told target es) (settled_from 0 f.fronts) in
-      let here = length-map es (λ (e : Entry). let l : Label = record { node = target; cost = e.cost; arc = e.arc } in l) in
-      omega (arith, whole, here, counted, is_more)
+      omega (arith, whole, length-map es (label target), counted, is_more)
 
 -- ---- all that is found
 
 module _ (d start target : ℕ) (before after : Fronts) (list : List (FrontEntry d)) (elsewhere : SameElsewhere target before after)
     (taken : front_at after target ≡ empty_front) (lists : ListsSettled (front_at before target) list) where
-  none_taken : (e : Entry) → ¬ Contains (front_at after target).settled e
-  none_taken e there = in_none e (subst (λ (f : Front). Contains f.settled e) taken there)
-
   pub settled_in_fronts : (v : ℕ) (e : Entry)
       → Contains (found_in d start target (map (told_entry {D = d}) list) after).settled (record { node = v; cost = e.cost; arc = e.arc })
       ↔ Contains (front_at before v).settled e
-  settled_in_fronts v e = (
-    λ there. elim ((in_append (labels_told target (map (told_entry {D = d}) list)) (settled_from 0 after.fronts) (label v e)).0 there) [
-      | inl here ↦
-          let (at, e_in) = (in_labels target (map (told_entry {D = d}) list) v e).0 here in
-          subst (λ u. Contains (front_at before u).settled e) (sym at) ((lists.exact e).0 e_in)
-      | inr later ↦
-          let (k, at, e_in) = (in_settled 0 after.fronts v e).0 later in
-          let there_too = subst (λ u. Contains (front_at after u).settled e) (sym (omega (arith, at))) e_in in
-          elim (cases_number v target) [
-            | inl same ↦ absurd (none_taken e (subst (λ u. Contains (front_at after u).settled e) same there_too))
-            | inr other ↦ subst (λ (f : Front). Contains f.settled e) (elsewhere.others v other) there_too
-          ]
-    ],
-    λ there. (in_append (labels_told target (map (told_entry {D = d}) list)) (settled_from 0 after.fronts) (label v e)).1 (elim (cases_number v target) [
-      | inl same ↦ inl ((in_labels target (map (told_entry {D = d}) list) v e).1
-          (same, (lists.exact e).1 (subst (λ u. Contains (front_at before u).settled e) same there)))
-      | inr other ↦ inr ((in_settled 0 after.fronts v e).1
-          (v, omega arith, subst (λ (f : Front). Contains f.settled e) (sym (elsewhere.others v other)) there))
-    ]),
-  )
+  settled_in_fronts v e = elim (cases_number v target) [
+    | inl same ↦ rw same (alike_through (found_at_target d start target (map (told_entry {D = d}) list) after taken e) (lists.exact e))
+    | inr other ↦ rw (← elsewhere.others v other) (found_elsewhere d start target (map (told_entry {D = d}) list) after taken v other e)
+  ]
 
   pub is_found : ((v : ℕ) → IsFront d (front_at after v)) → before.nodes ≤ max_nodes → IsNode before.nodes start → IsNode before.nodes target
       → IsFound (found_in d start target (map (told_entry {D = d}) list) after)
   is_found fronts few start_in target_in = record {
     two = (fronts 0).two;
     four = (fronts 0).four;
-    nodes = subst (λ n. n ≤ max_nodes) (sym elsewhere.nodes) few;
-    start = subst (λ n. IsNode n start) (sym elsewhere.nodes) start_in;
-    target = subst (λ n. IsNode n target) (sym elsewhere.nodes) target_in;
+    nodes = rw elsewhere.nodes few;
+    start = rw elsewhere.nodes start_in;
+    target = rw elsewhere.nodes target_in;
     once = pairs_append (λ l m. ¬ IsSamePair l m) (labels_told target (map (told_entry {D = d}) list)) (settled_from 0 after.fronts)
         (labels_once target (map (told_entry {D = d}) list) listed_differ) (settled_once d 0 after.fronts fronts) (λ l m l_in m_in same.
-        let (at, l_there) = (in_labels target (map (told_entry {D = d}) list) l.node (record { cost = l.cost; arc = l.arc })).0 l_in in
-        let (k, m_at, m_there) = (in_settled 0 after.fronts m.node (record { cost = m.cost; arc = m.arc })).0 m_in in
-        let is : k ≡ target = omega (arith, at, m_at, same.node) in
-        none_taken (record { cost = m.cost; arc = m.arc }) (subst (λ u. Contains (front_at after u).settled (record { cost = m.cost; arc = m.arc }))
-        is m_there));
-    ascending = subst (AllPairs LexLess) (sym costs_again) lists.ascending;
-    costs = costs_settled;
+        let x : Entry = record { cost = m.cost; arc = m.arc } in
+        let at = ((in_labels target (map (told_entry {D = d}) list) l.node (record { cost = l.cost; arc = l.arc })).0 l_in).0 in
+        none_taken d start target (map (told_entry {D = d}) list) after taken x
+        (subst (λ u. Contains (front_at after u).settled x) (sym same.node ∙ at) ((in_fronts after m.node x).0 m_in)));
+    ascending = rw told_costs lists.ascending;
+    costs = λ c. (
+      λ there.
+          let (e, e_in, is) = of_map (λ (x : Entry). x.cost) (map (told_entry {D = d}) list) c there in
+          rw is (record { arc = e.arc; settled = (at_target e).1 e_in }),
+      λ has.
+          let e : Entry = record { cost = c; arc = has.arc } in
+          in_map (λ (x : Entry). x.cost) (map (told_entry {D = d}) list) e ((at_target e).0 has.settled),
+    );
   } where
-    costs_again : map (λ (e : Entry). e.cost) (map (told_entry {D = d}) list) ≡ map (λ (e : FrontEntry d). e.cost.0) list
-    costs_again = told_costs list
+    at_target : (e : Entry) → Contains (found_in d start target (map (told_entry {D = d}) list) after).settled (label target e)
+        ↔ Contains (map (told_entry {D = d}) list) e
+    at_target = found_at_target d start target (map (told_entry {D = d}) list) after taken
 
     listed_differ : AllPairs (λ (a b : Entry). a.cost ≢ b.cost) (map (told_entry {D = d}) list)
     listed_differ = pairs_map (λ (a b : FrontEntry d). LexLess a.cost.0 b.cost.0) (λ (a b : Entry). a.cost ≢ b.cost) (told_entry {D = d})
         (λ a b less same. LexLess-irrefl a.cost.0 (subst (LexLess a.cost.0) (sym same) less)) list
         (pairs_unmap LexLess (λ (e : FrontEntry d). e.cost.0) list lists.ascending)
-
-    costs_settled : (c : List ℕ) → Contains (map (λ (e : Entry). e.cost) (map (told_entry {D = d}) list)) c
-        ↔ HasSettled (found_in d start target (map (told_entry {D = d}) list) after) target c
-    costs_settled c = (
-      λ there.
-          let (e, e_in, is) = of_map (λ (x : Entry). x.cost) (map (told_entry {D = d}) list) c there in
-          subst (HasSettled (found_in d start target (map (told_entry {D = d}) list) after) target) (sym is) (record {
-            arc = e.arc;
-            settled = (in_append (labels_told target (map (told_entry {D = d}) list)) (settled_from 0 after.fronts) (label target e)).1
-                (inl ((in_labels target (map (told_entry {D = d}) list) target e).1 (refl, e_in)));
-          }),
-      λ has.
-          let e : Entry = record { cost = c; arc = has.arc } in
-          elim ((in_append (labels_told target (map (told_entry {D = d}) list)) (settled_from 0 after.fronts) (label target e)).0 has.settled) [
-            | inl here ↦ in_map (λ (x : Entry). x.cost) (map (told_entry {D = d}) list) e ((in_labels target (map (told_entry {D = d}) list) target e).0 here).1
-            | inr later ↦
-                let (k, at, e_in) = (in_settled 0 after.fronts target e).0 later in
-                let is : k ≡ target = omega (arith, at) in
-                absurd (none_taken e (subst (λ u. Contains (front_at after u).settled e) is e_in))
-          ],
-    )
 
 -- a front without entries is one
 pub empty_is_front : (d : ℕ) → min_criteria ≤ d → d ≤ max_criteria → IsFront d empty_front

@@ -1,7 +1,6 @@
 -- Merging in parts, and merging the delta in place of its candidates, leads to the same front.
-use Rattle.std.proofs.Common.{◌≡◌, ◌≢◌, ◌⊎◌, ◌↔◌, ℕ, ◌<◌, ◌≤◌, List, [], ◌∷◌, ◌++◌, inl, inr, refl, sym, ap, subst, arith, append_assoc}
+use Rattle.std.proofs.Common.{◌≡◌, ◌≢◌, ◌⊎◌, ◌↔◌, ℕ, ◌≤◌, List, [], ◌∷◌, ◌++◌, inl, inr, sym, subst, arith, append_assoc}
 use Rattle.std.specs.Prelude.{All, Contains}
-use Rattle.std.proofs.lemmas.Bool.{cases_lt}
 use Rattle.std.proofs.lemmas.List.{append-nil}
 use Rattle.std.proofs.lemmas.List.Elements.{Contains-append_left, Contains-append_right}
 use Rattle.cost_vector.specs.Costs.{AtMost, Dominates}
@@ -15,7 +14,7 @@ use Rattle.pareto_front.specs.Merging.{Stays, Delta, IsDelta, IsMerged}
 use Rattle.node_front.specs.Apart.{AreApart}
 use Rattle.node_front.proofs.ApartLemmas.{AtMost-same, has_append, has_cost_of, apart_not_dominated}
 use Rattle.node_front.proofs.StaysLemmas.{apart_of_stays, apart_stays, stays_among, stays_below, stays_core, stays_of_cost}
-use Rattle.node_front.proofs.NeedlessLemmas.{told_entry_in, told_has_cost}
+use Rattle.node_front.proofs.NeedlessLemmas.{lowered_not_old, news_cases, told_entry_in}
 use Rattle.node_front.proofs.MergedLemmas.{relabelled_merges, merged_apart}
 
 -- where no candidate comes, an apart front is as it was
@@ -87,10 +86,7 @@ module _ (before : Front) (candidates : List Entry) (delta : Delta) (is : IsDelt
   pub brought_new : (x : Entry) → Contains (delta.added ++ delta.lowered) x → ¬ Contains (entries before) x
   brought_new x there old = elim ((in_append delta.added delta.lowered x).0 there) [
     | inl added ↦ ((is.added.exact x).0 added).new (has_cost_of (entries before) x old)
-    | inr lowered ↦
-        let low = (is.lowered.exact x).0 lowered in
-        let one = apart x (record { cost = x.cost; arc = low.arc }) old low.old (AtMost-same x.cost x.cost refl) in
-        omega (arith, low.lesser, ap (λ (w : Entry). w.arc) one)
+    | inr lowered ↦ lowered_not_old before candidates x apart ((is.lowered.exact x).0 lowered) old
   ]
 
   -- so it is a candidate
@@ -104,24 +100,11 @@ module _ (before : Front) (candidates : List Entry) (delta : Delta) (is : IsDelt
   stays_brought : (x : Entry) → Stays (entries before ++ candidates) x → Contains (entries before) x ⊎ Contains (delta.added ++ delta.lowered) x
   stays_brought x stays = elim (told_entry_in (entries before) x) [
     | inl old ↦ inl old
-    | inr not_old ↦ inr ((in_append delta.added delta.lowered x).1 (elim (told_has_cost (entries before) x.cost) [
-      | inr none ↦ inl ((is.added.exact x).1 (record { stays = stays; new = none }))
-      | inl has ↦ inr ((is.lowered.exact x).1 (record {
-        stays = stays;
-        arc = has.arc;
-        old = has.contains;
-        lesser = lesser has (stays.least (record { cost = x.cost; arc = has.arc })
-            ((in_append (entries before) candidates (record { cost = x.cost; arc = has.arc })).1 (inl has.contains)) refl) not_old;
-      }))
+    | inr not_old ↦ inr ((in_append delta.added delta.lowered x).1 (elim (news_cases before candidates x stays not_old) [
+      | inl added ↦ inl ((is.added.exact x).1 added)
+      | inr lowered ↦ inr ((is.lowered.exact x).1 lowered)
     ]))
-  ] where
-    lesser : (has : HasCost (entries before) x.cost) → x.arc ≤ has.arc → ¬ Contains (entries before) x → x.arc < has.arc
-    lesser has least not_old = elim (cases_lt x.arc has.arc) [
-      | inl less ↦ less
-      | inr not_less ↦
-          let same : has.arc ≡ x.arc = omega (arith, least, not_less) in
-          absurd (not_old (subst (λ a. Contains (entries before) (record { cost = x.cost; arc = a })) same has.contains))
-    ]
+  ]
 
   -- a candidate that dominates an old cost has an added entry that does
   added_dominates : (c : List ℕ) → HasCost (entries before) c → IsDominated candidates c → IsDominated delta.added c

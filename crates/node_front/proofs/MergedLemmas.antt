@@ -5,13 +5,15 @@ use Rattle.std.proofs.lemmas.List.Elements.{Contains-append_left, Contains-appen
 use Rattle.cost_vector.specs.Costs.{AtMost, Dominates}
 use Rattle.cost_vector.proofs.Vectors.{AtMost-Dominates, cases_same}
 use Rattle.list_laws.proofs.Members.{each_in, in_one, in_first, in_front, cases_push}
-use Rattle.list_laws.proofs.OnceLaws.{in_append}
+use Rattle.list_laws.proofs.OnceLaws.{alike_back, alike_through, in_append}
 use Rattle.pareto_front.specs.Fronts.{Entry, Front, entries, HasCost, IsCovered, IsDominated, SparesSettled}
 use Rattle.pareto_front.specs.Calls.{Discards, Enters, GetsArc, Relabels, Settles}
 use Rattle.pareto_front.specs.Merging.{Stays, IsMerged, IsAdded, IsRemoved}
 use Rattle.node_front.specs.Apart.{AreApart}
 use Rattle.node_front.proofs.ApartLemmas.{same_entry, AtMost-same, has_append, has_cost_of, apart_not_dominated}
+use Rattle.node_front.specs.Survivors.{IsNeedlessAmong}
 use Rattle.node_front.proofs.StaysLemmas.{apart_of_stays, apart_stays}
+use Rattle.node_front.proofs.NeedlessLemmas.{needless_covered, needless_stays, stays_above, stays_alone}
 
 -- settling changes no entry
 pub settled_apart : (before after : Front) (c : List ℕ) → Settles before c after → AreApart (entries before) → AreApart (entries after)
@@ -106,30 +108,17 @@ module _ (before : Front) (e : Entry) (apart : AreApart (entries before)) where
     })
   ]
 
-  -- a covered label whose arc isn't less changes nothing
-  pub covered_merges : (covered : IsCovered (entries before) e.cost) → (covered.by.cost ≡ e.cost → covered.by.arc ≤ e.arc) → IsMerged before (e ∷ []) before
-  covered_merges covered no_more = record {
-    entries = apart_stays (entries before ++ e ∷ []) (entries before) apart (Contains-append_left (entries before) (e ∷ [])) (λ x stays.
-        elim (cases_push (entries before) e x stays.contains) [ inl old ↦ old | inr new ↦ as_old x new stays ]);
+  -- a needless label changes nothing
+  pub needless_merges : IsNeedlessAmong (entries before) e → IsMerged before (e ∷ []) before
+  needless_merges among = record {
+    entries = λ x. alike_through (apart_stays (entries before) (entries before) apart (λ y there. there) (λ y stays. stays.contains) x)
+        (alike_back (needless_stays (entries before) e among x));
     settled = λ c. (
-      λ h. (h, λ by. covered_removes_none covered c (record { old = (has_append before.settled before.unsettled c).1 (inl h); dominated = by })),
+      λ h. (h, λ by. covered_removes_none (needless_covered (entries before) e among) c
+          (record { old = (has_append before.settled before.unsettled c).1 (inl h); dominated = by })),
       λ h. h.0,
     );
-  } where
-    as_old : (x : Entry) → x ≡ e → Stays (entries before ++ e ∷ []) x → Contains (entries before) x
-    as_old x new stays =
-        let b = covered.by in
-        let known = Contains-append_left (entries before) (e ∷ []) b covered.contains in
-        let cost = ap (λ (w : Entry). w.cost) new in
-        elim (cases_same b.cost x.cost) [
-          | inl same ↦
-              let low = no_more (same ∙ cost) in
-              let high = stays.least b known same in
-              subst (Contains (entries before)) (same_entry b x same (omega (arith, low, high, ap (λ (w : Entry). w.arc) new))) covered.contains
-          | inr other ↦
-              let below = subst (AtMost b.cost) (sym cost) covered.at_most in
-              absurd (stays.nondominated (record { by = b; contains = known; dominates = record { at_most = below; differs = other } }))
-        ]
+  }
 
   -- the entry of the label's cost gets its arc, which isn't greater
   pub relabelled_merges : (after : Front) (arc : ℕ) → Contains (entries before) (record { cost = e.cost; arc = arc }) → e.arc ≤ arc
@@ -169,17 +158,8 @@ module _ (before : Front) (e : Entry) (apart : AreApart (entries before)) where
     -- it is a new entry
     pub uncovered_added : IsAdded before (e ∷ []) e
     uncovered_added = record {
-      stays = record {
-        contains = Contains-append_right (entries before) (e ∷ []) e (in_first e []);
-        nondominated = λ h. elim (cases_push (entries before) e h.by h.contains) [
-          | inl old ↦ new (record { by = h.by; contains = old; at_most = h.dominates.at_most })
-          | inr is ↦ h.dominates.differs (ap (λ (w : Entry). w.cost) is)
-        ];
-        least = λ y y_in same. elim (cases_push (entries before) e y y_in) [
-          | inl old ↦ absurd (new (record { by = y; contains = old; at_most = AtMost-same y.cost e.cost same }))
-          | inr is ↦ omega (arith, ap (λ (w : Entry). w.arc) is)
-        ];
-      };
+      stays = stays_above (entries before) (e ∷ []) e (stays_alone e)
+          (λ y there needless. new (needless_covered (entries before) e (record { by = y; contains = there; needless = needless })));
       new = λ h. new (record { by = record { cost = e.cost; arc = h.arc }; contains = h.contains; at_most = AtMost-same e.cost e.cost refl });
     }
 

@@ -1,13 +1,14 @@
 -- What stays where one more candidate comes, which is needless or not.
 use Rattle.std.proofs.Common.{◌≡◌, ◌≢◌, ◌⊎◌, ◌↔◌, ℕ, ◌<◌, List, [], ◌∷◌, ◌++◌, inl, inr, refl, sym, ap, subst, arith, append_assoc}
 use Rattle.std.specs.Prelude.{Contains}
+use Rattle.std.proofs.lemmas.Bool.{cases_lt}
 use Rattle.std.proofs.lemmas.List.Elements.{Contains-append_left, Contains-append_right}
 use Rattle.cost_vector.specs.Costs.{AtMost}
 use Rattle.cost_vector.proofs.Vectors.{cases_same}
 use Rattle.list_laws.proofs.Members.{in_first, in_front, in_one, cases_push}
 use Rattle.list_laws.proofs.OnceLaws.{alike_back, in_append, told_some}
-use Rattle.pareto_front.specs.Fronts.{Entry, Front, entries, HasCost}
-use Rattle.pareto_front.specs.Merging.{Stays}
+use Rattle.pareto_front.specs.Fronts.{Entry, Front, entries, HasCost, IsCovered}
+use Rattle.pareto_front.specs.Merging.{Stays, IsAdded, IsLowered}
 use Rattle.node_front.specs.Apart.{AreApart}
 use Rattle.node_front.specs.Survivors.{IsNeedless, IsNeedlessAmong, IsNews}
 use Rattle.node_front.proofs.ApartLemmas.{same_entry, AtMost-same, has_cost_of}
@@ -17,6 +18,10 @@ use Rattle.node_front.proofs.PlacedLemmas.{cases_number}
 -- what makes an entry needless is at most its cost
 pub needless_at_most : (e b : Entry) → IsNeedless e b → AtMost b.cost e.cost
 needless_at_most e b = elim [ inl less ↦ less.at_most | inr same ↦ AtMost-same b.cost e.cost same.0 ]
+
+-- an entry is covered where it is needless
+pub needless_covered : (list : List Entry) (e : Entry) → IsNeedlessAmong list e → IsCovered list e.cost
+needless_covered list e among = record { by = among.by; contains = among.contains; at_most = needless_at_most e among.by among.needless }
 
 -- an entry is needless beside itself
 needless_itself : (e : Entry) → IsNeedless e e
@@ -44,7 +49,7 @@ told_has_cost list c = elim (told_some (λ x. x.cost ≡ c) (λ x. cases_same x.
 ]
 
 -- an entry stays alone
-stays_alone : (e : Entry) → Stays (e ∷ []) e
+pub stays_alone : (e : Entry) → Stays (e ∷ []) e
 stays_alone e = stays_unbeaten (e ∷ []) e (in_first e []) (λ y there beats. elim beats [
   | inl less ↦ less.differs (ap (λ (w : Entry). w.cost) (in_one e y there))
   | inr less ↦ omega (arith, less.1, ap (λ (w : Entry). w.arc) (in_one e y there))
@@ -55,7 +60,7 @@ beaten_needless : (x y : Entry) → Beats y x → IsNeedless x y
 beaten_needless x y = elim [ inl less ↦ inl less | inr less ↦ inr (less.0, omega (arith, less.1)) ]
 
 -- what stays of some entries stays beside others that don't make it needless
-stays_above : (known list : List Entry) (x : Entry) → Stays list x → ((y : Entry) → Contains known y → ¬ IsNeedless x y) → Stays (known ++ list) x
+pub stays_above : (known list : List Entry) (x : Entry) → Stays list x → ((y : Entry) → Contains known y → ¬ IsNeedless x y) → Stays (known ++ list) x
 stays_above known list x stays none = stays_unbeaten (known ++ list) x (Contains-append_right known list x stays.contains) (λ y there beats.
     elim ((in_append known list y).0 there) [
       | inl old ↦ none y old (beaten_needless x y beats)
@@ -165,3 +170,26 @@ equal_not_needless list e arc apart there less among =
       | inl dominates ↦ dominates.differs (ap (λ (w : Entry). w.cost) is)
       | inr equal ↦ omega (arith, equal.1, less, ap (λ (w : Entry). w.arc) is)
     ]
+
+-- ---- what is new
+
+-- what stays and is no old entry is added, or lowered
+pub news_cases : (before : Front) (candidates : List Entry) (e : Entry) → Stays (entries before ++ candidates) e → ¬ Contains (entries before) e
+    → IsAdded before candidates e ⊎ IsLowered before candidates e
+news_cases before candidates e stays not_old = elim (told_has_cost (entries before) e.cost) [
+  | inr none ↦ inl (record { stays = stays; new = none })
+  | inl has ↦
+      let x : Entry = record { cost = e.cost; arc = has.arc } in
+      let least = stays.least x (Contains-append_left (entries before) candidates x has.contains) refl in
+      inr (record { stays = stays; arc = has.arc; old = has.contains; lesser = elim (cases_lt e.arc has.arc) [
+        | inl less ↦ less
+        | inr not_less ↦ absurd (not_old (subst (Contains (entries before)) (same_entry x e refl (omega (arith, least, not_less))) has.contains))
+      ] })
+]
+
+-- what is lowered is no old entry
+pub lowered_not_old : (before : Front) (candidates : List Entry) (e : Entry) → AreApart (entries before) → IsLowered before candidates e
+    → ¬ Contains (entries before) e
+lowered_not_old before candidates e apart low old =
+    let one = apart e (record { cost = e.cost; arc = low.arc }) old low.old (AtMost-same e.cost e.cost refl) in
+    omega (arith, low.lesser, ap (λ (x : Entry). x.arc) one)

@@ -1,23 +1,23 @@
-use Rattle.std.proofs.Common.{◌<◌, ◌≤◌, List, ℕ, refl, arith}
+use Rattle.std.proofs.Common.{◌<◌, ◌≤◌, List, ℕ, inl, inr, refl, arith}
 use Rattle.std.specs.Prelude.{Contains}
 use Rattle.std.proofs.lemmas.Bool.Decides.{nat_tests}
 use Rattle.pareto_front.specs.Fronts.{Entry, IsCovered, IsDominated}
 use Rattle.cost_vector.proofs.Vectors.{AtMost-refl}
 use Rattle.node_front.proofs.ApartLemmas.{apart_of_front}
-use Rattle.node_front.proofs.MergedLemmas.{covered_merges, covered_removes_none, relabelled_merges, uncovered_added, uncovered_removes, entered_merges}
+use Rattle.node_front.proofs.MergedLemmas.{needless_merges, covered_removes_none, relabelled_merges, uncovered_added, uncovered_removes, entered_merges}
 use Rattle.node_front.proofs.GrowsLemmas.{grows_by_none, grows_as}
 use Rattle.node_front.proofs.merging.arrive.Goals as goal
 
-abbrev dominated_covered : {list : List Entry} {c : List ℕ} → IsDominated list c → IsCovered list c
+dominated_covered : {list : List Entry} {c : List ℕ} → IsDominated list c → IsCovered list c
 dominated_covered dominated = record { by = dominated.by; contains = dominated.contains; at_most = dominated.dominates.at_most }
 
-abbrev equal_covered : {list : List Entry} {c : List ℕ} (arc : ℕ) → Contains list (record { cost = c; arc = arc }) → IsCovered list c
+equal_covered : {list : List Entry} {c : List ℕ} (arc : ℕ) → Contains list (record { cost = c; arc = arc }) → IsCovered list c
 equal_covered {list} {c} arc there = record { by = record { cost = c; arc = arc }; contains = there; at_most = AtMost-refl c }
 
 pub returns-in-Dominated-clause-merged : goal.returns-in-Dominated-clause-merged
 returns-in-Dominated-clause-merged g c =
-    let standing = c.in-Dominated.ensures.standing in
-    covered_merges _ _ (apart_of_front _ _ c.in-Dominated.ensures.front) (dominated_covered standing) (λ same. absurd (standing.dominates.differs same))
+    let by = c.in-Dominated.ensures.standing in
+    needless_merges _ _ (apart_of_front _ _ c.in-Dominated.ensures.front) (record { by = by.by; contains = by.contains; needless = inl by.dominates })
 
 pub returns-in-Dominated-clause-removed : goal.returns-in-Dominated-clause-removed
 returns-in-Dominated-clause-removed g c =
@@ -38,7 +38,8 @@ returns-then-lt-clause-removed g c =
 pub returns-else-lt-clause-merged : goal.returns-else-lt-clause-merged
 returns-else-lt-clause-merged g c =
     let no_more : c.in-Equal.arc.0 ≤ c.args.label.now.arc.0 = grind (arith, nat_tests) in
-    covered_merges _ _ (apart_of_front _ _ c.in-Equal.ensures.front) (equal_covered c.in-Equal.arc.0 c.in-Equal.ensures.standing) (λ same. no_more)
+    needless_merges _ _ (apart_of_front _ _ c.in-Equal.ensures.front)
+    (record { by = record { cost = c.args.label.now.cost.0; arc = c.in-Equal.arc.0 }; contains = c.in-Equal.ensures.standing; needless = inr (refl, no_more) })
 
 pub returns-else-lt-clause-removed : goal.returns-else-lt-clause-removed
 returns-else-lt-clause-removed g c =

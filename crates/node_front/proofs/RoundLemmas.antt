@@ -41,10 +41,11 @@ other_numbers a b test is fails same = false≢true (sym fails ∙ is ∙ same_t
 
 -- what things tell whose node is v
 module _ {X Y : Type 0} (node : X → ℕ) (tell : X → Y) where
-  abbrev told_of : ℕ → List X → List Y
+  abbrev pub told_of : ℕ → List X → List Y
   told_of v xs = map tell (filter (λ x. nat_eq (node x) v) xs)
 
-  of_append : (v : ℕ) (xs ys : List X) → told_of v (xs ++ ys) ≡ told_of v xs ++ told_of v ys
+  -- of two lists, one behind the other
+  pub of_append : (v : ℕ) (xs ys : List X) → told_of v (xs ++ ys) ≡ told_of v xs ++ told_of v ys
   of_append v xs ys =
       ap (map tell) (filter-append (λ x. nat_eq (node x) v) xs ys)
       ∙ map-append tell (filter (λ x. nat_eq (node x) v) xs) (filter (λ x. nat_eq (node x) v) ys)
@@ -98,13 +99,13 @@ module _ {X Y : Type 0} (node : X → ℕ) (tell : X → Y) where
         omega (arith, whole, front)
 
 module _ {D : ℕ} where
-  abbrev label_node : CompactLabel D → ℕ
+  abbrev pub label_node : CompactLabel D → ℕ
   label_node l = l.node.0
 
-  abbrev spot_node : CompactSpot D → ℕ
+  abbrev pub spot_node : CompactSpot D → ℕ
   spot_node s = s.node.0
 
-  abbrev spot_cost : CompactSpot D → List ℕ
+  abbrev pub spot_cost : CompactSpot D → List ℕ
   spot_cost s = s.cost.0
 
   pub at_append : (v : ℕ) (ls ms : List (CompactLabel D)) → told_at v (ls ++ ms) ≡ told_at v ls ++ told_at v ms

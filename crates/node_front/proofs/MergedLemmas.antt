@@ -114,8 +114,11 @@ module _ (before : Front) (e : Entry) (apart : AreApart (entries before)) where
     entries = λ x. alike_through (apart_stays (entries before) (entries before) apart (λ y there. there) (λ y stays. stays.contains) x)
         (alike_back (needless_stays (entries before) e among x));
     settled = λ c. (
-      λ h. (h, λ by. covered_removes_none (needless_covered (entries before) e among) c
-          (record { old = (has_append before.settled before.unsettled c).1 (inl h); dominated = by })),
+      λ h. (
+        h,
+        λ by. covered_removes_none (needless_covered (entries before) e among) c
+            (record { old = (has_append before.settled before.unsettled c).1 (inl h); dominated = by }),
+      ),
       λ h. h.0,
     );
   }
@@ -203,8 +206,11 @@ module _ (before : Front) (e : Entry) (apart : AreApart (entries before)) where
         entries = apart_stays (entries before ++ e ∷ []) (entries after) entered_apart
             (λ x h. (in_append (entries before) (e ∷ []) x).1 (elim ((entered x).0 h) [ inl old ↦ inl old.0 | inr is ↦ inr (in_front e [] x is) ]))
             (λ x s. (entered x).1 (elim (cases_push (entries before) e x s.contains) [
-              | inl old ↦ inl (old, λ less. s.nondominated
-                  (record { by = e; contains = Contains-append_right (entries before) (e ∷ []) e (in_first e []); dominates = less }))
+              | inl old ↦ inl (
+                old,
+                λ less. s.nondominated
+                    (record { by = e; contains = Contains-append_right (entries before) (e ∷ []) e (in_first e []); dominates = less }),
+              )
               | inr is ↦ inr is
             ]));
         settled = λ c. (

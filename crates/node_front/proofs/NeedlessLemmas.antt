@@ -88,9 +88,12 @@ module _ (known : List Entry) (e : Entry) where
   stays_instead all not_needless x = (
     λ stays. elim (cases_push known e x stays.contains) [
       | inr new ↦ inr new
-      | inl old ↦ inl (old, λ needless.
-          let one = stays_needless (known ++ e ∷ []) x e stays (Contains-append_right known (e ∷ []) e (in_first e [])) needless in
-          not_needless (record { by = e; contains = subst (Contains known) (sym one) old; needless = needless_itself e }))
+      | inl old ↦ inl (
+        old,
+        λ needless.
+            let one = stays_needless (known ++ e ∷ []) x e stays (Contains-append_right known (e ∷ []) e (in_first e [])) needless in
+            not_needless (record { by = e; contains = subst (Contains known) (sym one) old; needless = needless_itself e }),
+      )
     ],
     elim [
       | inl old ↦ stays_unbeaten (known ++ e ∷ []) x (Contains-append_left known (e ∷ []) x old.0) (λ y there beats. elim (cases_push known e y there) [
@@ -181,10 +184,15 @@ news_cases before candidates e stays not_old = elim (told_has_cost (entries befo
   | inl has ↦
       let x : Entry = record { cost = e.cost; arc = has.arc } in
       let least = stays.least x (Contains-append_left (entries before) candidates x has.contains) refl in
-      inr (record { stays = stays; arc = has.arc; old = has.contains; lesser = elim (cases_lt e.arc has.arc) [
-        | inl less ↦ less
-        | inr not_less ↦ absurd (not_old (subst (Contains (entries before)) (same_entry x e refl (omega (arith, least, not_less))) has.contains))
-      ] })
+      inr (record {
+        stays = stays;
+        arc = has.arc;
+        old = has.contains;
+        lesser = elim (cases_lt e.arc has.arc) [
+          | inl less ↦ less
+          | inr not_less ↦ absurd (not_old (subst (Contains (entries before)) (same_entry x e refl (omega (arith, least, not_less))) has.contains))
+        ];
+      })
 ]
 
 -- what is lowered is no old entry

@@ -1,5 +1,5 @@
 -- How the fronts of all nodes are kept: what one more front changes, and what another one at a node's place changes.
-use Rattle.std.proofs.Common.{◌≡◌, ◌≢◌, ◌⊎◌, ◌-◌, ℕ, zero, suc, ◌<◌, ◌≤◌, List, [], ◌∷◌, ◌++◌, length, map, get_or, set, replicate, inl, inr, refl, sym, ap, subst, subst₂, ◌∙◌, arith}
+use Rattle.std.proofs.Common.{◌≡◌, ◌≢◌, ◌⊎◌, ◌+◌, ◌-◌, ℕ, zero, suc, ◌<◌, ◌≤◌, List, [], ◌∷◌, ◌++◌, length, map, get_or, set, replicate, inl, inr, refl, sym, ap, subst, subst₂, ◌∙◌, arith}
 use Rattle.std.specs.Prelude.{All, Contains}
 use Rattle.std.specs.List.{range_with_len}
 use Rattle.std.proofs.lemmas.Bool.{cases_lt}
@@ -97,121 +97,123 @@ module _ (places : List ℕ) (states : List Front) (placed : IsPlaced places sta
         pigeonhole (range_with_len 0 (length states)) places numbers.once (λ k there. held k ((numbers.exact k).0 there)),
       )
 
-  -- a front without entries for the node v, which had none
-  module _ (v : ℕ) (node : 0 < v) (within : v < length places) (unreached : get_or places v 0 ≡ 0) (state : Front) (empty : state ≡ empty_front) where
-    old_place : (w : ℕ) → w ≢ v → get_or (set places v (length states)) w 0 ≡ get_or places w 0
-    old_place w other = get_or-set_other places v w (length states) 0 other
+-- ---- a front without entries is begun
 
-    new_place : get_or (set places v (length states)) v 0 ≡ length states
-    new_place = get_or-set_same places v (length states) 0 within
+-- x is kept last, at the place n, for the node v, which wasn't reached
+pub record Begins {X : Type 0} (d : ℕ) (state : X → Front) (places : List ℕ) (xs ys : List X) (x : X) (v n : ℕ) : Type 0 where
+  pub kept : IsKept d places (map state xs)
+  pub node : 0 < v
+  pub within : v < length places
+  pub unreached : get_or places v 0 ≡ 0
+  pub empty : state x ≡ empty_front
+  pub pushed : ys ≡ xs ++ x ∷ []
+  pub last : n ≡ length xs
 
-    own_push : (a b : ℕ) → get_or (set places v (length states)) a 0 ≡ get_or (set places v (length states)) b 0
-        → get_or (set places v (length states)) a 0 ≢ 0 → a ≡ b
-    own_push a b same some = elim (cases_number a v) [
-      | inl a_new ↦ elim (cases_number b v) [
-        | inl b_new ↦ a_new ∙ sym b_new
-        | inr b_old ↦
-            let at_a : get_or (set places v (length states)) a 0 ≡ length states = subst (λ w. get_or (set places v (length states)) w 0 ≡ length
-            states) (sym a_new) new_place in
-            absurd (omega (arith, same, at_a, old_place b b_old, place_begun b))
-      ]
-      | inr a_old ↦ elim (cases_number b v) [
-        | inl b_new ↦
-            let at_b : get_or (set places v (length states)) b 0 ≡ length states = subst (λ w. get_or (set places v (length states)) w 0 ≡ length
-            states) (sym b_new) new_place in
-            absurd (omega (arith, same, at_b, old_place a a_old, place_begun a))
-        | inr b_old ↦ placed.own a b (sym (old_place a a_old) ∙ same ∙ old_place b b_old) (λ zero. some (old_place a a_old ∙ zero))
-      ]
+pub begins_at : {X : Type 0} {d : ℕ} {state : X → Front} {places : List ℕ} {xs ys : List X} {x : X} {v n : ℕ} → IsKept d places (map state xs) → 0 < v
+    → v < length places → get_or places v 0 ≡ 0 → state x ≡ empty_front → ys ≡ xs ++ x ∷ [] → n ≡ length xs → Begins d state places xs ys x v n
+begins_at kept node within unreached empty pushed last =
+    record { kept = kept; node = node; within = within; unreached = unreached; empty = empty; pushed = pushed; last = last }
+
+module _ {X : Type 0} {d : ℕ} {state : X → Front} {places : List ℕ} {xs ys : List X} {x : X} {v n : ℕ} (begins : Begins d state places xs ys x v n) where
+  abbrev placed : IsPlaced places (map state xs)
+  placed = begins.kept.placed
+
+  begun_before : (w : ℕ) → get_or places w 0 < n
+  begun_before w = omega (arith, place_begun places (map state xs) placed w, begins.last, length-map xs state)
+
+  old_place : (w : ℕ) → w ≢ v → get_or (set places v n) w 0 ≡ get_or places w 0
+  old_place w other = get_or-set_other places v w n 0 other
+
+  new_place : (w : ℕ) → w ≡ v → get_or (set places v n) w 0 ≡ n
+  new_place w new = rw new (get_or-set_same places v n 0 begins.within)
+
+  states_more : map state ys ≡ map state xs ++ state x ∷ []
+  states_more = ap (map state) begins.pushed ∙ map_push state xs x
+
+  long : length (map state ys) ≡ n + 1
+  long = omega (arith, ap length states_more, length_push (map state xs) (state x), length-map xs state, begins.last)
+
+  old_state : (k : ℕ) → k < n → get_or (map state ys) k empty_front ≡ get_or (map state xs) k empty_front
+  old_state k below = rw states_more
+      (get_or_append_left (map state xs) (state x ∷ []) empty_front k (omega (arith, below, length-map xs state, begins.last)))
+
+  new_state : get_or (map state ys) n empty_front ≡ empty_front
+  new_state = rw states_more
+      (get_or_push (map state xs) (state x) empty_front n (omega (arith, length-map xs state, begins.last)) ∙ begins.empty)
+
+  first_more : get_or (map state ys) 0 empty_front ≡ empty_front
+  first_more = old_state 0 (omega (arith, begun_before 0)) ∙ placed.first
+
+  own_more : (a b : ℕ) → get_or (set places v n) a 0 ≡ get_or (set places v n) b 0 → get_or (set places v n) a 0 ≢ 0 → a ≡ b
+  own_more a b same some = elim (cases_number a v) [
+    | inl a_new ↦ elim (cases_number b v) [
+      | inl b_new ↦ a_new ∙ sym b_new
+      | inr b_old ↦ absurd (omega (arith, same, new_place a a_new, old_place b b_old, begun_before b))
     ]
-
-    used_push : (k : ℕ) → 0 < k → k < length (states ++ state ∷ []) → Contains (set places v (length states)) k
-    used_push k positive below = elim (cases_lt k (length states)) [
-      | inl old ↦
-          let (i, inside, is) = placed.used k positive old in
-          let other : i ≢ v = λ e. omega (arith, positive, unreached, subst (λ j. get_or places j 0 ≡ k) e (get_or_default places i 0 k inside ∙ is)) in
-          (i, omega (arith, inside, length-set places v (length states)), get_or-set_other places v i (length states) k other ∙ is)
-      | inr last ↦
-          let new : length states ≡ k = omega (arith, last, below, length_push states state) in
-          subst (Contains (set places v (length states))) new
-          (v, omega (arith, within, length-set places v (length states)), get_or-set_same places v (length states) (length states) within)
+    | inr a_old ↦ elim (cases_number b v) [
+      | inl b_new ↦ absurd (omega (arith, same, new_place b b_new, old_place a a_old, begun_before a))
+      | inr b_old ↦ placed.own a b (sym (old_place a a_old) ∙ same ∙ old_place b b_old) (λ zero. some (old_place a a_old ∙ zero))
     ]
+  ]
 
-    first_push : get_or (states ++ state ∷ []) 0 empty_front ≡ empty_front
-    first_push = get_or_append_left states (state ∷ []) empty_front 0 some_begun ∙ placed.first
+  used_more : (k : ℕ) → 0 < k → k < length (map state ys) → Contains (set places v n) k
+  used_more k positive below = elim (cases_lt k n) [
+    | inl old ↦
+        let (i, inside, is) = placed.used k positive (omega (arith, old, length-map xs state, begins.last)) in
+        let at = get_or_default places i 0 k inside ∙ is in
+        let other : i ≢ v = λ e. omega (arith, positive, begins.unreached, at, ap (λ j. get_or places j 0) e) in
+        (i, omega (arith, inside, length-set places v n), get_or-set_other places v i n k other ∙ is)
+    | inr not_old ↦
+        let new : n ≡ k = omega (arith, not_old, below, long) in
+        subst (Contains (set places v n)) new (v, omega (arith, begins.within, length-set places v n), get_or-set_same places v n n begins.within)
+  ]
 
-    pub placed_push : IsPlaced (set places v (length states)) (states ++ state ∷ [])
-    placed_push =
-        let long = length-set places v (length states) in
-        let more = length_push states state in
-        record {
-          some = omega (arith, long, placed.some);
-          few = omega (arith, long, placed.few);
-          no_node = old_place 0 (λ e. omega (arith, node, e)) ∙ placed.no_node;
-          begun = All-set (λ k. k < length (states ++ state ∷ [])) places v (length states) (omega (arith, more))
-              (All-weaker (λ k. k < length states) (λ k. k < length (states ++ state ∷ [])) (λ k below. omega (arith, below, more)) places placed.begun);
-          own = own_push;
-          used = used_push;
-          first = first_push;
-          apart = All-push (λ f. AreApart (entries f)) states state placed.apart (empty_apart state empty);
-        }
+  -- all is kept
+  pub kept_more : IsKept d (set places v n) (map state ys)
+  kept_more = record {
+    two = begins.kept.two;
+    four = begins.kept.four;
+    placed = record {
+      some = omega (arith, length-set places v n, placed.some);
+      few = omega (arith, length-set places v n, placed.few);
+      no_node = old_place 0 (λ e. omega (arith, begins.node, e)) ∙ placed.no_node;
+      begun = All-set (λ k. k < length (map state ys)) places v n (omega (arith, long))
+          (All-weaker (λ k. k < length (map state xs)) (λ k. k < length (map state ys))
+          (λ k below. omega (arith, below, long, length-map xs state, begins.last)) places placed.begun);
+      own = own_more;
+      used = used_more;
+      first = first_more;
+      apart = rw states_more (All-push (λ f. AreApart (entries f)) (map state xs) (state x) placed.apart (empty_apart (state x) begins.empty));
+    };
+  }
 
-    pub fronts_push : fronts_by (set places v (length states)) (states ++ state ∷ []) ≡ fronts_by places states
-    fronts_push = ext_get_or empty_front (fronts_by (set places v (length states)) (states ++ state ∷ [])) (fronts_by places states)
-        (length-map (set places v (length states)) (λ k. get_or (states ++ state ∷ []) k empty_front)
-        ∙ length-set places v (length states) ∙ sym (length-map places (λ k. get_or states k empty_front)))
-        (λ w inside. front_by (set places v (length states)) (states ++ state ∷ []) first_push w ∙ at w ∙ sym (front_of w)) where
-          at : (w : ℕ) → get_or (states ++ state ∷ []) (get_or (set places v (length states)) w 0) empty_front ≡ get_or states (get_or places w 0) empty_front
-          at w = elim (cases_number w v) [
-            | inl new ↦
-                subst (λ u. get_or (states ++ state ∷ []) (get_or (set places v (length states)) u 0) empty_front ≡ get_or states (get_or places u 0)
-                empty_front)
-                (sym new)
-                (ap (λ k. get_or (states ++ state ∷ []) k empty_front) new_place ∙ get_or_push states state empty_front (length states) refl ∙ empty
-                ∙ sym placed.first ∙ ap (λ k. get_or states k empty_front) (sym unreached))
-            | inr other ↦
-                ap (λ k. get_or (states ++ state ∷ []) k empty_front) (old_place w other)
-                ∙ get_or_append_left states (state ∷ []) empty_front (get_or places w 0) (place_begun w)
-          ]
-
-    pub spares_push : (spares : List ℕ) (more w : ℕ) → length spares ≡ length states
-        → get_or (spares_by places spares) w 0 ≤ get_or (spares_by (set places v (length states)) (spares ++ more ∷ [])) w 0
-    spares_push spares more w same = elim (cases_number w v) [
-      | inl new ↦ omega (arith, spare_by places spares w, ap (λ u. room_at spares (get_or places u 0)) new, ap (room_at spares) unreached)
-      | inr other ↦ omega (
-        arith,
-        spare_by places spares w,
-        spare_by (set places v (length states)) (spares ++ more ∷ []) w,
-        ap (room_at (spares ++ more ∷ [])) (old_place w other),
-        room_push (get_or places w 0) (subst (λ n. get_or places w 0 < n) (sym same) (place_begun w)),
-      )
-    ] where
-      room_push : (k : ℕ) → k < length spares → room_at (spares ++ more ∷ []) k ≡ room_at spares k
-      room_push zero below = refl
-      room_push (suc k) below = get_or_append_left spares (more ∷ []) 0 (suc k) below
-
--- the same, where the fronts are what some things say, and one more thing is added
-module _ {X : Type 0} (state : X → Front) (spare : X → ℕ) (places : List ℕ) (xs ys : List X) (x : X) (v n : ℕ) (placed : IsPlaced places (map state xs))
-    (node : 0 < v) (within : v < length places) (unreached : get_or places v 0 ≡ 0) (empty : state x ≡ empty_front)
-    (pushed : ys ≡ xs ++ x ∷ []) (long : n ≡ length xs) where
-  states_pushed : map state ys ≡ map state xs ++ state x ∷ []
-  states_pushed = ap (map state) pushed ∙ map_push state xs x
-
-  last : n ≡ length (map state xs)
-  last = long ∙ sym (length-map xs state)
-
-  pub placed_more : IsPlaced (set places v n) (map state ys)
-  placed_more = subst₂ (λ k fs. IsPlaced (set places v k) fs) (sym last) (sym states_pushed)
-      (placed_push places (map state xs) placed v node within unreached (state x) empty)
-
+  -- the fronts have stayed
   pub fronts_more : fronts_by (set places v n) (map state ys) ≡ fronts_by places (map state xs)
-  fronts_more = subst₂ (λ k fs. fronts_by (set places v k) fs ≡ fronts_by places (map state xs)) (sym last) (sym states_pushed)
-      (fronts_push places (map state xs) placed v node within unreached (state x) empty)
+  fronts_more = ext_get_or empty_front (fronts_by (set places v n) (map state ys)) (fronts_by places (map state xs))
+      (length-map (set places v n) (λ k. get_or (map state ys) k empty_front) ∙ length-set places v n
+      ∙ sym (length-map places (λ k. get_or (map state xs) k empty_front)))
+      (λ w inside. front_by (set places v n) (map state ys) first_more w ∙ same w ∙ sym (front_of places (map state xs) placed w)) where
+        same : (w : ℕ) → get_or (map state ys) (get_or (set places v n) w 0) empty_front ≡ get_or (map state xs) (get_or places w 0) empty_front
+        same w = elim (cases_number w v) [
+          | inl new ↦ rw (new_place w new, new, begins.unreached) (new_state ∙ sym placed.first)
+          | inr other ↦ rw (old_place w other) (old_state (get_or places w 0) (begun_before w))
+        ]
 
-  pub spares_more : (w : ℕ) → get_or (spares_by places (map spare xs)) w 0 ≤ get_or (spares_by (set places v n) (map spare ys)) w 0
-  spares_more w = subst₂ (λ k ss. get_or (spares_by places (map spare xs)) w 0 ≤ get_or (spares_by (set places v k) ss) w 0)
-      (sym last) (sym (ap (map spare) pushed ∙ map_push spare xs x))
-      (spares_push places (map state xs) placed v node within unreached (state x) empty (map spare xs) (spare x) w
-      (length-map xs spare ∙ sym (length-map xs state)))
+  -- no front has less room
+  pub spares_more : (spare : X → ℕ) (w : ℕ) → get_or (spares_by places (map spare xs)) w 0 ≤ get_or (spares_by (set places v n) (map spare ys)) w 0
+  spares_more spare w = elim (cases_number w v) [
+    | inl new ↦ omega (arith, spare_by places (map spare xs) w, ap (λ u. room_at (map spare xs) (get_or places u 0)) new, ap (room_at (map spare xs)) begins.unreached)
+    | inr other ↦ omega (
+      arith,
+      spare_by places (map spare xs) w,
+      spare_by (set places v n) (map spare ys) w,
+      ap (room_at (map spare ys)) (old_place w other),
+      same (get_or places w 0) (omega (arith, begun_before w, length-map xs spare, begins.last)),
+    )
+  ] where
+    same : (k : ℕ) → k < length (map spare xs) → room_at (map spare ys) k ≡ room_at (map spare xs) k
+    same zero below = refl
+    same (suc k) below = rw (begins.pushed, map_push spare xs x) (get_or_append_left (map spare xs) (spare x ∷ []) 0 (suc k) below)
 
 -- where no node was reached, each front is without entries
 pub none_reached : {X : Type 0} (state : X → Front) (n : ℕ) (places : List ℕ) (xs ys : List X) (x : X) → places ≡ replicate {A = ℕ} n 0 → xs ≡ []

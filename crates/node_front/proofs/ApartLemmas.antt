@@ -3,10 +3,10 @@ use Rattle.std.proofs.Common.{◌≡◌, ◌⊎◌, ◌↔◌, ℕ, List, [], �
 use Rattle.std.specs.Prelude.{AllPairs, Contains}
 use Rattle.cost_vector.specs.Costs.{AtMost, Dominates}
 use Rattle.cost_vector.proofs.Vectors.{AtMost-refl}
-use Rattle.list_laws.proofs.Members.{in_none, cases_in}
+use Rattle.list_laws.proofs.Members.{in_none, in_one, in_first, cases_in}
 use Rattle.list_laws.proofs.Pairs.{pairs_rest, pair_with_first}
 use Rattle.list_laws.proofs.OnceLaws.{in_append}
-use Rattle.pareto_front.specs.Fronts.{Entry, Front, entries, empty_front, HasCost, AreIncomparable, IsFront}
+use Rattle.pareto_front.specs.Fronts.{Entry, Front, entries, empty_front, HasCost, IsDominated, AreIncomparable, IsFront}
 use Rattle.node_front.specs.Apart.{AreApart}
 
 -- entries of one cost and one arc are one
@@ -30,6 +30,26 @@ has_append xs ys c = (
     | inl h ↦ record { arc = h.arc; contains = (in_append xs ys (record { cost = c; arc = h.arc })).1 (inl h.contains) }
     | inr h ↦ record { arc = h.arc; contains = (in_append xs ys (record { cost = c; arc = h.arc })).1 (inr h.contains) }
   ],
+)
+
+-- of two lists, one behind the other, one dominates the cost
+pub dominated_append : (xs ys : List Entry) (c : List ℕ) → IsDominated (xs ++ ys) c ↔ (IsDominated xs c ⊎ IsDominated ys c)
+dominated_append xs ys c = (
+  λ h. elim ((in_append xs ys h.by).0 h.contains) [
+    | inl old ↦ inl (record { by = h.by; contains = old; dominates = h.dominates })
+    | inr new ↦ inr (record { by = h.by; contains = new; dominates = h.dominates })
+  ],
+  elim [
+    | inl h ↦ record { by = h.by; contains = (in_append xs ys h.by).1 (inl h.contains); dominates = h.dominates }
+    | inr h ↦ record { by = h.by; contains = (in_append xs ys h.by).1 (inr h.contains); dominates = h.dominates }
+  ],
+)
+
+-- what one entry dominates
+pub dominated_by_one : (e : Entry) (c : List ℕ) → IsDominated (e ∷ []) c ↔ Dominates e.cost c
+dominated_by_one e c = (
+  λ h. subst (λ (x : Entry). Dominates x.cost c) (in_one e h.by h.contains) h.dominates,
+  λ less. record { by = e; contains = in_first e []; dominates = less },
 )
 
 -- a member's cost

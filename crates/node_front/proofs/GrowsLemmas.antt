@@ -1,13 +1,21 @@
 -- Lists of spots that grow at their end.
-use Rattle.std.proofs.Common.{◌≡◌, ◌≢◌, ◌↔◌, ℕ, List, [], sym}
+use Rattle.std.proofs.Common.{◌≡◌, ◌≢◌, ◌⊎◌, ◌↔◌, ℕ, List, [], ◌∷◌, ◌++◌, inl, inr, sym}
+use Rattle.std.specs.Prelude.{Contains}
 use Rattle.std.proofs.lemmas.List.{append-nil}
-use Rattle.std.proofs.lemmas.List.Elements.{All-nil}
+use Rattle.std.proofs.lemmas.List.Elements.{All-nil, Contains-append_left, Contains-append_right}
 use Rattle.list_laws.specs.Sets.{ListsOnce}
-use Rattle.list_laws.proofs.Members.{in_none}
+use Rattle.list_laws.proofs.Members.{in_none, in_front, cases_push}
 use Rattle.list_laws.proofs.Pairs.{pairs_none}
 use Rattle.list_laws.proofs.OnceLaws.{once_as}
 use Rattle.compact_labels.specs.declared.label.CompactSpot.{CompactSpot}
 use Rattle.pareto_front.specs.Calls.{GrowsBy}
+
+-- one more at the end
+pub in_push : {X : Type 0} (xs : List X) (y x : X) → Contains (xs ++ y ∷ []) x ↔ (Contains xs x ⊎ (x ≡ y))
+in_push xs y x = (
+  cases_push xs y x,
+  elim [ inl old ↦ Contains-append_left xs (y ∷ []) x old | inr new ↦ Contains-append_right xs (y ∷ []) x (in_front y [] x new) ],
+)
 
 -- what doesn't hold of anything has nothing to list
 pub lists_nothing : {X : Type 0} (P : X → Type 0) → ((x : X) → ¬ P x) → ListsOnce P []

@@ -6,13 +6,14 @@ use Rattle.std.proofs.lemmas.List.Elements.{Contains-append_left, Contains-appen
 use Rattle.cost_vector.specs.Costs.{AtMost, Dominates}
 use Rattle.cost_vector.proofs.Vectors.{AtMost-Dominates, cases_same}
 use Rattle.list_laws.specs.Sets.{SameMembers}
-use Rattle.list_laws.proofs.Members.{all_from_in, each_in, in_front, in_none, in_one}
+use Rattle.list_laws.proofs.Members.{all_from_in, each_in, in_none}
 use Rattle.list_laws.proofs.OnceLaws.{alike_through, in_append}
 use Rattle.pareto_front.specs.Fronts.{Entry, Front, HasCost, IsCovered, IsDominated, SparesSettled, entries}
 use Rattle.pareto_front.specs.Calls.{Enters, Relabels}
 use Rattle.pareto_front.specs.Merging.{Stays, Delta, IsDelta, IsMerged}
 use Rattle.node_front.specs.Apart.{AreApart}
-use Rattle.node_front.proofs.ApartLemmas.{AtMost-same, has_append, has_cost_of, apart_not_dominated}
+use Rattle.node_front.proofs.ApartLemmas.{dominated_append, AtMost-same, has_append, has_cost_of, apart_not_dominated}
+use Rattle.node_front.proofs.GrowsLemmas.{in_push}
 use Rattle.node_front.proofs.StaysLemmas.{apart_of_stays, apart_stays, stays_among, stays_below, stays_core, stays_of_cost}
 use Rattle.node_front.proofs.NeedlessLemmas.{lowered_not_old, news_cases, told_entry_in}
 use Rattle.node_front.proofs.MergedLemmas.{relabelled_merges, merged_apart}
@@ -51,26 +52,10 @@ merged_then first second third xs ys merged again = record {
   both : {A B C M N L : Type 0} → (A ↔ (B × (¬ N))) → (B ↔ (C × (¬ M))) → (L ↔ (M ⊎ N)) → (A ↔ (C × (¬ L)))
   both f g h = grind arith
 
-  dominated_append : (xs ys : List Entry) (c : List ℕ) → IsDominated (xs ++ ys) c ↔ (IsDominated xs c ⊎ IsDominated ys c)
-  dominated_append xs ys c = (
-    λ h. elim ((in_append xs ys h.by).0 h.contains) [
-      | inl old ↦ inl (record { by = h.by; contains = old; dominates = h.dominates })
-      | inr new ↦ inr (record { by = h.by; contains = new; dominates = h.dominates })
-    ],
-    elim [
-      | inl h ↦ record { by = h.by; contains = (in_append xs ys h.by).1 (inl h.contains); dominates = h.dominates }
-      | inr h ↦ record { by = h.by; contains = (in_append xs ys h.by).1 (inr h.contains); dominates = h.dominates }
-    ],
-  )
-
 -- the entries of these costs have left those that aren't settled, and these have come
 pub record HasPut (before : Front) (removed : List (List ℕ)) (xs : List Entry) (after : Front) : Type 0 where
   pub settled : SameMembers after.settled before.settled
   pub unsettled : (x : Entry) → Contains after.unsettled x ↔ ((Contains before.unsettled x × (¬ Contains removed x.cost)) ⊎ Contains xs x)
-
--- what is in a list of one
-pub in_only : {X : Type 0} (y x : X) → Contains (y ∷ []) x ↔ (x ≡ y)
-in_only y x = (in_one y x, in_front y [] x)
 
 -- ---- the delta in place of the candidates
 
@@ -225,11 +210,11 @@ module _ {before : Front} {candidates : List Entry} {delta : Delta} (sparing : I
     pub put_then : (e : Entry) (after : Front) → Contains delta.added e → Enters mid e after → HasPut before delta.removed (xs ++ e ∷ []) after
     put_then e after there enters = record {
       settled = λ x. alike_through (enters.settled x) (puts.settled x);
-      unsettled = λ x. through (enters.unsettled x) (puts.unsettled x) (in_append xs (e ∷ []) x) (in_only e x) (λ h.
+      unsettled = λ x. through (enters.unsettled x) (puts.unsettled x) (in_push xs e x) (λ h.
           each_in (λ (y : Entry). ¬ Dominates e.cost y.cost) (entries mid) (put_spares e there) x (Contains-append_right mid.settled mid.unsettled x h));
     } where
-      through : {A M N E S X L O : Type 0} → (A ↔ ((M × (¬ N)) ⊎ E)) → (M ↔ (S ⊎ X)) → (L ↔ (X ⊎ O)) → (O ↔ E) → (M → ¬ N) → (A ↔ (S ⊎ L))
-      through a m l o none = grind arith
+      through : {A M N E S X L : Type 0} → (A ↔ ((M × (¬ N)) ⊎ E)) → (M ↔ (S ⊎ X)) → (L ↔ (X ⊎ E)) → (M → ¬ N) → (A ↔ (S ⊎ L))
+      through a m l none = grind arith
 
     put_apart : AreApart (entries mid)
     put_apart x y x_in y_in below = elim (put_old x x_in) [

@@ -1,16 +1,16 @@
 -- What one label more makes of a front.
 use Rattle.std.proofs.Common.{◌≡◌, ◌⊎◌, ◌↔◌, ℕ, ◌≤◌, List, [], ◌∷◌, ◌++◌, inl, inr, refl, sym, ap, subst, ◌∙◌, arith}
 use Rattle.std.specs.Prelude.{All, Contains, Result, Ok, Err, IfOk, OnErr}
-use Rattle.std.proofs.lemmas.List.Elements.{Contains-append_left, Contains-append_right}
+use Rattle.std.proofs.lemmas.List.Elements.{Contains-append_right}
 use Rattle.cost_vector.specs.Costs.{AtMost, Dominates}
 use Rattle.cost_vector.proofs.Vectors.{AtMost-Dominates, cases_same}
-use Rattle.list_laws.proofs.Members.{each_in, in_one, in_first, in_front, cases_push}
+use Rattle.list_laws.proofs.Members.{each_in, in_first, in_front, cases_push}
 use Rattle.list_laws.proofs.OnceLaws.{alike_back, alike_through, in_append}
-use Rattle.pareto_front.specs.Fronts.{Entry, Front, entries, HasCost, IsCovered, IsDominated, SparesSettled}
+use Rattle.pareto_front.specs.Fronts.{Entry, Front, entries, HasCost, IsCovered, SparesSettled}
 use Rattle.pareto_front.specs.Calls.{Discards, Enters, GetsArc, Relabels, Settles}
 use Rattle.pareto_front.specs.Merging.{Stays, IsMerged, IsAdded, IsRemoved}
 use Rattle.node_front.specs.Apart.{AreApart}
-use Rattle.node_front.proofs.ApartLemmas.{same_entry, AtMost-same, has_append, has_cost_of, apart_not_dominated}
+use Rattle.node_front.proofs.ApartLemmas.{dominated_by_one, same_entry, AtMost-same, has_append, has_cost_of, apart_not_dominated}
 use Rattle.node_front.specs.Survivors.{IsNeedlessAmong}
 use Rattle.node_front.proofs.StaysLemmas.{apart_of_stays, apart_stays}
 use Rattle.node_front.proofs.NeedlessLemmas.{needless_covered, needless_stays, stays_above, stays_alone}
@@ -79,13 +79,6 @@ relabelled_apart before after e relabels = gets_arc_apart (entries before) (entr
 
 -- ---- one label comes
 
--- what one entry dominates
-by_one : (e : Entry) (c : List ℕ) → IsDominated (e ∷ []) c ↔ Dominates e.cost c
-by_one e c = (
-  λ h. subst (λ (x : Entry). Dominates x.cost c) (in_one e h.by h.contains) h.dominates,
-  λ less. record { by = e; contains = in_first e []; dominates = less },
-)
-
 module _ (before : Front) (e : Entry) (apart : AreApart (entries before)) where
   -- a label that an entry covers dominates no entry
   pub covered_dominates_none : IsCovered (entries before) e.cost → (x : Entry) → Contains (entries before) x → ¬ Dominates e.cost x.cost
@@ -95,18 +88,7 @@ module _ (before : Front) (e : Entry) (apart : AreApart (entries before)) where
 
   -- and so it removes none
   pub covered_removes_none : IsCovered (entries before) e.cost → (c : List ℕ) → ¬ IsRemoved before (e ∷ []) c
-  covered_removes_none covered c h = covered_dominates_none covered (record { cost = c; arc = h.old.arc }) h.old.contains ((by_one e c).0 h.dominated)
-
-  -- nor is it added
-  pub covered_not_added : IsCovered (entries before) e.cost → ¬ IsAdded before (e ∷ []) e
-  covered_not_added covered h = elim (cases_same covered.by.cost e.cost) [
-    | inl same ↦ h.new (subst (HasCost (entries before)) same (has_cost_of (entries before) covered.by covered.contains))
-    | inr other ↦ h.stays.nondominated (record {
-      by = covered.by;
-      contains = Contains-append_left (entries before) (e ∷ []) covered.by covered.contains;
-      dominates = record { at_most = covered.at_most; differs = other };
-    })
-  ]
+  covered_removes_none covered c h = covered_dominates_none covered (record { cost = c; arc = h.old.arc }) h.old.contains ((dominated_by_one e c).0 h.dominated)
 
   -- a needless label changes nothing
   pub needless_merges : IsNeedlessAmong (entries before) e → IsMerged before (e ∷ []) before
@@ -169,8 +151,8 @@ module _ (before : Front) (e : Entry) (apart : AreApart (entries before)) where
     -- it removes the others that it dominates
     pub uncovered_removes : (c : List ℕ) → (HasCost before.unsettled c × Dominates e.cost c) ↔ IsRemoved before (e ∷ []) c
     uncovered_removes c = (
-      λ h. record { old = (has_append before.settled before.unsettled c).1 (inr h.0); dominated = (by_one e c).1 h.1 },
-      λ h. let less = (by_one e c).0 h.dominated in
+      λ h. record { old = (has_append before.settled before.unsettled c).1 (inr h.0); dominated = (dominated_by_one e c).1 h.1 },
+      λ h. let less = (dominated_by_one e c).0 h.dominated in
           elim ((has_append before.settled before.unsettled c).0 h.old) [
             | inl settled ↦ absurd (spares (record { cost = c; arc = settled.arc }) settled.contains less)
             | inr unsettled ↦ (unsettled, less)
@@ -215,7 +197,7 @@ module _ (before : Front) (e : Entry) (apart : AreApart (entries before)) where
             ]));
         settled = λ c. (
           λ h. let old = (enters.settled (record { cost = c; arc = h.arc })).0 h.contains in
-              (record { arc = h.arc; contains = old }, λ by. spares (record { cost = c; arc = h.arc }) old ((by_one e c).0 by)),
+              (record { arc = h.arc; contains = old }, λ by. spares (record { cost = c; arc = h.arc }) old ((dominated_by_one e c).0 by)),
           λ h. record { arc = h.0.arc; contains = (enters.settled (record { cost = c; arc = h.0.arc })).1 h.0.contains },
         );
       }

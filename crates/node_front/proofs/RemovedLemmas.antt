@@ -1,14 +1,13 @@
 -- The spots of the entries that survivors dominate, each once.
 use Rattle.std.proofs.Common.{◌≡◌, ◌≢◌, ◌⊎◌, ◌↔◌, ℕ, List, [], ◌∷◌, ◌++◌, map, inl, inr, sym, ap, subst, ◌∙◌, append_assoc, arith, false}
 use Rattle.std.specs.Prelude.{AllPairs, Any, Contains}
-use Rattle.std.proofs.lemmas.List.{append-nil, map-append}
+use Rattle.std.proofs.lemmas.List.{map-append}
 use Rattle.std.proofs.lemmas.List.Elements.{All-append}
 use Rattle.cost_vector.specs.Costs.{Dominates}
 use Rattle.cost_vector.proofs.Vectors.{cases_Dominates}
-use Rattle.list_laws.proofs.Members.{in_none, in_first, in_map, of_map, each_in, all_from_in, found_in, any_in, cases_in, cases_push}
+use Rattle.list_laws.proofs.Members.{in_none, in_first, in_map, of_map, each_in, all_from_in, found_in, any_in, cases_in}
 use Rattle.list_laws.proofs.Pairs.{pairs_none, pairs_rest, pair_with_first, pairs_cons, pairs_push, pairs_map}
 use Rattle.list_laws.proofs.OnceLaws.{in_append, pairs_append, told_some}
-use Rattle.list_laws.specs.Sets.{ListsOnce}
 use Rattle.compact_labels.specs.declared.label.CompactSpot.{CompactSpot}
 use Rattle.pareto_front.specs.Calls.{GrowsBy, entry_of}
 use Rattle.pareto_front.specs.Fronts.{Entry, Front, HasCost, IsDominated, entries}
@@ -16,7 +15,8 @@ use Rattle.node_front.specs.declared.merging.Survivor.{Survivor}
 use Rattle.node_front.specs.Survivors.{AppendsOthers, IsMarked, told}
 use Rattle.node_front.specs.Apart.{AreApart}
 use Rattle.std.proofs.lemmas.Bool.{false≢true}
-use Rattle.node_front.proofs.ApartLemmas.{has_append, apart_not_dominated}
+use Rattle.node_front.proofs.GrowsLemmas.{in_push}
+use Rattle.node_front.proofs.ApartLemmas.{dominated_append, dominated_by_one, has_append, apart_not_dominated}
 use Rattle.node_front.proofs.NeedlessLemmas.{told_has_cost}
 use Rattle.node_front.proofs.SurvivorsLemmas.{in_told, of_told, told_push}
 
@@ -59,29 +59,14 @@ pairs_unmap R f (x ∷ xs) pairs = pairs_cons (λ y z. R (f y) (f z)) x xs (λ z
 -- ---- those of the found spots that P doesn't hold of
 
 module _ {D : ℕ} (P : List ℕ → Type 0) (before : List (CompactSpot D)) where
-  pub others_none : AppendsOthers P [] before before
-  others_none = record {
-    more = [];
-    appended = sym (append-nil before);
-    exact = λ s. (λ h. absurd (in_none s h), λ h. h.0);
-    one_a_cost = λ pairs. pairs;
-  }
-
   module _ (found more_found after : List (CompactSpot D)) (spot : CompactSpot D) (is_more : more_found ≡ found ++ spot ∷ [])
       (others : AppendsOthers P found before after) where
     pairs_before : AllPairs (λ (s t : CompactSpot D). s.cost.0 ≢ t.cost.0) more_found → AllPairs (λ (s t : CompactSpot D). s.cost.0 ≢ t.cost.0) found
     pairs_before pairs =
-        pairs_front (λ (s t : CompactSpot D). s.cost.0 ≢ t.cost.0) found (spot ∷ [])
-        (subst (λ (l : List (CompactSpot D)). AllPairs (λ (s t : CompactSpot D). s.cost.0 ≢ t.cost.0) l) is_more pairs)
+        pairs_front (λ (s t : CompactSpot D). s.cost.0 ≢ t.cost.0) found (spot ∷ []) (rw is_more at pairs)
 
     in_more_found : (s : CompactSpot D) → Contains more_found s ↔ (Contains found s ⊎ (s ≡ spot))
-    in_more_found s = (
-      λ there. cases_push found spot s (subst (λ (l : List (CompactSpot D)). Contains l s) is_more there),
-      λ either. subst (λ (l : List (CompactSpot D)). Contains l s) (sym is_more) ((in_append found (spot ∷ []) s).1 (elim either [
-        | inl old ↦ inl old
-        | inr new ↦ inr (subst (Contains (spot ∷ [])) (sym new) (in_first spot []))
-      ])),
-    )
+    in_more_found s = rw is_more (in_push found spot s)
 
     pub others_same : P spot.cost.0 → AppendsOthers P more_found before after
     others_same holds = record {
@@ -97,38 +82,28 @@ module _ {D : ℕ} (P : List ℕ → Type 0) (before : List (CompactSpot D)) whe
     others_more pushed fails is_pushed = record {
       more = others.more ++ spot ∷ [];
       appended = is_pushed ∙ ap (λ (l : List (CompactSpot D)). l ++ spot ∷ []) others.appended ∙ append_assoc before others.more (spot ∷ []);
-      exact = λ s. more (others.exact s) (in_more_found s) (pushed_in s) (λ new holds. fails (subst (λ (t : CompactSpot D). P t.cost.0) new holds));
+      exact = λ s. more (others.exact s) (in_more_found s) (in_push others.more spot s) (λ new holds. fails (subst (λ (t : CompactSpot D). P t.cost.0) new holds));
       one_a_cost = λ pairs. pairs_push (λ (s t : CompactSpot D). s.cost.0 ≢ t.cost.0) others.more spot (others.one_a_cost (pairs_before pairs))
           (λ s there. last_apart pairs s ((others.exact s).0 there).0);
     } where
       more : {A B C E H G : Type 0} → (A ↔ (B × (¬ H))) → (C ↔ (B ⊎ E)) → (G ↔ (A ⊎ E)) → (E → ¬ H) → (G ↔ (C × (¬ H)))
       more f g h here = grind arith
 
-      pushed_in : (s : CompactSpot D) → Contains (others.more ++ spot ∷ []) s ↔ (Contains others.more s ⊎ (s ≡ spot))
-      pushed_in s = (
-        cases_push others.more spot s,
-        elim [
-          | inl old ↦ (in_append others.more (spot ∷ []) s).1 (inl old)
-          | inr new ↦ (in_append others.more (spot ∷ []) s).1 (inr (subst (Contains (spot ∷ [])) (sym new) (in_first spot [])))
-        ],
-      )
-
       last_apart : AllPairs (λ (s t : CompactSpot D). s.cost.0 ≢ t.cost.0) more_found → (s : CompactSpot D) → Contains found s → s.cost.0 ≢ spot.cost.0
       last_apart pairs s there =
           pairs_across (λ (t u : CompactSpot D). t.cost.0 ≢ u.cost.0) found (spot ∷ [])
-          (subst (λ (l : List (CompactSpot D)). AllPairs (λ (t u : CompactSpot D). t.cost.0 ≢ u.cost.0) l) is_more pairs) s spot there (in_first spot [])
+          (rw is_more at pairs) s spot there (in_first spot [])
 
 -- ---- what one survivor more removes
 
 module _ {D : ℕ} (v : ℕ) (P Q R : List ℕ → Type 0) (before after found now : List (CompactSpot D)) (grows : GrowsBy v P before after)
     (finds : GrowsBy v Q [] found) (others : AppendsOthers R found after now) (covered : (c : List ℕ) → P c → R c) where
   found_once : AllPairs (λ (s t : CompactSpot D). s.cost.0 ≢ t.cost.0) found
-  found_once = subst (λ (l : List (CompactSpot D)). AllPairs (λ (s t : CompactSpot D). s.cost.0 ≢ t.cost.0) l) (sym finds.appended)
-      (pairs_unmap ◌≢◌ (λ (s : CompactSpot D). s.cost.0) finds.more finds.costs.once)
+  found_once = rw finds.appended (pairs_unmap ◌≢◌ (λ (s : CompactSpot D). s.cost.0) finds.more finds.costs.once)
 
   found_at : (s : CompactSpot D) → Contains found s → (s.node.0 ≡ v) × Q s.cost.0
   found_at s there =
-      let more = subst (λ (l : List (CompactSpot D)). Contains l s) finds.appended there in (
+      let more = rw finds.appended at there in (
         each_in (λ (t : CompactSpot D). t.node.0 ≡ v) finds.more finds.node s more,
         (finds.costs.exact s.cost.0).0 (in_map (λ (t : CompactSpot D). t.cost.0) finds.more s more),
       )
@@ -150,7 +125,7 @@ module _ {D : ℕ} (v : ℕ) (P Q R : List ℕ → Type 0) (before after found n
     appended = others.appended ∙ ap (λ (l : List (CompactSpot D)). l ++ others.more) grows.appended ∙ append_assoc before grows.more others.more;
     node = All-append (λ (s : CompactSpot D). s.node.0 ≡ v) grows.more others.more grows.node
         (all_from_in (λ (s : CompactSpot D). s.node.0 ≡ v) others.more (λ s there. (found_at s ((others.exact s).0 there).0).0));
-    costs = subst (ListsOnce (λ c. P c ⊎ (Q c × (¬ R c)))) (sym (map-append (λ (s : CompactSpot D). s.cost.0) grows.more others.more)) (record {
+    costs = rw map-append (record {
       exact = λ c. both (in_append (map (λ (s : CompactSpot D). s.cost.0) grows.more) (map (λ (s : CompactSpot D). s.cost.0) others.more) c)
           (grows.costs.exact c) (costs_more c);
       once = pairs_append ◌≢◌ (map (λ (s : CompactSpot D). s.cost.0) grows.more) (map (λ (s : CompactSpot D). s.cost.0) others.more) grows.costs.once
@@ -164,21 +139,10 @@ module _ {D : ℕ} (v : ℕ) (P Q R : List ℕ → Type 0) (before after found n
 
 module _ {D : ℕ} (front : Front) (survivors more : List (Survivor D)) (s : Survivor D) (is_more : more ≡ survivors ++ s ∷ []) where
   dominated_more : (c : List ℕ) → IsDominated (told more) c ↔ (IsDominated (told survivors) c ⊎ Dominates s.label.cost.0 c)
-  dominated_more c = subst (λ l. IsDominated l c ↔ (IsDominated (told survivors) c ⊎ Dominates s.label.cost.0 c)) (sym (ap told is_more ∙ told_push
-      survivors s)) (
-        λ h. elim (cases_push (told survivors) (entry_of s.label) h.by h.contains) [
-          | inl old ↦ inl (record { by = h.by; contains = old; dominates = h.dominates })
-          | inr new ↦ inr (subst (λ (e : Entry). Dominates e.cost c) new h.dominates)
-        ],
-        elim [
-          | inl h ↦ record { by = h.by; contains = (in_append (told survivors) (entry_of s.label ∷ []) h.by).1 (inl h.contains); dominates = h.dominates }
-          | inr less ↦ record {
-            by = entry_of s.label;
-            contains = (in_append (told survivors) (entry_of s.label ∷ []) (entry_of s.label)).1 (inr (in_first (entry_of s.label) []));
-            dominates = less;
-          }
-        ],
-      )
+  dominated_more c = rw (is_more, told_push survivors s)
+      (parts (dominated_append (told survivors) (entry_of s.label ∷ []) c) (dominated_by_one (entry_of s.label) c)) where
+        parts : {A B C L : Type 0} → (A ↔ (B ⊎ C)) → (C ↔ L) → (A ↔ (B ⊎ L))
+        parts f g = grind arith
 
   -- what one survivor more removes is what it dominates and none of the others does
   pub removed_more : (c : List ℕ)

@@ -4,22 +4,22 @@ use Rattle.std.specs.Prelude.{All, AllPairs, Contains, filter}
 use Rattle.cost_vector.specs.Costs.{Dominates}
 use Rattle.std.proofs.lemmas.Bool.{cases_Bool, false≢true}
 use Rattle.std.proofs.lemmas.Bool.Decides.{nat_tests}
-use Rattle.std.proofs.lemmas.List.{take_all, take_more, drop_more, get_or-drop, get_or_default, length-append, map-append, append-nil}
-use Rattle.std.proofs.lemmas.List.Elements.{filter-append, All-nil, All-push}
-use Rattle.list_laws.proofs.Members.{in_first, in_none, of_map, of_filter, each_in, all_from_in}
+use Rattle.std.proofs.lemmas.List.{take_all, take_more, get_or-drop, get_or_default, length-append, map-append, append-nil}
+use Rattle.std.proofs.lemmas.List.Elements.{filter-append, All-push, All-weaker}
+use Rattle.list_laws.proofs.Members.{in_first, in_none, of_map, of_filter, each_in}
 use Rattle.list_laws.proofs.OnceLaws.{alike_through, in_append, empty_if_none}
 use Rattle.compact_labels.specs.declared.label.CompactLabel.{CompactLabel}
 use Rattle.compact_labels.specs.declared.label.CompactSpot.{CompactSpot}
 use Rattle.pareto_front.specs.Calls.{Discards, Enters, Relabels, entry_of}
-use Rattle.pareto_front.specs.Fronts.{Entry, Front, HasCost, IsCovered, SparesSettled, empty_front, entries}
-use Rattle.road_network.specs.Network.{IsNode}
-use Rattle.pareto_front.specs.Merging.{IsDelta, IsMerged}
+use Rattle.pareto_front.specs.Fronts.{Entry, Front, HasCost, IsCovered, SparesSettled, entries}
+use Rattle.pareto_front.specs.Merging.{IsMerged}
 use Rattle.node_front.specs.Apart.{AreApart}
 use Rattle.node_front.specs.Deltas.{Deltas, AreDeltas, HasRoom, MergesAll, costs_told_at, delta_at, told_at}
 use Rattle.node_front.specs.NodeFronts.{Fronts, SameElsewhere, SameFronts, front_at, spare_at}
 use Rattle.node_front.proofs.PlacedLemmas.{cases_number}
 use Rattle.node_front.proofs.RemovedLemmas.{pairs_front, pairs_across}
-use Rattle.node_front.proofs.MergeLaws.{HasPut, IsSparing, in_only, merged_by_delta, put_all, put_spares, put_then, put_uncovered, removed_unsettled, lowered_has, relabelled_then}
+use Rattle.node_front.proofs.GrowsLemmas.{in_push}
+use Rattle.node_front.proofs.MergeLaws.{HasPut, IsSparing, merged_by_delta, put_all, put_spares, put_then, put_uncovered, removed_unsettled, lowered_has, relabelled_then}
 
 -- ---- the labels of one node
 
@@ -175,10 +175,10 @@ put_discards : {before now after : Front} {gone : List (List ℕ)} {c : List ℕ
     → HasPut before (gone ++ c ∷ []) [] after
 put_discards {gone} {c} puts discards = record {
   settled = λ x. alike_through (discards.settled x) (puts.settled x);
-  unsettled = λ x. through (discards.unsettled x) (puts.unsettled x) (in_append gone (c ∷ []) x.cost) (in_only c x.cost) (in_none x);
+  unsettled = λ x. through (discards.unsettled x) (puts.unsettled x) (in_push gone c x.cost) (in_none x);
 } where
-  through : {A M E B G N L O : Type 0} → (A ↔ (M × (¬ E))) → (M ↔ ((B × (¬ G)) ⊎ N)) → (L ↔ (G ⊎ O)) → (O ↔ E) → (¬ N) → (A ↔ ((B × (¬ L)) ⊎ N))
-  through a m l o none = grind arith
+  through : {A M E B G N L : Type 0} → (A ↔ (M × (¬ E))) → (M ↔ ((B × (¬ G)) ⊎ N)) → (L ↔ (G ⊎ E)) → (¬ N) → (A ↔ ((B × (¬ L)) ⊎ N))
+  through a m l none = grind arith
 
 module _ {D : ℕ} {before : Fronts} {d : Deltas D} where
   pub discarding_none : HasRoom before d.added → IsDiscarding before d 0 before
@@ -314,19 +314,6 @@ pub record IsReserving {D : ℕ} (before : Fronts) (added : List (CompactLabel D
   pub later : All (λ (l : CompactLabel D). last ≤ l.node.0) (drop i added)
 
 module _ {D : ℕ} {before : Fronts} {added : List (CompactLabel D)} where
-  pub reserving_none : IsReserving before added 0 0 0 before
-  reserving_none = record {
-    same = record { nodes = refl; fronts = refl };
-    room = λ v. omega arith;
-    counted = refl;
-    earlier = All-nil (λ (l : CompactLabel D). l.node.0 ≤ 0);
-    later = all_from_in (λ (l : CompactLabel D). 0 ≤ l.node.0) (drop 0 added) (λ l there. omega arith);
-  }
-
-  -- room for all of them
-  pub reserving_all : {i last count : ℕ} {now : Fronts} → take i added ≡ added → IsReserving before added i last count now → HasRoom now added
-  reserving_all all reserving = λ v. rw all at (reserving.room v)
-
   module _ {i last count : ℕ} {now : Fronts} (reserving : IsReserving before added i last count now) (l : CompactLabel D)
       (ascending : AllPairs (λ (k m : CompactLabel D). k.node.0 ≤ m.node.0) added) (within : i < length added) (read : l ≡ get_or added i l) where
     more : take (i + 1) added ≡ take i added ++ l ∷ []
@@ -337,10 +324,9 @@ module _ {D : ℕ} {before : Fronts} {added : List (CompactLabel D)} where
 
     next_later : last ≤ l.node.0
     next_later =
-        let rest = subst (λ (ls : List (CompactLabel D)). All (λ (m : CompactLabel D). last ≤ m.node.0) ls) (drop_more added i l within) reserving.later in
-        subst (λ (m : CompactLabel D). last ≤ m.node.0) (sym read)
-        (each_in (λ (m : CompactLabel D). last ≤ m.node.0) (get_or added i l ∷ drop (i + 1) added) rest (get_or added i l)
-        (in_first (get_or added i l) (drop (i + 1) added)))
+        let first = reserving.later 0 l (omega (arith, length-drop i added, within)) in
+        let here : i + 0 ≡ i = omega arith in
+        omega (arith, first, ap (λ (m : CompactLabel D). m.node.0) (rw here at (get_or-drop i added 0 l) ∙ sym read))
 
     -- how many of the labels so far are of the next one's node
     counted_next : (next : ℕ) → (next ≡ count + 1) × (l.node.0 ≡ last) ⊎ ((next ≡ 1) × (l.node.0 ≢ last))
@@ -366,12 +352,9 @@ module _ {D : ℕ} {before : Fronts} {added : List (CompactLabel D)} where
             omega (arith, old, others v other, ap length (next_other label_node (entry_of {D = D}) v i added l other more))
       ];
       counted = counted_next next either;
-      earlier = subst (λ (ls : List (CompactLabel D)). All (λ (m : CompactLabel D). m.node.0 ≤ l.node.0) ls) (sym more)
-          (All-push (λ (m : CompactLabel D). m.node.0 ≤ l.node.0) (take i added) l
-          (all_from_in (λ (m : CompactLabel D). m.node.0 ≤ l.node.0) (take i added) (λ m there.
-          let low = each_in (λ (k : CompactLabel D). k.node.0 ≤ last) (take i added) reserving.earlier m there in
-          let high = next_later in omega (arith, low, high)))
-          (omega arith));
+      earlier = rw more (All-push (λ (m : CompactLabel D). m.node.0 ≤ l.node.0) (take i added) l
+          (All-weaker (λ (m : CompactLabel D). m.node.0 ≤ last) (λ (m : CompactLabel D). m.node.0 ≤ l.node.0)
+          (λ m low. omega (arith, low, next_later)) (take i added) reserving.earlier) (omega arith));
       later = λ k d inside.
           let at = get_or-drop (i + 1) added k d in
           let far : (i + 1) + k < length added = omega (arith, inside, length-drop (i + 1) added) in
@@ -386,10 +369,9 @@ module _ {D : ℕ} {before : Fronts} {added : List (CompactLabel D)} where
 pub deltas_of_same : {D : ℕ} (before after : Fronts) (candidates : List (CompactLabel D)) (d : Deltas D) → SameFronts before after
     → AreDeltas before candidates d → AreDeltas after candidates d
 deltas_of_same {D} before after candidates d same are =
-    let front = λ (v : ℕ). ap (λ (fs : List Front). get_or fs v empty_front) (sym same.fronts) in record {
-      nodes = subst (λ n. All (λ (l : CompactLabel D). IsNode n l.node.0) candidates) (sym same.nodes) are.nodes;
-      spares = subst (λ (fs : List Front). All (λ (l : CompactLabel D). SparesSettled (get_or fs l.node.0 empty_front) l.cost.0) candidates)
-          (sym same.fronts) are.spares;
-      exact = λ v. subst (λ (f : Front). IsDelta f (told_at v candidates) (delta_at v d)) (front v) (are.exact v);
+    record {
+      nodes = rw same.nodes are.nodes;
+      spares = rw same.fronts are.spares;
+      exact = λ v. rw same.fronts (are.exact v);
       ascending = are.ascending;
     }

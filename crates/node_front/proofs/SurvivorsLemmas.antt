@@ -6,13 +6,15 @@ use Rattle.std.proofs.lemmas.Bool.{cases_lt}
 use Rattle.std.proofs.lemmas.List.{map_push}
 use Rattle.std.proofs.lemmas.List.Elements.{All-push, All-weaker, Contains-append_left, Contains-append_right}
 use Rattle.list_laws.specs.Without.{IsWithout}
-use Rattle.list_laws.proofs.Members.{in_none, in_first, in_rest, cases_in, in_map, of_map, each_in, cases_push, found_in, any_in}
+use Rattle.list_laws.proofs.Members.{in_none, in_first, in_rest, cases_in, in_map, of_map, each_in, found_in, any_in}
 use Rattle.list_laws.proofs.Pairs.{pairs_none, pairs_rest, pair_with_first, pairs_cons, pairs_push}
 use Rattle.pareto_front.specs.Calls.{entry_of}
 use Rattle.pareto_front.specs.Fronts.{Entry}
 use Rattle.pareto_front.specs.Merging.{Stays}
 use Rattle.node_front.specs.declared.merging.Survivor.{Survivor}
 use Rattle.node_front.specs.Survivors.{IsNeedless, IsNeedlessAmong, AreSurvivors, told}
+use Rattle.list_laws.proofs.OnceLaws.{alike_back, alike_through}
+use Rattle.node_front.proofs.GrowsLemmas.{in_push}
 use Rattle.node_front.proofs.NeedlessLemmas.{needless_stays, stays_instead}
 
 -- ---- what `retain` keeps is in the same order
@@ -59,11 +61,9 @@ module _ {D : ℕ} where
               = needless;
         } in
         record {
-          exact = λ x. both (survive.exact x) (needless_stays (told old) (entry_of survivor.label) among x);
+          exact = λ x. alike_through (survive.exact x) (alike_back (needless_stays (told old) (entry_of survivor.label) among x));
           one_a_cost = survive.one_a_cost;
-        } where
-          both : {A B C : Type 0} → (A ↔ B) → (C ↔ B) → (A ↔ C)
-          both f g = (λ a. g.1 (f.0 a), λ c. f.1 (g.0 c))
+        }
 
     -- another one comes in place of those that are needless beside it
     module _ (kept : List (Survivor D)) (without : IsWithout (λ (s : Survivor D). IsNeedless (entry_of s.label) (entry_of survivor.label)) old kept)
@@ -94,14 +94,7 @@ module _ {D : ℕ} where
         both f g h = grind arith
 
         in_told_push : (x : Entry) → Contains (told (kept ++ survivor ∷ [])) x ↔ (Contains (told kept) x ⊎ (x ≡ entry_of survivor.label))
-        in_told_push x = (
-          λ there. cases_push (told kept) (entry_of survivor.label) x (subst (λ l. Contains l x) (told_push kept survivor) there),
-          λ either. subst (λ l. Contains l x) (sym (told_push kept survivor)) (elim either [
-            | inl old_one ↦ Contains-append_left (told kept) (entry_of survivor.label ∷ []) x old_one
-            | inr new ↦ Contains-append_right (told kept) (entry_of survivor.label ∷ []) x
-                (subst (Contains (entry_of survivor.label ∷ [])) (sym new) (in_first (entry_of survivor.label) []))
-          ]),
-        )
+        in_told_push x = rw (told_push kept survivor) (in_push (told kept) (entry_of survivor.label) x)
 
         other_cost : (s : Survivor D) → Contains kept s → s.label.cost.0 ≢ survivor.label.cost.0
         other_cost s there same =

@@ -1,8 +1,4 @@
-use Rattle.std.proofs.Common.{List, arith, sym, subst}
-use Rattle.std.specs.Prelude.{All}
-use Rattle.pareto_front.specs.Fronts.{SparesSettled}
-use Rattle.node_front.specs.declared.merging.Survivor.{Survivor}
-use Rattle.node_front.specs.Survivors.{IsMarked}
+use Rattle.std.proofs.Common.{arith}
 use Rattle.node_front.proofs.MergingLemmas.{IsGathering}
 use Rattle.node_front.proofs.DeltaLemmas.{survivors_spare, appended_at, if_ok_both}
 use Rattle.node_front.proofs.merging.merge.Goals as goal
@@ -26,8 +22,8 @@ find_removed-requires g c =
         (
           apart,
           (
-            subst (λ (ss : List (Survivor g.row.D)). All (IsMarked v front) ss) (sym c.deref.ensures.value) marked,
-            subst (λ (ss : List (Survivor g.row.D)). All (λ (s : Survivor g.row.D). SparesSettled front s.label.cost.0) ss) (sym c.deref.ensures.value) spares,
+            rw c.deref.ensures.value marked,
+            rw c.deref.ensures.value spares,
           ),
         ),
       ),

@@ -16,12 +16,11 @@ use Rattle.pareto_front.specs.Merging.{IsAdded, IsRemoved, IsLowered}
 use Rattle.node_front.specs.Apart.{AreApart}
 use Rattle.node_front.specs.Deltas.{Deltas, AppendsDelta, label_told, spot_told}
 use Rattle.node_front.specs.declared.merging.Survivor.{Survivor}
-use Rattle.node_front.specs.Survivors.{IsNews, IsMarked, HaveOtherCosts, told}
+use Rattle.node_front.specs.Survivors.{AreSurvivors, IsNews, IsMarked, HaveOtherCosts, told}
 use Rattle.node_front.proofs.ApartLemmas.{has_append, has_cost_of, apart_not_dominated}
 use Rattle.node_front.proofs.StaysLemmas.{stays_below}
 use Rattle.node_front.proofs.NeedlessLemmas.{lowered_not_old, news_cases, told_entry_in}
 use Rattle.node_front.proofs.SurvivorsLemmas.{in_told, of_told}
-use Rattle.node_front.proofs.MergingLemmas.{IsGathering}
 
 -- labels of one node are those of their entries, and spots those of their costs
 map_again : {X Y Z : Type 0} (f : X → Y) (g : Z → Y) (h : X → Z) (xs : List X) → ((x : X) → Contains xs x → f x ≡ g (h x)) → map f xs ≡ map g (map h xs)
@@ -29,20 +28,19 @@ map_again f g h [] same = refl
 map_again f g h (x ∷ xs) same =
     ap (λ y. y ∷ map f xs) (same x (in_first x xs)) ∙ ap (λ ys. g (h x) ∷ ys) (map_again f g h xs (λ y there. same y (in_rest x xs y there)))
 
-module _ {D : ℕ} (front : Front) (v : ℕ) (candidates : List (CompactLabel D)) (survivors : List (Survivor D)) (gathering : IsGathering front
-    candidates survivors)
-    (marks : All (IsMarked v front) survivors) (apart : AreApart (entries front)) (spares : All (λ (l : CompactLabel D). SparesSettled front
-    l.cost.0) candidates) where
+module _ {D : ℕ} (front : Front) (v : ℕ) (candidates : List (CompactLabel D)) (survivors : List (Survivor D))
+    (news : AreSurvivors (IsNews front (map entry_of candidates)) survivors) (marks : All (IsMarked v front) survivors) (apart : AreApart (entries front))
+    (spares : All (λ (l : CompactLabel D). SparesSettled front l.cost.0) candidates) where
   news_of : (s : Survivor D) → Contains survivors s → IsNews front (map entry_of candidates) (entry_of s.label)
-  news_of s there = (gathering.news.exact (entry_of s.label)).0 (in_told survivors s there)
+  news_of s there = (news.exact (entry_of s.label)).0 (in_told survivors s there)
 
   mark_of : (s : Survivor D) → Contains survivors s → IsMarked v front s
   mark_of = each_in (IsMarked v front) survivors marks
 
   -- a survivor is a candidate
   news_candidate : (e : Entry) → IsNews front (map entry_of candidates) e → Contains (map entry_of candidates) e
-  news_candidate e news = elim ((in_append (entries front) (map entry_of candidates) e).0 news.stays.contains) [
-    | inl old ↦ absurd (news.not_old old)
+  news_candidate e is_news = elim ((in_append (entries front) (map entry_of candidates) e).0 is_news.stays.contains) [
+    | inl old ↦ absurd (is_news.not_old old)
     | inr new ↦ new
   ]
 
@@ -62,19 +60,19 @@ module _ {D : ℕ} (front : Front) (v : ℕ) (candidates : List (CompactLabel D)
   told_exact : (p : Survivor D → Bool) (Q : Entry → Type 0) → ((s : Survivor D) → Contains survivors s → p s ≡ true → Q (entry_of s.label))
       → ((s : Survivor D) → Contains survivors s → Q (entry_of s.label) → p s ≡ true) → ((e : Entry) → Q e → IsNews front (map entry_of candidates) e)
       → ListsOnce Q (told (filter p survivors))
-  told_exact p Q holds passes news = record {
+  told_exact p Q holds passes is_news = record {
     exact = λ e. (
       λ there.
           let (s, s_in, is) = of_told (filter p survivors) e there in
           let (old, test) = of_filter p survivors s s_in in
           subst Q (sym is) (holds s old test),
       λ q.
-          let (s, s_in, is) = of_told survivors e ((gathering.news.exact e).1 (news e q)) in
+          let (s, s_in, is) = of_told survivors e ((news.exact e).1 (is_news e q)) in
           subst (Contains (told (filter p survivors))) (sym is)
           (in_told (filter p survivors) s (in_filter p survivors s s_in (passes s s_in (subst Q is q)))),
     );
     once = pairs_map HaveOtherCosts ◌≢◌ (λ (s : Survivor D). entry_of s.label) (λ s t differ same. differ (ap (λ (e : Entry). e.cost) same))
-        (filter p survivors) (AllPairs-filter HaveOtherCosts p survivors gathering.news.one_a_cost);
+        (filter p survivors) (AllPairs-filter HaveOtherCosts p survivors news.one_a_cost);
   }
 
   -- the new ones
@@ -94,8 +92,7 @@ module _ {D : ℕ} (front : Front) (v : ℕ) (candidates : List (CompactLabel D)
       (λ e low. record { stays = low.stays; not_old = lowered_not_old front (map entry_of candidates) e apart low }) where
         lowered : (s : Survivor D) → Contains survivors s → not s.is_new ≡ true → IsLowered front (map entry_of candidates) (entry_of s.label)
         lowered s s_in not_new =
-            let news = news_of s s_in in
-            elim (news_cases front (map entry_of candidates) (entry_of s.label) news.stays news.not_old) [
+            elim (news_cases front (map entry_of candidates) (entry_of s.label) (news_of s s_in).stays (news_of s s_in).not_old) [
               | inl added ↦ absurd (false≢true (sym (ap not ((mark_of s s_in).is_new.1 added.new)) ∙ not_new))
               | inr low ↦ low
             ]
@@ -105,7 +102,7 @@ module _ {D : ℕ} (front : Front) (v : ℕ) (candidates : List (CompactLabel D)
   removed_same_by c = (
     λ h. record {
       old = (has_append front.settled front.unsettled c).1 (inr h.0);
-      dominated = record { by = h.1.by; contains = news_candidate h.1.by ((gathering.news.exact h.1.by).0 h.1.contains); dominates = h.1.dominates };
+      dominated = record { by = h.1.by; contains = news_candidate h.1.by ((news.exact h.1.by).0 h.1.contains); dominates = h.1.dominates };
     },
     λ removed.
         let e = removed.dominated.by in
@@ -119,7 +116,7 @@ module _ {D : ℕ} (front : Front) (v : ℕ) (candidates : List (CompactLabel D)
           ],
           elim (told_entry_in (entries front) b) [
             | inl old ↦ absurd (apart_not_dominated (entries front) apart b (record { cost = c; arc = removed.old.arc }) old removed.old.contains less)
-            | inr new ↦ record { by = b; contains = (gathering.news.exact b).1 (record { stays = stays; not_old = new }); dominates = less }
+            | inr new ↦ record { by = b; contains = (news.exact b).1 (record { stays = stays; not_old = new }); dominates = less }
           ],
         ),
   )

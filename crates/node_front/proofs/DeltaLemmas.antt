@@ -153,15 +153,6 @@ module _ {D : ℕ} (front : Front) (v : ℕ) (candidates : List (CompactLabel D)
     spots_again spots at = sym (map-id spots) ∙ map_again (λ (s : CompactSpot D). s) (spot_told v) (λ (s : CompactSpot D). s.cost.0) spots
         (λ s there. ap (λ u. spot_told u s.cost.0) (each_in (λ (t : CompactSpot D). t.node.0 ≡ v) spots at s there))
 
-  -- the same, read at other names
-  pub appended_at : (was before after : Deltas D) (first second : List (Survivor D)) → was ≡ before → first ≡ survivors → second ≡ survivors
-      → GrowsBy v (λ c. HasCost front.unsettled c × IsDominated (told first) c) was.removed after.removed
-      → after.added ≡ was.added ++ map (λ (s : Survivor D). s.label) (filter (λ (s : Survivor D). s.is_new) second)
-      → after.lowered ≡ was.lowered ++ map (λ (s : Survivor D). s.label) (filter (λ (s : Survivor D). not s.is_new) second)
-      → AppendsDelta v front (map entry_of candidates) before after
-  appended_at was before after first second is_was is_first is_second grows added lowered =
-      rw (← is_was) (appended_is_delta was after (rw is_first at grows) (rw is_second at added) (rw is_second at lowered))
-
 -- what follows where both hold at an Ok
 pub if_ok_both : {X E A B C : Type 0} (r : Result X E) → IfOk r (λ _. A) → IfOk r (λ _. B) → (A → B → C) → IfOk r (λ _. C)
 if_ok_both (Ok x) a b both = both a b

@@ -1,5 +1,5 @@
 use Rattle.std.proofs.Common.{arith}
-use Rattle.node_front.proofs.DeltaLemmas.{survivors_spare, appended_at, if_ok_both}
+use Rattle.node_front.proofs.DeltaLemmas.{survivors_spare, appended_is_delta, if_ok_both}
 use Rattle.node_front.proofs.merging.merge.Goals as goal
 
 pub gather-requires : goal.gather-requires
@@ -20,6 +20,6 @@ pub returns : goal.returns
 returns g c =
     let news = c.in_ok-gather.ensures in
     if_ok_both c.put_survivors.result c.put_survivors.ensures.added c.put_survivors.ensures.lowered
-    (λ added lowered. appended_at _ c.args.node.0 c.args.candidates.now _ news.news (news.marked c.args.node.0 c.requires.node)
-    (news.apart c.requires.some) c.requires.spares _ c.args.deltas.now _ _ _ c.deltas.view_is c.deref.ensures.value c.deref-2.ensures.value
-    c.in_ok-find_removed.ensures added lowered)
+    (λ added lowered. rw (← c.deltas.view_is) (appended_is_delta _ c.args.node.0 c.args.candidates.now _ news.news
+    (news.marked c.args.node.0 c.requires.node) (news.apart c.requires.some) c.requires.spares _ _
+    (rw c.deref.ensures.value at c.in_ok-find_removed.ensures) (rw c.deref-2.ensures.value at added) (rw c.deref-2.ensures.value at lowered)))

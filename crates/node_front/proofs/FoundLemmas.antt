@@ -1,20 +1,25 @@
 -- What is found in the fronts of all nodes, of which one has given up its settled entries.
-use Rattle.std.proofs.Common.{◌≡◌, ◌≢◌, ◌⊎◌, ◌↔◌, ℕ, zero, suc, ◌-◌, ◌^◌, min, take, ◌+◌, ◌<◌, ◌≤◌, List, [], ◌∷◌, ◌++◌, Some, None, Option, length, map, get_or, inl, inr, refl, sym, ap, subst, ◌∙◌, arith, option_map, Ordering, Less, Equal, Greater, length-take}
-use Rattle.std.specs.Prelude.{AllPairs, Contains, slice_get}
+use Rattle.std.proofs.Common.{Bool, true, false, ◌≡◌, ◌≢◌, ◌⊎◌, ◌↔◌, ℕ, zero, suc, ◌-◌, ◌^◌, min, take, ◌+◌, ◌<◌, ◌≤◌, List, [], ◌∷◌, ◌++◌, Some, None, Option, length, map, get_or, inl, inr, refl, sym, ap, subst, ◌∙◌, arith, option_map, Ordering, Less, Equal, Greater}
+use Rattle.std.specs.Prelude.{AllPairs, Contains, filter, flat_map, slice_get}
+use Rattle.std.specs.List.{range_with_len}
 use Rattle.std.specs.Cmp.Lexicographic.{nat_list_cmp_total}
 use Rattle.std.specs.List.Sorted.{IsNonDecreasingBy, IsPartitionPoint}
 use Rattle.std.specs.Ordering.{ordering_index}
-use Rattle.std.proofs.lemmas.Bool.{cases_lt}
+use Rattle.std.proofs.lemmas.Bool.{cases_lt, false≢true}
 use Rattle.std.proofs.lemmas.Cmp.{tied_itself}
-use Rattle.std.proofs.lemmas.List.{get_or_default, get_or_past, get_or-take, length-append, length-map, take_all, take_more}
-use Rattle.std.proofs.lemmas.List.Elements.{All-nil}
+use Rattle.std.proofs.lemmas.List.{ext_get_or, get_or_default, length-append, length-map, take_more}
+use Rattle.std.proofs.lemmas.List.Elements.{All-nil, Contains-get_or}
+use Rattle.std.proofs.lemmas.List.FromFn.{get_or-map-range_with_len, length-map-range_with_len}
+use Rattle.std.proofs.lemmas.List.Kept.{AllPairs-filter}
+use Rattle.std.proofs.lemmas.List.Sorted.{length_permutation}
 use Rattle.std.proofs.lemmas.Option.{slice_get-map, slice_get-get_or}
 use Rattle.cost_vector.specs.Costs.{LexLess, lex_cmp, min_criteria, max_criteria}
 use Rattle.cost_vector.specs.declared.label.ArcNo.{ArcNo}
 use Rattle.cost_vector.proofs.Vectors.{LexLess-irrefl}
-use Rattle.list_laws.proofs.Members.{in_none, cases_in, in_map, of_map}
+use Rattle.list_laws.proofs.Members.{in_none, cases_in, each_in, in_filter, in_map, of_filter, of_map}
 use Rattle.list_laws.proofs.Pairs.{pairs_none, pairs_rest, pair_with_first, pairs_map}
-use Rattle.list_laws.proofs.OnceLaws.{alike_through, in_append, pairs_append}
+use Rattle.list_laws.proofs.OnceLaws.{alike_through, flat_in_any_order, in_append, pairs_append, range_once}
+use Rattle.list_laws.specs.Sets.{ListsOnce}
 use Rattle.event_machine.specs.Machine.{Label, IsSamePair}
 use Rattle.path_readback.specs.Found.{IsFound}
 use Rattle.road_network.specs.Limits.{max_nodes}
@@ -59,83 +64,75 @@ settled_first n f fs =
     length-append (labels_told n f.settled) (settled_from (n + 1) fs)
     ∙ ap (λ long. long + length (settled_from (n + 1) fs)) (length-map f.settled (label n))
 
--- two fronts at each place, which are the same but at the place n, where the second has no entries
-module _ (a b : ℕ → Front) (n : ℕ) (alike : (k : ℕ) → k ≢ n → a k ≡ b k) (none : b n ≡ empty_front) where
-  -- no number has that place
-  same_elsewhere : (v : ℕ) (places : List ℕ) → ((i : ℕ) → i < length places → get_or places i 0 ≢ n)
-      → length (settled_from v (map a places)) ≡ length (settled_from v (map b places))
-  same_elsewhere v [] other = refl
-  same_elsewhere v (p ∷ ps) other =
-      let head = ap (λ (f : Front). length f.settled) (alike p (other 0 (omega arith))) in
-      let rest = same_elsewhere (v + 1) ps (λ i below. other (suc i) (omega (arith, below))) in
-      omega (arith, head, rest, settled_first v (a p) (map a ps), settled_first v (b p) (map b ps))
+-- ---- each front that was begun is one node's
 
-  -- one number has it
-  more_by_one : (v : ℕ) (places : List ℕ) (i : ℕ) → i < length places → get_or places i 0 ≡ n
-      → ((j : ℕ) → j < length places → get_or places j 0 ≡ n → j ≡ i)
-      → length (settled_from v (map a places)) ≡ length (settled_from v (map b places)) + length (a n).settled
-  more_by_one v [] i within here only = absurd (omega (arith, within))
-  more_by_one v (p ∷ ps) zero within here only =
-      let head = ap (λ k. length (a k).settled) here in
-      let empty = ap (λ k. length (b k).settled) here ∙ ap (λ (f : Front). length f.settled) none in
-      let rest = same_elsewhere (v + 1) ps (λ i below at. omega (arith, only (suc i) (omega (arith, below)) at)) in
-      omega (arith, head, empty, rest, settled_first v (a p) (map a ps), settled_first v (b p) (map b ps))
-  more_by_one v (p ∷ ps) (suc i) within here only =
-      let other : p ≢ n = λ at. omega (arith, only 0 (omega arith) at) in
-      let head = ap (λ (f : Front). length f.settled) (alike p other) in
-      let rest = more_by_one (v + 1) ps i (omega (arith, within)) here (λ j below at. omega (arith, only (suc j) (omega (arith, below)) at)) in
-      omega (arith, head, rest, settled_first v (a p) (map a ps), settled_first v (b p) (map b ps))
+abbrev positive : ℕ → Bool
+positive zero = false
+positive (suc k) = true
 
--- none has settled entries
-none_settled : (a : ℕ → Front) → ((k : ℕ) → a k ≡ empty_front) → (v : ℕ) (places : List ℕ) → length (settled_from v (map a places)) ≡ 0
-none_settled a none v [] = refl
-none_settled a none v (p ∷ ps) =
-    let first = ap (λ (f : Front). length f.settled) (none p) in
-    omega (arith, first, none_settled a none (v + 1) ps, settled_first v (a p) (map a ps))
+positive_above : (k : ℕ) → positive k ≡ true → 0 < k
+positive_above zero test = absurd (false≢true test)
+positive_above (suc k) test = omega arith
 
--- the settled labels of all nodes are as many as those of the fronts that were begun
-pub settled_of_begun : (places : List ℕ) (states : List Front) → IsPlaced places states
-    → length (settled_from 0 (fronts_by places states)) ≡ length (settled_from 0 states)
-settled_of_begun places states placed = subst Alike (take_all (length states) states (omega arith)) (alike_to (length states) (omega arith))
-  where
-    Alike : List Front → Type 0
-    Alike fs = length (settled_from 0 (fronts_by places fs)) ≡ length (settled_from 0 fs)
+positive_test : (k : ℕ) → 0 < k → positive k ≡ true
+positive_test zero above = absurd (omega (arith, above))
+positive_test (suc k) above = refl
 
-    at_place : ℕ → ℕ → Front
-    at_place m k = get_or (take m states) k empty_front
+-- the settled labels are those of the fronts at places but 0
+settled_at : (front : ℕ → Front) → front 0 ≡ empty_front → (v : ℕ) (places : List ℕ)
+    → length (settled_from v (map front places)) ≡ length (flat_map (λ k. (front k).settled) (filter positive places))
+settled_at front none v [] = refl
+settled_at front none v (zero ∷ ks) =
+    let first = ap (λ (f : Front). length f.settled) none in
+    omega (arith, first, settled_at front none (v + 1) ks, settled_first v (front 0) (map front ks))
+settled_at front none v (suc k ∷ ks) =
+    let whole = length-append (front (suc k)).settled (flat_map (λ j. (front j).settled) (filter positive ks)) in
+    omega (arith, whole, settled_at front none (v + 1) ks, settled_first v (front (suc k)) (map front ks))
 
-    past : (m k : ℕ) → m ≤ k → at_place m k ≡ empty_front
-    past m k beyond = get_or_past (take m states) k empty_front (omega (arith, beyond, length-take m states))
+module _ (places : List ℕ) (states : List Front) (placed : IsPlaced places states) where
+  abbrev IsBegun : ℕ → Type 0
+  IsBegun k = (0 < k) × (k < length states)
 
-    first_only : (k : ℕ) → at_place 1 k ≡ empty_front
-    first_only zero = get_or-take 1 states 0 empty_front (omega arith) ∙ placed.first
-    first_only (suc k) = past 1 (suc k) (omega arith)
+  positive_once : (ks : List ℕ) → ((k : ℕ) → 0 < k → Contains ks k ↔ (k < length states)) → AllPairs (λ a b. 0 < a → a ≢ b) ks
+      → ListsOnce IsBegun (filter positive ks)
+  positive_once ks members pairs = record {
+    exact = λ k. (
+      λ there.
+          let (old, test) = of_filter positive ks k there in
+          let above = positive_above k test in
+          (above, (members k above).0 old),
+      λ h. in_filter positive ks k ((members k h.0).1 h.1) (positive_test k h.0),
+    );
+    once = λ i j d before within.
+        let k = get_or (filter positive ks) i d in
+        let there = Contains-get_or (filter positive ks) i d (omega (arith, before, within)) in
+        AllPairs-filter (λ a b. 0 < a → a ≢ b) positive ks pairs i j d before within (positive_above k (of_filter positive ks k there).1);
+  }
 
-    -- one front more
-    one_more : (n : ℕ) → 0 < n → n < length states → Alike (take n states) → Alike (take (n + 1) states)
-    one_more n positive within before =
-        let (i, inside, here) = placed.used n positive within in
-        let at : get_or places i 0 ≡ n = get_or_default places i 0 n inside ∙ here in
-        let only : (j : ℕ) → j < length places → get_or places j 0 ≡ n → j ≡ i =
-        λ j below there. placed.own j i (there ∙ sym at) (λ is. omega (arith, is, there, positive)) in
-        let same : (k : ℕ) → k ≢ n → at_place (n + 1) k ≡ at_place n k = λ k other. elim (cases_lt k n) [
-          | inl less ↦ get_or-take (n + 1) states k empty_front (omega (arith, less)) ∙ sym (get_or-take n states k empty_front less)
-          | inr not_less ↦ past (n + 1) k (omega (arith, not_less, other)) ∙ sym (past n k (omega (arith, not_less)))
-        ] in
-        let more = more_by_one (at_place (n + 1)) (at_place n) n same (past n n (omega arith)) 0 places i inside at only in
-        let last = ap (λ (f : Front). length f.settled) (get_or-take (n + 1) states n empty_front (omega arith)) in
-        let longer = ap (λ fs. length (settled_from 0 fs)) (take_more states n empty_front within) ∙ settled_push 0 (take n states) (get_or states n empty_front) in
-        omega (arith, more, last, longer, before)
+  -- so the settled labels of all nodes are as many as those of these fronts
+  pub settled_of_begun : length (settled_from 0 (fronts_by places states)) ≡ length (settled_from 0 states)
+  settled_of_begun =
+      let numbers = range_with_len 0 (length states) in
+      let once = range_once (length states) in
+      let moved = flat_in_any_order (λ k. (front k).settled) IsBegun (filter positive numbers) (filter positive places)
+      (positive_once numbers (λ k above. once.exact k) (λ i j d before within above. once.once i j d before within))
+      (positive_once places (λ k above. (each_in (λ j. j < length states) places placed.begun k, placed.used k above)) apart) in
+      settled_at front placed.first 0 places ∙ length_permutation _ _ moved ∙ sym (settled_at front placed.first 0 numbers)
+      ∙ ap (λ fs. length (settled_from 0 fs)) again where
+        front : ℕ → Front
+        front k = get_or states k empty_front
 
-    alike_to : (m : ℕ) → m ≤ length states → Alike (take m states)
-    alike_to zero within = none_settled (at_place 0) (λ k. past 0 k (omega arith)) 0 places
-    alike_to (suc zero) within =
-        let longer = ap (λ fs. length (settled_from 0 fs)) (take_more states 0 empty_front (omega (arith, within))) in
-        let first = ap (λ (f : Front). length f.settled) placed.first in
-        omega (arith, none_settled (at_place 1) first_only 0 places, longer, first, settled_push 0 [] (get_or states 0 empty_front))
-    alike_to (suc (suc m)) within =
-        let next : suc m + 1 ≡ suc (suc m) = omega arith in
-        subst (λ n. Alike (take n states)) next (one_more (suc m) (omega arith) (omega (arith, within)) (alike_to (suc m) (omega (arith, within))))
+        again : map front (range_with_len 0 (length states)) ≡ states
+        again =
+            let long = length-map-range_with_len front 0 (length states) in
+            ext_get_or empty_front (map front (range_with_len 0 (length states))) states long (λ i inside.
+            get_or-map-range_with_len front 0 (length states) i i empty_front (omega (arith, inside, long)) (omega arith))
+
+        apart : AllPairs (λ a b. 0 < a → a ≢ b) places
+        apart i j d before within above same =
+            let at_i = get_or_default places i d 0 (omega (arith, before, within)) in
+            let at_j = get_or_default places j d 0 within in
+            omega (arith, before, placed.own i j (sym at_i ∙ same ∙ at_j) (λ zero. omega (arith, above, at_i, zero)))
 
 -- a label is that of an entry of its node
 in_labels : (n : ℕ) (es : List Entry) (v : ℕ) (e : Entry)

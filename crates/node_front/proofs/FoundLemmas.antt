@@ -28,11 +28,12 @@ use Rattle.pareto_front.specs.declared.front.FrontEntry.{FrontEntry}
 use Rattle.pareto_front.proofs.Ascending.{rises_to}
 use Rattle.pareto_front.specs.Calls.{ListsSettled, told_entry}
 use Rattle.pareto_front.specs.Fronts.{AreIncomparable, Entry, Front, IsFront, empty_front}
+use Rattle.pareto_front.proofs.FrontLaws.{pairs_of_map}
 use Rattle.node_front.specs.FoundFronts.{counted_labels, found_in, labels_told, settled_from}
 use Rattle.node_front.specs.NodeFronts.{Fronts, IsPlaced, SameElsewhere, front_at, fronts_by}
 use Rattle.node_front.proofs.ApartLemmas.{AtMost-same}
 use Rattle.node_front.proofs.PlacedLemmas.{cases_number}
-use Rattle.node_front.proofs.RemovedLemmas.{pairs_front, pairs_unmap}
+use Rattle.node_front.proofs.RemovedLemmas.{pairs_front}
 
 abbrev label : ℕ → Entry → Label
 label v e = record { node = v; cost = e.cost; arc = e.arc }
@@ -204,7 +205,7 @@ pairs_cases R (z ∷ zs) pairs x y x_in y_in = elim (cases_in z zs x x_in) [
 module _ {D : ℕ} (list : List (FrontEntry D)) (ascending : AllPairs LexLess (map (λ (e : FrontEntry D). e.cost.0) list)) where
   one_of_cost : (x y : FrontEntry D) → Contains list x → Contains list y → x.cost.0 ≡ y.cost.0 → x ≡ y
   one_of_cost x y x_in y_in same =
-      elim (pairs_cases (λ (a b : FrontEntry D). LexLess a.cost.0 b.cost.0) list (pairs_unmap LexLess (λ (e : FrontEntry D). e.cost.0) list
+      elim (pairs_cases (λ (a b : FrontEntry D). LexLess a.cost.0 b.cost.0) list (pairs_of_map LexLess (λ (e : FrontEntry D). e.cost.0) list
       ascending) x y x_in y_in) [
         | inl is ↦ is
         | inr (inl less) ↦ absurd (LexLess-irrefl x.cost.0 (subst (LexLess x.cost.0) (sym same) less))
@@ -249,7 +250,7 @@ none_between {D} list ascending c i splits k d within same = elim (cases_lt k i)
   rises : IsNonDecreasingBy (λ (e : FrontEntry D). ordering_index (lex_cmp e.cost.0 c)) list
   rises a b e upto inside = elim (cases_lt a b) [
     | inl less ↦ rises_to (get_or list a e).cost.0 (get_or list b e).cost.0 c
-        (pairs_unmap LexLess (λ (x : FrontEntry D). x.cost.0) list ascending a b e less inside)
+        (pairs_of_map LexLess (λ (x : FrontEntry D). x.cost.0) list ascending a b e less inside)
     | inr not_less ↦
         let one : a ≡ b = omega (arith, upto, not_less) in
         subst (λ n. ordering_index (lex_cmp (get_or list a e).cost.0 c) ≤ ordering_index (lex_cmp (get_or list n e).cost.0 c)) one (omega arith)
@@ -349,7 +350,7 @@ module _ (d start target : ℕ) (before after : Fronts) (list : List (FrontEntry
     listed_differ : AllPairs (λ (a b : Entry). a.cost ≢ b.cost) (map (told_entry {D = d}) list)
     listed_differ = pairs_map (λ (a b : FrontEntry d). LexLess a.cost.0 b.cost.0) (λ (a b : Entry). a.cost ≢ b.cost) (told_entry {D = d})
         (λ a b less same. LexLess-irrefl a.cost.0 (subst (LexLess a.cost.0) (sym same) less)) list
-        (pairs_unmap LexLess (λ (e : FrontEntry d). e.cost.0) list lists.ascending)
+        (pairs_of_map LexLess (λ (e : FrontEntry d). e.cost.0) list lists.ascending)
 
 -- a front without entries is one
 pub empty_is_front : (d : ℕ) → min_criteria ≤ d → d ≤ max_criteria → IsFront d empty_front

@@ -33,7 +33,7 @@ module _ {X Y : Type 0} (node : X → ℕ) (f : X → Y) (v : ℕ) (before : Lis
 
   -- what is told of another node behind which v comes
   told_before : ((y : Y) → node (tell y) ≢ v) → told_of node f v (before ++ map tell ys) ≡ told_of node f v before
-  told_before other = of_append node f v before (map tell ys) ∙ ap (λ zs. told_of node f v before ++ zs) (told_none ys) ∙ append-nil (told_of node f v before) where
+  told_before other = rw (of_append node f v before (map tell ys), told_none ys) (append-nil (told_of node f v before)) where
     told_none : (zs : List Y) → told_of node f v (map tell zs) ≡ []
     told_none [] = refl
     told_none (z ∷ zs) = rw (other_test (node (tell z)) v (other z)) (told_none zs)

@@ -202,7 +202,7 @@ module _ {X : Type 0} {d : ℕ} {state : X → Front} {places : List ℕ} {xs ys
   -- no front has less room
   pub spares_more : (spare : X → ℕ) (w : ℕ) → get_or (spares_by places (map spare xs)) w 0 ≤ get_or (spares_by (set places v n) (map spare ys)) w 0
   spares_more spare w = elim (cases_number w v) [
-    | inl new ↦ omega (arith, spare_by places (map spare xs) w, ap (λ u. room_at (map spare xs) (get_or places u 0)) new, ap (room_at (map spare xs)) begins.unreached)
+    | inl new ↦ rw new (omega (arith, spare_by places (map spare xs) v, ap (room_at (map spare xs)) begins.unreached))
     | inr other ↦ omega (
       arith,
       spare_by places (map spare xs) w,
@@ -265,8 +265,8 @@ same_count places others states more same =
 
 -- a node was reached, where the fronts have stayed
 pub at_reached : {X : Type 0} {d : ℕ} {state : X → Front} {spare : X → ℕ} {places : List ℕ} {xs : List X} {before : Fronts} {v k : ℕ} {x : X}
-    → (others : List ℕ) (ys : List X) → IsKept d places (map state xs) → fronts_by places (map state xs) ≡ fronts_by others (map state ys) → fronts_kept state spare others ys ≡ before
-    → k ≡ get_or places v 0 → k ≢ 0 → x ≡ get_or xs k x → IsAt d state spare places xs before v k x
+    → (others : List ℕ) (ys : List X) → IsKept d places (map state xs) → fronts_by places (map state xs) ≡ fronts_by others (map state ys)
+    → fronts_kept state spare others ys ≡ before → k ≡ get_or places v 0 → k ≢ 0 → x ≡ get_or xs k x → IsAt d state spare places xs before v k x
 at_reached {state} {places} {xs} others ys kept same view at some read = record {
   kept = kept;
   nodes = ap (λ n. n - 1) (same_count places others (map state xs) (map state ys) same) ∙ ap (λ (f : Fronts). f.nodes) view;

@@ -11,6 +11,7 @@ use Rattle.list_laws.proofs.OnceLaws.{in_append, pairs_append, told_some}
 use Rattle.compact_labels.specs.declared.label.CompactSpot.{CompactSpot}
 use Rattle.pareto_front.specs.Calls.{GrowsBy, entry_of}
 use Rattle.pareto_front.specs.Fronts.{Entry, Front, HasCost, IsDominated, entries}
+use Rattle.pareto_front.proofs.FrontLaws.{pairs_of_map}
 use Rattle.node_front.specs.declared.merging.Survivor.{Survivor}
 use Rattle.node_front.specs.Survivors.{AppendsOthers, IsMarked, told}
 use Rattle.node_front.specs.Apart.{AreApart}
@@ -50,11 +51,6 @@ pairs_across R (z ∷ zs) ys pairs x y x_in y_in = elim (cases_in z zs x x_in) [
   | inl first ↦ subst (λ w. R w y) (sym first) (pair_with_first R z (zs ++ ys) pairs y ((in_append zs ys y).1 (inr y_in)))
   | inr later ↦ pairs_across R zs ys (pairs_rest R z (zs ++ ys) pairs) x y later y_in
 ]
-
-pub pairs_unmap : {X Y : Type 0} (R : Y → Y → Type 0) (f : X → Y) (xs : List X) → AllPairs R (map f xs) → AllPairs (λ x z. R (f x) (f z)) xs
-pairs_unmap R f [] pairs = pairs_none (λ x z. R (f x) (f z))
-pairs_unmap R f (x ∷ xs) pairs = pairs_cons (λ y z. R (f y) (f z)) x xs (λ z there. pair_with_first R (f x) (map f xs) pairs (f z) (in_map f xs z there))
-    (pairs_unmap R f xs (pairs_rest R (f x) (map f xs) pairs))
 
 -- ---- those of the found spots that P doesn't hold of
 
@@ -99,7 +95,7 @@ module _ {D : ℕ} (P : List ℕ → Type 0) (before : List (CompactSpot D)) whe
 module _ {D : ℕ} (v : ℕ) (P Q R : List ℕ → Type 0) (before after found now : List (CompactSpot D)) (grows : GrowsBy v P before after)
     (finds : GrowsBy v Q [] found) (others : AppendsOthers R found after now) (covered : (c : List ℕ) → P c → R c) where
   found_once : AllPairs (λ (s t : CompactSpot D). s.cost.0 ≢ t.cost.0) found
-  found_once = rw finds.appended (pairs_unmap ◌≢◌ (λ (s : CompactSpot D). s.cost.0) finds.more finds.costs.once)
+  found_once = rw finds.appended (pairs_of_map ◌≢◌ (λ (s : CompactSpot D). s.cost.0) finds.more finds.costs.once)
 
   found_at : (s : CompactSpot D) → Contains found s → (s.node.0 ≡ v) × Q s.cost.0
   found_at s there =

@@ -2,9 +2,6 @@ use Rattle.std.proofs.Common.{arith}
 use Rattle.node_front.proofs.DeltaLemmas.{survivors_spare, appended_is_delta, if_ok_both}
 use Rattle.node_front.proofs.merging.merge.Goals as goal
 
-pub gather-requires : goal.gather-requires
-gather-requires g c = (omega arith, (omega arith, c.clear.ensures.items))
-
 pub find_removed-requires : goal.find_removed-requires
 find_removed-requires g c =
     let news = c.in_ok-gather.ensures in
@@ -12,9 +9,6 @@ find_removed-requires g c =
     let marked = news.marked c.args.node.0 c.requires.node in
     let spares = survivors_spare _ c.args.node.0 c.args.candidates.now _ news.news marked apart c.requires.spares in
     (omega arith, (omega arith, (apart, (rw c.deref.ensures.value marked, rw c.deref.ensures.value spares))))
-
-pub put_survivors-requires : goal.put_survivors-requires
-put_survivors-requires g c = (omega arith, omega arith)
 
 pub returns : goal.returns
 returns g c =

@@ -11,15 +11,15 @@ loop-spot-init g c = discarding_none c.requires.room
 pub discard-requires : goal.discard-requires
 discard-requires g c =
     let more = next_taken _ _ _ _ c.removed-spot-items.ensures c.loop-spot-test.true c.spot-item.is in
-    let apart = fronts_apart c.self.invariant c.self.view_is in
-    (omega arith, (omega arith, discard_has apart c.requires.deltas.deltas c.loop-spot.invariant c.spot-item.result more))
+    let has = discard_has (fronts_apart c.self.invariant c.self.view_is) c.requires.deltas.deltas c.loop-spot.invariant c.spot-item.result more in
+    (omega arith, (omega arith, has))
 
 pub loop-spot-preserved : goal.loop-spot-preserved
 loop-spot-preserved g c =
     let more = next_taken _ _ _ _ c.removed-spot-items.ensures c.loop-spot-test.true c.spot-item.is in
-    let apart = fronts_apart c.self.invariant c.self.view_is in
     let r = c.discard.ensures in
-    discarding_more apart c.requires.deltas.deltas c.loop-spot.invariant c.spot-item.result more r.elsewhere r.room r.discarded
+    discarding_more (fronts_apart c.self.invariant c.self.view_is) c.requires.deltas.deltas c.loop-spot.invariant c.spot-item.result more
+    r.elsewhere r.room r.discarded
 
 pub loop-label-init : goal.loop-label-init
 loop-label-init g c = putting_none (all_taken c.removed-spot-items.ensures c.loop-spot-test.false) c.loop-spot.invariant
@@ -36,9 +36,9 @@ put-requires g c =
 pub loop-label-preserved : goal.loop-label-preserved
 loop-label-preserved g c =
     let more = next_taken _ _ _ _ c.added-label-items.ensures c.loop-label-test.true c.label-item.is in
-    let apart = fronts_apart c.self.invariant c.self.view_is in
     let r = c.put.ensures in
-    putting_more apart c.requires.deltas.deltas c.loop-label.invariant c.label-item.result more r.elsewhere r.others r.entered r.room_left
+    putting_more (fronts_apart c.self.invariant c.self.view_is) c.requires.deltas.deltas c.loop-label.invariant c.label-item.result more
+    r.elsewhere r.others r.entered r.room_left
 
 pub loop-label-2-init : goal.loop-label-2-init
 loop-label-2-init g c =
@@ -49,15 +49,14 @@ pub relabel-requires : goal.relabel-requires
 relabel-requires g c =
     let l = c.label-item-in-loop-label-2.result in
     let more = next_taken _ _ _ l c.lowered-label-items.ensures c.loop-label-2-test.true c.label-item-in-loop-label-2.is in
-    let apart = fronts_apart c.self.invariant c.self.view_is in
-    (omega arith, (omega arith, relabel_has apart c.requires.deltas.deltas c.loop-label-2.invariant l more))
+    (omega arith, (omega arith, relabel_has (fronts_apart c.self.invariant c.self.view_is) c.requires.deltas.deltas c.loop-label-2.invariant l more))
 
 pub loop-label-2-preserved : goal.loop-label-2-preserved
 loop-label-2-preserved g c =
     let l = c.label-item-in-loop-label-2.result in
     let more = next_taken _ _ _ l c.lowered-label-items.ensures c.loop-label-2-test.true c.label-item-in-loop-label-2.is in
-    let apart = fronts_apart c.self.invariant c.self.view_is in
-    lowering_more apart c.requires.deltas.deltas c.loop-label-2.invariant l more c.relabel.ensures.elsewhere c.relabel.ensures.relabelled
+    lowering_more (fronts_apart c.self.invariant c.self.view_is) c.requires.deltas.deltas c.loop-label-2.invariant l more
+    c.relabel.ensures.elsewhere c.relabel.ensures.relabelled
 
 pub returns-clause-merged : goal.returns-clause-merged
 returns-clause-merged g c candidates are =

@@ -49,6 +49,7 @@ module _ {D : ℕ} (front : Front) (v : ℕ) (candidates : List (CompactLabel D)
       let (l, l_in, is) = of_map (entry_of {D = D}) candidates e there in
       subst (λ (x : Entry). SparesSettled front x.cost) (sym is) (each_in (λ (m : CompactLabel D). SparesSettled front m.cost.0) candidates spares l l_in)
 
+  -- so survivors spare the settled entries
   pub survivors_spare : All (λ (s : Survivor D). SparesSettled front s.label.cost.0) survivors
   survivors_spare = all_from_in (λ (s : Survivor D). SparesSettled front s.label.cost.0) survivors
       (λ s there. candidate_spares (entry_of s.label) (news_candidate (entry_of s.label) (news_of s there)))

@@ -271,6 +271,7 @@ cost_found {D} list i x within read =
     ∙ ap (λ (o : Option (FrontEntry D)). option_map (λ (e : Entry). e.cost) (option_map (told_entry {D = D}) o)) (slice_get-get_or list i x within)
     ∙ ap (λ (y : FrontEntry D). let o : Option (List ℕ) = Some y.cost.0 in o) (sym read)
 
+-- the costs that told entries have
 pub told_costs : {D : ℕ} (list : List (FrontEntry D)) → map (λ (e : Entry). e.cost) (map (told_entry {D = D}) list) ≡ map (λ (e : FrontEntry D). e.cost.0) list
 told_costs [] = refl
 told_costs (x ∷ xs) = ap (λ (cs : List (List ℕ)). x.cost.0 ∷ cs) (told_costs xs)
@@ -287,12 +288,14 @@ module _ (d start target : ℕ) (es : List Entry) (f : Fronts) (taken : front_at
   none_taken : (e : Entry) → ¬ Contains (front_at f target).settled e
   none_taken e there = in_none e (subst (λ (g : Front). Contains g.settled e) taken there)
 
+  -- of the target just its entries are found
   pub found_at_target : (e : Entry) → Contains (found_in d start target es f).settled (record { node = target; cost = e.cost; arc = e.arc }) ↔ Contains es e
   found_at_target e = (
     λ there. elim ((in_found target e).0 there) [ inl here ↦ here.1 | inr later ↦ absurd (none_taken e later) ],
     λ there. (in_found target e).1 (inl (refl, there)),
   )
 
+  -- of another node just the settled entries of its front
   pub found_elsewhere : (v : ℕ) → v ≢ target → (e : Entry)
       → Contains (found_in d start target es f).settled (record { node = v; cost = e.cost; arc = e.arc }) ↔ Contains (front_at f v).settled e
   found_elsewhere v other e = (
@@ -311,6 +314,7 @@ module _ (d start target : ℕ) (es : List Entry) (f : Fronts) (taken : front_at
 
 module _ (d start target : ℕ) (before after : Fronts) (list : List (FrontEntry d)) (elsewhere : SameElsewhere target before after)
     (taken : front_at after target ≡ empty_front) (lists : ListsSettled (front_at before target) list) where
+  -- found is what was settled in the fronts before
   pub settled_in_fronts : (v : ℕ) (e : Entry)
       → Contains (found_in d start target (map (told_entry {D = d}) list) after).settled (record { node = v; cost = e.cost; arc = e.arc })
       ↔ Contains (front_at before v).settled e
@@ -319,6 +323,7 @@ module _ (d start target : ℕ) (before after : Fronts) (list : List (FrontEntry
     | inr other ↦ rw (← elsewhere.others v other) (found_elsewhere d start target (map (told_entry {D = d}) list) after taken v other e)
   ]
 
+  -- and it is what a search finds
   pub is_found : ((v : ℕ) → IsFront d (front_at after v)) → before.nodes ≤ max_nodes → IsNode before.nodes start → IsNode before.nodes target
       → IsFound (found_in d start target (map (told_entry {D = d}) list) after)
   is_found fronts few start_in target_in = record {

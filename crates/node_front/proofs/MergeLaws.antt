@@ -277,9 +277,11 @@ module _ {before : Front} {candidates : List Entry} {delta : Delta} (sparing : I
             | inr new ↦ inr (brought_candidate before candidates delta sparing.is sparing.apart y (sub y new))
           ])
 
+    -- so there is an entry of its cost
     pub lowered_has : HasCost (entries mid) e.cost
     lowered_has = let (b, b_in, same, no_more) = step_lowered in subst (HasCost (entries mid)) same (has_cost_of (entries mid) b b_in)
 
+    -- it has come once that entry has its arc
     pub relabelled_then : (after : Front) → Relabels mid e after → IsMerged before (xs ++ e ∷ []) after
     relabelled_then after relabels =
         let (b, b_in, same, no_more) = step_lowered in

@@ -183,6 +183,7 @@ module _ (before : Front) (e : Entry) (apart : AreApart (entries before)) where
         ]
       ]
 
+      -- the front that it has entered is what it makes of the front
       pub entered_merges : IsMerged before (e ∷ []) after
       entered_merges = record {
         entries = apart_stays (entries before ++ e ∷ []) (entries after) entered_apart

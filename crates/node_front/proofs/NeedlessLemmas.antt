@@ -42,6 +42,7 @@ told_entry_in list e = elim (told_some (λ x. x ≡ e) cases_entry list) [
     ]
   ]
 
+-- it can be told whether a list has an entry of a cost
 pub told_has_cost : (list : List Entry) (c : List ℕ) → HasCost list c ⊎ (¬ HasCost list c)
 told_has_cost list c = elim (told_some (λ x. x.cost ≡ c) (λ x. cases_same x.cost c) list) [
   | inl found ↦ inl (subst (HasCost list) found.2 (has_cost_of list found.0 found.1))
@@ -151,6 +152,7 @@ module _ (before : Front) (candidates : List Entry) (e : Entry) where
         ]))
       ])
 
+    -- they are the news of one candidate more
     pub more_news : (x : Entry) → Stays (list ++ e ∷ []) x ↔ IsNews before (candidates ++ e ∷ []) x
     more_news x = (
       λ stays. record {

@@ -70,6 +70,7 @@ module _ (front : Front) (apart : AreApart (entries front)) where
       let one = apart e (record { cost = e.cost; arc = low.arc }) (known e low.stays.contains) low.old (AtMost-same e.cost e.cost refl) in
       omega (arith, low.lesser, ap (λ (x : Entry). x.arc) one)
 
+  -- so the delta is empty
   pub delta_none : IsDelta front [] (record { added = []; removed = []; lowered = [] })
   delta_none = record {
     added = lists_nothing (IsAdded front []) none_added;
@@ -77,6 +78,7 @@ module _ (front : Front) (apart : AreApart (entries front)) where
     lowered = lists_nothing (IsLowered front []) none_lowered;
   }
 
+  -- and no other one
   pub none_of_delta : (delta : Delta) → IsDelta front [] delta → (delta.added ≡ []) × (delta.removed ≡ []) × (delta.lowered ≡ [])
   none_of_delta delta is = (
     empty_if_none delta.added (λ e there. none_added e ((is.added.exact e).0 there)),
@@ -85,6 +87,7 @@ module _ (front : Front) (apart : AreApart (entries front)) where
   )
 
 module _ {D : ℕ} (f : Fronts) (apart : (v : ℕ) → AreApart (entries (front_at f v))) where
+  -- no candidates, no differences
   pub deltas_none : AreDeltas f [] (no_deltas D)
   deltas_none = record {
     nodes = All-nil (λ (l : CompactLabel D). IsNode f.nodes l.node.0);
@@ -168,6 +171,7 @@ module _ {D : ℕ} (f : Fronts) (apart : (v : ℕ) → AreApart (entries (front_
           (λ l m l_in m_in. let low = old_below l l_in in omega (arith, low, new_at m m_in)));
     }
 
+  -- so deltas grow node by node
   pub grow_node_by_node : GrowNodeByNode D f
   grow_node_by_node = grown
 
@@ -183,6 +187,7 @@ module _ (front : Front) (es others : List Entry) (same : (e : Entry) → Contai
   stays_same = stays_core (entries front ++ others) (entries front ++ es) (over es others (λ e. (same e).0))
       (λ e stays. over others es (λ x. (same x).1) e stays.contains)
 
+  -- they make the same delta
   pub delta_of_same : (d : Delta) → IsDelta front es d → IsDelta front others d
   delta_of_same d is = record {
     added = once_as (IsAdded front es) (IsAdded front others) d.added (λ e. (
@@ -201,6 +206,7 @@ module _ (front : Front) (es others : List Entry) (same : (e : Entry) → Contai
     dominated : (xs ys : List Entry) → ((e : Entry) → Contains xs e → Contains ys e) → (c : List ℕ) → IsDominated xs c → IsDominated ys c
     dominated xs ys sub c h = record { by = h.by; contains = sub h.by h.contains; dominates = h.dominates }
 
+-- so the order of the candidates makes no difference
 pub fit_any_order : (D : ℕ) (f : Fronts) → FitAnyOrder D f
 fit_any_order D f candidates others d moved are = record {
   nodes = all_from_in (λ (l : CompactLabel D). IsNode f.nodes l.node.0) others

@@ -48,6 +48,7 @@ no_place n v = elim (cases_lt v n) [
 ]
 
 module _ (places : List ℕ) (states : List Front) (placed : IsPlaced places states) where
+  -- so it is where the fronts are placed
   pub front_of : (v : ℕ) → get_or (fronts_by places states) v empty_front ≡ get_or states (get_or places v 0) empty_front
   front_of = front_by places states placed.first
 
@@ -109,6 +110,7 @@ pub record Begins {X : Type 0} (d : ℕ) (state : X → Front) (places : List �
   pub pushed : ys ≡ xs ++ x ∷ []
   pub last : n ≡ length xs
 
+-- as its parts say
 pub begins_at : {X : Type 0} {d : ℕ} {state : X → Front} {places : List ℕ} {xs ys : List X} {x : X} {v n : ℕ} → IsKept d places (map state xs) → 0 < v
     → v < length places → get_or places v 0 ≡ 0 → state x ≡ empty_front → ys ≡ xs ++ x ∷ [] → n ≡ length xs → Begins d state places xs ys x v n
 begins_at kept node within unreached empty pushed last =

@@ -40,11 +40,13 @@ told_dominated list c = elim (told_some (λ (e : Entry). Dominates e.cost c) (λ
 
 -- ---- two lists, one behind the other
 
+-- what holds of any two holds of any two of the first list
 pub pairs_front : {X : Type 0} (R : X → X → Type 0) (xs ys : List X) → AllPairs R (xs ++ ys) → AllPairs R xs
 pairs_front R [] ys pairs = pairs_none R
 pairs_front R (x ∷ xs) ys pairs = pairs_cons R x xs (λ y there. pair_with_first R x (xs ++ ys) pairs y ((in_append xs ys y).1 (inl there)))
     (pairs_front R xs ys (pairs_rest R x (xs ++ ys) pairs))
 
+-- and of one of the first list and one of the second
 pub pairs_across : {X : Type 0} (R : X → X → Type 0) (xs ys : List X) → AllPairs R (xs ++ ys) → (x y : X) → Contains xs x → Contains ys y → R x y
 pairs_across R [] ys pairs x y x_in y_in = absurd (in_none x x_in)
 pairs_across R (z ∷ zs) ys pairs x y x_in y_in = elim (cases_in z zs x x_in) [
@@ -54,16 +56,24 @@ pairs_across R (z ∷ zs) ys pairs x y x_in y_in = elim (cases_in z zs x x_in) [
 
 -- ---- those of the found spots that P doesn't hold of
 
+abbrev spot_cost : {D : ℕ} → CompactSpot D → List ℕ
+spot_cost s = s.cost.0
+
+-- two spots have not the same cost
+abbrev OtherCosts : {D : ℕ} → CompactSpot D → CompactSpot D → Type 0
+OtherCosts s t = s.cost.0 ≢ t.cost.0
+
 module _ {D : ℕ} (P : List ℕ → Type 0) (before : List (CompactSpot D)) where
   module _ (found more_found after : List (CompactSpot D)) (spot : CompactSpot D) (is_more : more_found ≡ found ++ spot ∷ [])
       (others : AppendsOthers P found before after) where
-    pairs_before : AllPairs (λ (s t : CompactSpot D). s.cost.0 ≢ t.cost.0) more_found → AllPairs (λ (s t : CompactSpot D). s.cost.0 ≢ t.cost.0) found
+    pairs_before : AllPairs OtherCosts more_found → AllPairs OtherCosts found
     pairs_before pairs =
-        pairs_front (λ (s t : CompactSpot D). s.cost.0 ≢ t.cost.0) found (spot ∷ []) (rw is_more at pairs)
+        pairs_front OtherCosts found (spot ∷ []) (rw is_more at pairs)
 
     in_more_found : (s : CompactSpot D) → Contains more_found s ↔ (Contains found s ⊎ (s ≡ spot))
     in_more_found s = rw is_more (in_push found spot s)
 
+    -- a spot that P holds of is left out
     pub others_same : P spot.cost.0 → AppendsOthers P more_found before after
     others_same holds = record {
       more = others.more;
@@ -74,47 +84,49 @@ module _ {D : ℕ} (P : List ℕ → Type 0) (before : List (CompactSpot D)) whe
       same : {A B C E H : Type 0} → (A ↔ (B × (¬ H))) → (C ↔ (B ⊎ E)) → (E → H) → (A ↔ (C × (¬ H)))
       same f g here = grind arith
 
+    -- another one is appended
     pub others_more : (pushed : List (CompactSpot D)) → ¬ P spot.cost.0 → pushed ≡ after ++ spot ∷ [] → AppendsOthers P more_found before pushed
     others_more pushed fails is_pushed = record {
       more = others.more ++ spot ∷ [];
       appended = is_pushed ∙ ap (λ (l : List (CompactSpot D)). l ++ spot ∷ []) others.appended ∙ append_assoc before others.more (spot ∷ []);
       exact = λ s. more (others.exact s) (in_more_found s) (in_push others.more spot s) (λ new holds. fails (subst (λ (t : CompactSpot D). P t.cost.0) new holds));
-      one_a_cost = λ pairs. pairs_push (λ (s t : CompactSpot D). s.cost.0 ≢ t.cost.0) others.more spot (others.one_a_cost (pairs_before pairs))
+      one_a_cost = λ pairs. pairs_push OtherCosts others.more spot (others.one_a_cost (pairs_before pairs))
           (λ s there. last_apart pairs s ((others.exact s).0 there).0);
     } where
       more : {A B C E H G : Type 0} → (A ↔ (B × (¬ H))) → (C ↔ (B ⊎ E)) → (G ↔ (A ⊎ E)) → (E → ¬ H) → (G ↔ (C × (¬ H)))
       more f g h here = grind arith
 
-      last_apart : AllPairs (λ (s t : CompactSpot D). s.cost.0 ≢ t.cost.0) more_found → (s : CompactSpot D) → Contains found s → s.cost.0 ≢ spot.cost.0
+      last_apart : AllPairs OtherCosts more_found → (s : CompactSpot D) → Contains found s → s.cost.0 ≢ spot.cost.0
       last_apart pairs s there =
-          pairs_across (λ (t u : CompactSpot D). t.cost.0 ≢ u.cost.0) found (spot ∷ [])
+          pairs_across OtherCosts found (spot ∷ [])
           (rw is_more at pairs) s spot there (in_first spot [])
 
 -- ---- what one survivor more removes
 
 module _ {D : ℕ} (v : ℕ) (P Q R : List ℕ → Type 0) (before after found now : List (CompactSpot D)) (grows : GrowsBy v P before after)
     (finds : GrowsBy v Q [] found) (others : AppendsOthers R found after now) (covered : (c : List ℕ) → P c → R c) where
-  found_once : AllPairs (λ (s t : CompactSpot D). s.cost.0 ≢ t.cost.0) found
-  found_once = rw finds.appended (pairs_of_map ◌≢◌ (λ (s : CompactSpot D). s.cost.0) finds.more finds.costs.once)
+  found_once : AllPairs OtherCosts found
+  found_once = rw finds.appended (pairs_of_map ◌≢◌ spot_cost finds.more finds.costs.once)
 
   found_at : (s : CompactSpot D) → Contains found s → (s.node.0 ≡ v) × Q s.cost.0
   found_at s there =
       let more = rw finds.appended at there in (
         each_in (λ (t : CompactSpot D). t.node.0 ≡ v) finds.more finds.node s more,
-        (finds.costs.exact s.cost.0).0 (in_map (λ (t : CompactSpot D). t.cost.0) finds.more s more),
+        (finds.costs.exact s.cost.0).0 (in_map spot_cost finds.more s more),
       )
 
-  costs_more : (c : List ℕ) → Contains (map (λ (s : CompactSpot D). s.cost.0) others.more) c ↔ (Q c × (¬ R c))
+  costs_more : (c : List ℕ) → Contains (map spot_cost others.more) c ↔ (Q c × (¬ R c))
   costs_more c = (
-    λ there. let (s, s_in, is) = of_map (λ (t : CompactSpot D). t.cost.0) others.more c there in
+    λ there. let (s, s_in, is) = of_map spot_cost others.more c there in
         let (from, fails) = (others.exact s).0 s_in in
         subst (λ d. Q d × (¬ R d)) (sym is) ((found_at s from).1, fails),
-    λ h. let (s, s_in, is) = of_map (λ (t : CompactSpot D). t.cost.0) finds.more c ((finds.costs.exact c).1 h.0) in
+    λ h. let (s, s_in, is) = of_map spot_cost finds.more c ((finds.costs.exact c).1 h.0) in
         let there = subst (λ (l : List (CompactSpot D)). Contains l s) (sym finds.appended) s_in in
-        subst (Contains (map (λ (t : CompactSpot D). t.cost.0) others.more)) (sym is)
-        (in_map (λ (t : CompactSpot D). t.cost.0) others.more s ((others.exact s).1 (there, λ r. h.1 (subst R (sym is) r)))),
+        subst (Contains (map spot_cost others.more)) (sym is)
+        (in_map spot_cost others.more s ((others.exact s).1 (there, λ r. h.1 (subst R (sym is) r)))),
   )
 
+  -- the list has grown by those too
   pub grows_others : GrowsBy v (λ c. P c ⊎ (Q c × (¬ R c))) before now
   grows_others = record {
     more = grows.more ++ others.more;
@@ -122,10 +134,10 @@ module _ {D : ℕ} (v : ℕ) (P Q R : List ℕ → Type 0) (before after found n
     node = All-append (λ (s : CompactSpot D). s.node.0 ≡ v) grows.more others.more grows.node
         (all_from_in (λ (s : CompactSpot D). s.node.0 ≡ v) others.more (λ s there. (found_at s ((others.exact s).0 there).0).0));
     costs = rw map-append (record {
-      exact = λ c. both (in_append (map (λ (s : CompactSpot D). s.cost.0) grows.more) (map (λ (s : CompactSpot D). s.cost.0) others.more) c)
+      exact = λ c. both (in_append (map spot_cost grows.more) (map spot_cost others.more) c)
           (grows.costs.exact c) (costs_more c);
-      once = pairs_append ◌≢◌ (map (λ (s : CompactSpot D). s.cost.0) grows.more) (map (λ (s : CompactSpot D). s.cost.0) others.more) grows.costs.once
-          (pairs_map (λ (s t : CompactSpot D). s.cost.0 ≢ t.cost.0) ◌≢◌ (λ (s : CompactSpot D). s.cost.0) (λ s t differ. differ) others.more
+      once = pairs_append ◌≢◌ (map spot_cost grows.more) (map spot_cost others.more) grows.costs.once
+          (pairs_map OtherCosts ◌≢◌ spot_cost (λ s t differ. differ) others.more
           (others.one_a_cost found_once))
           (λ c d c_in d_in same. ((costs_more d).0 d_in).1 (subst R same (covered c ((grows.costs.exact c).0 c_in))));
     });

@@ -26,9 +26,11 @@ use Rattle.node_front.proofs.MergeLaws.{HasPut, IsSparing, merged_by_delta, put_
 test_same : (a b : ℕ) → nat_eq a b ≡ true → a ≡ b
 test_same a b test = grind (arith, nat_tests)
 
+-- the test of the same numbers passes
 pub same_test : (a b : ℕ) → a ≡ b → nat_eq a b ≡ true
 same_test a b same = grind (arith, nat_tests)
 
+-- and that of others fails
 pub other_test : (a b : ℕ) → a ≢ b → nat_eq a b ≡ false
 other_test a b other = elim (cases_Bool (nat_eq a b)) [ inl passes ↦ absurd (other (test_same a b passes)) | inr fails ↦ fails ]
 
@@ -36,11 +38,13 @@ other_test a b other = elim (cases_Bool (nat_eq a b)) [ inl passes ↦ absurd (o
 pub same_numbers : (a b : ℕ) (test : Bool) → test ≡ nat_eq a b → test ≡ true → a ≡ b
 same_numbers a b test is passes = test_same a b (sym is ∙ passes)
 
+-- and where it fails
 pub other_numbers : (a b : ℕ) (test : Bool) → test ≡ nat_eq a b → test ≡ false → a ≢ b
 other_numbers a b test is fails same = false≢true (sym fails ∙ is ∙ same_test a b same)
 
 -- what things tell whose node is v
 module _ {X Y : Type 0} (node : X → ℕ) (tell : X → Y) where
+  -- what those of the node v tell
   abbrev pub told_of : ℕ → List X → List Y
   told_of v xs = map tell (filter (λ x. nat_eq (node x) v) xs)
 
@@ -99,21 +103,27 @@ module _ {X Y : Type 0} (node : X → ℕ) (tell : X → Y) where
         omega (arith, whole, front)
 
 module _ {D : ℕ} where
+  -- a label's node
   abbrev pub label_node : CompactLabel D → ℕ
   label_node l = l.node.0
 
+  -- a spot's node
   abbrev pub spot_node : CompactSpot D → ℕ
   spot_node s = s.node.0
 
+  -- a spot's cost
   abbrev pub spot_cost : CompactSpot D → List ℕ
   spot_cost s = s.cost.0
 
+  -- what the labels of two lists tell
   pub at_append : (v : ℕ) (ls ms : List (CompactLabel D)) → told_at v (ls ++ ms) ≡ told_at v ls ++ told_at v ms
   at_append = of_append label_node (entry_of {D = D})
 
+  -- one label more, of the node
   pub at_push : (v : ℕ) (ls : List (CompactLabel D)) (l : CompactLabel D) → l.node.0 ≡ v → told_at v (ls ++ l ∷ []) ≡ told_at v ls ++ entry_of l ∷ []
   at_push = of_push label_node (entry_of {D = D})
 
+  -- one label more, of another node
   pub at_push_other : (v : ℕ) (ls : List (CompactLabel D)) (l : CompactLabel D) → l.node.0 ≢ v → told_at v (ls ++ l ∷ []) ≡ told_at v ls
   at_push_other = of_push_other label_node (entry_of {D = D})
 
@@ -147,6 +157,7 @@ next_taken {X} items list i x same within read =
 
 -- ---- the first i removed spots have left
 
+-- they have, and nothing has come
 pub record IsDiscarding {D : ℕ} (before : Fronts) (d : Deltas D) (i : ℕ) (now : Fronts) : Type 0 where
   pub nodes : now.nodes ≡ before.nodes
   pub fronts : (v : ℕ) → HasPut (front_at before v) (costs_told_at v (take i d.removed)) [] (front_at now v)
@@ -181,9 +192,11 @@ put_discards {gone} {c} puts discards = record {
   through a m l none = grind arith
 
 module _ {D : ℕ} {before : Fronts} {d : Deltas D} where
+  -- at the start none has left
   pub discarding_none : HasRoom before d.added → IsDiscarding before d 0 before
   discarding_none room = record { nodes = refl; fronts = λ v. put_none (front_at before v); room = room }
 
+  -- once all have left, none has come
   pub putting_none : {i : ℕ} {now : Fronts} → take i d.removed ≡ d.removed → IsDiscarding before d i now → IsPutting before d 0 now
   putting_none all discarding = record {
     nodes = discarding.nodes;
@@ -203,12 +216,14 @@ module _ {D : ℕ} {before : Fronts} {d : Deltas D} {candidates : List (CompactL
         rw is (rw m_at at spares);
   }
 
+  -- once all have come, none is lowered
   pub lowering_none : {i : ℕ} {now : Fronts} → take i d.added ≡ d.added → IsPutting before d i now → IsLowering before d 0 now
   lowering_none all putting = record {
     nodes = putting.nodes;
     merged = λ v. rw append-nil (put_all (sparing v) (λ x there. there) (rw all at (putting.fronts v)) (λ x there. there));
   }
 
+  -- once all are lowered, the fronts are what the candidates make of them
   pub lowering_all : {i : ℕ} {now : Fronts} → take i d.lowered ≡ d.lowered → IsLowering before d i now → MergesAll before candidates now
   lowering_all {now} all lowering = record {
     merged = λ v. merged_by_delta (front_at before v) (told_at v candidates) (delta_at v d) (are.exact v) (apart v) (front_at now v)
@@ -218,6 +233,7 @@ module _ {D : ℕ} {before : Fronts} {d : Deltas D} {candidates : List (CompactL
   -- the next removed spot
   module _ {i : ℕ} {now : Fronts} (discarding : IsDiscarding before d i now) (s : CompactSpot D) (more : take (i + 1) d.removed ≡ take i d.removed ++
       s ∷ []) where
+    -- its cost is there, unsettled
     pub discard_has : HasCost (front_at now s.node.0).unsettled s.cost.0
     discard_has =
         let v = s.node.0 in
@@ -230,6 +246,7 @@ module _ {D : ℕ} {before : Fronts} {d : Deltas D} {candidates : List (CompactL
           ));
         }
 
+    -- and then it has left too
     pub discarding_more : {after : Fronts} → SameElsewhere s.node.0 now after → ((v : ℕ) → spare_at now v ≤ spare_at after v)
         → Discards (front_at now s.node.0) s.cost.0 (front_at after s.node.0) → IsDiscarding before d (i + 1) after
     discarding_more elsewhere room discards = record {
@@ -249,16 +266,20 @@ module _ {D : ℕ} {before : Fronts} {d : Deltas D} {candidates : List (CompactL
     here : Contains (told_at l.node.0 d.added) (entry_of l)
     here = next_in label_node (entry_of {D = D}) l.node.0 i d.added l refl more
 
+    -- there is room for it
     pub put_room : 1 ≤ spare_at now l.node.0
     put_room = omega (arith, next_fits label_node (entry_of {D = D}) l.node.0 i d.added l refl more, putting.room l.node.0)
 
+    -- no entry covers it
     pub put_new : ¬ IsCovered (entries (front_at now l.node.0)) l.cost.0
     put_new = put_uncovered (sparing l.node.0) came_before (putting.fronts l.node.0) (entry_of l) here
         (next_apart label_node (entry_of {D = D}) l.node.0 i d.added l refl more (are.exact l.node.0).added.once)
 
+    -- it dominates none
     pub put_spares_all : All (λ (e : Entry). ¬ Dominates l.cost.0 e.cost) (entries (front_at now l.node.0))
     put_spares_all = put_spares (sparing l.node.0) came_before (putting.fronts l.node.0) (entry_of l) here
 
+    -- and then it has come too
     pub putting_more : {after : Fronts} → SameElsewhere l.node.0 now after → ((v : ℕ) → v ≢ l.node.0 → spare_at after v ≡ spare_at now v)
         → Enters (front_at now l.node.0) (entry_of l) (front_at after l.node.0) → spare_at now l.node.0 ≤ spare_at after l.node.0 + 1
         → IsPutting before d (i + 1) after
@@ -290,9 +311,11 @@ module _ {D : ℕ} {before : Fronts} {d : Deltas D} {candidates : List (CompactL
     lowered_here : Contains (told_at l.node.0 d.lowered) (entry_of l)
     lowered_here = next_in label_node (entry_of {D = D}) l.node.0 i d.lowered l refl more
 
+    -- an entry of its cost is there
     pub relabel_has : HasCost (entries (front_at now l.node.0)) l.cost.0
     relabel_has = lowered_has (sparing l.node.0) came (lowering.merged l.node.0) (entry_of l) lowered_here
 
+    -- and then it is lowered too
     pub lowering_more : {after : Fronts} → SameElsewhere l.node.0 now after → Relabels (front_at now l.node.0) (entry_of l) (front_at after l.node.0)
         → IsLowering before d (i + 1) after
     lowering_more {after} elsewhere relabels = record {
@@ -306,6 +329,7 @@ module _ {D : ℕ} {before : Fronts} {d : Deltas D} {candidates : List (CompactL
 
 -- ---- the room for the first i added labels is made; so many of them are of the last one's node
 
+-- it is, and no front has changed
 pub record IsReserving {D : ℕ} (before : Fronts) (added : List (CompactLabel D)) (i last count : ℕ) (now : Fronts) : Type 0 where
   pub same : SameFronts before now
   pub room : (v : ℕ) → length (told_at v (take i added)) ≤ spare_at now v
@@ -319,6 +343,7 @@ module _ {D : ℕ} {before : Fronts} {added : List (CompactLabel D)} where
     more : take (i + 1) added ≡ take i added ++ l ∷ []
     more = next_taken added added i l refl within read
 
+    -- so many are less than all
     pub count_fits : count < length added
     count_fits = omega (arith, reserving.counted, at_short last (take i added), length-take i added, within)
 
@@ -341,6 +366,7 @@ module _ {D : ℕ} {before : Fronts} {added : List (CompactLabel D)} where
         other.1 (let high = next_later in omega (arith, low, high, m_at))) in
         omega (arith, other.0, ap length none, next_length label_node (entry_of {D = D}) l.node.0 i added l refl more)
 
+    -- and then the room for the next one is made too
     pub reserving_more : {next : ℕ} {after : Fronts} → (next ≡ count + 1) × (l.node.0 ≡ last) ⊎ ((next ≡ 1) × (l.node.0 ≢ last)) → SameFronts now after
         → next ≤ spare_at after l.node.0 → ((v : ℕ) → v ≢ l.node.0 → spare_at now v ≤ spare_at after v)
         → IsReserving before added (i + 1) l.node.0 next after

@@ -28,6 +28,7 @@ kept_in (true ∷ bs) (y ∷ ys) x there = elim (cases_in y (items_where_true bs
 ]
 kept_in (false ∷ bs) (y ∷ ys) x there = in_rest y ys x (kept_in bs ys x there)
 
+-- what holds of any two holds of those that are kept
 pub pairs_kept : {X : Type 0} (R : X → X → Type 0) (bs : List Bool) (xs : List X) → AllPairs R xs → AllPairs R (items_where_true bs xs)
 pairs_kept R [] xs pairs = pairs_none R
 pairs_kept R (b ∷ bs) [] pairs = pairs_none R
@@ -42,9 +43,11 @@ module _ {D : ℕ} where
   pub in_told : (survivors : List (Survivor D)) (s : Survivor D) → Contains survivors s → Contains (told survivors) (entry_of s.label)
   in_told = in_map (λ (s : Survivor D). entry_of s.label)
 
+  -- each that is told is a survivor's
   pub of_told : (survivors : List (Survivor D)) (e : Entry) → Contains (told survivors) e → (s : Survivor D) × Contains survivors s × (e ≡ entry_of s.label)
   of_told = of_map (λ (s : Survivor D). entry_of s.label)
 
+  -- one more is told last
   pub told_push : (survivors : List (Survivor D)) (s : Survivor D) → told (survivors ++ s ∷ []) ≡ told survivors ++ entry_of s.label ∷ []
   told_push = map_push (λ (s : Survivor D). entry_of s.label)
 
@@ -84,6 +87,7 @@ module _ {D : ℕ} where
             ],
       )
 
+      -- so the survivors are those that stay
       pub survive_instead : AllPairs (λ (s t : Survivor D). s.label.cost.0 ≢ t.label.cost.0) kept
           → AreSurvivors (Stays (told old ++ entry_of survivor.label ∷ [])) (kept ++ survivor ∷ [])
       survive_instead one_a_cost = record {
@@ -104,6 +108,7 @@ module _ {D : ℕ} where
               | inr not_less ↦ stays (inr (sym same, not_less))
             ]
 
+      -- they are old ones and the new one
       pub members_instead : All (Contains (old ++ survivor ∷ [])) (kept ++ survivor ∷ [])
       members_instead = All-push (Contains (old ++ survivor ∷ [])) kept survivor
           (All-weaker (Contains old) (Contains (old ++ survivor ∷ [])) (Contains-append_left old (survivor ∷ [])) kept without.old)

@@ -6,7 +6,7 @@ use Rattle.std.proofs.lemmas.List.Elements.{All-nil, Contains-append_left, Conta
 use Rattle.list_laws.specs.Sets.{ListsOnce}
 use Rattle.list_laws.proofs.Members.{in_none, in_front, cases_push}
 use Rattle.list_laws.proofs.Pairs.{pairs_none}
-use Rattle.list_laws.proofs.OnceLaws.{once_as}
+use Rattle.list_laws.proofs.OnceLaws.{in_append, once_as}
 use Rattle.compact_labels.specs.declared.label.CompactSpot.{CompactSpot}
 use Rattle.pareto_front.specs.Calls.{GrowsBy}
 
@@ -16,6 +16,11 @@ in_push xs y x = (
   cases_push xs y x,
   elim [ inl old ↦ Contains-append_left xs (y ∷ []) x old | inr new ↦ Contains-append_right xs (y ∷ []) x (in_front y [] x new) ],
 )
+
+-- behind the same list, what has all members of another
+pub in_append_more : {X : Type 0} (xs ys zs : List X) → ((x : X) → Contains ys x → Contains zs x) → (x : X) → Contains (xs ++ ys) x → Contains (xs ++ zs) x
+in_append_more xs ys zs sub x there =
+    (in_append xs zs x).1 (elim ((in_append xs ys x).0 there) [ inl old ↦ inl old | inr new ↦ inr (sub x new) ])
 
 -- what doesn't hold of anything has nothing to list
 pub lists_nothing : {X : Type 0} (P : X → Type 0) → ((x : X) → ¬ P x) → ListsOnce P []

@@ -13,7 +13,7 @@ use Rattle.pareto_front.specs.Calls.{Enters, Relabels}
 use Rattle.pareto_front.specs.Merging.{Stays, Delta, IsDelta, IsMerged}
 use Rattle.node_front.specs.Apart.{AreApart}
 use Rattle.node_front.proofs.ApartLemmas.{dominated_append, AtMost-same, has_append, has_cost_of, apart_not_dominated}
-use Rattle.node_front.proofs.GrowsLemmas.{in_push}
+use Rattle.node_front.proofs.GrowsLemmas.{in_append_more, in_push}
 use Rattle.node_front.proofs.StaysLemmas.{apart_of_stays, apart_stays, stays_among, stays_below, stays_core, stays_of_cost}
 use Rattle.node_front.proofs.NeedlessLemmas.{lowered_not_old, news_cases, told_entry_in}
 use Rattle.node_front.proofs.MergedLemmas.{relabelled_merges, merged_apart}
@@ -125,10 +125,7 @@ module _ (before : Front) (candidates : List Entry) (delta : Delta) (is : IsDelt
     );
   } where
     sub : (x : Entry) → Contains (entries before ++ (delta.added ++ delta.lowered)) x → Contains (entries before ++ candidates) x
-    sub x there = elim ((in_append (entries before) (delta.added ++ delta.lowered) x).0 there) [
-      | inl old ↦ (in_append (entries before) candidates x).1 (inl old)
-      | inr new ↦ (brought_stays x new).contains
-    ]
+    sub = in_append_more (entries before) (delta.added ++ delta.lowered) candidates brought_candidate
 
     core : (x : Entry) → Stays (entries before ++ candidates) x → Contains (entries before ++ (delta.added ++ delta.lowered)) x
     core x stays = (in_append (entries before) (delta.added ++ delta.lowered) x).1 (stays_brought x stays)
@@ -272,10 +269,8 @@ module _ {before : Front} {candidates : List Entry} {delta : Delta} (sparing : I
         let (b, stays, same) = stays_of_cost (entries before ++ xs) x (Contains-append_left (entries before) xs x low.old) none in
         (b, (merged.entries b).1 stays, same, low.stays.least b (mid_known b stays.contains) same) where
           mid_known : (y : Entry) → Contains (entries before ++ xs) y → Contains (entries before ++ candidates) y
-          mid_known y known = (in_append (entries before) candidates y).1 (elim ((in_append (entries before) xs y).0 known) [
-            | inl old ↦ inl old
-            | inr new ↦ inr (brought_candidate before candidates delta sparing.is sparing.apart y (sub y new))
-          ])
+          mid_known = in_append_more (entries before) xs candidates (λ y new.
+              brought_candidate before candidates delta sparing.is sparing.apart y (sub y new))
 
     -- so there is an entry of its cost
     pub lowered_has : HasCost (entries mid) e.cost

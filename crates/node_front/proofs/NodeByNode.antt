@@ -19,7 +19,7 @@ use Rattle.node_front.proofs.ApartLemmas.{AtMost-same, has_cost_of}
 use Rattle.node_front.proofs.StaysLemmas.{stays_core}
 use Rattle.node_front.proofs.PlacedLemmas.{cases_number}
 use Rattle.node_front.proofs.RoundLemmas.{label_node, spot_node, spot_cost, told_of, of_append, same_test, other_test, of_at, at_append}
-use Rattle.node_front.proofs.GrowsLemmas.{lists_nothing}
+use Rattle.node_front.proofs.GrowsLemmas.{in_append_more, lists_nothing}
 
 -- ---- what labels and spots of one node tell
 
@@ -178,14 +178,9 @@ module _ {D : ℕ} (f : Fronts) (apart : (v : ℕ) → AreApart (entries (front_
 -- ---- other lists of the same candidates
 
 module _ (front : Front) (es others : List Entry) (same : (e : Entry) → Contains es e ↔ Contains others e) where
-  over : (xs ys : List Entry) → ((e : Entry) → Contains xs e → Contains ys e) → (e : Entry) → Contains (entries front ++ xs) e
-      → Contains (entries front ++ ys) e
-  over xs ys sub e there = (in_append (entries front) ys e).1
-      (elim ((in_append (entries front) xs e).0 there) [ inl old ↦ inl old | inr new ↦ inr (sub e new) ])
-
   stays_same : (e : Entry) → Stays (entries front ++ es) e ↔ Stays (entries front ++ others) e
-  stays_same = stays_core (entries front ++ others) (entries front ++ es) (over es others (λ e. (same e).0))
-      (λ e stays. over others es (λ x. (same x).1) e stays.contains)
+  stays_same = stays_core (entries front ++ others) (entries front ++ es) (in_append_more (entries front) es others (λ e. (same e).0))
+      (λ e stays. in_append_more (entries front) others es (λ x. (same x).1) e stays.contains)
 
   -- they make the same delta
   pub delta_of_same : (d : Delta) → IsDelta front es d → IsDelta front others d

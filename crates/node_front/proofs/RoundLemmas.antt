@@ -18,7 +18,7 @@ use Rattle.node_front.specs.Deltas.{Deltas, AreDeltas, HasRoom, MergesAll, costs
 use Rattle.node_front.specs.NodeFronts.{Fronts, SameElsewhere, SameFronts, front_at, spare_at}
 use Rattle.node_front.proofs.PlacedLemmas.{cases_number}
 use Rattle.node_front.proofs.RemovedLemmas.{pairs_front, pairs_across}
-use Rattle.node_front.proofs.GrowsLemmas.{in_push}
+use Rattle.node_front.proofs.GrowsLemmas.{in_append_more, in_push}
 use Rattle.node_front.proofs.MergeLaws.{HasPut, IsSparing, merged_by_delta, put_all, put_spares, put_then, put_uncovered, removed_unsettled, lowered_has, relabelled_then}
 
 -- ---- the labels of one node
@@ -302,11 +302,8 @@ module _ {D : ℕ} {before : Fronts} {d : Deltas D} {candidates : List (CompactL
       l ∷ []) where
     came : (x : Entry) → Contains (told_at l.node.0 d.added ++ told_at l.node.0 (take i d.lowered)) x
         → Contains (told_at l.node.0 d.added ++ told_at l.node.0 d.lowered) x
-    came x there = (in_append (told_at l.node.0 d.added) (told_at l.node.0 d.lowered) x).1
-        (elim ((in_append (told_at l.node.0 d.added) (told_at l.node.0 (take i d.lowered)) x).0 there) [
-          | inl added ↦ inl added
-          | inr lowered ↦ inr (of_take label_node (entry_of {D = D}) l.node.0 i d.lowered x lowered)
-        ])
+    came = in_append_more (told_at l.node.0 d.added) (told_at l.node.0 (take i d.lowered)) (told_at l.node.0 d.lowered)
+        (of_take label_node (entry_of {D = D}) l.node.0 i d.lowered)
 
     lowered_here : Contains (told_at l.node.0 d.lowered) (entry_of l)
     lowered_here = next_in label_node (entry_of {D = D}) l.node.0 i d.lowered l refl more

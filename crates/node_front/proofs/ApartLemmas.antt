@@ -56,18 +56,26 @@ dominated_by_one e c = (
 pub has_cost_of : (list : List Entry) (x : Entry) → Contains list x → HasCost list x.cost
 has_cost_of list x there = record { arc = x.arc; contains = there }
 
--- incomparable entries are apart
-pub apart_from_pairs : (list : List Entry) → AllPairs AreIncomparable list → AreApart list
-apart_from_pairs [] pairs x y x_in y_in below = absurd (in_none x x_in)
-apart_from_pairs (z ∷ zs) pairs x y x_in y_in below = elim (cases_in z zs x x_in) [
+-- of two members, one stands before the other, or both are one
+pub pairs_cases : {X : Type 0} (R : X → X → Type 0) (xs : List X) → AllPairs R xs → (x y : X) → Contains xs x → Contains xs y → (x ≡ y) ⊎ (R x y ⊎ R y x)
+pairs_cases R [] pairs x y x_in y_in = absurd (in_none x x_in)
+pairs_cases R (z ∷ zs) pairs x y x_in y_in = elim (cases_in z zs x x_in) [
   | inl x_first ↦ elim (cases_in z zs y y_in) [
-    | inl y_first ↦ x_first ∙ sym y_first
-    | inr y_later ↦ absurd ((pair_with_first AreIncomparable z zs pairs y y_later).one_way (subst (λ (w : Entry). AtMost w.cost y.cost) x_first below))
+    | inl y_first ↦ inl (x_first ∙ sym y_first)
+    | inr y_later ↦ inr (inl (subst (λ w. R w y) (sym x_first) (pair_with_first R z zs pairs y y_later)))
   ]
   | inr x_later ↦ elim (cases_in z zs y y_in) [
-    | inl y_first ↦ absurd ((pair_with_first AreIncomparable z zs pairs x x_later).other_way (subst (λ (w : Entry). AtMost x.cost w.cost) y_first below))
-    | inr y_later ↦ apart_from_pairs zs (pairs_rest AreIncomparable z zs pairs) x y x_later y_later below
+    | inl y_first ↦ inr (inr (subst (λ w. R w x) (sym y_first) (pair_with_first R z zs pairs x x_later)))
+    | inr y_later ↦ pairs_cases R zs (pairs_rest R z zs pairs) x y x_later y_later
   ]
+]
+
+-- incomparable entries are apart
+pub apart_from_pairs : (list : List Entry) → AllPairs AreIncomparable list → AreApart list
+apart_from_pairs list pairs x y x_in y_in below = elim (pairs_cases AreIncomparable list pairs x y x_in y_in) [
+  | inl one ↦ one
+  | inr (inl before) ↦ absurd (before.one_way below)
+  | inr (inr behind) ↦ absurd (behind.other_way below)
 ]
 
 -- the entries of a front are apart

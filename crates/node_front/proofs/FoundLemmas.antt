@@ -16,8 +16,8 @@ use Rattle.std.proofs.lemmas.Option.{slice_get-map, slice_get-get_or}
 use Rattle.cost_vector.specs.Costs.{LexLess, lex_cmp, min_criteria, max_criteria}
 use Rattle.cost_vector.specs.declared.label.ArcNo.{ArcNo}
 use Rattle.cost_vector.proofs.Vectors.{LexLess-irrefl}
-use Rattle.list_laws.proofs.Members.{in_none, cases_in, each_in, in_filter, in_map, of_filter, of_map}
-use Rattle.list_laws.proofs.Pairs.{pairs_none, pairs_rest, pair_with_first, pairs_map}
+use Rattle.list_laws.proofs.Members.{in_none, each_in, in_filter, in_map, of_filter, of_map}
+use Rattle.list_laws.proofs.Pairs.{pairs_none, pairs_map}
 use Rattle.list_laws.proofs.OnceLaws.{alike_through, flat_in_any_order, in_append, pairs_append, range_once}
 use Rattle.list_laws.specs.Sets.{ListsOnce}
 use Rattle.event_machine.specs.Machine.{Label, IsSamePair}
@@ -31,7 +31,7 @@ use Rattle.pareto_front.specs.Fronts.{AreIncomparable, Entry, Front, IsFront, em
 use Rattle.pareto_front.proofs.FrontLaws.{pairs_of_map}
 use Rattle.node_front.specs.FoundFronts.{counted_labels, found_in, labels_told, settled_from}
 use Rattle.node_front.specs.NodeFronts.{Fronts, IsPlaced, SameElsewhere, front_at, fronts_by}
-use Rattle.node_front.proofs.ApartLemmas.{AtMost-same}
+use Rattle.node_front.proofs.ApartLemmas.{AtMost-same, pairs_cases}
 use Rattle.node_front.proofs.PlacedLemmas.{cases_number}
 use Rattle.node_front.proofs.RemovedLemmas.{pairs_front}
 
@@ -187,20 +187,6 @@ settled_once d n (f ∷ fs) fronts = pairs_append (λ l m. ¬ IsSamePair l m) (l
           λ i j e before within same. (incomparable i j e before within).one_way (AtMost-same (get_or f.settled i e).cost (get_or f.settled j e).cost same)
 
 -- ---- the entries of the target
-
--- of two members, one stands before the other, or both are one
-pairs_cases : {X : Type 0} (R : X → X → Type 0) (xs : List X) → AllPairs R xs → (x y : X) → Contains xs x → Contains xs y → (x ≡ y) ⊎ (R x y ⊎ R y x)
-pairs_cases R [] pairs x y x_in y_in = absurd (in_none x x_in)
-pairs_cases R (z ∷ zs) pairs x y x_in y_in = elim (cases_in z zs x x_in) [
-  | inl x_first ↦ elim (cases_in z zs y y_in) [
-    | inl y_first ↦ inl (x_first ∙ sym y_first)
-    | inr y_later ↦ inr (inl (subst (λ w. R w y) (sym x_first) (pair_with_first R z zs pairs y y_later)))
-  ]
-  | inr x_later ↦ elim (cases_in z zs y y_in) [
-    | inl y_first ↦ inr (inr (subst (λ w. R w x) (sym y_first) (pair_with_first R z zs pairs x x_later)))
-    | inr y_later ↦ pairs_cases R zs (pairs_rest R z zs pairs) x y x_later y_later
-  ]
-]
 
 module _ {D : ℕ} (list : List (FrontEntry D)) (ascending : AllPairs LexLess (map (λ (e : FrontEntry D). e.cost.0) list)) where
   one_of_cost : (x y : FrontEntry D) → Contains list x → Contains list y → x.cost.0 ≡ y.cost.0 → x ≡ y

@@ -1,7 +1,7 @@
 -- What was gathered of the candidates of a node gives the delta of its front.
-use Rattle.std.proofs.Common.{◌≡◌, ◌≢◌, ◌↔◌, ℕ, Bool, true, not, List, [], ◌∷◌, ◌++◌, map, inl, inr, refl, sym, ap, subst, ◌∙◌, arith}
-use Rattle.std.specs.Prelude.{All, AllPairs, Contains, filter, Result, Ok, Err, IfOk}
-use Rattle.std.proofs.lemmas.Bool.{cases_Bool, cases_lt, false≢true}
+use Rattle.std.proofs.Common.{map-id, ◌≡◌, ◌≢◌, ◌↔◌, ℕ, Bool, true, not, List, [], ◌∷◌, ◌++◌, map, inl, inr, refl, sym, ap, subst, ◌∙◌}
+use Rattle.std.specs.Prelude.{All, Contains, filter, Result, Ok, Err, IfOk}
+use Rattle.std.proofs.lemmas.Bool.{cases_Bool, false≢true}
 use Rattle.std.proofs.lemmas.List.Kept.{AllPairs-filter}
 use Rattle.cost_vector.proofs.Vectors.{AtMost-Dominates}
 use Rattle.list_laws.specs.Sets.{ListsOnce}
@@ -16,45 +16,31 @@ use Rattle.pareto_front.specs.Merging.{IsAdded, IsRemoved, IsLowered}
 use Rattle.node_front.specs.Apart.{AreApart}
 use Rattle.node_front.specs.Deltas.{Deltas, AppendsDelta, label_told, spot_told}
 use Rattle.node_front.specs.declared.merging.Survivor.{Survivor}
-use Rattle.node_front.specs.Survivors.{IsNews, IsMarked, HaveOtherCosts, told}
-use Rattle.node_front.proofs.ApartLemmas.{AtMost-same, has_append, has_cost_of, apart_not_dominated}
+use Rattle.node_front.specs.Survivors.{AreSurvivors, IsNews, IsMarked, HaveOtherCosts, told}
+use Rattle.node_front.proofs.ApartLemmas.{has_append, has_cost_of, apart_not_dominated}
 use Rattle.node_front.proofs.StaysLemmas.{stays_below}
-use Rattle.node_front.proofs.NeedlessLemmas.{told_entry_in, told_has_cost}
+use Rattle.node_front.proofs.NeedlessLemmas.{lowered_not_old, news_cases, told_entry_in}
 use Rattle.node_front.proofs.SurvivorsLemmas.{in_told, of_told}
-use Rattle.node_front.proofs.MergingLemmas.{IsGathering}
 
 -- labels of one node are those of their entries, and spots those of their costs
-label_again : {D : ℕ} (v : ℕ) (l : CompactLabel D) → l.node.0 ≡ v → l ≡ label_told v (entry_of l)
-label_again v l at = ap (λ u. label_told u (entry_of l)) at
+map_again : {X Y Z : Type 0} (f : X → Y) (g : Z → Y) (h : X → Z) (xs : List X) → ((x : X) → Contains xs x → f x ≡ g (h x)) → map f xs ≡ map g (map h xs)
+map_again f g h [] same = refl
+map_again f g h (x ∷ xs) same =
+    ap (λ y. y ∷ map f xs) (same x (in_first x xs)) ∙ ap (λ ys. g (h x) ∷ ys) (map_again f g h xs (λ y there. same y (in_rest x xs y there)))
 
-labels_again : {D : ℕ} (v : ℕ) (survivors : List (Survivor D)) → ((s : Survivor D) → Contains survivors s → s.label.node.0 ≡ v)
-    → map (λ (s : Survivor D). s.label) survivors ≡ map (label_told v) (told survivors)
-labels_again v [] at = refl
-labels_again {D} v (s ∷ ss) at =
-    ap (λ (l : CompactLabel D). l ∷ map (λ (t : Survivor D). t.label) ss) (label_again v s.label (at s (in_first s ss)))
-    ∙ ap (λ (ls : List (CompactLabel D)). label_told v (entry_of s.label) ∷ ls) (labels_again v ss (λ t there. at t (in_rest s ss t there)))
-
-spots_again : {D : ℕ} (v : ℕ) (spots : List (CompactSpot D)) → ((s : CompactSpot D) → Contains spots s → s.node.0 ≡ v)
-    → spots ≡ map (spot_told v) (map (λ (s : CompactSpot D). s.cost.0) spots)
-spots_again v [] at = refl
-spots_again {D} v (s ∷ ss) at =
-    ap (λ u. let t : CompactSpot D = spot_told u s.cost.0 in t ∷ ss) (at s (in_first s ss))
-    ∙ ap (λ (ts : List (CompactSpot D)). spot_told v s.cost.0 ∷ ts) (spots_again v ss (λ t there. at t (in_rest s ss t there)))
-
-module _ {D : ℕ} (front : Front) (v : ℕ) (candidates : List (CompactLabel D)) (survivors : List (Survivor D)) (gathering : IsGathering front
-    candidates survivors)
-    (marks : All (IsMarked v front) survivors) (apart : AreApart (entries front)) (spares : All (λ (l : CompactLabel D). SparesSettled front
-    l.cost.0) candidates) where
+module _ {D : ℕ} (front : Front) (v : ℕ) (candidates : List (CompactLabel D)) (survivors : List (Survivor D))
+    (news : AreSurvivors (IsNews front (map entry_of candidates)) survivors) (marks : All (IsMarked v front) survivors) (apart : AreApart (entries front))
+    (spares : All (λ (l : CompactLabel D). SparesSettled front l.cost.0) candidates) where
   news_of : (s : Survivor D) → Contains survivors s → IsNews front (map entry_of candidates) (entry_of s.label)
-  news_of s there = (gathering.news.exact (entry_of s.label)).0 (in_told survivors s there)
+  news_of s there = (news.exact (entry_of s.label)).0 (in_told survivors s there)
 
   mark_of : (s : Survivor D) → Contains survivors s → IsMarked v front s
   mark_of = each_in (IsMarked v front) survivors marks
 
   -- a survivor is a candidate
   news_candidate : (e : Entry) → IsNews front (map entry_of candidates) e → Contains (map entry_of candidates) e
-  news_candidate e news = elim ((in_append (entries front) (map entry_of candidates) e).0 news.stays.contains) [
-    | inl old ↦ absurd (news.not_old old)
+  news_candidate e is_news = elim ((in_append (entries front) (map entry_of candidates) e).0 is_news.stays.contains) [
+    | inl old ↦ absurd (is_news.not_old old)
     | inr new ↦ new
   ]
 
@@ -63,97 +49,61 @@ module _ {D : ℕ} (front : Front) (v : ℕ) (candidates : List (CompactLabel D)
       let (l, l_in, is) = of_map (entry_of {D = D}) candidates e there in
       subst (λ (x : Entry). SparesSettled front x.cost) (sym is) (each_in (λ (m : CompactLabel D). SparesSettled front m.cost.0) candidates spares l l_in)
 
+  -- so survivors spare the settled entries
   pub survivors_spare : All (λ (s : Survivor D). SparesSettled front s.label.cost.0) survivors
   survivors_spare = all_from_in (λ (s : Survivor D). SparesSettled front s.label.cost.0) survivors
       (λ s there. candidate_spares (entry_of s.label) (news_candidate (entry_of s.label) (news_of s there)))
 
-  -- those that pass a test
-  told_where : (p : Survivor D → Bool) (e : Entry) → Contains (told (filter p survivors)) e
-      → (s : Survivor D) × Contains survivors s × (p s ≡ true) × (e ≡ entry_of s.label)
-  told_where p e there =
-      let (s, s_in, is) = of_told (filter p survivors) e there in
-      let (old, passes) = of_filter p survivors s s_in in
-      (s, old, passes, is)
-
-  told_once : (p : Survivor D → Bool) → AllPairs ◌≢◌ (told (filter p survivors))
-  told_once p = pairs_map HaveOtherCosts ◌≢◌ (λ (s : Survivor D). entry_of s.label) (λ s t differ same. differ (ap (λ (e : Entry). e.cost) same))
-      (filter p survivors) (AllPairs-filter HaveOtherCosts p survivors gathering.news.one_a_cost)
-
   told_nodes : (p : Survivor D → Bool) (s : Survivor D) → Contains (filter p survivors) s → s.label.node.0 ≡ v
   told_nodes p s there = (mark_of s (of_filter p survivors s there).0).node
 
+  -- those that pass a test, which tells what is so of their entries
+  told_exact : (p : Survivor D → Bool) (Q : Entry → Type 0) → ((s : Survivor D) → Contains survivors s → p s ≡ true → Q (entry_of s.label))
+      → ((s : Survivor D) → Contains survivors s → Q (entry_of s.label) → p s ≡ true) → ((e : Entry) → Q e → IsNews front (map entry_of candidates) e)
+      → ListsOnce Q (told (filter p survivors))
+  told_exact p Q holds passes is_news = record {
+    exact = λ e. (
+      λ there.
+          let (s, s_in, is) = of_told (filter p survivors) e there in
+          let (old, test) = of_filter p survivors s s_in in
+          subst Q (sym is) (holds s old test),
+      λ q.
+          let (s, s_in, is) = of_told survivors e ((news.exact e).1 (is_news e q)) in
+          subst (Contains (told (filter p survivors))) (sym is)
+          (in_told (filter p survivors) s (in_filter p survivors s s_in (passes s s_in (subst Q is q)))),
+    );
+    once = pairs_map HaveOtherCosts ◌≢◌ (λ (s : Survivor D). entry_of s.label) (λ s t differ same. differ (ap (λ (e : Entry). e.cost) same))
+        (filter p survivors) (AllPairs-filter HaveOtherCosts p survivors news.one_a_cost);
+  }
+
   -- the new ones
   new_added : ListsOnce (IsAdded front (map entry_of candidates)) (told (filter (λ (s : Survivor D). s.is_new) survivors))
-  new_added = record {
-    exact = λ e. (
-      λ there. let (s, s_in, new, is) = told_where (λ (t : Survivor D). t.is_new) e there in
-          subst (IsAdded front (map entry_of candidates)) (sym is) (record { stays = (news_of s s_in).stays; new = (mark_of s s_in).is_new.0 new }),
-      λ added.
-          let news : IsNews front (map entry_of candidates) e = record {
-            stays = added.stays;
-            not_old = λ old. added.new (has_cost_of (entries front)
-                e old);
-          } in
-          let (s, s_in, is) = of_told survivors e ((gathering.news.exact e).1 news) in
-          let new = (mark_of s s_in).is_new.1 (subst (λ (x : Entry). ¬ HasCost (entries front) x.cost) is added.new) in
-          subst (Contains (told (filter (λ (t : Survivor D). t.is_new) survivors))) (sym is)
-          (in_told (filter (λ (t : Survivor D). t.is_new) survivors) s (in_filter (λ (t : Survivor D). t.is_new) survivors s s_in new)),
-    );
-    once = told_once (λ (s : Survivor D). s.is_new);
-  }
+  new_added = told_exact (λ (s : Survivor D). s.is_new) (IsAdded front (map entry_of candidates))
+      (λ s s_in new. record { stays = (news_of s s_in).stays; new = (mark_of s s_in).is_new.0 new })
+      (λ s s_in added. (mark_of s s_in).is_new.1 added.new)
+      (λ e added. record { stays = added.stays; not_old = λ old. added.new (has_cost_of (entries front) e old) })
 
   -- the others
   others_lowered : ListsOnce (IsLowered front (map entry_of candidates)) (told (filter (λ (s : Survivor D). not s.is_new) survivors))
-  others_lowered = record {
-    exact = λ e. (
-      λ there. let (s, s_in, not_new, is) = told_where (λ (t : Survivor D). not t.is_new) e there in
-          subst (IsLowered front (map entry_of candidates)) (sym is) (lowered s s_in not_new),
-      λ low.
-          let news : IsNews front (map entry_of candidates) e = record { stays = low.stays; not_old = λ old. not_same e low old } in
-          let (s, s_in, is) = of_told survivors e ((gathering.news.exact e).1 news) in
-          let not_new = unmarked s s_in (subst (λ (x : Entry). HasCost (entries front) x.cost) is (record { arc = low.arc; contains = low.old })) in
-          subst (Contains (told (filter (λ (t : Survivor D). not t.is_new) survivors))) (sym is)
-          (in_told (filter (λ (t : Survivor D). not t.is_new) survivors) s (in_filter (λ (t : Survivor D). not t.is_new) survivors s s_in not_new)),
-    );
-    once = told_once (λ (s : Survivor D). not s.is_new);
-  } where
-    lowered : (s : Survivor D) → Contains survivors s → not s.is_new ≡ true → IsLowered front (map entry_of candidates) (entry_of s.label)
-    lowered s s_in not_new = elim (told_has_cost (entries front) s.label.cost.0) [
-      | inr none ↦ absurd (false≢true (sym (ap not ((mark_of s s_in).is_new.1 none)) ∙ not_new))
-      | inl has ↦
-          let news = news_of s s_in in
-          let least = news.stays.least (record { cost = s.label.cost.0; arc = has.arc })
-          ((in_append (entries front) (map entry_of candidates) (record { cost = s.label.cost.0; arc = has.arc })).1 (inl has.contains)) refl in
-          record {
-            stays = news.stays;
-            arc = has.arc;
-            old = has.contains;
-            lesser = elim (cases_lt s.label.arc.0 has.arc) [
-              | inl less ↦ less
-              | inr not_less ↦
-                  let same : has.arc ≡ s.label.arc.0 = omega (arith, least, not_less) in
-                  absurd (news.not_old (subst (λ a. Contains (entries front) (record { cost = s.label.cost.0; arc = a })) same has.contains))
-            ];
-          }
-    ]
-
-    not_same : (e : Entry) → IsLowered front (map entry_of candidates) e → ¬ Contains (entries front) e
-    not_same e low old =
-        let one = apart e (record { cost = e.cost; arc = low.arc }) old low.old (AtMost-same e.cost e.cost refl) in
-        omega (arith, low.lesser, ap (λ (x : Entry). x.arc) one)
-
-    unmarked : (s : Survivor D) → Contains survivors s → HasCost (entries front) s.label.cost.0 → not s.is_new ≡ true
-    unmarked s s_in has = elim (cases_Bool s.is_new) [
-      | inl new ↦ absurd ((mark_of s s_in).is_new.0 new has)
-      | inr not_new ↦ ap not not_new
-    ]
+  others_lowered = told_exact (λ (s : Survivor D). not s.is_new) (IsLowered front (map entry_of candidates)) lowered
+      (λ s s_in low. elim (cases_Bool s.is_new) [
+        | inl new ↦ absurd ((mark_of s s_in).is_new.0 new (record { arc = low.arc; contains = low.old }))
+        | inr not_new ↦ ap not not_new
+      ])
+      (λ e low. record { stays = low.stays; not_old = lowered_not_old front (map entry_of candidates) e apart low }) where
+        lowered : (s : Survivor D) → Contains survivors s → not s.is_new ≡ true → IsLowered front (map entry_of candidates) (entry_of s.label)
+        lowered s s_in not_new =
+            elim (news_cases front (map entry_of candidates) (entry_of s.label) (news_of s s_in).stays (news_of s s_in).not_old) [
+              | inl added ↦ absurd (false≢true (sym (ap not ((mark_of s s_in).is_new.1 added.new)) ∙ not_new))
+              | inr low ↦ low
+            ]
 
   -- what survivors dominate is what candidates do
   removed_same_by : (c : List ℕ) → (HasCost front.unsettled c × IsDominated (told survivors) c) ↔ IsRemoved front (map entry_of candidates) c
   removed_same_by c = (
     λ h. record {
       old = (has_append front.settled front.unsettled c).1 (inr h.0);
-      dominated = record { by = h.1.by; contains = news_candidate h.1.by ((gathering.news.exact h.1.by).0 h.1.contains); dominates = h.1.dominates };
+      dominated = record { by = h.1.by; contains = news_candidate h.1.by ((news.exact h.1.by).0 h.1.contains); dominates = h.1.dominates };
     },
     λ removed.
         let e = removed.dominated.by in
@@ -167,7 +117,7 @@ module _ {D : ℕ} (front : Front) (v : ℕ) (candidates : List (CompactLabel D)
           ],
           elim (told_entry_in (entries front) b) [
             | inl old ↦ absurd (apart_not_dominated (entries front) apart b (record { cost = c; arc = removed.old.arc }) old removed.old.contains less)
-            | inr new ↦ record { by = b; contains = (gathering.news.exact b).1 (record { stays = stays; not_old = new }); dominates = less }
+            | inr new ↦ record { by = b; contains = (news.exact b).1 (record { stays = stays; not_old = new }); dominates = less }
           ],
         ),
   )
@@ -190,27 +140,19 @@ module _ {D : ℕ} (front : Front) (v : ℕ) (candidates : List (CompactLabel D)
           (map (λ (s : CompactSpot D). s.cost.0) grows.more) removed_same_by grows.costs;
       lowered = others_lowered;
     };
-    added = added ∙ ap (λ (ls : List (CompactLabel D)). before.added ++ ls)
-        (labels_again v (filter (λ (s : Survivor D). s.is_new) survivors) (told_nodes (λ (s : Survivor D). s.is_new)));
-    removed = grows.appended ∙ ap (λ (ss : List (CompactSpot D)). before.removed ++ ss)
-        (spots_again v grows.more (each_in (λ (s : CompactSpot D). s.node.0 ≡ v) grows.more grows.node));
-    lowered = lowered ∙ ap (λ (ls : List (CompactLabel D)). before.lowered ++ ls)
-        (labels_again v (filter (λ (s : Survivor D). not s.is_new) survivors) (told_nodes (λ (s : Survivor D). not s.is_new)));
-  }
+    added = added ∙ ap (λ (ls : List (CompactLabel D)). before.added ++ ls) (labels_again (λ (s : Survivor D). s.is_new));
+    removed = grows.appended ∙ ap (λ (ss : List (CompactSpot D)). before.removed ++ ss) (spots_again grows.more grows.node);
+    lowered = lowered ∙ ap (λ (ls : List (CompactLabel D)). before.lowered ++ ls) (labels_again (λ (s : Survivor D). not s.is_new));
+  } where
+    labels_again : (p : Survivor D → Bool)
+        → map (λ (s : Survivor D). s.label) (filter p survivors) ≡ map (label_told v) (told (filter p survivors))
+    labels_again p = map_again (λ (s : Survivor D). s.label) (label_told v) (λ (s : Survivor D). entry_of s.label) (filter p survivors)
+        (λ s there. ap (λ u. label_told u (entry_of s.label)) (told_nodes p s there))
 
-  -- the same, read at other names
-  pub appended_at : (was before after : Deltas D) (first second : List (Survivor D)) → was ≡ before → first ≡ survivors → second ≡ survivors
-      → GrowsBy v (λ c. HasCost front.unsettled c × IsDominated (told first) c) was.removed after.removed
-      → after.added ≡ was.added ++ map (λ (s : Survivor D). s.label) (filter (λ (s : Survivor D). s.is_new) second)
-      → after.lowered ≡ was.lowered ++ map (λ (s : Survivor D). s.label) (filter (λ (s : Survivor D). not s.is_new) second)
-      → AppendsDelta v front (map entry_of candidates) before after
-  appended_at was before after first second is_was is_first is_second grows added lowered =
-      subst (λ (d : Deltas D). AppendsDelta v front (map entry_of candidates) d after) is_was (appended_is_delta was after
-      (subst (λ (ss : List (Survivor D)). GrowsBy v (λ c. HasCost front.unsettled c × IsDominated (told ss) c) was.removed after.removed) is_first grows)
-      (subst (λ (ss : List (Survivor D)). after.added ≡ was.added ++ map (λ (s : Survivor D). s.label) (filter (λ (s : Survivor D). s.is_new) ss))
-      is_second added)
-      (subst (λ (ss : List (Survivor D)). after.lowered ≡ was.lowered ++ map (λ (s : Survivor D). s.label) (filter (λ (s : Survivor D). not s.is_new)
-      ss)) is_second lowered))
+    spots_again : (spots : List (CompactSpot D)) → All (λ (s : CompactSpot D). s.node.0 ≡ v) spots
+        → spots ≡ map (spot_told v) (map (λ (s : CompactSpot D). s.cost.0) spots)
+    spots_again spots at = sym (map-id spots) ∙ map_again (λ (s : CompactSpot D). s) (spot_told v) (λ (s : CompactSpot D). s.cost.0) spots
+        (λ s there. ap (λ u. spot_told u s.cost.0) (each_in (λ (t : CompactSpot D). t.node.0 ≡ v) spots at s there))
 
 -- what follows where both hold at an Ok
 pub if_ok_both : {X E A B C : Type 0} (r : Result X E) → IfOk r (λ _. A) → IfOk r (λ _. B) → (A → B → C) → IfOk r (λ _. C)

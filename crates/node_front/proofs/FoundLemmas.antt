@@ -1,33 +1,39 @@
 -- What is found in the fronts of all nodes, of which one has given up its settled entries.
-use Rattle.std.proofs.Common.{◌≡◌, ◌≢◌, ◌⊎◌, ◌↔◌, ℕ, zero, suc, ◌-◌, ◌^◌, min, take, ◌+◌, ◌<◌, ◌≤◌, List, [], ◌∷◌, ◌++◌, Some, None, Option, length, map, get_or, inl, inr, refl, sym, ap, subst, ◌∙◌, arith, option_map, Ordering, Less, Equal, Greater, length-take}
-use Rattle.std.specs.Prelude.{AllPairs, Contains, slice_get}
+use Rattle.std.proofs.Common.{Bool, true, false, ◌≡◌, ◌≢◌, ◌⊎◌, ◌↔◌, ℕ, zero, suc, ◌-◌, ◌^◌, min, take, ◌+◌, ◌<◌, ◌≤◌, List, [], ◌∷◌, ◌++◌, Some, None, Option, length, map, get_or, inl, inr, refl, sym, ap, subst, ◌∙◌, arith, option_map, Ordering, Less, Equal, Greater}
+use Rattle.std.specs.Prelude.{AllPairs, Contains, filter, flat_map, slice_get}
+use Rattle.std.specs.List.{range_with_len}
 use Rattle.std.specs.Cmp.Lexicographic.{nat_list_cmp_total}
 use Rattle.std.specs.List.Sorted.{IsNonDecreasingBy, IsPartitionPoint}
 use Rattle.std.specs.Ordering.{ordering_index}
-use Rattle.std.proofs.lemmas.Bool.{cases_lt}
+use Rattle.std.proofs.lemmas.Bool.{cases_lt, false≢true}
 use Rattle.std.proofs.lemmas.Cmp.{tied_itself}
-use Rattle.std.proofs.lemmas.List.{get_or_default, get_or_past, get_or-take, length-append, length-map, take_all, take_more}
-use Rattle.std.proofs.lemmas.List.Elements.{All-nil}
+use Rattle.std.proofs.lemmas.List.{ext_get_or, get_or_default, length-append, length-map, take_more}
+use Rattle.std.proofs.lemmas.List.Elements.{All-nil, Contains-get_or}
+use Rattle.std.proofs.lemmas.List.FromFn.{get_or-map-range_with_len, length-map-range_with_len}
+use Rattle.std.proofs.lemmas.List.Kept.{AllPairs-filter}
+use Rattle.std.proofs.lemmas.List.Sorted.{length_permutation}
 use Rattle.std.proofs.lemmas.Option.{slice_get-map, slice_get-get_or}
 use Rattle.cost_vector.specs.Costs.{LexLess, lex_cmp, min_criteria, max_criteria}
 use Rattle.cost_vector.specs.declared.label.ArcNo.{ArcNo}
 use Rattle.cost_vector.proofs.Vectors.{LexLess-irrefl}
-use Rattle.list_laws.proofs.Members.{in_none, cases_in, in_map, of_map}
-use Rattle.list_laws.proofs.Pairs.{pairs_none, pairs_rest, pair_with_first, pairs_map}
-use Rattle.list_laws.proofs.OnceLaws.{in_append, pairs_append}
+use Rattle.list_laws.proofs.Members.{in_none, each_in, in_filter, in_map, of_filter, of_map}
+use Rattle.list_laws.proofs.Pairs.{pairs_none, pairs_map}
+use Rattle.list_laws.proofs.OnceLaws.{alike_through, flat_in_any_order, in_append, pairs_append, range_once}
+use Rattle.list_laws.specs.Sets.{ListsOnce}
 use Rattle.event_machine.specs.Machine.{Label, IsSamePair}
-use Rattle.path_readback.specs.Found.{HasSettled, IsFound}
+use Rattle.path_readback.specs.Found.{IsFound}
 use Rattle.road_network.specs.Limits.{max_nodes}
 use Rattle.road_network.specs.Network.{IsNode}
 use Rattle.pareto_front.specs.declared.front.FrontEntry.{FrontEntry}
 use Rattle.pareto_front.proofs.Ascending.{rises_to}
 use Rattle.pareto_front.specs.Calls.{ListsSettled, told_entry}
 use Rattle.pareto_front.specs.Fronts.{AreIncomparable, Entry, Front, IsFront, empty_front}
+use Rattle.pareto_front.proofs.FrontLaws.{pairs_of_map}
 use Rattle.node_front.specs.FoundFronts.{counted_labels, found_in, labels_told, settled_from}
 use Rattle.node_front.specs.NodeFronts.{Fronts, IsPlaced, SameElsewhere, front_at, fronts_by}
-use Rattle.node_front.proofs.ApartLemmas.{AtMost-same}
+use Rattle.node_front.proofs.ApartLemmas.{AtMost-same, pairs_cases}
 use Rattle.node_front.proofs.PlacedLemmas.{cases_number}
-use Rattle.node_front.proofs.RemovedLemmas.{pairs_front, pairs_unmap}
+use Rattle.node_front.proofs.RemovedLemmas.{pairs_front}
 
 abbrev label : ℕ → Entry → Label
 label v e = record { node = v; cost = e.cost; arc = e.arc }
@@ -36,10 +42,7 @@ label v e = record { node = v; cost = e.cost; arc = e.arc }
 
 -- one more front at the end
 pub settled_push : (n : ℕ) (fs : List Front) (f : Front) → length (settled_from n (fs ++ f ∷ [])) ≡ length (settled_from n fs) + length f.settled
-settled_push n [] f =
-    let one = length-append (labels_told n f.settled) [] in
-    let long = length-map f.settled (λ (e : Entry). let l : Label = record { node = n; cost = e.cost; arc = e.arc } in l) in
-    omega (arith, one, long)
+settled_push n [] f = omega (arith, length-append (labels_told n f.settled) [], length-map f.settled (label n))
 settled_push n (g ∷ fs) f =
     let rest = settled_push (n + 1) fs f in
     let whole = length-append (labels_told n g.settled) (settled_from (n + 1) (fs ++ f ∷ [])) in
@@ -60,121 +63,116 @@ counted_more fs i f count n more within at counted is_n is_more =
 settled_first : (n : ℕ) (f : Front) (fs : List Front) → length (settled_from n (f ∷ fs)) ≡ length f.settled + length (settled_from (n + 1) fs)
 settled_first n f fs =
     length-append (labels_told n f.settled) (settled_from (n + 1) fs)
-    ∙ ap (λ long. long + length (settled_from (n + 1) fs)) (length-map f.settled (λ (e : Entry). label n e))
+    ∙ ap (λ long. long + length (settled_from (n + 1) fs)) (length-map f.settled (label n))
 
--- two fronts at each place, which are the same but at the place n, where the second has no entries
-module _ (a b : ℕ → Front) (n : ℕ) (alike : (k : ℕ) → k ≢ n → a k ≡ b k) (none : b n ≡ empty_front) where
-  -- no number has that place
-  same_elsewhere : (v : ℕ) (places : List ℕ) → ((i : ℕ) → i < length places → get_or places i 0 ≢ n)
-      → length (settled_from v (map a places)) ≡ length (settled_from v (map b places))
-  same_elsewhere v [] other = refl
-  same_elsewhere v (p ∷ ps) other =
-      let head = ap (λ (f : Front). length f.settled) (alike p (other 0 (omega arith))) in
-      let rest = same_elsewhere (v + 1) ps (λ i below. other (suc i) (omega (arith, below))) in
-      omega (arith, head, rest, settled_first v (a p) (map a ps), settled_first v (b p) (map b ps))
+-- ---- each front that was begun is one node's
 
-  -- one number has it
-  more_by_one : (v : ℕ) (places : List ℕ) (i : ℕ) → i < length places → get_or places i 0 ≡ n
-      → ((j : ℕ) → j < length places → get_or places j 0 ≡ n → j ≡ i)
-      → length (settled_from v (map a places)) ≡ length (settled_from v (map b places)) + length (a n).settled
-  more_by_one v [] i within here only = absurd (omega (arith, within))
-  more_by_one v (p ∷ ps) zero within here only =
-      let head = ap (λ k. length (a k).settled) here in
-      let empty = ap (λ k. length (b k).settled) here ∙ ap (λ (f : Front). length f.settled) none in
-      let rest = same_elsewhere (v + 1) ps (λ i below at. omega (arith, only (suc i) (omega (arith, below)) at)) in
-      omega (arith, head, empty, rest, settled_first v (a p) (map a ps), settled_first v (b p) (map b ps))
-  more_by_one v (p ∷ ps) (suc i) within here only =
-      let other : p ≢ n = λ at. omega (arith, only 0 (omega arith) at) in
-      let head = ap (λ (f : Front). length f.settled) (alike p other) in
-      let rest = more_by_one (v + 1) ps i (omega (arith, within)) here (λ j below at. omega (arith, only (suc j) (omega (arith, below)) at)) in
-      omega (arith, head, rest, settled_first v (a p) (map a ps), settled_first v (b p) (map b ps))
+abbrev positive : ℕ → Bool
+positive zero = false
+positive (suc k) = true
 
--- none has settled entries
-none_settled : (a : ℕ → Front) → ((k : ℕ) → a k ≡ empty_front) → (v : ℕ) (places : List ℕ) → length (settled_from v (map a places)) ≡ 0
-none_settled a none v [] = refl
-none_settled a none v (p ∷ ps) =
-    let first = ap (λ (f : Front). length f.settled) (none p) in
-    omega (arith, first, none_settled a none (v + 1) ps, settled_first v (a p) (map a ps))
+positive_above : (k : ℕ) → positive k ≡ true → 0 < k
+positive_above zero test = absurd (false≢true test)
+positive_above (suc k) test = omega arith
 
--- the settled labels of all nodes are as many as those of the fronts that were begun
-pub settled_of_begun : (places : List ℕ) (states : List Front) → IsPlaced places states
-    → length (settled_from 0 (fronts_by places states)) ≡ length (settled_from 0 states)
-settled_of_begun places states placed = subst Alike (take_all (length states) states (omega arith)) (alike_to (length states) (omega arith))
-  where
-    Alike : List Front → Type 0
-    Alike fs = length (settled_from 0 (fronts_by places fs)) ≡ length (settled_from 0 fs)
+positive_test : (k : ℕ) → 0 < k → positive k ≡ true
+positive_test zero above = absurd (omega (arith, above))
+positive_test (suc k) above = refl
 
-    at_place : ℕ → ℕ → Front
-    at_place m k = get_or (take m states) k empty_front
+-- the settled labels are those of the fronts at places but 0
+settled_at : (front : ℕ → Front) → front 0 ≡ empty_front → (v : ℕ) (places : List ℕ)
+    → length (settled_from v (map front places)) ≡ length (flat_map (λ k. (front k).settled) (filter positive places))
+settled_at front none v [] = refl
+settled_at front none v (zero ∷ ks) =
+    let first = ap (λ (f : Front). length f.settled) none in
+    omega (arith, first, settled_at front none (v + 1) ks, settled_first v (front 0) (map front ks))
+settled_at front none v (suc k ∷ ks) =
+    let whole = length-append (front (suc k)).settled (flat_map (λ j. (front j).settled) (filter positive ks)) in
+    omega (arith, whole, settled_at front none (v + 1) ks, settled_first v (front (suc k)) (map front ks))
 
-    past : (m k : ℕ) → m ≤ k → at_place m k ≡ empty_front
-    past m k beyond = get_or_past (take m states) k empty_front (omega (arith, beyond, length-take m states))
+module _ (places : List ℕ) (states : List Front) (placed : IsPlaced places states) where
+  abbrev IsBegun : ℕ → Type 0
+  IsBegun k = (0 < k) × (k < length states)
 
-    first_only : (k : ℕ) → at_place 1 k ≡ empty_front
-    first_only zero = get_or-take 1 states 0 empty_front (omega arith) ∙ placed.first
-    first_only (suc k) = past 1 (suc k) (omega arith)
+  positive_once : (ks : List ℕ) → ((k : ℕ) → 0 < k → Contains ks k ↔ (k < length states)) → AllPairs (λ a b. 0 < a → a ≢ b) ks
+      → ListsOnce IsBegun (filter positive ks)
+  positive_once ks members pairs = record {
+    exact = λ k. (
+      λ there.
+          let (old, test) = of_filter positive ks k there in
+          let above = positive_above k test in
+          (above, (members k above).0 old),
+      λ h. in_filter positive ks k ((members k h.0).1 h.1) (positive_test k h.0),
+    );
+    once = λ i j d before within.
+        let k = get_or (filter positive ks) i d in
+        let there = Contains-get_or (filter positive ks) i d (omega (arith, before, within)) in
+        AllPairs-filter (λ a b. 0 < a → a ≢ b) positive ks pairs i j d before within (positive_above k (of_filter positive ks k there).1);
+  }
 
-    -- one front more
-    one_more : (n : ℕ) → 0 < n → n < length states → Alike (take n states) → Alike (take (n + 1) states)
-    one_more n positive within before =
-        let (i, inside, here) = placed.used n positive within in
-        let at : get_or places i 0 ≡ n = get_or_default places i 0 n inside ∙ here in
-        let only : (j : ℕ) → j < length places → get_or places j 0 ≡ n → j ≡ i =
-        λ j below there. placed.own j i (there ∙ sym at) (λ is. omega (arith, is, there, positive)) in
-        let same : (k : ℕ) → k ≢ n → at_place (n + 1) k ≡ at_place n k = λ k other. elim (cases_lt k n) [
-          | inl less ↦ get_or-take (n + 1) states k empty_front (omega (arith, less)) ∙ sym (get_or-take n states k empty_front less)
-          | inr not_less ↦ past (n + 1) k (omega (arith, not_less, other)) ∙ sym (past n k (omega (arith, not_less)))
-        ] in
-        let more = more_by_one (at_place (n + 1)) (at_place n) n same (past n n (omega arith)) 0 places i inside at only in
-        let last = ap (λ (f : Front). length f.settled) (get_or-take (n + 1) states n empty_front (omega arith)) in
-        let longer = ap (λ fs. length (settled_from 0 fs)) (take_more states n empty_front within) ∙ settled_push 0 (take n states) (get_or states n empty_front) in
-        omega (arith, more, last, longer, before)
+  -- so the settled labels of all nodes are as many as those of these fronts
+  pub settled_of_begun : length (settled_from 0 (fronts_by places states)) ≡ length (settled_from 0 states)
+  settled_of_begun =
+      let numbers = range_with_len 0 (length states) in
+      let once = range_once (length states) in
+      let moved = flat_in_any_order (λ k. (front k).settled) IsBegun (filter positive numbers) (filter positive places)
+      (positive_once numbers (λ k above. once.exact k) (λ i j d before within above. once.once i j d before within))
+      (positive_once places (λ k above. (each_in (λ j. j < length states) places placed.begun k, placed.used k above)) apart) in
+      settled_at front placed.first 0 places ∙ length_permutation _ _ moved ∙ sym (settled_at front placed.first 0 numbers)
+      ∙ ap (λ fs. length (settled_from 0 fs)) again where
+        front : ℕ → Front
+        front k = get_or states k empty_front
 
-    alike_to : (m : ℕ) → m ≤ length states → Alike (take m states)
-    alike_to zero within = none_settled (at_place 0) (λ k. past 0 k (omega arith)) 0 places
-    alike_to (suc zero) within =
-        let longer = ap (λ fs. length (settled_from 0 fs)) (take_more states 0 empty_front (omega (arith, within))) in
-        let first = ap (λ (f : Front). length f.settled) placed.first in
-        omega (arith, none_settled (at_place 1) first_only 0 places, longer, first, settled_push 0 [] (get_or states 0 empty_front))
-    alike_to (suc (suc m)) within =
-        let next : suc m + 1 ≡ suc (suc m) = omega arith in
-        subst (λ n. Alike (take n states)) next (one_more (suc m) (omega arith) (omega (arith, within)) (alike_to (suc m) (omega (arith, within))))
+        again : map front (range_with_len 0 (length states)) ≡ states
+        again =
+            let long = length-map-range_with_len front 0 (length states) in
+            ext_get_or empty_front (map front (range_with_len 0 (length states))) states long (λ i inside.
+            get_or-map-range_with_len front 0 (length states) i i empty_front (omega (arith, inside, long)) (omega arith))
+
+        apart : AllPairs (λ a b. 0 < a → a ≢ b) places
+        apart i j d before within above same =
+            let at_i = get_or_default places i d 0 (omega (arith, before, within)) in
+            let at_j = get_or_default places j d 0 within in
+            omega (arith, before, placed.own i j (sym at_i ∙ same ∙ at_j) (λ zero. omega (arith, above, at_i, zero)))
 
 -- a label is that of an entry of its node
 in_labels : (n : ℕ) (es : List Entry) (v : ℕ) (e : Entry)
-    → Contains (labels_told n es) (record { node = v; cost = e.cost; arc = e.arc }) ↔ ((v ≡ n) × Contains es e)
+    → Contains (labels_told n es) (label v e) ↔ ((v ≡ n) × Contains es e)
 in_labels n es v e = (
   λ there.
-      let (x, x_in, is) = of_map (λ (y : Entry). let l : Label = record { node = n; cost = y.cost; arc = y.arc } in l) es
-      (record { node = v; cost = e.cost; arc = e.arc }) there in
+      let (x, x_in, is) = of_map (label n) es (label v e) there in
       (ap (λ (l : Label). l.node) is, subst (Contains es) (sym (ap (λ (l : Label). let y : Entry = record { cost = l.cost; arc = l.arc } in y) is)) x_in),
-  λ h. subst (λ u. Contains (labels_told n es) (record { node = u; cost = e.cost; arc = e.arc })) (sym h.0)
-      (in_map (λ (y : Entry). let l : Label = record { node = n; cost = y.cost; arc = y.arc } in l) es e h.1),
+  λ h. rw h.0 (in_map (label n) es e h.1),
 )
 
-pub in_settled : (n : ℕ) (fs : List Front) (v : ℕ) (e : Entry) → Contains (settled_from n fs) (record { node = v; cost = e.cost; arc = e.arc })
+-- of one of the fronts
+in_settled : (n : ℕ) (fs : List Front) (v : ℕ) (e : Entry) → Contains (settled_from n fs) (label v e)
     ↔ ((k : ℕ) × (v ≡ n + k) × Contains (get_or fs k empty_front).settled e)
-in_settled n [] v e = (λ there. absurd (in_none (record { node = v; cost = e.cost; arc = e.arc }) there), λ h. absurd (in_none e h.2))
+in_settled n [] v e = (λ there. absurd (in_none (label v e) there), λ h. absurd (in_none e h.2))
 in_settled n (f ∷ fs) v e = (
-  λ there. elim ((in_append (labels_told n f.settled) (settled_from (n + 1) fs) (record { node = v; cost = e.cost; arc = e.arc })).0 there) [
+  λ there. elim ((in_append (labels_told n f.settled) (settled_from (n + 1) fs) (label v e)).0 there) [
     | inl here ↦ let (at, e_in) = (in_labels n f.settled v e).0 here in (zero, omega (arith, at), e_in)
     | inr later ↦ let (k, at, e_in) = (in_settled (n + 1) fs v e).0 later in (suc k, omega (arith, at), e_in)
   ],
-  λ h. back (λ k at e_in. (in_settled (n + 1) fs v e).1 (k, at, e_in)) h,
+  λ h. (in_append (labels_told n f.settled) (settled_from (n + 1) fs) (label v e)).1 (back (in_settled (n + 1) fs v e).1 h),
 ) where
-  back : ((k : ℕ) → v ≡ (n + 1) + k → Contains (get_or fs k empty_front).settled e
-      → Contains (settled_from (n + 1) fs) (record { node = v; cost = e.cost; arc = e.arc }))
+  back : ((k : ℕ) × (v ≡ (n + 1) + k) × Contains (get_or fs k empty_front).settled e → Contains (settled_from (n + 1) fs) (label v e))
       → (k : ℕ) × (v ≡ n + k) × Contains (get_or (f ∷ fs) k empty_front).settled e
-      → Contains (settled_from n (f ∷ fs)) (record { node = v; cost = e.cost; arc = e.arc })
-  back later (zero, at, e_in) = (in_append (labels_told n f.settled) (settled_from (n + 1) fs) (record { node = v; cost = e.cost; arc = e.arc })).1
-      (inl ((in_labels n f.settled v e).1 (omega (arith, at), e_in)))
-  back later (suc k, at, e_in) = (in_append (labels_told n f.settled) (settled_from (n + 1) fs) (record { node = v; cost = e.cost; arc = e.arc })).1
-      (inr (later k (omega (arith, at)) e_in))
+      → Contains (labels_told n f.settled) (label v e) ⊎ Contains (settled_from (n + 1) fs) (label v e)
+  back later (zero, at, e_in) = inl ((in_labels n f.settled v e).1 (omega (arith, at), e_in))
+  back later (suc k, at, e_in) = inr (later (k, omega (arith, at), e_in))
+
+-- of the front of its node
+in_fronts : (f : Fronts) (v : ℕ) (e : Entry) → Contains (settled_from 0 f.fronts) (label v e) ↔ Contains (front_at f v).settled e
+in_fronts f v e = (
+  λ there. let (k, at, e_in) = (in_settled 0 f.fronts v e).0 there in subst (λ u. Contains (front_at f u).settled e) (omega (arith, at)) e_in,
+  λ there. (in_settled 0 f.fronts v e).1 (v, omega arith, there),
+)
 
 -- no two labels of different costs are of one pair
 labels_once : (n : ℕ) (es : List Entry) → AllPairs (λ a b. a.cost ≢ b.cost) es → AllPairs (λ l m. ¬ IsSamePair l m) (labels_told n es)
 labels_once n es differ = pairs_map (λ a b. a.cost ≢ b.cost) (λ l m. ¬ IsSamePair l m)
-    (λ (e : Entry). let l : Label = record { node = n; cost = e.cost; arc = e.arc } in l) (λ a b other same. other same.cost) es differ
+    (label n) (λ a b other same. other same.cost) es differ
 
 settled_once : (d n : ℕ) (fs : List Front) → ((k : ℕ) → IsFront d (get_or fs k empty_front)) → AllPairs (λ l m. ¬ IsSamePair l m) (settled_from n fs)
 settled_once d n [] fronts = pairs_none (λ l m. ¬ IsSamePair l m)
@@ -190,24 +188,10 @@ settled_once d n (f ∷ fs) fronts = pairs_append (λ l m. ¬ IsSamePair l m) (l
 
 -- ---- the entries of the target
 
--- of two members, one stands before the other, or both are one
-pairs_cases : {X : Type 0} (R : X → X → Type 0) (xs : List X) → AllPairs R xs → (x y : X) → Contains xs x → Contains xs y → (x ≡ y) ⊎ (R x y ⊎ R y x)
-pairs_cases R [] pairs x y x_in y_in = absurd (in_none x x_in)
-pairs_cases R (z ∷ zs) pairs x y x_in y_in = elim (cases_in z zs x x_in) [
-  | inl x_first ↦ elim (cases_in z zs y y_in) [
-    | inl y_first ↦ inl (x_first ∙ sym y_first)
-    | inr y_later ↦ inr (inl (subst (λ w. R w y) (sym x_first) (pair_with_first R z zs pairs y y_later)))
-  ]
-  | inr x_later ↦ elim (cases_in z zs y y_in) [
-    | inl y_first ↦ inr (inr (subst (λ w. R w x) (sym y_first) (pair_with_first R z zs pairs x x_later)))
-    | inr y_later ↦ pairs_cases R zs (pairs_rest R z zs pairs) x y x_later y_later
-  ]
-]
-
 module _ {D : ℕ} (list : List (FrontEntry D)) (ascending : AllPairs LexLess (map (λ (e : FrontEntry D). e.cost.0) list)) where
   one_of_cost : (x y : FrontEntry D) → Contains list x → Contains list y → x.cost.0 ≡ y.cost.0 → x ≡ y
   one_of_cost x y x_in y_in same =
-      elim (pairs_cases (λ (a b : FrontEntry D). LexLess a.cost.0 b.cost.0) list (pairs_unmap LexLess (λ (e : FrontEntry D). e.cost.0) list
+      elim (pairs_cases (λ (a b : FrontEntry D). LexLess a.cost.0 b.cost.0) list (pairs_of_map LexLess (λ (e : FrontEntry D). e.cost.0) list
       ascending) x y x_in y_in) [
         | inl is ↦ is
         | inr (inl less) ↦ absurd (LexLess-irrefl x.cost.0 (subst (LexLess x.cost.0) (sym same) less))
@@ -252,7 +236,7 @@ none_between {D} list ascending c i splits k d within same = elim (cases_lt k i)
   rises : IsNonDecreasingBy (λ (e : FrontEntry D). ordering_index (lex_cmp e.cost.0 c)) list
   rises a b e upto inside = elim (cases_lt a b) [
     | inl less ↦ rises_to (get_or list a e).cost.0 (get_or list b e).cost.0 c
-        (pairs_unmap LexLess (λ (x : FrontEntry D). x.cost.0) list ascending a b e less inside)
+        (pairs_of_map LexLess (λ (x : FrontEntry D). x.cost.0) list ascending a b e less inside)
     | inr not_less ↦
         let one : a ≡ b = omega (arith, upto, not_less) in
         subst (λ n. ordering_index (lex_cmp (get_or list a e).cost.0 c) ≤ ordering_index (lex_cmp (get_or list n e).cost.0 c)) one (omega arith)
@@ -273,6 +257,7 @@ cost_found {D} list i x within read =
     ∙ ap (λ (o : Option (FrontEntry D)). option_map (λ (e : Entry). e.cost) (option_map (told_entry {D = D}) o)) (slice_get-get_or list i x within)
     ∙ ap (λ (y : FrontEntry D). let o : Option (List ℕ) = Some y.cost.0 in o) (sym read)
 
+-- the costs that told entries have
 pub told_costs : {D : ℕ} (list : List (FrontEntry D)) → map (λ (e : Entry). e.cost) (map (told_entry {D = D}) list) ≡ map (λ (e : FrontEntry D). e.cost.0) list
 told_costs [] = refl
 told_costs (x ∷ xs) = ap (λ (cs : List (List ℕ)). x.cost.0 ∷ cs) (told_costs xs)
@@ -280,31 +265,28 @@ told_costs (x ∷ xs) = ap (λ (cs : List (List ℕ)). x.cost.0 ∷ cs) (told_co
 -- ---- what is found at the target, and elsewhere
 
 module _ (d start target : ℕ) (es : List Entry) (f : Fronts) (taken : front_at f target ≡ empty_front) where
+  in_found : (v : ℕ) (e : Entry) → Contains (found_in d start target es f).settled (label v e)
+      ↔ (((v ≡ target) × Contains es e) ⊎ Contains (front_at f v).settled e)
+  in_found v e = parts (in_append (labels_told target es) (settled_from 0 f.fronts) (label v e)) (in_labels target es v e) (in_fronts f v e) where
+    parts : {A B C M N : Type 0} → (A ↔ (B ⊎ C)) → (B ↔ M) → (C ↔ N) → (A ↔ (M ⊎ N))
+    parts f g h = grind arith
+
+  none_taken : (e : Entry) → ¬ Contains (front_at f target).settled e
+  none_taken e there = in_none e (subst (λ (g : Front). Contains g.settled e) taken there)
+
+  -- of the target just its entries are found
   pub found_at_target : (e : Entry) → Contains (found_in d start target es f).settled (record { node = target; cost = e.cost; arc = e.arc }) ↔ Contains es e
   found_at_target e = (
-    λ there. elim ((in_append (labels_told target es) (settled_from 0 f.fronts) (label target e)).0 there) [
-      | inl here ↦ ((in_labels target es target e).0 here).1
-      | inr later ↦
-          let (k, at, e_in) = (in_settled 0 f.fronts target e).0 later in
-          let is : k ≡ target = omega (arith, at) in
-          let there_too = subst (λ u. Contains (front_at f u).settled e) is e_in in
-          absurd (in_none e (subst (λ (g : Front). Contains g.settled e) taken there_too))
-    ],
-    λ there. (in_append (labels_told target es) (settled_from 0 f.fronts) (label target e)).1 (inl ((in_labels target es target e).1 (refl, there))),
+    λ there. elim ((in_found target e).0 there) [ inl here ↦ here.1 | inr later ↦ absurd (none_taken e later) ],
+    λ there. (in_found target e).1 (inl (refl, there)),
   )
 
+  -- of another node just the settled entries of its front
   pub found_elsewhere : (v : ℕ) → v ≢ target → (e : Entry)
       → Contains (found_in d start target es f).settled (record { node = v; cost = e.cost; arc = e.arc }) ↔ Contains (front_at f v).settled e
   found_elsewhere v other e = (
-    λ there. elim ((in_append (labels_told target es) (settled_from 0 f.fronts) (label v e)).0 there) [
-      | inl here ↦ absurd (other ((in_labels target es v e).0 here).0)
-      | inr later ↦
-          let (k, at, e_in) = (in_settled 0 f.fronts v e).0 later in
-          let is : k ≡ v = omega (arith, at) in
-          subst (λ u. Contains (front_at f u).settled e) is e_in
-    ],
-    λ there. (in_append (labels_told target es) (settled_from 0 f.fronts) (label v e)).1
-        (inr ((in_settled 0 f.fronts v e).1 (v, omega arith, there))),
+    λ there. elim ((in_found v e).0 there) [ inl here ↦ absurd (other here.0) | inr later ↦ later ],
+    λ there. (in_found v e).1 (inr there),
   )
 
   -- so many labels there are
@@ -312,86 +294,54 @@ module _ (d start target : ℕ) (es : List Entry) (f : Fronts) (taken : front_at
       → more ≡ counted_labels (length (found_in d start target es f).settled)
   counted_all count more counted is_more =
       let whole = length-append (labels_told target es) (settled_from 0 f.fronts) in
-      let here = length-map es (λ (e : Entry). let l : Label = record { node = target; cost = e.cost; arc = e.arc } in l) in
-      omega (arith, whole, here, counted, is_more)
+      omega (arith, whole, length-map es (label target), counted, is_more)
 
 -- ---- all that is found
 
 module _ (d start target : ℕ) (before after : Fronts) (list : List (FrontEntry d)) (elsewhere : SameElsewhere target before after)
     (taken : front_at after target ≡ empty_front) (lists : ListsSettled (front_at before target) list) where
-  none_taken : (e : Entry) → ¬ Contains (front_at after target).settled e
-  none_taken e there = in_none e (subst (λ (f : Front). Contains f.settled e) taken there)
-
+  -- found is what was settled in the fronts before
   pub settled_in_fronts : (v : ℕ) (e : Entry)
       → Contains (found_in d start target (map (told_entry {D = d}) list) after).settled (record { node = v; cost = e.cost; arc = e.arc })
       ↔ Contains (front_at before v).settled e
-  settled_in_fronts v e = (
-    λ there. elim ((in_append (labels_told target (map (told_entry {D = d}) list)) (settled_from 0 after.fronts) (label v e)).0 there) [
-      | inl here ↦
-          let (at, e_in) = (in_labels target (map (told_entry {D = d}) list) v e).0 here in
-          subst (λ u. Contains (front_at before u).settled e) (sym at) ((lists.exact e).0 e_in)
-      | inr later ↦
-          let (k, at, e_in) = (in_settled 0 after.fronts v e).0 later in
-          let there_too = subst (λ u. Contains (front_at after u).settled e) (sym (omega (arith, at))) e_in in
-          elim (cases_number v target) [
-            | inl same ↦ absurd (none_taken e (subst (λ u. Contains (front_at after u).settled e) same there_too))
-            | inr other ↦ subst (λ (f : Front). Contains f.settled e) (elsewhere.others v other) there_too
-          ]
-    ],
-    λ there. (in_append (labels_told target (map (told_entry {D = d}) list)) (settled_from 0 after.fronts) (label v e)).1 (elim (cases_number v target) [
-      | inl same ↦ inl ((in_labels target (map (told_entry {D = d}) list) v e).1
-          (same, (lists.exact e).1 (subst (λ u. Contains (front_at before u).settled e) same there)))
-      | inr other ↦ inr ((in_settled 0 after.fronts v e).1
-          (v, omega arith, subst (λ (f : Front). Contains f.settled e) (sym (elsewhere.others v other)) there))
-    ]),
-  )
+  settled_in_fronts v e = elim (cases_number v target) [
+    | inl same ↦ rw same (alike_through (found_at_target d start target (map (told_entry {D = d}) list) after taken e) (lists.exact e))
+    | inr other ↦ rw (← elsewhere.others v other) (found_elsewhere d start target (map (told_entry {D = d}) list) after taken v other e)
+  ]
 
+  -- and it is what a search finds
   pub is_found : ((v : ℕ) → IsFront d (front_at after v)) → before.nodes ≤ max_nodes → IsNode before.nodes start → IsNode before.nodes target
       → IsFound (found_in d start target (map (told_entry {D = d}) list) after)
   is_found fronts few start_in target_in = record {
     two = (fronts 0).two;
     four = (fronts 0).four;
-    nodes = subst (λ n. n ≤ max_nodes) (sym elsewhere.nodes) few;
-    start = subst (λ n. IsNode n start) (sym elsewhere.nodes) start_in;
-    target = subst (λ n. IsNode n target) (sym elsewhere.nodes) target_in;
+    nodes = rw elsewhere.nodes few;
+    start = rw elsewhere.nodes start_in;
+    target = rw elsewhere.nodes target_in;
     once = pairs_append (λ l m. ¬ IsSamePair l m) (labels_told target (map (told_entry {D = d}) list)) (settled_from 0 after.fronts)
         (labels_once target (map (told_entry {D = d}) list) listed_differ) (settled_once d 0 after.fronts fronts) (λ l m l_in m_in same.
-        let (at, l_there) = (in_labels target (map (told_entry {D = d}) list) l.node (record { cost = l.cost; arc = l.arc })).0 l_in in
-        let (k, m_at, m_there) = (in_settled 0 after.fronts m.node (record { cost = m.cost; arc = m.arc })).0 m_in in
-        let is : k ≡ target = omega (arith, at, m_at, same.node) in
-        none_taken (record { cost = m.cost; arc = m.arc }) (subst (λ u. Contains (front_at after u).settled (record { cost = m.cost; arc = m.arc }))
-        is m_there));
-    ascending = subst (AllPairs LexLess) (sym costs_again) lists.ascending;
-    costs = costs_settled;
+        let x : Entry = record { cost = m.cost; arc = m.arc } in
+        let at = ((in_labels target (map (told_entry {D = d}) list) l.node (record { cost = l.cost; arc = l.arc })).0 l_in).0 in
+        none_taken d start target (map (told_entry {D = d}) list) after taken x
+        (subst (λ u. Contains (front_at after u).settled x) (sym same.node ∙ at) ((in_fronts after m.node x).0 m_in)));
+    ascending = rw told_costs lists.ascending;
+    costs = λ c. (
+      λ there.
+          let (e, e_in, is) = of_map (λ (x : Entry). x.cost) (map (told_entry {D = d}) list) c there in
+          rw is (record { arc = e.arc; settled = (at_target e).1 e_in }),
+      λ has.
+          let e : Entry = record { cost = c; arc = has.arc } in
+          in_map (λ (x : Entry). x.cost) (map (told_entry {D = d}) list) e ((at_target e).0 has.settled),
+    );
   } where
-    costs_again : map (λ (e : Entry). e.cost) (map (told_entry {D = d}) list) ≡ map (λ (e : FrontEntry d). e.cost.0) list
-    costs_again = told_costs list
+    at_target : (e : Entry) → Contains (found_in d start target (map (told_entry {D = d}) list) after).settled (label target e)
+        ↔ Contains (map (told_entry {D = d}) list) e
+    at_target = found_at_target d start target (map (told_entry {D = d}) list) after taken
 
     listed_differ : AllPairs (λ (a b : Entry). a.cost ≢ b.cost) (map (told_entry {D = d}) list)
     listed_differ = pairs_map (λ (a b : FrontEntry d). LexLess a.cost.0 b.cost.0) (λ (a b : Entry). a.cost ≢ b.cost) (told_entry {D = d})
         (λ a b less same. LexLess-irrefl a.cost.0 (subst (LexLess a.cost.0) (sym same) less)) list
-        (pairs_unmap LexLess (λ (e : FrontEntry d). e.cost.0) list lists.ascending)
-
-    costs_settled : (c : List ℕ) → Contains (map (λ (e : Entry). e.cost) (map (told_entry {D = d}) list)) c
-        ↔ HasSettled (found_in d start target (map (told_entry {D = d}) list) after) target c
-    costs_settled c = (
-      λ there.
-          let (e, e_in, is) = of_map (λ (x : Entry). x.cost) (map (told_entry {D = d}) list) c there in
-          subst (HasSettled (found_in d start target (map (told_entry {D = d}) list) after) target) (sym is) (record {
-            arc = e.arc;
-            settled = (in_append (labels_told target (map (told_entry {D = d}) list)) (settled_from 0 after.fronts) (label target e)).1
-                (inl ((in_labels target (map (told_entry {D = d}) list) target e).1 (refl, e_in)));
-          }),
-      λ has.
-          let e : Entry = record { cost = c; arc = has.arc } in
-          elim ((in_append (labels_told target (map (told_entry {D = d}) list)) (settled_from 0 after.fronts) (label target e)).0 has.settled) [
-            | inl here ↦ in_map (λ (x : Entry). x.cost) (map (told_entry {D = d}) list) e ((in_labels target (map (told_entry {D = d}) list) target e).0 here).1
-            | inr later ↦
-                let (k, at, e_in) = (in_settled 0 after.fronts target e).0 later in
-                let is : k ≡ target = omega (arith, at) in
-                absurd (none_taken e (subst (λ u. Contains (front_at after u).settled e) is e_in))
-          ],
-    )
+        (pairs_of_map LexLess (λ (e : FrontEntry d). e.cost.0) list lists.ascending)
 
 -- a front without entries is one
 pub empty_is_front : (d : ℕ) → min_criteria ≤ d → d ≤ max_criteria → IsFront d empty_front

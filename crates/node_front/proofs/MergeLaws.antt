@@ -1,67 +1,29 @@
 -- Merging in parts, and merging the delta in place of its candidates, leads to the same front.
-use Rattle.std.proofs.Common.{◌≡◌, ◌≢◌, ◌⊎◌, ◌↔◌, ℕ, ◌<◌, ◌≤◌, List, [], ◌∷◌, ◌++◌, inl, inr, refl, sym, ap, subst, ◌∙◌, arith, append_assoc}
+use Rattle.std.proofs.Common.{◌≡◌, ◌≢◌, ◌⊎◌, ◌↔◌, ℕ, ◌≤◌, List, [], ◌∷◌, ◌++◌, inl, inr, sym, subst, arith, append_assoc}
 use Rattle.std.specs.Prelude.{All, Contains}
-use Rattle.std.proofs.lemmas.Bool.{cases_lt}
 use Rattle.std.proofs.lemmas.List.{append-nil}
+use Rattle.std.proofs.lemmas.List.Elements.{Contains-append_left, Contains-append_right}
 use Rattle.cost_vector.specs.Costs.{AtMost, Dominates}
 use Rattle.cost_vector.proofs.Vectors.{AtMost-Dominates, cases_same}
 use Rattle.list_laws.specs.Sets.{SameMembers}
-use Rattle.list_laws.proofs.Members.{all_from_in, each_in, in_first, in_none, in_one}
-use Rattle.list_laws.proofs.OnceLaws.{in_append}
+use Rattle.list_laws.proofs.Members.{all_from_in, each_in, in_none}
+use Rattle.list_laws.proofs.OnceLaws.{alike_through, in_append}
 use Rattle.pareto_front.specs.Fronts.{Entry, Front, HasCost, IsCovered, IsDominated, SparesSettled, entries}
 use Rattle.pareto_front.specs.Calls.{Enters, Relabels}
-use Rattle.pareto_front.specs.Merging.{Stays, Delta, IsAdded, IsDelta, IsMerged}
+use Rattle.pareto_front.specs.Merging.{Stays, Delta, IsDelta, IsMerged}
 use Rattle.node_front.specs.Apart.{AreApart}
-use Rattle.node_front.proofs.ApartLemmas.{same_entry, AtMost-same, has_append, has_cost_of, apart_not_dominated}
-use Rattle.node_front.proofs.StaysLemmas.{stays_below, stays_of_cost}
-use Rattle.node_front.proofs.NeedlessLemmas.{told_entry_in, told_has_cost}
+use Rattle.node_front.proofs.ApartLemmas.{dominated_append, AtMost-same, has_append, has_cost_of, apart_not_dominated}
+use Rattle.node_front.proofs.GrowsLemmas.{in_append_more, in_push}
+use Rattle.node_front.proofs.StaysLemmas.{apart_of_stays, apart_stays, stays_among, stays_below, stays_core, stays_of_cost}
+use Rattle.node_front.proofs.NeedlessLemmas.{lowered_not_old, news_cases, told_entry_in}
 use Rattle.node_front.proofs.MergedLemmas.{relabelled_merges, merged_apart}
-
--- of fewer known entries, among which all that stays still is, the same stays
-pub stays_core : (known fewer : List Entry) → ((x : Entry) → Contains fewer x → Contains known x) → ((x : Entry) → Stays known x → Contains fewer x)
-    → (x : Entry) → Stays fewer x ↔ Stays known x
-stays_core known fewer sub core x = (
-  λ stays. record {
-    contains = sub x stays.contains;
-    nondominated = λ h.
-        let (b, b_stays, below) = stays_below known h.by h.contains in
-        stays.nondominated (record { by = b; contains = core b b_stays; dominates = AtMost-Dominates b.cost h.by.cost x.cost below h.dominates });
-    least = λ y y_in same.
-        let (b, b_stays, below) = stays_below known y y_in in
-        elim (cases_same b.cost x.cost) [
-          | inl equal ↦
-              let low = stays.least b (core b b_stays) equal in
-              let high = b_stays.least y y_in (same ∙ sym equal) in
-              omega (arith, low, high)
-          | inr other ↦ absurd (stays.nondominated (record {
-            by = b;
-            contains = core b b_stays;
-            dominates = record { at_most = subst (AtMost b.cost) same below; differs = other };
-          }))
-        ];
-  },
-  λ stays. record {
-    contains = core x stays;
-    nondominated = λ h. stays.nondominated (record { by = h.by; contains = sub h.by h.contains; dominates = h.dominates });
-    least = λ y y_in. stays.least y (sub y y_in);
-  },
-)
 
 -- where no candidate comes, an apart front is as it was
 pub merged_none : (front : Front) → AreApart (entries front) → IsMerged front [] front
 merged_none front apart = record {
-  entries = λ x. (
-    λ there. record {
-      contains = (in_append (entries front) [] x).1 (inl there);
-      nondominated = λ h. apart_not_dominated (entries front) apart h.by x (old h.by h.contains) there h.dominates;
-      least = λ y y_in same. let one = apart y x (old y y_in) there (AtMost-same y.cost x.cost same) in omega (arith, ap (λ (w : Entry). w.arc) one);
-    },
-    λ stays. old x stays.contains,
-  );
+  entries = rw append-nil (apart_stays (entries front) (entries front) apart (λ x there. there) (λ x stays. stays.contains));
   settled = λ c. (λ h. (h, λ by. in_none by.by by.contains), λ h. h.0);
-} where
-  old : (x : Entry) → Contains (entries front ++ []) x → Contains (entries front) x
-  old x there = subst (λ l. Contains l x) (append-nil (entries front)) there
+}
 
 -- candidates and then others
 pub merged_then : (first second third : Front) (xs ys : List Entry) → IsMerged first xs second → IsMerged second ys third → IsMerged first (xs ++ ys) third
@@ -83,28 +45,12 @@ merged_then first second third xs ys merged again = record {
   core : (x : Entry) → Stays ((entries first ++ xs) ++ ys) x → Contains (entries second ++ ys) x
   core x stays = (in_append (entries second) ys x).1 (elim ((in_append (entries first ++ xs) ys x).0 stays.contains) [
     | inr new ↦ inr new
-    | inl old ↦ inl ((merged.entries x).1 (record {
-      contains = old;
-      nondominated = λ h. stays.nondominated
-          (record { by = h.by; contains = (in_append (entries first ++ xs) ys h.by).1 (inl h.contains); dominates = h.dominates });
-      least = λ y y_in. stays.least y ((in_append (entries first ++ xs) ys y).1 (inl y_in));
-    }))
+    | inl old ↦ inl ((merged.entries x).1 (stays_among ((entries first ++ xs) ++ ys) (entries first ++ xs)
+        (Contains-append_left (entries first ++ xs) ys) x stays old))
   ])
 
   both : {A B C M N L : Type 0} → (A ↔ (B × (¬ N))) → (B ↔ (C × (¬ M))) → (L ↔ (M ⊎ N)) → (A ↔ (C × (¬ L)))
   both f g h = grind arith
-
-  dominated_append : (xs ys : List Entry) (c : List ℕ) → IsDominated (xs ++ ys) c ↔ (IsDominated xs c ⊎ IsDominated ys c)
-  dominated_append xs ys c = (
-    λ h. elim ((in_append xs ys h.by).0 h.contains) [
-      | inl old ↦ inl (record { by = h.by; contains = old; dominates = h.dominates })
-      | inr new ↦ inr (record { by = h.by; contains = new; dominates = h.dominates })
-    ],
-    elim [
-      | inl h ↦ record { by = h.by; contains = (in_append xs ys h.by).1 (inl h.contains); dominates = h.dominates }
-      | inr h ↦ record { by = h.by; contains = (in_append xs ys h.by).1 (inr h.contains); dominates = h.dominates }
-    ],
-  )
 
 -- the entries of these costs have left those that aren't settled, and these have come
 pub record HasPut (before : Front) (removed : List (List ℕ)) (xs : List Entry) (after : Front) : Type 0 where
@@ -114,13 +60,7 @@ pub record HasPut (before : Front) (removed : List (List ℕ)) (xs : List Entry)
 -- ---- the delta in place of the candidates
 
 module _ (before : Front) (candidates : List Entry) (delta : Delta) (is : IsDelta before candidates delta) (apart : AreApart (entries before)) where
-  known : List Entry
-  known = entries before ++ candidates
-
-  -- what the delta brings
-  brought : List Entry
-  brought = delta.added ++ delta.lowered
-
+  -- what the delta brings stays
   pub brought_stays : (x : Entry) → Contains (delta.added ++ delta.lowered) x → Stays (entries before ++ candidates) x
   brought_stays x there = elim ((in_append delta.added delta.lowered x).0 there) [
     | inl added ↦ ((is.added.exact x).0 added).stays
@@ -131,10 +71,7 @@ module _ (before : Front) (candidates : List Entry) (delta : Delta) (is : IsDelt
   pub brought_new : (x : Entry) → Contains (delta.added ++ delta.lowered) x → ¬ Contains (entries before) x
   brought_new x there old = elim ((in_append delta.added delta.lowered x).0 there) [
     | inl added ↦ ((is.added.exact x).0 added).new (has_cost_of (entries before) x old)
-    | inr lowered ↦
-        let low = (is.lowered.exact x).0 lowered in
-        let one = apart x (record { cost = x.cost; arc = low.arc }) old low.old (AtMost-same x.cost x.cost refl) in
-        omega (arith, low.lesser, ap (λ (w : Entry). w.arc) one)
+    | inr lowered ↦ lowered_not_old before candidates x apart ((is.lowered.exact x).0 lowered) old
   ]
 
   -- so it is a candidate
@@ -148,24 +85,26 @@ module _ (before : Front) (candidates : List Entry) (delta : Delta) (is : IsDelt
   stays_brought : (x : Entry) → Stays (entries before ++ candidates) x → Contains (entries before) x ⊎ Contains (delta.added ++ delta.lowered) x
   stays_brought x stays = elim (told_entry_in (entries before) x) [
     | inl old ↦ inl old
-    | inr not_old ↦ inr ((in_append delta.added delta.lowered x).1 (elim (told_has_cost (entries before) x.cost) [
-      | inr none ↦ inl ((is.added.exact x).1 (record { stays = stays; new = none }))
-      | inl has ↦ inr ((is.lowered.exact x).1 (record {
-        stays = stays;
-        arc = has.arc;
-        old = has.contains;
-        lesser = lesser has (stays.least (record { cost = x.cost; arc = has.arc })
-            ((in_append (entries before) candidates (record { cost = x.cost; arc = has.arc })).1 (inl has.contains)) refl) not_old;
-      }))
+    | inr not_old ↦ inr ((in_append delta.added delta.lowered x).1 (elim (news_cases before candidates x stays not_old) [
+      | inl added ↦ inl ((is.added.exact x).1 added)
+      | inr lowered ↦ inr ((is.lowered.exact x).1 lowered)
     ]))
-  ] where
-    lesser : (has : HasCost (entries before) x.cost) → x.arc ≤ has.arc → ¬ Contains (entries before) x → x.arc < has.arc
-    lesser has least not_old = elim (cases_lt x.arc has.arc) [
-      | inl less ↦ less
-      | inr not_less ↦
-          let same : has.arc ≡ x.arc = omega (arith, least, not_less) in
-          absurd (not_old (subst (λ a. Contains (entries before) (record { cost = x.cost; arc = a })) same has.contains))
-    ]
+  ]
+
+  -- a candidate that dominates an old cost has an added entry that does
+  added_dominates : (c : List ℕ) → HasCost (entries before) c → IsDominated candidates c → IsDominated delta.added c
+  added_dominates c has by =
+      let (b, stays, below) = stays_below (entries before ++ candidates) by.by (Contains-append_right (entries before) candidates by.by by.contains) in
+      let less = AtMost-Dominates b.cost by.by.cost c below by.dominates in
+      let none = λ (arc : ℕ) (there : Contains (entries before) (record { cost = b.cost; arc = arc })).
+      apart_not_dominated (entries before) apart (record { cost = b.cost; arc = arc }) (record { cost = c; arc = has.arc }) there has.contains less in
+      elim (stays_brought b stays) [
+        | inl old ↦ absurd (none b.arc old)
+        | inr brought ↦ elim ((in_append delta.added delta.lowered b).0 brought) [
+          | inl added ↦ record { by = b; contains = added; dominates = less }
+          | inr lowered ↦ let low = (is.lowered.exact b).0 lowered in absurd (none low.arc low.old)
+        ]
+      ]
 
   -- a front into which the delta has come is what the candidates make of it
   pub merged_by_delta : (after : Front) → IsMerged before (delta.added ++ delta.lowered) after → IsMerged before candidates after
@@ -176,211 +115,171 @@ module _ (before : Front) (candidates : List Entry) (delta : Delta) (is : IsDelt
           λ stays. (merged.entries x).1 (same.1 stays),
         );
     settled = λ c. (
-      λ h. let (was, none) = (merged.settled c).0 h in (was, λ by. none (by_brought c was by)),
+      λ h. let (was, none) = (merged.settled c).0 h in (
+        was,
+        λ by.
+            let added = added_dominates c ((has_append before.settled before.unsettled c).1 (inl was)) by in
+            none (record { by = added.by; contains = Contains-append_left delta.added delta.lowered added.by added.contains; dominates = added.dominates }),
+      ),
       λ h. (merged.settled c).1 (h.0, λ by. h.1 (record { by = by.by; contains = brought_candidate by.by by.contains; dominates = by.dominates })),
     );
   } where
     sub : (x : Entry) → Contains (entries before ++ (delta.added ++ delta.lowered)) x → Contains (entries before ++ candidates) x
-    sub x there = elim ((in_append (entries before) (delta.added ++ delta.lowered) x).0 there) [
-      | inl old ↦ (in_append (entries before) candidates x).1 (inl old)
-      | inr new ↦ (brought_stays x new).contains
-    ]
+    sub = in_append_more (entries before) (delta.added ++ delta.lowered) candidates brought_candidate
 
     core : (x : Entry) → Stays (entries before ++ candidates) x → Contains (entries before ++ (delta.added ++ delta.lowered)) x
     core x stays = (in_append (entries before) (delta.added ++ delta.lowered) x).1 (stays_brought x stays)
 
-    by_brought : (c : List ℕ) → HasCost before.settled c → IsDominated candidates c → IsDominated (delta.added ++ delta.lowered) c
-    by_brought c was by =
-        let (b, stays, below) = stays_below (entries before ++ candidates) by.by ((in_append (entries before) candidates by.by).1 (inr by.contains)) in
-        let less = AtMost-Dominates b.cost by.by.cost c below by.dominates in
-        elim (stays_brought b stays) [
-          | inr new ↦ record { by = b; contains = new; dominates = less }
-          | inl old ↦
-              let there = (in_append before.settled before.unsettled (record { cost = c; arc = was.arc })).1 (inl was.contains) in
-              absurd (apart_not_dominated (entries before) apart b (record { cost = c; arc = was.arc }) old there less)
-        ]
+-- ---- step by step: the removed costs leave, added entries come one by one, and then lowered ones
 
-  -- ---- the removed costs leave, and then added entries come one by one
+-- the delta of apart entries, whose candidates spare those that are settled
+pub record IsSparing (before : Front) (candidates : List Entry) (delta : Delta) : Type 0 where
+  pub is : IsDelta before candidates delta
+  pub apart : AreApart (entries before)
+  pub spares : (x : Entry) → Contains candidates x → SparesSettled before x.cost
 
-  module _ (spares : (x : Entry) → Contains candidates x → SparesSettled before x.cost) where
-    -- no settled entry is removed
-    pub removed_unsettled : (c : List ℕ) → Contains delta.removed c → HasCost before.unsettled c
-    removed_unsettled c there =
-        let removed = (is.removed.exact c).0 there in
-        let by = removed.dominated in
-        elim ((has_append before.settled before.unsettled c).0 removed.old) [
-          | inr unsettled ↦ unsettled
-          | inl settled ↦ absurd (spares by.by by.contains (record { cost = c; arc = settled.arc }) settled.contains by.dominates)
-        ]
-
-    -- these have come
-    module _ (xs : List Entry) (mid : Front) (sub : (x : Entry) → Contains xs x → Contains delta.added x) (puts : HasPut before delta.removed xs mid) where
-      added_stays : (x : Entry) → Contains xs x → IsAdded before candidates x
-      added_stays x there = (is.added.exact x).0 (sub x there)
-
-      candidate_of : (x : Entry) → Contains delta.added x → Contains candidates x
-      candidate_of x there = brought_candidate x ((in_append delta.added delta.lowered x).1 (inl there))
-
-      put_entry : (x : Entry) → Contains (entries mid) x
-          → Contains before.settled x ⊎ ((Contains before.unsettled x × (¬ Contains delta.removed x.cost)) ⊎ Contains xs x)
-      put_entry x there = elim ((in_append mid.settled mid.unsettled x).0 there) [
-        | inl settled ↦ inl ((puts.settled x).0 settled)
-        | inr unsettled ↦ inr ((puts.unsettled x).0 unsettled)
+module _ {before : Front} {candidates : List Entry} {delta : Delta} (sparing : IsSparing before candidates delta) where
+  -- no settled entry is removed
+  pub removed_unsettled : (c : List ℕ) → Contains delta.removed c → HasCost before.unsettled c
+  removed_unsettled c there =
+      let removed = (sparing.is.removed.exact c).0 there in
+      let by = removed.dominated in
+      elim ((has_append before.settled before.unsettled c).0 removed.old) [
+        | inr unsettled ↦ unsettled
+        | inl settled ↦ absurd (sparing.spares by.by by.contains (record { cost = c; arc = settled.arc }) settled.contains by.dominates)
       ]
 
-      put_old : (x : Entry) → Contains (entries mid) x → Contains (entries before) x ⊎ Contains xs x
-      put_old x there = elim (put_entry x there) [
-        | inl settled ↦ inl ((in_append before.settled before.unsettled x).1 (inl settled))
-        | inr (inl unsettled) ↦ inl ((in_append before.settled before.unsettled x).1 (inr unsettled.0))
-        | inr (inr new) ↦ inr new
+  added_candidate : (x : Entry) → Contains delta.added x → Contains candidates x
+  added_candidate x there = brought_candidate before candidates delta sparing.is sparing.apart x (Contains-append_left delta.added delta.lowered x there)
+
+  added_apart : AreApart delta.added
+  added_apart = apart_of_stays (entries before ++ candidates) delta.added (λ x there. ((sparing.is.added.exact x).0 there).stays)
+
+  -- no old entry's cost is at most an added one's
+  old_not_below : (x e : Entry) → Contains (entries before) x → Contains delta.added e → ¬ AtMost x.cost e.cost
+  old_not_below x e old there below =
+      let added = (sparing.is.added.exact e).0 there in
+      elim (cases_same x.cost e.cost) [
+        | inl same ↦ added.new (subst (HasCost (entries before)) same (has_cost_of (entries before) x old))
+        | inr other ↦ added.stays.nondominated (record {
+          by = x;
+          contains = Contains-append_left (entries before) candidates x old;
+          dominates = record { at_most = below; differs = other };
+        })
       ]
 
-      -- an added entry that hasn't come yet can be put in
-      pub put_uncovered : (e : Entry) → Contains delta.added e → ((x : Entry) → Contains xs x → x ≢ e) → ¬ IsCovered (entries mid) e.cost
-      put_uncovered e there not_yet covered =
-          let b = covered.by in
-          let added = (is.added.exact e).0 there in
-          let either = put_old b covered.contains in
-          let b_known = (in_append (entries before) candidates b).1 (elim either [ inl old ↦ inl old | inr new ↦ inr (candidate_of b (sub b new)) ]) in
-          elim (cases_same b.cost e.cost) [
-            | inr other ↦ added.stays.nondominated
-                (record { by = b; contains = b_known; dominates = record { at_most = covered.at_most; differs = other } })
-            | inl same ↦ elim either [
-              | inl old ↦ added.new (subst (HasCost (entries before)) same (has_cost_of (entries before) b old))
-              | inr new ↦
-                  let low = added.stays.least b b_known same in
-                  let high = (added_stays b new).stays.least e added.stays.contains (sym same) in
-                  not_yet b new (same_entry b e same (omega (arith, low, high)))
-            ]
-          ]
+  -- these have come
+  module _ {xs : List Entry} {mid : Front} (sub : (x : Entry) → Contains xs x → Contains delta.added x) (puts : HasPut before delta.removed xs mid) where
+    put_entry : (x : Entry) → Contains (entries mid) x
+        → Contains before.settled x ⊎ ((Contains before.unsettled x × (¬ Contains delta.removed x.cost)) ⊎ Contains xs x)
+    put_entry x there = elim ((in_append mid.settled mid.unsettled x).0 there) [
+      | inl settled ↦ inl ((puts.settled x).0 settled)
+      | inr unsettled ↦ inr ((puts.unsettled x).0 unsettled)
+    ]
 
-      -- and dominates no entry
-      pub put_spares : (e : Entry) → Contains delta.added e → All (λ (x : Entry). ¬ Dominates e.cost x.cost) (entries mid)
-      put_spares e there = all_from_in (λ (x : Entry). ¬ Dominates e.cost x.cost) (entries mid) (λ x x_in less.
-          elim (put_entry x x_in) [
-            | inl settled ↦ spares e (candidate_of e there) x settled less
-            | inr (inl unsettled) ↦ unsettled.1 ((is.removed.exact x.cost).1 (record {
-              old = (has_append before.settled before.unsettled x.cost).1 (inr (has_cost_of before.unsettled x unsettled.0));
-              dominated = record { by = e; contains = candidate_of e there; dominates = less };
-            }))
-            | inr (inr new) ↦ (added_stays x new).stays.nondominated
-                (record { by = e; contains = ((is.added.exact e).0 there).stays.contains; dominates = less })
-          ])
+    put_old : (x : Entry) → Contains (entries mid) x → Contains (entries before) x ⊎ Contains xs x
+    put_old x there = elim (put_entry x there) [
+      | inl settled ↦ inl ((in_append before.settled before.unsettled x).1 (inl settled))
+      | inr (inl unsettled) ↦ inl ((in_append before.settled before.unsettled x).1 (inr unsettled.0))
+      | inr (inr new) ↦ inr new
+    ]
 
-      pub put_then : (e : Entry) (after : Front) → Contains delta.added e → Enters mid e after → HasPut before delta.removed (xs ++ e ∷ []) after
-      put_then e after there enters = record {
-        settled = λ x. (λ h. (puts.settled x).0 ((enters.settled x).0 h), λ h. (enters.settled x).1 ((puts.settled x).1 h));
-        unsettled = λ x. through (enters.unsettled x) (puts.unsettled x) (in_append xs (e ∷ []) x) (
-          λ h. in_one e x h,
-          λ same. subst (Contains (e ∷ []))
-              (sym same) (in_first e []),
-        ) (λ h. each_in (λ (y : Entry). ¬ Dominates e.cost y.cost) (entries mid) (put_spares e there) x
-            ((in_append mid.settled mid.unsettled x).1 (inr h)));
-      } where
-        through : {A M N E S X L O : Type 0} → (A ↔ ((M × (¬ N)) ⊎ E)) → (M ↔ (S ⊎ X)) → (L ↔ (X ⊎ O)) → (O ↔ E) → (M → ¬ N) → (A ↔ (S ⊎ L))
-        through a m l o none = grind arith
+    -- an added entry that hasn't come yet can be put in
+    pub put_uncovered : (e : Entry) → Contains delta.added e → ((x : Entry) → Contains xs x → x ≢ e) → ¬ IsCovered (entries mid) e.cost
+    put_uncovered e there not_yet covered = elim (put_old covered.by covered.contains) [
+      | inl old ↦ old_not_below covered.by e old there covered.at_most
+      | inr new ↦ not_yet covered.by new (added_apart covered.by e (sub covered.by new) there covered.at_most)
+    ]
 
-      -- all have come: the front is what they make of it
-      pub put_all : ((x : Entry) → Contains delta.added x → Contains xs x) → IsMerged before delta.added mid
-      put_all all = record {
-        entries = λ x. (
-          λ there. elim (put_entry x there) [
-            | inl settled ↦
-                let old = (in_append before.settled before.unsettled x).1 (inl settled) in
-                old_stays x old (λ y y_in less. spares y (candidate_of y y_in) x settled less)
-            | inr (inl unsettled) ↦
-                let old = (in_append before.settled before.unsettled x).1 (inr unsettled.0) in
-                old_stays x old (λ y y_in less. unsettled.1 ((is.removed.exact x.cost).1 (record {
-                  old = has_cost_of (entries before) x old;
-                  dominated = record { by = y; contains = candidate_of y y_in; dominates = less };
-                })))
-            | inr (inr new) ↦ new_stays x (sub x new)
-          ],
-          λ stays. (in_append mid.settled mid.unsettled x).1 (elim ((in_append (entries before) delta.added x).0 stays.contains) [
-            | inr new ↦ inr ((puts.unsettled x).1 (inr (all x new)))
-            | inl old ↦ elim ((in_append before.settled before.unsettled x).0 old) [
-              | inl settled ↦ inl ((puts.settled x).1 settled)
-              | inr unsettled ↦ inr ((puts.unsettled x).1 (inl (unsettled, not_removed x old stays)))
-            ]
-          ]),
-        );
-        settled = λ c. (
-          λ h. (
-            record { arc = h.arc; contains = (puts.settled _).0 h.contains },
-            λ by. spares by.by (candidate_of by.by by.contains) (record { cost = c; arc = h.arc }) ((puts.settled _).0 h.contains) by.dominates,
-          ),
-          λ h. record { arc = h.0.arc; contains = (puts.settled _).1 h.0.contains },
-        );
-      } where
-        old_stays : (x : Entry) → Contains (entries before) x → ((y : Entry) → Contains delta.added y → ¬ Dominates y.cost x.cost)
-            → Stays (entries before ++ delta.added) x
-        old_stays x old none = record {
-          contains = (in_append (entries before) delta.added x).1 (inl old);
-          nondominated = λ h. elim ((in_append (entries before) delta.added h.by).0 h.contains) [
-            | inl by_old ↦ apart_not_dominated (entries before) apart h.by x by_old old h.dominates
-            | inr by_new ↦ none h.by by_new h.dominates
-          ];
-          least = λ y y_in same. elim ((in_append (entries before) delta.added y).0 y_in) [
-            | inl y_old ↦ let one = apart y x y_old old (AtMost-same y.cost x.cost same) in omega (arith, ap (λ (w : Entry). w.arc) one)
-            | inr y_new ↦ absurd (((is.added.exact y).0 y_new).new (subst (HasCost (entries before)) (sym same) (has_cost_of (entries before) x old)))
-          ];
-        }
-
-        known_of : (x : Entry) → Contains (entries before ++ delta.added) x → Contains (entries before ++ candidates) x
-        known_of x there = (in_append (entries before) candidates x).1 (elim ((in_append (entries before) delta.added x).0 there) [
-          | inl old ↦ inl old
-          | inr new ↦ inr (candidate_of x new)
+    -- and dominates no entry
+    pub put_spares : (e : Entry) → Contains delta.added e → All (λ (x : Entry). ¬ Dominates e.cost x.cost) (entries mid)
+    put_spares e there = all_from_in (λ (x : Entry). ¬ Dominates e.cost x.cost) (entries mid) (λ x x_in less.
+        elim (put_entry x x_in) [
+          | inl settled ↦ sparing.spares e (added_candidate e there) x settled less
+          | inr (inl unsettled) ↦ unsettled.1 ((sparing.is.removed.exact x.cost).1 (record {
+            old = (has_append before.settled before.unsettled x.cost).1 (inr (has_cost_of before.unsettled x unsettled.0));
+            dominated = record { by = e; contains = added_candidate e there; dominates = less };
+          }))
+          | inr (inr new) ↦ apart_not_dominated delta.added added_apart e x there (sub x new) less
         ])
 
-        new_stays : (x : Entry) → Contains delta.added x → Stays (entries before ++ delta.added) x
-        new_stays x there =
-            let stays = ((is.added.exact x).0 there).stays in
-            record {
-              contains = (in_append (entries before) delta.added x).1 (inr there);
-              nondominated = λ h. stays.nondominated (record { by = h.by; contains = known_of h.by h.contains; dominates = h.dominates });
-              least = λ y y_in. stays.least y (known_of y y_in);
-            }
+    -- and then it has come too
+    pub put_then : (e : Entry) (after : Front) → Contains delta.added e → Enters mid e after → HasPut before delta.removed (xs ++ e ∷ []) after
+    put_then e after there enters = record {
+      settled = λ x. alike_through (enters.settled x) (puts.settled x);
+      unsettled = λ x. through (enters.unsettled x) (puts.unsettled x) (in_push xs e x) (λ h.
+          each_in (λ (y : Entry). ¬ Dominates e.cost y.cost) (entries mid) (put_spares e there) x (Contains-append_right mid.settled mid.unsettled x h));
+    } where
+      through : {A M N E S X L : Type 0} → (A ↔ ((M × (¬ N)) ⊎ E)) → (M ↔ (S ⊎ X)) → (L ↔ (X ⊎ E)) → (M → ¬ N) → (A ↔ (S ⊎ L))
+      through a m l none = grind arith
 
-        not_removed : (x : Entry) → Contains (entries before) x → Stays (entries before ++ delta.added) x → ¬ Contains delta.removed x.cost
-        not_removed x old stays there =
-            let by = ((is.removed.exact x.cost).0 there).dominated in
-            let (b, b_stays, below) = stays_below (entries before ++ candidates) by.by ((in_append (entries before) candidates by.by).1 (inr by.contains)) in
-            let less = AtMost-Dominates b.cost by.by.cost x.cost below by.dominates in
-            elim (stays_brought b b_stays) [
-              | inl b_old ↦ apart_not_dominated (entries before) apart b x b_old old less
-              | inr brought ↦ elim ((in_append delta.added delta.lowered b).0 brought) [
-                | inl added ↦ stays.nondominated (record { by = b; contains = (in_append (entries before) delta.added b).1 (inr added); dominates = less })
-                | inr lowered ↦
-                    let low = (is.lowered.exact b).0 lowered in
-                    apart_not_dominated (entries before) apart (record { cost = b.cost; arc = low.arc }) x low.old old less
-              ]
-            ]
+    put_apart : AreApart (entries mid)
+    put_apart x y x_in y_in below = elim (put_old x x_in) [
+      | inl x_old ↦ elim (put_old y y_in) [
+        | inl y_old ↦ sparing.apart x y x_old y_old below
+        | inr y_new ↦ absurd (old_not_below x y x_old (sub y y_new) below)
+      ]
+      | inr x_new ↦ elim (put_old y y_in) [
+        | inl y_old ↦ elim (cases_same x.cost y.cost) [
+          | inl same ↦ absurd (old_not_below y x y_old (sub x x_new) (AtMost-same y.cost x.cost (sym same)))
+          | inr other ↦ absurd (each_in (λ (z : Entry). ¬ Dominates x.cost z.cost) (entries mid) (put_spares x (sub x x_new)) y y_in
+              (record { at_most = below; differs = other }))
+        ]
+        | inr y_new ↦ added_apart x y (sub x x_new) (sub y y_new) below
+      ]
+    ]
 
-  -- ---- step by step
+    -- all have come: the front is what they make of it
+    pub put_all : ((x : Entry) → Contains delta.added x → Contains xs x) → IsMerged before delta.added mid
+    put_all all = record {
+      entries = apart_stays (entries before ++ delta.added) (entries mid) put_apart
+          (λ x there. (in_append (entries before) delta.added x).1 (elim (put_old x there) [ inl old ↦ inl old | inr new ↦ inr (sub x new) ])) core;
+      settled = λ c. (
+        λ h.
+            let was : HasCost before.settled c = record { arc = h.arc; contains = (puts.settled (record { cost = c; arc = h.arc })).0 h.contains } in
+            (was, λ by. sparing.spares by.by (added_candidate by.by by.contains) (record { cost = c; arc = h.arc }) was.contains by.dominates),
+        λ h. record { arc = h.0.arc; contains = (puts.settled (record { cost = c; arc = h.0.arc })).1 h.0.contains },
+      );
+    } where
+      not_removed : (x : Entry) → Stays (entries before ++ delta.added) x → ¬ Contains delta.removed x.cost
+      not_removed x stays there =
+          let removed = (sparing.is.removed.exact x.cost).0 there in
+          let by = added_dominates before candidates delta sparing.is sparing.apart x.cost removed.old removed.dominated in
+          stays.nondominated (record { by = by.by; contains = Contains-append_right (entries before) delta.added by.by by.contains; dominates = by.dominates })
 
-  module _ (xs : List Entry) (mid : Front) (sub : (x : Entry) → Contains xs x
-      → Contains (delta.added ++ delta.lowered) x) (merged : IsMerged before xs mid) (e : Entry) where
-    mid_known : (x : Entry) → Contains (entries before ++ xs) x → Contains (entries before ++ candidates) x
-    mid_known x there = (in_append (entries before) candidates x).1 (elim ((in_append (entries before) xs x).0 there) [
-      | inl old ↦ inl old
-      | inr new ↦ inr (brought_candidate x (sub x new))
-    ])
+      core : (x : Entry) → Stays (entries before ++ delta.added) x → Contains (entries mid) x
+      core x stays = (in_append mid.settled mid.unsettled x).1 (elim ((in_append (entries before) delta.added x).0 stays.contains) [
+        | inr new ↦ inr ((puts.unsettled x).1 (inr (all x new)))
+        | inl old ↦ elim ((in_append before.settled before.unsettled x).0 old) [
+          | inl settled ↦ inl ((puts.settled x).1 settled)
+          | inr unsettled ↦ inr ((puts.unsettled x).1 (inl (unsettled, not_removed x stays)))
+        ]
+      ])
 
-    -- where a lowered entry comes, the entry of its cost is there, with no lesser arc
-    pub step_lowered : Contains delta.lowered e → (b : Entry) × Contains (entries mid) b × (b.cost ≡ e.cost) × (e.arc ≤ b.arc)
-    step_lowered there =
-        let low = (is.lowered.exact e).0 there in
+  -- a lowered entry comes
+  module _ {xs : List Entry} {mid : Front} (sub : (x : Entry) → Contains xs x → Contains (delta.added ++ delta.lowered) x) (merged : IsMerged before xs mid)
+      (e : Entry) (there : Contains delta.lowered e) where
+    -- the entry of its cost is there, with no lesser arc
+    step_lowered : (b : Entry) × Contains (entries mid) b × (b.cost ≡ e.cost) × (e.arc ≤ b.arc)
+    step_lowered =
+        let low = (sparing.is.lowered.exact e).0 there in
         let x : Entry = record { cost = e.cost; arc = low.arc } in
         let none : ¬ IsDominated (entries before ++ xs) e.cost = λ h.
         low.stays.nondominated (record { by = h.by; contains = mid_known h.by h.contains; dominates = h.dominates }) in
-        let (b, stays, same) = stays_of_cost (entries before ++ xs) x ((in_append (entries before) xs x).1 (inl low.old)) none in
-        (b, (merged.entries b).1 stays, same, low.stays.least b (mid_known b stays.contains) same)
+        let (b, stays, same) = stays_of_cost (entries before ++ xs) x (Contains-append_left (entries before) xs x low.old) none in
+        (b, (merged.entries b).1 stays, same, low.stays.least b (mid_known b stays.contains) same) where
+          mid_known : (y : Entry) → Contains (entries before ++ xs) y → Contains (entries before ++ candidates) y
+          mid_known = in_append_more (entries before) xs candidates (λ y new.
+              brought_candidate before candidates delta sparing.is sparing.apart y (sub y new))
 
-    mid_apart : AreApart (entries mid)
-    mid_apart = merged_apart before mid xs merged
+    -- so there is an entry of its cost
+    pub lowered_has : HasCost (entries mid) e.cost
+    lowered_has = let (b, b_in, same, no_more) = step_lowered in subst (HasCost (entries mid)) same (has_cost_of (entries mid) b b_in)
 
-    pub relabelled_then : (after : Front) → Contains delta.lowered e → Relabels mid e after → IsMerged before (xs ++ e ∷ []) after
-    relabelled_then after there relabels =
-        let (b, b_in, same, no_more) = step_lowered there in
+    -- it has come once that entry has its arc
+    pub relabelled_then : (after : Front) → Relabels mid e after → IsMerged before (xs ++ e ∷ []) after
+    relabelled_then after relabels =
+        let (b, b_in, same, no_more) = step_lowered in
         let at = subst (λ c. Contains (entries mid) (record { cost = c; arc = b.arc })) same b_in in
-        merged_then before mid after xs (e ∷ []) merged (relabelled_merges mid e mid_apart after b.arc at no_more relabels)
+        merged_then before mid after xs (e ∷ []) merged
+        (relabelled_merges mid e (merged_apart before mid xs merged) after b.arc at no_more relabels)

@@ -1,5 +1,5 @@
 -- What candidates make of a front, while they come one by one, and in the end.
-use Rattle.std.proofs.Common.{◌≡◌, ◌↔◌, ℕ, ◌<◌, List, [], ◌∷◌, ◌++◌, length, map, inl, inr, sym, ap, subst, ◌∙◌, arith}
+use Rattle.std.proofs.Common.{◌≡◌, ℕ, ◌<◌, List, [], ◌∷◌, ◌++◌, length, map, inl, inr, sym, ap, subst, ◌∙◌, arith}
 use Rattle.std.specs.Prelude.{All, Contains}
 use Rattle.std.proofs.lemmas.List.{append-nil, map_push}
 use Rattle.std.proofs.lemmas.List.Elements.{All-nil, Contains-append_left, Contains-append_right}
@@ -12,6 +12,8 @@ use Rattle.pareto_front.specs.Merging.{Stays}
 use Rattle.node_front.specs.Apart.{AreApart}
 use Rattle.node_front.specs.declared.merging.Survivor.{Survivor}
 use Rattle.node_front.specs.Survivors.{IsNeedlessAmong, IsNews, AreSurvivors, IsMarked, HaveOtherCosts, told}
+use Rattle.list_laws.proofs.OnceLaws.{alike_through}
+use Rattle.node_front.proofs.StaysLemmas.{stays_among}
 use Rattle.node_front.proofs.NeedlessLemmas.{needless_news, more_news}
 
 -- the survivors of the candidates so far
@@ -21,12 +23,12 @@ pub record IsGathering {D : ℕ} (front : Front) (candidates : List (CompactLabe
   pub apart : 0 < length candidates → AreApart (entries front)
 
 -- no candidate, no survivor
-pub gathering_none : (D : ℕ) (front : Front) (survivors : List (Survivor D)) → survivors ≡ [] → IsGathering front [] survivors
-gathering_none D front survivors none = subst (IsGathering front []) (sym none) (record {
+pub gathering_none : {D : ℕ} {front : Front} {survivors : List (Survivor D)} → survivors ≡ [] → IsGathering front [] survivors
+gathering_none {front} none = rw none (record {
   news = record {
     exact = λ e. (
       λ there. absurd (in_none e there),
-      λ news. absurd (news.not_old (subst (λ l. Contains l e) (append-nil (entries front)) news.stays.contains)),
+      λ news. absurd (news.not_old (rw append-nil at news.stays.contains)),
     );
     one_a_cost = pairs_none HaveOtherCosts;
   };
@@ -34,17 +36,14 @@ gathering_none D front survivors none = subst (IsGathering front []) (sym none) 
   apart = λ some. absurd (omega (arith, some));
 })
 
-module _ {D : ℕ} (front : Front) (candidates : List (CompactLabel D)) (survivors : List (Survivor D)) (gathering : IsGathering front candidates survivors) where
+module _ {D : ℕ} {front : Front} {candidates : List (CompactLabel D)} {survivors : List (Survivor D)}
+    (gathering : IsGathering front candidates survivors) where
   -- the news are what stays of themselves
   pub gathering_survive : AreSurvivors (Stays (told survivors)) survivors
   gathering_survive = record {
     exact = λ e. (
-      λ there. let news = (gathering.news.exact e).0 there in record {
-        contains = there;
-        nondominated = λ h. news.stays.nondominated
-            (record { by = h.by; contains = ((gathering.news.exact h.by).0 h.contains).stays.contains; dominates = h.dominates });
-        least = λ y y_in same. news.stays.least y ((gathering.news.exact y).0 y_in).stays.contains same;
-      },
+      λ there. stays_among (entries front ++ map entry_of candidates) (told survivors)
+          (λ x x_in. ((gathering.news.exact x).0 x_in).stays.contains) e ((gathering.news.exact e).0 there).stays there,
       λ stays. stays.contains,
     );
     one_a_cost = gathering.news.one_a_cost;
@@ -56,22 +55,17 @@ module _ {D : ℕ} (front : Front) (candidates : List (CompactLabel D)) (survivo
 
     nodes_before : (v : ℕ) → All (λ (l : CompactLabel D). l.node.0 ≡ v) more → All (λ (l : CompactLabel D). l.node.0 ≡ v) candidates × (label.node.0 ≡ v)
     nodes_before v nodes =
-        let all = subst (λ (ls : List (CompactLabel D)). All (λ (l : CompactLabel D). l.node.0 ≡ v) ls) is_more nodes in (
-          all_from_in (λ (l : CompactLabel D). l.node.0 ≡ v) candidates
-              (λ l there. each_in (λ (m : CompactLabel D). m.node.0 ≡ v) (candidates ++ label ∷ []) all l (Contains-append_left candidates (label ∷
-              []) l there)),
-          each_in (λ (m : CompactLabel D). m.node.0 ≡ v) (candidates ++ label ∷ []) all label
-              (Contains-append_right candidates (label ∷ []) label (in_first label [])),
+        let at = each_in (λ (m : CompactLabel D). m.node.0 ≡ v) (candidates ++ label ∷ []) (rw is_more at nodes) in (
+          all_from_in (λ (l : CompactLabel D). l.node.0 ≡ v) candidates (λ l there. at l (Contains-append_left candidates (label ∷ []) l there)),
+          at label (Contains-append_right candidates (label ∷ []) label (in_first label [])),
         )
 
     -- one that an entry makes needless
     pub gathering_same : IsNeedlessAmong (entries front) (entry_of label) → IsGathering front more survivors
     gathering_same among = record {
       news = record {
-        exact = λ x. subst (λ cs. Contains (told survivors) x ↔ IsNews front cs x) (sym entries_more) (
-          λ there. (needless_news front (map entry_of candidates) (entry_of label) among x).0 ((gathering.news.exact x).0 there),
-          λ news. (gathering.news.exact x).1 ((needless_news front (map entry_of candidates) (entry_of label) among x).1 news),
-        );
+        exact = λ x. rw entries_more
+            (alike_through (gathering.news.exact x) (needless_news front (map entry_of candidates) (entry_of label) among x));
         one_a_cost = gathering.news.one_a_cost;
       };
       marked = λ v nodes. gathering.marked v (nodes_before v nodes).0;
@@ -84,10 +78,8 @@ module _ {D : ℕ} (front : Front) (candidates : List (CompactLabel D)) (survivo
         → All (Contains (survivors ++ new ∷ [])) after → IsGathering front more after
     gathering_more new after not_needless is marked survive members = record {
       news = record {
-        exact = λ x.
-            let stays = subst (λ (l : CompactLabel D). Contains (told after) x ↔ Stays (told survivors ++ entry_of l ∷ []) x) is (survive.exact x) in
-            let news = more_news front (map entry_of candidates) (entry_of label) (told survivors) gathering.news.exact not_needless x in
-            subst (λ cs. Contains (told after) x ↔ IsNews front cs x) (sym entries_more) (λ there. news.0 (stays.0 there), λ h. stays.1 (news.1 h));
+        exact = λ x. rw entries_more (alike_through (rw is at (survive.exact x))
+            (more_news front (map entry_of candidates) (entry_of label) (told survivors) gathering.news.exact not_needless x));
         one_a_cost = survive.one_a_cost;
       };
       marked = λ v nodes.

@@ -1,55 +1,42 @@
 -- How the deltas of many nodes come about, node by node, and that the order of the candidates makes no difference.
 use Rattle.std.proofs.Common.{◌≡◌, ◌≢◌, ◌↔◌, ℕ, ◌<◌, ◌≤◌, nat_eq, List, [], ◌∷◌, ◌++◌, map, inl, inr, refl, sym, ap, subst, ◌∙◌, arith}
 use Rattle.std.specs.Prelude.{AllPairs, Contains, filter}
-use Rattle.std.proofs.lemmas.List.{append-nil, map-append}
-use Rattle.std.proofs.lemmas.List.Elements.{filter-append, All-nil, All-append}
-use Rattle.list_laws.specs.Sets.{ListsOnce}
+use Rattle.std.proofs.lemmas.List.{append-nil}
+use Rattle.std.proofs.lemmas.List.Elements.{All-nil, All-append}
 use Rattle.list_laws.proofs.Members.{in_none, in_first, in_rest, in_filter, in_map, of_map, each_in, all_from_in}
 use Rattle.list_laws.proofs.Pairs.{pairs_none}
 use Rattle.list_laws.proofs.OnceLaws.{in_append, empty_if_none, once_as, pairs_append, pairs_of_members}
 use Rattle.list_laws.proofs.SetLaws.{same_by_permutation}
 use Rattle.compact_labels.specs.declared.label.CompactLabel.{CompactLabel}
-use Rattle.compact_labels.specs.declared.label.CompactSpot.{CompactSpot}
 use Rattle.pareto_front.specs.Calls.{entry_of}
 use Rattle.pareto_front.specs.Fronts.{Entry, Front, SparesSettled, IsDominated, entries}
 use Rattle.pareto_front.specs.Merging.{Delta, IsAdded, IsDelta, IsLowered, IsRemoved, Stays}
 use Rattle.road_network.specs.Network.{IsNode}
 use Rattle.node_front.specs.Apart.{AreApart}
-use Rattle.node_front.specs.Deltas.{Deltas, AppendsDelta, AreDeltas, ComeNext, FitAnyOrder, GrowNodeByNode, costs_told_at, delta_at, label_told, no_deltas, spot_told, told_at}
+use Rattle.node_front.specs.Deltas.{Deltas, AppendsDelta, AreDeltas, ComeNext, FitAnyOrder, GrowNodeByNode, delta_at, label_told, no_deltas, spot_told, told_at}
 use Rattle.node_front.specs.NodeFronts.{Fronts, front_at}
 use Rattle.node_front.proofs.ApartLemmas.{AtMost-same, has_cost_of}
-use Rattle.node_front.proofs.MergeLaws.{stays_core}
+use Rattle.node_front.proofs.StaysLemmas.{stays_core}
 use Rattle.node_front.proofs.PlacedLemmas.{cases_number}
-use Rattle.node_front.proofs.RoundLemmas.{same_test, other_test, of_at, at_append}
+use Rattle.node_front.proofs.RoundLemmas.{label_node, spot_node, spot_cost, told_of, of_append, same_test, other_test, of_at, at_append}
+use Rattle.node_front.proofs.GrowsLemmas.{in_append_more, lists_nothing}
 
 -- ---- what labels and spots of one node tell
 
-module _ {X Y : Type 0} (node : X → ℕ) (f : X → Y) (v : ℕ) where
-  abbrev told_of : List X → List Y
-  told_of xs = map f (filter (λ x. nat_eq (node x) v) xs)
+module _ {X Y : Type 0} (node : X → ℕ) (f : X → Y) (v : ℕ) (before : List X) (tell : Y → X) (ys : List Y) where
+  -- what is told of v behind other nodes
+  told_behind : told_of node f v before ≡ [] → ((y : Y) → node (tell y) ≡ v) → ((y : Y) → f (tell y) ≡ y) → told_of node f v (before ++ map tell ys) ≡ ys
+  told_behind none at back = rw (of_append node f v before (map tell ys), none) (told_all ys) where
+    told_all : (zs : List Y) → told_of node f v (map tell zs) ≡ zs
+    told_all [] = refl
+    told_all (z ∷ zs) = rw (same_test (node (tell z)) v (at z)) (rw (back z) (ap (λ ws. z ∷ ws) (told_all zs)))
 
-  module _ (before : List X) (tell : Y → X) (ys : List Y) where
-    told_append : told_of (before ++ map tell ys) ≡ told_of before ++ told_of (map tell ys)
-    told_append = ap (map f) (filter-append (λ x. nat_eq (node x) v) before (map tell ys))
-        ∙ map-append f (filter (λ x. nat_eq (node x) v) before) (filter (λ x. nat_eq (node x) v) (map tell ys))
-
-  told_all : (tell : Y → X) → ((y : Y) → node (tell y) ≡ v) → ((y : Y) → f (tell y) ≡ y) → (ys : List Y) → told_of (map tell ys) ≡ ys
-  told_all tell at back [] = refl
-  told_all tell at back (y ∷ ys) = rw (same_test (node (tell y)) v (at y)) (rw (back y) (ap (λ zs. y ∷ zs) (told_all tell at back ys)))
-
-  told_none : (tell : Y → X) → ((y : Y) → node (tell y) ≢ v) → (ys : List Y) → told_of (map tell ys) ≡ []
-  told_none tell other [] = refl
-  told_none tell other (y ∷ ys) = rw (other_test (node (tell y)) v (other y)) (told_none tell other ys)
-
-  -- what is told of v behind other nodes, and what is told of another node behind which v comes
-  pub told_behind : (before : List X) (tell : Y → X) (ys : List Y) → told_of before ≡ [] → ((y : Y) → node (tell y) ≡ v) → ((y : Y) → f (tell y) ≡ y)
-      → told_of (before ++ map tell ys) ≡ ys
-  told_behind before tell ys none at back =
-      told_append before tell ys ∙ ap (λ zs. zs ++ told_of (map tell ys)) none ∙ told_all tell at back ys
-
-  pub told_before : (before : List X) (tell : Y → X) (ys : List Y) → ((y : Y) → node (tell y) ≢ v) → told_of (before ++ map tell ys) ≡ told_of before
-  told_before before tell ys other =
-      told_append before tell ys ∙ ap (λ zs. told_of before ++ zs) (told_none tell other ys) ∙ append-nil (told_of before)
+  -- what is told of another node behind which v comes
+  told_before : ((y : Y) → node (tell y) ≢ v) → told_of node f v (before ++ map tell ys) ≡ told_of node f v before
+  told_before other = rw (of_append node f v before (map tell ys), told_none ys) (append-nil (told_of node f v before)) where
+    told_none : (zs : List Y) → told_of node f v (map tell zs) ≡ []
+    told_none [] = refl
+    told_none (z ∷ zs) = rw (other_test (node (tell z)) v (other z)) (told_none zs)
 
 module _ {D : ℕ} where
   -- a label of the node
@@ -83,16 +70,15 @@ module _ (front : Front) (apart : AreApart (entries front)) where
       let one = apart e (record { cost = e.cost; arc = low.arc }) (known e low.stays.contains) low.old (AtMost-same e.cost e.cost refl) in
       omega (arith, low.lesser, ap (λ (x : Entry). x.arc) one)
 
-  nothing : {X : Type 0} (P : X → Type 0) → ((x : X) → ¬ P x) → ListsOnce P []
-  nothing P none = record { exact = λ x. (λ there. absurd (in_none x there), λ p. absurd (none x p)); once = pairs_none ◌≢◌ }
-
+  -- so the delta is empty
   pub delta_none : IsDelta front [] (record { added = []; removed = []; lowered = [] })
   delta_none = record {
-    added = nothing (IsAdded front []) none_added;
-    removed = nothing (IsRemoved front []) none_removed;
-    lowered = nothing (IsLowered front []) none_lowered;
+    added = lists_nothing (IsAdded front []) none_added;
+    removed = lists_nothing (IsRemoved front []) none_removed;
+    lowered = lists_nothing (IsLowered front []) none_lowered;
   }
 
+  -- and no other one
   pub none_of_delta : (delta : Delta) → IsDelta front [] delta → (delta.added ≡ []) × (delta.removed ≡ []) × (delta.lowered ≡ [])
   none_of_delta delta is = (
     empty_if_none delta.added (λ e there. none_added e ((is.added.exact e).0 there)),
@@ -100,16 +86,8 @@ module _ (front : Front) (apart : AreApart (entries front)) where
     empty_if_none delta.lowered (λ e there. none_lowered e ((is.lowered.exact e).0 there)),
   )
 
--- the same delta, told by other lists
-delta_as : (front : Front) (es others : List Entry) (d told : Delta) → others ≡ es → told.added ≡ d.added → told.removed ≡ d.removed
-    → told.lowered ≡ d.lowered → IsDelta front es d → IsDelta front others told
-delta_as front es others d told same added removed lowered is = subst (λ xs. IsDelta front xs told) (sym same) (record {
-  added = subst (ListsOnce (IsAdded front es)) (sym added) is.added;
-  removed = subst (ListsOnce (IsRemoved front es)) (sym removed) is.removed;
-  lowered = subst (ListsOnce (IsLowered front es)) (sym lowered) is.lowered;
-})
-
 module _ {D : ℕ} (f : Fronts) (apart : (v : ℕ) → AreApart (entries (front_at f v))) where
+  -- no candidates, no differences
   pub deltas_none : AreDeltas f [] (no_deltas D)
   deltas_none = record {
     nodes = All-nil (λ (l : CompactLabel D). IsNode f.nodes l.node.0);
@@ -131,32 +109,33 @@ module _ {D : ℕ} (f : Fronts) (apart : (v : ℕ) → AreApart (entries (front_
     exact_here : IsDelta (front_at f v) (told_at v (candidates ++ more)) (delta_at v after)
     exact_here =
         let none = at_none v candidates (λ l there at. let low = below l there in omega (arith, low, at)) in
-        let (added, removed, lowered) = none_of_delta (front_at f v) (apart v) (delta_at v before)
-        (subst (λ es. IsDelta (front_at f v) es (delta_at v before)) none (are.exact v)) in
-        delta_as (front_at f v) (map entry_of more) (told_at v (candidates ++ more)) appends.delta (delta_at v after)
-        (at_append v candidates more ∙ ap (λ es. es ++ told_at v more) none ∙ at_all v more at_node)
-        (ap (told_at v) appends.added
-        ∙ told_behind (λ (l : CompactLabel D). l.node.0) entry_of v before.added (label_told v) appends.delta.added added (λ e. refl) (λ e. refl))
-        (ap (costs_told_at v) appends.removed
-        ∙ told_behind (λ (s : CompactSpot D). s.node.0) (λ (s : CompactSpot D). s.cost.0) v before.removed (spot_told v) appends.delta.removed removed
-        (λ c. refl) (λ c. refl))
-        (ap (told_at v) appends.lowered
-        ∙ told_behind (λ (l : CompactLabel D). l.node.0) entry_of v before.lowered (label_told v) appends.delta.lowered lowered (λ e. refl) (λ e. refl))
-        appends.exact
+        let (added, removed, lowered) = none_of_delta (front_at f v) (apart v) (delta_at v before) (rw none at (are.exact v)) in
+        rw (
+          at_append v candidates more,
+          none,
+          at_all v more at_node,
+          appends.added,
+          told_behind label_node entry_of v before.added (label_told v) appends.delta.added added (λ e. refl) (λ e. refl),
+          appends.removed,
+          told_behind spot_node spot_cost v before.removed (spot_told v) appends.delta.removed removed (λ c. refl) (λ c. refl),
+          appends.lowered,
+          told_behind label_node entry_of v before.lowered (label_told v) appends.delta.lowered lowered (λ e. refl) (λ e. refl),
+        ) appends.exact
 
     exact_elsewhere : (w : ℕ) → w ≢ v → IsDelta (front_at f w) (told_at w (candidates ++ more)) (delta_at w after)
     exact_elsewhere w other =
         let away : v ≢ w = λ same. other (sym same) in
-        delta_as (front_at f w) (told_at w candidates) (told_at w (candidates ++ more)) (delta_at w before) (delta_at w after)
-        (at_append w candidates more ∙ ap (λ es. told_at w candidates ++ es) (at_none w more (λ l there at. away (sym (at_node l there) ∙ at)))
-        ∙ append-nil (told_at w candidates))
-        (ap (told_at w) appends.added
-        ∙ told_before (λ (l : CompactLabel D). l.node.0) entry_of w before.added (label_told v) appends.delta.added (λ e. away))
-        (ap (costs_told_at w) appends.removed
-        ∙ told_before (λ (s : CompactSpot D). s.node.0) (λ (s : CompactSpot D). s.cost.0) w before.removed (spot_told v) appends.delta.removed (λ c. away))
-        (ap (told_at w) appends.lowered
-        ∙ told_before (λ (l : CompactLabel D). l.node.0) entry_of w before.lowered (label_told v) appends.delta.lowered (λ e. away))
-        (are.exact w)
+        rw (
+          at_append w candidates more,
+          at_none w more (λ l there at. away (sym (at_node l there) ∙ at)),
+          append-nil (told_at w candidates),
+          appends.added,
+          told_before label_node entry_of w before.added (label_told v) appends.delta.added (λ e. away),
+          appends.removed,
+          told_before spot_node spot_cost w before.removed (spot_told v) appends.delta.removed (λ c. away),
+          appends.lowered,
+          told_before label_node entry_of w before.lowered (label_told v) appends.delta.lowered (λ e. away),
+        ) (are.exact w)
 
     -- a label that was told before is of a candidate's node
     old_below : (l : CompactLabel D) → Contains before.added l → l.node.0 < v
@@ -182,7 +161,7 @@ module _ {D : ℕ} (f : Fronts) (apart : (v : ℕ) → AreApart (entries (front_
           subst (λ u. SparesSettled (front_at f u) l.cost.0) (sym (at_node l there))
           (each_in (λ (m : CompactLabel D). SparesSettled (front_at f v) m.cost.0) more next.spares l there)));
       exact = λ w. elim (cases_number w v) [
-        | inl same ↦ subst (λ u. IsDelta (front_at f u) (told_at u (candidates ++ more)) (delta_at u after)) (sym same) exact_here
+        | inl same ↦ rw same exact_here
         | inr other ↦ exact_elsewhere w other
       ];
       ascending = subst (AllPairs (λ (l m : CompactLabel D). l.node.0 ≤ m.node.0)) (sym appends.added)
@@ -192,23 +171,18 @@ module _ {D : ℕ} (f : Fronts) (apart : (v : ℕ) → AreApart (entries (front_
           (λ l m l_in m_in. let low = old_below l l_in in omega (arith, low, new_at m m_in)));
     }
 
+  -- so deltas grow node by node
   pub grow_node_by_node : GrowNodeByNode D f
   grow_node_by_node = grown
 
 -- ---- other lists of the same candidates
 
 module _ (front : Front) (es others : List Entry) (same : (e : Entry) → Contains es e ↔ Contains others e) where
-  over : (e : Entry) → Contains (entries front ++ es) e → Contains (entries front ++ others) e
-  over e there = (in_append (entries front) others e).1
-      (elim ((in_append (entries front) es e).0 there) [ inl old ↦ inl old | inr new ↦ inr ((same e).0 new) ])
-
-  back : (e : Entry) → Contains (entries front ++ others) e → Contains (entries front ++ es) e
-  back e there = (in_append (entries front) es e).1
-      (elim ((in_append (entries front) others e).0 there) [ inl old ↦ inl old | inr new ↦ inr ((same e).1 new) ])
-
   stays_same : (e : Entry) → Stays (entries front ++ es) e ↔ Stays (entries front ++ others) e
-  stays_same = stays_core (entries front ++ others) (entries front ++ es) over (λ e stays. back e stays.contains)
+  stays_same = stays_core (entries front ++ others) (entries front ++ es) (in_append_more (entries front) es others (λ e. (same e).0))
+      (λ e stays. in_append_more (entries front) others es (λ x. (same x).1) e stays.contains)
 
+  -- they make the same delta
   pub delta_of_same : (d : Delta) → IsDelta front es d → IsDelta front others d
   delta_of_same d is = record {
     added = once_as (IsAdded front es) (IsAdded front others) d.added (λ e. (
@@ -227,6 +201,7 @@ module _ (front : Front) (es others : List Entry) (same : (e : Entry) → Contai
     dominated : (xs ys : List Entry) → ((e : Entry) → Contains xs e → Contains ys e) → (c : List ℕ) → IsDominated xs c → IsDominated ys c
     dominated xs ys sub c h = record { by = h.by; contains = sub h.by h.contains; dominates = h.dominates }
 
+-- so the order of the candidates makes no difference
 pub fit_any_order : (D : ℕ) (f : Fronts) → FitAnyOrder D f
 fit_any_order D f candidates others d moved are = record {
   nodes = all_from_in (λ (l : CompactLabel D). IsNode f.nodes l.node.0) others

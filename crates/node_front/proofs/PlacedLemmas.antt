@@ -1,9 +1,9 @@
 -- How the fronts of all nodes are kept: what one more front changes, and what another one at a node's place changes.
-use Rattle.std.proofs.Common.{◌≡◌, ◌≢◌, ◌⊎◌, ℕ, zero, suc, ◌<◌, ◌≤◌, List, [], ◌∷◌, ◌++◌, length, map, get_or, set, replicate, inl, inr, refl, sym, ap, subst, subst₂, ◌∙◌, arith}
+use Rattle.std.proofs.Common.{◌≡◌, ◌≢◌, ◌⊎◌, ◌+◌, ◌-◌, ℕ, zero, suc, ◌<◌, ◌≤◌, List, [], ◌∷◌, ◌++◌, length, map, get_or, set, replicate, inl, inr, refl, sym, ap, subst, subst₂, ◌∙◌, arith}
 use Rattle.std.specs.Prelude.{All, Contains}
 use Rattle.std.specs.List.{range_with_len}
 use Rattle.std.proofs.lemmas.Bool.{cases_lt}
-use Rattle.std.proofs.lemmas.List.{length-map, map_push, map-set, set-get_or, set_past, length-set, length_push, get_or-map, get_or-set_same, get_or-set_other, get_or-replicate, length-replicate, get_or_past, get_or_push, get_or_append_left, get_or_default, ext_get_or}
+use Rattle.std.proofs.lemmas.List.{length-map, map_push, map-set, set-get_or, length-set, length_push, get_or-map, get_or-set_same, get_or-set_other, get_or-replicate, length-replicate, get_or_past, get_or_push, get_or_append_left, get_or_default, ext_get_or}
 use Rattle.std.proofs.lemmas.List.Elements.{All-weaker, All-push, All-set}
 use Rattle.std.proofs.lemmas.List.FromFn.{length-range_with_len}
 use Rattle.list_laws.proofs.Members.{in_none}
@@ -12,7 +12,7 @@ use Rattle.list_laws.proofs.OnceLaws.{range_once}
 use Rattle.pareto_front.specs.Fronts.{Front, HasCost, empty_front, entries}
 use Rattle.node_front.specs.Apart.{AreApart}
 use Rattle.node_front.proofs.ApartLemmas.{empty_apart}
-use Rattle.node_front.specs.NodeFronts.{Fronts, SameElsewhere, front_at, fronts_by, spares_by, room_at, IsPlaced}
+use Rattle.node_front.specs.NodeFronts.{Fronts, SameElsewhere, SameFronts, front_at, spare_at, fronts_by, spares_by, room_at, IsPlaced, IsKept}
 
 -- two numbers are the same or not
 pub cases_number : (m n : ℕ) → (m ≡ n) ⊎ (m ≢ n)
@@ -48,6 +48,7 @@ no_place n v = elim (cases_lt v n) [
 ]
 
 module _ (places : List ℕ) (states : List Front) (placed : IsPlaced places states) where
+  -- so it is where the fronts are placed
   pub front_of : (v : ℕ) → get_or (fronts_by places states) v empty_front ≡ get_or states (get_or places v 0) empty_front
   front_of = front_by places states placed.first
 
@@ -66,14 +67,14 @@ module _ (places : List ℕ) (states : List Front) (placed : IsPlaced places sta
   front_apart v = subst (λ (f : Front). AreApart (entries f)) (sym (front_of v)) (placed.apart (get_or places v 0) empty_front (place_begun v))
 
   -- a node whose front has an entry was reached
-  pub has_place : (v : ℕ) (c : List ℕ) → HasCost (entries (get_or (fronts_by places states) v empty_front)) c → get_or places v 0 ≢ 0
+  has_place : (v : ℕ) (c : List ℕ) → HasCost (entries (get_or (fronts_by places states) v empty_front)) c → get_or places v 0 ≢ 0
   has_place v c has none =
       let empty = front_of v ∙ ap (λ k. get_or states k empty_front) none ∙ placed.first in
       let there = subst (λ (f : Front). HasCost (entries f) c) empty has in
       in_none (record { cost = c; arc = there.arc }) there.contains
 
   -- and is a node; its place is what was read
-  pub place_read : (v k : ℕ) → get_or places v 0 ≢ 0 → k ≡ get_or places v k → k ≡ get_or places v 0
+  place_read : (v k : ℕ) → get_or places v 0 ≢ 0 → k ≡ get_or places v k → k ≡ get_or places v 0
   place_read v k some read = elim (cases_lt v (length places)) [
     | inl within ↦ read ∙ get_or_default places v k 0 within
     | inr past ↦ absurd (some (get_or_past places v 0 past))
@@ -97,194 +98,124 @@ module _ (places : List ℕ) (states : List Front) (placed : IsPlaced places sta
         pigeonhole (range_with_len 0 (length states)) places numbers.once (λ k there. held k ((numbers.exact k).0 there)),
       )
 
-  -- another front at the place of the node v
-  module _ (v k : ℕ) (at : k ≡ get_or places v 0) (some : k ≢ 0) (state : Front) where
-    first_set : get_or (set states k state) 0 empty_front ≡ empty_front
-    first_set = get_or-set_other states k 0 state empty_front (λ e. some (sym e)) ∙ placed.first
+-- ---- a front without entries is begun
 
-    pub placed_set : AreApart (entries state) → IsPlaced places (set states k state)
-    placed_set apart = record {
-      some = placed.some;
-      few = placed.few;
-      no_node = placed.no_node;
-      begun = subst (λ n. All (λ j. j < n) places) (sym (length-set states k state)) placed.begun;
-      own = placed.own;
-      used = λ j positive below. placed.used j positive (omega (arith, below, length-set states k state));
-      first = first_set;
-      apart = All-set (λ f. AreApart (entries f)) states k state apart placed.apart;
-    }
+-- x is kept last, at the place n, for the node v, which wasn't reached
+pub record Begins {X : Type 0} (d : ℕ) (state : X → Front) (places : List ℕ) (xs ys : List X) (x : X) (v n : ℕ) : Type 0 where
+  pub kept : IsKept d places (map state xs)
+  pub node : 0 < v
+  pub within : v < length places
+  pub unreached : get_or places v 0 ≡ 0
+  pub empty : state x ≡ empty_front
+  pub pushed : ys ≡ xs ++ x ∷ []
+  pub last : n ≡ length xs
 
-    pub front_set : get_or (fronts_by places (set states k state)) v empty_front ≡ state
-    front_set =
-        front_by places (set states k state) first_set v
-        ∙ ap (λ j. get_or (set states k state) j empty_front) (sym at)
-        ∙ get_or-set_same states k state empty_front (subst (λ j. j < length states) (sym at) (place_begun v))
+-- as its parts say
+pub begins_at : {X : Type 0} {d : ℕ} {state : X → Front} {places : List ℕ} {xs ys : List X} {x : X} {v n : ℕ} → IsKept d places (map state xs) → 0 < v
+    → v < length places → get_or places v 0 ≡ 0 → state x ≡ empty_front → ys ≡ xs ++ x ∷ [] → n ≡ length xs → Begins d state places xs ys x v n
+begins_at kept node within unreached empty pushed last =
+    record { kept = kept; node = node; within = within; unreached = unreached; empty = empty; pushed = pushed; last = last }
 
-    pub front_set_elsewhere : (w : ℕ) → w ≢ v → get_or (fronts_by places (set states k state)) w empty_front ≡ get_or (fronts_by places states) w empty_front
-    front_set_elsewhere w other =
-        let apart : get_or places w 0 ≢ k = λ e. other (placed.own w v (e ∙ at) (λ zero. some (sym e ∙ zero))) in
-        front_by places (set states k state) first_set w ∙ get_or-set_other states k (get_or places w 0) state empty_front apart ∙ sym (front_of w)
+module _ {X : Type 0} {d : ℕ} {state : X → Front} {places : List ℕ} {xs ys : List X} {x : X} {v n : ℕ} (begins : Begins d state places xs ys x v n) where
+  abbrev placed : IsPlaced places (map state xs)
+  placed = begins.kept.placed
 
-  -- a front without entries for the node v, which had none
-  module _ (v : ℕ) (node : 0 < v) (within : v < length places) (unreached : get_or places v 0 ≡ 0) (state : Front) (empty : state ≡ empty_front) where
-    old_place : (w : ℕ) → w ≢ v → get_or (set places v (length states)) w 0 ≡ get_or places w 0
-    old_place w other = get_or-set_other places v w (length states) 0 other
+  begun_before : (w : ℕ) → get_or places w 0 < n
+  begun_before w = omega (arith, place_begun places (map state xs) placed w, begins.last, length-map xs state)
 
-    new_place : get_or (set places v (length states)) v 0 ≡ length states
-    new_place = get_or-set_same places v (length states) 0 within
+  old_place : (w : ℕ) → w ≢ v → get_or (set places v n) w 0 ≡ get_or places w 0
+  old_place w other = get_or-set_other places v w n 0 other
 
-    own_push : (a b : ℕ) → get_or (set places v (length states)) a 0 ≡ get_or (set places v (length states)) b 0
-        → get_or (set places v (length states)) a 0 ≢ 0 → a ≡ b
-    own_push a b same some = elim (cases_number a v) [
-      | inl a_new ↦ elim (cases_number b v) [
-        | inl b_new ↦ a_new ∙ sym b_new
-        | inr b_old ↦
-            let at_a : get_or (set places v (length states)) a 0 ≡ length states = subst (λ w. get_or (set places v (length states)) w 0 ≡ length
-            states) (sym a_new) new_place in
-            absurd (omega (arith, same, at_a, old_place b b_old, place_begun b))
-      ]
-      | inr a_old ↦ elim (cases_number b v) [
-        | inl b_new ↦
-            let at_b : get_or (set places v (length states)) b 0 ≡ length states = subst (λ w. get_or (set places v (length states)) w 0 ≡ length
-            states) (sym b_new) new_place in
-            absurd (omega (arith, same, at_b, old_place a a_old, place_begun a))
-        | inr b_old ↦ placed.own a b (sym (old_place a a_old) ∙ same ∙ old_place b b_old) (λ zero. some (old_place a a_old ∙ zero))
-      ]
+  new_place : (w : ℕ) → w ≡ v → get_or (set places v n) w 0 ≡ n
+  new_place w new = rw new (get_or-set_same places v n 0 begins.within)
+
+  states_more : map state ys ≡ map state xs ++ state x ∷ []
+  states_more = ap (map state) begins.pushed ∙ map_push state xs x
+
+  long : length (map state ys) ≡ n + 1
+  long = omega (arith, ap length states_more, length_push (map state xs) (state x), length-map xs state, begins.last)
+
+  old_state : (k : ℕ) → k < n → get_or (map state ys) k empty_front ≡ get_or (map state xs) k empty_front
+  old_state k below = rw states_more
+      (get_or_append_left (map state xs) (state x ∷ []) empty_front k (omega (arith, below, length-map xs state, begins.last)))
+
+  new_state : get_or (map state ys) n empty_front ≡ empty_front
+  new_state = rw states_more
+      (get_or_push (map state xs) (state x) empty_front n (omega (arith, length-map xs state, begins.last)) ∙ begins.empty)
+
+  first_more : get_or (map state ys) 0 empty_front ≡ empty_front
+  first_more = old_state 0 (omega (arith, begun_before 0)) ∙ placed.first
+
+  own_more : (a b : ℕ) → get_or (set places v n) a 0 ≡ get_or (set places v n) b 0 → get_or (set places v n) a 0 ≢ 0 → a ≡ b
+  own_more a b same some = elim (cases_number a v) [
+    | inl a_new ↦ elim (cases_number b v) [
+      | inl b_new ↦ a_new ∙ sym b_new
+      | inr b_old ↦ absurd (omega (arith, same, new_place a a_new, old_place b b_old, begun_before b))
     ]
-
-    used_push : (k : ℕ) → 0 < k → k < length (states ++ state ∷ []) → Contains (set places v (length states)) k
-    used_push k positive below = elim (cases_lt k (length states)) [
-      | inl old ↦
-          let (i, inside, is) = placed.used k positive old in
-          let other : i ≢ v = λ e. omega (arith, positive, unreached, subst (λ j. get_or places j 0 ≡ k) e (get_or_default places i 0 k inside ∙ is)) in
-          (i, omega (arith, inside, length-set places v (length states)), get_or-set_other places v i (length states) k other ∙ is)
-      | inr last ↦
-          let new : length states ≡ k = omega (arith, last, below, length_push states state) in
-          subst (Contains (set places v (length states))) new
-          (v, omega (arith, within, length-set places v (length states)), get_or-set_same places v (length states) (length states) within)
+    | inr a_old ↦ elim (cases_number b v) [
+      | inl b_new ↦ absurd (omega (arith, same, new_place b b_new, old_place a a_old, begun_before a))
+      | inr b_old ↦ placed.own a b (sym (old_place a a_old) ∙ same ∙ old_place b b_old) (λ zero. some (old_place a a_old ∙ zero))
     ]
+  ]
 
-    first_push : get_or (states ++ state ∷ []) 0 empty_front ≡ empty_front
-    first_push = get_or_append_left states (state ∷ []) empty_front 0 some_begun ∙ placed.first
+  used_more : (k : ℕ) → 0 < k → k < length (map state ys) → Contains (set places v n) k
+  used_more k positive below = elim (cases_lt k n) [
+    | inl old ↦
+        let (i, inside, is) = placed.used k positive (omega (arith, old, length-map xs state, begins.last)) in
+        let at = get_or_default places i 0 k inside ∙ is in
+        let other : i ≢ v = λ e. omega (arith, positive, begins.unreached, at, ap (λ j. get_or places j 0) e) in
+        (i, omega (arith, inside, length-set places v n), get_or-set_other places v i n k other ∙ is)
+    | inr not_old ↦
+        let new : n ≡ k = omega (arith, not_old, below, long) in
+        subst (Contains (set places v n)) new (v, omega (arith, begins.within, length-set places v n), get_or-set_same places v n n begins.within)
+  ]
 
-    pub placed_push : IsPlaced (set places v (length states)) (states ++ state ∷ [])
-    placed_push =
-        let long = length-set places v (length states) in
-        let more = length_push states state in
-        record {
-          some = omega (arith, long, placed.some);
-          few = omega (arith, long, placed.few);
-          no_node = old_place 0 (λ e. omega (arith, node, e)) ∙ placed.no_node;
-          begun = All-set (λ k. k < length (states ++ state ∷ [])) places v (length states) (omega (arith, more))
-              (All-weaker (λ k. k < length states) (λ k. k < length (states ++ state ∷ [])) (λ k below. omega (arith, below, more)) places placed.begun);
-          own = own_push;
-          used = used_push;
-          first = first_push;
-          apart = All-push (λ f. AreApart (entries f)) states state placed.apart (empty_apart state empty);
-        }
+  -- all is kept
+  pub kept_more : IsKept d (set places v n) (map state ys)
+  kept_more = record {
+    two = begins.kept.two;
+    four = begins.kept.four;
+    placed = record {
+      some = omega (arith, length-set places v n, placed.some);
+      few = omega (arith, length-set places v n, placed.few);
+      no_node = old_place 0 (λ e. omega (arith, begins.node, e)) ∙ placed.no_node;
+      begun = All-set (λ k. k < length (map state ys)) places v n (omega (arith, long))
+          (All-weaker (λ k. k < length (map state xs)) (λ k. k < length (map state ys))
+          (λ k below. omega (arith, below, long, length-map xs state, begins.last)) places placed.begun);
+      own = own_more;
+      used = used_more;
+      first = first_more;
+      apart = rw states_more (All-push (λ f. AreApart (entries f)) (map state xs) (state x) placed.apart (empty_apart (state x) begins.empty));
+    };
+  }
 
-    pub fronts_push : fronts_by (set places v (length states)) (states ++ state ∷ []) ≡ fronts_by places states
-    fronts_push = ext_get_or empty_front (fronts_by (set places v (length states)) (states ++ state ∷ [])) (fronts_by places states)
-        (length-map (set places v (length states)) (λ k. get_or (states ++ state ∷ []) k empty_front)
-        ∙ length-set places v (length states) ∙ sym (length-map places (λ k. get_or states k empty_front)))
-        (λ w inside. front_by (set places v (length states)) (states ++ state ∷ []) first_push w ∙ at w ∙ sym (front_of w)) where
-          at : (w : ℕ) → get_or (states ++ state ∷ []) (get_or (set places v (length states)) w 0) empty_front ≡ get_or states (get_or places w 0) empty_front
-          at w = elim (cases_number w v) [
-            | inl new ↦
-                subst (λ u. get_or (states ++ state ∷ []) (get_or (set places v (length states)) u 0) empty_front ≡ get_or states (get_or places u 0)
-                empty_front)
-                (sym new)
-                (ap (λ k. get_or (states ++ state ∷ []) k empty_front) new_place ∙ get_or_push states state empty_front (length states) refl ∙ empty
-                ∙ sym placed.first ∙ ap (λ k. get_or states k empty_front) (sym unreached))
-            | inr other ↦
-                ap (λ k. get_or (states ++ state ∷ []) k empty_front) (old_place w other)
-                ∙ get_or_append_left states (state ∷ []) empty_front (get_or places w 0) (place_begun w)
-          ]
-
-    pub spares_push : (spares : List ℕ) (more w : ℕ) → length spares ≡ length states
-        → get_or (spares_by places spares) w 0 ≤ get_or (spares_by (set places v (length states)) (spares ++ more ∷ [])) w 0
-    spares_push spares more w same = elim (cases_number w v) [
-      | inl new ↦ omega (arith, spare_by places spares w, ap (λ u. room_at spares (get_or places u 0)) new, ap (room_at spares) unreached)
-      | inr other ↦ omega (
-        arith,
-        spare_by places spares w,
-        spare_by (set places v (length states)) (spares ++ more ∷ []) w,
-        ap (room_at (spares ++ more ∷ [])) (old_place w other),
-        room_push (get_or places w 0) (subst (λ n. get_or places w 0 < n) (sym same) (place_begun w)),
-      )
-    ] where
-      room_push : (k : ℕ) → k < length spares → room_at (spares ++ more ∷ []) k ≡ room_at spares k
-      room_push zero below = refl
-      room_push (suc k) below = get_or_append_left spares (more ∷ []) 0 (suc k) below
-
--- the same, where the fronts are what some things say, and one more thing is added
-module _ {X : Type 0} (state : X → Front) (spare : X → ℕ) (places : List ℕ) (xs ys : List X) (x : X) (v n : ℕ) (placed : IsPlaced places (map state xs))
-    (node : 0 < v) (within : v < length places) (unreached : get_or places v 0 ≡ 0) (empty : state x ≡ empty_front)
-    (pushed : ys ≡ xs ++ x ∷ []) (long : n ≡ length xs) where
-  states_pushed : map state ys ≡ map state xs ++ state x ∷ []
-  states_pushed = ap (map state) pushed ∙ map_push state xs x
-
-  last : n ≡ length (map state xs)
-  last = long ∙ sym (length-map xs state)
-
-  pub placed_more : IsPlaced (set places v n) (map state ys)
-  placed_more = subst₂ (λ k fs. IsPlaced (set places v k) fs) (sym last) (sym states_pushed)
-      (placed_push places (map state xs) placed v node within unreached (state x) empty)
-
+  -- the fronts have stayed
   pub fronts_more : fronts_by (set places v n) (map state ys) ≡ fronts_by places (map state xs)
-  fronts_more = subst₂ (λ k fs. fronts_by (set places v k) fs ≡ fronts_by places (map state xs)) (sym last) (sym states_pushed)
-      (fronts_push places (map state xs) placed v node within unreached (state x) empty)
+  fronts_more = ext_get_or empty_front (fronts_by (set places v n) (map state ys)) (fronts_by places (map state xs))
+      (length-map (set places v n) (λ k. get_or (map state ys) k empty_front) ∙ length-set places v n
+      ∙ sym (length-map places (λ k. get_or (map state xs) k empty_front)))
+      (λ w inside. front_by (set places v n) (map state ys) first_more w ∙ same w ∙ sym (front_of places (map state xs) placed w)) where
+        same : (w : ℕ) → get_or (map state ys) (get_or (set places v n) w 0) empty_front ≡ get_or (map state xs) (get_or places w 0) empty_front
+        same w = elim (cases_number w v) [
+          | inl new ↦ rw (new_place w new, new, begins.unreached) (new_state ∙ sym placed.first)
+          | inr other ↦ rw (old_place w other) (old_state (get_or places w 0) (begun_before w))
+        ]
 
-  pub spares_more : (w : ℕ) → get_or (spares_by places (map spare xs)) w 0 ≤ get_or (spares_by (set places v n) (map spare ys)) w 0
-  spares_more w = subst₂ (λ k ss. get_or (spares_by places (map spare xs)) w 0 ≤ get_or (spares_by (set places v k) ss) w 0)
-      (sym last) (sym (ap (map spare) pushed ∙ map_push spare xs x))
-      (spares_push places (map state xs) placed v node within unreached (state x) empty (map spare xs) (spare x) w
-      (length-map xs spare ∙ sym (length-map xs state)))
-
--- what is read at the place of a node, and what another thing in its place changes
-module _ {X : Type 0} (state : X → Front) (places : List ℕ) (xs : List X) (placed : IsPlaced places (map state xs)) (v k : ℕ) (at : k ≡ get_or places v 0) where
-  pub state_there : (x : X) → x ≡ get_or xs k x → get_or (fronts_by places (map state xs)) v empty_front ≡ state x
-  state_there x read =
-      let begun : k < length xs = omega (arith, at, place_begun places (map state xs) placed v, length-map xs state) in
-      front_of places (map state xs) placed v ∙ ap (λ j. get_or (map state xs) j empty_front) (sym at)
-      ∙ get_or-map state xs k x empty_front begun ∙ ap state (sym read)
-
-  module _ (some : k ≢ 0) (x : X) where
-    pub placed_changed : AreApart (entries (state x)) → IsPlaced places (map state (set xs k x))
-    placed_changed apart = subst (IsPlaced places) (sym (map-set state xs k x)) (placed_set places (map state xs) placed v k at some (state x) apart)
-
-    pub changed_there : get_or (fronts_by places (map state (set xs k x))) v empty_front ≡ state x
-    changed_there = ap (λ fs. get_or (fronts_by places fs) v empty_front) (map-set state xs k x) ∙ front_set places (map state xs) placed v k at some (state x)
-
-    pub changed_elsewhere : (w : ℕ) → w ≢ v
-        → get_or (fronts_by places (map state (set xs k x))) w empty_front ≡ get_or (fronts_by places (map state xs)) w empty_front
-    changed_elsewhere w other =
-        ap (λ fs. get_or (fronts_by places fs) w empty_front) (map-set state xs k x)
-        ∙ front_set_elsewhere places (map state xs) placed v k at some (state x) w other
-
--- the same fronts are those of as many numbers
-pub same_count : (places others : List ℕ) (states more : List Front) → fronts_by places states ≡ fronts_by others more → length places ≡ length others
-same_count places others states more same =
-    sym (length-map places (λ k. get_or states k empty_front)) ∙ ap length same ∙ length-map others (λ k. get_or more k empty_front)
-
--- the fronts of all nodes before and after one of them is changed
-module _ {X : Type 0} (state : X → Front) (before after : Fronts) (places : List ℕ) (xs : List X) (placed : IsPlaced places (map state xs))
-    (v k : ℕ) (at : k ≡ get_or places v 0) (was : before.fronts ≡ fronts_by places (map state xs)) (nodes : after.nodes ≡ before.nodes) where
-  pub front_before : (x : X) → x ≡ get_or xs k x → front_at before v ≡ state x
-  front_before x read = ap (λ fs. get_or fs v empty_front) was ∙ state_there state places xs placed v k at x read
-
-  module _ (some : k ≢ 0) (x : X) (is : after.fronts ≡ fronts_by places (map state (set xs k x))) where
-    pub front_after : front_at after v ≡ state x
-    front_after = ap (λ fs. get_or fs v empty_front) is ∙ changed_there state places xs placed v k at some x
-
-    pub same_elsewhere : SameElsewhere v before after
-    same_elsewhere = record {
-      nodes = nodes;
-      others = λ w other.
-          ap (λ fs. get_or fs w empty_front) is
-          ∙ changed_elsewhere state places xs placed v k at some x w other
-          ∙ ap (λ fs. get_or fs w empty_front) (sym was);
-    }
+  -- no front has less room
+  pub spares_more : (spare : X → ℕ) (w : ℕ) → get_or (spares_by places (map spare xs)) w 0 ≤ get_or (spares_by (set places v n) (map spare ys)) w 0
+  spares_more spare w = elim (cases_number w v) [
+    | inl new ↦ rw new (omega (arith, spare_by places (map spare xs) v, ap (room_at (map spare xs)) begins.unreached))
+    | inr other ↦ omega (
+      arith,
+      spare_by places (map spare xs) w,
+      spare_by (set places v n) (map spare ys) w,
+      ap (room_at (map spare ys)) (old_place w other),
+      same (get_or places w 0) (omega (arith, begun_before w, length-map xs spare, begins.last)),
+    )
+  ] where
+    same : (k : ℕ) → k < length (map spare xs) → room_at (map spare ys) k ≡ room_at (map spare xs) k
+    same zero below = refl
+    same (suc k) below = rw (begins.pushed, map_push spare xs x) (get_or_append_left (map spare xs) (spare x ∷ []) 0 (suc k) below)
 
 -- where no node was reached, each front is without entries
 pub none_reached : {X : Type 0} (state : X → Front) (n : ℕ) (places : List ℕ) (xs ys : List X) (x : X) → places ≡ replicate {A = ℕ} n 0 → xs ≡ []
@@ -294,50 +225,182 @@ none_reached {X} state n places xs ys x zeros none pushed empty v =
     subst₂ (λ ps fs. get_or (fronts_by ps fs) v empty_front ≡ empty_front) (sym zeros) (sym fronts)
     (front_by (replicate {A = ℕ} n 0) (empty_front ∷ []) refl v ∙ ap (λ k. get_or (empty_front ∷ []) k empty_front) (no_place n v))
 
--- ---- room
+-- the entries of each front are apart
+pub fronts_apart : {d n : ℕ} {places spares : List ℕ} {states : List Front} {f : Fronts} → IsKept d places states
+    → record { nodes = n; fronts = fronts_by places states; spares = spares } ≡ f → (v : ℕ) → AreApart (entries (front_at f v))
+fronts_apart {places} {states} kept view v = subst (λ (f : Fronts). AreApart (entries (front_at f v))) view (front_apart places states kept.placed v)
 
-room_there : (spares : List ℕ) (k : ℕ) → k ≢ 0 → room_at spares k ≡ get_or spares k 0
-room_there spares zero some = absurd (some refl)
-room_there spares (suc k) some = refl
+-- ---- what is kept of a node that was reached, and what another thing in its place changes
 
-room_elsewhere : (spares : List ℕ) (k j r : ℕ) → j ≢ k → room_at (set spares k r) j ≡ room_at spares j
-room_elsewhere spares k zero r other = refl
-room_elsewhere spares k (suc j) r other = get_or-set_other spares k (suc j) r 0 other
+-- the fronts that are kept so
+abbrev pub fronts_kept : {X : Type 0} → (X → Front) → (X → ℕ) → List ℕ → List X → Fronts
+fronts_kept state spare places xs = record {
+  nodes = length places - 1;
+  fronts = fronts_by places (map state xs);
+  spares = spares_by places (map spare xs);
+}
 
--- a node whose front has room was reached
-pub room_place : (places spares : List ℕ) (v : ℕ) → 1 ≤ get_or (spares_by places spares) v 0 → get_or places v 0 ≢ 0
-room_place places spares v room none = omega (arith, room, spare_by places spares v, ap (room_at spares) none)
+-- x is kept of the node v, at the place k
+pub record IsAt {X : Type 0} (d : ℕ) (state : X → Front) (spare : X → ℕ) (places : List ℕ) (xs : List X) (before : Fronts) (v k : ℕ) (x : X) : Type 0 where
+  pub kept : IsKept d places (map state xs)
+  pub nodes : length places - 1 ≡ before.nodes
+  pub fronts : fronts_by places (map state xs) ≡ before.fronts
+  pub place : k ≡ get_or places v 0
+  pub reached : k ≢ 0
+  pub read : x ≡ get_or xs k x
 
-module _ {X : Type 0} (state : X → Front) (spare : X → ℕ) (places : List ℕ) (xs : List X) (placed : IsPlaced places (map state xs))
-    (v k : ℕ) (at : k ≡ get_or places v 0) (some : k ≢ 0) where
-  begun_at : k < length xs
-  begun_at = omega (arith, at, place_begun places (map state xs) placed v, length-map xs state)
+module _ {X : Type 0} (state : X → Front) (places : List ℕ) (xs : List X) (v k : ℕ) (placed : IsPlaced places (map state xs))
+    (at : k ≡ get_or places v 0) where
+  place_of_one : k < length xs
+  place_of_one = omega (arith, at, place_begun places (map state xs) placed v, length-map xs state)
 
-  -- for how many more the front at the place of a node has room
-  pub spare_there : (x : X) → x ≡ get_or xs k x → get_or (spares_by places (map spare xs)) v 0 ≡ spare x
-  spare_there x read =
-      spare_by places (map spare xs) v ∙ ap (room_at (map spare xs)) (sym at) ∙ room_there (map spare xs) k some
-      ∙ get_or-map spare xs k x 0 begun_at ∙ ap spare (sym read)
+  -- the front of a number is that of what was read at its place
+  pub front_read : (x : X) → x ≡ get_or xs k x → get_or (fronts_by places (map state xs)) v empty_front ≡ state x
+  front_read x read =
+      front_of places (map state xs) placed v ∙ ap (λ j. get_or (map state xs) j empty_front) (sym at)
+      ∙ get_or-map state xs k x empty_front place_of_one ∙ ap state (sym read)
 
-  pub spare_changed : (x : X) → get_or (spares_by places (map spare (set xs k x))) v 0 ≡ spare x
-  spare_changed x =
-      spare_by places (map spare (set xs k x)) v ∙ ap (room_at (map spare (set xs k x))) (sym at) ∙ room_there (map spare (set xs k x)) k some
-      ∙ get_or-map spare (set xs k x) k x 0 (omega (arith, begun_at, length-set xs k x))
-      ∙ ap spare (get_or-set_same xs k x x begun_at)
+-- the same fronts are those of as many numbers
+same_count : (places others : List ℕ) (states more : List Front) → fronts_by places states ≡ fronts_by others more → length places ≡ length others
+same_count places others states more same =
+    sym (length-map places (λ k. get_or states k empty_front)) ∙ ap length same ∙ length-map others (λ k. get_or more k empty_front)
 
-  pub spare_elsewhere : (x : X) (w : ℕ) → w ≢ v → get_or (spares_by places (map spare (set xs k x))) w 0 ≡ get_or (spares_by places (map spare xs)) w 0
-  spare_elsewhere x w other =
-      let apart : get_or places w 0 ≢ k = λ e. other (placed.own w v (e ∙ at) (λ zero. some (sym e ∙ zero))) in
-      spare_by places (map spare (set xs k x)) w ∙ ap (λ ss. room_at ss (get_or places w 0)) (map-set spare xs k x)
-      ∙ room_elsewhere (map spare xs) k (get_or places w 0) (spare x) apart ∙ sym (spare_by places (map spare xs) w)
+-- a node was reached, where the fronts have stayed
+pub at_reached : {X : Type 0} {d : ℕ} {state : X → Front} {spare : X → ℕ} {places : List ℕ} {xs : List X} {before : Fronts} {v k : ℕ} {x : X}
+    → (others : List ℕ) (ys : List X) → IsKept d places (map state xs) → fronts_by places (map state xs) ≡ fronts_by others (map state ys)
+    → fronts_kept state spare others ys ≡ before → k ≡ get_or places v 0 → k ≢ 0 → x ≡ get_or xs k x → IsAt d state spare places xs before v k x
+at_reached {state} {places} {xs} others ys kept same view at some read = record {
+  kept = kept;
+  nodes = ap (λ n. n - 1) (same_count places others (map state xs) (map state ys) same) ∙ ap (λ (f : Fronts). f.nodes) view;
+  fronts = same ∙ ap (λ (f : Fronts). f.fronts) view;
+  place = at;
+  reached = some;
+  read = read;
+}
 
--- something in the place of another that says the same changes no front
-pub same_state_fronts : {X : Type 0} (state : X → Front) (places : List ℕ) (xs : List X) (k : ℕ) (old new : X) → old ≡ get_or xs k old → state new ≡ state old
-    → fronts_by places (map state (set xs k new)) ≡ fronts_by places (map state xs)
-same_state_fronts state places xs k old new read same = ap (fronts_by places) (map-set state xs k new ∙ again) where
-  again : set (map state xs) k (state new) ≡ map state xs
-  again = elim (cases_lt k (length xs)) [
-    | inl within ↦ ap (set (map state xs) k) (same ∙ ap state read ∙ sym (get_or-map state xs k old empty_front within)) ∙ set-get_or (map state xs)
-        k empty_front
-    | inr past ↦ set_past (map state xs) k (state new) (omega (arith, past, length-map xs state))
-  ]
+module _ {X : Type 0} {d : ℕ} {state : X → Front} {spare : X → ℕ} {places : List ℕ} {xs : List X} {before : Fronts} {v k : ℕ} {x : X}
+    (kept : IsKept d places (map state xs)) (view : fronts_kept state spare places xs ≡ before) where
+  -- the place of a node that was reached was read
+  at_place : get_or places v 0 ≢ 0 → k ≡ get_or places v k → x ≡ get_or xs k x → IsAt d state spare places xs before v k x
+  at_place some place read =
+      let at = place_read places (map state xs) kept.placed v k some place in
+      at_reached places xs kept refl view at (λ zero. some (sym at ∙ zero)) read
+
+  -- its front has an entry of this cost
+  pub at_cost : {c : List ℕ} → HasCost (entries (front_at before v)) c → k ≡ get_or places v k → x ≡ get_or xs k x → IsAt d state spare places xs before v k x
+  at_cost {c} has = at_place (has_place places (map state xs) kept.placed v c (subst (λ (f : Fronts). HasCost (entries (front_at f v)) c) (sym view) has))
+
+  -- its place isn't 0
+  pub at_node : v ≤ before.nodes → k ≢ 0 → k ≡ get_or places v k → x ≡ get_or xs k x → IsAt d state spare places xs before v k x
+  at_node node some place =
+      let within : v < length places = omega (arith, node, ap (λ (f : Fronts). f.nodes) view, kept.placed.some) in
+      at_place (λ none. some (place_within places (map state xs) kept.placed v k within place ∙ none)) place
+
+  -- its front has room
+  pub at_room : 1 ≤ spare_at before v → k ≡ get_or places v k → x ≡ get_or xs k x → IsAt d state spare places xs before v k x
+  at_room room = at_place (λ none.
+      omega (arith, room, ap (λ (f : Fronts). spare_at f v) view, spare_by places (map spare xs) v, ap (room_at (map spare xs)) none))
+
+module _ {X : Type 0} {d : ℕ} {state : X → Front} {spare : X → ℕ} {places : List ℕ} {xs : List X} {before : Fronts} {v k : ℕ} {x : X}
+    (here : IsAt d state spare places xs before v k x) where
+  begun : k < length xs
+  begun = place_of_one state places xs v k here.kept.placed here.place
+
+  state_read : get_or (map state xs) k empty_front ≡ state x
+  state_read = get_or-map state xs k x empty_front begun ∙ ap state (sym here.read)
+
+  -- the front of the node
+  pub front_here : front_at before v ≡ state x
+  front_here = ap (λ fs. get_or fs v empty_front) (sym here.fronts) ∙ front_read state places xs v k here.kept.placed here.place x here.read
+
+  -- its entries are apart
+  pub apart_here : AreApart (entries (state x))
+  apart_here = subst (λ (f : Front). AreApart (entries f)) state_read (here.kept.placed.apart k empty_front (omega (arith, begun, length-map xs state)))
+
+  room_there : (ys : List X) → length ys ≡ length xs → get_or (spares_by places (map spare ys)) v 0 ≡ spare (get_or ys k x)
+  room_there ys long =
+      spare_by places (map spare ys) v ∙ ap (room_at (map spare ys)) (sym here.place) ∙ room_of k here.reached
+      ∙ get_or-map spare ys k x 0 (omega (arith, begun, long)) where
+        room_of : (j : ℕ) → j ≢ 0 → room_at (map spare ys) j ≡ get_or (map spare ys) j 0
+        room_of zero some = absurd (some refl)
+        room_of (suc j) some = refl
+
+  -- its room
+  pub spare_here : spare_at (fronts_kept state spare places xs) v ≡ spare x
+  spare_here = room_there xs refl ∙ ap spare (sym here.read)
+
+  -- no other node has its place
+  other_place : (w : ℕ) → w ≢ v → get_or places w 0 ≢ k
+  other_place w other e = other (here.kept.placed.own w v (e ∙ here.place) (λ zero. here.reached (sym e ∙ zero)))
+
+  -- y comes in its place
+  module _ (y : X) where
+    states_after : map state (set xs k y) ≡ set (map state xs) k (state y)
+    states_after = map-set state xs k y
+
+    first_after : get_or (map state (set xs k y)) 0 empty_front ≡ empty_front
+    first_after = rw states_after (get_or-set_other (map state xs) k 0 (state y) empty_front (λ e. here.reached (sym e)) ∙ here.kept.placed.first)
+
+    -- all is kept
+    pub kept_after : AreApart (entries (state y)) → IsKept d places (map state (set xs k y))
+    kept_after apart =
+        let placed = here.kept.placed in
+        let long : length (map state (set xs k y)) ≡ length (map state xs) =
+        omega (arith, length-map (set xs k y) state, length-map xs state, length-set xs k y) in record {
+          two = here.kept.two;
+          four = here.kept.four;
+          placed = record {
+            some = placed.some;
+            few = placed.few;
+            no_node = placed.no_node;
+            begun = subst (λ n. All (λ j. j < n) places) (sym long) placed.begun;
+            own = placed.own;
+            used = λ j positive below. placed.used j positive (omega (arith, below, long));
+            first = first_after;
+            apart = subst (All (λ f. AreApart (entries f))) (sym states_after)
+                (All-set (λ f. AreApart (entries f)) (map state xs) k (state y) apart placed.apart);
+          };
+        }
+
+    -- the front of the node is y's
+    pub front_after : front_at (fronts_kept state spare places (set xs k y)) v ≡ state y
+    front_after =
+        front_by places (map state (set xs k y)) first_after v ∙ ap (λ j. get_or (map state (set xs k y)) j empty_front) (sym here.place)
+        ∙ get_or-map state (set xs k y) k y empty_front (omega (arith, begun, length-set xs k y)) ∙ ap state (get_or-set_same xs k y y begun)
+
+    -- the others have stayed
+    pub elsewhere : SameElsewhere v before (fronts_kept state spare places (set xs k y))
+    elsewhere = record {
+      nodes = here.nodes;
+      others = λ w other.
+          front_by places (map state (set xs k y)) first_after w ∙ ap (λ fs. get_or fs (get_or places w 0) empty_front) states_after
+          ∙ get_or-set_other (map state xs) k (get_or places w 0) (state y) empty_front (other_place w other)
+          ∙ sym (front_of places (map state xs) here.kept.placed w) ∙ ap (λ fs. get_or fs w empty_front) here.fronts;
+    }
+
+    -- the room of the node is y's
+    pub spare_after : spare_at (fronts_kept state spare places (set xs k y)) v ≡ spare y
+    spare_after = room_there (set xs k y) (length-set xs k y) ∙ ap spare (get_or-set_same xs k y x begun)
+
+    -- that of the others has stayed
+    pub spare_elsewhere : (w : ℕ) → w ≢ v → spare_at (fronts_kept state spare places (set xs k y)) w ≡ spare_at (fronts_kept state spare places xs) w
+    spare_elsewhere w other =
+        spare_by places (map spare (set xs k y)) w ∙ ap (λ ss. room_at ss (get_or places w 0)) (map-set spare xs k y)
+        ∙ apart (get_or places w 0) (other_place w other) ∙ sym (spare_by places (map spare xs) w) where
+          apart : (j : ℕ) → j ≢ k → room_at (set (map spare xs) k (spare y)) j ≡ room_at (map spare xs) j
+          apart zero other = refl
+          apart (suc j) other = get_or-set_other (map spare xs) k (suc j) (spare y) 0 other
+
+    -- where y says the same, no front has changed
+    pub same_fronts : state y ≡ state x → SameFronts before (fronts_kept state spare places (set xs k y))
+    same_fronts same = record {
+      nodes = here.nodes;
+      fronts = ap (fronts_by places) (states_after ∙ ap (set (map state xs) k) (same ∙ sym state_read) ∙ set-get_or (map state xs) k empty_front) ∙ here.fronts;
+    }
+
+    -- where y has no less room than x, each front has no less than before
+    pub no_less_room : spare x ≤ spare y → (w : ℕ) → spare_at (fronts_kept state spare places xs) w ≤ spare_at (fronts_kept state spare places (set xs k y)) w
+    no_less_room more w = elim (cases_number w v) [
+      | inl same ↦ rw same (omega (arith, spare_here, spare_after, more))
+      | inr other ↦ omega (arith, spare_elsewhere w other)
+    ]

@@ -4,32 +4,33 @@ use Rattle.std.specs.Prelude.{All, AllPairs, Contains, filter}
 use Rattle.cost_vector.specs.Costs.{Dominates}
 use Rattle.std.proofs.lemmas.Bool.{cases_Bool, false≢true}
 use Rattle.std.proofs.lemmas.Bool.Decides.{nat_tests}
-use Rattle.std.proofs.lemmas.List.{take_more, drop_more, get_or-drop, get_or_default, length-append, map-append, append-nil}
-use Rattle.std.proofs.lemmas.List.Elements.{filter-append, All-nil, All-push}
-use Rattle.list_laws.proofs.Members.{in_first, in_none, in_one, of_map, of_filter, each_in, all_from_in}
-use Rattle.list_laws.proofs.OnceLaws.{in_append, empty_if_none}
+use Rattle.std.proofs.lemmas.List.{take_all, take_more, get_or-drop, get_or_default, length-append, map-append, append-nil}
+use Rattle.std.proofs.lemmas.List.Elements.{filter-append, All-push, All-weaker}
+use Rattle.list_laws.proofs.Members.{in_first, in_none, of_map, of_filter, each_in}
+use Rattle.list_laws.proofs.OnceLaws.{alike_through, in_append, empty_if_none}
 use Rattle.compact_labels.specs.declared.label.CompactLabel.{CompactLabel}
 use Rattle.compact_labels.specs.declared.label.CompactSpot.{CompactSpot}
 use Rattle.pareto_front.specs.Calls.{Discards, Enters, Relabels, entry_of}
-use Rattle.pareto_front.specs.Fronts.{Entry, Front, HasCost, IsCovered, SparesSettled, empty_front, entries}
-use Rattle.road_network.specs.Network.{IsNode}
-use Rattle.pareto_front.specs.Merging.{IsDelta, IsMerged}
+use Rattle.pareto_front.specs.Fronts.{Entry, Front, HasCost, IsCovered, SparesSettled, entries}
+use Rattle.pareto_front.specs.Merging.{IsMerged}
 use Rattle.node_front.specs.Apart.{AreApart}
 use Rattle.node_front.specs.Deltas.{Deltas, AreDeltas, HasRoom, MergesAll, costs_told_at, delta_at, told_at}
 use Rattle.node_front.specs.NodeFronts.{Fronts, SameElsewhere, SameFronts, front_at, spare_at}
-use Rattle.node_front.proofs.ApartLemmas.{has_cost_of}
 use Rattle.node_front.proofs.PlacedLemmas.{cases_number}
 use Rattle.node_front.proofs.RemovedLemmas.{pairs_front, pairs_across}
-use Rattle.node_front.proofs.MergeLaws.{HasPut, merged_by_delta, put_all, put_spares, put_then, put_uncovered, removed_unsettled, step_lowered, relabelled_then}
+use Rattle.node_front.proofs.GrowsLemmas.{in_append_more, in_push}
+use Rattle.node_front.proofs.MergeLaws.{HasPut, IsSparing, merged_by_delta, put_all, put_spares, put_then, put_uncovered, removed_unsettled, lowered_has, relabelled_then}
 
 -- ---- the labels of one node
 
 test_same : (a b : ℕ) → nat_eq a b ≡ true → a ≡ b
 test_same a b test = grind (arith, nat_tests)
 
+-- the test of the same numbers passes
 pub same_test : (a b : ℕ) → a ≡ b → nat_eq a b ≡ true
 same_test a b same = grind (arith, nat_tests)
 
+-- and that of others fails
 pub other_test : (a b : ℕ) → a ≢ b → nat_eq a b ≡ false
 other_test a b other = elim (cases_Bool (nat_eq a b)) [ inl passes ↦ absurd (other (test_same a b passes)) | inr fails ↦ fails ]
 
@@ -37,15 +38,18 @@ other_test a b other = elim (cases_Bool (nat_eq a b)) [ inl passes ↦ absurd (o
 pub same_numbers : (a b : ℕ) (test : Bool) → test ≡ nat_eq a b → test ≡ true → a ≡ b
 same_numbers a b test is passes = test_same a b (sym is ∙ passes)
 
+-- and where it fails
 pub other_numbers : (a b : ℕ) (test : Bool) → test ≡ nat_eq a b → test ≡ false → a ≢ b
 other_numbers a b test is fails same = false≢true (sym fails ∙ is ∙ same_test a b same)
 
 -- what things tell whose node is v
 module _ {X Y : Type 0} (node : X → ℕ) (tell : X → Y) where
-  abbrev told_of : ℕ → List X → List Y
+  -- what those of the node v tell
+  abbrev pub told_of : ℕ → List X → List Y
   told_of v xs = map tell (filter (λ x. nat_eq (node x) v) xs)
 
-  of_append : (v : ℕ) (xs ys : List X) → told_of v (xs ++ ys) ≡ told_of v xs ++ told_of v ys
+  -- of two lists, one behind the other
+  pub of_append : (v : ℕ) (xs ys : List X) → told_of v (xs ++ ys) ≡ told_of v xs ++ told_of v ys
   of_append v xs ys =
       ap (map tell) (filter-append (λ x. nat_eq (node x) v) xs ys)
       ∙ map-append tell (filter (λ x. nat_eq (node x) v) xs) (filter (λ x. nat_eq (node x) v) ys)
@@ -66,6 +70,10 @@ module _ {X Y : Type 0} (node : X → ℕ) (tell : X → Y) where
   of_take : (v i : ℕ) (xs : List X) (y : Y) → Contains (told_of v (take i xs)) y → Contains (told_of v xs) y
   of_take v i xs y there =
       subst (λ ys. Contains ys y) (sym (of_parts v i xs)) ((in_append (told_of v (take i xs)) (told_of v (drop i xs)) y).1 (inl there))
+
+  -- the next one, of another node
+  next_other : (v i : ℕ) (xs : List X) (x : X) → v ≢ node x → take (i + 1) xs ≡ take i xs ++ x ∷ [] → told_of v (take (i + 1) xs) ≡ told_of v (take i xs)
+  next_other v i xs x other more = ap (told_of v) more ∙ of_push_other v (take i xs) x (λ same. other (sym same))
 
   -- the next one, among those of its node
   module _ (v i : ℕ) (xs : List X) (x : X) (at : node x ≡ v) (more : take (i + 1) xs ≡ take i xs ++ x ∷ []) where
@@ -95,21 +103,27 @@ module _ {X Y : Type 0} (node : X → ℕ) (tell : X → Y) where
         omega (arith, whole, front)
 
 module _ {D : ℕ} where
-  abbrev label_node : CompactLabel D → ℕ
+  -- a label's node
+  abbrev pub label_node : CompactLabel D → ℕ
   label_node l = l.node.0
 
-  abbrev spot_node : CompactSpot D → ℕ
+  -- a spot's node
+  abbrev pub spot_node : CompactSpot D → ℕ
   spot_node s = s.node.0
 
-  abbrev spot_cost : CompactSpot D → List ℕ
+  -- a spot's cost
+  abbrev pub spot_cost : CompactSpot D → List ℕ
   spot_cost s = s.cost.0
 
+  -- what the labels of two lists tell
   pub at_append : (v : ℕ) (ls ms : List (CompactLabel D)) → told_at v (ls ++ ms) ≡ told_at v ls ++ told_at v ms
   at_append = of_append label_node (entry_of {D = D})
 
+  -- one label more, of the node
   pub at_push : (v : ℕ) (ls : List (CompactLabel D)) (l : CompactLabel D) → l.node.0 ≡ v → told_at v (ls ++ l ∷ []) ≡ told_at v ls ++ entry_of l ∷ []
   at_push = of_push label_node (entry_of {D = D})
 
+  -- one label more, of another node
   pub at_push_other : (v : ℕ) (ls : List (CompactLabel D)) (l : CompactLabel D) → l.node.0 ≢ v → told_at v (ls ++ l ∷ []) ≡ told_at v ls
   at_push_other = of_push_other label_node (entry_of {D = D})
 
@@ -131,6 +145,10 @@ module _ {D : ℕ} where
         | inr fails ↦ rw fails (omega arith)
       ]
 
+-- the elements of a list that was read at another name are at their end
+pub all_taken : {X : Type 0} {items list : List X} {i : ℕ} → items ≡ list → length items ≤ i → take i list ≡ list
+all_taken {list} {i} same past = take_all i list (rw same at past)
+
 -- the next element, of a list that was read at another name
 pub next_taken : {X : Type 0} (items list : List X) (i : ℕ) (x : X) → items ≡ list → i < length items → x ≡ get_or items i x
     → take (i + 1) list ≡ take i list ++ x ∷ []
@@ -139,6 +157,7 @@ next_taken {X} items list i x same within read =
 
 -- ---- the first i removed spots have left
 
+-- they have, and nothing has come
 pub record IsDiscarding {D : ℕ} (before : Fronts) (d : Deltas D) (i : ℕ) (now : Fronts) : Type 0 where
   pub nodes : now.nodes ≡ before.nodes
   pub fronts : (v : ℕ) → HasPut (front_at before v) (costs_told_at v (take i d.removed)) [] (front_at now v)
@@ -163,182 +182,151 @@ put_none front = record {
 }
 
 -- one more cost has left
-put_discards : (before now after : Front) (gone : List (List ℕ)) (c : List ℕ) → HasPut before gone [] now → Discards now c after
+put_discards : {before now after : Front} {gone : List (List ℕ)} {c : List ℕ} → HasPut before gone [] now → Discards now c after
     → HasPut before (gone ++ c ∷ []) [] after
-put_discards before now after gone c puts discards = record {
-  settled = λ x. (λ h. (puts.settled x).0 ((discards.settled x).0 h), λ h. (discards.settled x).1 ((puts.settled x).1 h));
-  unsettled = λ x. through (discards.unsettled x) (puts.unsettled x) (in_append gone (c ∷ []) x.cost)
-      (λ h. in_one c x.cost h, λ same. subst (Contains (c ∷ [])) (sym same) (in_first c [])) (in_none x);
+put_discards {gone} {c} puts discards = record {
+  settled = λ x. alike_through (discards.settled x) (puts.settled x);
+  unsettled = λ x. through (discards.unsettled x) (puts.unsettled x) (in_push gone c x.cost) (in_none x);
 } where
-  through : {A M E B G N L O : Type 0} → (A ↔ (M × (¬ E))) → (M ↔ ((B × (¬ G)) ⊎ N)) → (L ↔ (G ⊎ O)) → (O ↔ E) → (¬ N) → (A ↔ ((B × (¬ L)) ⊎ N))
-  through a m l o none = grind arith
+  through : {A M E B G N L : Type 0} → (A ↔ (M × (¬ E))) → (M ↔ ((B × (¬ G)) ⊎ N)) → (L ↔ (G ⊎ E)) → (¬ N) → (A ↔ ((B × (¬ L)) ⊎ N))
+  through a m l none = grind arith
 
-module _ {D : ℕ} (before : Fronts) (d : Deltas D) (apart : (v : ℕ) → AreApart (entries (front_at before v))) where
+module _ {D : ℕ} {before : Fronts} {d : Deltas D} where
+  -- at the start none has left
   pub discarding_none : HasRoom before d.added → IsDiscarding before d 0 before
   discarding_none room = record { nodes = refl; fronts = λ v. put_none (front_at before v); room = room }
 
-  pub putting_none : (i : ℕ) (now : Fronts) → take i d.removed ≡ d.removed → IsDiscarding before d i now → IsPutting before d 0 now
-  putting_none i now all discarding = record {
+  -- once all have left, none has come
+  pub putting_none : {i : ℕ} {now : Fronts} → take i d.removed ≡ d.removed → IsDiscarding before d i now → IsPutting before d 0 now
+  putting_none all discarding = record {
     nodes = discarding.nodes;
-    fronts = λ v. subst (λ (ss : List (CompactSpot D)). HasPut (front_at before v) (costs_told_at v ss) [] (front_at now v)) all (discarding.fronts v);
-    room = λ v. let room = discarding.room v in omega (arith, room);
+    fronts = λ v. rw (← all) (discarding.fronts v);
+    room = λ v. omega (arith, discarding.room v);
   }
 
-  module _ (candidates : List (CompactLabel D)) (are : AreDeltas before candidates d) where
-    -- a candidate spares the settled entries of its node
-    told_spares : (v : ℕ) (x : Entry) → Contains (told_at v candidates) x → SparesSettled (front_at before v) x.cost
-    told_spares v x there =
+module _ {D : ℕ} {before : Fronts} {d : Deltas D} {candidates : List (CompactLabel D)} (apart : (v : ℕ) → AreApart (entries (front_at before v)))
+    (are : AreDeltas before candidates d) where
+  sparing : (v : ℕ) → IsSparing (front_at before v) (told_at v candidates) (delta_at v d)
+  sparing v = record {
+    is = are.exact v;
+    apart = apart v;
+    spares = λ x there.
         let (m, m_in, m_at, is) = of_at v candidates x there in
         let spares = each_in (λ (k : CompactLabel D). SparesSettled (front_at before k.node.0) k.cost.0) candidates are.spares m m_in in
-        subst (λ u. SparesSettled (front_at before u) x.cost) m_at (subst (λ (y : Entry). SparesSettled (front_at before m.node.0) y.cost) (sym is) spares)
+        rw is (rw m_at at spares);
+  }
 
-    pub lowering_none : (i : ℕ) (now : Fronts) → take i d.added ≡ d.added → IsPutting before d i now → IsLowering before d 0 now
-    lowering_none i now all putting = record {
-      nodes = putting.nodes;
-      merged = λ v. subst (λ es. IsMerged (front_at before v) es (front_at now v)) (sym (append-nil (told_at v d.added)))
-          (put_all (front_at before v) (told_at v candidates) (delta_at v d) (are.exact v) (apart v) (told_spares v) (told_at v d.added) (front_at now v)
-          (λ x there. there) (subst (λ (ls : List (CompactLabel D)). HasPut (front_at before v) (costs_told_at v d.removed) (told_at v ls)
-          (front_at now v)) all (putting.fronts v)) (λ x there. there));
+  -- once all have come, none is lowered
+  pub lowering_none : {i : ℕ} {now : Fronts} → take i d.added ≡ d.added → IsPutting before d i now → IsLowering before d 0 now
+  lowering_none all putting = record {
+    nodes = putting.nodes;
+    merged = λ v. rw append-nil (put_all (sparing v) (λ x there. there) (rw all at (putting.fronts v)) (λ x there. there));
+  }
+
+  -- once all are lowered, the fronts are what the candidates make of them
+  pub lowering_all : {i : ℕ} {now : Fronts} → take i d.lowered ≡ d.lowered → IsLowering before d i now → MergesAll before candidates now
+  lowering_all {now} all lowering = record {
+    merged = λ v. merged_by_delta (front_at before v) (told_at v candidates) (delta_at v d) (are.exact v) (apart v) (front_at now v)
+        (rw all at (lowering.merged v));
+  }
+
+  -- the next removed spot
+  module _ {i : ℕ} {now : Fronts} (discarding : IsDiscarding before d i now) (s : CompactSpot D) (more : take (i + 1) d.removed ≡ take i d.removed ++
+      s ∷ []) where
+    -- its cost is there, unsettled
+    pub discard_has : HasCost (front_at now s.node.0).unsettled s.cost.0
+    discard_has =
+        let v = s.node.0 in
+        let has = removed_unsettled (sparing v) s.cost.0 (next_in spot_node spot_cost v i d.removed s refl more) in
+        record {
+          arc = has.arc;
+          contains = ((discarding.fronts v).unsettled (record { cost = s.cost.0; arc = has.arc })).1 (inl (
+            has.contains,
+            λ there. next_apart spot_node spot_cost v i d.removed s refl more (are.exact v).removed.once s.cost.0 there refl,
+          ));
+        }
+
+    -- and then it has left too
+    pub discarding_more : {after : Fronts} → SameElsewhere s.node.0 now after → ((v : ℕ) → spare_at now v ≤ spare_at after v)
+        → Discards (front_at now s.node.0) s.cost.0 (front_at after s.node.0) → IsDiscarding before d (i + 1) after
+    discarding_more elsewhere room discards = record {
+      nodes = elsewhere.nodes ∙ discarding.nodes;
+      fronts = λ v. elim (cases_number v s.node.0) [
+        | inl same ↦ rw (same, next_more spot_node spot_cost s.node.0 i d.removed s refl more) (put_discards (discarding.fronts s.node.0) discards)
+        | inr other ↦ rw (elsewhere.others v other, next_other spot_node spot_cost v i d.removed s other more) (discarding.fronts v)
+      ];
+      room = λ v. omega (arith, discarding.room v, room v);
     }
 
-    pub lowering_all : (i : ℕ) (now : Fronts) → take i d.lowered ≡ d.lowered → IsLowering before d i now → MergesAll before candidates now
-    lowering_all i now all lowering = record {
-      merged = λ v. merged_by_delta (front_at before v) (told_at v candidates) (delta_at v d) (are.exact v) (apart v) (front_at now v)
-          (subst (λ ls. IsMerged (front_at before v) (told_at v d.added ++ told_at v ls) (front_at now v)) all (lowering.merged v));
+  -- the next added label
+  module _ {i : ℕ} {now : Fronts} (putting : IsPutting before d i now) (l : CompactLabel D) (more : take (i + 1) d.added ≡ take i d.added ++ l ∷ []) where
+    came_before : (x : Entry) → Contains (told_at l.node.0 (take i d.added)) x → Contains (told_at l.node.0 d.added) x
+    came_before = of_take label_node (entry_of {D = D}) l.node.0 i d.added
+
+    here : Contains (told_at l.node.0 d.added) (entry_of l)
+    here = next_in label_node (entry_of {D = D}) l.node.0 i d.added l refl more
+
+    -- there is room for it
+    pub put_room : 1 ≤ spare_at now l.node.0
+    put_room = omega (arith, next_fits label_node (entry_of {D = D}) l.node.0 i d.added l refl more, putting.room l.node.0)
+
+    -- no entry covers it
+    pub put_new : ¬ IsCovered (entries (front_at now l.node.0)) l.cost.0
+    put_new = put_uncovered (sparing l.node.0) came_before (putting.fronts l.node.0) (entry_of l) here
+        (next_apart label_node (entry_of {D = D}) l.node.0 i d.added l refl more (are.exact l.node.0).added.once)
+
+    -- it dominates none
+    pub put_spares_all : All (λ (e : Entry). ¬ Dominates l.cost.0 e.cost) (entries (front_at now l.node.0))
+    put_spares_all = put_spares (sparing l.node.0) came_before (putting.fronts l.node.0) (entry_of l) here
+
+    -- and then it has come too
+    pub putting_more : {after : Fronts} → SameElsewhere l.node.0 now after → ((v : ℕ) → v ≢ l.node.0 → spare_at after v ≡ spare_at now v)
+        → Enters (front_at now l.node.0) (entry_of l) (front_at after l.node.0) → spare_at now l.node.0 ≤ spare_at after l.node.0 + 1
+        → IsPutting before d (i + 1) after
+    putting_more {after} elsewhere others enters room_left = record {
+      nodes = elsewhere.nodes ∙ putting.nodes;
+      fronts = λ v. elim (cases_number v l.node.0) [
+        | inl same ↦ rw (same, next_more label_node (entry_of {D = D}) l.node.0 i d.added l refl more)
+            (put_then (sparing l.node.0) came_before (putting.fronts l.node.0) (entry_of l) (front_at after l.node.0) here enters)
+        | inr other ↦ rw (elsewhere.others v other, next_other label_node (entry_of {D = D}) v i d.added l other more) (putting.fronts v)
+      ];
+      room = λ v. elim (cases_number v l.node.0) [
+        | inl same ↦ rw same
+            (omega (arith, putting.room l.node.0, room_left, next_length label_node (entry_of {D = D}) l.node.0 i d.added l refl more))
+        | inr other ↦ omega (arith, putting.room v, others v other, ap length (next_other label_node (entry_of {D = D}) v i d.added l other more))
+      ];
     }
 
-    -- the next removed spot
-    module _ (i : ℕ) (now : Fronts) (discarding : IsDiscarding before d i now) (s : CompactSpot D) (more : take (i + 1) d.removed ≡ take i d.removed ++
-        s ∷ []) where
-      gone_next : costs_told_at s.node.0 (take (i + 1) d.removed) ≡ costs_told_at s.node.0 (take i d.removed) ++ s.cost.0 ∷ []
-      gone_next = next_more spot_node spot_cost s.node.0 i d.removed s refl more
+  -- the next lowered label
+  module _ {i : ℕ} {now : Fronts} (lowering : IsLowering before d i now) (l : CompactLabel D) (more : take (i + 1) d.lowered ≡ take i d.lowered ++
+      l ∷ []) where
+    came : (x : Entry) → Contains (told_at l.node.0 d.added ++ told_at l.node.0 (take i d.lowered)) x
+        → Contains (told_at l.node.0 d.added ++ told_at l.node.0 d.lowered) x
+    came = in_append_more (told_at l.node.0 d.added) (told_at l.node.0 (take i d.lowered)) (told_at l.node.0 d.lowered)
+        (of_take label_node (entry_of {D = D}) l.node.0 i d.lowered)
 
-      pub discard_has : HasCost (front_at now s.node.0).unsettled s.cost.0
-      discard_has =
-          let v = s.node.0 in
-          let has = removed_unsettled (front_at before v) (told_at v candidates) (delta_at v d) (are.exact v) (apart v) (told_spares v) s.cost.0
-          (next_in spot_node spot_cost v i d.removed s refl more) in
-          record {
-            arc = has.arc;
-            contains = ((discarding.fronts v).unsettled (record { cost = s.cost.0; arc = has.arc })).1 (inl (
-              has.contains,
-              λ there. next_apart spot_node spot_cost v i d.removed s refl more (are.exact v).removed.once s.cost.0 there refl,
-            ));
-          }
+    lowered_here : Contains (told_at l.node.0 d.lowered) (entry_of l)
+    lowered_here = next_in label_node (entry_of {D = D}) l.node.0 i d.lowered l refl more
 
-      pub discarding_more : (after : Fronts) → SameElsewhere s.node.0 now after → ((v : ℕ) → spare_at now v ≤ spare_at after v)
-          → Discards (front_at now s.node.0) s.cost.0 (front_at after s.node.0) → IsDiscarding before d (i + 1) after
-      discarding_more after elsewhere room discards = record {
-        nodes = elsewhere.nodes ∙ discarding.nodes;
-        fronts = λ v. elim (cases_number v s.node.0) [
-          | inl same ↦ subst (λ u. HasPut (front_at before u) (costs_told_at u (take (i + 1) d.removed)) [] (front_at after u)) (sym same)
-              (subst (λ cs. HasPut (front_at before s.node.0) cs [] (front_at after s.node.0)) (sym gone_next)
-              (put_discards (front_at before s.node.0) (front_at now s.node.0) (front_at after s.node.0) (costs_told_at s.node.0 (take i d.removed)) s.cost.0
-              (discarding.fronts s.node.0) discards))
-          | inr other ↦ subst (λ (f : Front). HasPut (front_at before v) (costs_told_at v (take (i + 1) d.removed)) [] f) (sym (elsewhere.others v other))
-              (subst (λ cs. HasPut (front_at before v) cs [] (front_at now v))
-              (sym (ap (costs_told_at v) more ∙ of_push_other spot_node spot_cost v (take i d.removed) s (λ e. other (sym e)))) (discarding.fronts v))
-        ];
-        room = λ v. let old = discarding.room v in let grown = room v in omega (arith, old, grown);
-      }
+    -- an entry of its cost is there
+    pub relabel_has : HasCost (entries (front_at now l.node.0)) l.cost.0
+    relabel_has = lowered_has (sparing l.node.0) came (lowering.merged l.node.0) (entry_of l) lowered_here
 
-    -- the next added label
-    module _ (i : ℕ) (now : Fronts) (putting : IsPutting before d i now) (l : CompactLabel D) (more : take (i + 1) d.added ≡ take i d.added ++ l ∷ []) where
-      came_before : (x : Entry) → Contains (told_at l.node.0 (take i d.added)) x → Contains (told_at l.node.0 d.added) x
-      came_before = of_take label_node (entry_of {D = D}) l.node.0 i d.added
-
-      here : Contains (told_at l.node.0 d.added) (entry_of l)
-      here = next_in label_node (entry_of {D = D}) l.node.0 i d.added l refl more
-
-      pub put_room : 1 ≤ spare_at now l.node.0
-      put_room =
-          let fits = next_fits label_node (entry_of {D = D}) l.node.0 i d.added l refl more in
-          let room = putting.room l.node.0 in omega (arith, fits, room)
-
-      pub put_new : ¬ IsCovered (entries (front_at now l.node.0)) l.cost.0
-      put_new =
-          let v = l.node.0 in
-          put_uncovered (front_at before v) (told_at v candidates) (delta_at v d) (are.exact v) (apart v) (told_spares v) (told_at v (take i d.added))
-          (front_at now v) came_before (putting.fronts v) (entry_of l) here
-          (next_apart label_node (entry_of {D = D}) v i d.added l refl more (are.exact v).added.once)
-
-      pub put_spares_all : All (λ (e : Entry). ¬ Dominates l.cost.0 e.cost) (entries (front_at now l.node.0))
-      put_spares_all =
-          let v = l.node.0 in
-          put_spares (front_at before v) (told_at v candidates) (delta_at v d) (are.exact v) (apart v) (told_spares v) (told_at v (take i d.added))
-          (front_at now v) came_before (putting.fronts v) (entry_of l) here
-
-      pub putting_more : (after : Fronts) → SameElsewhere l.node.0 now after → ((v : ℕ) → v ≢ l.node.0 → spare_at after v ≡ spare_at now v)
-          → Enters (front_at now l.node.0) (entry_of l) (front_at after l.node.0) → spare_at now l.node.0 ≤ spare_at after l.node.0 + 1
-          → IsPutting before d (i + 1) after
-      putting_more after elsewhere others enters room_left = record {
-        nodes = elsewhere.nodes ∙ putting.nodes;
-        fronts = λ v. elim (cases_number v l.node.0) [
-          | inl same ↦ subst (λ u. HasPut (front_at before u) (costs_told_at u d.removed) (told_at u (take (i + 1) d.added)) (front_at after u)) (sym same)
-              (subst (λ es. HasPut (front_at before l.node.0) (costs_told_at l.node.0 d.removed) es (front_at after l.node.0)) (sym grown)
-              (put_then (front_at before l.node.0) (told_at l.node.0 candidates) (delta_at l.node.0 d) (are.exact l.node.0) (apart l.node.0)
-              (told_spares l.node.0) (told_at l.node.0 (take i d.added)) (front_at now l.node.0) came_before (putting.fronts l.node.0) (entry_of l)
-              (front_at after l.node.0) here enters))
-          | inr other ↦ subst (λ (f : Front). HasPut (front_at before v) (costs_told_at v d.removed) (told_at v (take (i + 1) d.added)) f)
-              (sym (elsewhere.others v other))
-              (subst (λ es. HasPut (front_at before v) (costs_told_at v d.removed) es (front_at now v)) (sym (kept v other)) (putting.fronts v))
-        ];
-        room = λ v. let room = putting.room v in elim (cases_number v l.node.0) [
-          | inl same ↦ subst (λ u. length (told_at u d.added) ≤ spare_at after u + length (told_at u (take (i + 1) d.added))) (sym same)
-              (let old = putting.room l.node.0 in
-              omega (arith, old, room_left, next_length label_node (entry_of {D = D}) l.node.0 i d.added l refl more))
-          | inr other ↦ omega (arith, room, others v other, ap length (kept v other))
-        ];
-      } where
-        grown : told_at l.node.0 (take (i + 1) d.added) ≡ told_at l.node.0 (take i d.added) ++ entry_of l ∷ []
-        grown = next_more label_node (entry_of {D = D}) l.node.0 i d.added l refl more
-
-        kept : (v : ℕ) → v ≢ l.node.0 → told_at v (take (i + 1) d.added) ≡ told_at v (take i d.added)
-        kept v other = ap (told_at v) more ∙ at_push_other v (take i d.added) l (λ e. other (sym e))
-
-    -- the next lowered label
-    module _ (i : ℕ) (now : Fronts) (lowering : IsLowering before d i now) (l : CompactLabel D) (more : take (i + 1) d.lowered ≡ take i d.lowered ++
-        l ∷ []) where
-      came : (v : ℕ) (x : Entry) → Contains (told_at v d.added ++ told_at v (take i d.lowered)) x → Contains (told_at v d.added ++ told_at v d.lowered) x
-      came v x there = (in_append (told_at v d.added) (told_at v d.lowered) x).1
-          (elim ((in_append (told_at v d.added) (told_at v (take i d.lowered)) x).0 there) [
-            | inl added ↦ inl added
-            | inr lowered ↦ inr (of_take label_node (entry_of {D = D}) v i d.lowered x lowered)
-          ])
-
-      lowered_here : Contains (told_at l.node.0 d.lowered) (entry_of l)
-      lowered_here = next_in label_node (entry_of {D = D}) l.node.0 i d.lowered l refl more
-
-      pub relabel_has : HasCost (entries (front_at now l.node.0)) l.cost.0
-      relabel_has =
-          let (b, b_in, same, no_more) = step_lowered (front_at before l.node.0) (told_at l.node.0 candidates) (delta_at l.node.0 d) (are.exact l.node.0)
-          (apart l.node.0) (told_at l.node.0 d.added ++ told_at l.node.0 (take i d.lowered)) (front_at now l.node.0) (came l.node.0)
-          (lowering.merged l.node.0) (entry_of l) lowered_here in
-          subst (HasCost (entries (front_at now l.node.0))) same (has_cost_of (entries (front_at now l.node.0)) b b_in)
-
-      pub lowering_more : (after : Fronts) → SameElsewhere l.node.0 now after → Relabels (front_at now l.node.0) (entry_of l) (front_at after l.node.0)
-          → IsLowering before d (i + 1) after
-      lowering_more after elsewhere relabels = record {
-        nodes = elsewhere.nodes ∙ lowering.nodes;
-        merged = λ v. elim (cases_number v l.node.0) [
-          | inl same ↦ subst (λ u. IsMerged (front_at before u) (told_at u d.added ++ told_at u (take (i + 1) d.lowered)) (front_at after u)) (sym same)
-              (subst (λ es. IsMerged (front_at before l.node.0) es (front_at after l.node.0)) (sym grown)
-              (relabelled_then (front_at before l.node.0) (told_at l.node.0 candidates) (delta_at l.node.0 d) (are.exact l.node.0) (apart l.node.0)
-              (told_at l.node.0 d.added ++ told_at l.node.0 (take i d.lowered)) (front_at now l.node.0) (came l.node.0)
-              (lowering.merged l.node.0) (entry_of l) (front_at after l.node.0) lowered_here relabels))
-          | inr other ↦ subst (λ (f : Front). IsMerged (front_at before v) (told_at v d.added ++ told_at v (take (i + 1) d.lowered)) f)
-              (sym (elsewhere.others v other))
-              (subst (λ es. IsMerged (front_at before v) (told_at v d.added ++ es) (front_at now v))
-              (sym (ap (told_at v) more ∙ at_push_other v (take i d.lowered) l (λ e. other (sym e)))) (lowering.merged v))
-        ];
-      } where
-        grown : told_at l.node.0 d.added ++ told_at l.node.0 (take (i + 1) d.lowered)
-            ≡ (told_at l.node.0 d.added ++ told_at l.node.0 (take i d.lowered)) ++ entry_of l ∷ []
-        grown = ap (λ es. told_at l.node.0 d.added ++ es) (next_more label_node (entry_of {D = D}) l.node.0 i d.lowered l refl more)
-            ∙ sym (append_assoc (told_at l.node.0 d.added) (told_at l.node.0 (take i d.lowered)) (entry_of l ∷ []))
+    -- and then it is lowered too
+    pub lowering_more : {after : Fronts} → SameElsewhere l.node.0 now after → Relabels (front_at now l.node.0) (entry_of l) (front_at after l.node.0)
+        → IsLowering before d (i + 1) after
+    lowering_more {after} elsewhere relabels = record {
+      nodes = elsewhere.nodes ∙ lowering.nodes;
+      merged = λ v. elim (cases_number v l.node.0) [
+        | inl same ↦ rw (same, next_more label_node (entry_of {D = D}) l.node.0 i d.lowered l refl more, ← append_assoc)
+            (relabelled_then (sparing l.node.0) came (lowering.merged l.node.0) (entry_of l) lowered_here (front_at after l.node.0) relabels)
+        | inr other ↦ rw (elsewhere.others v other, next_other label_node (entry_of {D = D}) v i d.lowered l other more) (lowering.merged v)
+      ];
+    }
 
 -- ---- the room for the first i added labels is made; so many of them are of the last one's node
 
+-- it is, and no front has changed
 pub record IsReserving {D : ℕ} (before : Fronts) (added : List (CompactLabel D)) (i last count : ℕ) (now : Fronts) : Type 0 where
   pub same : SameFronts before now
   pub room : (v : ℕ) → length (told_at v (take i added)) ≤ spare_at now v
@@ -346,37 +334,21 @@ pub record IsReserving {D : ℕ} (before : Fronts) (added : List (CompactLabel D
   pub earlier : All (λ (l : CompactLabel D). l.node.0 ≤ last) (take i added)
   pub later : All (λ (l : CompactLabel D). last ≤ l.node.0) (drop i added)
 
-module _ {D : ℕ} (before : Fronts) (added : List (CompactLabel D)) where
-  pub reserving_none : IsReserving before added 0 0 0 before
-  reserving_none = record {
-    same = record { nodes = refl; fronts = refl };
-    room = λ v. omega arith;
-    counted = refl;
-    earlier = All-nil (λ (l : CompactLabel D). l.node.0 ≤ 0);
-    later = all_from_in (λ (l : CompactLabel D). 0 ≤ l.node.0) (drop 0 added) (λ l there. omega arith);
-  }
-
-  -- room for all of them
-  pub reserving_all : (i last count : ℕ) (now : Fronts) → take i added ≡ added → IsReserving before added i last count now → HasRoom now added
-  reserving_all i last count now all reserving = λ v.
-      subst (λ (ls : List (CompactLabel D)). length (told_at v ls) ≤ spare_at now v) all (reserving.room v)
-
-  module _ (i last count : ℕ) (now : Fronts) (reserving : IsReserving before added i last count now) (l : CompactLabel D)
+module _ {D : ℕ} {before : Fronts} {added : List (CompactLabel D)} where
+  module _ {i last count : ℕ} {now : Fronts} (reserving : IsReserving before added i last count now) (l : CompactLabel D)
       (ascending : AllPairs (λ (k m : CompactLabel D). k.node.0 ≤ m.node.0) added) (within : i < length added) (read : l ≡ get_or added i l) where
     more : take (i + 1) added ≡ take i added ++ l ∷ []
     more = next_taken added added i l refl within read
 
+    -- so many are less than all
     pub count_fits : count < length added
-    count_fits =
-        let fits = at_short last (take i added) in
-        omega (arith, reserving.counted, fits, length-take i added, within)
+    count_fits = omega (arith, reserving.counted, at_short last (take i added), length-take i added, within)
 
     next_later : last ≤ l.node.0
     next_later =
-        let rest = subst (λ (ls : List (CompactLabel D)). All (λ (m : CompactLabel D). last ≤ m.node.0) ls) (drop_more added i l within) reserving.later in
-        subst (λ (m : CompactLabel D). last ≤ m.node.0) (sym read)
-        (each_in (λ (m : CompactLabel D). last ≤ m.node.0) (get_or added i l ∷ drop (i + 1) added) rest (get_or added i l)
-        (in_first (get_or added i l) (drop (i + 1) added)))
+        let first = reserving.later 0 l (omega (arith, length-drop i added, within)) in
+        let here : i + 0 ≡ i = omega arith in
+        omega (arith, first, ap (λ (m : CompactLabel D). m.node.0) (rw here at (get_or-drop i added 0 l) ∙ sym read))
 
     -- how many of the labels so far are of the next one's node
     counted_next : (next : ℕ) → (next ≡ count + 1) × (l.node.0 ≡ last) ⊎ ((next ≡ 1) × (l.node.0 ≢ last))
@@ -391,26 +363,21 @@ module _ {D : ℕ} (before : Fronts) (added : List (CompactLabel D)) where
         other.1 (let high = next_later in omega (arith, low, high, m_at))) in
         omega (arith, other.0, ap length none, next_length label_node (entry_of {D = D}) l.node.0 i added l refl more)
 
-    pub reserving_more : (next : ℕ) (after : Fronts) → (next ≡ count + 1) × (l.node.0 ≡ last) ⊎ ((next ≡ 1) × (l.node.0 ≢ last)) → SameFronts now after
+    -- and then the room for the next one is made too
+    pub reserving_more : {next : ℕ} {after : Fronts} → (next ≡ count + 1) × (l.node.0 ≡ last) ⊎ ((next ≡ 1) × (l.node.0 ≢ last)) → SameFronts now after
         → next ≤ spare_at after l.node.0 → ((v : ℕ) → v ≢ l.node.0 → spare_at now v ≤ spare_at after v)
         → IsReserving before added (i + 1) l.node.0 next after
-    reserving_more next after either same room others = record {
+    reserving_more {next} either same room others = record {
       same = record { nodes = same.nodes ∙ reserving.same.nodes; fronts = same.fronts ∙ reserving.same.fronts };
       room = λ v. let old = reserving.room v in elim (cases_number v l.node.0) [
-        | inl at ↦ subst (λ u. length (told_at u (take (i + 1) added)) ≤ spare_at after u) (sym at)
-            (let counted = counted_next next either in omega (arith, counted, room))
+        | inl at ↦ rw at (omega (arith, counted_next next either, room))
         | inr other ↦
-            let kept = ap length (ap (told_at v) more ∙ at_push_other v (take i added) l (λ e. other (sym e))) in
-            let grown = others v other in
-            omega (arith, old, kept, grown)
+            omega (arith, old, others v other, ap length (next_other label_node (entry_of {D = D}) v i added l other more))
       ];
       counted = counted_next next either;
-      earlier = subst (λ (ls : List (CompactLabel D)). All (λ (m : CompactLabel D). m.node.0 ≤ l.node.0) ls) (sym more)
-          (All-push (λ (m : CompactLabel D). m.node.0 ≤ l.node.0) (take i added) l
-          (all_from_in (λ (m : CompactLabel D). m.node.0 ≤ l.node.0) (take i added) (λ m there.
-          let low = each_in (λ (k : CompactLabel D). k.node.0 ≤ last) (take i added) reserving.earlier m there in
-          let high = next_later in omega (arith, low, high)))
-          (omega arith));
+      earlier = rw more (All-push (λ (m : CompactLabel D). m.node.0 ≤ l.node.0) (take i added) l
+          (All-weaker (λ (m : CompactLabel D). m.node.0 ≤ last) (λ (m : CompactLabel D). m.node.0 ≤ l.node.0)
+          (λ m low. omega (arith, low, next_later)) (take i added) reserving.earlier) (omega arith));
       later = λ k d inside.
           let at = get_or-drop (i + 1) added k d in
           let far : (i + 1) + k < length added = omega (arith, inside, length-drop (i + 1) added) in
@@ -425,10 +392,9 @@ module _ {D : ℕ} (before : Fronts) (added : List (CompactLabel D)) where
 pub deltas_of_same : {D : ℕ} (before after : Fronts) (candidates : List (CompactLabel D)) (d : Deltas D) → SameFronts before after
     → AreDeltas before candidates d → AreDeltas after candidates d
 deltas_of_same {D} before after candidates d same are =
-    let front = λ (v : ℕ). ap (λ (fs : List Front). get_or fs v empty_front) (sym same.fronts) in record {
-      nodes = subst (λ n. All (λ (l : CompactLabel D). IsNode n l.node.0) candidates) (sym same.nodes) are.nodes;
-      spares = subst (λ (fs : List Front). All (λ (l : CompactLabel D). SparesSettled (get_or fs l.node.0 empty_front) l.cost.0) candidates)
-          (sym same.fronts) are.spares;
-      exact = λ v. subst (λ (f : Front). IsDelta f (told_at v candidates) (delta_at v d)) (front v) (are.exact v);
+    record {
+      nodes = rw same.nodes are.nodes;
+      spares = rw same.fronts are.spares;
+      exact = λ v. rw same.fronts (are.exact v);
       ascending = are.ascending;
     }

@@ -1,16 +1,17 @@
 -- What stays of the known entries: none of it is needless beside another, and it covers all that is known.
-use Rattle.std.proofs.Common.{◌≡◌, ◌≢◌, ◌⊎◌, ◌↔◌, ◌<◌, ◌≤◌, List, [], ◌∷◌, inl, inr, refl, sym, subst, ◌∙◌, arith}
+use Rattle.std.proofs.Common.{◌≡◌, ◌≢◌, ◌⊎◌, ◌↔◌, ◌<◌, ◌≤◌, List, [], ◌∷◌, inl, inr, refl, sym, ap, subst, ◌∙◌, arith}
 use Rattle.std.specs.Prelude.{Contains}
 use Rattle.std.proofs.lemmas.Bool.{cases_lt}
-use Rattle.cost_vector.specs.Costs.{AtMost, LexLess}
-use Rattle.cost_vector.proofs.Vectors.{AtMost-trans, cases_AtMost, cases_same, LexLess-irrefl, LexLess-trans, cases_LexLess, LexLess_from_Dominates}
+use Rattle.cost_vector.specs.Costs.{AtMost, Dominates, LexLess}
+use Rattle.cost_vector.proofs.Vectors.{AtMost-Dominates, AtMost-trans, cases_AtMost, cases_same, LexLess-irrefl, LexLess-trans, cases_LexLess, LexLess_from_Dominates}
 use Rattle.list_laws.proofs.Members.{in_none, each_in}
 use Rattle.list_laws.proofs.OnceLaws.{in_cons}
 use Rattle.list_laws.proofs.LeastMember.{decided_by_cases, has_least}
 use Rattle.pareto_front.specs.Fronts.{Entry, IsDominated}
 use Rattle.pareto_front.specs.Merging.{Stays}
 use Rattle.node_front.specs.Apart.{AreApart}
-use Rattle.node_front.proofs.ApartLemmas.{same_entry, AtMost-same}
+use Rattle.node_front.specs.Survivors.{IsNeedless}
+use Rattle.node_front.proofs.ApartLemmas.{same_entry, AtMost-same, apart_not_dominated}
 
 -- what stays is apart
 pub apart_of_stays : (known list : List Entry) → ((x : Entry) → Contains list x → Stays known x) → AreApart list
@@ -95,3 +96,64 @@ stays_of_cost known x there nondominated =
       | inl same ↦ (b, stays, same)
       | inr other ↦ absurd (nondominated (record { by = b; contains = stays.contains; dominates = record { at_most = below; differs = other } }))
     ]
+
+-- y dominates x, or has its cost and a lesser arc
+abbrev pub Beats : Entry → Entry → Type 0
+Beats y x = Dominates y.cost x.cost ⊎ ((y.cost ≡ x.cost) × (y.arc < x.arc))
+
+-- a known entry that none beats stays
+pub stays_unbeaten : (known : List Entry) (x : Entry) → Contains known x → ((y : Entry) → Contains known y → ¬ Beats y x) → Stays known x
+stays_unbeaten known x there none = record {
+  contains = there;
+  nondominated = λ h. none h.by h.contains (inl h.dominates);
+  least = λ y y_in same. elim (cases_lt y.arc x.arc) [ inl less ↦ absurd (none y y_in (inr (same, less))) | inr not_less ↦ not_less ];
+}
+
+-- none beats one that stays
+pub unbeaten : (known : List Entry) (x : Entry) → Stays known x → (y : Entry) → Contains known y → ¬ Beats y x
+unbeaten known x stays y there = elim [
+  | inl less ↦ stays.nondominated (record { by = y; contains = there; dominates = less })
+  | inr less ↦ let least = stays.least y there less.0 in omega (arith, least, less.1)
+]
+
+-- what makes one needless that stays is itself
+pub stays_needless : (known : List Entry) (x b : Entry) → Stays known x → Contains known b → IsNeedless x b → b ≡ x
+stays_needless known x b stays there = elim [
+  | inl less ↦ absurd (unbeaten known x stays b there (inl less))
+  | inr same ↦ let least = stays.least b there same.0 in same_entry b x same.0 (omega (arith, least, same.1))
+]
+
+-- what stays, stays among fewer known entries
+pub stays_among : (known fewer : List Entry) → ((x : Entry) → Contains fewer x → Contains known x) → (x : Entry) → Stays known x → Contains fewer x
+    → Stays fewer x
+stays_among known fewer sub x stays there = stays_unbeaten fewer x there (λ y y_in. unbeaten known x stays y (sub y y_in))
+
+-- among fewer known entries, with all that stays, the same stays
+pub stays_core : (known fewer : List Entry) → ((x : Entry) → Contains fewer x → Contains known x) → ((x : Entry) → Stays known x → Contains fewer x)
+    → (x : Entry) → Stays fewer x ↔ Stays known x
+stays_core known fewer sub core x = (
+  λ stays. stays_unbeaten known x (sub x stays.contains) (λ y y_in beats.
+      let (b, b_stays, below) = stays_below known y y_in in
+      elim beats [
+        | inl less ↦ unbeaten fewer x stays b (core b b_stays) (inl (AtMost-Dominates b.cost y.cost x.cost below less))
+        | inr less ↦ elim (cases_same b.cost x.cost) [
+          | inl same ↦
+              let low = stays.least b (core b b_stays) same in
+              let high = b_stays.least y y_in (less.0 ∙ sym same) in
+              omega (arith, low, high, less.1)
+          | inr other ↦ unbeaten fewer x stays b (core b b_stays) (inl (record { at_most = subst (AtMost b.cost) less.0 below; differs = other }))
+        ]
+      ]),
+  λ stays. stays_among known fewer sub x stays (core x stays),
+)
+
+-- known entries that are apart, with all that stays, are what stays
+pub apart_stays : (known list : List Entry) → AreApart list → ((x : Entry) → Contains list x → Contains known x)
+    → ((x : Entry) → Stays known x → Contains list x) → (x : Entry) → Contains list x ↔ Stays known x
+apart_stays known list apart sub core x = (
+  λ there. (stays_core known list sub core x).0 (stays_unbeaten list x there (λ y y_in. elim [
+    | inl less ↦ apart_not_dominated list apart y x y_in there less
+    | inr less ↦ let one = apart y x y_in there (AtMost-same y.cost x.cost less.0) in omega (arith, less.1, ap (λ (w : Entry). w.arc) one)
+  ])),
+  core x,
+)

@@ -6,13 +6,15 @@ use Rattle.std.proofs.lemmas.Bool.{cases_lt}
 use Rattle.std.proofs.lemmas.List.{map_push}
 use Rattle.std.proofs.lemmas.List.Elements.{All-push, All-weaker, Contains-append_left, Contains-append_right}
 use Rattle.list_laws.specs.Without.{IsWithout}
-use Rattle.list_laws.proofs.Members.{in_none, in_first, in_rest, cases_in, in_map, of_map, each_in, cases_push, found_in, any_in}
+use Rattle.list_laws.proofs.Members.{in_none, in_first, in_rest, cases_in, in_map, of_map, each_in, found_in, any_in}
 use Rattle.list_laws.proofs.Pairs.{pairs_none, pairs_rest, pair_with_first, pairs_cons, pairs_push}
 use Rattle.pareto_front.specs.Calls.{entry_of}
 use Rattle.pareto_front.specs.Fronts.{Entry}
 use Rattle.pareto_front.specs.Merging.{Stays}
 use Rattle.node_front.specs.declared.merging.Survivor.{Survivor}
 use Rattle.node_front.specs.Survivors.{IsNeedless, IsNeedlessAmong, AreSurvivors, told}
+use Rattle.list_laws.proofs.OnceLaws.{alike_back, alike_through}
+use Rattle.node_front.proofs.GrowsLemmas.{in_push}
 use Rattle.node_front.proofs.NeedlessLemmas.{needless_stays, stays_instead}
 
 -- ---- what `retain` keeps is in the same order
@@ -26,6 +28,7 @@ kept_in (true ∷ bs) (y ∷ ys) x there = elim (cases_in y (items_where_true bs
 ]
 kept_in (false ∷ bs) (y ∷ ys) x there = in_rest y ys x (kept_in bs ys x there)
 
+-- what holds of any two holds of those that are kept
 pub pairs_kept : {X : Type 0} (R : X → X → Type 0) (bs : List Bool) (xs : List X) → AllPairs R xs → AllPairs R (items_where_true bs xs)
 pairs_kept R [] xs pairs = pairs_none R
 pairs_kept R (b ∷ bs) [] pairs = pairs_none R
@@ -40,9 +43,11 @@ module _ {D : ℕ} where
   pub in_told : (survivors : List (Survivor D)) (s : Survivor D) → Contains survivors s → Contains (told survivors) (entry_of s.label)
   in_told = in_map (λ (s : Survivor D). entry_of s.label)
 
+  -- each that is told is a survivor's
   pub of_told : (survivors : List (Survivor D)) (e : Entry) → Contains (told survivors) e → (s : Survivor D) × Contains survivors s × (e ≡ entry_of s.label)
   of_told = of_map (λ (s : Survivor D). entry_of s.label)
 
+  -- one more is told last
   pub told_push : (survivors : List (Survivor D)) (s : Survivor D) → told (survivors ++ s ∷ []) ≡ told survivors ++ entry_of s.label ∷ []
   told_push = map_push (λ (s : Survivor D). entry_of s.label)
 
@@ -59,11 +64,9 @@ module _ {D : ℕ} where
               = needless;
         } in
         record {
-          exact = λ x. both (survive.exact x) (needless_stays (told old) (entry_of survivor.label) among x);
+          exact = λ x. alike_through (survive.exact x) (alike_back (needless_stays (told old) (entry_of survivor.label) among x));
           one_a_cost = survive.one_a_cost;
-        } where
-          both : {A B C : Type 0} → (A ↔ B) → (C ↔ B) → (A ↔ C)
-          both f g = (λ a. g.1 (f.0 a), λ c. f.1 (g.0 c))
+        }
 
     -- another one comes in place of those that are needless beside it
     module _ (kept : List (Survivor D)) (without : IsWithout (λ (s : Survivor D). IsNeedless (entry_of s.label) (entry_of survivor.label)) old kept)
@@ -84,6 +87,7 @@ module _ {D : ℕ} where
             ],
       )
 
+      -- so the survivors are those that stay
       pub survive_instead : AllPairs (λ (s t : Survivor D). s.label.cost.0 ≢ t.label.cost.0) kept
           → AreSurvivors (Stays (told old ++ entry_of survivor.label ∷ [])) (kept ++ survivor ∷ [])
       survive_instead one_a_cost = record {
@@ -94,14 +98,7 @@ module _ {D : ℕ} where
         both f g h = grind arith
 
         in_told_push : (x : Entry) → Contains (told (kept ++ survivor ∷ [])) x ↔ (Contains (told kept) x ⊎ (x ≡ entry_of survivor.label))
-        in_told_push x = (
-          λ there. cases_push (told kept) (entry_of survivor.label) x (subst (λ l. Contains l x) (told_push kept survivor) there),
-          λ either. subst (λ l. Contains l x) (sym (told_push kept survivor)) (elim either [
-            | inl old_one ↦ Contains-append_left (told kept) (entry_of survivor.label ∷ []) x old_one
-            | inr new ↦ Contains-append_right (told kept) (entry_of survivor.label ∷ []) x
-                (subst (Contains (entry_of survivor.label ∷ [])) (sym new) (in_first (entry_of survivor.label) []))
-          ]),
-        )
+        in_told_push x = rw (told_push kept survivor) (in_push (told kept) (entry_of survivor.label) x)
 
         other_cost : (s : Survivor D) → Contains kept s → s.label.cost.0 ≢ survivor.label.cost.0
         other_cost s there same =
@@ -111,6 +108,7 @@ module _ {D : ℕ} where
               | inr not_less ↦ stays (inr (sym same, not_less))
             ]
 
+      -- they are old ones and the new one
       pub members_instead : All (Contains (old ++ survivor ∷ [])) (kept ++ survivor ∷ [])
       members_instead = All-push (Contains (old ++ survivor ∷ [])) kept survivor
           (All-weaker (Contains old) (Contains (old ++ survivor ∷ [])) (Contains-append_left old (survivor ∷ [])) kept without.old)

@@ -1,6 +1,6 @@
 use Rattle.std.proofs.Common.{◌<◌, ◌^◌, map, arith, rules}
 use Rattle.std.proofs.lemmas.List.{length-map}
-use Rattle.node_front.proofs.PlacedLemmas.{few_begun, placed_more, fronts_more, spares_more}
+use Rattle.node_front.proofs.PlacedLemmas.{begins_at, few_begun, kept_more, fronts_more, spares_more}
 use Rattle.node_front.proofs.fronts.reach.Goals as goal
 
 pub overflow_cast-next : goal.overflow_cast-next
@@ -12,17 +12,15 @@ overflow_cast-next g c =
 
 pub returns-clause-kept : goal.returns-clause-kept
 returns-clause-kept g c =
-    let after = placed_more g.F.ParetoFront.state g.F.ParetoFront.spare c.args.places.now.items c.args.fronts.now.items c.push.new.self.items
-    c.new.result c.args.node.0
-    c.len-next.result c.requires.kept.placed c.requires.node c.requires.within (search rules) c.new.ensures c.in_ok-push.ensures.items (search rules) in
-    record { two = c.requires.kept.two; four = c.requires.kept.four; placed = after }
+    kept_more (begins_at c.requires.kept c.requires.node c.requires.within (search rules) c.new.ensures
+    c.in_ok-push.ensures.items (search rules))
 
 pub returns-clause-same : goal.returns-clause-same
 returns-clause-same g c =
-    fronts_more g.F.ParetoFront.state g.F.ParetoFront.spare c.args.places.now.items c.args.fronts.now.items c.push.new.self.items c.new.result c.args.node.0
-    c.len-next.result c.requires.kept.placed c.requires.node c.requires.within (search rules) c.new.ensures c.in_ok-push.ensures.items (search rules)
+    fronts_more {d = g.row.D} (begins_at c.requires.kept c.requires.node c.requires.within (search rules) c.new.ensures
+    c.in_ok-push.ensures.items (search rules))
 
 pub returns-clause-spares : goal.returns-clause-spares
 returns-clause-spares g c =
-    spares_more g.F.ParetoFront.state g.F.ParetoFront.spare c.args.places.now.items c.args.fronts.now.items c.push.new.self.items c.new.result c.args.node.0
-    c.len-next.result c.requires.kept.placed c.requires.node c.requires.within (search rules) c.new.ensures c.in_ok-push.ensures.items (search rules)
+    spares_more {d = g.row.D} (begins_at c.requires.kept c.requires.node c.requires.within (search rules) c.new.ensures
+    c.in_ok-push.ensures.items (search rules)) g.F.ParetoFront.spare

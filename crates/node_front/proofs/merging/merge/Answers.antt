@@ -1,49 +1,19 @@
-use Rattle.std.proofs.Common.{List, arith, sym, subst}
-use Rattle.std.specs.Prelude.{All}
-use Rattle.pareto_front.specs.Fronts.{SparesSettled}
-use Rattle.node_front.specs.declared.merging.Survivor.{Survivor}
-use Rattle.node_front.specs.Survivors.{IsMarked}
-use Rattle.node_front.proofs.MergingLemmas.{IsGathering}
-use Rattle.node_front.proofs.DeltaLemmas.{survivors_spare, appended_at, if_ok_both}
+use Rattle.std.proofs.Common.{arith}
+use Rattle.node_front.proofs.DeltaLemmas.{survivors_spare, appended_is_delta, if_ok_both}
 use Rattle.node_front.proofs.merging.merge.Goals as goal
-
-pub gather-requires : goal.gather-requires
-gather-requires g c = (omega arith, (omega arith, c.clear.ensures.items))
 
 pub find_removed-requires : goal.find_removed-requires
 find_removed-requires g c =
-    let front = g.F.ParetoFront.state c.args.front.now in
-    let v = c.args.node.0 in
     let news = c.in_ok-gather.ensures in
     let apart = news.apart c.requires.some in
-    let marked = news.marked v c.requires.node in
-    let gathering : IsGathering front c.args.candidates.now c.gather.new.survivors.items =
-    record { news = news.news; marked = news.marked; apart = news.apart } in
-    let spares = survivors_spare front v c.args.candidates.now c.gather.new.survivors.items gathering marked apart c.requires.spares in (
-      omega arith,
-      (
-        omega arith,
-        (
-          apart,
-          (
-            subst (λ (ss : List (Survivor g.row.D)). All (IsMarked v front) ss) (sym c.deref.ensures.value) marked,
-            subst (λ (ss : List (Survivor g.row.D)). All (λ (s : Survivor g.row.D). SparesSettled front s.label.cost.0) ss) (sym c.deref.ensures.value) spares,
-          ),
-        ),
-      ),
-    )
-
-pub put_survivors-requires : goal.put_survivors-requires
-put_survivors-requires g c = (omega arith, omega arith)
+    let marked = news.marked c.args.node.0 c.requires.node in
+    let spares = survivors_spare _ c.args.node.0 c.args.candidates.now _ news.news marked apart c.requires.spares in
+    (omega arith, (omega arith, (apart, (rw c.deref.ensures.value marked, rw c.deref.ensures.value spares))))
 
 pub returns : goal.returns
 returns g c =
-    let front = g.F.ParetoFront.state c.args.front.now in
-    let v = c.args.node.0 in
     let news = c.in_ok-gather.ensures in
-    let gathering : IsGathering front c.args.candidates.now c.gather.new.survivors.items =
-    record { news = news.news; marked = news.marked; apart = news.apart } in
     if_ok_both c.put_survivors.result c.put_survivors.ensures.added c.put_survivors.ensures.lowered
-    (λ added lowered. appended_at front v c.args.candidates.now c.gather.new.survivors.items gathering (news.marked v c.requires.node)
-    (news.apart c.requires.some) c.requires.spares _ c.args.deltas.now _ c.deref.result.now c.deref-2.result.now c.deltas.view_is
-    c.deref.ensures.value c.deref-2.ensures.value c.in_ok-find_removed.ensures added lowered)
+    (λ added lowered. rw (← c.deltas.view_is) (appended_is_delta _ c.args.node.0 c.args.candidates.now _ news.news
+    (news.marked c.args.node.0 c.requires.node) (news.apart c.requires.some) c.requires.spares _ _
+    (rw c.deref.ensures.value at c.in_ok-find_removed.ensures) (rw c.deref-2.ensures.value at added) (rw c.deref-2.ensures.value at lowered)))

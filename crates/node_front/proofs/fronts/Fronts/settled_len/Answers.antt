@@ -7,9 +7,6 @@ use Rattle.node_front.proofs.PlacedLemmas.{cases_number, front_of}
 use Rattle.node_front.proofs.FoundLemmas.{counted_more, empty_is_front, settled_of_begun}
 use Rattle.node_front.proofs.fronts.Fronts.settled_len.Goals as goal
 
-pub loop-front-init : goal.loop-front-init
-loop-front-init g c = record { counted = omega arith; fronts = λ k below. absurd (omega (arith, below)) }
-
 pub loop-front-preserved : goal.loop-front-preserved
 loop-front-preserved g c =
     let state = g.F.ParetoFront.state in

@@ -7,7 +7,7 @@ use Rattle.cost_vector.proofs.Vectors.{AtMost-Dominates, cases_same}
 use Rattle.list_laws.proofs.Members.{each_in, in_first, in_front, cases_push}
 use Rattle.list_laws.proofs.OnceLaws.{alike_back, alike_through, in_append}
 use Rattle.pareto_front.specs.Fronts.{Entry, Front, entries, HasCost, IsCovered, SparesSettled}
-use Rattle.pareto_front.specs.Calls.{Discards, Enters, GetsArc, Relabels, Settles}
+use Rattle.pareto_front.specs.Calls.{Removes, Enters, GetsArc, Relabels, Settles}
 use Rattle.pareto_front.specs.Merging.{Stays, IsMerged, IsAdded, IsRemoved}
 use Rattle.node_front.specs.Apart.{AreApart}
 use Rattle.node_front.proofs.ApartLemmas.{dominated_by_one, same_entry, AtMost-same, has_append, has_cost_of, apart_not_dominated}
@@ -24,10 +24,10 @@ settled_apart before after c settles apart x y x_in y_in = apart x y (old x x_in
     parts a e s u there = grind arith
 
 -- entries of which one is gone stay apart
-pub discarded_apart : (before after : Front) (c : List ℕ) → Discards before c after → AreApart (entries before) → AreApart (entries after)
-discarded_apart before after c discards apart x y x_in y_in = apart x y (old x x_in) (old y y_in) where
+pub removed_apart : (before after : Front) (c : List ℕ) → Removes before c after → AreApart (entries before) → AreApart (entries after)
+removed_apart before after c removes apart x y x_in y_in = apart x y (old x x_in) (old y y_in) where
   old : (z : Entry) → Contains (entries after) z → Contains (entries before) z
-  old z = parts (in_append after.settled after.unsettled z) (in_append before.settled before.unsettled z) (discards.settled z) (discards.unsettled z) where
+  old z = parts (in_append after.settled after.unsettled z) (in_append before.settled before.unsettled z) (removes.settled z) (removes.unsettled z) where
     parts : {A S U E T V N : Type 0} → (A ↔ (S ⊎ U)) → (E ↔ (T ⊎ V)) → (S ↔ T) → (U ↔ (V × N)) → A → E
     parts a e s u there = grind arith
 

@@ -10,7 +10,7 @@ use Rattle.list_laws.proofs.Members.{in_first, in_none, of_map, of_filter, each_
 use Rattle.list_laws.proofs.OnceLaws.{alike_through, in_append, empty_if_none}
 use Rattle.compact_labels.specs.declared.label.CompactLabel.{CompactLabel}
 use Rattle.compact_labels.specs.declared.label.CompactSpot.{CompactSpot}
-use Rattle.pareto_front.specs.Calls.{Discards, Enters, Relabels, entry_of}
+use Rattle.pareto_front.specs.Calls.{Removes, Enters, Relabels, entry_of}
 use Rattle.pareto_front.specs.Fronts.{Entry, Front, HasCost, IsCovered, SparesSettled, entries}
 use Rattle.pareto_front.specs.Merging.{IsMerged}
 use Rattle.node_front.specs.Apart.{AreApart}
@@ -158,7 +158,7 @@ next_taken {X} items list i x same within read =
 -- ---- the first i removed spots have left
 
 -- they have, and nothing has come
-pub record IsDiscarding {D : ℕ} (before : Fronts) (d : Deltas D) (i : ℕ) (now : Fronts) : Type 0 where
+pub record IsRemoving {D : ℕ} (before : Fronts) (d : Deltas D) (i : ℕ) (now : Fronts) : Type 0 where
   pub nodes : now.nodes ≡ before.nodes
   pub fronts : (v : ℕ) → HasPut (front_at before v) (costs_told_at v (take i d.removed)) [] (front_at now v)
   pub room : (v : ℕ) → length (told_at v d.added) ≤ spare_at now v
@@ -182,26 +182,26 @@ put_none front = record {
 }
 
 -- one more cost has left
-put_discards : {before now after : Front} {gone : List (List ℕ)} {c : List ℕ} → HasPut before gone [] now → Discards now c after
+put_removes : {before now after : Front} {gone : List (List ℕ)} {c : List ℕ} → HasPut before gone [] now → Removes now c after
     → HasPut before (gone ++ c ∷ []) [] after
-put_discards {gone} {c} puts discards = record {
-  settled = λ x. alike_through (discards.settled x) (puts.settled x);
-  unsettled = λ x. through (discards.unsettled x) (puts.unsettled x) (in_push gone c x.cost) (in_none x);
+put_removes {gone} {c} puts removes = record {
+  settled = λ x. alike_through (removes.settled x) (puts.settled x);
+  unsettled = λ x. through (removes.unsettled x) (puts.unsettled x) (in_push gone c x.cost) (in_none x);
 } where
   through : {A M E B G N L : Type 0} → (A ↔ (M × (¬ E))) → (M ↔ ((B × (¬ G)) ⊎ N)) → (L ↔ (G ⊎ E)) → (¬ N) → (A ↔ ((B × (¬ L)) ⊎ N))
   through a m l none = grind arith
 
 module _ {D : ℕ} {before : Fronts} {d : Deltas D} where
   -- at the start none has left
-  pub discarding_none : HasRoom before d.added → IsDiscarding before d 0 before
-  discarding_none room = record { nodes = refl; fronts = λ v. put_none (front_at before v); room = room }
+  pub removing_none : HasRoom before d.added → IsRemoving before d 0 before
+  removing_none room = record { nodes = refl; fronts = λ v. put_none (front_at before v); room = room }
 
   -- once all have left, none has come
-  pub putting_none : {i : ℕ} {now : Fronts} → take i d.removed ≡ d.removed → IsDiscarding before d i now → IsPutting before d 0 now
-  putting_none all discarding = record {
-    nodes = discarding.nodes;
-    fronts = λ v. rw (← all) (discarding.fronts v);
-    room = λ v. omega (arith, discarding.room v);
+  pub putting_none : {i : ℕ} {now : Fronts} → take i d.removed ≡ d.removed → IsRemoving before d i now → IsPutting before d 0 now
+  putting_none all removing = record {
+    nodes = removing.nodes;
+    fronts = λ v. rw (← all) (removing.fronts v);
+    room = λ v. omega (arith, removing.room v);
   }
 
 module _ {D : ℕ} {before : Fronts} {d : Deltas D} {candidates : List (CompactLabel D)} (apart : (v : ℕ) → AreApart (entries (front_at before v)))
@@ -231,31 +231,31 @@ module _ {D : ℕ} {before : Fronts} {d : Deltas D} {candidates : List (CompactL
   }
 
   -- the next removed spot
-  module _ {i : ℕ} {now : Fronts} (discarding : IsDiscarding before d i now) (s : CompactSpot D) (more : take (i + 1) d.removed ≡ take i d.removed ++
+  module _ {i : ℕ} {now : Fronts} (removing : IsRemoving before d i now) (s : CompactSpot D) (more : take (i + 1) d.removed ≡ take i d.removed ++
       s ∷ []) where
     -- its cost is there, unsettled
-    pub discard_has : HasCost (front_at now s.node.0).unsettled s.cost.0
-    discard_has =
+    pub remove_has : HasCost (front_at now s.node.0).unsettled s.cost.0
+    remove_has =
         let v = s.node.0 in
         let has = removed_unsettled (sparing v) s.cost.0 (next_in spot_node spot_cost v i d.removed s refl more) in
         record {
           arc = has.arc;
-          contains = ((discarding.fronts v).unsettled (record { cost = s.cost.0; arc = has.arc })).1 (inl (
+          contains = ((removing.fronts v).unsettled (record { cost = s.cost.0; arc = has.arc })).1 (inl (
             has.contains,
             λ there. next_apart spot_node spot_cost v i d.removed s refl more (are.exact v).removed.once s.cost.0 there refl,
           ));
         }
 
     -- and then it has left too
-    pub discarding_more : {after : Fronts} → SameElsewhere s.node.0 now after → ((v : ℕ) → spare_at now v ≤ spare_at after v)
-        → Discards (front_at now s.node.0) s.cost.0 (front_at after s.node.0) → IsDiscarding before d (i + 1) after
-    discarding_more elsewhere room discards = record {
-      nodes = elsewhere.nodes ∙ discarding.nodes;
+    pub removing_more : {after : Fronts} → SameElsewhere s.node.0 now after → ((v : ℕ) → spare_at now v ≤ spare_at after v)
+        → Removes (front_at now s.node.0) s.cost.0 (front_at after s.node.0) → IsRemoving before d (i + 1) after
+    removing_more elsewhere room removes = record {
+      nodes = elsewhere.nodes ∙ removing.nodes;
       fronts = λ v. elim (cases_number v s.node.0) [
-        | inl same ↦ rw (same, next_more spot_node spot_cost s.node.0 i d.removed s refl more) (put_discards (discarding.fronts s.node.0) discards)
-        | inr other ↦ rw (elsewhere.others v other, next_other spot_node spot_cost v i d.removed s other more) (discarding.fronts v)
+        | inl same ↦ rw (same, next_more spot_node spot_cost s.node.0 i d.removed s refl more) (put_removes (removing.fronts s.node.0) removes)
+        | inr other ↦ rw (elsewhere.others v other, next_other spot_node spot_cost v i d.removed s other more) (removing.fronts v)
       ];
-      room = λ v. omega (arith, discarding.room v, room v);
+      room = λ v. omega (arith, removing.room v, room v);
     }
 
   -- the next added label

@@ -1,7 +1,7 @@
 ghost use Rattle.std.specs.Prelude.{◌≡◌, ◌≢◌, ◌↔◌, ℕ, ◌≤◌, ◌+◌, ◌<◌, List, [], ◌∷◌, map, length, slice_index, IsTrue, IfOk, OnOk, OnErr, All, AllPairs, Contains, Some};
 ghost use Rattle.cost_vector.specs.Costs.{Dominates, max_criteria, min_criteria};
 ghost use Rattle.node_front.specs.Deltas.{AppendsDelta, AreDeltas, AreSomeDeltas, FitAnyOrder, GrowNodeByNode, HasRoom, MergesAll, no_deltas};
-ghost use Rattle.pareto_front.specs.Calls.{Discards, Enters, GrowsBy, ListsSettled, Relabels, Settles, entry_of};
+ghost use Rattle.pareto_front.specs.Calls.{Removes, Enters, GrowsBy, ListsSettled, Relabels, Settles, entry_of};
 ghost use Rattle.pareto_front.specs.Fronts.{HasCost, IsCovered, IsFront, SparesSettled, empty_front, entries};
 ghost use Rattle.pareto_front.specs.Merging.{IsMerged, IsAdded, IsRemoved};
 ghost use Rattle.node_front.specs.FoundFronts.{counted_labels, settled_from};
@@ -178,7 +178,7 @@ impl<const D: usize, F: ParetoFront<D> + Drop> Fronts<D, F> {
     {
         let _kept = &self.places;
         for spot in deltas.removed() {
-            self.discard(spot);
+            self.remove(spot);
         }
         for label in deltas.added() {
             self.put(label);
@@ -189,15 +189,15 @@ impl<const D: usize, F: ParetoFront<D> + Drop> Fronts<D, F> {
     }
 
     /// Takes out the entry of this spot, which isn't settled.
-    fn discard(&mut self, spot: &CompactSpot<D>)
+    fn remove(&mut self, spot: &CompactSpot<D>)
         requires { HasCost (front_at self.old spot.now.node.0).unsettled spot.now.cost.0 }
         ensures elsewhere { SameElsewhere spot.now.node.0 self.old self.new }
-        ensures discarded { Discards (front_at self.old spot.now.node.0) spot.now.cost.0
+        ensures removed { Removes (front_at self.old spot.now.node.0) spot.now.cost.0
             (front_at self.new spot.now.node.0) }
         ensures room { (v : ℕ) → spare_at self.old v ≤ spare_at self.new v }
     {
         let place = self.places[spot.node.0 as usize] as usize;
-        self.fronts[place].discard(&spot.cost);
+        self.fronts[place].remove(&spot.cost);
     }
 
     /// Puts in a new entry, which dominates none.

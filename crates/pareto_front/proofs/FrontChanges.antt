@@ -10,7 +10,7 @@ use Rattle.list_laws.proofs.Pairs.{pair_with_first, pairs_cons, pairs_rest}
 use Rattle.list_laws.proofs.OnceLaws.{pairs_append}
 use Rattle.list_laws.proofs.SetLaws.{gains_by_permutation, same_by_permutation}
 use Rattle.pareto_front.specs.Fronts.{Entry, Front, entries, IsCovered, AreIncomparable, IsFront, SparesSettled}
-use Rattle.pareto_front.specs.Calls.{Discards, Enters, GetsArc, Relabels, Settles}
+use Rattle.pareto_front.specs.Calls.{Removes, Enters, GetsArc, Relabels, Settles}
 use Rattle.pareto_front.proofs.FrontLaws.{pairs_before, pairs_behind, pairs_across, at_most_same, front_in_any_order, incomparable_in_any_order}
 
 -- ---- an entry less
@@ -48,8 +48,8 @@ module _ {d : ℕ} {f : Front} (front : IsFront d f) (rest : List Entry) (x : En
       (IsPermutation-append_left rest (x ∷ f.settled) now come)))
 
   -- or is gone
-  pub discarded_front : IsFront d (record { settled = f.settled; unsettled = rest })
-  discarded_front =
+  pub removed_front : IsFront d (record { settled = f.settled; unsettled = rest })
+  removed_front =
       let whole = settled_front (x ∷ f.settled) (IsPermutation-refl (x ∷ f.settled)) in
       record {
         two = front.two;
@@ -73,8 +73,8 @@ module _ {d : ℕ} {f : Front} (front : IsFront d f) (rest : List Entry) (x : En
       by f g = grind arith
 
     -- or no other entry is gone
-    pub discards : Discards f c (record { settled = f.settled; unsettled = rest })
-    discards = record { settled = λ e. (λ h. h, λ h. h); unsettled = left }
+    pub removes : Removes f c (record { settled = f.settled; unsettled = rest })
+    removes = record { settled = λ e. (λ h. h, λ h. h); unsettled = left }
 
 -- no unsettled entry has the cost
 pub settles_none : (f : Front) (c : List ℕ) → All (λ (e : Entry). ¬ AtMost e.cost c) f.unsettled → Settles f c f

@@ -22,10 +22,10 @@ use Rattle.list_laws.proofs.Pairs.{pairs_map}
 use Rattle.list_laws.proofs.SetLaws.{same_by_permutation}
 use Rattle.pareto_front.specs.declared.front.FrontEntry.{FrontEntry}
 use Rattle.pareto_front.specs.Fronts.{Entry, Front, AreIncomparable, entries, HasCost, IsCovered, IsFront, SparesSettled}
-use Rattle.pareto_front.specs.Calls.{told_entry, Discards, Enters, ListsSettled, Relabels, Settles}
+use Rattle.pareto_front.specs.Calls.{told_entry, Removes, Enters, ListsSettled, Relabels, Settles}
 use Rattle.pareto_front.specs.Blocks.{AreBlocks, AscendByCost, CoversAt, CoversNone, TakesIn, told_front}
 use Rattle.pareto_front.proofs.FrontLaws.{incomparable_in_any_order, pairs_before, pairs_behind, pairs_of_map, only_one, same_cost, costs, front_by_costs, IsPermutation-set}
-use Rattle.pareto_front.proofs.FrontChanges.{discarded_front, discards, enters, entered_front, relabels_settled, relabels_unsettled, settled_front, settles}
+use Rattle.pareto_front.proofs.FrontChanges.{removed_front, removes, enters, entered_front, relabels_settled, relabels_unsettled, settled_front, settles}
 use Rattle.pareto_front.proofs.KeptLaws.{left_without}
 use Rattle.pareto_front.proofs.BlockLaws.{corners_relabelled}
 use Rattle.pareto_front.proofs.Ascending.{ascend_out, ascend_set}
@@ -89,10 +89,10 @@ module _ {D : ℕ} (settled unsettled : List (FrontEntry D)) (front : IsFront D 
         (same_cost front c has (told_entry x) (told_unsettled there x is settled) (covers there x is)) (map told_entry list) come
 
   -- it is gone from the blocks
-  pub discarded_blocks : {corners wide : List (CompactCost D)} {room : ℕ} → AreBlocks settled corners wide unsettled room
+  pub removed_blocks : {corners wide : List (CompactCost D)} {room : ℕ} → AreBlocks settled corners wide unsettled room
       → AreBlocks settled corners wide (remove unsettled i) room
-  discarded_blocks held = record {
-    front = discarded_front front (map told_entry (remove unsettled i)) (told_entry x) out;
+  removed_blocks held = record {
+    front = removed_front front (map told_entry (remove unsettled i)) (told_entry x) out;
     cornered = held.cornered;
     wide_cornered = held.wide_cornered;
     ascend = ascend_out unsettled held.ascend i there.within;
@@ -100,8 +100,8 @@ module _ {D : ℕ} (settled unsettled : List (FrontEntry D)) (front : IsFront D 
   }
 
   -- and no other entry is gone
-  pub told_discards : x.cost.0 ≡ c → Discards (told_front settled unsettled) c (told_front settled (remove unsettled i))
-  told_discards = discards front (map told_entry (remove unsettled i)) (told_entry x) out
+  pub told_removes : x.cost.0 ≡ c → Removes (told_front settled unsettled) c (told_front settled (remove unsettled i))
+  told_removes = removes front (map told_entry (remove unsettled i)) (told_entry x) out
 
 -- a cost that dominates no entry
 module _ {D : ℕ} (settled unsettled : List (FrontEntry D)) (c : List ℕ)

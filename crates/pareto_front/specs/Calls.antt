@@ -23,7 +23,7 @@ pub record Enters (before : Front) (new : Entry) (after : Front) : Type 0 where
       ↔ ((Contains before.unsettled e × ¬ Dominates new.cost e.cost) ⊎ (e ≡ new))
 
 -- the entry of this cost, which isn't settled, is gone, and all else is as it was
-pub record Discards (before : Front) (c : List ℕ) (after : Front) : Type 0 where
+pub record Removes (before : Front) (c : List ℕ) (after : Front) : Type 0 where
   pub settled : SameMembers after.settled before.settled
   pub unsettled : (e : Entry) → Contains after.unsettled e ↔ (Contains before.unsettled e × (e.cost ≢ c))
 

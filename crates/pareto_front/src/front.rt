@@ -1,7 +1,7 @@
 ghost use Rattle.std.specs.Prelude.{◌≡◌, ℕ, ◌+◌, ◌≤◌, ◌↔◌, length, All, Contains, IfOk, OnErr, OnOk, Some};
 ghost use Rattle.cost_vector.specs.Costs.{Dominates, max_criteria, min_criteria};
 ghost use Rattle.pareto_front.specs.Fronts.{Front, HasCost, IsCovered, IsFront, SparesSettled, empty_front, entries};
-ghost use Rattle.pareto_front.specs.Calls.{Discards, Enters, GrowsBy, ListsSettled, Relabels, Settles, StandsTo};
+ghost use Rattle.pareto_front.specs.Calls.{Removes, Enters, GrowsBy, ListsSettled, Relabels, Settles, StandsTo};
 
 use compact_labels::{CompactCost, CompactSpot};
 use cost_vector::{ArcNo, OutOfMemory};
@@ -97,9 +97,9 @@ pub trait ParetoFront<const D: usize> {
         ensures same { OnErr result (state self.new ≡ state self.old) };
 
     /// Takes out the entry of this cost, which isn't settled.
-    fn discard(&mut self, cost: &CompactCost<D>)
+    fn remove(&mut self, cost: &CompactCost<D>)
         requires { HasCost (state self.old).unsettled cost.now.0 }
-        ensures discarded { Discards (state self.old) cost.now.0 (state self.new) }
+        ensures removed { Removes (state self.old) cost.now.0 (state self.new) }
         ensures room { spare self.old ≤ spare self.new };
 
     /// Puts in an entry that isn't settled, at a cost that no entry is at most and that dominates none: what `enter` does there,

@@ -123,7 +123,7 @@ impl ParetoFront<2> for SortedFront {
         Ok(())
     }
 
-    fn discard(&mut self, cost: &CompactCost<2>) {
+    fn remove(&mut self, cost: &CompactCost<2>) {
         let at = before(&self.entries, cost.0[0]);
         self.entries.remove(at);
         self.marks.remove(at);

@@ -1,25 +1,25 @@
 use Rattle.std.proofs.Common.{arith}
 use Rattle.node_front.proofs.PlacedLemmas.{fronts_apart}
-use Rattle.node_front.proofs.RoundLemmas.{all_taken, next_taken, discarding_none, discard_has, discarding_more}
+use Rattle.node_front.proofs.RoundLemmas.{all_taken, next_taken, removing_none, remove_has, removing_more}
 use Rattle.node_front.proofs.RoundLemmas.{putting_none, put_room, put_new, put_spares_all, putting_more}
 use Rattle.node_front.proofs.RoundLemmas.{lowering_none, relabel_has, lowering_more, lowering_all}
 use Rattle.node_front.proofs.fronts.Fronts.apply.Goals as goal
 
 pub loop-spot-init : goal.loop-spot-init
-loop-spot-init g c = discarding_none c.requires.room
+loop-spot-init g c = removing_none c.requires.room
 
-pub discard-requires : goal.discard-requires
-discard-requires g c =
+pub remove-requires : goal.remove-requires
+remove-requires g c =
     let more = next_taken _ _ _ _ c.removed-spot-items.ensures c.loop-spot-test.true c.spot-item.is in
-    let has = discard_has (fronts_apart c.self.invariant c.self.view_is) c.requires.deltas.deltas c.loop-spot.invariant c.spot-item.result more in
+    let has = remove_has (fronts_apart c.self.invariant c.self.view_is) c.requires.deltas.deltas c.loop-spot.invariant c.spot-item.result more in
     (omega arith, (omega arith, has))
 
 pub loop-spot-preserved : goal.loop-spot-preserved
 loop-spot-preserved g c =
     let more = next_taken _ _ _ _ c.removed-spot-items.ensures c.loop-spot-test.true c.spot-item.is in
-    let r = c.discard.ensures in
-    discarding_more (fronts_apart c.self.invariant c.self.view_is) c.requires.deltas.deltas c.loop-spot.invariant c.spot-item.result more
-    r.elsewhere r.room r.discarded
+    let r = c.remove.ensures in
+    removing_more (fronts_apart c.self.invariant c.self.view_is) c.requires.deltas.deltas c.loop-spot.invariant c.spot-item.result more
+    r.elsewhere r.room r.removed
 
 pub loop-label-init : goal.loop-label-init
 loop-label-init g c = putting_none (all_taken c.removed-spot-items.ensures c.loop-spot-test.false) c.loop-spot.invariant

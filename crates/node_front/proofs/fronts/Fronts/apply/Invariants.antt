@@ -1,8 +1,8 @@
-use Rattle.node_front.proofs.RoundLemmas.{IsDiscarding, IsLowering, IsPutting}
+use Rattle.node_front.proofs.RoundLemmas.{IsRemoving, IsLowering, IsPutting}
 use Rattle.node_front.proofs.fronts.Fronts.apply.Given as goal
 
 abbrev pub invariant-loop-spot : goal.invariant-loop-spot
-invariant-loop-spot g l = IsDiscarding l.fn.self l.deltas l.spot-index l.self
+invariant-loop-spot g l = IsRemoving l.fn.self l.deltas l.spot-index l.self
 
 abbrev pub invariant-loop-label : goal.invariant-loop-label
 invariant-loop-label g l = IsPutting l.fn.self l.deltas l.label-index l.self

@@ -22,13 +22,7 @@ some_member (x ∷ xs) not = (x, in_first x xs)
 
 -- searches that are the same as a third
 same_on : {D : ℕ} (before mid after : Core D) → SameSearch before mid → SameSearch mid after → SameSearch before after
-same_on before mid after first second = record {
-  start = second.start ∙ first.start;
-  target = second.target ∙ first.target;
-  limit = second.limit ∙ first.limit;
-  budget = second.budget ∙ first.budget;
-  nodes = second.nodes ∙ first.nodes;
-}
+same_on before mid after first second = grind arith
 
 -- what is left isn't barred
 pub none_barred : {D : ℕ} (before mid : Core D) → DropsBarred before mid → All (λ (x : CompactSpot D). ¬ IsBarred mid x.cost.0) mid.waiting

@@ -48,21 +48,14 @@ module _ {D : ℕ} (start target budget : ℕ) (b n : Bounds D) (f : Fronts) (w 
   -- no more waits than did, and of that nothing is of no use
   pub kept_on : ((x : CompactSpot D) → Contains (all_waiting v) x → Contains (all_waiting w) x × ¬ IsUseless b x.cost.0)
       → IsKept D start target budget n f v settled
-  kept_on left = record {
-    two = kept.two;
-    four = kept.four;
-    start_node = kept.start_node;
-    target_node = kept.target_node;
-    most = kept.most;
-    waits = all_from_in (λ x. HasUnsettled (front_at f x.node.0) x.cost.0) (all_waiting v)
-        (λ x there. each_in (λ y. HasUnsettled (front_at f y.node.0) y.cost.0) (all_waiting w) kept.waits x (left x there).0);
-    bounds_are = subst (λ (g : Front). (c : List ℕ) → HasCost (entries g) c ↔ HasCost (front_at f target).settled c) (sym front) kept.bounds_are;
-    queued = all_from_in (λ x. IsUseless n x.cost.0 → IsDominatedBy n.news x.cost.0) v.queued
-        (λ x there useless. absurd ((left x ((in_append v.queued v.fresh x).1 (inl there))).1 (useless_alike b n limit front x.cost.0 useless)));
-    apart = kept.apart;
-    counted = kept.counted;
-    within = kept.within;
-  }
+  kept_on left = assumption (
+    kept,
+    all_from_in (λ x. HasUnsettled (front_at f x.node.0) x.cost.0) (all_waiting v)
+        (λ x there. each_in (λ y. HasUnsettled (front_at f y.node.0) y.cost.0) (all_waiting w) kept.waits x (left x there).0),
+    subst (λ (g : Front). (c : List ℕ) → HasCost (entries g) c ↔ HasCost (front_at f target).settled c) (sym front) kept.bounds_are,
+    all_from_in (λ x. IsUseless n x.cost.0 → IsDominatedBy n.news x.cost.0) v.queued
+        (λ x there useless. absurd ((left x ((in_append v.queued v.fresh x).1 (inl there))).1 (useless_alike b n limit front x.cost.0 useless))),
+  )
 
 -- ---- the drops
 

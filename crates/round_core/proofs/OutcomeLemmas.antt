@@ -3,7 +3,7 @@ use Rattle.std.proofs.Common.{◌≡◌, ◌⊎◌, ◌↔◌, ℕ, true, nat_eq
 use Rattle.std.specs.Prelude.{Contains, filter}
 use Rattle.std.proofs.lemmas.Bool.Decides.{nat_tests}
 use Rattle.list_laws.proofs.Members.{in_filter, in_map}
-use Rattle.list_laws.proofs.OnceLaws.{in_append}
+use Rattle.list_laws.proofs.OnceLaws.{alike_back, alike_through, in_append}
 use Rattle.list_laws.proofs.SetLaws.{none_of_empty}
 use Rattle.compact_labels.specs.declared.label.CompactLabel.{CompactLabel}
 use Rattle.event_machine.specs.Machine.{Task, Label, SearchState, IsEntry, settled, dropped, waiting, start_state}
@@ -140,9 +140,7 @@ module _ {D : ℕ} (task : Task) (before after : Core D) (s end : SearchState) (
     after_apart v = merged_apart (front_at before.fronts v) (front_at after.fronts v) (told_at v candidates) (merges.fronts.merged v)
 
     survives_after : (y : Label) → Survives task.network s y ↔ Contains (entries (front_at after.fronts y.node)) (as_entry y)
-    survives_after y = both (survives_told y) ((merges.fronts.merged y.node).entries (as_entry y)) where
-      both : {A B E : Type 0} → (A ↔ B) → (E ↔ B) → (A ↔ E)
-      both f g = grind arith
+    survives_after y = alike_through (survives_told y) (alike_back ((merges.fronts.merged y.node).entries (as_entry y)))
 
     -- what survives is dominated by no candidate
     settled_after : (y : Label) → Survives task.network s y
@@ -181,7 +179,7 @@ module _ {D : ℕ} (task : Task) (before after : Core D) (s end : SearchState) (
     )
 
     unsettled_parts : (f : Front) (c : List ℕ) → HasUnsettled f c ↔ (HasCost (entries f) c × (¬ HasCost f.settled c))
-    unsettled_parts f c = (λ h. (h.entry, h.unsettled), λ h. record { entry = h.0; unsettled = h.1 })
+    unsettled_parts f c = grind arith
 
     stands_dropped : (y : Label) → Contains end.dropped y
         ↔ (IsUnsettled (front_at after.fronts y.node) (as_entry y) × (¬ Contains after.waiting (as_spot y)))
@@ -215,14 +213,7 @@ module _ {D : ℕ} (task : Task) (before after : Core D) (s end : SearchState) (
 
 -- a core of the same search searches for the same tasks
 pub same_task : {D : ℕ} (task : Task) (before after : Core D) → SameSearch before after → IsSearchOf task before → IsSearchOf task after
-same_task task before after same is = record {
-  is_task = is.is_task;
-  nodes = is.nodes ∙ sym same.nodes;
-  criteria = is.criteria;
-  start = is.start ∙ sym same.start;
-  target = is.target ∙ sym same.target;
-  limit = is.limit ∙ sym same.limit;
-}
+same_task task before after same is = grind arith
 
 -- where the candidates of a round were merged, the core stands for the state to which its events lead
 pub finishes_by_merge : {D : ℕ} (candidates : List (CompactLabel D)) (before after : Core D) → ((v : ℕ) → AreApart (entries (front_at before.fronts v)))

@@ -3,7 +3,7 @@ use Rattle.std.proofs.Common.{◌≡◌, ◌≢◌, ◌⊎◌, ◌↔◌, ℕ, t
 use Rattle.std.specs.Prelude.{All, AllPairs, Contains, filter, slice_index_or}
 use Rattle.std.proofs.lemmas.Bool.Decides.{nat_tests}
 use Rattle.list_laws.proofs.Members.{all_from_in, each_in, in_first, in_none, in_rest, in_map, of_map, in_filter, of_filter}
-use Rattle.list_laws.proofs.OnceLaws.{in_append, once_apart}
+use Rattle.list_laws.proofs.OnceLaws.{alike_through, in_append, once_apart}
 use Rattle.list_laws.proofs.Pairs.{pairs_cons, pairs_none}
 use Rattle.compact_labels.specs.declared.label.CompactLabel.{CompactLabel}
 use Rattle.compact_labels.specs.declared.label.CompactSpot.{CompactSpot}
@@ -36,8 +36,7 @@ module _ {D : ℕ} where
   spots_told spots x = (
     λ there.
         let test : nat_eq x.node.0 x.node.0 ≡ true = grind (arith, nat_tests) in
-        in_map (λ (s : CompactSpot D). s.cost.0) (filter (λ (s : CompactSpot D). nat_eq s.node.0 x.node.0) spots) x
-        (in_filter (λ (s : CompactSpot D). nat_eq s.node.0 x.node.0) spots x there test),
+        in_map (λ (s : CompactSpot D). s.cost.0) _ x (in_filter (λ (s : CompactSpot D). nat_eq s.node.0 x.node.0) spots x there test),
     λ there.
         let (y, y_in, same) = of_map (λ (s : CompactSpot D). s.cost.0) (filter (λ (s : CompactSpot D). nat_eq s.node.0 x.node.0) spots) x.cost.0 there in
         let (old, test) = of_filter (λ (s : CompactSpot D). nat_eq s.node.0 x.node.0) spots y y_in in
@@ -64,9 +63,9 @@ module _ {D : ℕ} where
   pub deltas_of_same : (f g : Fronts) (candidates : List (CompactLabel D)) (d : Deltas D) → SameFronts f g → AreDeltas f candidates d
       → AreDeltas g candidates d
   deltas_of_same f g candidates d same are = record {
-    nodes = subst (λ n. All (λ (l : CompactLabel D). IsNode n l.node.0) candidates) (sym same.nodes) are.nodes;
-    spares = subst (λ (fs : List Front). All (λ (l : CompactLabel D). SparesSettled (front_in fs l.node.0) l.cost.0) candidates) (sym same.fronts) are.spares;
-    exact = subst (λ (fs : List Front). (v : ℕ) → IsDelta (front_in fs v) (told_at v candidates) (delta_at v d)) (sym same.fronts) are.exact;
+    nodes = rw same.nodes are.nodes;
+    spares = rw same.fronts are.spares;
+    exact = rw same.fronts are.exact;
     ascending = are.ascending;
   }
 
@@ -103,16 +102,15 @@ module _ {D : ℕ} where
         (each_new l there).new (each_in (λ (x : CompactSpot D). HasUnsettled (front_at f x.node.0) x.cost.0) waiting unsettled (spot_at l) waits).entry)
 
     goes : (x : CompactSpot D) → Contains d.removed x ↔ (Contains [] x ⊎ IsRemoved (front_at f x.node.0) (told_at x.node.0 candidates) x.cost.0)
-    goes x = parts (spots_told d.removed x) ((are.exact x.node.0).removed.exact x.cost.0) (in_none x) where
-      parts : {A B C N : Type 0} → (A ↔ B) → (B ↔ C) → ¬ N → (A ↔ (N ⊎ C))
-      parts a b none = grind arith
+    goes x = parts (alike_through (spots_told d.removed x) ((are.exact x.node.0).removed.exact x.cost.0)) (in_none x) where
+      parts : {A C N : Type 0} → (A ↔ C) → ¬ N → (A ↔ (N ⊎ C))
+      parts a none = grind arith
 
     added_told : (x : CompactSpot D) → Contains (map (spot_at {D = D}) d.added) x ↔ HasAdded (front_at f x.node.0) (told_at x.node.0 candidates) x.cost.0
     added_told x = (
       λ there.
           let (l, l_in, same) = of_map (spot_at {D = D}) d.added x there in
-          subst (λ (s : CompactSpot D). HasAdded (front_at f s.node.0) (told_at s.node.0 candidates) s.cost.0) (sym same)
-          (record { entry = entry_of l; added = each_new l l_in; cost = refl }),
+          rw same (record { entry = entry_of l; added = each_new l l_in; cost = refl }),
       λ h.
           let (l, l_in, node, same) = of_at x.node.0 d.added h.entry (((are.exact x.node.0).added.exact h.entry).1 h.added) in
           subst (Contains (map (spot_at {D = D}) d.added))
@@ -133,11 +131,9 @@ module _ {D : ℕ} where
         (spares_at f candidates are.spares) merges nodes goes comes) loses loses_too where
           comes : (x : CompactSpot D) → Contains (queued ++ fresh) x
               ↔ (Contains (all_waiting waiting) x ⊎ HasAdded (front_at f x.node.0) (told_at x.node.0 candidates) x.cost.0)
-          comes x = subst (λ (q : List (CompactSpot D)). Contains (q ++ fresh) x
-              ↔ (Contains (all_waiting waiting) x ⊎ HasAdded (front_at f x.node.0) (told_at x.node.0 candidates) x.cost.0)) (sym same)
-              (parts (in_append waiting.queued fresh x) (in_append waiting.queued waiting.fresh x) (gains x) (added_told x)) where
-                parts : {A B Q F N P H : Type 0} → (A ↔ (Q ⊎ N)) → (B ↔ (Q ⊎ F)) → (N ↔ (F ⊎ P)) → (P ↔ H) → (A ↔ (B ⊎ H))
-                parts a b n p = grind arith
+          comes x = rw same (parts (in_append waiting.queued fresh x) (in_append waiting.queued waiting.fresh x) (gains x) (added_told x)) where
+            parts : {A B Q F N P H : Type 0} → (A ↔ (Q ⊎ N)) → (B ↔ (Q ⊎ F)) → (N ↔ (F ⊎ P)) → (P ↔ H) → (A ↔ (B ⊎ H))
+            parts a b n p = grind arith
 
   -- A round has ended: its candidates have come, and what waits is as it is to be.
   pub record EndsRound (candidates : List (CompactLabel D)) (f after : Fronts) (waiting left : Waiting D) : Type 0 where
@@ -148,19 +144,17 @@ module _ {D : ℕ} where
 
   merges_of_same : (f ready after : Fronts) (candidates : List (CompactLabel D)) → SameFronts f ready → MergesAll ready candidates after
       → MergesAll f candidates after
-  merges_of_same f ready after candidates same merges = record {
-    merged = subst (λ (fs : List Front). (v : ℕ) → IsMerged (front_in fs v) (told_at v candidates) (front_at after v)) same.fronts merges.merged;
-  }
+  merges_of_same f ready after candidates same merges = record { merged = rw (← same.fronts) merges.merged }
 
   -- it has where the deltas were applied, the new entries came to wait, and the spots of entries left that are gone
-  pub ends_by_deltas : (f ready after : Fronts) (waiting more left : Waiting D) (candidates added : List (CompactLabel D)) (d : Deltas D)
-      (removed : List (CompactSpot D)) → SameFronts f ready → AreDeltas f candidates d → ((v : ℕ) → AreApart (entries (front_at f v)))
+  pub ends_by_deltas : {f ready after : Fronts} {waiting left : Waiting D} (more : Waiting D) {candidates added : List (CompactLabel D)} {d : Deltas D}
+      {removed : List (CompactSpot D)} → SameFronts f ready → AreDeltas f candidates d → ((v : ℕ) → AreApart (entries (front_at f v)))
       → All (λ (x : CompactSpot D). HasUnsettled (front_at f x.node.0) x.cost.0) (all_waiting waiting)
       → ((labels : List (CompactLabel D)) → AreDeltas ready labels d → MergesAll ready labels after) → after.nodes ≡ ready.nodes
       → added ≡ d.added → removed ≡ d.removed → more.queued ≡ waiting.queued → Gains waiting.fresh (map (spot_at {D = D}) added) more.fresh
       → LosesWhere (Contains removed) more.queued left.queued → LosesWhere (Contains removed) more.fresh left.fresh
       → EndsRound candidates f after waiting left
-  ends_by_deltas f ready after waiting more left candidates added d removed same are apart unsettled applied nodes is_added is_removed queued gains
+  ends_by_deltas {f} {ready} {after} {waiting} {left} more {candidates} {d = d} {removed = removed} same are apart unsettled applied nodes is_added is_removed queued gains
       loses loses_too =
       let merges = merges_of_same f ready after candidates same (applied candidates (deltas_of_same f ready candidates d same are)) in
       let here = nodes ∙ same.nodes in
@@ -168,8 +162,6 @@ module _ {D : ℕ} where
         merges = merges;
         nodes = here;
         waits = waits_by_deltas f candidates d are apart after waiting more.queued more.fresh left.queued left.fresh unsettled merges here queued
-            (subst (λ (ls : List (CompactLabel D)). Gains waiting.fresh (map (spot_at {D = D}) ls) more.fresh) is_added gains)
-            (subst (λ (ss : List (CompactSpot D)). LosesWhere (Contains ss) more.queued left.queued) is_removed loses)
-            (subst (λ (ss : List (CompactSpot D)). LosesWhere (Contains ss) more.fresh left.fresh) is_removed loses_too);
+            (rw is_added at gains) (rw is_removed at loses) (rw is_removed at loses_too);
         queued = loses_each waiting.queued more.queued left.queued (Contains removed) queued loses;
       }

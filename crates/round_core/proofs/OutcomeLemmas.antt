@@ -31,8 +31,7 @@ use Rattle.round_core.proofs.UnsettledLemmas.{settled_by_cost, cases_settled, sp
 pub in_at : {D : ℕ} (ls : List (CompactLabel D)) (l : CompactLabel D) → Contains ls l → Contains (told_at l.node.0 ls) (entry_of l)
 in_at {D} ls l there =
     let test : nat_eq l.node.0 l.node.0 ≡ true = grind (arith, nat_tests) in
-    in_map (entry_of {D = D}) (filter (λ (m : CompactLabel D). nat_eq m.node.0 l.node.0) ls) l
-    (in_filter (λ (m : CompactLabel D). nat_eq m.node.0 l.node.0) ls l there test)
+    in_map (entry_of {D = D}) _ l (in_filter (λ (m : CompactLabel D). nat_eq m.node.0 l.node.0) ls l there test)
 
 -- the label of the node v that an entry tells
 abbrev label_at : ℕ → Entry → Label
@@ -70,10 +69,7 @@ module _ {D : ℕ} (task : Task) (before after : Core D) (s end : SearchState) (
         (arrivals y).0 (subst (Contains candidates) (again l node same) l_in),
   ) where
     again : (l : CompactLabel D) → l.node.0 ≡ y.node → as_entry y ≡ entry_of l → l ≡ as_compact y
-    again l node same =
-        ap (λ (v : ℕ). let m : CompactLabel D = record { node = record { 0 = v }; cost = l.cost; arc = l.arc } in m) node
-        ∙ ap (λ (e : Entry). let m : CompactLabel D = record { node = record { 0 = y.node }; cost = record { 0 = e.cost }; arc = record { 0 = e.arc } } in m)
-        (sym same)
+    again l node same = grind arith
 
   present_told : (y : Label) → (IsEntry s y ⊎ IsArrival task.network s y) ↔ Contains (known y.node) (as_entry y)
   present_told y = both (entry_told y) (arrival_told y) (in_append (entries (front_at before.fronts y.node)) (told_at y.node candidates) (as_entry y)) where
@@ -81,7 +77,7 @@ module _ {D : ℕ} (task : Task) (before after : Core D) (s end : SearchState) (
     both f g h = grind arith
 
   present_at : (z : Label) (v : ℕ) → z.node ≡ v → IsEntry s z ⊎ IsArrival task.network s z → Contains (known v) (as_entry z)
-  present_at z v node present = subst (λ u. Contains (known u) (as_entry z)) node ((present_told z).0 present)
+  present_at z v node present = rw node at ((present_told z).0 present)
 
   -- ---- so what survives is what stays
 
@@ -105,10 +101,7 @@ module _ {D : ℕ} (task : Task) (before after : Core D) (s end : SearchState) (
 
   settled_pair : (y : Label) → HasPair s.settled y ↔ HasCost (front_at before.fronts y.node).settled y.cost
   settled_pair y = (
-    λ h. subst (HasCost (front_at before.fronts y.node).settled) h.same.cost (record {
-      arc = h.label.arc;
-      contains = subst (λ v. Contains (front_at before.fronts v).settled (as_entry h.label)) h.same.node ((stands.settled h.label).0 h.member);
-    }),
+    λ h. rw (← h.same.node, ← h.same.cost) (record { arc = h.label.arc; contains = (stands.settled h.label).0 h.member }),
     λ has.
         let one = label_at y.node (record { cost = y.cost; arc = has.arc }) in
         record { label = one; member = (stands.settled one).1 has.contains; same = record { node = refl; cost = refl } },
@@ -118,12 +111,7 @@ module _ {D : ℕ} (task : Task) (before after : Core D) (s end : SearchState) (
   dropped_pair y = (
     λ h.
         let was = (stands.dropped h.label).0 h.member in
-        let spot = spot_by_parts {D = D} (as_spot h.label) (as_spot y) h.same.node h.same.cost in (
-          subst (λ v. HasUnsettled (front_at before.fronts v) y.cost) h.same.node
-              (subst (HasUnsettled (front_at before.fronts h.label.node)) h.same.cost
-              (record { entry = record { arc = h.label.arc; contains = was.0.entry }; unsettled = was.0.unsettled })),
-          λ waits. was.1 (subst (Contains before.waiting) (sym spot) waits),
-        ),
+        rw (← h.same.node, ← h.same.cost) (record { entry = record { arc = h.label.arc; contains = was.0.entry }; unsettled = was.0.unsettled }, was.1),
     λ h.
         let one = label_at y.node (record { cost = y.cost; arc = h.0.entry.arc }) in
         record {
@@ -216,9 +204,9 @@ pub same_task : {D : ℕ} (task : Task) (before after : Core D) → SameSearch b
 same_task task before after same is = grind arith
 
 -- where the candidates of a round were merged, the core stands for the state to which its events lead
-pub finishes_by_merge : {D : ℕ} (candidates : List (CompactLabel D)) (before after : Core D) → ((v : ℕ) → AreApart (entries (front_at before.fronts v)))
+pub finishes_by_merge : {D : ℕ} {candidates : List (CompactLabel D)} {before after : Core D} → ((v : ℕ) → AreApart (entries (front_at before.fronts v)))
     → MergesRound candidates before after → FinishesRound candidates before after
-finishes_by_merge candidates before after apart merges = record {
+finishes_by_merge {D} {candidates} {before} {after} apart merges = record {
   outcome = λ task s end at arrivals outcome.
       let sound = sound_if_reached task at.search.is_task s at.reached in
       let f = (finishes_is_outcome task at.search.is_task s sound end).1 outcome in
@@ -238,13 +226,3 @@ finishes_by_merge candidates before after apart merges = record {
     };
     stands = stands_after task before after s end candidates at.stands apart arrivals merges outcome;
   }
-
--- the same of a core that was read at another name
-pub merges_at : {D : ℕ} (candidates : List (CompactLabel D)) (was before after : Core D) → was ≡ before → MergesRound candidates was after
-    → MergesRound candidates before after
-merges_at {D} candidates was before after same merges = subst (λ (b : Core D). MergesRound candidates b after) same merges
-
-pub finishes_at : {D : ℕ} (candidates : List (CompactLabel D)) (was before after : Core D) → was ≡ before
-    → ((v : ℕ) → AreApart (entries (front_at was.fronts v))) → MergesRound candidates was after → FinishesRound candidates before after
-finishes_at {D} candidates was before after same apart merges =
-    subst (λ (b : Core D). FinishesRound candidates b after) same (finishes_by_merge candidates was after apart merges)

@@ -25,7 +25,7 @@ use Rattle.node_front.proofs.RoundLemmas.{of_at}
 use Rattle.round_core.specs.Cores.{Core, IsAt, IsSearchOf, SameSearch, StandsFor, as_compact, as_entry, as_spot}
 use Rattle.round_core.specs.Finishes.{AreArrivals, FinishesRound, MergesRound}
 use Rattle.round_core.specs.Unsettled.{HasUnsettled, IsUnsettled}
-use Rattle.round_core.proofs.UnsettledLemmas.{settled_by_cost, cases_settled, spot_by_parts, told_spot}
+use Rattle.round_core.proofs.UnsettledLemmas.{cases_settled, dominated_by_second, settled_by_cost, spot_by_parts, told_spot}
 
 -- a label of a list tells its entry at its node
 pub in_at : {D : ℕ} (ls : List (CompactLabel D)) (l : CompactLabel D) → Contains ls l → Contains (told_at l.node.0 ls) (entry_of l)
@@ -137,11 +137,7 @@ module _ {D : ℕ} (task : Task) (before after : Core D) (s end : SearchState) (
       λ has. (((merges.fronts.merged y.node).settled y.cost).0 has).0,
       λ has. ((merges.fronts.merged y.node).settled y.cost).1 (
         has,
-        λ by. ((survives_told y).0 survives).nondominated (record {
-          by = by.by;
-          contains = (in_append (entries (front_at before.fronts y.node)) (told_at y.node candidates) by.by).1 (inr by.contains);
-          dominates = by.dominates;
-        }),
+        λ by. ((survives_told y).0 survives).nondominated (dominated_by_second (entries (front_at before.fronts y.node)) (told_at y.node candidates) by),
       ),
     )
 

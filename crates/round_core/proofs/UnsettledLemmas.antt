@@ -1,11 +1,11 @@
 -- Settled and other entries of a front, told by costs.
-use Rattle.std.proofs.Common.{◌≡◌, ◌⊎◌, ◌↔◌, ℕ, List, inl, inr, refl, ap, subst, ◌∙◌}
+use Rattle.std.proofs.Common.{◌≡◌, ◌⊎◌, ◌↔◌, ℕ, List, ◌++◌, inl, inr, refl, ap, subst, ◌∙◌}
 use Rattle.std.specs.Prelude.{Contains}
 use Rattle.list_laws.proofs.OnceLaws.{IsTold, in_append, told_as, told_both, told_in}
 use Rattle.compact_labels.specs.declared.label.CompactSpot.{CompactSpot}
 use Rattle.std.proofs.lemmas.Bool.{cases_eq}
 use Rattle.cost_vector.proofs.Vectors.{cases_same}
-use Rattle.pareto_front.specs.Fronts.{Entry, Front, HasCost, entries}
+use Rattle.pareto_front.specs.Fronts.{Entry, Front, HasCost, IsDominated, entries}
 use Rattle.node_front.specs.Apart.{AreApart}
 use Rattle.node_front.proofs.ApartLemmas.{AtMost-same, has_append}
 use Rattle.node_front.proofs.NeedlessLemmas.{told_has_cost}
@@ -17,10 +17,18 @@ spot_by_parts {D} x y node cost =
     ap (λ (v : ℕ). let z : CompactSpot D = record { cost = x.cost; node = record { 0 = v } } in z) node
     ∙ ap (λ (c : List ℕ). let z : CompactSpot D = record { cost = record { 0 = c }; node = y.node } in z) cost
 
+-- it can be told whether two are one
 pub cases_spot : {D : ℕ} (x y : CompactSpot D) → IsTold (x ≡ y)
 cases_spot {D} x y = told_as (λ h. spot_by_parts x y h.0 h.1)
     (λ e. (ap (λ (z : CompactSpot D). z.node.0) e, ap (λ (z : CompactSpot D). z.cost.0) e))
     (told_both (cases_eq x.node.0 y.node.0) (cases_same x.cost.0 y.cost.0))
+
+-- what one of two lists dominates, both do
+pub dominated_by_first : (xs ys : List Entry) {c : List ℕ} → IsDominated xs c → IsDominated (xs ++ ys) c
+dominated_by_first xs ys h = record { by = h.by; contains = (in_append xs ys h.by).1 (inl h.contains); dominates = h.dominates }
+
+pub dominated_by_second : (xs ys : List Entry) {c : List ℕ} → IsDominated ys c → IsDominated (xs ++ ys) c
+dominated_by_second xs ys h = record { by = h.by; contains = (in_append xs ys h.by).1 (inr h.contains); dominates = h.dominates }
 
 -- it can be told whether a spot stands in a list
 pub told_spot : {D : ℕ} (xs : List (CompactSpot D)) (x : CompactSpot D) → IsTold (Contains xs x)
@@ -46,12 +54,3 @@ cases_settled f e apart there = elim (told_has_cost f.settled e.cost) [
 -- a settled cost is an entry's
 pub settled_has_cost : (f : Front) (c : List ℕ) → HasCost f.settled c → HasCost (entries f) c
 settled_has_cost f c has = (has_append f.settled f.unsettled c).1 (inl has)
-
-pub told_unsettled : (f : Front) (c : List ℕ) → IsTold (HasUnsettled f c)
-told_unsettled f c = elim (told_has_cost (entries f) c) [
-  | inr none ↦ inr (λ h. none h.entry)
-  | inl has ↦ elim (told_has_cost f.settled c) [
-    | inl settled ↦ inr (λ h. h.unsettled settled)
-    | inr not ↦ inl (record { entry = has; unsettled = not })
-  ]
-]

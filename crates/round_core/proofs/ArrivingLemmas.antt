@@ -47,7 +47,7 @@ SpareSettled front candidates = (c : List ℕ) → HasCost front.settled c → �
 
 -- ---- one front
 
-module _ (before after : Front) (candidates : List Entry) (merged : IsMerged before candidates after) where
+module _ {before after : Front} {candidates : List Entry} (merged : IsMerged before candidates after) where
   -- what was known of the node and is dominated still is
   pub dominated_after : (c : List ℕ) → IsDominated (entries before ++ candidates) c → IsDominated (entries after) c
   dominated_after c h =
@@ -72,10 +72,11 @@ module _ (before after : Front) (candidates : List Entry) (merged : IsMerged bef
     λ by. h.added.stays.nondominated (rw h.cost (dominated_by_first (entries before) candidates by)),
   )
 
-  module _ (apart : AreApart (entries before)) (spares : SpareSettled before candidates) where
-    pub settled_costs : (c : List ℕ) → HasCost after.settled c ↔ HasCost before.settled c
-    settled_costs c = (λ has. ((merged.settled c).0 has).0, λ has. (merged.settled c).1 (has, spares c has))
+  -- the settled costs stay
+  pub settled_costs : SpareSettled before candidates → (c : List ℕ) → HasCost after.settled c ↔ HasCost before.settled c
+  settled_costs spares c = (λ has. ((merged.settled c).0 has).0, λ has. (merged.settled c).1 (has, spares c has))
 
+  module _ (apart : AreApart (entries before)) (spares : SpareSettled before candidates) where
     -- a new entry isn't settled, and neither is an old one that isn't dominated, if it wasn't before
     pub unsettled_costs : (c : List ℕ) → HasUnsettled after c
         ↔ ((HasUnsettled before c × (¬ IsDominated candidates c)) ⊎ HasAdded before candidates c)
@@ -86,15 +87,15 @@ module _ (before after : Front) (candidates : List Entry) (merged : IsMerged bef
           elim (told_has_cost (entries before) c) [
             | inr new ↦ inr (record { entry = x; added = record { stays = stays; new = new }; cost = refl })
             | inl has ↦ inl (
-              record { entry = has; unsettled = λ was. h.unsettled ((settled_costs c).1 was) },
+              record { entry = has; unsettled = λ was. h.unsettled ((settled_costs spares c).1 was) },
               λ by. stays.nondominated (dominated_by_second (entries before) candidates by),
             )
           ],
       elim [
-        | inl old ↦ record { entry = kept old.0.entry old.1; unsettled = λ has. old.0.unsettled ((settled_costs c).0 has) }
+        | inl old ↦ record { entry = kept old.0.entry old.1; unsettled = λ has. old.0.unsettled ((settled_costs spares c).0 has) }
         | inr new ↦ record {
           entry = subst (HasCost (entries after)) new.cost (has_cost_of (entries after) new.entry ((merged.entries new.entry).1 new.added.stays));
-          unsettled = λ has. (added_is_new c new).0 (settled_has_cost before c ((settled_costs c).0 has));
+          unsettled = λ has. (added_is_new c new).0 (settled_has_cost before c ((settled_costs spares c).0 has));
         }
       ],
     ) where
@@ -116,10 +117,10 @@ module _ {D : ℕ} where
   told_append v ls ms = simp (filter-append, map-append)
 
   -- before any label comes
-  pub none_arrived : (before : Fronts) (waited removed : List (CompactSpot D)) → removed ≡ [] → ((v : ℕ) → AreApart (entries (front_at before v)))
+  pub none_arrived : {before : Fronts} {waited removed : List (CompactSpot D)} → removed ≡ [] → ((v : ℕ) → AreApart (entries (front_at before v)))
       → ((x : CompactSpot D) → Contains waited x → HasUnsettled (front_at before x.node.0) x.cost.0)
       → HaveArrived before waited [] before waited removed
-  none_arrived before waited removed empty apart unsettled = record {
+  none_arrived {before} {waited} {removed} empty apart unsettled = record {
     nodes = refl;
     merged = record { merged = λ v. merged_none (front_at before v) (apart v) };
     gone = λ x there. absurd (none_of_empty removed empty x there);
@@ -130,9 +131,9 @@ module _ {D : ℕ} where
   }
 
   -- what waits is covered by an entry
-  pub waiting_covered : (before now : Fronts) (waited waiting removed : List (CompactSpot D)) (first : List (CompactLabel D))
+  pub waiting_covered : {before now : Fronts} {waited waiting removed : List (CompactSpot D)} {first : List (CompactLabel D)}
       → HaveArrived before waited first now waiting removed → All (λ (x : CompactSpot D). IsCovered (entries (front_at now x.node.0)) x.cost.0) waiting
-  waiting_covered before now waited waiting removed first arrived =
+  waiting_covered {now = now} {waiting = waiting} {removed} arrived =
       all_from_in (λ (x : CompactSpot D). IsCovered (entries (front_at now x.node.0)) x.cost.0) waiting (λ x there.
       elim (told_spot removed x) [
         | inl gone ↦ let by = arrived.gone x gone in record { by = by.by; contains = by.contains; at_most = by.dominates.at_most }
@@ -142,21 +143,19 @@ module _ {D : ℕ} where
       ])
 
   -- once the removed spots are taken out, just that waits which is to wait
-  pub waits_without : (before now : Fronts) (waited queued fresh removed left_queued left_fresh : List (CompactSpot D)) (first : List (CompactLabel D))
-      → HaveArrived before waited first now (queued ++ fresh) removed → LosesWhere (Contains removed) queued left_queued
+  pub waits_without : {before now : Fronts} {waited removed : List (CompactSpot D)} {first : List (CompactLabel D)}
+      (queued fresh left_queued left_fresh : List (CompactSpot D)) → HaveArrived before waited first now (queued ++ fresh) removed → LosesWhere (Contains removed) queued left_queued
       → LosesWhere (Contains removed) fresh left_fresh → WaitsAsMerged before waited now (Contains (left_queued ++ left_fresh))
-  waits_without before now waited queued fresh removed left_queued left_fresh first arrived loses loses_too x =
+  waits_without queued fresh left_queued left_fresh arrived loses loses_too x =
       parts (arrived.waits x) (in_append queued fresh x) (in_append left_queued left_fresh x) (loses x) (loses_too x) where
         parts : {W R U Q F L Q' F' : Type 0} → ((W × (¬ R)) ↔ U) → (W ↔ (Q ⊎ F)) → (L ↔ (Q' ⊎ F')) → (Q' ↔ (Q × (¬ R))) → (F' ↔ (F × (¬ R))) → (L ↔ U)
         parts w q l lq lf = grind arith
 
   -- where some have come, and then others do
-  module _ (before now after : Fronts) (waited waiting removed more_waiting more_removed : List (CompactSpot D)) (first labels : List (CompactLabel D))
+  module _ {before now after : Fronts} {waited waiting removed : List (CompactSpot D)} (more_waiting more_removed : List (CompactSpot D))
+      {first labels : List (CompactLabel D)}
       (arrived : HaveArrived before waited first now waiting removed)
       (spares : (v : ℕ) → SpareSettled (front_at now v) (told_at v labels)) where
-    now_apart : (v : ℕ) → AreApart (entries (front_at now v))
-    now_apart v = merged_apart (front_at before v) (front_at now v) (told_at v first) (arrived.merged.merged v)
-
     module _ (merges : MergesAll now labels after) (nodes : after.nodes ≡ now.nodes)
         (goes : (x : CompactSpot D) → Contains more_removed x
         ↔ (Contains removed x ⊎ IsRemoved (front_at now x.node.0) (told_at x.node.0 labels) x.cost.0))
@@ -165,16 +164,14 @@ module _ {D : ℕ} where
       still_gone : (x : CompactSpot D) → Contains more_removed x → IsDominated (entries (front_at after x.node.0)) x.cost.0
       still_gone x there =
           let v = x.node.0 in
-          dominated_after (front_at now v) (front_at after v) (told_at v labels) (merges.merged v) x.cost.0 (elim ((goes x).0 there) [
+          dominated_after (merges.merged v) x.cost.0 (elim ((goes x).0 there) [
             | inl old ↦ dominated_by_first (entries (front_at now v)) (told_at v labels) (arrived.gone x old)
             | inr new ↦ dominated_by_second (entries (front_at now v)) (told_at v labels) new.dominated
           ])
 
       still_waits : WaitsAsMerged before waited after (λ (x : CompactSpot D). Contains more_waiting x × (¬ Contains more_removed x))
-      still_waits x = parts (arrived.waits x) (goes x) (comes x)
-          (unsettled_costs (front_at now v) (front_at after v) (told_at v labels) (merges.merged v) (now_apart v) (spares v) x.cost.0)
-          (λ removed. removed.dominated) (λ h by. record { old = h.entry; dominated = by })
-          (λ removed. removed.old) (arrived.gone x) new_cost where
+      still_waits x = parts (arrived.waits x) (goes x) (comes x) (unsettled_costs (merges.merged v) (merged_apart _ _ _ (arrived.merged.merged v)) (spares v) x.cost.0)
+          (λ removed. removed.dominated) (λ h by. record { old = h.entry; dominated = by }) (λ removed. removed.old) (arrived.gone x) new_cost where
             v : ℕ
             v = x.node.0
 
@@ -182,8 +179,8 @@ module _ {D : ℕ} where
                 → (¬ HasCost (entries (front_at now v)) x.cost.0) × (¬ IsDominated (entries (front_at now v)) x.cost.0)
                 × (¬ HasCost (entries (front_at before v)) x.cost.0)
             new_cost h =
-                let (none, undominated) = added_is_new (front_at now v) (front_at after v) (told_at v labels) (merges.merged v) x.cost.0 h in
-                let old = cost_after (front_at before v) (front_at now v) (told_at v first) (arrived.merged.merged v) x.cost.0 in
+                let (none, undominated) = added_is_new (merges.merged v) x.cost.0 h in
+                let old = cost_after (arrived.merged.merged v) x.cost.0 in
                 (none, undominated, λ has. none (old has undominated))
 
             parts : {W R U S X R' W' U' A G K H B : Type 0} → ((W × (¬ R)) ↔ (U × (S ⊎ (¬ B)))) → (R' ↔ (R ⊎ X)) → (W' ↔ (W ⊎ A))
@@ -194,10 +191,7 @@ module _ {D : ℕ} where
       pub more_arrived : HaveArrived before waited (first ++ labels) after more_waiting more_removed
       more_arrived = record {
         nodes = nodes ∙ arrived.nodes;
-        merged = record {
-          merged = λ v. rw (told_append v first labels) (merged_then (front_at before v) (front_at now v) (front_at after v) (told_at v first)
-              (told_at v labels) (arrived.merged.merged v) (merges.merged v));
-        };
+        merged = record { merged = λ v. rw (told_append v first labels) (merged_then _ _ _ _ _ (arrived.merged.merged v) (merges.merged v)) };
         gone = still_gone;
         waits = still_waits;
       }
@@ -250,15 +244,15 @@ module _ {D : ℕ} where
     | inr other ↦ subst (P v) (sym (at_push_other v [] l (λ e. other (sym e)))) (others v other)
   ]
 
-  module _ (before now after : Fronts) (waited waiting removed more_waiting more_removed : List (CompactSpot D)) (first : List (CompactLabel D))
-      (l : CompactLabel D) (arrived : HaveArrived before waited first now waiting removed) (spares : SparesSettled (front_at before l.node.0) l.cost.0) where
+  module _ {before now : Fronts} {waited waiting removed : List (CompactSpot D)} {first : List (CompactLabel D)} (l : CompactLabel D)
+      (arrived : HaveArrived before waited first now waiting removed) (spares : SparesSettled (front_at before l.node.0) l.cost.0) where
     -- the settled costs have stayed, so the next label spares them too
     pub still_spares : SparesSettled (front_at now l.node.0) l.cost.0
     still_spares e there less =
         let has = (((arrived.merged.merged l.node.0).settled e.cost).0 (record { arc = e.arc; contains = there })).0 in
         spares (record { cost = e.cost; arc = has.arc }) has.contains less
 
-    module _ (elsewhere : SameElsewhere l.node.0 now after)
+    module _ {after : Fronts} (more_waiting : List (CompactSpot D)) {more_removed : List (CompactSpot D)} (elsewhere : SameElsewhere l.node.0 now after)
         (merged : IsMerged (front_at now l.node.0) (entry_of l ∷ []) (front_at after l.node.0))
         (grows : GrowsBy l.node.0 (IsRemoved (front_at now l.node.0) (entry_of l ∷ [])) removed more_removed)
         (adds : AddsIfNew (front_at now l.node.0) l waiting more_waiting) where
@@ -270,8 +264,8 @@ module _ {D : ℕ} where
 
       each_merged : MergesAll now (l ∷ []) after
       each_merged = record {
-        merged = at_each l (λ v es. IsMerged (front_at now v) es (front_at after v)) merged (λ v other. rw (elsewhere.others v other)
-            (merged_none (front_at now v) (merged_apart (front_at before v) (front_at now v) (told_at v first) (arrived.merged.merged v))));
+        merged = at_each l (λ v es. IsMerged (front_at now v) es (front_at after v)) merged
+            (λ v other. rw (elsewhere.others v other) (merged_none (front_at now v) (merged_apart _ _ _ (arrived.merged.merged v))));
       }
 
       each_goes : (x : CompactSpot D) → Contains more_removed x
@@ -297,6 +291,4 @@ module _ {D : ℕ} where
             f = front_at now l.node.0
 
       pub one_arrived : HaveArrived before waited (first ++ l ∷ []) after more_waiting more_removed
-      one_arrived = more_arrived before now after waited waiting removed more_waiting more_removed first (l ∷ []) arrived each_spares each_merged
-          elsewhere.nodes
-          each_goes each_comes
+      one_arrived = more_arrived _ _ arrived each_spares each_merged elsewhere.nodes each_goes each_comes

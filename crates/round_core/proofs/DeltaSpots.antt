@@ -18,7 +18,7 @@ use Rattle.node_front.specs.NodeFronts.{Fronts, SameFronts, front_at}
 use Rattle.node_front.proofs.ApartLemmas.{same_entry}
 use Rattle.node_front.proofs.MergeLaws.{brought_candidate}
 use Rattle.node_front.proofs.RoundLemmas.{of_at}
-use Rattle.round_core.specs.Arriving.{WaitsAsMerged, spot_at}
+use Rattle.round_core.specs.Arriving.{HaveArrived, WaitsAsMerged, spot_at}
 use Rattle.round_core.specs.Unsettled.{HasUnsettled}
 use Rattle.round_core.specs.Waiting.{Waiting, all_waiting}
 use Rattle.round_core.proofs.ArrivingLemmas.{HasAdded, more_arrived, none_arrived, told_append, waits_without}
@@ -124,11 +124,10 @@ module _ {D : ℕ} where
         → LosesWhere (Contains d.removed) queued left_queued → LosesWhere (Contains d.removed) fresh left_fresh
         → WaitsAsMerged f (all_waiting waiting) after (Contains (left_queued ++ left_fresh))
     waits_by_deltas after waiting queued fresh left_queued left_fresh unsettled merges nodes same gains loses loses_too =
-        let start = none_arrived f (all_waiting waiting) [] refl apart
-        (each_in (λ (x : CompactSpot D). HasUnsettled (front_at f x.node.0) x.cost.0) (all_waiting waiting) unsettled) in
-        waits_without f after (all_waiting waiting) queued fresh d.removed left_queued left_fresh candidates
-        (more_arrived f f after (all_waiting waiting) (all_waiting waiting) [] (queued ++ fresh) d.removed [] candidates start
-        (spares_at f candidates are.spares) merges nodes goes comes) loses loses_too where
+        let start : HaveArrived f (all_waiting waiting) [] f (all_waiting waiting) [] =
+        none_arrived refl apart (each_in (λ (x : CompactSpot D). HasUnsettled (front_at f x.node.0) x.cost.0) (all_waiting waiting) unsettled) in
+        waits_without queued fresh left_queued left_fresh
+        (more_arrived _ _ start (spares_at f candidates are.spares) merges nodes goes comes) loses loses_too where
           comes : (x : CompactSpot D) → Contains (queued ++ fresh) x
               ↔ (Contains (all_waiting waiting) x ⊎ HasAdded (front_at f x.node.0) (told_at x.node.0 candidates) x.cost.0)
           comes x = rw same (parts (in_append waiting.queued fresh x) (in_append waiting.queued waiting.fresh x) (gains x) (added_told x)) where

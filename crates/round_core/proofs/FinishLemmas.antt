@@ -46,11 +46,11 @@ module _ {D : ℕ} where
     all_from_in (λ (x : CompactSpot D). IsUseless bounds x.cost.0 → IsDominatedBy bounds.news x.cost.0) left.queued (λ x there.
         each_in (λ (y : CompactSpot D). IsUseless bounds y.cost.0 → IsDominatedBy bounds.news y.cost.0) waiting.queued kept.queued x
         (each_in (Contains waiting.queued) left.queued queued x there)),
-    λ (v : ℕ). merged_apart (front_at fronts v) (front_at after v) (told_at v candidates) (merges.merged v),
+    λ (v : ℕ). merged_apart _ _ _ (merges.merged v),
     counted,
   ) where
     same : (v : ℕ) (c : List ℕ) → HasCost (front_at after v).settled c ↔ HasCost (front_at fronts v).settled c
-    same v = settled_costs (front_at fronts v) (front_at after v) (told_at v candidates) (merges.merged v) (kept.apart v) (spares_at fronts candidates spares v)
+    same v = settled_costs (merges.merged v) (spares_at fronts candidates spares v)
 
     counted : CountsSettled D after settled
     counted = record {

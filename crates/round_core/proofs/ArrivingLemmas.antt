@@ -153,48 +153,46 @@ module _ {D : ℕ} where
 
   -- where some have come, and then others do
   module _ {before now after : Fronts} {waited waiting removed : List (CompactSpot D)} (more_waiting more_removed : List (CompactSpot D))
-      {first labels : List (CompactLabel D)}
-      (arrived : HaveArrived before waited first now waiting removed)
-      (spares : (v : ℕ) → SpareSettled (front_at now v) (told_at v labels)) where
-    module _ (merges : MergesAll now labels after) (nodes : after.nodes ≡ now.nodes)
-        (goes : (x : CompactSpot D) → Contains more_removed x
-        ↔ (Contains removed x ⊎ IsRemoved (front_at now x.node.0) (told_at x.node.0 labels) x.cost.0))
-        (comes : (x : CompactSpot D) → Contains more_waiting x
-        ↔ (Contains waiting x ⊎ HasAdded (front_at now x.node.0) (told_at x.node.0 labels) x.cost.0)) where
-      still_gone : (x : CompactSpot D) → Contains more_removed x → IsDominated (entries (front_at after x.node.0)) x.cost.0
-      still_gone x there =
-          let v = x.node.0 in
-          dominated_after (merges.merged v) x.cost.0 (elim ((goes x).0 there) [
-            | inl old ↦ dominated_by_first (entries (front_at now v)) (told_at v labels) (arrived.gone x old)
-            | inr new ↦ dominated_by_second (entries (front_at now v)) (told_at v labels) new.dominated
-          ])
+      {first labels : List (CompactLabel D)} (arrived : HaveArrived before waited first now waiting removed)
+      (spares : (v : ℕ) → SpareSettled (front_at now v) (told_at v labels)) (merges : MergesAll now labels after) (nodes : after.nodes ≡ now.nodes)
+      (goes : (x : CompactSpot D) → Contains more_removed x
+      ↔ (Contains removed x ⊎ IsRemoved (front_at now x.node.0) (told_at x.node.0 labels) x.cost.0))
+      (comes : (x : CompactSpot D) → Contains more_waiting x
+      ↔ (Contains waiting x ⊎ HasAdded (front_at now x.node.0) (told_at x.node.0 labels) x.cost.0)) where
+    still_gone : (x : CompactSpot D) → Contains more_removed x → IsDominated (entries (front_at after x.node.0)) x.cost.0
+    still_gone x there =
+        let v = x.node.0 in
+        dominated_after (merges.merged v) x.cost.0 (elim ((goes x).0 there) [
+          | inl old ↦ dominated_by_first (entries (front_at now v)) (told_at v labels) (arrived.gone x old)
+          | inr new ↦ dominated_by_second (entries (front_at now v)) (told_at v labels) new.dominated
+        ])
 
-      still_waits : WaitsAsMerged before waited after (λ (x : CompactSpot D). Contains more_waiting x × (¬ Contains more_removed x))
-      still_waits x = parts (arrived.waits x) (goes x) (comes x) (unsettled_costs (merges.merged v) (merged_apart _ _ _ (arrived.merged.merged v)) (spares v) x.cost.0)
-          (λ removed. removed.dominated) (λ h by. record { old = h.entry; dominated = by }) (λ removed. removed.old) (arrived.gone x) new_cost where
-            v : ℕ
-            v = x.node.0
+    still_waits : WaitsAsMerged before waited after (λ (x : CompactSpot D). Contains more_waiting x × (¬ Contains more_removed x))
+    still_waits x = parts (arrived.waits x) (goes x) (comes x) (unsettled_costs (merges.merged v) (merged_apart _ _ _ (arrived.merged.merged v)) (spares v) x.cost.0)
+        (λ removed. removed.dominated) (λ h by. record { old = h.entry; dominated = by }) (λ removed. removed.old) (arrived.gone x) new_cost where
+          v : ℕ
+          v = x.node.0
 
-            new_cost : HasAdded (front_at now v) (told_at v labels) x.cost.0
-                → (¬ HasCost (entries (front_at now v)) x.cost.0) × (¬ IsDominated (entries (front_at now v)) x.cost.0)
-                × (¬ HasCost (entries (front_at before v)) x.cost.0)
-            new_cost h =
-                let (none, undominated) = added_is_new (merges.merged v) x.cost.0 h in
-                let old = cost_after (arrived.merged.merged v) x.cost.0 in
-                (none, undominated, λ has. none (old has undominated))
+          new_cost : HasAdded (front_at now v) (told_at v labels) x.cost.0
+              → (¬ HasCost (entries (front_at now v)) x.cost.0) × (¬ IsDominated (entries (front_at now v)) x.cost.0)
+              × (¬ HasCost (entries (front_at before v)) x.cost.0)
+          new_cost h =
+              let (none, undominated) = added_is_new (merges.merged v) x.cost.0 h in
+              let old = cost_after (arrived.merged.merged v) x.cost.0 in
+              (none, undominated, λ has. none (old has undominated))
 
-            parts : {W R U S X R' W' U' A G K H B : Type 0} → ((W × (¬ R)) ↔ (U × (S ⊎ (¬ B)))) → (R' ↔ (R ⊎ X)) → (W' ↔ (W ⊎ A))
-                → (U' ↔ ((U × (¬ G)) ⊎ A)) → (X → G) → (U → G → X) → (X → H) → (R → K) → (A → (¬ H) × (¬ K) × (¬ B))
-                → ((W' × (¬ R')) ↔ (U' × (S ⊎ (¬ B))))
-            parts w r w' u x_g g_x x_h r_k a = grind arith
+          parts : {W R U S X R' W' U' A G K H B : Type 0} → ((W × (¬ R)) ↔ (U × (S ⊎ (¬ B)))) → (R' ↔ (R ⊎ X)) → (W' ↔ (W ⊎ A))
+              → (U' ↔ ((U × (¬ G)) ⊎ A)) → (X → G) → (U → G → X) → (X → H) → (R → K) → (A → (¬ H) × (¬ K) × (¬ B))
+              → ((W' × (¬ R')) ↔ (U' × (S ⊎ (¬ B))))
+          parts w r w' u x_g g_x x_h r_k a = grind arith
 
-      pub more_arrived : HaveArrived before waited (first ++ labels) after more_waiting more_removed
-      more_arrived = record {
-        nodes = nodes ∙ arrived.nodes;
-        merged = record { merged = λ v. rw (told_append v first labels) (merged_then _ _ _ _ _ (arrived.merged.merged v) (merges.merged v)) };
-        gone = still_gone;
-        waits = still_waits;
-      }
+    pub more_arrived : HaveArrived before waited (first ++ labels) after more_waiting more_removed
+    more_arrived = record {
+      nodes = nodes ∙ arrived.nodes;
+      merged = record { merged = λ v. rw (told_append v first labels) (merged_then _ _ _ _ _ (arrived.merged.merged v) (merges.merged v)) };
+      gone = still_gone;
+      waits = still_waits;
+    }
 
 -- ---- one label
 
@@ -237,7 +235,7 @@ module _ {D : ℕ} where
     at_node = each_in (λ (s : CompactSpot D). s.node.0 ≡ v) grows.more grows.node
 
   -- what is so of the label's node and entry, and of all others and none, is so of each node and what the label tells of it
-  at_each : (l : CompactLabel D) (P : ℕ → List Entry → Type 0) → P l.node.0 (entry_of l ∷ []) → ((v : ℕ) → v ≢ l.node.0 → P v [])
+  pub at_each : (l : CompactLabel D) (P : ℕ → List Entry → Type 0) → P l.node.0 (entry_of l ∷ []) → ((v : ℕ) → v ≢ l.node.0 → P v [])
       → (v : ℕ) → P v (told_at v (l ∷ []))
   at_each l P here others v = elim (cases_number v l.node.0) [
     | inl same ↦ subst (P v) (sym (at_push v [] l (sym same))) (subst (λ u. P u (entry_of l ∷ [])) (sym same) here)

@@ -13,25 +13,20 @@ use Rattle.round_core.specs.Begins.{BeginsAs, CountsRound, DropsUseless}
 use Rattle.round_core.specs.Cores.{Core, SameSearch}
 use Rattle.round_core.specs.Taking.{DropsBarred, IsBarred, KeepsWaiting, TakesAs}
 use Rattle.round_core.specs.Unsettled.{HasUnsettled}
-use Rattle.round_core.proofs.BegunLemmas.{drops_kept, has_begun, passes, some_stay}
+use Rattle.round_core.proofs.BegunLemmas.{drops_kept, has_begun, passes, same_on, some_stay}
 
 -- a list that isn't empty has a member
 some_member : {X : Type 0} (xs : List X) → xs ≢ [] → (x : X) × Contains xs x
 some_member [] not = absurd (not refl)
 some_member (x ∷ xs) not = (x, in_first x xs)
 
--- searches that are the same as a third
-same_on : {D : ℕ} (before mid after : Core D) → SameSearch before mid → SameSearch mid after → SameSearch before after
-same_on before mid after first second = grind arith
-
 -- what is left isn't barred
 pub none_barred : {D : ℕ} (before mid : Core D) → DropsBarred before mid → All (λ (x : CompactSpot D). ¬ IsBarred mid x.cost.0) mid.waiting
 none_barred {D} before mid drops = all_from_in (λ (x : CompactSpot D). ¬ IsBarred mid x.cost.0) mid.waiting
     (λ x waits barred. ((drops.waiting x).0 waits).free (as_before x.cost.0 barred)) where
       as_before : (c : List ℕ) → IsBarred mid c → IsBarred before c
-      as_before c (inl beyond) = inl (subst (λ (limit : List (Option ℕ)). ¬ Within limit c) drops.same_search.limit beyond)
-      as_before c (inr by) = inr (subst (λ t. IsDominated (front_at before.fronts t).settled c) drops.same_search.target
-          (subst (λ (f : Fronts). IsDominated (front_at f mid.target).settled c) drops.fronts by))
+      as_before c (inl beyond) = inl (rw drops.same_search.limit at beyond)
+      as_before c (inr by) = inr (rw (drops.same_search.target, drops.fronts) at by)
 
 -- where none was left, no step was counted
 pub counts_none : {D : ℕ} (before : Core D) (steps : ℕ) → CountsRound before (Ok Done) steps steps

@@ -5,7 +5,7 @@ use Rattle.std.proofs.lemmas.List.{length-append, length-map}
 use Rattle.list_laws.specs.Sets.{HasMoreThan}
 use Rattle.list_laws.proofs.Ascending.{ascending_distinct}
 use Rattle.list_laws.proofs.Members.{each_in, in_map, of_map}
-use Rattle.list_laws.proofs.OnceLaws.{empty_if_none, in_append, list_all, more_of_map, pairs_append}
+use Rattle.list_laws.proofs.OnceLaws.{alike_through, empty_if_none, in_append, list_all, more_of_map, pairs_append}
 use Rattle.list_laws.proofs.Pairs.{pairs_map, pigeonhole}
 use Rattle.list_laws.proofs.SetLaws.{more_by_list, none_of_empty, same_by_permutation}
 use Rattle.compact_labels.specs.declared.label.CompactSpot.{CompactSpot}
@@ -22,7 +22,7 @@ use Rattle.pareto_queue.specs.Queues.{SpotLess, TakesUndominated}
 use Rattle.pareto_queue.proofs.OrderLemmas.{SpotLess-irrefl, SpotLess-trans}
 use Rattle.node_front.specs.NodeFronts.{Fronts, front_at}
 use Rattle.round_core.specs.Begins.{DropsUseless, HasBegun, HasEnded, PassesBudget, SomeStay}
-use Rattle.round_core.specs.Cores.{Core, IsAt, as_entry, as_spot}
+use Rattle.round_core.specs.Cores.{Core, IsAt, SameSearch, as_entry, as_spot}
 use Rattle.round_core.specs.Taking.{DropsBarred, IsBarred, IsNextIn, KeepsWaiting, SettlesAll, StaysIn, TakesNext, WouldPass}
 use Rattle.round_core.specs.Unsettled.{CountsSettled, HasUnsettled, IsUnsettled}
 use Rattle.round_core.proofs.BarredLemmas.{barred_told, drop_told, label_next, label_stays, next_told, told_barred}
@@ -38,10 +38,14 @@ waiting_not_dropped same = cc
 
 -- a spot stays by its parts
 stays_parts : {D : ℕ} (core : Core D) (x : CompactSpot D) → StaysIn core x ↔ (Contains core.waiting x × (¬ IsBarred core x.cost.0))
-stays_parts core x = (λ h. (h.waits, h.free), λ h. record { waits = h.0; free = h.1 })
+stays_parts core x = grind arith
 
 pair_by_spot : {D : ℕ} (x y : Label) → as_spot {D = D} x ≡ as_spot y → IsSamePair x y
-pair_by_spot {D} x y same = record { node = ap (λ (z : CompactSpot D). z.node.0) same; cost = ap (λ (z : CompactSpot D). z.cost.0) same }
+pair_by_spot x y same = grind arith
+
+-- searches that are the same as a third
+pub same_on : {D : ℕ} (before mid after : Core D) → SameSearch before mid → SameSearch mid after → SameSearch before after
+same_on before mid after first second = grind arith
 
 -- ---- between rounds
 
@@ -110,12 +114,9 @@ module _ {D : ℕ} (task : Task) (before : Core D) (s : SearchState) (none : bef
       search = same_task task before after drops.same_search at.search;
       reached = reached_by_drops left all;
       stands = record {
-        settled = λ y. subst (λ (f : Fronts). Contains left.settled y ↔ Contains (front_at f y.node).settled (as_entry y)) (sym drops.fronts)
-            (stands_settled y);
-        dropped = λ y. subst (λ (f : Fronts). Contains left.dropped y ↔ (IsUnsettled (front_at f y.node) (as_entry y) × (¬ Contains after.waiting (as_spot y))))
-            (sym drops.fronts) (stands_dropped y);
-        waiting = λ y. subst (λ (f : Fronts). Contains left.waiting y ↔ (IsUnsettled (front_at f y.node) (as_entry y) × Contains after.waiting (as_spot y)))
-            (sym drops.fronts) (stands_waiting y);
+        settled = λ y. rw drops.fronts (stands_settled y);
+        dropped = λ y. rw drops.fronts (stands_dropped y);
+        waiting = λ y. rw drops.fronts (stands_waiting y);
         unrelaxed = λ p. (
           λ h. elim ((all.unrelaxed p).0 h) [ inl old ↦ absurd (none_unrelaxed p old) | inr new ↦ absurd new.1 ],
           λ h. absurd (none_of_empty after.taken drops.none_taken (as_spot p.0) h.1),
@@ -133,20 +134,12 @@ module _ {D : ℕ} (before mid : Core D) (drops : DropsBarred before mid) where
   -- what is kept waiting is dropped the same
   pub drops_kept : (after : Core D) → KeepsWaiting mid after → DropsUseless before after
   drops_kept after keeps task s left at all = at_left task before s drops.was_none at after (record {
-    same_search = record {
-      start = keeps.same_search.start ∙ drops.same_search.start;
-      target = keeps.same_search.target ∙ drops.same_search.target;
-      limit = keeps.same_search.limit ∙ drops.same_search.limit;
-      budget = keeps.same_search.budget ∙ drops.same_search.budget;
-      nodes = keeps.same_search.nodes ∙ drops.same_search.nodes;
-    };
+    same_search = same_on before mid after drops.same_search keeps.same_search;
     fronts = keeps.fronts ∙ drops.fronts;
-    waiting = λ x. through (keeps.waiting x) (drops.waiting x);
+    waiting = λ x. alike_through (keeps.waiting x) (drops.waiting x);
     was_none = drops.was_none;
     none_taken = keeps.none_taken;
-  }) left all where
-    through : {A B C : Type 0} → (A ↔ B) → (B ↔ C) → (A ↔ C)
-    through f g = (λ a. g.0 (f.0 a), λ x. f.1 (g.1 x))
+  }) left all
 
   -- where none is left, all were barred
   barred_if_gone : mid.waiting ≡ [] → (x : CompactSpot D) → Contains before.waiting x → IsBarred before x.cost.0
@@ -169,7 +162,7 @@ module _ {D : ℕ} (before mid : Core D) (drops : DropsBarred before mid) where
 
   module _ (unsettled : (x : CompactSpot D) → Contains mid.waiting x → HasUnsettled (front_at mid.fronts x.node.0) x.cost.0) where
     stays_unsettled : (x : CompactSpot D) → StaysIn before x → HasUnsettled (front_at before.fronts x.node.0) x.cost.0
-    stays_unsettled x stays = subst (λ (f : Fronts). HasUnsettled (front_at f x.node.0) x.cost.0) drops.fronts (unsettled x ((drops.waiting x).1 stays))
+    stays_unsettled x stays = rw drops.fronts at (unsettled x ((drops.waiting x).1 stays))
 
     pub some_stay : (x : CompactSpot D) → Contains mid.waiting x → SomeStay before
     some_stay x waits =
@@ -193,11 +186,8 @@ module _ {D : ℕ} (before mid : Core D) (drops : DropsBarred before mid) where
 
     module _ (took rest : List (CompactSpot D)) (takes : TakesUndominated mid.waiting took rest) (count : ℕ) (counts : CountsSettled D mid.fronts count)
         (task : Task) (s next : SearchState) (at : IsAt task before s) (begun : IsBegun task s next) where
-      all_spots : List (CompactSpot D)
-      all_spots = counts.spots ++ took
-
       settled_spot : (x : CompactSpot D) → Contains counts.spots x ↔ HasCost (front_at before.fronts x.node.0).settled x.cost.0
-      settled_spot x = subst (λ (f : Fronts). Contains counts.spots x ↔ HasCost (front_at f x.node.0).settled x.cost.0) drops.fronts (counts.once.exact x)
+      settled_spot x = rw drops.fronts at (counts.once.exact x)
 
       spots_once : AllPairs ◌≢◌ (counts.spots ++ took)
       spots_once = pairs_append ◌≢◌ counts.spots took counts.once.once (ascending_distinct SpotLess SpotLess-irrefl SpotLess-trans took takes.ascending)
@@ -251,14 +241,14 @@ module _ {D : ℕ} (before mid : Core D) (drops : DropsBarred before mid) where
     passes x waits would = record {
       some_stay = some_stay x waits;
       more = λ task s next at begun. more_then would.took would.rest would.taken would.count would.counts task s next at begun before.budget
-          (subst (λ b. b < would.count + length would.took) drops.same_search.budget would.beyond);
+          (rw drops.same_search.budget at would.beyond);
     }
 
     -- ---- the round has begun
 
     module _ (after : Core D) (takes : TakesNext mid after) where
       settles : SettlesAll before.fronts after.taken after.fronts
-      settles = subst (λ (f : Fronts). SettlesAll f after.taken after.fronts) drops.fronts takes.settled
+      settles = rw drops.fronts at takes.settled
 
       is_next : (x : CompactSpot D) → Contains after.taken x ↔ IsNextIn before x
       is_next = next_in after.taken after.waiting takes.taken
@@ -383,8 +373,7 @@ module _ {D : ℕ} (before mid : Core D) (drops : DropsBarred before mid) where
 
       pub has_begun : (x : CompactSpot D) → Contains mid.waiting x → HasBegun before after
       has_begun x waits =
-          let within : takes.count + length after.taken ≤ before.budget =
-          subst (λ b. takes.count + length after.taken ≤ b) drops.same_search.budget takes.within in
+          let within : takes.count + length after.taken ≤ before.budget = rw drops.same_search.budget at takes.within in
           record {
             some_stay = some_stay x waits;
             ascending = takes.taken.ascending;

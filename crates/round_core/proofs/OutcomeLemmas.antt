@@ -124,9 +124,6 @@ module _ {D : ℕ} (task : Task) (before after : Core D) (s end : SearchState) (
   -- ---- the core after the merge
 
   module _ (merges : MergesRound candidates before after) (outcome : IsOutcome task.network s end) where
-    after_apart : (v : ℕ) → AreApart (entries (front_at after.fronts v))
-    after_apart v = merged_apart (front_at before.fronts v) (front_at after.fronts v) (told_at v candidates) (merges.fronts.merged v)
-
     survives_after : (y : Label) → Survives task.network s y ↔ Contains (entries (front_at after.fronts y.node)) (as_entry y)
     survives_after y = alike_through (survives_told y) (alike_back ((merges.fronts.merged y.node).entries (as_entry y)))
 
@@ -143,7 +140,7 @@ module _ {D : ℕ} (task : Task) (before after : Core D) (s end : SearchState) (
 
     stands_settled : (y : Label) → Contains end.settled y ↔ Contains (front_at after.fronts y.node).settled (as_entry y)
     stands_settled y = both (outcome.entries settled y) (settled_pair y) (survives_after y) (settled_after y)
-        (settled_by_cost (front_at after.fronts y.node) (as_entry y) (after_apart y.node)) where
+        (settled_by_cost (front_at after.fronts y.node) (as_entry y) (merged_apart _ _ _ (merges.fronts.merged y.node))) where
           both : {A S P B E G H : Type 0} → (A ↔ (S × P)) → (P ↔ B) → (S ↔ E) → (S → (G ↔ B)) → (H ↔ (E × G)) → (A ↔ H)
           both f p e g h = grind arith
 

@@ -86,8 +86,7 @@ module _ {D : ℕ} {none one : Fronts} (before after : Waiting D) (l : CompactLa
   one_came = record { entry = one_entry; unsettled = none_settled; waits = one_waits }
 
 module _ {D : ℕ} {l : CompactLabel D} {f : Fronts} where
-  -- ---- what is kept
-
+  -- what is kept then
   pub kept_at_start : {start target budget : ℕ} {bounds : Bounds D} {waiting : Waiting D} → HasOne l f (all_waiting waiting) → min_criteria ≤ D
       → D ≤ max_criteria → IsNode f.nodes start → IsNode f.nodes target → budget ≤ max_budget → bounds.front ≡ empty_front
       → ((x : CompactSpot D) → ¬ Contains waiting.queued x) → IsKept D start target budget bounds f waiting 0
@@ -114,39 +113,35 @@ module _ {D : ℕ} {l : CompactLabel D} {f : Fronts} where
     within = omega arith;
   }
 
-  -- ---- the start of each search
+-- ---- the start of each search
 
-  module _ {start : ℕ} (target budget : ℕ) (limit : List (Option ℕ)) {waiting taken : List (CompactSpot D)} (one : HasOne l f waiting)
-      (is : IsStartLabel start l) (none_taken : taken ≡ []) (task : Task) where
-    module _ (search : IsSearchOf task (record {
-      start = start; target = target; limit = limit; budget = budget; fronts = f; waiting = waiting; taken = taken
-    })) where
-      -- the label of the machine is the one that came
-      same_start : (y : Label) → (y ≡ start_label task) ↔ ((y.node ≡ l.node.0) × (as_entry y ≡ entry_of l))
-      same_start y = grind arith
+module _ {D : ℕ} {l : CompactLabel D} {core : Core D} (one : HasOne l core.fronts core.waiting) (is : IsStartLabel core.start l)
+    (none_taken : core.taken ≡ []) (task : Task) (search : IsSearchOf task core) where
+  -- the label of the machine is the one that came
+  same_start : (y : Label) → (y ≡ start_label task) ↔ ((y.node ≡ l.node.0) × (as_entry y ≡ entry_of l))
+  same_start y = grind arith
 
-      waits_there : (y : Label) → IsUnsettled (front_at f y.node) (as_entry y) → Contains waiting (as_spot y)
-      waits_there y not =
-          let (node, e) = (one.entry y.node (as_entry y)).0 not.entry in
-          (one.waits (as_spot y)).1 (spot_by_parts {D = D} (as_spot y) (spot_at l) node (ap (λ (x : Entry). x.cost) e))
+  waits_there : (y : Label) → IsUnsettled (front_at core.fronts y.node) (as_entry y) → Contains core.waiting (as_spot y)
+  waits_there y not =
+      let (node, e) = (one.entry y.node (as_entry y)).0 not.entry in
+      (one.waits (as_spot y)).1 (spot_by_parts {D = D} (as_spot y) (spot_at l) node (ap (λ (x : Entry). x.cost) e))
 
-      pub at_start : IsAt task
-          (record { start = start; target = target; limit = limit; budget = budget; fronts = f; waiting = waiting; taken = taken }) (start_state task)
-      at_start = record {
-        search = search;
-        reached = record { events = []; run = same_itself (start_state task) };
-        stands = record {
-          settled = λ y. (λ h. absurd (in_none y h), λ h. absurd (one.unsettled y.node y.cost (record { arc = y.arc; contains = h })));
-          dropped = λ y. (λ h. absurd (in_none y h), λ h. absurd (h.1 (waits_there y h.0)));
-          waiting = λ y. (
-            λ h.
-                let e = (one.entry y.node (as_entry y)).1 ((same_start y).0 (in_one (start_label task) y h)) in
-                let not : IsUnsettled (front_at f y.node) (as_entry y) = record { entry = e; unsettled = one.unsettled y.node y.cost } in
-                (not, waits_there y not),
-            λ h. in_front (start_label task) [] y ((same_start y).1 ((one.entry y.node (as_entry y)).0 h.0.entry)),
-          );
-          unrelaxed = λ p. (λ h. absurd (in_none p h), λ h. absurd (none_of_empty taken none_taken (as_spot p.0) h.1));
-          candidates = refl;
-          taken = λ x h. absurd (none_of_empty taken none_taken x h);
-        };
-      }
+  pub at_start : IsAt task core (start_state task)
+  at_start = record {
+    search = search;
+    reached = record { events = []; run = same_itself (start_state task) };
+    stands = record {
+      settled = λ y. (λ h. absurd (in_none y h), λ h. absurd (one.unsettled y.node y.cost (record { arc = y.arc; contains = h })));
+      dropped = λ y. (λ h. absurd (in_none y h), λ h. absurd (h.1 (waits_there y h.0)));
+      waiting = λ y. (
+        λ h.
+            let e = (one.entry y.node (as_entry y)).1 ((same_start y).0 (in_one (start_label task) y h)) in
+            let not : IsUnsettled (front_at core.fronts y.node) (as_entry y) = record { entry = e; unsettled = one.unsettled y.node y.cost } in
+            (not, waits_there y not),
+        λ h. in_front (start_label task) [] y ((same_start y).1 ((one.entry y.node (as_entry y)).0 h.0.entry)),
+      );
+      unrelaxed = λ p. (λ h. absurd (in_none p h), λ h. absurd (none_of_empty core.taken none_taken (as_spot p.0) h.1));
+      candidates = refl;
+      taken = λ x h. absurd (none_of_empty core.taken none_taken x h);
+    };
+  }

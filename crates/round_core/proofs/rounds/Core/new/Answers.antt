@@ -45,5 +45,5 @@ returns g c = record {
   limit_is = c.new-2.ensures.limit;
   budget_is = refl;
   none_taken = c.new-3.ensures.items;
-  stands = at_start c.args.target.0 c.args.budget c.new-2.result.limit (one g c) c.start_label-label.ensures c.new-3.ensures.items;
+  stands = at_start (one g c) c.start_label-label.ensures c.new-3.ensures.items;
 }

@@ -27,6 +27,7 @@ use Rattle.round_core.specs.Taking.{DropsBarred, IsBarred, IsNextIn, KeepsWaitin
 use Rattle.round_core.specs.Unsettled.{CountsSettled, HasUnsettled, IsUnsettled}
 use Rattle.round_core.proofs.BarredLemmas.{barred_told, drop_told, label_next, label_stays, next_told, told_barred}
 use Rattle.round_core.proofs.OutcomeLemmas.{same_task}
+use Rattle.round_core.proofs.SettlingLemmas.{unsettled_then}
 use Rattle.round_core.proofs.UnsettledLemmas.{told_spot}
 
 -- places differ
@@ -42,6 +43,16 @@ stays_parts core x = grind arith
 
 pair_by_spot : {D : ℕ} (x y : Label) → as_spot {D = D} x ≡ as_spot y → IsSamePair x y
 pair_by_spot x y same = grind arith
+
+-- What becomes of a label by what holds of it: it may be dropped (M) or is next (N), its entry is unsettled before (U) and after (V),
+-- its spot waits before (W) and after (X), is barred (B), and is taken (T).
+module _ {M N U V W X B T : Type 0} (m : M ↔ (U × (W × B))) (n : N ↔ (U × T)) (v : V ↔ (U × (¬ T))) (x : X ↔ ((W × (¬ B)) × (¬ T))) where
+  drops_by_parts : {A S Q R : Type 0} → (A ↔ ((S × (¬ M) × (¬ N)) ⊎ ((Q × M) ⊎ (R × N)))) → Q → ¬ R → (S ↔ (U × (¬ W))) → (T → W × (¬ B))
+      → (W ⊎ (¬ W)) → (B ⊎ (¬ B)) → (A ↔ (V × (¬ X)))
+  drops_by_parts a q r s t told told_too = grind arith
+
+  waits_by_parts : {A S Q R : Type 0} → (A ↔ ((S × (¬ M) × (¬ N)) ⊎ ((Q × M) ⊎ (R × N)))) → ¬ Q → ¬ R → (S ↔ (U × W)) → (A ↔ (V × X))
+  waits_by_parts a q r s = grind arith
 
 -- searches that are the same as a third
 pub same_on : {D : ℕ} (before mid after : Core D) → SameSearch before mid → SameSearch mid after → SameSearch before after
@@ -256,29 +267,9 @@ module _ {D : ℕ} (before mid : Core D) (drops : DropsBarred before mid) where
       taken_unsettled : (x : CompactSpot D) → Contains after.taken x → HasUnsettled (front_at before.fronts x.node.0) x.cost.0
       taken_unsettled x there = stays_unsettled x ((is_next x).0 there).stays
 
-      -- what isn't settled afterwards wasn't before, and wasn't taken
-      unsettled_then : (y : Label) → IsUnsettled (front_at after.fronts y.node) (as_entry y)
+      left_unsettled : (y : Label) → IsUnsettled (front_at after.fronts y.node) (as_entry y)
           ↔ (IsUnsettled (front_at before.fronts y.node) (as_entry y) × (¬ Contains after.taken (as_spot y)))
-      unsettled_then y = (
-        λ not.
-            let entry = (settles.same_entries y.node (as_entry y)).0 not.entry in (
-              record {
-                entry = entry;
-                unsettled = λ has. not.unsettled (record {
-                  arc = has.arc;
-                  contains = (settles.settled y.node (record { cost = y.cost; arc = has.arc })).1 (inl has.contains);
-                });
-              },
-              λ taken. not.unsettled (record { arc = y.arc; contains = (settles.settled y.node (as_entry y)).1 (inr (entry, taken)) }),
-            ),
-        λ h. record {
-          entry = (settles.same_entries y.node (as_entry y)).1 h.0.entry;
-          unsettled = λ has. elim ((settles.settled y.node (record { cost = y.cost; arc = has.arc })).0 has.contains) [
-            | inl old ↦ h.0.unsettled (record { arc = has.arc; contains = old })
-            | inr new ↦ h.1 new.1
-          ];
-        },
-      )
+      left_unsettled y = unsettled_then before.fronts after.fronts after.taken settles y.node (as_entry y)
 
       module _ (task : Task) (s next : SearchState) (at : IsAt task before s) (begun : IsBegun task s next) where
         next_taken : (y : Label) → IsNext task s y ↔ (IsUnsettled (front_at before.fronts y.node) (as_entry y) × Contains after.taken (as_spot y))
@@ -309,32 +300,13 @@ module _ {D : ℕ} (before mid : Core D) (drops : DropsBarred before mid) where
 
         begun_dropped : (y : Label) → Contains next.dropped y
             ↔ (IsUnsettled (front_at after.fronts y.node) (as_entry y) × (¬ Contains after.waiting (as_spot y)))
-        begun_dropped y = both (begun.entries dropped y) refl (λ wrong. cc) (at.stands.dropped y) (drop_told task before s at y) (next_taken y)
-            (unsettled_then y) (waits_then y) (taken_waits y) (told_spot before.waiting (as_spot y)) (told_barred before y.cost) where
-              both : {A S M N Q R U W B T V X : Type 0} → (A ↔ ((S × (¬ M) × (¬ N)) ⊎ ((Q × M) ⊎ (R × N)))) → Q → ¬ R → (S ↔ (U × (¬ W)))
-                  → (M ↔ (U × (W × B))) → (N ↔ (U × T)) → (V ↔ (U × (¬ T))) → (X ↔ ((W × (¬ B)) × (¬ T))) → (T → W × (¬ B)) → (W ⊎ (¬ W)) → (B ⊎ (¬ B))
-                  → (A ↔ (V × (¬ X)))
-              both a q r s m n v x t told told_too = grind arith
+        begun_dropped y = drops_by_parts (drop_told task before s at y) (next_taken y) (left_unsettled y) (waits_then y) (begun.entries dropped y)
+            refl (λ wrong. cc) (at.stands.dropped y) (taken_waits y) (told_spot before.waiting (as_spot y)) (told_barred before y.cost)
 
         begun_waiting : (y : Label) → Contains next.waiting y
             ↔ (IsUnsettled (front_at after.fronts y.node) (as_entry y) × Contains after.waiting (as_spot y))
-        begun_waiting y = both (begun.entries waiting y) waiting_not_dropped (λ wrong. cc) (at.stands.waiting y) (drop_told task before s at y) (next_taken y)
-            (unsettled_then y) (waits_then y) where
-              both : {A S M N Q R U W B T V X : Type 0} → (A ↔ ((S × (¬ M) × (¬ N)) ⊎ ((Q × M) ⊎ (R × N)))) → ¬ Q → ¬ R → (S ↔ (U × W))
-                  → (M ↔ (U × (W × B))) → (N ↔ (U × T)) → (V ↔ (U × (¬ T))) → (X ↔ ((W × (¬ B)) × (¬ T))) → (A ↔ (V × X))
-              both a q r s m n v x = (
-                λ there. elim (a.0 there) [
-                  | inl (old, no_drop, not_next) ↦
-                      let (u, w) = s.0 old in
-                      (v.1 (u, λ t. not_next (n.1 (u, t))), x.1 ((w, λ b. no_drop (m.1 (u, (w, b)))), λ t. not_next (n.1 (u, t))))
-                  | inr (inl z) ↦ absurd (q z.0)
-                  | inr (inr z) ↦ absurd (r z.0)
-                ],
-                λ h.
-                    let (u, no_t) = v.0 h.0 in
-                    let ((w, no_b), _) = x.0 h.1 in
-                    a.1 (inl (s.1 (u, w), λ may. no_b (m.0 may).1.1, λ is. no_t (n.0 is).1)),
-              )
+        begun_waiting y = waits_by_parts (drop_told task before s at y) (next_taken y) (left_unsettled y) (waits_then y) (begun.entries waiting y)
+            waiting_not_dropped (λ wrong. cc) (at.stands.waiting y)
 
         begun_taken : (x : CompactSpot D) → Contains after.taken x → (y : Label) × Contains next.settled y × (as_spot y ≡ x)
         begun_taken x there =

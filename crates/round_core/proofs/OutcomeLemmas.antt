@@ -25,7 +25,7 @@ use Rattle.node_front.proofs.RoundLemmas.{of_at}
 use Rattle.round_core.specs.Cores.{Core, IsAt, IsSearchOf, SameSearch, StandsFor, as_compact, as_entry, as_spot}
 use Rattle.round_core.specs.Finishes.{AreArrivals, FinishesRound, MergesRound}
 use Rattle.round_core.specs.Unsettled.{HasUnsettled, IsUnsettled}
-use Rattle.round_core.proofs.UnsettledLemmas.{cases_settled, dominated_by_second, settled_by_cost, spot_by_parts, told_spot}
+use Rattle.round_core.proofs.UnsettledLemmas.{cases_settled, dominated_by_second, has_unsettled_parts, settled_by_cost, spot_by_parts, told_spot}
 
 -- a label of a list tells its entry at its node
 pub in_at : {D : ℕ} (ls : List (CompactLabel D)) (l : CompactLabel D) → Contains ls l → Contains (told_at l.node.0 ls) (entry_of l)
@@ -159,13 +159,10 @@ module _ {D : ℕ} (task : Task) (before after : Core D) (s end : SearchState) (
       λ h. (merges.waiting (as_spot y)).1 (record { entry = record { arc = y.arc; contains = not.entry }; unsettled = not.unsettled }, h),
     )
 
-    unsettled_parts : (f : Front) (c : List ℕ) → HasUnsettled f c ↔ (HasCost (entries f) c × (¬ HasCost f.settled c))
-    unsettled_parts f c = grind arith
-
     stands_dropped : (y : Label) → Contains end.dropped y
         ↔ (IsUnsettled (front_at after.fronts y.node) (as_entry y) × (¬ Contains after.waiting (as_spot y)))
     stands_dropped y = both (outcome.entries dropped y) (dropped_pair y) (unsettled_told y) (waits_told y)
-        (unsettled_parts (front_at before.fronts y.node) y.cost) (told_has_cost (entries (front_at before.fronts y.node)) y.cost) where
+        (has_unsettled_parts (front_at before.fronts y.node) y.cost) (told_has_cost (entries (front_at before.fronts y.node)) y.cost) where
           both : {A S P U W V B N H : Type 0} → (A ↔ (S × P)) → (P ↔ (U × (¬ W))) → (V ↔ (S × (¬ B))) → (V → (N ↔ (W ⊎ (¬ H)))) → (U ↔ (H × (¬ B)))
               → (H ⊎ (¬ H)) → (A ↔ (V × (¬ N)))
           both f p v n u told = grind arith
@@ -173,7 +170,7 @@ module _ {D : ℕ} (task : Task) (before after : Core D) (s end : SearchState) (
     stands_waiting : (y : Label) → Contains end.waiting y
         ↔ (IsUnsettled (front_at after.fronts y.node) (as_entry y) × Contains after.waiting (as_spot y))
     stands_waiting y = both (outcome.entries waiting y) (settled_pair y) (dropped_pair y) (unsettled_told y) (waits_told y)
-        (unsettled_parts (front_at before.fronts y.node) y.cost) (told_has_cost (entries (front_at before.fronts y.node)) y.cost)
+        (has_unsettled_parts (front_at before.fronts y.node) y.cost) (told_has_cost (entries (front_at before.fronts y.node)) y.cost)
         (told_spot before.waiting (as_spot y)) where
           both : {A S P Q U W V B N H : Type 0} → (A ↔ (S × ((¬ Q) × (¬ P)))) → (Q ↔ B) → (P ↔ (U × (¬ W))) → (V ↔ (S × (¬ B)))
               → (V → (N ↔ (W ⊎ (¬ H)))) → (U ↔ (H × (¬ B))) → (H ⊎ (¬ H)) → (W ⊎ (¬ W)) → (A ↔ (V × N))

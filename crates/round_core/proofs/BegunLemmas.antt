@@ -26,7 +26,7 @@ use Rattle.round_core.specs.Cores.{Core, IsAt, SameSearch, as_entry, as_spot}
 use Rattle.round_core.specs.Taking.{DropsBarred, IsBarred, IsNextIn, KeepsWaiting, SettlesAll, StaysIn, TakesNext, WouldPass}
 use Rattle.round_core.specs.Unsettled.{CountsSettled, HasUnsettled, IsUnsettled}
 use Rattle.round_core.proofs.BarredLemmas.{barred_told, drop_told, label_next, label_stays, next_told, told_barred}
-use Rattle.round_core.proofs.OutcomeLemmas.{same_task}
+use Rattle.round_core.proofs.OutcomeLemmas.{reached_on, same_task}
 use Rattle.round_core.proofs.SettlingLemmas.{unsettled_then}
 use Rattle.round_core.proofs.UnsettledLemmas.{told_spot}
 
@@ -37,9 +37,14 @@ settled_not_dropped same = cc
 waiting_not_dropped : ¬ (waiting ≡ dropped)
 waiting_not_dropped same = cc
 
--- a spot stays by its parts
-stays_parts : {D : ℕ} (core : Core D) (x : CompactSpot D) → StaysIn core x ↔ (Contains core.waiting x × (¬ IsBarred core x.cost.0))
-stays_parts core x = grind arith
+-- what waits after the drops waited, and isn't barred
+left_waiting : {D : ℕ} (before after : Core D) (drops : DropsBarred before after) (x : CompactSpot D)
+    → Contains after.waiting x ↔ (Contains before.waiting x × (¬ IsBarred before x.cost.0))
+left_waiting before after drops x = alike_through (drops.waiting x) (λ h. (h.waits, h.free), λ h. record { waits = h.0; free = h.1 })
+
+-- a conjunction, of which a part is told otherwise
+and_alike : {A B C E : Type 0} → (A ↔ (B × C)) → (B ↔ E) → (A ↔ (E × C))
+and_alike f g = grind arith
 
 pair_by_spot : {D : ℕ} (x y : Label) → as_spot {D = D} x ≡ as_spot y → IsSamePair x y
 pair_by_spot x y same = grind arith
@@ -79,41 +84,29 @@ module _ {D : ℕ} (task : Task) (before : Core D) (s : SearchState) (none : bef
   reached_by_drops : (left : SearchState) → DropsAll task s left → IsReached task left
   reached_by_drops left all =
       let (drops, each) = list_all cases_label (MayDrop task s) (told_may_drop task s) s.waiting (λ l may. may.waits) in
-      let run = ((all_drops task s sound drops each).1 left).1 all in
-      record {
-        events = at.reached.events ++ map (λ l. drop l) drops;
-        run = runs_on task (start_state task) s left at.reached.events
-            (map (λ l. drop l) drops) at.reached.run run;
-      }
+      reached_on task s left (map (λ l. drop l) drops) at.reached (((all_drops task s sound drops each).1 left).1 all)
 
   reached_by_begins : (next : SearchState) → IsBegun task s next → IsReached task next
   reached_by_begins next begun =
       let h = (begins_is_begun task at.search.is_task s sound between next).1 begun in
-      let first = map (λ l. drop l) h.drops in
-      let second = map (λ l. take l) h.takes in
-      let run = runs_on task s h.left next first second h.dropping h.taking in
-      record {
-        events = at.reached.events ++ (first ++ second);
-        run = runs_on task (start_state task) s next at.reached.events (first ++ second) at.reached.run
-            run;
-      }
+      reached_on task h.left next (map (λ l. take l) h.takes) (reached_on task s h.left (map (λ l. drop l) h.drops) at.reached h.dropping) h.taking
 
   module _ (after : Core D) (drops : DropsBarred before after) (left : SearchState) (all : DropsAll task s left) where
     stands_dropped : (y : Label) → Contains left.dropped y
         ↔ (IsUnsettled (front_at before.fronts y.node) (as_entry y) × (¬ Contains after.waiting (as_spot y)))
-    stands_dropped y = both (all.entries dropped y) refl (at.stands.dropped y) (drop_told task before s at y) (drops.waiting (as_spot y))
-        (stays_parts before (as_spot y)) (told_spot before.waiting (as_spot y)) (told_barred before y.cost) where
-          both : {A S M Q U W B V N : Type 0} → (A ↔ ((S × (¬ M)) ⊎ (Q × M))) → Q → (S ↔ (U × (¬ W))) → (M ↔ (U × (W × B))) → (V ↔ N)
-              → (N ↔ (W × (¬ B))) → (W ⊎ (¬ W)) → (B ⊎ (¬ B)) → (A ↔ (U × (¬ V)))
-          both a q s m v n told told_too = grind arith
+    stands_dropped y = both (all.entries dropped y) refl (at.stands.dropped y) (drop_told task before s at y) (left_waiting before after drops (as_spot y))
+        (told_spot before.waiting (as_spot y)) (told_barred before y.cost) where
+          both : {A S M Q U W B V : Type 0} → (A ↔ ((S × (¬ M)) ⊎ (Q × M))) → Q → (S ↔ (U × (¬ W))) → (M ↔ (U × (W × B))) → (V ↔ (W × (¬ B)))
+              → (W ⊎ (¬ W)) → (B ⊎ (¬ B)) → (A ↔ (U × (¬ V)))
+          both a q s m v told told_too = grind arith
 
     stands_waiting : (y : Label) → Contains left.waiting y
         ↔ (IsUnsettled (front_at before.fronts y.node) (as_entry y) × Contains after.waiting (as_spot y))
-    stands_waiting y = both (all.entries waiting y) waiting_not_dropped (at.stands.waiting y) (drop_told task before s at y) (drops.waiting (as_spot y))
-        (stays_parts before (as_spot y)) where
-          both : {A S M Q U W B V N : Type 0} → (A ↔ ((S × (¬ M)) ⊎ (Q × M))) → ¬ Q → (S ↔ (U × W)) → (M ↔ (U × (W × B))) → (V ↔ N)
-              → (N ↔ (W × (¬ B))) → (A ↔ (U × V))
-          both a q s m v n = grind arith
+    stands_waiting y = both (all.entries waiting y) waiting_not_dropped (at.stands.waiting y) (drop_told task before s at y)
+        (left_waiting before after drops (as_spot y)) where
+          both : {A S M Q U W B V : Type 0} → (A ↔ ((S × (¬ M)) ⊎ (Q × M))) → ¬ Q → (S ↔ (U × W)) → (M ↔ (U × (W × B))) → (V ↔ (W × (¬ B)))
+              → (A ↔ (U × V))
+          both a q s m v = grind arith
 
     stands_settled : (y : Label) → Contains left.settled y ↔ Contains (front_at before.fronts y.node).settled (as_entry y)
     stands_settled y = both (all.entries settled y) settled_not_dropped (at.stands.settled y) (λ there may. settled_not_waiting y there may.waits) where
@@ -269,7 +262,7 @@ module _ {D : ℕ} (before mid : Core D) (drops : DropsBarred before mid) where
 
       left_unsettled : (y : Label) → IsUnsettled (front_at after.fronts y.node) (as_entry y)
           ↔ (IsUnsettled (front_at before.fronts y.node) (as_entry y) × (¬ Contains after.taken (as_spot y)))
-      left_unsettled y = unsettled_then before.fronts after.fronts after.taken settles y.node (as_entry y)
+      left_unsettled y = unsettled_then settles y.node (as_entry y)
 
       module _ (task : Task) (s next : SearchState) (at : IsAt task before s) (begun : IsBegun task s next) where
         next_taken : (y : Label) → IsNext task s y ↔ (IsUnsettled (front_at before.fronts y.node) (as_entry y) × Contains after.taken (as_spot y))
@@ -279,9 +272,7 @@ module _ {D : ℕ} (before mid : Core D) (drops : DropsBarred before mid) where
 
         waits_then : (y : Label) → Contains after.waiting (as_spot y)
             ↔ ((Contains before.waiting (as_spot y) × (¬ IsBarred before y.cost)) × (¬ Contains after.taken (as_spot y)))
-        waits_then y = both (takes.taken.rest (as_spot y)) (drops.waiting (as_spot y)) (stays_parts before (as_spot y)) where
-          both : {A M T N W B : Type 0} → (A ↔ (M × (¬ T))) → (M ↔ N) → (N ↔ (W × (¬ B))) → (A ↔ ((W × (¬ B)) × (¬ T)))
-          both f g h = grind arith
+        waits_then y = and_alike (takes.taken.rest (as_spot y)) (left_waiting before mid drops (as_spot y))
 
         taken_waits : (y : Label) → Contains after.taken (as_spot y) → Contains before.waiting (as_spot y) × (¬ IsBarred before y.cost)
         taken_waits y there = let stays = ((is_next (as_spot y)).0 there).stays in (stays.waits, stays.free)

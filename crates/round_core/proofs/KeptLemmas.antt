@@ -109,7 +109,7 @@ module _ {D : ℕ} {old took left : List (CompactSpot D)} (takes : TakesUndomina
 module _ {D : ℕ} (f g : Fronts) (xs : List (CompactSpot D)) (all : SettlesAll f xs g)
     (unsettled : (x : CompactSpot D) → Contains xs x → HasUnsettled (front_at f x.node.0) x.cost.0) where
   settled_spots : (x : CompactSpot D) → HasCost (front_at g x.node.0).settled x.cost.0 ↔ (Contains xs x ⊎ HasCost (front_at f x.node.0).settled x.cost.0)
-  settled_spots x = let c = costs_settled f g xs all x.node.0 x.cost.0 in
+  settled_spots x = let c = costs_settled all x.node.0 x.cost.0 in
       by c (λ there. (unsettled x there).entry) where
         by : {G F E X : Type 0} → (G ↔ (F ⊎ (E × X))) → (X → E) → (G ↔ (X ⊎ F))
         by c e = grind arith
@@ -135,10 +135,10 @@ module _ {D : ℕ} (f g : Fronts) (xs : List (CompactSpot D)) (all : SettlesAll 
     subst (λ m. IsNode m target) (sym all.nodes) kept.target_node,
     all_from_in (λ x. HasUnsettled (front_at g x.node.0) x.cost.0) (all_waiting v) (λ x there.
         let (waited, other, useful) = left x there in
-        unsettled_still f g xs all x.node.0 x.cost.0 other (each_in (λ y. HasUnsettled (front_at f y.node.0) y.cost.0) (all_waiting w) kept.waits x waited)),
+        unsettled_still all x.node.0 x.cost.0 other (each_in (λ y. HasUnsettled (front_at f y.node.0) y.cost.0) (all_waiting w) kept.waits x waited)),
     all_from_in (λ x. IsUseless n x.cost.0 → IsDominatedBy n.news x.cost.0) v.queued
         (λ x there. by_news x (left x ((in_append v.queued v.fresh x).1 (inl there))).2),
-    λ (u : ℕ). apart_still f g xs all u (kept.apart u),
+    λ (u : ℕ). apart_still all u (kept.apart u),
     counts_more settled once kept.counted,
   ) where
     by_news : (x : CompactSpot D) → ¬ IsUseless b x.cost.0 → IsUseless n x.cost.0 → IsDominatedBy n.news x.cost.0

@@ -7,7 +7,7 @@ use Rattle.list_laws.proofs.OnceLaws.{alike_back, alike_through, in_append}
 use Rattle.list_laws.proofs.SetLaws.{none_of_empty}
 use Rattle.compact_labels.specs.declared.label.CompactLabel.{CompactLabel}
 use Rattle.event_machine.specs.Machine.{Task, Label, SearchState, IsEntry, settled, dropped, waiting, start_state}
-use Rattle.event_machine.specs.Events.{Event, Runs, merge}
+use Rattle.event_machine.specs.Events.{Event, IsReached, Runs, merge}
 use Rattle.event_machine.specs.Rounds.{relaxing}
 use Rattle.event_machine.specs.Orders.{IsArrival, IsOutcome, Survives, HasPair}
 use Rattle.event_machine.proofs.Running.{runs_on}
@@ -189,6 +189,13 @@ module _ {D : ℕ} (task : Task) (before after : Core D) (s end : SearchState) (
       taken = λ x there. absurd (none_of_empty after.taken merges.none_taken x there);
     }
 
+-- what events lead to from a state that is reached is reached
+pub reached_on : (task : Task) (s next : SearchState) (events : List Event) → IsReached task s → Runs task s events next → IsReached task next
+reached_on task s next events reached run = record {
+  events = reached.events ++ events;
+  run = runs_on task (start_state task) s next reached.events events reached.run run;
+}
+
 -- a core of the same search searches for the same tasks
 pub same_task : {D : ℕ} (task : Task) (before after : Core D) → SameSearch before after → IsSearchOf task before → IsSearchOf task after
 same_task task before after same is = grind arith
@@ -210,9 +217,6 @@ finishes_by_merge {D} {candidates} {before} {after} apart merges = record {
       → IsOutcome task.network s end → Runs task s events end → IsAt task after end
   at_end task s end events at arrivals outcome run = record {
     search = same_task task before after merges.same_search at.search;
-    reached = record {
-      events = at.reached.events ++ events;
-      run = runs_on task (start_state task) s end at.reached.events events at.reached.run run;
-    };
+    reached = reached_on task s end events at.reached run;
     stands = stands_after task before after s end candidates at.stands apart arrivals merges outcome;
   }

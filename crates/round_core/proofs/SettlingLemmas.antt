@@ -36,7 +36,7 @@ costs_with xs ys zs Q is c = (
 
 -- ---- one entry is settled
 
-module _ (before after : Front) (c : List ℕ) (settles : Settles before c after) where
+module _ {before after : Front} {c : List ℕ} (settles : Settles before c after) where
   settled_entries : (e : Entry) → Contains after.settled e ↔ (Contains before.settled e ⊎ (Contains (entries before) e × (e.cost ≡ c)))
   settled_entries e = let s = settles.settled e in let a = in_append before.settled before.unsettled e in grind arith
 
@@ -60,7 +60,7 @@ module _ (before after : Front) (c : List ℕ) (settles : Settles before c after
       by a b s = grind arith
 
 -- a cost that isn't settled may come to the bounds
-module _ {D : ℕ} (b : Bounds D) (f : Front) (c : List ℕ) (are : AreBoundsOf b f) (apart : AreApart (entries f)) (has : HasUnsettled f c) where
+module _ {D : ℕ} (b : Bounds D) {f : Front} {c : List ℕ} (are : AreBoundsOf b f) (apart : AreApart (entries f)) (has : HasUnsettled f c) where
   abbrev mine : Entry
   mine = record { cost = c; arc = has.entry.arc }
 
@@ -83,11 +83,11 @@ module _ {D : ℕ} (b : Bounds D) (f : Front) (c : List ℕ) (are : AreBoundsOf 
 
 module _ {D : ℕ} where
   -- one more
-  module _ (f g h : Fronts) (xs : List (CompactSpot D)) (x : CompactSpot D) (all : SettlesAll f xs g) (elsewhere : SameElsewhere x.node.0 g h)
+  module _ {f g h : Fronts} {xs : List (CompactSpot D)} (x : CompactSpot D) (all : SettlesAll f xs g) (elsewhere : SameElsewhere x.node.0 g h)
       (settles : Settles (front_at g x.node.0) x.cost.0 (front_at h x.node.0)) where
     entries_kept : (v : ℕ) (e : Entry) → Contains (entries (front_at h v)) e ↔ Contains (entries (front_at g v)) e
     entries_kept v e = elim (cases_eq v x.node.0) [
-      | inl same ↦ rw same (entries_stay (front_at g x.node.0) (front_at h x.node.0) x.cost.0 settles e)
+      | inl same ↦ rw same (entries_stay settles e)
       | inr other ↦ rw (elsewhere.others v other) (λ t. t, λ t. t)
     ]
 
@@ -103,7 +103,7 @@ module _ {D : ℕ} where
     settled_now : (v : ℕ) (e : Entry) → Contains (front_at h v).settled e
         ↔ (Contains (front_at g v).settled e ⊎ (Contains (entries (front_at g v)) e × (spot_told v e.cost ≡ x)))
     settled_now v e = elim (cases_eq v x.node.0) [
-      | inl same ↦ by (rw same (settled_entries (front_at g x.node.0) (front_at h x.node.0) x.cost.0 settles e)) (is_last v e.cost) same
+      | inl same ↦ by (rw same (settled_entries settles e)) (is_last v e.cost) same
       | inr other ↦ rw (elsewhere.others v other) (λ t. inl t, elim [ inl t ↦ t | inr t ↦ absurd (other ((is_last v e.cost).0 t.1).0) ])
     ] where
       by : {A B C S L V : Type 0} → (A ↔ (B ⊎ (C × S))) → (L ↔ (V × S)) → V → (A ↔ (B ⊎ (C × L)))
@@ -118,7 +118,7 @@ module _ {D : ℕ} where
       through : {H G F E K X Z L : Type 0} → (H ↔ (G ⊎ (E × L))) → (G ↔ (F ⊎ (K × X))) → (E ↔ K) → (Z ↔ (X ⊎ L)) → (H ↔ (F ⊎ (K × Z)))
       through h g e z = grind arith
 
-  module _ (f g : Fronts) (xs : List (CompactSpot D)) (all : SettlesAll f xs g) where
+  module _ {f g : Fronts} {xs : List (CompactSpot D)} (all : SettlesAll f xs g) where
     -- the costs that are settled then
     pub costs_settled : (v : ℕ) (c : List ℕ) → HasCost (front_at g v).settled c
         ↔ (HasCost (front_at f v).settled c ⊎ (HasCost (entries (front_at f v)) c × Contains xs (spot_told v c)))
@@ -146,8 +146,8 @@ module _ {D : ℕ} where
 -- ---- what the bounds tell
 
 module _ {D : ℕ} where
-  pub news_through : (a b c : Bounds D) → TellsNews a b → TellsNews b c → TellsNews a c
-  news_through a b c first second = record {
+  pub news_through : {a b c : Bounds D} → TellsNews a b → TellsNews b c → TellsNews a c
+  news_through first second = record {
     limit = second.limit ∙ first.limit;
     news = λ k h. elim (second.news k h) [
       | inl old ↦ elim (first.news k old) [ inl older ↦ inl older | inr new ↦ inr (second.kept k new) ]
@@ -156,9 +156,9 @@ module _ {D : ℕ} where
     kept = λ k h. second.kept k (first.kept k h);
   }
 
-  pub news_with : (b n : Bounds D) (cost : CompactCost D) → n.limit ≡ b.limit → n.news ≡ b.news ++ cost ∷ []
+  pub news_with : {b n : Bounds D} (cost : CompactCost D) → n.limit ≡ b.limit → n.news ≡ b.news ++ cost ∷ []
       → ((k : List ℕ) → HasCost (entries n.front) k ↔ (HasCost (entries b.front) k ⊎ (k ≡ cost.0))) → TellsNews b n
-  news_with b n cost limit news more = record {
+  news_with {b} cost limit news more = record {
     limit = limit;
     news = λ k h. elim ((more k).0 h) [
       | inl old ↦ inl old

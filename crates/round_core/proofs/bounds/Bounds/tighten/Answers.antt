@@ -26,7 +26,5 @@ pub returns-clause-costs : goal.returns-clause-costs
 returns-clause-costs g c k =
     let e : Entry = record { cost = c.args.cost.now.0; arc = 0 } in
     let state = g.F.ParetoFront.state in
-    let after = state c.settle.new.self in
-    let same : state c.self.inside.front ≡ c.args.self.now.front = ap (λ (b : Bounds g.row.D). b.front) c.self.view_is in
-    subst (λ (f : Front). HasCost (entries after) k ↔ (HasCost (entries f) k ⊎ (k ≡ c.args.cost.now.0))) same
-    (tightened (state c.self.inside.front) (state c.enter.new.self) after e c.self.invariant.all_settled c.enter.ensures.entered c.settle.ensures.settled k)
+    rw (← c.self.view_is) (tightened (state c.self.inside.front) (state c.enter.new.self) (state c.settle.new.self) e c.self.invariant.all_settled
+    c.enter.ensures.entered c.settle.ensures.settled k)

@@ -15,5 +15,4 @@ invariant_of-self g c = once_in_less (record { queued = c.self.inside.queue; fre
 
 pub returns-clause-queued : goal.returns-clause-queued
 returns-clause-queued g c =
-    subst (λ (v : Waiting g.row.D). LosesWhere (λ x. IsDominatedBy c.args.by.now x.cost.0) v.queued c.drop_dominated.new.self) c.self.view_is
-    c.drop_dominated.ensures
+    rw (← c.self.view_is) c.drop_dominated.ensures

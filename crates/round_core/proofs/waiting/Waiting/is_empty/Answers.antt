@@ -9,5 +9,4 @@ returns-else-is_empty g c =
     let both = both_empty c.self.inside.queue c.self.inside.fresh.items in
     let test = c.is_empty.ensures in
     let wrong = c.if-is_empty.false in
-    subst (λ (v : Waiting g.row.D). IsTrue c.is_empty.result ↔ (all_waiting v ≡ [])) c.self.view_is
-    ((λ yes. absurd cc), (λ h. test.1 (both.1 h).0))
+    rw (← c.self.view_is) (λ yes. absurd cc, λ h. test.1 (both.1 h).0)

@@ -13,9 +13,7 @@ returns-then-is_err-clause-same g c =
     let same : c.take_undominated.new.self ≡ c.self.inside.queue =
     by_error c.take_undominated.result c.is_err.result (c.take_undominated.new.self ≡ c.self.inside.queue) c.is_err.ensures.value c.if-is_err.true
     c.take_undominated.ensures.same in
-    subst (λ (v : Waiting g.row.D). SameMembers (c.take_undominated.new.self ++ c.self.inside.fresh.items) (all_waiting v)) c.self.view_is
-    (subst (λ (q : List (CompactSpot g.row.D)). SameMembers (q ++ c.self.inside.fresh.items) (c.self.inside.queue ++ c.self.inside.fresh.items)) (sym same)
-    (λ x. (λ h. h, λ h. h)))
+    rw (← c.self.view_is, same) (λ x. (λ h. h, λ h. h))
 
 pub returns-clause-taken : goal.returns-clause-taken
 returns-clause-taken g c =
@@ -23,9 +21,7 @@ returns-clause-taken g c =
     let took = c.take_undominated.new.taken.items in
     let queue = c.take_undominated.new.self in
     let takes : TakesUndominated before took queue =
-    subst (λ (xs : List (CompactSpot g.row.D)). TakesUndominated (c.self.inside.queue ++ xs) took queue) c.deref.ensures.value
-    (by_success c.take_undominated.result c.is_err.result (TakesUndominated (c.self.inside.queue ++ c.deref.result.now) took queue)
+    rw (← c.deref.ensures.value) (by_success c.take_undominated.result c.is_err.result (TakesUndominated (c.self.inside.queue ++ c.deref.result.now) took queue)
     c.is_err.ensures.value c.if-is_err.false c.take_undominated.ensures.taken) in
-    subst (λ (v : Waiting g.row.D). TakesUndominated (all_waiting v) took (queue ++ c.clear-2.new.self.items)) c.self.view_is
-    (takes_alike before before took queue (queue ++ c.clear-2.new.self.items) (λ x. (λ h. h, λ h. h))
+    rw (← c.self.view_is) (takes_alike before before took queue (queue ++ c.clear-2.new.self.items) (λ x. (λ h. h, λ h. h))
     (none_fresh queue c.clear-2.new.self.items c.clear-2.ensures.items) takes)

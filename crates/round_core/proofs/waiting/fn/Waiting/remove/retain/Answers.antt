@@ -5,4 +5,4 @@ use Rattle.round_core.proofs.waiting.fn.Waiting.remove.retain.Goals as goal
 
 pub returns : goal.returns
 returns g c =
-    subst (λ spots. AreSorted spots → (IsTrue c.is_absent.result ↔ (¬ Contains spots c.args.spot.now))) c.deref.ensures.value c.is_absent.ensures
+    rw (← c.deref.ensures.value) c.is_absent.ensures

@@ -26,18 +26,16 @@ module _ {D : ℕ} (task : Task) (core : Core D) (s : SearchState) (at : IsAt ta
   pub barred_told : (c : List ℕ) → IsBarred core c ↔ ((¬ Within task.limit c) ⊎ IsBeatenAtTarget task s c)
   barred_told c = (
     elim [
-      | inl beyond ↦ inl (subst (λ (limit : List (Option ℕ)). ¬ Within limit c) (sym at.search.limit) beyond)
+      | inl beyond ↦ inl (rw at.search.limit beyond)
       | inr h ↦
           let y : Label = record { node = core.target; cost = h.by.cost; arc = h.by.arc } in
           inr (record { by = y; settled = (at.stands.settled y).1 h.contains; node = sym at.search.target; dominates = h.dominates })
     ],
     elim [
-      | inl beyond ↦ inl (subst (λ (limit : List (Option ℕ)). ¬ Within limit c) at.search.limit beyond)
+      | inl beyond ↦ inl (rw at.search.limit at beyond)
       | inr h ↦
-          let there = (at.stands.settled h.by).0 h.settled in
-          let at_target = subst (λ t. Contains (front_at core.fronts t).settled (as_entry h.by)) at.search.target
-          (subst (λ v. Contains (front_at core.fronts v).settled (as_entry h.by)) h.node there) in
-          inr (record { by = as_entry h.by; contains = at_target; dominates = h.dominates })
+          let there = rw (h.node, at.search.target) at ((at.stands.settled h.by).0 h.settled) in
+          inr (record { by = as_entry h.by; contains = there; dominates = h.dominates })
     ],
   )
 

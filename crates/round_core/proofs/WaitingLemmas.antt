@@ -12,6 +12,7 @@ use Rattle.list_laws.specs.Sets.{SameMembers}
 use Rattle.list_laws.proofs.Members.{all_from_in, cases_push, each_in, in_none}
 use Rattle.list_laws.proofs.OnceLaws.{IsTold, in_append, told_as, told_either, told_member, told_not}
 use Rattle.list_laws.proofs.Pairs.{pairs_push}
+use Rattle.list_laws.proofs.SetLaws.{none_of_empty}
 use Rattle.list_laws.proofs.Retained.{without_by_retain}
 use Rattle.pareto_front.specs.Fronts.{Entry, HasCost, IsDominated, entries}
 use Rattle.pareto_queue.specs.Queues.{IsDominatedBy, LosesWhere}
@@ -68,9 +69,7 @@ module _ {D : ℕ} where
   -- none is fresh
   pub none_fresh : (queue none : List (CompactSpot D)) → none ≡ [] → SameMembers (queue ++ none) queue
   none_fresh queue none empty x =
-      let e = in_append queue none x in
-      let n : ¬ Contains none x = λ h. in_none x (subst (λ ys. Contains ys x) empty h) in
-      grind arith
+      let e = in_append queue none x in let n = none_of_empty none empty x in grind arith
 
   -- ---- what is of no use
 
@@ -93,8 +92,7 @@ module _ {D : ℕ} where
   pub no_news : (news : List (CompactCost D)) (queue after : List (CompactSpot D)) → news ≡ [] → after ≡ queue
       → LosesWhere (λ x. IsDominatedBy news x.cost.0) queue after
   no_news news queue after none same x =
-      let nothing : ¬ IsDominatedBy news x.cost.0 = λ h. in_none h.by (subst (λ ys. Contains ys h.by) none h.contains) in
-      subst (λ ys. Contains ys x ↔ (Contains queue x × ¬ IsDominatedBy news x.cost.0)) (sym same) (λ there. (there, nothing), λ h. h.0)
+      rw same (λ there. (there, λ h. none_of_empty news none h.by h.contains), λ h. h.0)
 
   -- a list of two is empty where both are
   pub both_empty : (xs ys : List (CompactSpot D)) → (xs ≡ []) × (ys ≡ []) ↔ (xs ++ ys ≡ [])

@@ -1,5 +1,5 @@
 -- Lists of spots that come to wait.
-use Rattle.std.proofs.Common.{◌≡◌, ◌≢◌, ℕ, ◌+◌, ◌⊎◌, ◌↔◌, List, [], ◌∷◌, ◌++◌, map, take, inl, inr, sym, subst, arith}
+use Rattle.std.proofs.Common.{◌≡◌, ◌≢◌, ℕ, ◌+◌, ◌⊎◌, ◌↔◌, List, [], ◌∷◌, ◌++◌, map, take, inl, inr, sym, append_assoc, arith}
 use Rattle.std.specs.Prelude.{All, AllPairs, Contains}
 use Rattle.list_laws.proofs.Members.{all_from_in, each_in, in_first, of_map}
 use Rattle.list_laws.proofs.OnceLaws.{in_append}
@@ -25,33 +25,25 @@ module _ {D : ℕ} where
       → Contains added l → take (i + 1) added ≡ take i added ++ l ∷ [] → ¬ Contains (now_queued ++ now_fresh) (spot_at l)
   next_not_waiting queued fresh now_queued now_fresh added i l once new same_queued is_fresh l_in more there =
       let none = each_in (λ (m : CompactLabel D). ¬ Contains (queued ++ fresh) (spot_at m)) added new l l_in in
-      elim ((in_append now_queued now_fresh (spot_at l)).0 there) [
-        | inl old ↦ none ((in_append queued fresh (spot_at l)).1 (inl (subst (λ (q : List (CompactSpot D)). Contains q (spot_at l)) same_queued old)))
-        | inr later ↦ elim ((in_append fresh (map (spot_at {D = D}) (take i added)) (spot_at l)).0
-            (subst (λ (q : List (CompactSpot D)). Contains q (spot_at l)) is_fresh later)) [
-              | inl old ↦ none ((in_append queued fresh (spot_at l)).1 (inr old))
-              | inr came ↦
-                  let (m, m_in, same) = of_map (spot_at {D = D}) (take i added) (spot_at l) came in
-                  let pairs = subst (AllPairs AreOther) more (pairs_take AreOther (i + 1) added once) in
-                  pairs_across AreOther (take i added) (l ∷ []) pairs m l m_in (in_first l []) (sym same)
-            ]
+      let at : Contains ((queued ++ fresh) ++ map (spot_at {D = D}) (take i added)) (spot_at l) = rw append_assoc (rw (same_queued, is_fresh) at there) in
+      elim ((in_append (queued ++ fresh) (map (spot_at {D = D}) (take i added)) (spot_at l)).0 at) [
+        | inl old ↦ none old
+        | inr came ↦
+            let (m, m_in, same) = of_map (spot_at {D = D}) (take i added) (spot_at l) came in
+            let pairs = rw more at (pairs_take AreOther (i + 1) added once) in
+            pairs_across AreOther (take i added) (l ∷ []) pairs m l m_in (in_first l []) (sym same)
       ]
 
   -- all of them have come
   pub all_came : (fresh now_fresh : List (CompactSpot D)) (added : List (CompactLabel D)) (i : ℕ) → take i added ≡ added
       → now_fresh ≡ fresh ++ map (spot_at {D = D}) (take i added) → Gains fresh (map (spot_at {D = D}) added) now_fresh
-  all_came fresh now_fresh added i all is x =
-      subst (λ (q : List (CompactSpot D)). Contains q x ↔ (Contains fresh x ⊎ Contains (map (spot_at {D = D}) added) x))
-      (sym (subst (λ (ls : List (CompactLabel D)). now_fresh ≡ fresh ++ map (spot_at {D = D}) ls) all is))
-      (in_append fresh (map (spot_at {D = D}) added) x)
+  all_came fresh now_fresh added i all is x = rw (is, all) (in_append fresh (map (spot_at {D = D}) added) x)
 
   -- what comes to the fresh spots comes to all
   pub adds_all : (f : Front) (l : CompactLabel D) (queued fresh now_queued now_fresh : List (CompactSpot D)) → now_queued ≡ queued
       → AddsIfNew f l fresh now_fresh → AddsIfNew f l (queued ++ fresh) (now_queued ++ now_fresh)
   adds_all f l queued fresh now_queued now_fresh same adds x =
-      subst (λ (q : List (CompactSpot D)). Contains (q ++ now_fresh) x
-      ↔ (Contains (queued ++ fresh) x ⊎ ((x ≡ spot_at l) × IsAdded f (entry_of l ∷ []) (entry_of l)))) (sym same)
-      (parts (in_append queued now_fresh x) (in_append queued fresh x) (adds x)) where
+      rw same (parts (in_append queued now_fresh x) (in_append queued fresh x) (adds x)) where
         parts : {A B Q N F P : Type 0} → (A ↔ (Q ⊎ N)) → (B ↔ (Q ⊎ F)) → (N ↔ (F ⊎ P)) → (A ↔ (B ⊎ P))
         parts a b n = grind arith
 
@@ -59,4 +51,4 @@ module _ {D : ℕ} where
   pub loses_each : (before now after : List (CompactSpot D)) (P : CompactSpot D → Type 0) → now ≡ before → LosesWhere P now after
       → All (Contains before) after
   loses_each before now after P same loses = all_from_in (Contains before) after
-      (λ x there. subst (λ (q : List (CompactSpot D)). Contains q x) same ((loses x).0 there).0)
+      (λ x there. rw (← same) ((loses x).0 there).0)

@@ -22,7 +22,7 @@ use Rattle.node_front.proofs.MergedLemmas.{merged_apart}
 use Rattle.node_front.proofs.MergeLaws.{merged_none, merged_then}
 use Rattle.node_front.proofs.NeedlessLemmas.{told_has_cost}
 use Rattle.node_front.proofs.PlacedLemmas.{cases_number}
-use Rattle.node_front.proofs.RoundLemmas.{at_push, at_push_other}
+use Rattle.node_front.proofs.RoundLemmas.{at_push, at_push_other, of_at}
 use Rattle.node_front.proofs.StaysLemmas.{stays_below, stays_of_cost}
 use Rattle.round_core.specs.Arriving.{AddsIfNew, HaveArrived, WaitsAsMerged, spot_at}
 use Rattle.round_core.specs.Unsettled.{HasUnsettled}
@@ -115,6 +115,16 @@ module _ {D : ℕ} where
   -- what two lists of labels tell of a node
   pub told_append : (v : ℕ) (ls ms : List (CompactLabel D)) → told_at v (ls ++ ms) ≡ told_at v ls ++ told_at v ms
   told_append v ls ms = simp (filter-append, map-append)
+
+  -- the candidates of a node spare its settled costs
+  pub spares_at : (fronts : Fronts) (candidates : List (CompactLabel D))
+      → All (λ (l : CompactLabel D). SparesSettled (front_at fronts l.node.0) l.cost.0) candidates
+      → (v : ℕ) → SpareSettled (front_at fronts v) (told_at v candidates)
+  spares_at fronts candidates spares v c has by =
+      let (l, l_in, node, same) = of_at v candidates by.by by.contains in
+      let spared = subst (λ u. SparesSettled (front_at fronts u) l.cost.0) node
+      (each_in (λ (m : CompactLabel D). SparesSettled (front_at fronts m.node.0) m.cost.0) candidates spares l l_in) in
+      spared (record { cost = c; arc = has.arc }) has.contains (subst (λ (e : Entry). Dominates e.cost c) same by.dominates)
 
   -- before any label comes
   pub none_arrived : {before : Fronts} {waited removed : List (CompactSpot D)} → removed ≡ [] → ((v : ℕ) → AreApart (entries (front_at before v)))

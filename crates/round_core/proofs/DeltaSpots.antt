@@ -21,11 +21,10 @@ use Rattle.node_front.proofs.RoundLemmas.{of_at}
 use Rattle.round_core.specs.Arriving.{HaveArrived, WaitsAsMerged, spot_at}
 use Rattle.round_core.specs.Unsettled.{HasUnsettled}
 use Rattle.round_core.specs.Waiting.{Waiting, all_waiting}
-use Rattle.round_core.proofs.ArrivingLemmas.{HasAdded, more_arrived, none_arrived, told_append, waits_without}
-use Rattle.round_core.proofs.FinishLemmas.{spares_at}
+use Rattle.round_core.proofs.ArrivingLemmas.{HasAdded, more_arrived, none_arrived, spares_at, told_append, waits_without}
 use Rattle.round_core.proofs.OutcomeLemmas.{in_at}
 use Rattle.round_core.proofs.UnsettledLemmas.{spot_by_parts}
-use Rattle.round_core.proofs.WaitingLists.{AreOther, loses_each}
+use Rattle.round_core.proofs.WaitingLemmas.{AreOther, loses_each}
 
 abbrev front_in : List Front → ℕ → Front
 front_in fs v = slice_index_or fs v empty_front

@@ -2,13 +2,13 @@
 use Rattle.std.proofs.Common.{◌≡◌, ◌≢◌, ◌⊎◌, ◌↔◌, ◌+◌, ◌≤◌, ℕ, List, [], ◌++◌, get_or, length, inl, inr, refl, sym, subst, ◌∙◌, arith}
 use Rattle.std.specs.Prelude.{All, AllPairs, Contains, Option}
 use Rattle.std.proofs.lemmas.List.{length-append}
-use Rattle.cost_vector.specs.Costs.{Within}
+use Rattle.cost_vector.specs.Costs.{Within, Dominates}
 use Rattle.compact_labels.specs.declared.label.CompactSpot.{CompactSpot}
 use Rattle.list_laws.specs.Sets.{SameMembers}
 use Rattle.list_laws.proofs.Members.{all_from_in, each_in}
-use Rattle.list_laws.proofs.OnceLaws.{alike_back, in_append, lists_append}
+use Rattle.list_laws.proofs.OnceLaws.{alike_back, in_append, lists_append, alike_through, once_as}
 use Rattle.road_network.specs.Network.{IsNode}
-use Rattle.pareto_front.specs.Fronts.{Entry, Front, HasCost, IsDominated, entries}
+use Rattle.pareto_front.specs.Fronts.{Entry, Front, HasCost, IsDominated, entries, SparesSettled}
 use Rattle.pareto_queue.specs.Queues.{IsDominatedBy, LosesWhere, SpotLess, TakesUndominated}
 use Rattle.pareto_queue.proofs.OrderLemmas.{SpotLess-irrefl}
 use Rattle.node_front.specs.NodeFronts.{Fronts, front_at}
@@ -21,6 +21,12 @@ use Rattle.round_core.specs.Waiting.{Waiting, all_waiting}
 use Rattle.round_core.proofs.SettlingLemmas.{apart_still, costs_settled, unsettled_still}
 use Rattle.round_core.proofs.UnsettledLemmas.{told_spot}
 use Rattle.round_core.proofs.WaitingLemmas.{none_fresh}
+use Rattle.compact_labels.specs.declared.label.CompactLabel.{CompactLabel}
+use Rattle.node_front.specs.Deltas.{MergesAll, told_at}
+use Rattle.node_front.proofs.MergedLemmas.{merged_apart}
+use Rattle.node_front.proofs.RoundLemmas.{of_at}
+use Rattle.round_core.specs.Arriving.{WaitsAsMerged}
+use Rattle.round_core.proofs.ArrivingLemmas.{settled_costs, spares_at}
 
 -- the same costs dominate the same
 pub dominated_by_costs : (xs ys : List Entry) → ((k : List ℕ) → HasCost xs k → HasCost ys k) → (c : List ℕ) → IsDominated xs c → IsDominated ys c
@@ -170,3 +176,36 @@ pub took_unsettled : {D : ℕ} (f : Fronts) {old took left : List (CompactSpot D
     → All (λ x. HasUnsettled (front_at f x.node.0) x.cost.0) old → (x : CompactSpot D) → Contains took x → HasUnsettled (front_at f x.node.0) x.cost.0
 took_unsettled f {old} takes waits x there =
     each_in (λ y. HasUnsettled (front_at f y.node.0) y.cost.0) old waits x (took_of_old takes x there)
+
+-- ---- candidates were merged
+
+module _ {D : ℕ} where
+  -- what is kept is kept where candidates were merged
+  pub kept_after : {start target budget settled : ℕ} {bounds : Bounds D} {fronts after : Fronts} {waiting left : Waiting D}
+      {candidates : List (CompactLabel D)} → IsKept D start target budget bounds fronts waiting settled
+      → All (λ (l : CompactLabel D). SparesSettled (front_at fronts l.node.0) l.cost.0) candidates → MergesAll fronts candidates after
+      → after.nodes ≡ fronts.nodes → WaitsAsMerged fronts (all_waiting waiting) after (Contains (all_waiting left))
+      → All (Contains waiting.queued) left.queued → IsKept D start target budget bounds after left settled
+  kept_after {start} {target} {budget} {settled} {bounds} {fronts} {after} {waiting} {left} {candidates} kept spares merges nodes waits queued = assumption (
+    kept,
+    subst (λ n. IsNode n start) (sym nodes) kept.start_node,
+    subst (λ n. IsNode n target) (sym nodes) kept.target_node,
+    all_from_in (λ (x : CompactSpot D). HasUnsettled (front_at after x.node.0) x.cost.0) (all_waiting left) (λ x there. ((waits x).0 there).0),
+    λ (c : List ℕ). alike_through (kept.bounds_are c) (alike_back (same target c)),
+    all_from_in (λ (x : CompactSpot D). IsUseless bounds x.cost.0 → IsDominatedBy bounds.news x.cost.0) left.queued (λ x there.
+        each_in (λ (y : CompactSpot D). IsUseless bounds y.cost.0 → IsDominatedBy bounds.news y.cost.0) waiting.queued kept.queued x
+        (each_in (Contains waiting.queued) left.queued queued x there)),
+    λ (v : ℕ). merged_apart _ _ _ (merges.merged v),
+    counted,
+  ) where
+    same : (v : ℕ) (c : List ℕ) → HasCost (front_at after v).settled c ↔ HasCost (front_at fronts v).settled c
+    same v = settled_costs (merges.merged v) (spares_at fronts candidates spares v)
+
+    counted : CountsSettled D after settled
+    counted = record {
+      spots = kept.counted.spots;
+      once = once_as (λ (x : CompactSpot D). HasCost (front_at fronts x.node.0).settled x.cost.0)
+          (λ (x : CompactSpot D). HasCost (front_at after x.node.0).settled x.cost.0) kept.counted.spots
+          (λ x. alike_back (same x.node.0 x.cost.0)) kept.counted.once;
+      counted = kept.counted.counted;
+    }

@@ -12,7 +12,7 @@ use Rattle.round_core.specs.Arriving.{HaveArrived}
 use Rattle.round_core.specs.Unsettled.{HasUnsettled}
 use Rattle.round_core.specs.Waiting.{all_waiting}
 use Rattle.round_core.proofs.ArrivingLemmas.{none_arrived, one_arrived, still_spares, waiting_covered, waits_without}
-use Rattle.round_core.proofs.WaitingLists.{adds_all, loses_each}
+use Rattle.round_core.proofs.WaitingLemmas.{adds_all, loses_each}
 use Rattle.round_core.proofs.finish.arrive_all.Goals as goal
 
 pub loop-label-init : goal.loop-label-init

@@ -3,7 +3,7 @@ use Rattle.compact_labels.specs.declared.label.CompactLabel.{CompactLabel}
 use Rattle.node_front.specs.Deltas.{AreDeltas}
 use Rattle.round_core.specs.Waiting.{all_waiting}
 use Rattle.round_core.proofs.DeltaSpots.{EndsRound, added_dont_wait, added_nodes, added_once, deltas_of_same, ends_by_deltas}
-use Rattle.round_core.proofs.FinishLemmas.{kept_after}
+use Rattle.round_core.proofs.KeptLemmas.{kept_after}
 use Rattle.round_core.proofs.OutcomeLemmas.{finishes_by_merge}
 use Rattle.round_core.proofs.rounds.Core.finish.Goals as goal
 

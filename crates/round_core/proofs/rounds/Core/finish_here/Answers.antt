@@ -1,5 +1,5 @@
 use Rattle.std.proofs.Common.{arith}
-use Rattle.round_core.proofs.FinishLemmas.{kept_after}
+use Rattle.round_core.proofs.KeptLemmas.{kept_after}
 use Rattle.round_core.proofs.OutcomeLemmas.{finishes_by_merge}
 use Rattle.round_core.proofs.rounds.Core.finish_here.Goals as goal
 

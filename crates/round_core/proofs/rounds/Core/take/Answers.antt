@@ -3,15 +3,15 @@ use Rattle.std.specs.Prelude.{All, AllPairs, Contains}
 use Rattle.compact_labels.specs.declared.label.CompactSpot.{CompactSpot}
 use Rattle.list_laws.specs.Sets.{SameMembers}
 use Rattle.list_laws.proofs.Members.{all_from_in}
-use Rattle.round_core.proofs.SearchLemmas.{by_success}
+use Rattle.round_core.proofs.WaitingLemmas.{by_success}
 use Rattle.node_front.specs.NodeFronts.{front_at}
 use Rattle.round_core.specs.Bounds.{IsUseless}
 use Rattle.round_core.specs.Kept.{IsKept}
 use Rattle.round_core.specs.Taking.{SettlesAll, TakesNext, WouldPass}
 use Rattle.round_core.specs.Unsettled.{HasUnsettled}
 use Rattle.round_core.specs.Waiting.{all_waiting}
-use Rattle.round_core.proofs.KeptLemmas.{bounds_alike, free_all, given_back_all, kept_on, kept_same, kept_settled, took_once, took_outside}
-use Rattle.round_core.proofs.KeptLemmas.{took_unsettled, useless_alike}
+use Rattle.round_core.proofs.KeptLemmas.{bounds_alike, free_all, given_back_all, kept_on, kept_same, kept_settled, took_once, took_outside, took_unsettled}
+use Rattle.round_core.proofs.KeptLemmas.{useless_alike}
 use Rattle.round_core.proofs.rounds.Core.take.Goals as goal
 use Rattle.round_core.proofs.rounds.Core.take.Goals.{After-give_back, After-give_back-then-is_err}
 

@@ -4,10 +4,9 @@ use Rattle.list_laws.proofs.OnceLaws.{told_in}
 use Rattle.list_laws.proofs.Retained.{without_by_retain}
 use Rattle.pareto_queue.specs.Queues.{AreSorted, LosesWhere}
 use Rattle.pareto_queue.proofs.OrderLemmas.{cases_spot, sorted_from_cmp}
-use Rattle.round_core.proofs.SearchLemmas.{same_by_sort}
+use Rattle.round_core.proofs.WaitingLemmas.{same_by_sort, once_left}
 use Rattle.pareto_queue.proofs.RetainedLemmas.{fails_by_test_of, loses_by_without, pairs_by_retain}
 use Rattle.round_core.specs.Waiting.{Waiting}
-use Rattle.round_core.proofs.WaitingLemmas.{once_left}
 use Rattle.round_core.proofs.waiting.Waiting.remove.Goals as goal
 
 fresh_left : (g : _) (c : goal.After-retain g) → LosesWhere (Contains c.args.spots.now) c.self.inside.fresh.items c.retain.new.self.items

@@ -10,16 +10,14 @@ use Rattle.event_machine.specs.Events.{MayDrop}
 use Rattle.event_machine.specs.Orders.{IsNext, Stays}
 use Rattle.pareto_front.specs.Fronts.{Entry}
 use Rattle.node_front.specs.NodeFronts.{front_at}
+use Rattle.node_front.proofs.RemovedLemmas.{told_dominated}
 use Rattle.round_core.specs.Cores.{Core, IsAt, as_entry, as_spot}
 use Rattle.round_core.specs.Taking.{IsBarred, IsNextIn, StaysIn}
 use Rattle.round_core.specs.Unsettled.{HasUnsettled, IsUnsettled}
 
 -- it can be told whether a cost is barred
 pub told_barred : {D : ℕ} (core : Core D) (c : List ℕ) → IsTold (IsBarred core c)
-told_barred core c =
-    let found = told_member (λ (e : Entry). Dominates e.cost c) (λ e. cases_Dominates e.cost c) (front_at core.fronts core.target).settled in
-    told_either (told_not (cases_Within core.limit c))
-    (told_as (λ h. record { by = h.0; contains = h.1; dominates = h.2 }) (λ h. (h.by, h.contains, h.dominates)) found)
+told_barred core c = told_either (told_not (cases_Within core.limit c)) (told_dominated (front_at core.fronts core.target).settled c)
 
 module _ {D : ℕ} (task : Task) (core : Core D) (s : SearchState) (at : IsAt task core s) where
   -- a cost is barred where the machine finds it useless

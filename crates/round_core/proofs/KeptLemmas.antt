@@ -5,12 +5,13 @@ use Rattle.std.proofs.lemmas.List.{length-append}
 use Rattle.cost_vector.specs.Costs.{Within, Dominates}
 use Rattle.compact_labels.specs.declared.label.CompactSpot.{CompactSpot}
 use Rattle.list_laws.specs.Sets.{SameMembers}
+use Rattle.list_laws.proofs.Ascending.{ascending_distinct}
 use Rattle.list_laws.proofs.Members.{all_from_in, each_in}
 use Rattle.list_laws.proofs.OnceLaws.{alike_back, in_append, lists_append, alike_through, once_as}
 use Rattle.road_network.specs.Network.{IsNode}
 use Rattle.pareto_front.specs.Fronts.{Entry, Front, HasCost, IsDominated, entries, SparesSettled}
 use Rattle.pareto_queue.specs.Queues.{IsDominatedBy, LosesWhere, SpotLess, TakesUndominated}
-use Rattle.pareto_queue.proofs.OrderLemmas.{SpotLess-irrefl}
+use Rattle.pareto_queue.proofs.OrderLemmas.{SpotLess-irrefl, SpotLess-trans}
 use Rattle.node_front.specs.NodeFronts.{Fronts, front_at}
 use Rattle.round_core.specs.Bounds.{Bounds, IsUseless}
 use Rattle.round_core.specs.Cores.{Core}
@@ -98,8 +99,7 @@ module _ {D : ℕ} (b : Bounds D) (w v : Waiting D) (queued : LosesWhere (λ x. 
 
 module _ {D : ℕ} {old took left : List (CompactSpot D)} (takes : TakesUndominated old took left) where
   pub took_once : AllPairs ◌≢◌ took
-  took_once = λ i j d before within same. SpotLess-irrefl (get_or took j d)
-      (subst (λ x. SpotLess x (get_or took j d)) same (takes.ascending i j d before within))
+  took_once = ascending_distinct SpotLess SpotLess-irrefl SpotLess-trans took takes.ascending
 
   pub took_apart : (x : CompactSpot D) → Contains took x → ¬ Contains left x
   took_apart x there left_too = ((takes.rest x).0 left_too).1 there

@@ -92,10 +92,7 @@ module _ {D : ℕ} where
     ]
 
     is_last : (v : ℕ) (c : List ℕ) → (spot_told v c ≡ x) ↔ ((v ≡ x.node.0) × (c ≡ x.cost.0))
-    is_last v c = (
-      λ e. (ap (λ (y : CompactSpot D). y.node.0) e, ap (λ (y : CompactSpot D). y.cost.0) e),
-      λ h. spot_by_parts (spot_told v c) x h.0 h.1,
-    )
+    is_last v c = grind arith
 
     in_more : (y : CompactSpot D) → Contains (xs ++ x ∷ []) y ↔ (Contains xs y ⊎ (y ≡ x))
     in_more y = let a = in_append xs (x ∷ []) y in let one = in_either x [] y in let none = in_none y in grind arith

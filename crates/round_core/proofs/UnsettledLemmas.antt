@@ -6,6 +6,7 @@ use Rattle.compact_labels.specs.declared.label.CompactSpot.{CompactSpot}
 use Rattle.std.proofs.lemmas.Bool.{cases_eq}
 use Rattle.cost_vector.proofs.Vectors.{cases_same}
 use Rattle.pareto_front.specs.Fronts.{Entry, Front, HasCost, IsDominated, entries}
+use Rattle.pareto_queue.proofs.OrderLemmas.{cases_spot}
 use Rattle.node_front.specs.Apart.{AreApart}
 use Rattle.node_front.proofs.ApartLemmas.{AtMost-same, has_append}
 use Rattle.node_front.proofs.NeedlessLemmas.{told_has_cost}
@@ -13,15 +14,7 @@ use Rattle.round_core.specs.Unsettled.{HasUnsettled, IsUnsettled}
 
 -- a spot by its parts
 pub spot_by_parts : {D : ℕ} (x y : CompactSpot D) → x.node.0 ≡ y.node.0 → x.cost.0 ≡ y.cost.0 → x ≡ y
-spot_by_parts {D} x y node cost =
-    ap (λ (v : ℕ). let z : CompactSpot D = record { cost = x.cost; node = record { 0 = v } } in z) node
-    ∙ ap (λ (c : List ℕ). let z : CompactSpot D = record { cost = record { 0 = c }; node = y.node } in z) cost
-
--- it can be told whether two are one
-pub cases_spot : {D : ℕ} (x y : CompactSpot D) → IsTold (x ≡ y)
-cases_spot {D} x y = told_as (λ h. spot_by_parts x y h.0 h.1)
-    (λ e. (ap (λ (z : CompactSpot D). z.node.0) e, ap (λ (z : CompactSpot D). z.cost.0) e))
-    (told_both (cases_eq x.node.0 y.node.0) (cases_same x.cost.0 y.cost.0))
+spot_by_parts x y node cost = grind arith
 
 -- what one of two lists dominates, both do
 pub dominated_by_first : (xs ys : List Entry) {c : List ℕ} → IsDominated xs c → IsDominated (xs ++ ys) c

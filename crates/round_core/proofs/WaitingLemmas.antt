@@ -13,7 +13,7 @@ use Rattle.list_laws.specs.Sets.{SameMembers}
 use Rattle.list_laws.proofs.Members.{all_from_in, cases_push, each_in, in_none, in_first, of_map}
 use Rattle.list_laws.proofs.OnceLaws.{IsTold, in_append, told_as, told_either, told_member, told_not}
 use Rattle.list_laws.proofs.Pairs.{pairs_push, pairs_take}
-use Rattle.list_laws.proofs.SetLaws.{none_of_empty}
+use Rattle.list_laws.proofs.SetLaws.{none_of_empty, same_by_permutation}
 use Rattle.list_laws.proofs.Retained.{without_by_retain}
 use Rattle.pareto_front.specs.Fronts.{Entry, HasCost, IsDominated, entries, Front}
 use Rattle.pareto_queue.specs.Queues.{IsDominatedBy, LosesWhere, Gains, AreSorted, SpotLess}
@@ -23,7 +23,7 @@ use Rattle.round_core.specs.Waiting.{AreOnce, Waiting, all_waiting}
 use Rattle.compact_labels.specs.declared.label.CompactLabel.{CompactLabel}
 use Rattle.pareto_front.specs.Calls.{entry_of}
 use Rattle.pareto_front.specs.Merging.{IsAdded}
-use Rattle.node_front.proofs.RemovedLemmas.{pairs_across}
+use Rattle.node_front.proofs.RemovedLemmas.{pairs_across, told_dominated}
 use Rattle.round_core.specs.Arriving.{AddsIfNew, spot_at}
 use Rattle.std.specs.declared.cmp.Ordering.{Ordering}
 use Rattle.std.specs.Ordering.{is_lt}
@@ -34,20 +34,14 @@ use Rattle.pareto_queue.proofs.OrderLemmas.{SpotLess_from_cmp, found_gap, none_i
 
 -- ---- what can be told
 
-pub told_dominated : (list : List Entry) (c : List ℕ) → IsTold (IsDominated list c)
-told_dominated list c = told_as (λ h. record { by = h.0; contains = h.1; dominates = h.2 }) (λ h. (h.by, h.contains, h.dominates))
-    (told_member (λ (e : Entry). Dominates e.cost c) (λ e. cases_Dominates e.cost c) list)
-
+-- whether a cost is of no use
 pub told_useless : {D : ℕ} (b : Bounds D) (c : List ℕ) → IsTold (IsUseless b c)
 told_useless b c = told_either (told_not (cases_Within b.limit c)) (told_dominated (entries b.front) c)
 
 module _ {D : ℕ} where
   -- ---- each fresh spot stands once, and not in the queue
 
-  pub once_given : (w : Waiting D) (taken : List (CompactSpot D)) → AreOnce w → AllPairs ◌≢◌ taken → All (λ x. ¬ Contains w.queued x) taken
-      → AreOnce (record w { fresh = taken })
-  once_given w taken is once apart = record { four = is.four; once = once; apart = apart }
-
+  -- so with one more
   pub once_added : (w : Waiting D) (x : CompactSpot D) → AreOnce w → ¬ Contains (all_waiting w) x → AreOnce (record w { fresh = w.fresh ++ x ∷ [] })
   once_added w x is new = record {
     four = is.four;
@@ -68,20 +62,11 @@ module _ {D : ℕ} where
         each_in (λ z. ¬ Contains w.queued z) w.fresh is.apart y ((fresh y).0 there).0 ((queued y).0 in_queue).0);
   }
 
-  pub once_in_less : (w : Waiting D) (queue : List (CompactSpot D)) → AreOnce w → ((x : CompactSpot D) → Contains queue x → Contains w.queued x)
-      → AreOnce (record w { queued = queue })
-  once_in_less w queue is less = record {
-    four = is.four;
-    once = is.once;
-    apart = all_from_in (λ y. ¬ Contains queue y) w.fresh (λ y there in_queue. each_in (λ z. ¬ Contains w.queued z) w.fresh is.apart y there (less y in_queue));
-  }
-
   -- ---- what is taken
 
   -- none is fresh
   pub none_fresh : (queue none : List (CompactSpot D)) → none ≡ [] → SameMembers (queue ++ none) queue
-  none_fresh queue none empty x =
-      let e = in_append queue none x in let n = none_of_empty none empty x in grind arith
+  none_fresh queue none empty x = let e = in_append queue none x in let n = none_of_empty none empty x in grind arith
 
   -- ---- what is of no use
 
@@ -103,8 +88,7 @@ module _ {D : ℕ} where
   -- no news dominate nothing
   pub no_news : (news : List (CompactCost D)) (queue after : List (CompactSpot D)) → news ≡ [] → after ≡ queue
       → LosesWhere (λ x. IsDominatedBy news x.cost.0) queue after
-  no_news news queue after none same x =
-      rw same (λ there. (there, λ h. none_of_empty news none h.by h.contains), λ h. h.0)
+  no_news news queue after none same x = rw same (λ there. (there, λ h. none_of_empty news none h.by h.contains), λ h. h.0)
 
   -- a list of two is empty where both are
   pub both_empty : (xs ys : List (CompactSpot D)) → (xs ≡ []) × (ys ≡ []) ↔ (xs ++ ys ≡ [])
@@ -115,6 +99,10 @@ module _ {D : ℕ} where
 pub by_error : {X E : Type 0} (r : Result X E) (b : Bool) (P : Type 0) → b ≡ is_err r → b ≡ true → OnErr r P → P
 by_error (Ok x) b P is wrong h = absurd (false≢true (sym is ∙ wrong))
 by_error (Err e) b P is wrong h = h
+
+pub by_success : {X E : Type 0} (r : Result X E) (b : Bool) (P : Type 0) → b ≡ is_err r → b ≡ false → OnOk r P → P
+by_success (Ok x) b P is fine h = h
+by_success (Err e) b P is fine h = absurd (false≢true (sym fine ∙ is))
 
 -- the members that are left where a test tells where P fails
 pub left_by_retain : {F X : Type 0} (R : F → X → Bool → F → Type 0) (f : F) (before after : List X) → IsFiltered R f before after → (P : X → Type 0)
@@ -162,23 +150,16 @@ module _ {D : ℕ} where
   -- what is left was there
   pub loses_each : (before now after : List (CompactSpot D)) (P : CompactSpot D → Type 0) → now ≡ before → LosesWhere P now after
       → All (Contains before) after
-  loses_each before now after P same loses = all_from_in (Contains before) after
-      (λ x there. rw (← same) ((loses x).0 there).0)
+  loses_each before now after P same loses = all_from_in (Contains before) after (λ x there. rw (← same) ((loses x).0 there).0)
 
 -- ---- what a search among sorted spots tells
-
--- what a success promises, where there was no error
-pub by_success : {X E : Type 0} (r : Result X E) (b : Bool) (P : Type 0) → b ≡ is_err r → b ≡ false → OnOk r P → P
-by_success (Ok x) b P is fine h = h
-by_success (Err e) b P is fine h = absurd (false≢true (sym fine ∙ is))
 
 module _ {D : ℕ} where
   -- a list that held nothing has just what was given to it, in any order
   pub same_by_sort : (given none after : List (CompactSpot D)) → none ≡ [] → IsPermutation (none ++ given) after → (x : CompactSpot D)
       → Contains after x ↔ Contains given x
   same_by_sort given none after empty moved x =
-      let all : IsPermutation given after = subst (λ ys. IsPermutation (ys ++ given) after) empty moved in
-      (Contains-permutation after given x (IsPermutation-sym given after all), Contains-permutation given after x all)
+      same_by_permutation given after (rw empty at moved) x
 
   cmp_from_sorted : (xs : List (CompactSpot D)) → AreSorted xs → IsSorted spot_cmp xs
   cmp_from_sorted xs sorted = λ k d low high. by (get_or xs (k + 1) d) (get_or xs k d) (sorted k (k + 1) d (omega arith) high)

@@ -13,9 +13,7 @@ returns-then-not-is_within g c =
 
 pub returns-in_default : goal.returns-in_default
 returns-in_default g c =
-    let state = g.F.ParetoFront.state in
     let told = c.is_within.ensures c.self.inside.limit c.self.invariant.greatest in
-    let none = undominated g.row.D (state c.self.inside.front) c.compare.ensures.front c.args.cost.now.0 c.compare.result c.compare.ensures.standing
-    c.in_default.not-Dominated in
+    let none = undominated c.compare.ensures.front c.args.cost.now.0 c.compare.result c.compare.ensures.standing c.in_default.not-Dominated in
     rw (← c.self.view_is)
     (λ wrong. absurd (false≢true wrong), elim [ inl beyond ↦ absurd (beyond (told.0 c.if-not-is_within.false)) | inr by ↦ absurd (none by) ])

@@ -22,7 +22,7 @@ use Rattle.node_front.proofs.MergedLemmas.{merged_apart}
 use Rattle.node_front.proofs.MergeLaws.{merged_none, merged_then}
 use Rattle.node_front.proofs.NeedlessLemmas.{told_has_cost}
 use Rattle.node_front.proofs.PlacedLemmas.{cases_number}
-use Rattle.node_front.proofs.RoundLemmas.{at_push, at_push_other, of_at}
+use Rattle.node_front.proofs.RoundLemmas.{at_append, at_push, at_push_other, of_at}
 use Rattle.node_front.proofs.StaysLemmas.{stays_below, stays_of_cost}
 use Rattle.round_core.specs.Arriving.{AddsIfNew, HaveArrived, WaitsAsMerged, spot_at}
 use Rattle.round_core.specs.Unsettled.{HasUnsettled}
@@ -112,10 +112,6 @@ module _ {before after : Front} {candidates : List Entry} (merged : IsMerged bef
 -- ---- all fronts
 
 module _ {D : ℕ} where
-  -- what two lists of labels tell of a node
-  pub told_append : (v : ℕ) (ls ms : List (CompactLabel D)) → told_at v (ls ++ ms) ≡ told_at v ls ++ told_at v ms
-  told_append v ls ms = simp (filter-append, map-append)
-
   -- the candidates of a node spare its settled costs
   pub spares_at : (fronts : Fronts) (candidates : List (CompactLabel D))
       → All (λ (l : CompactLabel D). SparesSettled (front_at fronts l.node.0) l.cost.0) candidates
@@ -199,7 +195,7 @@ module _ {D : ℕ} where
     pub more_arrived : HaveArrived before waited (first ++ labels) after more_waiting more_removed
     more_arrived = record {
       nodes = nodes ∙ arrived.nodes;
-      merged = record { merged = λ v. rw (told_append v first labels) (merged_then _ _ _ _ _ (arrived.merged.merged v) (merges.merged v)) };
+      merged = record { merged = λ v. rw (at_append v first labels) (merged_then _ _ _ _ _ (arrived.merged.merged v) (merges.merged v)) };
       gone = still_gone;
       waits = still_waits;
     }

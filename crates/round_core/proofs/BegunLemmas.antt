@@ -38,9 +38,9 @@ waiting_not_dropped : ¬ (waiting ≡ dropped)
 waiting_not_dropped same = cc
 
 -- what waits after the drops waited, and isn't barred
-left_waiting : {D : ℕ} (before after : Core D) (drops : DropsBarred before after) (x : CompactSpot D)
+waits_after_drops : {D : ℕ} (before after : Core D) (drops : DropsBarred before after) (x : CompactSpot D)
     → Contains after.waiting x ↔ (Contains before.waiting x × (¬ IsBarred before x.cost.0))
-left_waiting before after drops x = alike_through (drops.waiting x) (λ h. (h.waits, h.free), λ h. record { waits = h.0; free = h.1 })
+waits_after_drops before after drops x = alike_through (drops.waiting x) (λ h. (h.waits, h.free), λ h. record { waits = h.0; free = h.1 })
 
 -- a conjunction, of which a part is told otherwise
 and_alike : {A B C E : Type 0} → (A ↔ (B × C)) → (B ↔ E) → (A ↔ (E × C))
@@ -94,7 +94,7 @@ module _ {D : ℕ} (task : Task) (before : Core D) (s : SearchState) (none : bef
   module _ (after : Core D) (drops : DropsBarred before after) (left : SearchState) (all : DropsAll task s left) where
     stands_dropped : (y : Label) → Contains left.dropped y
         ↔ (IsUnsettled (front_at before.fronts y.node) (as_entry y) × (¬ Contains after.waiting (as_spot y)))
-    stands_dropped y = both (all.entries dropped y) refl (at.stands.dropped y) (drop_told task before s at y) (left_waiting before after drops (as_spot y))
+    stands_dropped y = both (all.entries dropped y) refl (at.stands.dropped y) (drop_told task before s at y) (waits_after_drops before after drops (as_spot y))
         (told_spot before.waiting (as_spot y)) (told_barred before y.cost) where
           both : {A S M Q U W B V : Type 0} → (A ↔ ((S × (¬ M)) ⊎ (Q × M))) → Q → (S ↔ (U × (¬ W))) → (M ↔ (U × (W × B))) → (V ↔ (W × (¬ B)))
               → (W ⊎ (¬ W)) → (B ⊎ (¬ B)) → (A ↔ (U × (¬ V)))
@@ -103,7 +103,7 @@ module _ {D : ℕ} (task : Task) (before : Core D) (s : SearchState) (none : bef
     stands_waiting : (y : Label) → Contains left.waiting y
         ↔ (IsUnsettled (front_at before.fronts y.node) (as_entry y) × Contains after.waiting (as_spot y))
     stands_waiting y = both (all.entries waiting y) waiting_not_dropped (at.stands.waiting y) (drop_told task before s at y)
-        (left_waiting before after drops (as_spot y)) where
+        (waits_after_drops before after drops (as_spot y)) where
           both : {A S M Q U W B V : Type 0} → (A ↔ ((S × (¬ M)) ⊎ (Q × M))) → ¬ Q → (S ↔ (U × W)) → (M ↔ (U × (W × B))) → (V ↔ (W × (¬ B)))
               → (A ↔ (U × V))
           both a q s m v = grind arith
@@ -272,7 +272,7 @@ module _ {D : ℕ} (before mid : Core D) (drops : DropsBarred before mid) where
 
         waits_then : (y : Label) → Contains after.waiting (as_spot y)
             ↔ ((Contains before.waiting (as_spot y) × (¬ IsBarred before y.cost)) × (¬ Contains after.taken (as_spot y)))
-        waits_then y = and_alike (takes.taken.rest (as_spot y)) (left_waiting before mid drops (as_spot y))
+        waits_then y = and_alike (takes.taken.rest (as_spot y)) (waits_after_drops before mid drops (as_spot y))
 
         taken_waits : (y : Label) → Contains after.taken (as_spot y) → Contains before.waiting (as_spot y) × (¬ IsBarred before y.cost)
         taken_waits y there = let stays = ((is_next (as_spot y)).0 there).stays in (stays.waits, stays.free)

@@ -17,11 +17,11 @@ use Rattle.node_front.specs.Deltas.{AreDeltas, Deltas, MergesAll, costs_told_at,
 use Rattle.node_front.specs.NodeFronts.{Fronts, SameFronts, front_at}
 use Rattle.node_front.proofs.ApartLemmas.{same_entry}
 use Rattle.node_front.proofs.MergeLaws.{brought_candidate}
-use Rattle.node_front.proofs.RoundLemmas.{of_at}
+use Rattle.node_front.proofs.RoundLemmas.{at_append, deltas_of_same, of_at}
 use Rattle.round_core.specs.Arriving.{HaveArrived, WaitsAsMerged, spot_at}
 use Rattle.round_core.specs.Unsettled.{HasUnsettled}
 use Rattle.round_core.specs.Waiting.{Waiting, all_waiting}
-use Rattle.round_core.proofs.ArrivingLemmas.{HasAdded, more_arrived, none_arrived, spares_at, told_append, waits_without}
+use Rattle.round_core.proofs.ArrivingLemmas.{HasAdded, more_arrived, none_arrived, spares_at, waits_without}
 use Rattle.round_core.proofs.OutcomeLemmas.{in_at}
 use Rattle.round_core.proofs.UnsettledLemmas.{spot_by_parts}
 use Rattle.round_core.proofs.WaitingLemmas.{AreOther, loses_each}
@@ -56,17 +56,7 @@ module _ {D : ℕ} where
       (apart l.node.0).1 (entry_of l) (in_at (l ∷ []) l (in_first l [])) (subst (Contains (told_at l.node.0 ls)) (sym one) m_told))
       (other_spots P alike ls (λ v. (apart v).0) (λ m m_in. each m (in_rest l ls m m_in))) where
         apart : (v : ℕ) → AllPairs ◌≢◌ (told_at v ls) × ((x : Entry) → Contains (told_at v (l ∷ [])) x → ¬ Contains (told_at v ls) x)
-        apart v = once_apart (told_at v (l ∷ [])) (told_at v ls) (subst (AllPairs ◌≢◌) (told_append v (l ∷ []) ls) (once v))
-
-  -- the fronts of deltas may be told otherwise
-  pub deltas_of_same : (f g : Fronts) (candidates : List (CompactLabel D)) (d : Deltas D) → SameFronts f g → AreDeltas f candidates d
-      → AreDeltas g candidates d
-  deltas_of_same f g candidates d same are = record {
-    nodes = rw same.nodes are.nodes;
-    spares = rw same.fronts are.spares;
-    exact = rw same.fronts are.exact;
-    ascending = are.ascending;
-  }
+        apart v = once_apart (told_at v (l ∷ [])) (told_at v ls) (subst (AllPairs ◌≢◌) (at_append v (l ∷ []) ls) (once v))
 
   module _ (f : Fronts) (candidates : List (CompactLabel D)) (d : Deltas D) (are : AreDeltas f candidates d)
       (apart : (v : ℕ) → AreApart (entries (front_at f v))) where

@@ -1,8 +1,9 @@
 use Rattle.std.proofs.Common.{List, arith}
 use Rattle.compact_labels.specs.declared.label.CompactLabel.{CompactLabel}
 use Rattle.node_front.specs.Deltas.{AreDeltas}
+use Rattle.node_front.proofs.RoundLemmas.{deltas_of_same}
 use Rattle.round_core.specs.Waiting.{all_waiting}
-use Rattle.round_core.proofs.DeltaSpots.{EndsRound, added_dont_wait, added_nodes, added_once, deltas_of_same, ends_by_deltas}
+use Rattle.round_core.proofs.DeltaSpots.{EndsRound, added_dont_wait, added_nodes, added_once, ends_by_deltas}
 use Rattle.round_core.proofs.KeptLemmas.{kept_after}
 use Rattle.round_core.proofs.OutcomeLemmas.{finishes_by_merge}
 use Rattle.round_core.proofs.rounds.Core.finish.Goals as goal

@@ -30,13 +30,6 @@ use Rattle.round_core.proofs.OutcomeLemmas.{reached_on, same_task}
 use Rattle.round_core.proofs.SettlingLemmas.{unsettled_then}
 use Rattle.round_core.proofs.UnsettledLemmas.{told_spot}
 
--- places differ
-settled_not_dropped : ¬ (settled ≡ dropped)
-settled_not_dropped same = cc
-
-waiting_not_dropped : ¬ (waiting ≡ dropped)
-waiting_not_dropped same = cc
-
 -- what waits after the drops waited, and isn't barred
 waits_after_drops : {D : ℕ} (before after : Core D) (drops : DropsBarred before after) (x : CompactSpot D)
     → Contains after.waiting x ↔ (Contains before.waiting x × (¬ IsBarred before x.cost.0))
@@ -79,6 +72,13 @@ module _ {D : ℕ} (task : Task) (before : Core D) (s : SearchState) (none : bef
   settled_not_waiting : (y : Label) → Contains s.settled y → ¬ Contains s.waiting y
   settled_not_waiting y there waits = let same : settled ≡ waiting = sound.apart.placed settled waiting y there waits in cc
 
+  -- the next labels are settled beside those that were
+  settled_by_begun : (next : SearchState) → IsBegun task s next → (y : Label) → Contains next.settled y ↔ (Contains s.settled y ⊎ IsNext task s y)
+  settled_by_begun next begun y = both (begun.entries settled y) (λ wrong. cc) refl
+      (λ there. let not = settled_not_waiting y there in (λ may. not may.waits, λ is. not is.stays.waits)) where
+        both : {A S M N Q R : Type 0} → (A ↔ ((S × (¬ M) × (¬ N)) ⊎ ((Q × M) ⊎ (R × N)))) → ¬ Q → R → (S → (¬ M) × (¬ N)) → (A ↔ (S ⊎ N))
+        both a q r s = grind arith
+
   -- ---- the drops
 
   reached_by_drops : (left : SearchState) → DropsAll task s left → IsReached task left
@@ -102,14 +102,14 @@ module _ {D : ℕ} (task : Task) (before : Core D) (s : SearchState) (none : bef
 
     stands_waiting : (y : Label) → Contains left.waiting y
         ↔ (IsUnsettled (front_at before.fronts y.node) (as_entry y) × Contains after.waiting (as_spot y))
-    stands_waiting y = both (all.entries waiting y) waiting_not_dropped (at.stands.waiting y) (drop_told task before s at y)
+    stands_waiting y = both (all.entries waiting y) (λ wrong. cc) (at.stands.waiting y) (drop_told task before s at y)
         (waits_after_drops before after drops (as_spot y)) where
           both : {A S M Q U W B V : Type 0} → (A ↔ ((S × (¬ M)) ⊎ (Q × M))) → ¬ Q → (S ↔ (U × W)) → (M ↔ (U × (W × B))) → (V ↔ (W × (¬ B)))
               → (A ↔ (U × V))
           both a q s m v = grind arith
 
     stands_settled : (y : Label) → Contains left.settled y ↔ Contains (front_at before.fronts y.node).settled (as_entry y)
-    stands_settled y = both (all.entries settled y) settled_not_dropped (at.stands.settled y) (λ there may. settled_not_waiting y there may.waits) where
+    stands_settled y = both (all.entries settled y) (λ wrong. cc) (at.stands.settled y) (λ there may. settled_not_waiting y there may.waits) where
       both : {A S M Q F : Type 0} → (A ↔ ((S × (¬ M)) ⊎ (Q × M))) → ¬ Q → (S ↔ F) → (S → ¬ M) → (A ↔ F)
       both a q s m = grind arith
 
@@ -198,12 +198,14 @@ module _ {D : ℕ} (before mid : Core D) (drops : DropsBarred before mid) where
           (λ x y x_in y_in same. (stays_unsettled y ((next_in took rest takes y).0 y_in).stays).unsettled
           ((settled_spot y).0 (subst (Contains counts.spots) same x_in)))
 
+      next_settled : (y : Label) → Contains next.settled y ↔ (Contains s.settled y ⊎ IsNext task s y)
+      next_settled = settled_by_begun task before s drops.was_none at next begun
+
       -- the spots of the labels that are settled then
       settled_then : (y : Label) → Contains next.settled y → Contains (counts.spots ++ took) (as_spot y)
-      settled_then y there = (in_append counts.spots took (as_spot y)).1 (elim ((begun.entries settled y).0 there) [
-        | inl (old, _, _) ↦ inl ((settled_spot (as_spot y)).1 (record { arc = y.arc; contains = (at.stands.settled y).0 old }))
-        | inr (inl (wrong, _)) ↦ absurd (settled_not_dropped wrong)
-        | inr (inr (_, is_next)) ↦ inr ((next_in took rest takes (as_spot y)).1 ((next_told task before s at stays_unsettled y).0 is_next).1)
+      settled_then y there = (in_append counts.spots took (as_spot y)).1 (elim ((next_settled y).0 there) [
+        | inl old ↦ inl ((settled_spot (as_spot y)).1 (record { arc = y.arc; contains = (at.stands.settled y).0 old }))
+        | inr is_next ↦ inr ((next_in took rest takes (as_spot y)).1 ((next_told task before s at stays_unsettled y).0 is_next).1)
       ])
 
       label_then : (x : CompactSpot D) → Contains (counts.spots ++ took) x → (y : Label) × Contains next.settled y × (as_spot y ≡ x)
@@ -211,12 +213,10 @@ module _ {D : ℕ} (before mid : Core D) (drops : DropsBarred before mid) where
         | inl old ↦
             let has = (settled_spot x).0 old in
             let y : Label = record { node = x.node.0; cost = x.cost.0; arc = has.arc } in
-            let was = (at.stands.settled y).1 has.contains in
-            let waits_not = settled_not_waiting task before s drops.was_none at y was in
-            (y, (begun.entries settled y).1 (inl (was, λ may. waits_not may.waits, λ is_next. waits_not is_next.stays.waits)), refl)
+            (y, (next_settled y).1 (inl ((at.stands.settled y).1 has.contains)), refl)
         | inr new ↦
             let (y, is_next, same) = label_next task before s at stays_unsettled x ((next_in took rest takes x).0 new) in
-            (y, (begun.entries settled y).1 (inr (inr (refl, is_next))), same)
+            (y, (next_settled y).1 (inr is_next), same)
       ]
 
       pub more_then : (budget : ℕ) → budget < count + length took → HasMoreThan budget next.settled
@@ -277,17 +277,14 @@ module _ {D : ℕ} (before mid : Core D) (drops : DropsBarred before mid) where
         taken_waits : (y : Label) → Contains after.taken (as_spot y) → Contains before.waiting (as_spot y) × (¬ IsBarred before y.cost)
         taken_waits y there = let stays = ((is_next (as_spot y)).0 there).stays in (stays.waits, stays.free)
 
-        old_settled : (y : Label) → Contains s.settled y → (¬ MayDrop task s y) × (¬ IsNext task s y)
-        old_settled y there =
-            let not = settled_not_waiting task before s drops.was_none at y there in (λ may. not may.waits, λ is. not is.stays.waits)
+        now_settled : (y : Label) → Contains next.settled y ↔ (Contains s.settled y ⊎ IsNext task s y)
+        now_settled = settled_by_begun task before s drops.was_none at next begun
 
         begun_settled : (y : Label) → Contains next.settled y ↔ Contains (front_at after.fronts y.node).settled (as_entry y)
-        begun_settled y = both (begun.entries settled y) settled_not_dropped refl (at.stands.settled y) (old_settled y) (next_taken y)
-            (settles.settled y.node (as_entry y)) (λ entry taken. record { entry = entry; unsettled = (taken_unsettled (as_spot y) taken).unsettled })
-            (λ not. not.entry) where
-              both : {A S M N Q R F U T G E : Type 0} → (A ↔ ((S × (¬ M) × (¬ N)) ⊎ ((Q × M) ⊎ (R × N)))) → ¬ Q → R → (S ↔ F) → (S → (¬ M) × (¬ N))
-                  → (N ↔ (U × T)) → (G ↔ (F ⊎ (E × T))) → (E → T → U) → (U → E) → (A ↔ G)
-              both a q r s m n g u e = grind arith
+        begun_settled y = both (now_settled y) (at.stands.settled y) (next_taken y) (settles.settled y.node (as_entry y))
+            (λ entry taken. record { entry = entry; unsettled = (taken_unsettled (as_spot y) taken).unsettled }) (λ not. not.entry) where
+              both : {A S N F U T G E : Type 0} → (A ↔ (S ⊎ N)) → (S ↔ F) → (N ↔ (U × T)) → (G ↔ (F ⊎ (E × T))) → (E → T → U) → (U → E) → (A ↔ G)
+              both a s n g u e = grind arith
 
         begun_dropped : (y : Label) → Contains next.dropped y
             ↔ (IsUnsettled (front_at after.fronts y.node) (as_entry y) × (¬ Contains after.waiting (as_spot y)))
@@ -297,24 +294,23 @@ module _ {D : ℕ} (before mid : Core D) (drops : DropsBarred before mid) where
         begun_waiting : (y : Label) → Contains next.waiting y
             ↔ (IsUnsettled (front_at after.fronts y.node) (as_entry y) × Contains after.waiting (as_spot y))
         begun_waiting y = waits_by_parts (drop_told task before s at y) (next_taken y) (left_unsettled y) (waits_then y) (begun.entries waiting y)
-            waiting_not_dropped (λ wrong. cc) (at.stands.waiting y)
+            (λ wrong. cc) (λ wrong. cc) (at.stands.waiting y)
 
         begun_taken : (x : CompactSpot D) → Contains after.taken x → (y : Label) × Contains next.settled y × (as_spot y ≡ x)
         begun_taken x there =
             let (y, is, same) = label_next task before s at stays_unsettled x ((is_next x).0 there) in
-            (y, (begun.entries settled y).1 (inr (inr (refl, is))), same)
+            (y, (now_settled y).1 (inr is), same)
 
         begun_unrelaxed : (p : Label × ℕ) → Contains next.unrelaxed p
             ↔ (Contains next.settled p.0 × Contains after.taken (as_spot p.0) × LeadsOn task.network p.0.node p.1)
         begun_unrelaxed p = (
           λ h.
               let (is, leads) = (begun.unrelaxed p).0 h in
-              ((begun.entries settled p.0).1 (inr (inr (refl, is))), ((next_taken p.0).0 is).1, leads),
+              ((now_settled p.0).1 (inr is), ((next_taken p.0).0 is).1, leads),
           λ (there, taken, leads). (begun.unrelaxed p).1 (
-            elim ((begun.entries settled p.0).0 there) [
-              | inl (old, _, _) ↦ absurd ((taken_unsettled (as_spot p.0) taken).unsettled (record { arc = p.0.arc; contains = (at.stands.settled p.0).0 old }))
-              | inr (inl (wrong, _)) ↦ absurd (settled_not_dropped wrong)
-              | inr (inr (_, is)) ↦ is
+            elim ((now_settled p.0).0 there) [
+              | inl old ↦ absurd ((taken_unsettled (as_spot p.0) taken).unsettled (record { arc = p.0.arc; contains = (at.stands.settled p.0).0 old }))
+              | inr is ↦ is
             ],
             leads,
           ),

@@ -26,9 +26,6 @@ use Rattle.round_core.proofs.OutcomeLemmas.{in_at}
 use Rattle.round_core.proofs.UnsettledLemmas.{spot_by_parts}
 use Rattle.round_core.proofs.WaitingLemmas.{AreOther, loses_each}
 
-abbrev front_in : List Front → ℕ → Front
-front_in fs v = slice_index_or fs v empty_front
-
 module _ {D : ℕ} where
   -- a list has a spot where its node tells the cost
   spots_told : (spots : List (CompactSpot D)) (x : CompactSpot D) → Contains spots x ↔ Contains (costs_told_at x.node.0 spots) x.cost.0

@@ -25,7 +25,7 @@ use Rattle.node_front.proofs.RoundLemmas.{of_at}
 use Rattle.round_core.specs.Cores.{Core, IsAt, IsSearchOf, SameSearch, StandsFor, as_compact, as_entry, as_spot}
 use Rattle.round_core.specs.Finishes.{AreArrivals, FinishesRound, MergesRound}
 use Rattle.round_core.specs.Unsettled.{HasUnsettled, IsUnsettled}
-use Rattle.round_core.proofs.UnsettledLemmas.{cases_settled, dominated_by_second, has_unsettled_parts, settled_by_cost, spot_by_parts, told_spot}
+use Rattle.round_core.proofs.UnsettledLemmas.{cases_settled, dominated_by_second, settled_by_cost, spot_by_parts, told_spot}
 
 -- a label of a list tells its entry at its node
 pub in_at : {D : ℕ} (ls : List (CompactLabel D)) (l : CompactLabel D) → Contains ls l → Contains (told_at l.node.0 ls) (entry_of l)
@@ -107,16 +107,17 @@ module _ {D : ℕ} (task : Task) (before after : Core D) (s end : SearchState) (
         record { label = one; member = (stands.settled one).1 has.contains; same = record { node = refl; cost = refl } },
   )
 
-  dropped_pair : (y : Label) → HasPair s.dropped y ↔ (HasUnsettled (front_at before.fronts y.node) y.cost × (¬ Contains before.waiting (as_spot y)))
+  dropped_pair : (y : Label) → HasPair s.dropped y ↔ ((HasCost (entries (front_at before.fronts y.node)) y.cost
+      × (¬ HasCost (front_at before.fronts y.node).settled y.cost)) × (¬ Contains before.waiting (as_spot y)))
   dropped_pair y = (
     λ h.
         let was = (stands.dropped h.label).0 h.member in
-        rw (← h.same.node, ← h.same.cost) (record { entry = record { arc = h.label.arc; contains = was.0.entry }; unsettled = was.0.unsettled }, was.1),
+        rw (← h.same.node, ← h.same.cost) ((record { arc = h.label.arc; contains = was.0.entry }, was.0.unsettled), was.1),
     λ h.
-        let one = label_at y.node (record { cost = y.cost; arc = h.0.entry.arc }) in
+        let one = label_at y.node (record { cost = y.cost; arc = h.0.0.arc }) in
         record {
           label = one;
-          member = (stands.dropped one).1 (record { entry = h.0.entry.contains; unsettled = h.0.unsettled }, h.1);
+          member = (stands.dropped one).1 (record { entry = h.0.0.contains; unsettled = h.0.1 }, h.1);
           same = record { node = refl; cost = refl };
         },
   )
@@ -162,19 +163,18 @@ module _ {D : ℕ} (task : Task) (before after : Core D) (s end : SearchState) (
     stands_dropped : (y : Label) → Contains end.dropped y
         ↔ (IsUnsettled (front_at after.fronts y.node) (as_entry y) × (¬ Contains after.waiting (as_spot y)))
     stands_dropped y = both (outcome.entries dropped y) (dropped_pair y) (unsettled_told y) (waits_told y)
-        (has_unsettled_parts (front_at before.fronts y.node) y.cost) (told_has_cost (entries (front_at before.fronts y.node)) y.cost) where
-          both : {A S P U W V B N H : Type 0} → (A ↔ (S × P)) → (P ↔ (U × (¬ W))) → (V ↔ (S × (¬ B))) → (V → (N ↔ (W ⊎ (¬ H)))) → (U ↔ (H × (¬ B)))
+        (told_has_cost (entries (front_at before.fronts y.node)) y.cost) where
+          both : {A S P W V B N H : Type 0} → (A ↔ (S × P)) → (P ↔ ((H × (¬ B)) × (¬ W))) → (V ↔ (S × (¬ B))) → (V → (N ↔ (W ⊎ (¬ H))))
               → (H ⊎ (¬ H)) → (A ↔ (V × (¬ N)))
-          both f p v n u told = grind arith
+          both f p v n told = grind arith
 
     stands_waiting : (y : Label) → Contains end.waiting y
         ↔ (IsUnsettled (front_at after.fronts y.node) (as_entry y) × Contains after.waiting (as_spot y))
     stands_waiting y = both (outcome.entries waiting y) (settled_pair y) (dropped_pair y) (unsettled_told y) (waits_told y)
-        (has_unsettled_parts (front_at before.fronts y.node) y.cost) (told_has_cost (entries (front_at before.fronts y.node)) y.cost)
-        (told_spot before.waiting (as_spot y)) where
-          both : {A S P Q U W V B N H : Type 0} → (A ↔ (S × ((¬ Q) × (¬ P)))) → (Q ↔ B) → (P ↔ (U × (¬ W))) → (V ↔ (S × (¬ B)))
-              → (V → (N ↔ (W ⊎ (¬ H)))) → (U ↔ (H × (¬ B))) → (H ⊎ (¬ H)) → (W ⊎ (¬ W)) → (A ↔ (V × N))
-          both f q p v n u told told_too = grind arith
+        (told_has_cost (entries (front_at before.fronts y.node)) y.cost) (told_spot before.waiting (as_spot y)) where
+          both : {A S P Q W V B N H : Type 0} → (A ↔ (S × ((¬ Q) × (¬ P)))) → (Q ↔ B) → (P ↔ ((H × (¬ B)) × (¬ W))) → (V ↔ (S × (¬ B)))
+              → (V → (N ↔ (W ⊎ (¬ H)))) → (H ⊎ (¬ H)) → (W ⊎ (¬ W)) → (A ↔ (V × N))
+          both f q p v n told told_too = grind arith
 
     pub stands_after : StandsFor task.network after end
     stands_after = record {

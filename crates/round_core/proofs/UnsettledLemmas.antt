@@ -27,12 +27,9 @@ dominated_by_second xs ys h = record { by = h.by; contains = (in_append xs ys h.
 pub told_spot : {D : ℕ} (xs : List (CompactSpot D)) (x : CompactSpot D) → IsTold (Contains xs x)
 told_spot xs x = told_in cases_spot xs x
 
--- an unsettled entry and cost by their parts
+-- an unsettled entry by its parts
 pub unsettled_parts : (f : Front) (e : Entry) → IsUnsettled f e ↔ (Contains (entries f) e × (¬ HasCost f.settled e.cost))
 unsettled_parts f e = grind arith
-
-pub has_unsettled_parts : (f : Front) (c : List ℕ) → HasUnsettled f c ↔ (HasCost (entries f) c × (¬ HasCost f.settled c))
-has_unsettled_parts f c = grind arith
 
 -- an entry is settled exactly where one of its cost is
 pub settled_by_cost : (f : Front) (e : Entry) → AreApart (entries f) → Contains f.settled e ↔ (Contains (entries f) e × HasCost f.settled e.cost)

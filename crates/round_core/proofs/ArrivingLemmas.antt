@@ -42,20 +42,20 @@ added_among f es c h = elim ((in_append (entries f) es h.entry).0 h.added.stays.
 ]
 
 -- no candidate dominates a settled cost
-abbrev pub SpareSettled : Front → List Entry → Type 0
+abbrev SpareSettled : Front → List Entry → Type 0
 SpareSettled front candidates = (c : List ℕ) → HasCost front.settled c → ¬ IsDominated candidates c
 
 -- ---- one front
 
 module _ {before after : Front} {candidates : List Entry} (merged : IsMerged before candidates after) where
   -- what was known of the node and is dominated still is
-  pub dominated_after : (c : List ℕ) → IsDominated (entries before ++ candidates) c → IsDominated (entries after) c
+  dominated_after : (c : List ℕ) → IsDominated (entries before ++ candidates) c → IsDominated (entries after) c
   dominated_after c h =
       let (b, stays, below) = stays_below (entries before ++ candidates) h.by h.contains in
       record { by = b; contains = (merged.entries b).1 stays; dominates = AtMost-Dominates b.cost h.by.cost c below h.dominates }
 
   -- what was an entry's cost and no entry dominates now still is one's
-  pub cost_after : (c : List ℕ) → HasCost (entries before) c → ¬ IsDominated (entries after) c → HasCost (entries after) c
+  cost_after : (c : List ℕ) → HasCost (entries before) c → ¬ IsDominated (entries after) c → HasCost (entries after) c
   cost_after c has none =
       let x : Entry = record { cost = c; arc = has.arc } in
       let (b, stays, below) = stays_below (entries before ++ candidates) x ((in_append (entries before) candidates x).1 (inl has.contains)) in
@@ -66,7 +66,7 @@ module _ {before after : Front} {candidates : List Entry} (merged : IsMerged bef
       ]
 
   -- a new entry's cost is no old entry's, and none dominates it
-  pub added_is_new : (c : List ℕ) → HasAdded before candidates c → (¬ HasCost (entries before) c) × (¬ IsDominated (entries before) c)
+  added_is_new : (c : List ℕ) → HasAdded before candidates c → (¬ HasCost (entries before) c) × (¬ IsDominated (entries before) c)
   added_is_new c h = (
     λ has. h.added.new (subst (HasCost (entries before)) (sym h.cost) has),
     λ by. h.added.stays.nondominated (rw h.cost (dominated_by_first (entries before) candidates by)),
@@ -78,7 +78,7 @@ module _ {before after : Front} {candidates : List Entry} (merged : IsMerged bef
 
   module _ (apart : AreApart (entries before)) (spares : SpareSettled before candidates) where
     -- a new entry isn't settled, and neither is an old one that isn't dominated, if it wasn't before
-    pub unsettled_costs : (c : List ℕ) → HasUnsettled after c
+    unsettled_costs : (c : List ℕ) → HasUnsettled after c
         ↔ ((HasUnsettled before c × (¬ IsDominated candidates c)) ⊎ HasAdded before candidates c)
     unsettled_costs c = (
       λ h.
@@ -192,6 +192,7 @@ module _ {D : ℕ} where
               → ((W' × (¬ R')) ↔ (U' × (S ⊎ (¬ B))))
           parts w r w' u x_g g_x x_h r_k a = grind arith
 
+    -- the second do, where the first have
     pub more_arrived : HaveArrived before waited (first ++ labels) after more_waiting more_removed
     more_arrived = record {
       nodes = nodes ∙ arrived.nodes;
@@ -294,5 +295,6 @@ module _ {D : ℕ} where
             f : Front
             f = front_at now l.node.0
 
+      -- one more label has come
       pub one_arrived : HaveArrived before waited (first ++ l ∷ []) after more_waiting more_removed
       one_arrived = more_arrived _ _ arrived each_spares each_merged elsewhere.nodes each_goes each_comes

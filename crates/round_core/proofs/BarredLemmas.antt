@@ -44,7 +44,7 @@ module _ {D : ℕ} (task : Task) (core : Core D) (s : SearchState) (at : IsAt ta
     both : {M W U B E Q : Type 0} → (W ↔ (E × Q)) → (B ↔ U) → (M → (W × U)) → (W → U → M) → (M ↔ (E × (Q × B)))
     both f g h k = grind arith
 
-  pub stays_told : (y : Label) → Stays task s y ↔ (IsUnsettled (front_at core.fronts y.node) (as_entry y) × StaysIn core (as_spot y))
+  stays_told : (y : Label) → Stays task s y ↔ (IsUnsettled (front_at core.fronts y.node) (as_entry y) × StaysIn core (as_spot y))
   stays_told y = (
     λ h.
         let (not, waits) = (at.stands.waiting y).0 h.waits in
@@ -57,18 +57,20 @@ module _ {D : ℕ} (task : Task) (core : Core D) (s : SearchState) (at : IsAt ta
 
   module _ (unsettled : (x : CompactSpot D) → StaysIn core x → HasUnsettled (front_at core.fronts x.node.0) x.cost.0) where
     -- each spot that stays is a label's
-    pub label_of : (x : CompactSpot D) → StaysIn core x
+    label_of : (x : CompactSpot D) → StaysIn core x
         → (y : Label) × IsUnsettled (front_at core.fronts y.node) (as_entry y) × (as_spot y ≡ x)
     label_of x stays =
         let has = unsettled x stays in
         let y : Label = record { node = x.node.0; cost = x.cost.0; arc = has.entry.arc } in
         (y, record { entry = has.entry.contains; unsettled = has.unsettled }, refl)
 
+    -- and each spot that stays is of a label that stays
     pub label_stays : (x : CompactSpot D) → StaysIn core x → (y : Label) × Stays task s y × (as_spot y ≡ x)
     label_stays x stays =
         let (y, not, same) = label_of x stays in
         (y, (stays_told y).1 (not, subst (StaysIn core) (sym same) stays), same)
 
+    -- a label is next where its spot is
     pub next_told : (y : Label) → IsNext task s y ↔ (IsUnsettled (front_at core.fronts y.node) (as_entry y) × IsNextIn core (as_spot y))
     next_told y = (
       λ h.
@@ -87,6 +89,7 @@ module _ {D : ℕ} (task : Task) (core : Core D) (s : SearchState) (at : IsAt ta
       },
     )
 
+    -- and each next spot is of a label that is next
     pub label_next : (x : CompactSpot D) → IsNextIn core x → (y : Label) × IsNext task s y × (as_spot y ≡ x)
     label_next x next =
         let (y, not, same) = label_of x next.stays in

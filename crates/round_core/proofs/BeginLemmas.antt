@@ -44,6 +44,7 @@ module _ {D : ℕ} (before mid after : Core D) (drops : DropsBarred before mid)
   each_unsettled : (x : CompactSpot D) → Contains mid.waiting x → HasUnsettled (front_at mid.fronts x.node.0) x.cost.0
   each_unsettled = each_in (λ (x : CompactSpot D). HasUnsettled (front_at mid.fronts x.node.0) x.cost.0) mid.waiting unsettled
 
+  -- what the answer says
   pub begins_as : (result : Result Begun OutOfMemory) → IfOk result (TakesAs mid after) → IfOk result (BeginsAs before after)
   begins_as (Ok Taken) took =
       let (x, waits) = some_member mid.waiting some in has_begun before mid drops each_unsettled after took x waits
@@ -51,6 +52,7 @@ module _ {D : ℕ} (before mid after : Core D) (drops : DropsBarred before mid)
   begins_as (Ok Budget) took = let (x, waits) = some_member mid.waiting some in passes before mid drops each_unsettled x waits took
   begins_as (Err e) took = tt
 
+  -- the same is searched
   pub same_begun : (result : Result Begun OutOfMemory) → IfOk result (TakesAs mid after) → (result ≢ Ok Taken → KeepsWaiting mid after)
       → SameSearch before after
   same_begun (Ok Taken) took kept = same_on before mid after drops.same_search took.same_search
@@ -58,9 +60,11 @@ module _ {D : ℕ} (before mid after : Core D) (drops : DropsBarred before mid)
   same_begun (Ok Budget) took kept = same_on before mid after drops.same_search (kept (λ wrong. grind arith)).same_search
   same_begun (Err e) took kept = same_on before mid after drops.same_search (kept (λ wrong. grind arith)).same_search
 
+  -- where none was taken, only drops were made
   pub only_drops : (result : Result Begun OutOfMemory) → (result ≢ Ok Taken → KeepsWaiting mid after) → result ≢ Ok Taken → DropsUseless before after
   only_drops result kept other = drops_kept before mid drops after (kept other)
 
+  -- how many steps were counted
   pub counts : (result : Result Begun OutOfMemory) (old new : ℕ) → IfOk result (TakesAs mid after) → OnOk result (new ≡ old + 1) → old ≤ new
       → new ≤ old + 1 → CountsRound before result old new
   counts result old new took step no_less at_most_one = record {

@@ -65,7 +65,7 @@ module _ {D : ℕ} (task : Task) (before : Core D) (s : SearchState) (none : bef
   none_unrelaxed : (p : Label × ℕ) → ¬ Contains s.unrelaxed p
   none_unrelaxed p there = none_of_empty before.taken none (as_spot p.0) ((at.stands.unrelaxed p).0 there).1
 
-  pub between : IsBetweenRounds s
+  between : IsBetweenRounds s
   between = record { unrelaxed = empty_if_none s.unrelaxed none_unrelaxed; candidates = at.stands.candidates }
 
   -- a settled label may not be dropped, and isn't next
@@ -113,7 +113,7 @@ module _ {D : ℕ} (task : Task) (before : Core D) (s : SearchState) (none : bef
       both : {A S M Q F : Type 0} → (A ↔ ((S × (¬ M)) ⊎ (Q × M))) → ¬ Q → (S ↔ F) → (S → ¬ M) → (A ↔ F)
       both a q s m = grind arith
 
-    pub at_left : IsAt task after left
+    at_left : IsAt task after left
     at_left = record {
       search = same_task task before after drops.same_search at.search;
       reached = reached_by_drops left all;
@@ -132,6 +132,7 @@ module _ {D : ℕ} (task : Task) (before : Core D) (s : SearchState) (none : bef
     }
 
 module _ {D : ℕ} (before mid : Core D) (drops : DropsBarred before mid) where
+  -- what was dropped is useless
   pub drops_useless : DropsUseless before mid
   drops_useless task s left at all = at_left task before s drops.was_none at mid drops left all
 
@@ -152,6 +153,7 @@ module _ {D : ℕ} (before mid : Core D) (drops : DropsBarred before mid) where
     | inr free ↦ absurd (none_of_empty mid.waiting gone x ((drops.waiting x).1 (record { waits = waits; free = free })))
   ]
 
+  -- and the search has ended
   pub ended : mid.waiting ≡ [] → HasEnded before mid
   ended gone = record {
     none_waits = gone;
@@ -168,6 +170,7 @@ module _ {D : ℕ} (before mid : Core D) (drops : DropsBarred before mid) where
     stays_unsettled : (x : CompactSpot D) → StaysIn before x → HasUnsettled (front_at before.fronts x.node.0) x.cost.0
     stays_unsettled x stays = rw drops.fronts at (unsettled x ((drops.waiting x).1 stays))
 
+    -- what waits after the drops stays
     pub some_stay : (x : CompactSpot D) → Contains mid.waiting x → SomeStay before
     some_stay x waits =
         let stays = (drops.waiting x).0 waits in
@@ -219,7 +222,7 @@ module _ {D : ℕ} (before mid : Core D) (drops : DropsBarred before mid) where
             (y, (next_settled y).1 (inr is_next), same)
       ]
 
-      pub more_then : (budget : ℕ) → budget < count + length took → HasMoreThan budget next.settled
+      more_then : (budget : ℕ) → budget < count + length took → HasMoreThan budget next.settled
       more_then budget beyond =
           let whole = length-append counts.spots took in
           more_of_map cases_label (λ (y : Label). as_spot {D = D} y) budget next.settled
@@ -228,7 +231,7 @@ module _ {D : ℕ} (before mid : Core D) (drops : DropsBarred before mid) where
           subst (Contains (map (λ (z : Label). as_spot {D = D} z) next.settled)) same (in_map (λ (z : Label). as_spot {D = D} z) next.settled y y_in))
           (omega (arith, beyond, whole, counts.counted)))
 
-      pub within_then : (budget : ℕ) → IsReached task next → count + length took ≤ budget → ¬ HasMoreThan budget next.settled
+      within_then : (budget : ℕ) → IsReached task next → count + length took ≤ budget → ¬ HasMoreThan budget next.settled
       within_then budget reached within more =
           let spot : Label → CompactSpot D = λ y. as_spot y in
           let apart : AllPairs (λ x y. spot x ≢ spot y) more.members = λ i j d before within same.
@@ -316,7 +319,7 @@ module _ {D : ℕ} (before mid : Core D) (drops : DropsBarred before mid) where
           ),
         )
 
-        pub at_begun : IsAt task after next
+        at_begun : IsAt task after next
         at_begun = record {
           search = same_task task mid after takes.same_search (same_task task before mid drops.same_search at.search);
           reached = reached_by_begins task before s drops.was_none at next begun;
@@ -330,6 +333,7 @@ module _ {D : ℕ} (before mid : Core D) (drops : DropsBarred before mid) where
           };
         }
 
+      -- the round has begun
       pub has_begun : (x : CompactSpot D) → Contains mid.waiting x → HasBegun before after
       has_begun x waits =
           let within : takes.count + length after.taken ≤ before.budget = rw drops.same_search.budget at takes.within in

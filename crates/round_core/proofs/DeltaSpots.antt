@@ -104,7 +104,7 @@ module _ {D : ℕ} where
     )
 
     -- where they come to wait, and the spots of entries that are gone leave, just that waits which is to wait
-    pub waits_by_deltas : (after : Fronts) (waiting : Waiting D) (queued fresh left_queued left_fresh : List (CompactSpot D))
+    waits_by_deltas : (after : Fronts) (waiting : Waiting D) (queued fresh left_queued left_fresh : List (CompactSpot D))
         → All (λ (x : CompactSpot D). HasUnsettled (front_at f x.node.0) x.cost.0) (all_waiting waiting)
         → MergesAll f candidates after → after.nodes ≡ f.nodes → queued ≡ waiting.queued → Gains waiting.fresh (map (spot_at {D = D}) d.added) fresh
         → LosesWhere (Contains d.removed) queued left_queued → LosesWhere (Contains d.removed) fresh left_fresh

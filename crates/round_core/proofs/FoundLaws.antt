@@ -33,11 +33,13 @@ module _ {D : ℕ} (task : Task) (core : Core D) (s : SearchState) (at : IsAt ta
   given x (inl there) = absurd (none_of_empty s.candidates at.stands.candidates x there)
   given x (inr is) = is
 
+  -- it arrives at a node
   pub arrives_at_node : (x : Label) → IsArrival task.network s x → IsNode core.fronts.nodes x.node
   arrives_at_node x arrives =
       let (e, _, follows) = given x arrives in
       rw (← at.search.nodes) (leads_to_node task.network at.search.is_task.network x.arc e.node x.node follows.by follows.leads)
 
+  -- and its cost dominates no settled one
   pub spares_settled : (x : Label) → IsArrival task.network s x → SparesSettled (front_at core.fronts x.node) x.cost
   spares_settled x arrives entry there less =
       let l : Label = record { node = x.node; cost = entry.cost; arc = entry.arc } in
@@ -47,17 +49,20 @@ module _ {D : ℕ} (task : Task) (core : Core D) (s : SearchState) (at : IsAt ta
 
   -- ---- taken labels
 
+  -- a taken cost is a small sum
   pub taken_is_small : (x : CompactSpot D) (n : ℕ) → AreSmall task.network.states → ¬ HasMoreThan n s.settled → Contains core.taken x → IsSumOf n x.cost.0
   taken_is_small x n small few there =
       let (y, y_in, same) = at.stands.taken x there in
       rw (← same) (known_is_bounded task at.search.is_task small s sound y n few (inl (settled, y_in)))
 
+  -- a taken cost is relevant
   pub taken_is_relevant : (x : CompactSpot D) → Contains core.taken x
       → IsRelevant task.network task.start task.target task.limit x.node.0 x.cost.0
   taken_is_relevant x there =
       let (y, y_in, same) = at.stands.taken x there in
       rw (← same) (sound.relevant y y_in)
 
+  -- a taken spot is of a node
   pub taken_at_node : (x : CompactSpot D) → Contains core.taken x → IsNode core.fronts.nodes x.node.0
   taken_at_node x there =
       let reached = (taken_is_relevant x there).best.reached in
@@ -79,6 +84,7 @@ module _ {D : ℕ} (task : Task) (core : Core D) (s : SearchState) (at : IsAt ta
       λ h. rw (← h.cost, ← h.node) (record { arc = h.label.arc; settled = (label_found h.label).1 h.settled }),
     )
 
+    -- all that is relevant was found
     pub has_all : HasAllRelevant task.network task.limit found
     has_all = record {
       relevant = λ v c.

@@ -30,13 +30,13 @@ use Rattle.round_core.specs.Arriving.{WaitsAsMerged}
 use Rattle.round_core.proofs.ArrivingLemmas.{settled_costs, spares_at}
 
 -- the same costs dominate the same
-pub dominated_by_costs : (xs ys : List Entry) → ((k : List ℕ) → HasCost xs k → HasCost ys k) → (c : List ℕ) → IsDominated xs c → IsDominated ys c
+dominated_by_costs : (xs ys : List Entry) → ((k : List ℕ) → HasCost xs k → HasCost ys k) → (c : List ℕ) → IsDominated xs c → IsDominated ys c
 dominated_by_costs xs ys on c h =
     let has = on h.by.cost (record { arc = h.by.arc; contains = h.contains }) in
     record { by = record { cost = h.by.cost; arc = has.arc }; contains = has.contains; dominates = h.dominates }
 
 -- what is of no use is barred
-pub useless_barred : {D : ℕ} (core : Core D) (b : Bounds D) → core.limit ≡ b.limit → AreBoundsOf b (front_at core.fronts core.target) → (c : List ℕ)
+useless_barred : {D : ℕ} (core : Core D) (b : Bounds D) → core.limit ≡ b.limit → AreBoundsOf b (front_at core.fronts core.target) → (c : List ℕ)
     → IsUseless b c ↔ IsBarred core c
 useless_barred core b limit are c = rw limit (
   elim [ inl beyond ↦ inl beyond | inr by ↦ inr (dominated_by_costs _ _ (λ k. (are k).0) c by) ],
@@ -74,6 +74,7 @@ module _ {D start target budget settled : ℕ} {b n : Bounds D} {f : Fronts} {w 
 
 module _ {D : ℕ} (b : Bounds D) (w v : Waiting D) (queued : LosesWhere (λ x. IsUseless b x.cost.0) w.queued v.queued)
     (fresh : LosesWhere (λ x. IsUseless b x.cost.0) w.fresh v.fresh) where
+  -- of all that waited, what is of use is left
   pub left_of_all : LosesWhere (λ x. IsUseless b x.cost.0) (all_waiting w) (all_waiting v)
   left_of_all x = both (in_append w.queued w.fresh x) (in_append v.queued v.fresh x) (queued x) (fresh x) where
     both : {A B C P Q R N : Type 0} → (A ↔ (B ⊎ C)) → (P ↔ (Q ⊎ R)) → (Q ↔ (B × (¬ N))) → (R ↔ (C × (¬ N))) → (P ↔ (A × (¬ N)))
@@ -98,16 +99,17 @@ module _ {D : ℕ} (b : Bounds D) (w v : Waiting D) (queued : LosesWhere (λ x. 
 -- ---- what was taken is given back, or settled
 
 module _ {D : ℕ} {old took left : List (CompactSpot D)} (takes : TakesUndominated old took left) where
+  -- each was taken once
   pub took_once : AllPairs ◌≢◌ took
   took_once = ascending_distinct SpotLess SpotLess-irrefl SpotLess-trans took takes.ascending
 
-  pub took_apart : (x : CompactSpot D) → Contains took x → ¬ Contains left x
+  took_apart : (x : CompactSpot D) → Contains took x → ¬ Contains left x
   took_apart x there left_too = ((takes.rest x).0 left_too).1 there
 
-  pub took_of_old : (x : CompactSpot D) → Contains took x → Contains old x
+  took_of_old : (x : CompactSpot D) → Contains took x → Contains old x
   took_of_old x there = ((takes.taken x).0 there).0
 
-  pub given_back : (queue : List (CompactSpot D)) → SameMembers queue left → SameMembers (queue ++ took) old
+  given_back : (queue : List (CompactSpot D)) → SameMembers queue left → SameMembers (queue ++ took) old
   given_back queue same x = back (in_append queue took x) (same x) (takes.rest x) (took_of_old x) (told_spot took x) where
     back : {A Q T L O : Type 0} → (A ↔ (Q ⊎ T)) → (Q ↔ L) → (L ↔ (O × (¬ T))) → (T → O) → (T ⊎ (¬ T)) → (A ↔ O)
     back a q l t told = grind arith
@@ -121,7 +123,7 @@ module _ {D : ℕ} (f g : Fronts) (xs : List (CompactSpot D)) (all : SettlesAll 
         by c e = grind arith
 
   -- so many more are settled
-  pub counts_more : (n : ℕ) → AllPairs ◌≢◌ xs → CountsSettled D f n → CountsSettled D g (n + length xs)
+  counts_more : (n : ℕ) → AllPairs ◌≢◌ xs → CountsSettled D f n → CountsSettled D g (n + length xs)
   counts_more n once counts = record {
     spots = xs ++ counts.spots;
     once = lists_append (Contains xs) (λ x. HasCost (front_at f x.node.0).settled x.cost.0) (λ x. HasCost (front_at g x.node.0).settled x.cost.0)

@@ -176,7 +176,7 @@ module _ {D : ℕ} (task : Task) (before after : Core D) (s end : SearchState) (
               → (V → (N ↔ (W ⊎ (¬ H)))) → (H ⊎ (¬ H)) → (W ⊎ (¬ W)) → (A ↔ (V × N))
           both f q p v n told told_too = grind arith
 
-    pub stands_after : StandsFor task.network after end
+    stands_after : StandsFor task.network after end
     stands_after = record {
       settled = stands_settled;
       dropped = stands_dropped;

@@ -67,12 +67,14 @@ module _ {D : ℕ} (b : Bounds D) {f : Front} {c : List ℕ} (are : AreBoundsOf 
   bound_entry : (e : Entry) → Contains (entries b.front) e → (x : Entry) × Contains f.settled x × (x.cost ≡ e.cost)
   bound_entry e there = let h = (are e.cost).0 (record { arc = e.arc; contains = there }) in (record { cost = e.cost; arc = h.arc }, h.contains, refl)
 
+  -- no bound covers it
   pub new_to_bounds : ¬ IsCovered (entries b.front) c
   new_to_bounds h =
       let (x, there, same) = bound_entry h.by h.contains in
       let one = apart x mine ((in_append f.settled f.unsettled x).1 (inl there)) has.entry.contains (subst (λ k. AtMost k c) (sym same) h.at_most) in
       has.unsettled (record { arc = has.entry.arc; contains = subst (Contains f.settled) one there })
 
+  -- it dominates no bound
   pub spares_bounds : SparesSettled b.front c
   spares_bounds e there less =
       let (x, in_f, same) = bound_entry e ((in_append b.front.settled b.front.unsettled e).1 (inl there)) in
@@ -106,6 +108,7 @@ module _ {D : ℕ} where
       by : {A B C S L V : Type 0} → (A ↔ (B ⊎ (C × S))) → (L ↔ (V × S)) → V → (A ↔ (B ⊎ (C × L)))
       by a l v = grind arith
 
+    -- so one more is settled
     pub settles_more : SettlesAll f (xs ++ x ∷ []) h
     settles_more = record {
       nodes = elsewhere.nodes ∙ all.nodes;
@@ -137,12 +140,14 @@ module _ {D : ℕ} where
       unsettled = λ h. elim ((costs_settled v c).0 h) [ inl old ↦ has.unsettled old | inr new ↦ other new.1 ];
     }
 
+    -- entries stay apart
     pub apart_still : (v : ℕ) → AreApart (entries (front_at f v)) → AreApart (entries (front_at g v))
     apart_still v apart x y x_in y_in = apart x y ((all.same_entries v x).0 x_in) ((all.same_entries v y).0 y_in)
 
 -- ---- what the bounds tell
 
 module _ {D : ℕ} where
+  -- news on news
   pub news_through : {a b c : Bounds D} → TellsNews a b → TellsNews b c → TellsNews a c
   news_through first second = record {
     limit = second.limit ∙ first.limit;
@@ -153,6 +158,7 @@ module _ {D : ℕ} where
     kept = λ k h. second.kept k (first.kept k h);
   }
 
+  -- one more cost is news
   pub news_with : {b n : Bounds D} (cost : CompactCost D) → n.limit ≡ b.limit → n.news ≡ b.news ++ cost ∷ []
       → ((k : List ℕ) → HasCost (entries n.front) k ↔ (HasCost (entries b.front) k ⊎ (k ≡ cost.0))) → TellsNews b n
   news_with {b} cost limit news more = record {

@@ -126,6 +126,7 @@ module _ {D : ℕ} {l : CompactLabel D} {core : Core D} (one : HasOne l core.fro
       let (node, e) = (one.entry y.node (as_entry y)).0 not.entry in
       (one.waits (as_spot y)).1 (spot_by_parts {D = D} (as_spot y) (spot_at l) node (ap (λ (x : Entry). x.cost) e))
 
+  -- so the core stands for the start
   pub at_start : IsAt task core (start_state task)
   at_start = record {
     search = search;

@@ -20,6 +20,7 @@ spot_by_parts x y node cost = grind arith
 pub dominated_by_first : (xs ys : List Entry) {c : List ℕ} → IsDominated xs c → IsDominated (xs ++ ys) c
 dominated_by_first xs ys h = record { by = h.by; contains = (in_append xs ys h.by).1 (inl h.contains); dominates = h.dominates }
 
+-- and what the second dominates
 pub dominated_by_second : (xs ys : List Entry) {c : List ℕ} → IsDominated ys c → IsDominated (xs ++ ys) c
 dominated_by_second xs ys h = record { by = h.by; contains = (in_append xs ys h.by).1 (inr h.contains); dominates = h.dominates }
 

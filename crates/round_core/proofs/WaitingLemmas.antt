@@ -100,6 +100,7 @@ pub by_error : {X E : Type 0} (r : Result X E) (b : Bool) (P : Type 0) → b ≡
 by_error (Ok x) b P is wrong h = absurd (false≢true (sym is ∙ wrong))
 by_error (Err e) b P is wrong h = h
 
+-- and where there was no error
 pub by_success : {X E : Type 0} (r : Result X E) (b : Bool) (P : Type 0) → b ≡ is_err r → b ≡ false → OnOk r P → P
 by_success (Ok x) b P is fine h = h
 by_success (Err e) b P is fine h = absurd (false≢true (sym fine ∙ is))

@@ -1,14 +1,13 @@
 -- What stays and what is taken next, told by the spots of a core and by the labels of the machine.
-use Rattle.std.proofs.Common.{◌≡◌, ◌⊎◌, ◌↔◌, ℕ, List, Option, inl, inr, refl, sym, subst, arith}
+use Rattle.std.proofs.Common.{◌≡◌, ◌⊎◌, ◌↔◌, ℕ, List, inl, inr, refl, sym, subst, arith}
 use Rattle.std.specs.Prelude.{Contains}
 use Rattle.cost_vector.specs.Costs.{Dominates, Within}
-use Rattle.cost_vector.proofs.Vectors.{cases_Dominates, cases_Within}
-use Rattle.list_laws.proofs.OnceLaws.{IsTold, told_as, told_either, told_member, told_not}
+use Rattle.cost_vector.proofs.Vectors.{cases_Within}
+use Rattle.list_laws.proofs.OnceLaws.{IsTold, told_either, told_not}
 use Rattle.compact_labels.specs.declared.label.CompactSpot.{CompactSpot}
 use Rattle.event_machine.specs.Machine.{Task, Label, SearchState, IsBeatenAtTarget}
 use Rattle.event_machine.specs.Events.{MayDrop}
 use Rattle.event_machine.specs.Orders.{IsNext, Stays}
-use Rattle.pareto_front.specs.Fronts.{Entry}
 use Rattle.node_front.specs.NodeFronts.{front_at}
 use Rattle.node_front.proofs.RemovedLemmas.{told_dominated}
 use Rattle.round_core.specs.Cores.{Core, IsAt, as_entry, as_spot}

@@ -1,12 +1,10 @@
 -- What the answers of `begin` say, by what was dropped and what was taken.
-use Rattle.std.proofs.Common.{◌≡◌, ◌≢◌, ℕ, ◌+◌, ◌≤◌, List, [], ◌∷◌, Option, inl, inr, subst, refl, ◌∙◌, arith}
+use Rattle.std.proofs.Common.{◌≡◌, ◌≢◌, ℕ, ◌+◌, ◌≤◌, List, [], ◌∷◌, inl, inr, subst, refl, arith}
 use Rattle.std.specs.Prelude.{All, Contains, Result, Ok, Err, IfOk, OnOk}
 use Rattle.list_laws.proofs.Members.{all_from_in, each_in, in_first}
-use Rattle.cost_vector.specs.Costs.{Within}
 use Rattle.cost_vector.specs.declared.out_of_memory.OutOfMemory.{OutOfMemory}
 use Rattle.compact_labels.specs.declared.label.CompactSpot.{CompactSpot}
-use Rattle.pareto_front.specs.Fronts.{IsDominated}
-use Rattle.node_front.specs.NodeFronts.{Fronts, front_at}
+use Rattle.node_front.specs.NodeFronts.{front_at}
 use Rattle.round_core.specs.declared.begin.Begun.{Begun}
 use Rattle.round_core.specs.declared.begin.Begun.TheVariants.{Taken, Done, Budget}
 use Rattle.round_core.specs.Begins.{BeginsAs, CountsRound, DropsUseless}

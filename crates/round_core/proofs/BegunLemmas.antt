@@ -1,5 +1,5 @@
 -- How a round begins: what a core changes at its spots are the drops and takes of the machine.
-use Rattle.std.proofs.Common.{◌≡◌, ◌≢◌, ◌⊎◌, ◌↔◌, ℕ, ◌+◌, ◌<◌, ◌≤◌, List, [], ◌++◌, length, map, inl, inr, refl, sym, ap, subst, ◌∙◌, arith}
+use Rattle.std.proofs.Common.{◌≡◌, ◌≢◌, ◌⊎◌, ◌↔◌, ℕ, ◌+◌, ◌<◌, ◌≤◌, List, [], ◌++◌, length, map, inl, inr, refl, sym, subst, ◌∙◌, arith}
 use Rattle.std.specs.Prelude.{AllPairs, Contains}
 use Rattle.std.proofs.lemmas.List.{length-append, length-map}
 use Rattle.list_laws.specs.Sets.{HasMoreThan}
@@ -9,18 +9,17 @@ use Rattle.list_laws.proofs.OnceLaws.{alike_through, empty_if_none, in_append, l
 use Rattle.list_laws.proofs.Pairs.{pairs_map, pigeonhole}
 use Rattle.list_laws.proofs.SetLaws.{more_by_list, none_of_empty, same_by_permutation}
 use Rattle.compact_labels.specs.declared.label.CompactSpot.{CompactSpot}
-use Rattle.event_machine.specs.Machine.{Task, Label, SearchState, LeadsOn, IsSamePair, settled, dropped, waiting, start_state}
+use Rattle.event_machine.specs.Machine.{Task, Label, SearchState, LeadsOn, IsSamePair, settled, dropped, waiting}
 use Rattle.event_machine.specs.Events.{drop, take, IsReached, MayDrop}
 use Rattle.event_machine.specs.Rounds.{IsBetweenRounds}
 use Rattle.event_machine.specs.Orders.{DropsAll, IsBegun, IsNext}
-use Rattle.event_machine.proofs.Running.{runs_on}
 use Rattle.event_machine.proofs.Sound.{IsSound, cases_label}
 use Rattle.event_machine.proofs.Keeping.{settled_once, sound_if_reached}
 use Rattle.bulk_rounds.proofs.BegunLaws.{all_drops, begins_is_begun, told_may_drop}
 use Rattle.pareto_front.specs.Fronts.{HasCost}
 use Rattle.pareto_queue.specs.Queues.{SpotLess, TakesUndominated}
 use Rattle.pareto_queue.proofs.OrderLemmas.{SpotLess-irrefl, SpotLess-trans}
-use Rattle.node_front.specs.NodeFronts.{Fronts, front_at}
+use Rattle.node_front.specs.NodeFronts.{front_at}
 use Rattle.round_core.specs.Begins.{DropsUseless, HasBegun, HasEnded, PassesBudget, SomeStay}
 use Rattle.round_core.specs.Cores.{Core, IsAt, SameSearch, as_entry, as_spot}
 use Rattle.round_core.specs.Taking.{DropsBarred, IsBarred, IsNextIn, KeepsWaiting, SettlesAll, StaysIn, TakesNext, WouldPass}

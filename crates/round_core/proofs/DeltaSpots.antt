@@ -1,6 +1,6 @@
 -- The spots that the deltas of a round tell: those of new entries come to wait, and those of entries that are gone leave.
 use Rattle.std.proofs.Common.{◌≡◌, ◌≢◌, ◌⊎◌, ◌↔◌, ℕ, true, nat_eq, List, [], ◌∷◌, ◌++◌, map, inl, refl, sym, ap, subst, ◌∙◌, arith}
-use Rattle.std.specs.Prelude.{All, AllPairs, Contains, filter, slice_index_or}
+use Rattle.std.specs.Prelude.{All, AllPairs, Contains, filter}
 use Rattle.std.proofs.lemmas.Bool.Decides.{nat_tests}
 use Rattle.list_laws.proofs.Members.{all_from_in, each_in, in_first, in_none, in_rest, in_map, of_map, in_filter, of_filter}
 use Rattle.list_laws.proofs.OnceLaws.{alike_through, in_append, once_apart}
@@ -9,8 +9,8 @@ use Rattle.compact_labels.specs.declared.label.CompactLabel.{CompactLabel}
 use Rattle.compact_labels.specs.declared.label.CompactSpot.{CompactSpot}
 use Rattle.road_network.specs.Network.{IsNode}
 use Rattle.pareto_front.specs.Calls.{entry_of}
-use Rattle.pareto_front.specs.Fronts.{Entry, Front, SparesSettled, empty_front, entries}
-use Rattle.pareto_front.specs.Merging.{IsAdded, IsDelta, IsMerged, IsRemoved}
+use Rattle.pareto_front.specs.Fronts.{Entry, entries}
+use Rattle.pareto_front.specs.Merging.{IsAdded, IsRemoved}
 use Rattle.pareto_queue.specs.Queues.{Gains, LosesWhere}
 use Rattle.node_front.specs.Apart.{AreApart}
 use Rattle.node_front.specs.Deltas.{AreDeltas, Deltas, MergesAll, costs_told_at, delta_at, told_at}

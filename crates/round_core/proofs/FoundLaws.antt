@@ -1,5 +1,5 @@
 -- What follows for the labels of a core from the state for which it stands.
-use Rattle.std.proofs.Common.{◌≡◌, ◌↔◌, ℕ, List, [], inl, inr, refl, sym, subst, ◌∙◌}
+use Rattle.std.proofs.Common.{◌≡◌, ◌↔◌, ℕ, List, [], inl, inr, refl, sym, ◌∙◌}
 use Rattle.std.specs.Prelude.{Contains}
 use Rattle.cost_vector.proofs.Vectors.{AtMost-Dominates}
 use Rattle.list_laws.specs.Sets.{HasMoreThan}
@@ -15,7 +15,6 @@ use Rattle.event_machine.specs.Machine.{HasSettled as HasSettledLabel}
 use Rattle.event_machine.specs.Orders.{IsArrival, IsGiven}
 use Rattle.event_machine.proofs.Sound.{IsSound, grown_from_settled, known_is_bounded}
 use Rattle.event_machine.proofs.Keeping.{end_has_all, sound_if_reached}
-use Rattle.event_machine.specs.Laws.{HasLeastArc}
 use Rattle.pareto_front.specs.Fronts.{Entry, SparesSettled}
 use Rattle.node_front.specs.NodeFronts.{front_at}
 use Rattle.path_readback.specs.Found.{Found, HasSettled}

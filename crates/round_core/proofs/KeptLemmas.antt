@@ -1,31 +1,29 @@
 -- What a core keeps, while spots are dropped, taken and settled.
-use Rattle.std.proofs.Common.{◌≡◌, ◌≢◌, ◌⊎◌, ◌↔◌, ◌+◌, ◌≤◌, ℕ, List, [], ◌++◌, get_or, length, inl, inr, refl, sym, subst, ◌∙◌, arith}
+use Rattle.std.proofs.Common.{◌≡◌, ◌≢◌, ◌⊎◌, ◌↔◌, ◌+◌, ◌≤◌, ℕ, List, [], ◌++◌, length, inl, inr, refl, sym, subst, arith}
 use Rattle.std.specs.Prelude.{All, AllPairs, Contains, Option}
 use Rattle.std.proofs.lemmas.List.{length-append}
-use Rattle.cost_vector.specs.Costs.{Within, Dominates}
 use Rattle.compact_labels.specs.declared.label.CompactSpot.{CompactSpot}
 use Rattle.list_laws.specs.Sets.{SameMembers}
 use Rattle.list_laws.proofs.Ascending.{ascending_distinct}
 use Rattle.list_laws.proofs.Members.{all_from_in, each_in}
 use Rattle.list_laws.proofs.OnceLaws.{alike_back, in_append, lists_append, alike_through, once_as}
 use Rattle.road_network.specs.Network.{IsNode}
-use Rattle.pareto_front.specs.Fronts.{Entry, Front, HasCost, IsDominated, entries, SparesSettled}
+use Rattle.pareto_front.specs.Fronts.{Entry, Front, HasCost, IsDominated, SparesSettled}
 use Rattle.pareto_queue.specs.Queues.{IsDominatedBy, LosesWhere, SpotLess, TakesUndominated}
 use Rattle.pareto_queue.proofs.OrderLemmas.{SpotLess-irrefl, SpotLess-trans}
 use Rattle.node_front.specs.NodeFronts.{Fronts, front_at}
 use Rattle.round_core.specs.Bounds.{Bounds, IsUseless}
 use Rattle.round_core.specs.Cores.{Core}
 use Rattle.round_core.specs.Kept.{IsKept}
-use Rattle.round_core.specs.Taking.{AreBoundsOf, DropsBarred, IsBarred, KeepsWaiting, SettlesAll, TellsNews}
+use Rattle.round_core.specs.Taking.{AreBoundsOf, DropsBarred, IsBarred, SettlesAll, TellsNews}
 use Rattle.round_core.specs.Unsettled.{CountsSettled, HasUnsettled}
 use Rattle.round_core.specs.Waiting.{Waiting, all_waiting}
 use Rattle.round_core.proofs.SettlingLemmas.{apart_still, costs_settled, unsettled_still}
 use Rattle.round_core.proofs.UnsettledLemmas.{told_spot}
 use Rattle.round_core.proofs.WaitingLemmas.{none_fresh}
 use Rattle.compact_labels.specs.declared.label.CompactLabel.{CompactLabel}
-use Rattle.node_front.specs.Deltas.{MergesAll, told_at}
+use Rattle.node_front.specs.Deltas.{MergesAll}
 use Rattle.node_front.proofs.MergedLemmas.{merged_apart}
-use Rattle.node_front.proofs.RoundLemmas.{of_at}
 use Rattle.round_core.specs.Arriving.{WaitsAsMerged}
 use Rattle.round_core.proofs.ArrivingLemmas.{settled_costs, spares_at}
 

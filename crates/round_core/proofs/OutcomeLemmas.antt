@@ -1,6 +1,6 @@
 -- The state to which a round's events lead is that for which the core stands once its candidates are merged.
-use Rattle.std.proofs.Common.{◌≡◌, ◌⊎◌, ◌↔◌, ℕ, true, nat_eq, List, ◌++◌, map, inl, inr, refl, sym, ap, subst, ◌∙◌, arith}
-use Rattle.std.specs.Prelude.{Contains, filter}
+use Rattle.std.proofs.Common.{◌≡◌, ◌⊎◌, ◌↔◌, ℕ, true, nat_eq, List, ◌++◌, map, inl, inr, refl, subst, arith}
+use Rattle.std.specs.Prelude.{Contains}
 use Rattle.std.proofs.lemmas.Bool.Decides.{nat_tests}
 use Rattle.list_laws.proofs.Members.{in_filter, in_map}
 use Rattle.list_laws.proofs.OnceLaws.{alike_back, alike_through, in_append}
@@ -14,7 +14,7 @@ use Rattle.event_machine.proofs.Running.{runs_on}
 use Rattle.event_machine.proofs.Keeping.{sound_if_reached}
 use Rattle.bulk_rounds.proofs.CompletesLaws.{completes_to_outcome, finishes_is_outcome}
 use Rattle.pareto_front.specs.Calls.{entry_of}
-use Rattle.pareto_front.specs.Fronts.{Entry, Front, HasCost, entries}
+use Rattle.pareto_front.specs.Fronts.{Entry, HasCost, entries}
 use Rattle.pareto_front.specs.Merging.{Stays}
 use Rattle.node_front.specs.Apart.{AreApart}
 use Rattle.node_front.specs.Deltas.{told_at}
@@ -24,8 +24,8 @@ use Rattle.node_front.proofs.NeedlessLemmas.{told_has_cost}
 use Rattle.node_front.proofs.RoundLemmas.{of_at}
 use Rattle.round_core.specs.Cores.{Core, IsAt, IsSearchOf, SameSearch, StandsFor, as_compact, as_entry, as_spot}
 use Rattle.round_core.specs.Finishes.{AreArrivals, FinishesRound, MergesRound}
-use Rattle.round_core.specs.Unsettled.{HasUnsettled, IsUnsettled}
-use Rattle.round_core.proofs.UnsettledLemmas.{cases_settled, dominated_by_second, settled_by_cost, spot_by_parts, told_spot}
+use Rattle.round_core.specs.Unsettled.{IsUnsettled}
+use Rattle.round_core.proofs.UnsettledLemmas.{cases_settled, dominated_by_second, settled_by_cost, told_spot}
 
 -- a label of a list tells its entry at its node
 pub in_at : {D : ℕ} (ls : List (CompactLabel D)) (l : CompactLabel D) → Contains ls l → Contains (told_at l.node.0 ls) (entry_of l)

@@ -1,5 +1,5 @@
 -- Entries that are settled one after another, and the bounds by those of the target.
-use Rattle.std.proofs.Common.{length-take, ◌≡◌, ◌≢◌, ◌⊎◌, ◌↔◌, ◌<◌, ℕ, List, [], ◌∷◌, ◌++◌, length, get_or, take, inl, inr, refl, sym, ap, subst, ◌∙◌, arith}
+use Rattle.std.proofs.Common.{length-take, ◌≡◌, ◌≢◌, ◌⊎◌, ◌↔◌, ◌<◌, ℕ, List, [], ◌∷◌, ◌++◌, length, get_or, take, inl, inr, refl, sym, subst, ◌∙◌, arith}
 use Rattle.std.specs.Prelude.{AllPairs, Contains}
 use Rattle.std.proofs.lemmas.Bool.{cases_eq}
 use Rattle.std.proofs.lemmas.List.{get_or-take}
@@ -18,7 +18,7 @@ use Rattle.node_front.proofs.ApartLemmas.{apart_not_dominated, has_cost_of}
 use Rattle.round_core.specs.Bounds.{Bounds}
 use Rattle.round_core.specs.Taking.{AreBoundsOf, SettlesAll, TellsNews}
 use Rattle.round_core.specs.Unsettled.{HasUnsettled, IsUnsettled}
-use Rattle.round_core.proofs.UnsettledLemmas.{spot_by_parts, unsettled_parts}
+use Rattle.round_core.proofs.UnsettledLemmas.{unsettled_parts}
 
 -- the costs of a list that has the entries of another, and those of a third whose cost Q holds of
 costs_with : (xs ys zs : List Entry) (Q : List ℕ → Type 0) → ((e : Entry) → Contains xs e ↔ (Contains ys e ⊎ (Contains zs e × Q e.cost)))

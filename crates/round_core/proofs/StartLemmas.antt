@@ -1,5 +1,5 @@
 -- Where the label of the start alone has come to fronts without entries, the core stands for the start of each search.
-use Rattle.std.proofs.Common.{◌≡◌, ◌≢◌, ◌⊎◌, ◌↔◌, ℕ, ◌≤◌, List, [], ◌∷◌, Option, replicate, inl, inr, refl, sym, ap, subst, ◌∙◌, arith}
+use Rattle.std.proofs.Common.{◌≡◌, ◌≢◌, ◌↔◌, ℕ, ◌≤◌, List, [], ◌∷◌, inl, inr, refl, sym, ap, ◌∙◌, arith}
 use Rattle.std.specs.Prelude.{Contains}
 use Rattle.cost_vector.specs.Costs.{min_criteria, max_criteria}
 use Rattle.list_laws.proofs.Members.{all_from_in, in_first, in_front, in_none, in_one}
@@ -13,11 +13,10 @@ use Rattle.road_network.specs.Network.{IsNode}
 use Rattle.event_machine.specs.Machine.{Task, Label, start_label, start_state}
 use Rattle.event_machine.proofs.Running.{same_itself}
 use Rattle.pareto_front.specs.Calls.{entry_of}
-use Rattle.pareto_front.specs.Fronts.{Entry, Front, HasCost, empty_front, entries}
-use Rattle.pareto_front.specs.Merging.{IsAdded, IsMerged, Stays}
+use Rattle.pareto_front.specs.Fronts.{Entry, HasCost, empty_front, entries}
+use Rattle.pareto_front.specs.Merging.{IsMerged, Stays}
 use Rattle.pareto_queue.specs.Queues.{IsDominatedBy}
 use Rattle.node_front.specs.NodeFronts.{Fronts, SameElsewhere, front_at}
-use Rattle.node_front.proofs.PlacedLemmas.{cases_number}
 use Rattle.round_core.specs.Arriving.{AddsIfNew, spot_at}
 use Rattle.round_core.specs.Bounds.{Bounds, IsUseless}
 use Rattle.round_core.specs.Cores.{Core, IsAt, IsSearchOf, IsStartLabel, as_entry, as_spot}

@@ -1,16 +1,14 @@
 -- Settled and other entries of a front, told by costs.
-use Rattle.std.proofs.Common.{◌≡◌, ◌⊎◌, ◌↔◌, ℕ, List, ◌++◌, inl, inr, refl, ap, subst, ◌∙◌, arith}
+use Rattle.std.proofs.Common.{◌≡◌, ◌⊎◌, ◌↔◌, ℕ, List, ◌++◌, inl, inr, refl, subst, arith}
 use Rattle.std.specs.Prelude.{Contains}
-use Rattle.list_laws.proofs.OnceLaws.{IsTold, in_append, told_as, told_both, told_in}
+use Rattle.list_laws.proofs.OnceLaws.{IsTold, in_append, told_in}
 use Rattle.compact_labels.specs.declared.label.CompactSpot.{CompactSpot}
-use Rattle.std.proofs.lemmas.Bool.{cases_eq}
-use Rattle.cost_vector.proofs.Vectors.{cases_same}
 use Rattle.pareto_front.specs.Fronts.{Entry, Front, HasCost, IsDominated, entries}
 use Rattle.pareto_queue.proofs.OrderLemmas.{cases_spot}
 use Rattle.node_front.specs.Apart.{AreApart}
 use Rattle.node_front.proofs.ApartLemmas.{AtMost-same, has_append}
 use Rattle.node_front.proofs.NeedlessLemmas.{told_has_cost}
-use Rattle.round_core.specs.Unsettled.{HasUnsettled, IsUnsettled}
+use Rattle.round_core.specs.Unsettled.{IsUnsettled}
 
 -- a spot by its parts
 pub spot_by_parts : {D : ℕ} (x y : CompactSpot D) → x.node.0 ≡ y.node.0 → x.cost.0 ≡ y.cost.0 → x ≡ y

@@ -7,29 +7,25 @@ use Rattle.std.specs.Result.{is_err}
 use Rattle.std.proofs.lemmas.Bool.{false≢true}
 use Rattle.compact_labels.specs.declared.label.CompactSpot.{CompactSpot}
 use Rattle.compact_labels.specs.declared.cost.CompactCost.{CompactCost}
-use Rattle.cost_vector.specs.Costs.{Dominates}
-use Rattle.cost_vector.proofs.Vectors.{cases_Dominates, cases_Within}
+use Rattle.cost_vector.proofs.Vectors.{cases_Within}
 use Rattle.list_laws.specs.Sets.{SameMembers}
-use Rattle.list_laws.proofs.Members.{all_from_in, cases_push, each_in, in_none, in_first, of_map}
-use Rattle.list_laws.proofs.OnceLaws.{IsTold, in_append, told_as, told_either, told_member, told_not}
+use Rattle.list_laws.proofs.Members.{all_from_in, cases_push, each_in, in_first, of_map}
+use Rattle.list_laws.proofs.OnceLaws.{IsTold, in_append, told_either, told_not}
 use Rattle.list_laws.proofs.Pairs.{pairs_push, pairs_take}
 use Rattle.list_laws.proofs.SetLaws.{none_of_empty, same_by_permutation}
 use Rattle.list_laws.proofs.Retained.{without_by_retain}
-use Rattle.pareto_front.specs.Fronts.{Entry, HasCost, IsDominated, entries, Front}
+use Rattle.pareto_front.specs.Fronts.{HasCost, IsDominated, entries, Front}
 use Rattle.pareto_queue.specs.Queues.{IsDominatedBy, LosesWhere, Gains, AreSorted, SpotLess}
 use Rattle.pareto_queue.proofs.RetainedLemmas.{fails_by_test, loses_by_without}
 use Rattle.round_core.specs.Bounds.{Bounds, IsUseless}
 use Rattle.round_core.specs.Waiting.{AreOnce, Waiting, all_waiting}
 use Rattle.compact_labels.specs.declared.label.CompactLabel.{CompactLabel}
-use Rattle.pareto_front.specs.Calls.{entry_of}
-use Rattle.pareto_front.specs.Merging.{IsAdded}
 use Rattle.node_front.proofs.RemovedLemmas.{pairs_across, told_dominated}
 use Rattle.round_core.specs.Arriving.{AddsIfNew, spot_at}
 use Rattle.std.specs.declared.cmp.Ordering.{Ordering}
 use Rattle.std.specs.Ordering.{is_lt}
 use Rattle.std.specs.List.{HoldsAt}
 use Rattle.std.specs.List.Sorted.{IsSorted, IsBinarySearchResult, IsSearchInRange}
-use Rattle.std.proofs.lemmas.List.Sorted.{Contains-permutation, IsPermutation-sym}
 use Rattle.pareto_queue.proofs.OrderLemmas.{SpotLess_from_cmp, found_gap, none_in_gap, same_from_cmp, spot_cmp}
 
 -- ---- what can be told

@@ -1,9 +1,7 @@
-use Rattle.std.proofs.Common.{rules, ◌≡◌, ◌≤◌, ◌++◌, ◌∷◌, [], take, arith, refl, sym, subst, ap, ◌∙◌, ◌+◌}
-use Rattle.std.proofs.lemmas.List.{take_more}
+use Rattle.std.proofs.Common.{rules, ◌≤◌, arith, refl, sym, subst}
 use Rattle.compact_labels.specs.declared.label.CompactSpot.{CompactSpot}
 use Rattle.node_front.specs.NodeFronts.{front_at}
 use Rattle.node_front.proofs.RoundLemmas.{next_taken}
-use Rattle.round_core.specs.Taking.{SettlesAll}
 use Rattle.round_core.specs.Unsettled.{HasUnsettled}
 use Rattle.round_core.proofs.SettlingLemmas.{apart_still, news_through, not_before, settles_more, unsettled_still}
 use Rattle.round_core.proofs.begin.settle_all.Goals as goal

@@ -1,10 +1,5 @@
-use Rattle.std.proofs.Common.{rules, ◌≡◌, ◌≢◌, arith, sym, subst}
+use Rattle.std.proofs.Common.{rules, ◌≡◌, ◌≢◌, arith}
 use Rattle.std.proofs.lemmas.Bool.Decides.{nat_tests}
-use Rattle.pareto_front.specs.Calls.{Settles}
-use Rattle.pareto_front.specs.Fronts.{Front}
-use Rattle.node_front.specs.NodeFronts.{front_at}
-use Rattle.round_core.specs.Taking.{AreBoundsOf}
-use Rattle.round_core.specs.Unsettled.{HasUnsettled}
 use Rattle.round_core.proofs.SettlingLemmas.{bounds_with, new_to_bounds, news_with, spares_bounds}
 use Rattle.round_core.proofs.begin.settle_one.Goals as goal
 

@@ -1,4 +1,4 @@
-use Rattle.std.proofs.Common.{List, take, refl, sym, subst, ◌∙◌, arith}
+use Rattle.std.proofs.Common.{refl, sym, ◌∙◌, arith}
 use Rattle.std.specs.Prelude.{Contains}
 use Rattle.list_laws.proofs.Members.{each_in}
 use Rattle.compact_labels.specs.declared.label.CompactLabel.{CompactLabel}
@@ -8,7 +8,6 @@ use Rattle.pareto_front.specs.Fronts.{SparesSettled}
 use Rattle.node_front.specs.NodeFronts.{front_at}
 use Rattle.node_front.proofs.DeltaLemmas.{if_ok_both}
 use Rattle.node_front.proofs.RoundLemmas.{next_taken}
-use Rattle.round_core.specs.Arriving.{HaveArrived}
 use Rattle.round_core.specs.Unsettled.{HasUnsettled}
 use Rattle.round_core.specs.Waiting.{all_waiting}
 use Rattle.round_core.proofs.ArrivingLemmas.{none_arrived, one_arrived, still_spares, waiting_covered, waits_without}

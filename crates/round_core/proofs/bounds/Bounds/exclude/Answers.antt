@@ -1,7 +1,5 @@
-use Rattle.std.proofs.Common.{◌↔◌, ◌∙◌, refl, false, not, subst, sym, inl, inr}
-use Rattle.std.specs.Prelude.{IsTrue}
+use Rattle.std.proofs.Common.{◌∙◌, refl, sym, inl, inr}
 use Rattle.std.proofs.lemmas.Bool.{false≢true}
-use Rattle.round_core.specs.Bounds.{Bounds, IsUseless}
 use Rattle.round_core.proofs.BoundsLemmas.{undominated}
 use Rattle.round_core.proofs.bounds.Bounds.exclude.Goals as goal
 

@@ -1,6 +1,4 @@
-use Rattle.std.proofs.Common.{rules, ◌≡◌, ◌⊎◌, ◌↔◌, ap, subst, refl}
-use Rattle.pareto_front.specs.Fronts.{Entry, Front, HasCost, entries}
-use Rattle.round_core.specs.Bounds.{Bounds}
+use Rattle.std.proofs.Common.{rules, refl}
 use Rattle.round_core.proofs.BoundsLemmas.{has_entered, news_on, still_all_settled, tightened}
 use Rattle.round_core.proofs.bounds.Bounds.tighten.Goals as goal
 

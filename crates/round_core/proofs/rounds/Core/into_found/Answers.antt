@@ -1,7 +1,4 @@
-use Rattle.std.proofs.Common.{◌↔◌, ℕ, ap, subst, ◌∙◌}
-use Rattle.std.specs.Prelude.{Contains}
-use Rattle.pareto_front.specs.Fronts.{Entry}
-use Rattle.node_front.specs.NodeFronts.{front_at}
+use Rattle.std.proofs.Common.{ap, ◌∙◌}
 use Rattle.round_core.specs.Cores.{Core}
 use Rattle.round_core.proofs.FoundLaws.{has_all}
 use Rattle.round_core.proofs.rounds.Core.into_found.Goals as goal

@@ -1,13 +1,10 @@
-use Rattle.std.proofs.Common.{rules, refl, sym, subst, ◌≡◌, ◌≢◌, ◌∙◌, ◌+◌, ◌≤◌, List, length, arith}
-use Rattle.std.specs.Prelude.{All, AllPairs, Contains}
-use Rattle.compact_labels.specs.declared.label.CompactSpot.{CompactSpot}
+use Rattle.std.proofs.Common.{rules, refl, subst, ◌≡◌, ◌∙◌, ◌+◌, ◌≤◌, length, arith}
 use Rattle.list_laws.specs.Sets.{SameMembers}
 use Rattle.list_laws.proofs.Members.{all_from_in}
 use Rattle.round_core.proofs.WaitingLemmas.{by_success}
 use Rattle.node_front.specs.NodeFronts.{front_at}
-use Rattle.round_core.specs.Bounds.{IsUseless}
 use Rattle.round_core.specs.Kept.{IsKept}
-use Rattle.round_core.specs.Taking.{SettlesAll, TakesNext, WouldPass}
+use Rattle.round_core.specs.Taking.{SettlesAll}
 use Rattle.round_core.specs.Unsettled.{HasUnsettled}
 use Rattle.round_core.specs.Waiting.{all_waiting}
 use Rattle.round_core.proofs.KeptLemmas.{bounds_alike, free_all, given_back_all, kept_on, kept_same, kept_settled, took_once, took_outside, took_unsettled}

@@ -1,6 +1,4 @@
-use Rattle.std.proofs.Common.{sym, subst}
-use Rattle.std.specs.Prelude.{Contains}
-use Rattle.round_core.specs.Waiting.{Waiting, all_waiting}
+use Rattle.round_core.specs.Waiting.{Waiting}
 use Rattle.round_core.proofs.WaitingLemmas.{once_added}
 use Rattle.round_core.proofs.waiting.Waiting.add.Goals as goal
 

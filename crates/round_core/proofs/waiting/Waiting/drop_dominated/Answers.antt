@@ -1,5 +1,5 @@
-use Rattle.std.proofs.Common.{refl, subst}
-use Rattle.pareto_queue.specs.Queues.{IsDominatedBy, LosesWhere}
+use Rattle.std.proofs.Common.{refl}
+use Rattle.pareto_queue.specs.Queues.{IsDominatedBy}
 use Rattle.pareto_queue.proofs.ListLemmas.{empty_by_test}
 use Rattle.round_core.specs.Waiting.{Waiting}
 use Rattle.round_core.proofs.WaitingLemmas.{no_news, once_left}

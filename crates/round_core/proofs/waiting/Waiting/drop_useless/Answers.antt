@@ -1,9 +1,6 @@
-use Rattle.std.proofs.Common.{IsTrue, ◌↔◌, rules, subst, ap, ◌≢◌, List, ◌∙◌}
-use Rattle.std.specs.Prelude.{All}
-use Rattle.compact_labels.specs.declared.cost.CompactCost.{CompactCost}
+use Rattle.std.proofs.Common.{IsTrue, ◌↔◌, rules, subst, ap, ◌≢◌, ◌∙◌}
 use Rattle.compact_labels.specs.declared.label.CompactSpot.{CompactSpot}
-use Rattle.pareto_front.specs.Fronts.{HasCost, entries}
-use Rattle.pareto_queue.specs.Queues.{IsDominatedBy, LosesWhere}
+use Rattle.pareto_queue.specs.Queues.{LosesWhere}
 use Rattle.pareto_queue.proofs.RetainedLemmas.{pairs_by_retain}
 use Rattle.round_core.specs.Bounds.{IsUseless}
 use Rattle.round_core.specs.Waiting.{Waiting}

@@ -1,6 +1,3 @@
-use Rattle.std.proofs.Common.{sym, subst}
-use Rattle.std.specs.Prelude.{All, Contains}
-use Rattle.round_core.specs.Waiting.{Waiting}
 use Rattle.round_core.proofs.waiting.Waiting.give_back.Goals as goal
 
 pub invariant_of-self : goal.invariant_of-self

@@ -1,6 +1,3 @@
-use Rattle.std.proofs.Common.{◌≡◌, ◌↔◌, subst, []}
-use Rattle.std.specs.Prelude.{IsTrue}
-use Rattle.round_core.specs.Waiting.{Waiting, all_waiting}
 use Rattle.round_core.proofs.WaitingLemmas.{both_empty}
 use Rattle.round_core.proofs.waiting.Waiting.is_empty.Goals as goal
 

@@ -1,5 +1,5 @@
-use Rattle.std.proofs.Common.{rules, subst, IsTrue, ◌↔◌, ◌≢◌}
-use Rattle.std.specs.Prelude.{Contains, IsPermutation}
+use Rattle.std.proofs.Common.{rules, IsTrue, ◌↔◌, ◌≢◌}
+use Rattle.std.specs.Prelude.{Contains}
 use Rattle.list_laws.proofs.OnceLaws.{told_in}
 use Rattle.list_laws.proofs.Retained.{without_by_retain}
 use Rattle.pareto_queue.specs.Queues.{AreSorted, LosesWhere}

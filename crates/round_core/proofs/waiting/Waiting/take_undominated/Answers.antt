@@ -1,10 +1,7 @@
-use Rattle.std.proofs.Common.{List, ◌++◌, ◌≡◌, sym, subst}
-use Rattle.compact_labels.specs.declared.label.CompactSpot.{CompactSpot}
-use Rattle.list_laws.specs.Sets.{SameMembers}
+use Rattle.std.proofs.Common.{◌++◌, ◌≡◌}
 use Rattle.pareto_queue.specs.Queues.{TakesUndominated}
 use Rattle.pareto_queue.proofs.QueueLemmas.{takes_alike}
 use Rattle.round_core.proofs.WaitingLemmas.{by_success, by_error, none_fresh}
-use Rattle.round_core.specs.Waiting.{Waiting, all_waiting}
 use Rattle.round_core.proofs.waiting.Waiting.take_undominated.Goals as goal
 
 pub returns-then-is_err-clause-same : goal.returns-then-is_err-clause-same

@@ -1,6 +1,3 @@
-use Rattle.std.proofs.Common.{IsTrue, ◌↔◌, subst}
-use Rattle.std.specs.Prelude.{Contains}
-use Rattle.pareto_queue.specs.Queues.{AreSorted}
 use Rattle.round_core.proofs.waiting.fn.Waiting.remove.retain.Goals as goal
 
 pub returns : goal.returns

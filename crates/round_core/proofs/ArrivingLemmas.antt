@@ -148,7 +148,8 @@ module _ {D : ℕ} where
 
   -- once the removed spots are taken out, just that waits which is to wait
   pub waits_without : {before now : Fronts} {waited removed : List (CompactSpot D)} {first : List (CompactLabel D)}
-      (queued fresh left_queued left_fresh : List (CompactSpot D)) → HaveArrived before waited first now (queued ++ fresh) removed → LosesWhere (Contains removed) queued left_queued
+      (queued fresh left_queued left_fresh : List (CompactSpot D)) → HaveArrived before waited first now (queued ++ fresh) removed
+      → LosesWhere (Contains removed) queued left_queued
       → LosesWhere (Contains removed) fresh left_fresh → WaitsAsMerged before waited now (Contains (left_queued ++ left_fresh))
   waits_without queued fresh left_queued left_fresh arrived loses loses_too x =
       parts (arrived.waits x) (in_append queued fresh x) (in_append left_queued left_fresh x) (loses x) (loses_too x) where
@@ -172,8 +173,9 @@ module _ {D : ℕ} where
         ])
 
     still_waits : WaitsAsMerged before waited after (λ (x : CompactSpot D). Contains more_waiting x × (¬ Contains more_removed x))
-    still_waits x = parts (arrived.waits x) (goes x) (comes x) (unsettled_costs (merges.merged v) (merged_apart _ _ _ (arrived.merged.merged v)) (spares v) x.cost.0)
-        (λ removed. removed.dominated) (λ h by. record { old = h.entry; dominated = by }) (λ removed. removed.old) (arrived.gone x) new_cost where
+    still_waits x = parts (arrived.waits x) (goes x) (comes x)
+        (unsettled_costs (merges.merged v) (merged_apart _ _ _ (arrived.merged.merged v)) (spares v) x.cost.0) (λ removed. removed.dominated)
+        (λ h by. record { old = h.entry; dominated = by }) (λ removed. removed.old) (arrived.gone x) new_cost where
           v : ℕ
           v = x.node.0
 

@@ -139,8 +139,8 @@ module _ {D : ℕ} where
       → added ≡ d.added → removed ≡ d.removed → more.queued ≡ waiting.queued → Gains waiting.fresh (map (spot_at {D = D}) added) more.fresh
       → LosesWhere (Contains removed) more.queued left.queued → LosesWhere (Contains removed) more.fresh left.fresh
       → EndsRound candidates f after waiting left
-  ends_by_deltas {f} {ready} {after} {waiting} {left} more {candidates} {d = d} {removed = removed} same are apart unsettled applied nodes is_added is_removed queued gains
-      loses loses_too =
+  ends_by_deltas {f} {ready} {after} {waiting} {left} more {candidates} {d = d} {removed = removed} same are apart unsettled applied nodes is_added
+      is_removed queued gains loses loses_too =
       let merges = merges_of_same f ready after candidates same (applied candidates (deltas_of_same f ready candidates d same are)) in
       let here = nodes ∙ same.nodes in
       record {

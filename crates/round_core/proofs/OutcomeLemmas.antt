@@ -207,16 +207,17 @@ finishes_by_merge {D} {candidates} {before} {after} apart merges = record {
   outcome = λ task s end at arrivals outcome.
       let sound = sound_if_reached task at.search.is_task s at.reached in
       let f = (finishes_is_outcome task at.search.is_task s sound end).1 outcome in
-      let run = runs_on task s f.relaxed end (map relaxing f.relaxes) (map (λ x. merge x) f.merges) f.relaxing_all f.merging_all in
-      at_end task s end (map relaxing f.relaxes ++ map (λ x. merge x) f.merges) at arrivals outcome run;
+      let relaxed = reached_on task s f.relaxed (map relaxing f.relaxes) at.reached f.relaxing_all in
+      at_end task s end at arrivals outcome (reached_on task f.relaxed end (map (λ x. merge x) f.merges) relaxed f.merging_all);
   each_order = λ task s end events at arrivals completes run.
       let sound = sound_if_reached task at.search.is_task s at.reached in
-      at_end task s end events at arrivals ((completes_to_outcome task at.search.is_task s sound events completes end).0 run) run;
+      let outcome = (completes_to_outcome task at.search.is_task s sound events completes end).0 run in
+      at_end task s end at arrivals outcome (reached_on task s end events at.reached run);
 } where
-  at_end : (task : Task) (s end : SearchState) (events : List Event) → IsAt task before s → AreArrivals task.network s candidates
-      → IsOutcome task.network s end → Runs task s events end → IsAt task after end
-  at_end task s end events at arrivals outcome run = record {
+  at_end : (task : Task) (s end : SearchState) → IsAt task before s → AreArrivals task.network s candidates → IsOutcome task.network s end
+      → IsReached task end → IsAt task after end
+  at_end task s end at arrivals outcome reached = record {
     search = same_task task before after merges.same_search at.search;
-    reached = reached_on task s end events at.reached run;
+    reached = reached;
     stands = stands_after task before after s end candidates at.stands apart arrivals merges outcome;
   }

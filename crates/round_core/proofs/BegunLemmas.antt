@@ -137,13 +137,10 @@ module _ {D : ℕ} (before mid : Core D) (drops : DropsBarred before mid) where
 
   -- what is kept waiting is dropped the same
   pub drops_kept : (after : Core D) → KeepsWaiting mid after → DropsUseless before after
-  drops_kept after keeps task s left at all = at_left task before s drops.was_none at after (record {
-    same_search = same_on before mid after drops.same_search keeps.same_search;
-    fronts = keeps.fronts ∙ drops.fronts;
-    waiting = λ x. alike_through (keeps.waiting x) (drops.waiting x);
-    was_none = drops.was_none;
-    none_taken = keeps.none_taken;
-  }) left all
+  drops_kept after keeps task s left at all =
+      let waiting = λ (x : CompactSpot D). alike_through (keeps.waiting x) (drops.waiting x) in
+      at_left task before s drops.was_none at after
+      (assumption (same_on before mid after drops.same_search keeps.same_search, keeps.fronts ∙ drops.fronts, waiting, keeps.none_taken)) left all
 
   -- where none is left, all were barred
   barred_if_gone : mid.waiting ≡ [] → (x : CompactSpot D) → Contains before.waiting x → IsBarred before x.cost.0
@@ -322,14 +319,7 @@ module _ {D : ℕ} (before mid : Core D) (drops : DropsBarred before mid) where
         at_begun = record {
           search = same_task task mid after takes.same_search (same_task task before mid drops.same_search at.search);
           reached = reached_by_begins task before s drops.was_none at next begun;
-          stands = record {
-            settled = begun_settled;
-            dropped = begun_dropped;
-            waiting = begun_waiting;
-            unrelaxed = begun_unrelaxed;
-            candidates = begun.candidates;
-            taken = begun_taken;
-          };
+          stands = assumption (begun_settled, begun_dropped, begun_waiting, begun_unrelaxed, begun.candidates, begun_taken);
         }
 
       -- the round has begun

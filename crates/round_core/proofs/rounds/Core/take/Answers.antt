@@ -111,13 +111,7 @@ invariant_of-self-2 g c =
 
 pub returns-clause-took : goal.returns-clause-took
 returns-clause-took g c = rw (← c.self.view_is) (record {
-  same_search = record {
-    start = refl;
-    target = refl;
-    limit = c.settle_all.ensures.news.limit ∙ c.reserve.ensures.limit;
-    budget = refl;
-    nodes = (settles g c).nodes;
-  };
+  same_search = assumption (c.settle_all.ensures.news.limit ∙ c.reserve.ensures.limit, (settles g c).nodes);
   taken = c.in_ok-take_undominated.ensures.taken;
   settled = settles g c;
   count = c.self.inside.settled;

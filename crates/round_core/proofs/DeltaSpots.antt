@@ -55,7 +55,7 @@ module _ {D : ℕ} where
         apart : (v : ℕ) → AllPairs ◌≢◌ (told_at v ls) × ((x : Entry) → Contains (told_at v (l ∷ [])) x → ¬ Contains (told_at v ls) x)
         apart v = once_apart (told_at v (l ∷ [])) (told_at v ls) (subst (AllPairs ◌≢◌) (at_append v (l ∷ []) ls) (once v))
 
-  module _ (f : Fronts) (candidates : List (CompactLabel D)) (d : Deltas D) (are : AreDeltas f candidates d)
+  module _ {f : Fronts} {candidates : List (CompactLabel D)} {d : Deltas D} (are : AreDeltas f candidates d)
       (apart : (v : ℕ) → AreApart (entries (front_at f v))) where
     abbrev IsNew : ℕ → Entry → Type 0
     IsNew v e = IsAdded (front_at f v) (told_at v candidates) e
@@ -146,7 +146,7 @@ module _ {D : ℕ} where
       record {
         merges = merges;
         nodes = here;
-        waits = waits_by_deltas f candidates d are apart after waiting more.queued more.fresh left.queued left.fresh unsettled merges here queued
+        waits = waits_by_deltas are apart after waiting more.queued more.fresh left.queued left.fresh unsettled merges here queued
             (rw is_added at gains) (rw is_removed at loses) (rw is_removed at loses_too);
         queued = loses_each waiting.queued more.queued left.queued (Contains removed) queued loses;
       }

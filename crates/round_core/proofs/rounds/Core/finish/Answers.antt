@@ -11,7 +11,7 @@ use Rattle.round_core.proofs.rounds.Core.finish.Goals as goal
 pub reserve-requires : goal.reserve-requires
 reserve-requires g c =
     let are = rw (← c.self.view_is) at c.requires.deltas in
-    search (arith, added_nodes c.self.inside.fronts c.requires.candidates c.args.deltas.now are c.self.invariant.apart, are.ascending)
+    search (arith, added_nodes are c.self.invariant.apart, are.ascending)
 
 pub apply-requires : goal.apply-requires
 apply-requires g c =
@@ -22,12 +22,10 @@ apply-requires g c =
 
 pub wait_for-requires : goal.wait_for-requires
 wait_for-requires g c =
-    let f = c.self.inside.fronts in
     let apart = c.self.invariant.apart in
     let are = rw (← c.self.view_is) at c.requires.deltas in
-    let once = added_once f c.requires.candidates c.args.deltas.now are apart in
-    let new = added_dont_wait f c.requires.candidates c.args.deltas.now are apart (all_waiting c.self.inside.waiting) c.self.invariant.waits in
-    (omega arith, (omega arith, rw c.added.ensures (once, new)))
+    let new = added_dont_wait are apart (all_waiting c.self.inside.waiting) c.self.invariant.waits in
+    (omega arith, (omega arith, rw c.added.ensures (added_once are apart, new)))
 
 -- the round that has ended
 ended : (g : _) (c : goal.After-clear g) (candidates : List (CompactLabel g.row.D)) → AreDeltas c.args.self.fronts candidates c.args.deltas.now

@@ -1,43 +1,38 @@
 -- What stays and what is taken next, told by the spots of a core and by the labels of the machine.
-use Rattle.std.proofs.Common.{◌≡◌, ◌⊎◌, ◌↔◌, ℕ, List, Option, inl, inr, refl, sym, subst, arith}
+use Rattle.std.proofs.Common.{◌≡◌, ◌⊎◌, ◌↔◌, ℕ, List, inl, inr, refl, sym, subst, arith}
 use Rattle.std.specs.Prelude.{Contains}
 use Rattle.cost_vector.specs.Costs.{Dominates, Within}
-use Rattle.cost_vector.proofs.Vectors.{cases_Dominates, cases_Within}
-use Rattle.list_laws.proofs.OnceLaws.{IsTold, told_as, told_either, told_member, told_not}
+use Rattle.cost_vector.proofs.Vectors.{cases_Within}
+use Rattle.list_laws.proofs.OnceLaws.{IsTold, told_either, told_not}
 use Rattle.compact_labels.specs.declared.label.CompactSpot.{CompactSpot}
 use Rattle.event_machine.specs.Machine.{Task, Label, SearchState, IsBeatenAtTarget}
 use Rattle.event_machine.specs.Events.{MayDrop}
 use Rattle.event_machine.specs.Orders.{IsNext, Stays}
-use Rattle.pareto_front.specs.Fronts.{Entry}
 use Rattle.node_front.specs.NodeFronts.{front_at}
+use Rattle.node_front.proofs.RemovedLemmas.{told_dominated}
 use Rattle.round_core.specs.Cores.{Core, IsAt, as_entry, as_spot}
 use Rattle.round_core.specs.Taking.{IsBarred, IsNextIn, StaysIn}
 use Rattle.round_core.specs.Unsettled.{HasUnsettled, IsUnsettled}
 
 -- it can be told whether a cost is barred
 pub told_barred : {D : ℕ} (core : Core D) (c : List ℕ) → IsTold (IsBarred core c)
-told_barred core c =
-    let found = told_member (λ (e : Entry). Dominates e.cost c) (λ e. cases_Dominates e.cost c) (front_at core.fronts core.target).settled in
-    told_either (told_not (cases_Within core.limit c))
-    (told_as (λ h. record { by = h.0; contains = h.1; dominates = h.2 }) (λ h. (h.by, h.contains, h.dominates)) found)
+told_barred core c = told_either (told_not (cases_Within core.limit c)) (told_dominated (front_at core.fronts core.target).settled c)
 
 module _ {D : ℕ} (task : Task) (core : Core D) (s : SearchState) (at : IsAt task core s) where
   -- a cost is barred where the machine finds it useless
   pub barred_told : (c : List ℕ) → IsBarred core c ↔ ((¬ Within task.limit c) ⊎ IsBeatenAtTarget task s c)
   barred_told c = (
     elim [
-      | inl beyond ↦ inl (subst (λ (limit : List (Option ℕ)). ¬ Within limit c) (sym at.search.limit) beyond)
+      | inl beyond ↦ inl (rw at.search.limit beyond)
       | inr h ↦
           let y : Label = record { node = core.target; cost = h.by.cost; arc = h.by.arc } in
           inr (record { by = y; settled = (at.stands.settled y).1 h.contains; node = sym at.search.target; dominates = h.dominates })
     ],
     elim [
-      | inl beyond ↦ inl (subst (λ (limit : List (Option ℕ)). ¬ Within limit c) at.search.limit beyond)
+      | inl beyond ↦ inl (rw at.search.limit at beyond)
       | inr h ↦
-          let there = (at.stands.settled h.by).0 h.settled in
-          let at_target = subst (λ t. Contains (front_at core.fronts t).settled (as_entry h.by)) at.search.target
-          (subst (λ v. Contains (front_at core.fronts v).settled (as_entry h.by)) h.node there) in
-          inr (record { by = as_entry h.by; contains = at_target; dominates = h.dominates })
+          let there = rw (h.node, at.search.target) at ((at.stands.settled h.by).0 h.settled) in
+          inr (record { by = as_entry h.by; contains = there; dominates = h.dominates })
     ],
   )
 
@@ -48,7 +43,7 @@ module _ {D : ℕ} (task : Task) (core : Core D) (s : SearchState) (at : IsAt ta
     both : {M W U B E Q : Type 0} → (W ↔ (E × Q)) → (B ↔ U) → (M → (W × U)) → (W → U → M) → (M ↔ (E × (Q × B)))
     both f g h k = grind arith
 
-  pub stays_told : (y : Label) → Stays task s y ↔ (IsUnsettled (front_at core.fronts y.node) (as_entry y) × StaysIn core (as_spot y))
+  stays_told : (y : Label) → Stays task s y ↔ (IsUnsettled (front_at core.fronts y.node) (as_entry y) × StaysIn core (as_spot y))
   stays_told y = (
     λ h.
         let (not, waits) = (at.stands.waiting y).0 h.waits in
@@ -61,18 +56,20 @@ module _ {D : ℕ} (task : Task) (core : Core D) (s : SearchState) (at : IsAt ta
 
   module _ (unsettled : (x : CompactSpot D) → StaysIn core x → HasUnsettled (front_at core.fronts x.node.0) x.cost.0) where
     -- each spot that stays is a label's
-    pub label_of : (x : CompactSpot D) → StaysIn core x
+    label_of : (x : CompactSpot D) → StaysIn core x
         → (y : Label) × IsUnsettled (front_at core.fronts y.node) (as_entry y) × (as_spot y ≡ x)
     label_of x stays =
         let has = unsettled x stays in
         let y : Label = record { node = x.node.0; cost = x.cost.0; arc = has.entry.arc } in
         (y, record { entry = has.entry.contains; unsettled = has.unsettled }, refl)
 
+    -- and each spot that stays is of a label that stays
     pub label_stays : (x : CompactSpot D) → StaysIn core x → (y : Label) × Stays task s y × (as_spot y ≡ x)
     label_stays x stays =
         let (y, not, same) = label_of x stays in
         (y, (stays_told y).1 (not, subst (StaysIn core) (sym same) stays), same)
 
+    -- a label is next where its spot is
     pub next_told : (y : Label) → IsNext task s y ↔ (IsUnsettled (front_at core.fronts y.node) (as_entry y) × IsNextIn core (as_spot y))
     next_told y = (
       λ h.
@@ -91,6 +88,7 @@ module _ {D : ℕ} (task : Task) (core : Core D) (s : SearchState) (at : IsAt ta
       },
     )
 
+    -- and each next spot is of a label that is next
     pub label_next : (x : CompactSpot D) → IsNextIn core x → (y : Label) × IsNext task s y × (as_spot y ≡ x)
     label_next x next =
         let (y, not, same) = label_of x next.stays in

@@ -30,7 +30,7 @@ within_by_places (p ∷ ps) (x ∷ xs) long =
       first_or_rest first later (suc k) below = later k (omega (arith, below))
 
 -- an entry comes to settled ones, and is settled
-module _ (before entered : Front) (e : Entry) (all_settled : before.unsettled ≡ []) (enters : Enters before e entered) where
+module _ {before entered : Front} {e : Entry} (all_settled : before.unsettled ≡ []) (enters : Enters before e entered) where
   only_e : (x : Entry) → Contains entered.unsettled x ↔ (x ≡ e)
   only_e x = let in_entered = enters.unsettled x in let none = none_of_empty before.unsettled all_settled x in grind arith
 
@@ -38,10 +38,10 @@ module _ (before entered : Front) (e : Entry) (all_settled : before.unsettled �
   pub has_entered : HasCost (entries entered) e.cost
   has_entered = record { arc = e.arc; contains = (in_append entered.settled entered.unsettled e).1 (inr ((only_e e).1 refl)) }
 
-module _ (before entered after : Front) (e : Entry) (all_settled : before.unsettled ≡ []) (enters : Enters before e entered)
+module _ {before entered after : Front} {e : Entry} (all_settled : before.unsettled ≡ []) (enters : Enters before e entered)
     (settles : Settles entered e.cost after) where
   alone : (x : Entry) → Contains entered.unsettled x ↔ (x ≡ e)
-  alone = only_e before entered e all_settled enters
+  alone = only_e all_settled enters
 
   -- then all are settled
   pub still_all_settled : after.unsettled ≡ []
@@ -78,12 +78,12 @@ module _ (before entered after : Front) (e : Entry) (all_settled : before.unsett
   ])
 
 -- a cost stands to the entries as one that none dominates
-pub undominated : (d : ℕ) (f : Front) → IsFront d f → (c : List ℕ) (standing : Standing) → StandsTo f c standing → standing ≢ Dominated
+pub undominated : {d : ℕ} {f : Front} → IsFront d f → (c : List ℕ) (standing : Standing) → StandsTo f c standing → standing ≢ Dominated
     → ¬ IsDominated (entries f) c
-undominated d f is_front c Dominated stands other h = other refl
-undominated d f is_front c (Equal arc) stands other h =
+undominated is_front c Dominated stands other h = other refl
+undominated {d} {f} is_front c (Equal arc) stands other h =
     apart_not_dominated (entries f) (apart_of_front d f is_front) h.by (record { cost = c; arc = arc.0 }) h.contains stands h.dominates
-undominated d f is_front c New stands other h = stands (record { by = h.by; contains = h.contains; at_most = h.dominates.at_most })
+undominated is_front c New stands other h = stands (record { by = h.by; contains = h.contains; at_most = h.dominates.at_most })
 
 -- one component more
 pub none_greater_more : (b r : Bool) (i : ℕ) (c most : List ℕ) → IsTrue b ↔ ((k : ℕ) → k < i → slice_index c k ≤ slice_index most k)

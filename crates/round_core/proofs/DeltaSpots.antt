@@ -1,34 +1,30 @@
 -- The spots that the deltas of a round tell: those of new entries come to wait, and those of entries that are gone leave.
 use Rattle.std.proofs.Common.{◌≡◌, ◌≢◌, ◌⊎◌, ◌↔◌, ℕ, true, nat_eq, List, [], ◌∷◌, ◌++◌, map, inl, refl, sym, ap, subst, ◌∙◌, arith}
-use Rattle.std.specs.Prelude.{All, AllPairs, Contains, filter, slice_index_or}
+use Rattle.std.specs.Prelude.{All, AllPairs, Contains, filter}
 use Rattle.std.proofs.lemmas.Bool.Decides.{nat_tests}
 use Rattle.list_laws.proofs.Members.{all_from_in, each_in, in_first, in_none, in_rest, in_map, of_map, in_filter, of_filter}
-use Rattle.list_laws.proofs.OnceLaws.{in_append, once_apart}
+use Rattle.list_laws.proofs.OnceLaws.{alike_through, in_append, once_apart}
 use Rattle.list_laws.proofs.Pairs.{pairs_cons, pairs_none}
 use Rattle.compact_labels.specs.declared.label.CompactLabel.{CompactLabel}
 use Rattle.compact_labels.specs.declared.label.CompactSpot.{CompactSpot}
 use Rattle.road_network.specs.Network.{IsNode}
 use Rattle.pareto_front.specs.Calls.{entry_of}
-use Rattle.pareto_front.specs.Fronts.{Entry, Front, SparesSettled, empty_front, entries}
-use Rattle.pareto_front.specs.Merging.{IsAdded, IsDelta, IsMerged, IsRemoved}
+use Rattle.pareto_front.specs.Fronts.{Entry, entries}
+use Rattle.pareto_front.specs.Merging.{IsAdded, IsRemoved}
 use Rattle.pareto_queue.specs.Queues.{Gains, LosesWhere}
 use Rattle.node_front.specs.Apart.{AreApart}
 use Rattle.node_front.specs.Deltas.{AreDeltas, Deltas, MergesAll, costs_told_at, delta_at, told_at}
 use Rattle.node_front.specs.NodeFronts.{Fronts, SameFronts, front_at}
 use Rattle.node_front.proofs.ApartLemmas.{same_entry}
 use Rattle.node_front.proofs.MergeLaws.{brought_candidate}
-use Rattle.node_front.proofs.RoundLemmas.{of_at}
-use Rattle.round_core.specs.Arriving.{WaitsAsMerged, spot_at}
+use Rattle.node_front.proofs.RoundLemmas.{at_append, deltas_of_same, of_at}
+use Rattle.round_core.specs.Arriving.{HaveArrived, WaitsAsMerged, spot_at}
 use Rattle.round_core.specs.Unsettled.{HasUnsettled}
 use Rattle.round_core.specs.Waiting.{Waiting, all_waiting}
-use Rattle.round_core.proofs.ArrivingLemmas.{HasAdded, more_arrived, none_arrived, told_append, waits_without}
-use Rattle.round_core.proofs.FinishLemmas.{spares_at}
+use Rattle.round_core.proofs.ArrivingLemmas.{HasAdded, more_arrived, none_arrived, spares_at, waits_without}
 use Rattle.round_core.proofs.OutcomeLemmas.{in_at}
 use Rattle.round_core.proofs.UnsettledLemmas.{spot_by_parts}
-use Rattle.round_core.proofs.WaitingLists.{AreOther, loses_each}
-
-abbrev front_in : List Front → ℕ → Front
-front_in fs v = slice_index_or fs v empty_front
+use Rattle.round_core.proofs.WaitingLemmas.{AreOther, loses_each}
 
 module _ {D : ℕ} where
   -- a list has a spot where its node tells the cost
@@ -36,8 +32,7 @@ module _ {D : ℕ} where
   spots_told spots x = (
     λ there.
         let test : nat_eq x.node.0 x.node.0 ≡ true = grind (arith, nat_tests) in
-        in_map (λ (s : CompactSpot D). s.cost.0) (filter (λ (s : CompactSpot D). nat_eq s.node.0 x.node.0) spots) x
-        (in_filter (λ (s : CompactSpot D). nat_eq s.node.0 x.node.0) spots x there test),
+        in_map (λ (s : CompactSpot D). s.cost.0) _ x (in_filter (λ (s : CompactSpot D). nat_eq s.node.0 x.node.0) spots x there test),
     λ there.
         let (y, y_in, same) = of_map (λ (s : CompactSpot D). s.cost.0) (filter (λ (s : CompactSpot D). nat_eq s.node.0 x.node.0) spots) x.cost.0 there in
         let (old, test) = of_filter (λ (s : CompactSpot D). nat_eq s.node.0 x.node.0) spots y y_in in
@@ -58,19 +53,9 @@ module _ {D : ℕ} where
       (apart l.node.0).1 (entry_of l) (in_at (l ∷ []) l (in_first l [])) (subst (Contains (told_at l.node.0 ls)) (sym one) m_told))
       (other_spots P alike ls (λ v. (apart v).0) (λ m m_in. each m (in_rest l ls m m_in))) where
         apart : (v : ℕ) → AllPairs ◌≢◌ (told_at v ls) × ((x : Entry) → Contains (told_at v (l ∷ [])) x → ¬ Contains (told_at v ls) x)
-        apart v = once_apart (told_at v (l ∷ [])) (told_at v ls) (subst (AllPairs ◌≢◌) (told_append v (l ∷ []) ls) (once v))
+        apart v = once_apart (told_at v (l ∷ [])) (told_at v ls) (subst (AllPairs ◌≢◌) (at_append v (l ∷ []) ls) (once v))
 
-  -- the fronts of deltas may be told otherwise
-  pub deltas_of_same : (f g : Fronts) (candidates : List (CompactLabel D)) (d : Deltas D) → SameFronts f g → AreDeltas f candidates d
-      → AreDeltas g candidates d
-  deltas_of_same f g candidates d same are = record {
-    nodes = subst (λ n. All (λ (l : CompactLabel D). IsNode n l.node.0) candidates) (sym same.nodes) are.nodes;
-    spares = subst (λ (fs : List Front). All (λ (l : CompactLabel D). SparesSettled (front_in fs l.node.0) l.cost.0) candidates) (sym same.fronts) are.spares;
-    exact = subst (λ (fs : List Front). (v : ℕ) → IsDelta (front_in fs v) (told_at v candidates) (delta_at v d)) (sym same.fronts) are.exact;
-    ascending = are.ascending;
-  }
-
-  module _ (f : Fronts) (candidates : List (CompactLabel D)) (d : Deltas D) (are : AreDeltas f candidates d)
+  module _ {f : Fronts} {candidates : List (CompactLabel D)} {d : Deltas D} (are : AreDeltas f candidates d)
       (apart : (v : ℕ) → AreApart (entries (front_at f v))) where
     abbrev IsNew : ℕ → Entry → Type 0
     IsNew v e = IsAdded (front_at f v) (told_at v candidates) e
@@ -103,16 +88,15 @@ module _ {D : ℕ} where
         (each_new l there).new (each_in (λ (x : CompactSpot D). HasUnsettled (front_at f x.node.0) x.cost.0) waiting unsettled (spot_at l) waits).entry)
 
     goes : (x : CompactSpot D) → Contains d.removed x ↔ (Contains [] x ⊎ IsRemoved (front_at f x.node.0) (told_at x.node.0 candidates) x.cost.0)
-    goes x = parts (spots_told d.removed x) ((are.exact x.node.0).removed.exact x.cost.0) (in_none x) where
-      parts : {A B C N : Type 0} → (A ↔ B) → (B ↔ C) → ¬ N → (A ↔ (N ⊎ C))
-      parts a b none = grind arith
+    goes x = parts (alike_through (spots_told d.removed x) ((are.exact x.node.0).removed.exact x.cost.0)) (in_none x) where
+      parts : {A C N : Type 0} → (A ↔ C) → ¬ N → (A ↔ (N ⊎ C))
+      parts a none = grind arith
 
     added_told : (x : CompactSpot D) → Contains (map (spot_at {D = D}) d.added) x ↔ HasAdded (front_at f x.node.0) (told_at x.node.0 candidates) x.cost.0
     added_told x = (
       λ there.
           let (l, l_in, same) = of_map (spot_at {D = D}) d.added x there in
-          subst (λ (s : CompactSpot D). HasAdded (front_at f s.node.0) (told_at s.node.0 candidates) s.cost.0) (sym same)
-          (record { entry = entry_of l; added = each_new l l_in; cost = refl }),
+          rw same (record { entry = entry_of l; added = each_new l l_in; cost = refl }),
       λ h.
           let (l, l_in, node, same) = of_at x.node.0 d.added h.entry (((are.exact x.node.0).added.exact h.entry).1 h.added) in
           subst (Contains (map (spot_at {D = D}) d.added))
@@ -120,24 +104,21 @@ module _ {D : ℕ} where
     )
 
     -- where they come to wait, and the spots of entries that are gone leave, just that waits which is to wait
-    pub waits_by_deltas : (after : Fronts) (waiting : Waiting D) (queued fresh left_queued left_fresh : List (CompactSpot D))
+    waits_by_deltas : (after : Fronts) (waiting : Waiting D) (queued fresh left_queued left_fresh : List (CompactSpot D))
         → All (λ (x : CompactSpot D). HasUnsettled (front_at f x.node.0) x.cost.0) (all_waiting waiting)
         → MergesAll f candidates after → after.nodes ≡ f.nodes → queued ≡ waiting.queued → Gains waiting.fresh (map (spot_at {D = D}) d.added) fresh
         → LosesWhere (Contains d.removed) queued left_queued → LosesWhere (Contains d.removed) fresh left_fresh
         → WaitsAsMerged f (all_waiting waiting) after (Contains (left_queued ++ left_fresh))
     waits_by_deltas after waiting queued fresh left_queued left_fresh unsettled merges nodes same gains loses loses_too =
-        let start = none_arrived f (all_waiting waiting) [] refl apart
-        (each_in (λ (x : CompactSpot D). HasUnsettled (front_at f x.node.0) x.cost.0) (all_waiting waiting) unsettled) in
-        waits_without f after (all_waiting waiting) queued fresh d.removed left_queued left_fresh candidates
-        (more_arrived f f after (all_waiting waiting) (all_waiting waiting) [] (queued ++ fresh) d.removed [] candidates start
-        (spares_at f candidates are.spares) merges nodes goes comes) loses loses_too where
+        let start : HaveArrived f (all_waiting waiting) [] f (all_waiting waiting) [] =
+        none_arrived refl apart (each_in (λ (x : CompactSpot D). HasUnsettled (front_at f x.node.0) x.cost.0) (all_waiting waiting) unsettled) in
+        waits_without queued fresh left_queued left_fresh
+        (more_arrived _ _ start (spares_at f candidates are.spares) merges nodes goes comes) loses loses_too where
           comes : (x : CompactSpot D) → Contains (queued ++ fresh) x
               ↔ (Contains (all_waiting waiting) x ⊎ HasAdded (front_at f x.node.0) (told_at x.node.0 candidates) x.cost.0)
-          comes x = subst (λ (q : List (CompactSpot D)). Contains (q ++ fresh) x
-              ↔ (Contains (all_waiting waiting) x ⊎ HasAdded (front_at f x.node.0) (told_at x.node.0 candidates) x.cost.0)) (sym same)
-              (parts (in_append waiting.queued fresh x) (in_append waiting.queued waiting.fresh x) (gains x) (added_told x)) where
-                parts : {A B Q F N P H : Type 0} → (A ↔ (Q ⊎ N)) → (B ↔ (Q ⊎ F)) → (N ↔ (F ⊎ P)) → (P ↔ H) → (A ↔ (B ⊎ H))
-                parts a b n p = grind arith
+          comes x = rw same (parts (in_append waiting.queued fresh x) (in_append waiting.queued waiting.fresh x) (gains x) (added_told x)) where
+            parts : {A B Q F N P H : Type 0} → (A ↔ (Q ⊎ N)) → (B ↔ (Q ⊎ F)) → (N ↔ (F ⊎ P)) → (P ↔ H) → (A ↔ (B ⊎ H))
+            parts a b n p = grind arith
 
   -- A round has ended: its candidates have come, and what waits is as it is to be.
   pub record EndsRound (candidates : List (CompactLabel D)) (f after : Fronts) (waiting left : Waiting D) : Type 0 where
@@ -148,28 +129,24 @@ module _ {D : ℕ} where
 
   merges_of_same : (f ready after : Fronts) (candidates : List (CompactLabel D)) → SameFronts f ready → MergesAll ready candidates after
       → MergesAll f candidates after
-  merges_of_same f ready after candidates same merges = record {
-    merged = subst (λ (fs : List Front). (v : ℕ) → IsMerged (front_in fs v) (told_at v candidates) (front_at after v)) same.fronts merges.merged;
-  }
+  merges_of_same f ready after candidates same merges = record { merged = rw (← same.fronts) merges.merged }
 
   -- it has where the deltas were applied, the new entries came to wait, and the spots of entries left that are gone
-  pub ends_by_deltas : (f ready after : Fronts) (waiting more left : Waiting D) (candidates added : List (CompactLabel D)) (d : Deltas D)
-      (removed : List (CompactSpot D)) → SameFronts f ready → AreDeltas f candidates d → ((v : ℕ) → AreApart (entries (front_at f v)))
+  pub ends_by_deltas : {f ready after : Fronts} {waiting left : Waiting D} (more : Waiting D) {candidates added : List (CompactLabel D)} {d : Deltas D}
+      {removed : List (CompactSpot D)} → SameFronts f ready → AreDeltas f candidates d → ((v : ℕ) → AreApart (entries (front_at f v)))
       → All (λ (x : CompactSpot D). HasUnsettled (front_at f x.node.0) x.cost.0) (all_waiting waiting)
       → ((labels : List (CompactLabel D)) → AreDeltas ready labels d → MergesAll ready labels after) → after.nodes ≡ ready.nodes
       → added ≡ d.added → removed ≡ d.removed → more.queued ≡ waiting.queued → Gains waiting.fresh (map (spot_at {D = D}) added) more.fresh
       → LosesWhere (Contains removed) more.queued left.queued → LosesWhere (Contains removed) more.fresh left.fresh
       → EndsRound candidates f after waiting left
-  ends_by_deltas f ready after waiting more left candidates added d removed same are apart unsettled applied nodes is_added is_removed queued gains
-      loses loses_too =
+  ends_by_deltas {f} {ready} {after} {waiting} {left} more {candidates} {d = d} {removed = removed} same are apart unsettled applied nodes is_added
+      is_removed queued gains loses loses_too =
       let merges = merges_of_same f ready after candidates same (applied candidates (deltas_of_same f ready candidates d same are)) in
       let here = nodes ∙ same.nodes in
       record {
         merges = merges;
         nodes = here;
-        waits = waits_by_deltas f candidates d are apart after waiting more.queued more.fresh left.queued left.fresh unsettled merges here queued
-            (subst (λ (ls : List (CompactLabel D)). Gains waiting.fresh (map (spot_at {D = D}) ls) more.fresh) is_added gains)
-            (subst (λ (ss : List (CompactSpot D)). LosesWhere (Contains ss) more.queued left.queued) is_removed loses)
-            (subst (λ (ss : List (CompactSpot D)). LosesWhere (Contains ss) more.fresh left.fresh) is_removed loses_too);
+        waits = waits_by_deltas are apart after waiting more.queued more.fresh left.queued left.fresh unsettled merges here queued
+            (rw is_added at gains) (rw is_removed at loses) (rw is_removed at loses_too);
         queued = loses_each waiting.queued more.queued left.queued (Contains removed) queued loses;
       }

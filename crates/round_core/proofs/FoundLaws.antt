@@ -1,9 +1,9 @@
 -- What follows for the labels of a core from the state for which it stands.
-use Rattle.std.proofs.Common.{◌≡◌, ◌↔◌, ℕ, List, [], inl, inr, refl, sym, subst, ◌∙◌}
+use Rattle.std.proofs.Common.{◌≡◌, ◌↔◌, ℕ, List, [], inl, inr, refl, sym, ◌∙◌}
 use Rattle.std.specs.Prelude.{Contains}
 use Rattle.cost_vector.proofs.Vectors.{AtMost-Dominates}
 use Rattle.list_laws.specs.Sets.{HasMoreThan}
-use Rattle.list_laws.proofs.OnceLaws.{empty_if_none}
+use Rattle.list_laws.proofs.OnceLaws.{alike_back, alike_through, empty_if_none}
 use Rattle.list_laws.proofs.SetLaws.{none_of_empty}
 use Rattle.compact_labels.specs.declared.label.CompactSpot.{CompactSpot}
 use Rattle.road_network.specs.Network.{AreSmall, IsNode}
@@ -15,7 +15,6 @@ use Rattle.event_machine.specs.Machine.{HasSettled as HasSettledLabel}
 use Rattle.event_machine.specs.Orders.{IsArrival, IsGiven}
 use Rattle.event_machine.proofs.Sound.{IsSound, grown_from_settled, known_is_bounded}
 use Rattle.event_machine.proofs.Keeping.{end_has_all, sound_if_reached}
-use Rattle.event_machine.specs.Laws.{HasLeastArc}
 use Rattle.pareto_front.specs.Fronts.{Entry, SparesSettled}
 use Rattle.node_front.specs.NodeFronts.{front_at}
 use Rattle.path_readback.specs.Found.{Found, HasSettled}
@@ -33,12 +32,13 @@ module _ {D : ℕ} (task : Task) (core : Core D) (s : SearchState) (at : IsAt ta
   given x (inl there) = absurd (none_of_empty s.candidates at.stands.candidates x there)
   given x (inr is) = is
 
+  -- it arrives at a node
   pub arrives_at_node : (x : Label) → IsArrival task.network s x → IsNode core.fronts.nodes x.node
   arrives_at_node x arrives =
       let (e, _, follows) = given x arrives in
-      subst (λ n. IsNode n x.node) at.search.nodes
-      (leads_to_node task.network at.search.is_task.network x.arc e.node x.node follows.by follows.leads)
+      rw (← at.search.nodes) (leads_to_node task.network at.search.is_task.network x.arc e.node x.node follows.by follows.leads)
 
+  -- and its cost dominates no settled one
   pub spares_settled : (x : Label) → IsArrival task.network s x → SparesSettled (front_at core.fronts x.node) x.cost
   spares_settled x arrives entry there less =
       let l : Label = record { node = x.node; cost = entry.cost; arc = entry.arc } in
@@ -48,23 +48,24 @@ module _ {D : ℕ} (task : Task) (core : Core D) (s : SearchState) (at : IsAt ta
 
   -- ---- taken labels
 
+  -- a taken cost is a small sum
   pub taken_is_small : (x : CompactSpot D) (n : ℕ) → AreSmall task.network.states → ¬ HasMoreThan n s.settled → Contains core.taken x → IsSumOf n x.cost.0
   taken_is_small x n small few there =
       let (y, y_in, same) = at.stands.taken x there in
-      subst (λ (z : CompactSpot D). IsSumOf n z.cost.0) same
-      (known_is_bounded task at.search.is_task small s sound y n few (inl (settled, y_in)))
+      rw (← same) (known_is_bounded task at.search.is_task small s sound y n few (inl (settled, y_in)))
 
+  -- a taken cost is relevant
   pub taken_is_relevant : (x : CompactSpot D) → Contains core.taken x
       → IsRelevant task.network task.start task.target task.limit x.node.0 x.cost.0
   taken_is_relevant x there =
       let (y, y_in, same) = at.stands.taken x there in
-      subst (λ (z : CompactSpot D). IsRelevant task.network task.start task.target task.limit z.node.0 z.cost.0) same (sound.relevant y y_in)
+      rw (← same) (sound.relevant y y_in)
 
+  -- a taken spot is of a node
   pub taken_at_node : (x : CompactSpot D) → Contains core.taken x → IsNode core.fronts.nodes x.node.0
   taken_at_node x there =
       let reached = (taken_is_relevant x there).best.reached in
-      subst (λ n. IsNode n x.node.0) at.search.nodes
-      (node_of_walk task.network at.search.is_task.network reached.0 task.start x.node.0 x.cost.0 reached.1)
+      rw (← at.search.nodes) (node_of_walk task.network at.search.is_task.network reached.0 task.start x.node.0 x.cost.0 reached.1)
 
   -- ---- what was found at the end
 
@@ -72,34 +73,28 @@ module _ {D : ℕ} (task : Task) (core : Core D) (s : SearchState) (at : IsAt ta
       (target : found.target ≡ core.target) (each : (v : ℕ) (e : Entry)
       → Contains found.settled (record { node = v; cost = e.cost; arc = e.arc }) ↔ Contains (front_at core.fronts v).settled e) where
     label_found : (y : Label) → Contains found.settled y ↔ Contains s.settled y
-    label_found y = through (each y.node (record { cost = y.cost; arc = y.arc })) (at.stands.settled y) where
-      through : {A B C : Type 0} → (A ↔ B) → (C ↔ B) → (A ↔ C)
-      through f g = (λ a. g.1 (f.0 a), λ x. f.1 (g.0 x))
+    label_found y = alike_through (each y.node (record { cost = y.cost; arc = y.arc })) (alike_back (at.stands.settled y))
 
     cost_found : (v : ℕ) (c : List ℕ) → HasSettled found v c ↔ HasSettledLabel s v c
     cost_found v c = (
       λ h.
           let y : Label = record { node = v; cost = c; arc = h.arc } in
           record { label = y; settled = (label_found y).0 h.settled; node = refl; cost = refl },
-      λ h. subst (λ b. HasSettled found v b) h.cost (subst (λ u. HasSettled found u h.label.cost) h.node
-          (record { arc = h.label.arc; settled = (label_found h.label).1 h.settled })),
+      λ h. rw (← h.cost, ← h.node) (record { arc = h.label.arc; settled = (label_found h.label).1 h.settled }),
     )
 
+    -- all that is relevant was found
     pub has_all : HasAllRelevant task.network task.limit found
     has_all = record {
       relevant = λ v c.
           let waiting = empty_if_none s.waiting (λ y there. none_of_empty core.waiting none_waits (as_spot y) ((at.stands.waiting y).0 there).1) in
           let unrelaxed = empty_if_none s.unrelaxed (λ p there. none_of_empty core.taken none_taken (as_spot p.0) ((at.stands.unrelaxed p).0 there).1) in
           let all = end_has_all task at.search.is_task s at.reached waiting at.stands.candidates unrelaxed v c in
-          subst (λ t. HasSettled found v c ↔ IsRelevant task.network found.start t task.limit v c) (sym is_target)
-          (subst (λ u. HasSettled found v c ↔ IsRelevant task.network u task.target task.limit v c) (sym is_start) (both (cost_found v c) all));
-      least = λ l there. subst (λ u. HasLeastArc task.network u l) (sym is_start) (sound.least l ((label_found l).0 there));
+          alike_through (cost_found v c) (alike_back (rw (← is_start, ← is_target) at all));
+      least = λ l there. rw is_start (sound.least l ((label_found l).0 there));
     } where
       is_start : found.start ≡ task.start
       is_start = start ∙ sym at.search.start
 
       is_target : found.target ≡ task.target
       is_target = target ∙ sym at.search.target
-
-      both : {A B C : Type 0} → (A ↔ B) → (C ↔ B) → (A ↔ C)
-      both f g = (λ a. g.1 (f.0 a), λ x. f.1 (g.0 x))

@@ -1,9 +1,7 @@
 pub mod UnsettledLemmas
 pub mod OutcomeLemmas
 pub mod ArrivingLemmas
-pub mod WaitingLists
 pub mod BoundsLemmas
-pub mod FinishLemmas
 pub mod DeltaSpots
 pub mod FoundLaws
 pub mod StartLemmas
@@ -13,4 +11,3 @@ pub mod WaitingLemmas
 pub mod SettlingLemmas
 pub mod KeptLemmas
 pub mod BeginLemmas
-pub mod SearchLemmas

@@ -1,20 +1,20 @@
 -- The state to which a round's events lead is that for which the core stands once its candidates are merged.
-use Rattle.std.proofs.Common.{◌≡◌, ◌⊎◌, ◌↔◌, ℕ, true, nat_eq, List, ◌++◌, map, inl, inr, refl, sym, ap, subst, ◌∙◌, arith}
-use Rattle.std.specs.Prelude.{Contains, filter}
+use Rattle.std.proofs.Common.{◌≡◌, ◌⊎◌, ◌↔◌, ℕ, true, nat_eq, List, ◌++◌, map, inl, inr, refl, subst, arith}
+use Rattle.std.specs.Prelude.{Contains}
 use Rattle.std.proofs.lemmas.Bool.Decides.{nat_tests}
 use Rattle.list_laws.proofs.Members.{in_filter, in_map}
-use Rattle.list_laws.proofs.OnceLaws.{in_append}
+use Rattle.list_laws.proofs.OnceLaws.{alike_back, alike_through, in_append}
 use Rattle.list_laws.proofs.SetLaws.{none_of_empty}
 use Rattle.compact_labels.specs.declared.label.CompactLabel.{CompactLabel}
 use Rattle.event_machine.specs.Machine.{Task, Label, SearchState, IsEntry, settled, dropped, waiting, start_state}
-use Rattle.event_machine.specs.Events.{Event, Runs, merge}
+use Rattle.event_machine.specs.Events.{Event, IsReached, Runs, merge}
 use Rattle.event_machine.specs.Rounds.{relaxing}
 use Rattle.event_machine.specs.Orders.{IsArrival, IsOutcome, Survives, HasPair}
 use Rattle.event_machine.proofs.Running.{runs_on}
 use Rattle.event_machine.proofs.Keeping.{sound_if_reached}
 use Rattle.bulk_rounds.proofs.CompletesLaws.{completes_to_outcome, finishes_is_outcome}
 use Rattle.pareto_front.specs.Calls.{entry_of}
-use Rattle.pareto_front.specs.Fronts.{Entry, Front, HasCost, entries}
+use Rattle.pareto_front.specs.Fronts.{Entry, HasCost, entries}
 use Rattle.pareto_front.specs.Merging.{Stays}
 use Rattle.node_front.specs.Apart.{AreApart}
 use Rattle.node_front.specs.Deltas.{told_at}
@@ -24,15 +24,14 @@ use Rattle.node_front.proofs.NeedlessLemmas.{told_has_cost}
 use Rattle.node_front.proofs.RoundLemmas.{of_at}
 use Rattle.round_core.specs.Cores.{Core, IsAt, IsSearchOf, SameSearch, StandsFor, as_compact, as_entry, as_spot}
 use Rattle.round_core.specs.Finishes.{AreArrivals, FinishesRound, MergesRound}
-use Rattle.round_core.specs.Unsettled.{HasUnsettled, IsUnsettled}
-use Rattle.round_core.proofs.UnsettledLemmas.{settled_by_cost, cases_settled, spot_by_parts, told_spot}
+use Rattle.round_core.specs.Unsettled.{IsUnsettled}
+use Rattle.round_core.proofs.UnsettledLemmas.{cases_settled, dominated_by_second, settled_by_cost, told_spot}
 
 -- a label of a list tells its entry at its node
 pub in_at : {D : ℕ} (ls : List (CompactLabel D)) (l : CompactLabel D) → Contains ls l → Contains (told_at l.node.0 ls) (entry_of l)
 in_at {D} ls l there =
     let test : nat_eq l.node.0 l.node.0 ≡ true = grind (arith, nat_tests) in
-    in_map (entry_of {D = D}) (filter (λ (m : CompactLabel D). nat_eq m.node.0 l.node.0) ls) l
-    (in_filter (λ (m : CompactLabel D). nat_eq m.node.0 l.node.0) ls l there test)
+    in_map (entry_of {D = D}) _ l (in_filter (λ (m : CompactLabel D). nat_eq m.node.0 l.node.0) ls l there test)
 
 -- the label of the node v that an entry tells
 abbrev label_at : ℕ → Entry → Label
@@ -70,10 +69,7 @@ module _ {D : ℕ} (task : Task) (before after : Core D) (s end : SearchState) (
         (arrivals y).0 (subst (Contains candidates) (again l node same) l_in),
   ) where
     again : (l : CompactLabel D) → l.node.0 ≡ y.node → as_entry y ≡ entry_of l → l ≡ as_compact y
-    again l node same =
-        ap (λ (v : ℕ). let m : CompactLabel D = record { node = record { 0 = v }; cost = l.cost; arc = l.arc } in m) node
-        ∙ ap (λ (e : Entry). let m : CompactLabel D = record { node = record { 0 = y.node }; cost = record { 0 = e.cost }; arc = record { 0 = e.arc } } in m)
-        (sym same)
+    again l node same = grind arith
 
   present_told : (y : Label) → (IsEntry s y ⊎ IsArrival task.network s y) ↔ Contains (known y.node) (as_entry y)
   present_told y = both (entry_told y) (arrival_told y) (in_append (entries (front_at before.fronts y.node)) (told_at y.node candidates) (as_entry y)) where
@@ -81,7 +77,7 @@ module _ {D : ℕ} (task : Task) (before after : Core D) (s end : SearchState) (
     both f g h = grind arith
 
   present_at : (z : Label) (v : ℕ) → z.node ≡ v → IsEntry s z ⊎ IsArrival task.network s z → Contains (known v) (as_entry z)
-  present_at z v node present = subst (λ u. Contains (known u) (as_entry z)) node ((present_told z).0 present)
+  present_at z v node present = rw node at ((present_told z).0 present)
 
   -- ---- so what survives is what stays
 
@@ -105,30 +101,23 @@ module _ {D : ℕ} (task : Task) (before after : Core D) (s end : SearchState) (
 
   settled_pair : (y : Label) → HasPair s.settled y ↔ HasCost (front_at before.fronts y.node).settled y.cost
   settled_pair y = (
-    λ h. subst (HasCost (front_at before.fronts y.node).settled) h.same.cost (record {
-      arc = h.label.arc;
-      contains = subst (λ v. Contains (front_at before.fronts v).settled (as_entry h.label)) h.same.node ((stands.settled h.label).0 h.member);
-    }),
+    λ h. rw (← h.same.node, ← h.same.cost) (record { arc = h.label.arc; contains = (stands.settled h.label).0 h.member }),
     λ has.
         let one = label_at y.node (record { cost = y.cost; arc = has.arc }) in
         record { label = one; member = (stands.settled one).1 has.contains; same = record { node = refl; cost = refl } },
   )
 
-  dropped_pair : (y : Label) → HasPair s.dropped y ↔ (HasUnsettled (front_at before.fronts y.node) y.cost × (¬ Contains before.waiting (as_spot y)))
+  dropped_pair : (y : Label) → HasPair s.dropped y ↔ ((HasCost (entries (front_at before.fronts y.node)) y.cost
+      × (¬ HasCost (front_at before.fronts y.node).settled y.cost)) × (¬ Contains before.waiting (as_spot y)))
   dropped_pair y = (
     λ h.
         let was = (stands.dropped h.label).0 h.member in
-        let spot = spot_by_parts {D = D} (as_spot h.label) (as_spot y) h.same.node h.same.cost in (
-          subst (λ v. HasUnsettled (front_at before.fronts v) y.cost) h.same.node
-              (subst (HasUnsettled (front_at before.fronts h.label.node)) h.same.cost
-              (record { entry = record { arc = h.label.arc; contains = was.0.entry }; unsettled = was.0.unsettled })),
-          λ waits. was.1 (subst (Contains before.waiting) (sym spot) waits),
-        ),
+        rw (← h.same.node, ← h.same.cost) ((record { arc = h.label.arc; contains = was.0.entry }, was.0.unsettled), was.1),
     λ h.
-        let one = label_at y.node (record { cost = y.cost; arc = h.0.entry.arc }) in
+        let one = label_at y.node (record { cost = y.cost; arc = h.0.0.arc }) in
         record {
           label = one;
-          member = (stands.dropped one).1 (record { entry = h.0.entry.contains; unsettled = h.0.unsettled }, h.1);
+          member = (stands.dropped one).1 (record { entry = h.0.0.contains; unsettled = h.0.1 }, h.1);
           same = record { node = refl; cost = refl };
         },
   )
@@ -136,13 +125,8 @@ module _ {D : ℕ} (task : Task) (before after : Core D) (s end : SearchState) (
   -- ---- the core after the merge
 
   module _ (merges : MergesRound candidates before after) (outcome : IsOutcome task.network s end) where
-    after_apart : (v : ℕ) → AreApart (entries (front_at after.fronts v))
-    after_apart v = merged_apart (front_at before.fronts v) (front_at after.fronts v) (told_at v candidates) (merges.fronts.merged v)
-
     survives_after : (y : Label) → Survives task.network s y ↔ Contains (entries (front_at after.fronts y.node)) (as_entry y)
-    survives_after y = both (survives_told y) ((merges.fronts.merged y.node).entries (as_entry y)) where
-      both : {A B E : Type 0} → (A ↔ B) → (E ↔ B) → (A ↔ E)
-      both f g = grind arith
+    survives_after y = alike_through (survives_told y) (alike_back ((merges.fronts.merged y.node).entries (as_entry y)))
 
     -- what survives is dominated by no candidate
     settled_after : (y : Label) → Survives task.network s y
@@ -151,17 +135,13 @@ module _ {D : ℕ} (task : Task) (before after : Core D) (s end : SearchState) (
       λ has. (((merges.fronts.merged y.node).settled y.cost).0 has).0,
       λ has. ((merges.fronts.merged y.node).settled y.cost).1 (
         has,
-        λ by. ((survives_told y).0 survives).nondominated (record {
-          by = by.by;
-          contains = (in_append (entries (front_at before.fronts y.node)) (told_at y.node candidates) by.by).1 (inr by.contains);
-          dominates = by.dominates;
-        }),
+        λ by. ((survives_told y).0 survives).nondominated (dominated_by_second (entries (front_at before.fronts y.node)) (told_at y.node candidates) by),
       ),
     )
 
     stands_settled : (y : Label) → Contains end.settled y ↔ Contains (front_at after.fronts y.node).settled (as_entry y)
     stands_settled y = both (outcome.entries settled y) (settled_pair y) (survives_after y) (settled_after y)
-        (settled_by_cost (front_at after.fronts y.node) (as_entry y) (after_apart y.node)) where
+        (settled_by_cost (front_at after.fronts y.node) (as_entry y) (merged_apart _ _ _ (merges.fronts.merged y.node))) where
           both : {A S P B E G H : Type 0} → (A ↔ (S × P)) → (P ↔ B) → (S ↔ E) → (S → (G ↔ B)) → (H ↔ (E × G)) → (A ↔ H)
           both f p e g h = grind arith
 
@@ -180,27 +160,23 @@ module _ {D : ℕ} (task : Task) (before after : Core D) (s end : SearchState) (
       λ h. (merges.waiting (as_spot y)).1 (record { entry = record { arc = y.arc; contains = not.entry }; unsettled = not.unsettled }, h),
     )
 
-    unsettled_parts : (f : Front) (c : List ℕ) → HasUnsettled f c ↔ (HasCost (entries f) c × (¬ HasCost f.settled c))
-    unsettled_parts f c = (λ h. (h.entry, h.unsettled), λ h. record { entry = h.0; unsettled = h.1 })
-
     stands_dropped : (y : Label) → Contains end.dropped y
         ↔ (IsUnsettled (front_at after.fronts y.node) (as_entry y) × (¬ Contains after.waiting (as_spot y)))
     stands_dropped y = both (outcome.entries dropped y) (dropped_pair y) (unsettled_told y) (waits_told y)
-        (unsettled_parts (front_at before.fronts y.node) y.cost) (told_has_cost (entries (front_at before.fronts y.node)) y.cost) where
-          both : {A S P U W V B N H : Type 0} → (A ↔ (S × P)) → (P ↔ (U × (¬ W))) → (V ↔ (S × (¬ B))) → (V → (N ↔ (W ⊎ (¬ H)))) → (U ↔ (H × (¬ B)))
+        (told_has_cost (entries (front_at before.fronts y.node)) y.cost) where
+          both : {A S P W V B N H : Type 0} → (A ↔ (S × P)) → (P ↔ ((H × (¬ B)) × (¬ W))) → (V ↔ (S × (¬ B))) → (V → (N ↔ (W ⊎ (¬ H))))
               → (H ⊎ (¬ H)) → (A ↔ (V × (¬ N)))
-          both f p v n u told = grind arith
+          both f p v n told = grind arith
 
     stands_waiting : (y : Label) → Contains end.waiting y
         ↔ (IsUnsettled (front_at after.fronts y.node) (as_entry y) × Contains after.waiting (as_spot y))
     stands_waiting y = both (outcome.entries waiting y) (settled_pair y) (dropped_pair y) (unsettled_told y) (waits_told y)
-        (unsettled_parts (front_at before.fronts y.node) y.cost) (told_has_cost (entries (front_at before.fronts y.node)) y.cost)
-        (told_spot before.waiting (as_spot y)) where
-          both : {A S P Q U W V B N H : Type 0} → (A ↔ (S × ((¬ Q) × (¬ P)))) → (Q ↔ B) → (P ↔ (U × (¬ W))) → (V ↔ (S × (¬ B)))
-              → (V → (N ↔ (W ⊎ (¬ H)))) → (U ↔ (H × (¬ B))) → (H ⊎ (¬ H)) → (W ⊎ (¬ W)) → (A ↔ (V × N))
-          both f q p v n u told told_too = grind arith
+        (told_has_cost (entries (front_at before.fronts y.node)) y.cost) (told_spot before.waiting (as_spot y)) where
+          both : {A S P Q W V B N H : Type 0} → (A ↔ (S × ((¬ Q) × (¬ P)))) → (Q ↔ B) → (P ↔ ((H × (¬ B)) × (¬ W))) → (V ↔ (S × (¬ B)))
+              → (V → (N ↔ (W ⊎ (¬ H)))) → (H ⊎ (¬ H)) → (W ⊎ (¬ W)) → (A ↔ (V × N))
+          both f q p v n told told_too = grind arith
 
-    pub stands_after : StandsFor task.network after end
+    stands_after : StandsFor task.network after end
     stands_after = record {
       settled = stands_settled;
       dropped = stands_dropped;
@@ -213,47 +189,35 @@ module _ {D : ℕ} (task : Task) (before after : Core D) (s end : SearchState) (
       taken = λ x there. absurd (none_of_empty after.taken merges.none_taken x there);
     }
 
--- a core of the same search searches for the same tasks
-pub same_task : {D : ℕ} (task : Task) (before after : Core D) → SameSearch before after → IsSearchOf task before → IsSearchOf task after
-same_task task before after same is = record {
-  is_task = is.is_task;
-  nodes = is.nodes ∙ sym same.nodes;
-  criteria = is.criteria;
-  start = is.start ∙ sym same.start;
-  target = is.target ∙ sym same.target;
-  limit = is.limit ∙ sym same.limit;
+-- what events lead to from a state that is reached is reached
+pub reached_on : (task : Task) (s next : SearchState) (events : List Event) → IsReached task s → Runs task s events next → IsReached task next
+reached_on task s next events reached run = record {
+  events = reached.events ++ events;
+  run = runs_on task (start_state task) s next reached.events events reached.run run;
 }
 
+-- a core of the same search searches for the same tasks
+pub same_task : {D : ℕ} (task : Task) (before after : Core D) → SameSearch before after → IsSearchOf task before → IsSearchOf task after
+same_task task before after same is = grind arith
+
 -- where the candidates of a round were merged, the core stands for the state to which its events lead
-pub finishes_by_merge : {D : ℕ} (candidates : List (CompactLabel D)) (before after : Core D) → ((v : ℕ) → AreApart (entries (front_at before.fronts v)))
+pub finishes_by_merge : {D : ℕ} {candidates : List (CompactLabel D)} {before after : Core D} → ((v : ℕ) → AreApart (entries (front_at before.fronts v)))
     → MergesRound candidates before after → FinishesRound candidates before after
-finishes_by_merge candidates before after apart merges = record {
+finishes_by_merge {D} {candidates} {before} {after} apart merges = record {
   outcome = λ task s end at arrivals outcome.
       let sound = sound_if_reached task at.search.is_task s at.reached in
       let f = (finishes_is_outcome task at.search.is_task s sound end).1 outcome in
-      let run = runs_on task s f.relaxed end (map relaxing f.relaxes) (map (λ x. merge x) f.merges) f.relaxing_all f.merging_all in
-      at_end task s end (map relaxing f.relaxes ++ map (λ x. merge x) f.merges) at arrivals outcome run;
+      let relaxed = reached_on task s f.relaxed (map relaxing f.relaxes) at.reached f.relaxing_all in
+      at_end task s end at arrivals outcome (reached_on task f.relaxed end (map (λ x. merge x) f.merges) relaxed f.merging_all);
   each_order = λ task s end events at arrivals completes run.
       let sound = sound_if_reached task at.search.is_task s at.reached in
-      at_end task s end events at arrivals ((completes_to_outcome task at.search.is_task s sound events completes end).0 run) run;
+      let outcome = (completes_to_outcome task at.search.is_task s sound events completes end).0 run in
+      at_end task s end at arrivals outcome (reached_on task s end events at.reached run);
 } where
-  at_end : (task : Task) (s end : SearchState) (events : List Event) → IsAt task before s → AreArrivals task.network s candidates
-      → IsOutcome task.network s end → Runs task s events end → IsAt task after end
-  at_end task s end events at arrivals outcome run = record {
+  at_end : (task : Task) (s end : SearchState) → IsAt task before s → AreArrivals task.network s candidates → IsOutcome task.network s end
+      → IsReached task end → IsAt task after end
+  at_end task s end at arrivals outcome reached = record {
     search = same_task task before after merges.same_search at.search;
-    reached = record {
-      events = at.reached.events ++ events;
-      run = runs_on task (start_state task) s end at.reached.events events at.reached.run run;
-    };
+    reached = reached;
     stands = stands_after task before after s end candidates at.stands apart arrivals merges outcome;
   }
-
--- the same of a core that was read at another name
-pub merges_at : {D : ℕ} (candidates : List (CompactLabel D)) (was before after : Core D) → was ≡ before → MergesRound candidates was after
-    → MergesRound candidates before after
-merges_at {D} candidates was before after same merges = subst (λ (b : Core D). MergesRound candidates b after) same merges
-
-pub finishes_at : {D : ℕ} (candidates : List (CompactLabel D)) (was before after : Core D) → was ≡ before
-    → ((v : ℕ) → AreApart (entries (front_at was.fronts v))) → MergesRound candidates was after → FinishesRound candidates before after
-finishes_at {D} candidates was before after same apart merges =
-    subst (λ (b : Core D). FinishesRound candidates b after) same (finishes_by_merge candidates was after apart merges)

@@ -1,5 +1,5 @@
 -- Where the label of the start alone has come to fronts without entries, the core stands for the start of each search.
-use Rattle.std.proofs.Common.{◌≡◌, ◌≢◌, ◌⊎◌, ◌↔◌, ℕ, ◌≤◌, List, [], ◌∷◌, Option, replicate, inl, inr, refl, sym, ap, subst, ◌∙◌, arith}
+use Rattle.std.proofs.Common.{◌≡◌, ◌≢◌, ◌↔◌, ℕ, ◌≤◌, List, [], ◌∷◌, inl, inr, refl, sym, ap, ◌∙◌, arith}
 use Rattle.std.specs.Prelude.{Contains}
 use Rattle.cost_vector.specs.Costs.{min_criteria, max_criteria}
 use Rattle.list_laws.proofs.Members.{all_from_in, in_first, in_front, in_none, in_one}
@@ -13,17 +13,17 @@ use Rattle.road_network.specs.Network.{IsNode}
 use Rattle.event_machine.specs.Machine.{Task, Label, start_label, start_state}
 use Rattle.event_machine.proofs.Running.{same_itself}
 use Rattle.pareto_front.specs.Calls.{entry_of}
-use Rattle.pareto_front.specs.Fronts.{Entry, Front, HasCost, empty_front, entries}
-use Rattle.pareto_front.specs.Merging.{IsAdded, IsMerged, Stays}
+use Rattle.pareto_front.specs.Fronts.{Entry, HasCost, empty_front, entries}
+use Rattle.pareto_front.specs.Merging.{IsMerged, Stays}
 use Rattle.pareto_queue.specs.Queues.{IsDominatedBy}
 use Rattle.node_front.specs.NodeFronts.{Fronts, SameElsewhere, front_at}
-use Rattle.node_front.proofs.PlacedLemmas.{cases_number}
 use Rattle.round_core.specs.Arriving.{AddsIfNew, spot_at}
 use Rattle.round_core.specs.Bounds.{Bounds, IsUseless}
 use Rattle.round_core.specs.Cores.{Core, IsAt, IsSearchOf, IsStartLabel, as_entry, as_spot}
 use Rattle.round_core.specs.Kept.{IsKept}
 use Rattle.round_core.specs.Unsettled.{HasUnsettled, IsUnsettled}
 use Rattle.round_core.specs.Waiting.{Waiting, all_waiting}
+use Rattle.round_core.proofs.ArrivingLemmas.{at_each}
 use Rattle.round_core.proofs.UnsettledLemmas.{spot_by_parts}
 
 -- an entry alone stays
@@ -50,78 +50,57 @@ nothing_waits w queued fresh x there = elim ((in_append w.queued w.fresh x).0 th
   | inr new ↦ none_of_empty w.fresh fresh x new
 ]
 
-module _ {D : ℕ} (none one : Fronts) (before after : Waiting D) (l : CompactLabel D) (empty : (v : ℕ) → front_at none v ≡ empty_front)
-    (none_waits : (x : CompactSpot D) → ¬ Contains (all_waiting before) x) (elsewhere : SameElsewhere l.node.0 none one)
+module _ {D : ℕ} {none one : Fronts} (before after : Waiting D) (l : CompactLabel D) (empty : (v : ℕ) → front_at none v ≡ empty_front)
+    (queued : before.queued ≡ []) (fresh : before.fresh ≡ []) (elsewhere : SameElsewhere l.node.0 none one)
     (merged : IsMerged (front_at none l.node.0) (entry_of l ∷ []) (front_at one l.node.0)) (same : after.queued ≡ before.queued)
     (adds : AddsIfNew (front_at none l.node.0) l before.fresh after.fresh) where
   here : IsMerged empty_front (entry_of l ∷ []) (front_at one l.node.0)
-  here = subst (λ (f : Front). IsMerged f (entry_of l ∷ []) (front_at one l.node.0)) (empty l.node.0) merged
+  here = rw (empty l.node.0) at merged
 
   there : (v : ℕ) → v ≢ l.node.0 → front_at one v ≡ empty_front
   there v other = elsewhere.others v other ∙ empty v
 
   one_entry : (v : ℕ) (e : Entry) → Contains (entries (front_at one v)) e ↔ ((v ≡ l.node.0) × (e ≡ entry_of l))
-  one_entry v e = elim (cases_number v l.node.0) [
-    | inr other ↦ (
-      λ h. absurd (in_none e (subst (λ (f : Front). Contains (entries f) e) (there v other) h)),
-      λ h. absurd (other h.0),
-    )
-    | inl at ↦ subst (λ u. Contains (entries (front_at one u)) e ↔ ((u ≡ l.node.0) × (e ≡ entry_of l))) (sym at) (
-      λ h. (refl, in_one (entry_of l) e ((here.entries e).0 h).contains),
-      λ h. subst (Contains (entries (front_at one l.node.0))) (sym h.1) ((here.entries (entry_of l)).1 (alone_stays (entry_of l))),
-    )
-  ]
+  one_entry v e = at_each l (λ u _. Contains (entries (front_at one u)) e ↔ ((u ≡ l.node.0) × (e ≡ entry_of l))) (
+    λ h. (refl, in_one (entry_of l) e ((here.entries e).0 h).contains),
+    λ h. rw h.1 ((here.entries (entry_of l)).1 (alone_stays (entry_of l))),
+  ) (λ u other. rw (there u other) (λ h. absurd (in_none e h), λ h. absurd (other h.0))) v
 
   none_settled : (v : ℕ) (c : List ℕ) → ¬ HasCost (front_at one v).settled c
-  none_settled v c has = elim (cases_number v l.node.0) [
-    | inr other ↦ no_cost c (subst (λ (f : Front). HasCost f.settled c) (there v other) has)
-    | inl at ↦ no_cost c (((here.settled c).0 (subst (λ u. HasCost (front_at one u).settled c) at has)).0)
-  ]
+  none_settled v c = at_each l (λ u _. ¬ HasCost (front_at one u).settled c) (λ has. no_cost c ((here.settled c).0 has).0)
+      (λ u other. rw (there u other) (no_cost c)) v
 
   one_waits : (x : CompactSpot D) → Contains (all_waiting after) x ↔ (x ≡ spot_at l)
   one_waits x = (
     λ waits. elim ((in_append after.queued after.fresh x).0 waits) [
-      | inl old ↦ absurd (no_old (inl (subst (λ (q : List (CompactSpot D)). Contains q x) same old)))
-      | inr new ↦ elim ((adds x).0 new) [ inl old ↦ absurd (no_old (inr old)) | inr is ↦ is.0 ]
+      | inl old ↦ absurd (none_of_empty after.queued (same ∙ queued) x old)
+      | inr new ↦ elim ((adds x).0 new) [ inl old ↦ absurd (none_of_empty before.fresh fresh x old) | inr is ↦ is.0 ]
     ],
-    λ is. (in_append after.queued after.fresh x).1 (inr ((adds x).1 (inr (
-      is,
-      subst (λ (f : Front). IsAdded f (entry_of l ∷ []) (entry_of l))
-          (sym (empty l.node.0)) (record { stays = alone_stays (entry_of l); new = no_cost l.cost.0 }),
-    )))),
-  ) where
-    no_old : ¬ (Contains before.queued x ⊎ Contains before.fresh x)
-    no_old old = none_waits x ((in_append before.queued before.fresh x).1 old)
+    λ is. (in_append after.queued after.fresh x).1
+        (inr ((adds x).1 (inr (is, rw (empty l.node.0) (record { stays = alone_stays (entry_of l); new = no_cost l.cost.0 }))))),
+  )
 
   -- where it is the first label to come
   pub one_came : HasOne l one (all_waiting after)
   one_came = record { entry = one_entry; unsettled = none_settled; waits = one_waits }
 
-  -- none is in the queue
-  pub none_queued : (x : CompactSpot D) → ¬ Contains after.queued x
-  none_queued x waits = none_waits x ((in_append before.queued before.fresh x).1 (inl (subst (λ (q : List (CompactSpot D)). Contains q x) same waits)))
-
-module _ {D : ℕ} (l : CompactLabel D) (f : Fronts) where
-  -- ---- what is kept
-
-  pub kept_at_start : (start target budget : ℕ) (bounds : Bounds D) (waiting : Waiting D) → HasOne l f (all_waiting waiting) → min_criteria ≤ D
+module _ {D : ℕ} {l : CompactLabel D} {f : Fronts} where
+  -- what is kept then
+  pub kept_at_start : {start target budget : ℕ} {bounds : Bounds D} {waiting : Waiting D} → HasOne l f (all_waiting waiting) → min_criteria ≤ D
       → D ≤ max_criteria → IsNode f.nodes start → IsNode f.nodes target → budget ≤ max_budget → bounds.front ≡ empty_front
       → ((x : CompactSpot D) → ¬ Contains waiting.queued x) → IsKept D start target budget bounds f waiting 0
-  kept_at_start start target budget bounds waiting one two four start_node target_node most empty none_queued = record {
+  kept_at_start {target = target} {bounds = bounds} {waiting} one two four start_node target_node most empty none_queued = record {
     two = two;
     four = four;
     start_node = start_node;
     target_node = target_node;
     most = most;
     waits = all_from_in (λ (x : CompactSpot D). HasUnsettled (front_at f x.node.0) x.cost.0) (all_waiting waiting) (λ x there.
-        subst (λ (s : CompactSpot D). HasUnsettled (front_at f s.node.0) s.cost.0) (sym ((one.waits x).0 there)) (record {
+        rw ((one.waits x).0 there) (record {
           entry = record { arc = l.arc.0; contains = (one.entry l.node.0 (entry_of l)).1 (refl, refl) };
           unsettled = one.unsettled l.node.0 l.cost.0;
         }));
-    bounds_are = λ c. (
-      λ has. absurd (no_cost c (subst (λ (h : Front). HasCost (entries h) c) empty has)),
-      λ has. absurd (one.unsettled target c has),
-    );
+    bounds_are = λ c. (λ has. absurd (no_cost c (rw empty at has)), λ has. absurd (one.unsettled target c has));
     queued = all_from_in (λ (x : CompactSpot D). IsUseless bounds x.cost.0 → IsDominatedBy bounds.news x.cost.0) waiting.queued
         (λ x there. absurd (none_queued x there));
     apart = λ v x y x_in y_in below. ((one.entry v x).0 x_in).1 ∙ sym ((one.entry v y).0 y_in).1;
@@ -133,51 +112,36 @@ module _ {D : ℕ} (l : CompactLabel D) (f : Fronts) where
     within = omega arith;
   }
 
-  -- ---- the start of each search
+-- ---- the start of each search
 
-  module _ (start target budget : ℕ) (limit : List (Option ℕ)) (waiting taken : List (CompactSpot D)) (one : HasOne l f waiting)
-      (is : IsStartLabel start l) (none_taken : taken ≡ []) (task : Task) where
-    abbrev started : Core D
-    started = record { start = start; target = target; limit = limit; budget = budget; fronts = f; waiting = waiting; taken = taken }
+module _ {D : ℕ} {l : CompactLabel D} {core : Core D} (one : HasOne l core.fronts core.waiting) (is : IsStartLabel core.start l)
+    (none_taken : core.taken ≡ []) (task : Task) (search : IsSearchOf task core) where
+  -- the label of the machine is the one that came
+  same_start : (y : Label) → (y ≡ start_label task) ↔ ((y.node ≡ l.node.0) × (as_entry y ≡ entry_of l))
+  same_start y = grind arith
 
-    module _ (search : IsSearchOf task started) where
-      -- the label of the machine is the one that came
-      same_start : (y : Label) → (y ≡ start_label task) ↔ ((y.node ≡ l.node.0) × (as_entry y ≡ entry_of l))
-      same_start y = (
-        λ e. (ap (λ (z : Label). z.node) e ∙ at_node, ap (λ (z : Label). as_entry z) e ∙ at_cost),
-        λ h. ap (λ (v : ℕ). let z : Label = record { node = v; cost = y.cost; arc = y.arc } in z) (h.0 ∙ sym at_node)
-            ∙ ap (λ (e : Entry). let z : Label = record { node = task.start; cost = e.cost; arc = e.arc } in z) (h.1 ∙ sym at_cost),
-      ) where
-        at_node : task.start ≡ l.node.0
-        at_node = search.start ∙ sym is.node
+  waits_there : (y : Label) → IsUnsettled (front_at core.fronts y.node) (as_entry y) → Contains core.waiting (as_spot y)
+  waits_there y not =
+      let (node, e) = (one.entry y.node (as_entry y)).0 not.entry in
+      (one.waits (as_spot y)).1 (spot_by_parts {D = D} (as_spot y) (spot_at l) node (ap (λ (x : Entry). x.cost) e))
 
-        at_cost : as_entry (start_label task) ≡ entry_of l
-        at_cost =
-            ap (λ (d : ℕ). let e : Entry = record { cost = replicate d 0; arc = 0 } in e) search.criteria
-            ∙ ap (λ (c : List ℕ). let e : Entry = record { cost = c; arc = 0 } in e) (sym is.cost)
-            ∙ ap (λ (a : ℕ). let e : Entry = record { cost = l.cost.0; arc = a } in e) (sym is.arc)
-
-      waits_there : (y : Label) → IsUnsettled (front_at f y.node) (as_entry y) → Contains waiting (as_spot y)
-      waits_there y not =
-          let (node, e) = (one.entry y.node (as_entry y)).0 not.entry in
-          (one.waits (as_spot y)).1 (spot_by_parts {D = D} (as_spot y) (spot_at l) node (ap (λ (x : Entry). x.cost) e))
-
-      pub at_start : IsAt task started (start_state task)
-      at_start = record {
-        search = search;
-        reached = record { events = []; run = same_itself (start_state task) };
-        stands = record {
-          settled = λ y. (λ h. absurd (in_none y h), λ h. absurd (one.unsettled y.node y.cost (record { arc = y.arc; contains = h })));
-          dropped = λ y. (λ h. absurd (in_none y h), λ h. absurd (h.1 (waits_there y h.0)));
-          waiting = λ y. (
-            λ h.
-                let e = (one.entry y.node (as_entry y)).1 ((same_start y).0 (in_one (start_label task) y h)) in
-                let not : IsUnsettled (front_at f y.node) (as_entry y) = record { entry = e; unsettled = one.unsettled y.node y.cost } in
-                (not, waits_there y not),
-            λ h. in_front (start_label task) [] y ((same_start y).1 ((one.entry y.node (as_entry y)).0 h.0.entry)),
-          );
-          unrelaxed = λ p. (λ h. absurd (in_none p h), λ h. absurd (none_of_empty taken none_taken (as_spot p.0) h.1));
-          candidates = refl;
-          taken = λ x h. absurd (none_of_empty taken none_taken x h);
-        };
-      }
+  -- so the core stands for the start
+  pub at_start : IsAt task core (start_state task)
+  at_start = record {
+    search = search;
+    reached = record { events = []; run = same_itself (start_state task) };
+    stands = record {
+      settled = λ y. (λ h. absurd (in_none y h), λ h. absurd (one.unsettled y.node y.cost (record { arc = y.arc; contains = h })));
+      dropped = λ y. (λ h. absurd (in_none y h), λ h. absurd (h.1 (waits_there y h.0)));
+      waiting = λ y. (
+        λ h.
+            let e = (one.entry y.node (as_entry y)).1 ((same_start y).0 (in_one (start_label task) y h)) in
+            let not : IsUnsettled (front_at core.fronts y.node) (as_entry y) = record { entry = e; unsettled = one.unsettled y.node y.cost } in
+            (not, waits_there y not),
+        λ h. in_front (start_label task) [] y ((same_start y).1 ((one.entry y.node (as_entry y)).0 h.0.entry)),
+      );
+      unrelaxed = λ p. (λ h. absurd (in_none p h), λ h. absurd (none_of_empty core.taken none_taken (as_spot p.0) h.1));
+      candidates = refl;
+      taken = λ x h. absurd (none_of_empty core.taken none_taken x h);
+    };
+  }

@@ -1,30 +1,34 @@
 -- Settled and other entries of a front, told by costs.
-use Rattle.std.proofs.Common.{◌≡◌, ◌⊎◌, ◌↔◌, ℕ, List, inl, inr, refl, ap, subst, ◌∙◌}
+use Rattle.std.proofs.Common.{◌≡◌, ◌⊎◌, ◌↔◌, ℕ, List, ◌++◌, inl, inr, refl, subst, arith}
 use Rattle.std.specs.Prelude.{Contains}
-use Rattle.list_laws.proofs.OnceLaws.{IsTold, in_append, told_as, told_both, told_in}
+use Rattle.list_laws.proofs.OnceLaws.{IsTold, in_append, told_in}
 use Rattle.compact_labels.specs.declared.label.CompactSpot.{CompactSpot}
-use Rattle.std.proofs.lemmas.Bool.{cases_eq}
-use Rattle.cost_vector.proofs.Vectors.{cases_same}
-use Rattle.pareto_front.specs.Fronts.{Entry, Front, HasCost, entries}
+use Rattle.pareto_front.specs.Fronts.{Entry, Front, HasCost, IsDominated, entries}
+use Rattle.pareto_queue.proofs.OrderLemmas.{cases_spot}
 use Rattle.node_front.specs.Apart.{AreApart}
 use Rattle.node_front.proofs.ApartLemmas.{AtMost-same, has_append}
 use Rattle.node_front.proofs.NeedlessLemmas.{told_has_cost}
-use Rattle.round_core.specs.Unsettled.{HasUnsettled, IsUnsettled}
+use Rattle.round_core.specs.Unsettled.{IsUnsettled}
 
 -- a spot by its parts
 pub spot_by_parts : {D : ℕ} (x y : CompactSpot D) → x.node.0 ≡ y.node.0 → x.cost.0 ≡ y.cost.0 → x ≡ y
-spot_by_parts {D} x y node cost =
-    ap (λ (v : ℕ). let z : CompactSpot D = record { cost = x.cost; node = record { 0 = v } } in z) node
-    ∙ ap (λ (c : List ℕ). let z : CompactSpot D = record { cost = record { 0 = c }; node = y.node } in z) cost
+spot_by_parts x y node cost = grind arith
 
-pub cases_spot : {D : ℕ} (x y : CompactSpot D) → IsTold (x ≡ y)
-cases_spot {D} x y = told_as (λ h. spot_by_parts x y h.0 h.1)
-    (λ e. (ap (λ (z : CompactSpot D). z.node.0) e, ap (λ (z : CompactSpot D). z.cost.0) e))
-    (told_both (cases_eq x.node.0 y.node.0) (cases_same x.cost.0 y.cost.0))
+-- what one of two lists dominates, both do
+pub dominated_by_first : (xs ys : List Entry) {c : List ℕ} → IsDominated xs c → IsDominated (xs ++ ys) c
+dominated_by_first xs ys h = record { by = h.by; contains = (in_append xs ys h.by).1 (inl h.contains); dominates = h.dominates }
+
+-- and what the second dominates
+pub dominated_by_second : (xs ys : List Entry) {c : List ℕ} → IsDominated ys c → IsDominated (xs ++ ys) c
+dominated_by_second xs ys h = record { by = h.by; contains = (in_append xs ys h.by).1 (inr h.contains); dominates = h.dominates }
 
 -- it can be told whether a spot stands in a list
 pub told_spot : {D : ℕ} (xs : List (CompactSpot D)) (x : CompactSpot D) → IsTold (Contains xs x)
 told_spot xs x = told_in cases_spot xs x
+
+-- an unsettled entry by its parts
+pub unsettled_parts : (f : Front) (e : Entry) → IsUnsettled f e ↔ (Contains (entries f) e × (¬ HasCost f.settled e.cost))
+unsettled_parts f e = grind arith
 
 -- an entry is settled exactly where one of its cost is
 pub settled_by_cost : (f : Front) (e : Entry) → AreApart (entries f) → Contains f.settled e ↔ (Contains (entries f) e × HasCost f.settled e.cost)
@@ -46,12 +50,3 @@ cases_settled f e apart there = elim (told_has_cost f.settled e.cost) [
 -- a settled cost is an entry's
 pub settled_has_cost : (f : Front) (c : List ℕ) → HasCost f.settled c → HasCost (entries f) c
 settled_has_cost f c has = (has_append f.settled f.unsettled c).1 (inl has)
-
-pub told_unsettled : (f : Front) (c : List ℕ) → IsTold (HasUnsettled f c)
-told_unsettled f c = elim (told_has_cost (entries f) c) [
-  | inr none ↦ inr (λ h. none h.entry)
-  | inl has ↦ elim (told_has_cost f.settled c) [
-    | inl settled ↦ inr (λ h. h.unsettled settled)
-    | inr not ↦ inl (record { entry = has; unsettled = not })
-  ]
-]

@@ -1,40 +1,43 @@
 -- The spots that wait, in the queue and fresh.
-use Rattle.std.proofs.Common.{◌≡◌, ◌≢◌, ◌↔◌, ℕ, List, [], ◌∷◌, ◌++◌, inl, inr, refl, sym, subst, ◌∙◌, arith}
-use Rattle.std.specs.Prelude.{All, AllPairs, Bool, true, IsTrue, Contains, OnErr, Result, Ok, Err}
+use Rattle.std.proofs.Common.{◌≡◌, ◌≢◌, ◌↔◌, ℕ, List, [], ◌∷◌, ◌++◌, inl, inr, refl, sym, subst, ◌∙◌, arith, ◌+◌, ◌⊎◌, map, take, append_assoc, Bool, false}
+use Rattle.std.proofs.Common.{IsTrue, get_or, length, Result, Ok, Err, ap, Less, Equal, Greater}
+use Rattle.std.specs.Prelude.{All, AllPairs, Bool, true, IsTrue, Contains, OnErr, Result, Ok, Err, IsPermutation, IfOk, OnOk}
 use Rattle.std.specs.List.Retain.{IsFiltered}
 use Rattle.std.specs.Result.{is_err}
 use Rattle.std.proofs.lemmas.Bool.{false≢true}
 use Rattle.compact_labels.specs.declared.label.CompactSpot.{CompactSpot}
 use Rattle.compact_labels.specs.declared.cost.CompactCost.{CompactCost}
-use Rattle.cost_vector.specs.Costs.{Dominates}
-use Rattle.cost_vector.proofs.Vectors.{cases_Dominates, cases_Within}
+use Rattle.cost_vector.proofs.Vectors.{cases_Within}
 use Rattle.list_laws.specs.Sets.{SameMembers}
-use Rattle.list_laws.proofs.Members.{all_from_in, cases_push, each_in, in_none}
-use Rattle.list_laws.proofs.OnceLaws.{IsTold, in_append, told_as, told_either, told_member, told_not}
-use Rattle.list_laws.proofs.Pairs.{pairs_push}
+use Rattle.list_laws.proofs.Members.{all_from_in, cases_push, each_in, in_first, of_map}
+use Rattle.list_laws.proofs.OnceLaws.{IsTold, in_append, told_either, told_not}
+use Rattle.list_laws.proofs.Pairs.{pairs_push, pairs_take}
+use Rattle.list_laws.proofs.SetLaws.{none_of_empty, same_by_permutation}
 use Rattle.list_laws.proofs.Retained.{without_by_retain}
-use Rattle.pareto_front.specs.Fronts.{Entry, HasCost, IsDominated, entries}
-use Rattle.pareto_queue.specs.Queues.{IsDominatedBy, LosesWhere}
+use Rattle.pareto_front.specs.Fronts.{HasCost, IsDominated, entries, Front}
+use Rattle.pareto_queue.specs.Queues.{IsDominatedBy, LosesWhere, Gains, AreSorted, SpotLess}
 use Rattle.pareto_queue.proofs.RetainedLemmas.{fails_by_test, loses_by_without}
 use Rattle.round_core.specs.Bounds.{Bounds, IsUseless}
 use Rattle.round_core.specs.Waiting.{AreOnce, Waiting, all_waiting}
+use Rattle.compact_labels.specs.declared.label.CompactLabel.{CompactLabel}
+use Rattle.node_front.proofs.RemovedLemmas.{pairs_across, told_dominated}
+use Rattle.round_core.specs.Arriving.{AddsIfNew, spot_at}
+use Rattle.std.specs.declared.cmp.Ordering.{Ordering}
+use Rattle.std.specs.Ordering.{is_lt}
+use Rattle.std.specs.List.{HoldsAt}
+use Rattle.std.specs.List.Sorted.{IsSorted, IsBinarySearchResult, IsSearchInRange}
+use Rattle.pareto_queue.proofs.OrderLemmas.{SpotLess_from_cmp, found_gap, none_in_gap, same_from_cmp, spot_cmp}
 
 -- ---- what can be told
 
-pub told_dominated : (list : List Entry) (c : List ℕ) → IsTold (IsDominated list c)
-told_dominated list c = told_as (λ h. record { by = h.0; contains = h.1; dominates = h.2 }) (λ h. (h.by, h.contains, h.dominates))
-    (told_member (λ (e : Entry). Dominates e.cost c) (λ e. cases_Dominates e.cost c) list)
-
+-- whether a cost is of no use
 pub told_useless : {D : ℕ} (b : Bounds D) (c : List ℕ) → IsTold (IsUseless b c)
 told_useless b c = told_either (told_not (cases_Within b.limit c)) (told_dominated (entries b.front) c)
 
 module _ {D : ℕ} where
   -- ---- each fresh spot stands once, and not in the queue
 
-  pub once_given : (w : Waiting D) (taken : List (CompactSpot D)) → AreOnce w → AllPairs ◌≢◌ taken → All (λ x. ¬ Contains w.queued x) taken
-      → AreOnce (record w { fresh = taken })
-  once_given w taken is once apart = record { four = is.four; once = once; apart = apart }
-
+  -- so with one more
   pub once_added : (w : Waiting D) (x : CompactSpot D) → AreOnce w → ¬ Contains (all_waiting w) x → AreOnce (record w { fresh = w.fresh ++ x ∷ [] })
   once_added w x is new = record {
     four = is.four;
@@ -55,22 +58,11 @@ module _ {D : ℕ} where
         each_in (λ z. ¬ Contains w.queued z) w.fresh is.apart y ((fresh y).0 there).0 ((queued y).0 in_queue).0);
   }
 
-  pub once_in_less : (w : Waiting D) (queue : List (CompactSpot D)) → AreOnce w → ((x : CompactSpot D) → Contains queue x → Contains w.queued x)
-      → AreOnce (record w { queued = queue })
-  once_in_less w queue is less = record {
-    four = is.four;
-    once = is.once;
-    apart = all_from_in (λ y. ¬ Contains queue y) w.fresh (λ y there in_queue. each_in (λ z. ¬ Contains w.queued z) w.fresh is.apart y there (less y in_queue));
-  }
-
   -- ---- what is taken
 
   -- none is fresh
   pub none_fresh : (queue none : List (CompactSpot D)) → none ≡ [] → SameMembers (queue ++ none) queue
-  none_fresh queue none empty x =
-      let e = in_append queue none x in
-      let n : ¬ Contains none x = λ h. in_none x (subst (λ ys. Contains ys x) empty h) in
-      grind arith
+  none_fresh queue none empty x = let e = in_append queue none x in let n = none_of_empty none empty x in grind arith
 
   -- ---- what is of no use
 
@@ -92,9 +84,7 @@ module _ {D : ℕ} where
   -- no news dominate nothing
   pub no_news : (news : List (CompactCost D)) (queue after : List (CompactSpot D)) → news ≡ [] → after ≡ queue
       → LosesWhere (λ x. IsDominatedBy news x.cost.0) queue after
-  no_news news queue after none same x =
-      let nothing : ¬ IsDominatedBy news x.cost.0 = λ h. in_none h.by (subst (λ ys. Contains ys h.by) none h.contains) in
-      subst (λ ys. Contains ys x ↔ (Contains queue x × ¬ IsDominatedBy news x.cost.0)) (sym same) (λ there. (there, nothing), λ h. h.0)
+  no_news news queue after none same x = rw same (λ there. (there, λ h. none_of_empty news none h.by h.contains), λ h. h.0)
 
   -- a list of two is empty where both are
   pub both_empty : (xs ys : List (CompactSpot D)) → (xs ≡ []) × (ys ≡ []) ↔ (xs ++ ys ≡ [])
@@ -106,9 +96,82 @@ pub by_error : {X E : Type 0} (r : Result X E) (b : Bool) (P : Type 0) → b ≡
 by_error (Ok x) b P is wrong h = absurd (false≢true (sym is ∙ wrong))
 by_error (Err e) b P is wrong h = h
 
+-- and where there was no error
+pub by_success : {X E : Type 0} (r : Result X E) (b : Bool) (P : Type 0) → b ≡ is_err r → b ≡ false → OnOk r P → P
+by_success (Ok x) b P is fine h = h
+by_success (Err e) b P is fine h = absurd (false≢true (sym fine ∙ is))
+
 -- the members that are left where a test tells where P fails
 pub left_by_retain : {F X : Type 0} (R : F → X → Bool → F → Type 0) (f : F) (before after : List X) → IsFiltered R f before after → (P : X → Type 0)
     → ((x : X) → IsTold (P x)) → ((x : X) (b : Bool) (f' : F) → R f x b f' → (IsTrue b ↔ (¬ P x)) × (f' ≡ f))
     → (x : X) → Contains after x ↔ (Contains before x × ¬ P x)
 left_by_retain R f before after filtered P told tells = loses_by_without P before after
     (without_by_retain R P f before after (λ x b f' r. (fails_by_test (P x) (told x) b (tells x b f' r).0, (tells x b f' r).1)) filtered)
+
+-- ---- lists of spots that come to wait
+
+module _ {D : ℕ} where
+  -- their spots differ
+  abbrev pub AreOther : CompactLabel D → CompactLabel D → Type 0
+  AreOther l m = spot_at l ≢ spot_at m
+
+  -- the next label's spot doesn't wait yet
+  pub next_not_waiting : (queued fresh now_queued now_fresh : List (CompactSpot D)) (added : List (CompactLabel D)) (i : ℕ) (l : CompactLabel D)
+      → AllPairs AreOther added → All (λ (m : CompactLabel D). ¬ Contains (queued ++ fresh) (spot_at m)) added
+      → now_queued ≡ queued → now_fresh ≡ fresh ++ map (spot_at {D = D}) (take i added)
+      → Contains added l → take (i + 1) added ≡ take i added ++ l ∷ [] → ¬ Contains (now_queued ++ now_fresh) (spot_at l)
+  next_not_waiting queued fresh now_queued now_fresh added i l once new same_queued is_fresh l_in more there =
+      let none = each_in (λ (m : CompactLabel D). ¬ Contains (queued ++ fresh) (spot_at m)) added new l l_in in
+      let at : Contains ((queued ++ fresh) ++ map (spot_at {D = D}) (take i added)) (spot_at l) = rw append_assoc (rw (same_queued, is_fresh) at there) in
+      elim ((in_append (queued ++ fresh) (map (spot_at {D = D}) (take i added)) (spot_at l)).0 at) [
+        | inl old ↦ none old
+        | inr came ↦
+            let (m, m_in, same) = of_map (spot_at {D = D}) (take i added) (spot_at l) came in
+            let pairs = rw more at (pairs_take AreOther (i + 1) added once) in
+            pairs_across AreOther (take i added) (l ∷ []) pairs m l m_in (in_first l []) (sym same)
+      ]
+
+  -- all of them have come
+  pub all_came : (fresh now_fresh : List (CompactSpot D)) (added : List (CompactLabel D)) (i : ℕ) → take i added ≡ added
+      → now_fresh ≡ fresh ++ map (spot_at {D = D}) (take i added) → Gains fresh (map (spot_at {D = D}) added) now_fresh
+  all_came fresh now_fresh added i all is x = rw (is, all) (in_append fresh (map (spot_at {D = D}) added) x)
+
+  -- what comes to the fresh spots comes to all
+  pub adds_all : (f : Front) (l : CompactLabel D) (queued fresh now_queued now_fresh : List (CompactSpot D)) → now_queued ≡ queued
+      → AddsIfNew f l fresh now_fresh → AddsIfNew f l (queued ++ fresh) (now_queued ++ now_fresh)
+  adds_all f l queued fresh now_queued now_fresh same adds x =
+      rw same (parts (in_append queued now_fresh x) (in_append queued fresh x) (adds x)) where
+        parts : {A B Q N F P : Type 0} → (A ↔ (Q ⊎ N)) → (B ↔ (Q ⊎ F)) → (N ↔ (F ⊎ P)) → (A ↔ (B ⊎ P))
+        parts a b n = grind arith
+
+  -- what is left was there
+  pub loses_each : (before now after : List (CompactSpot D)) (P : CompactSpot D → Type 0) → now ≡ before → LosesWhere P now after
+      → All (Contains before) after
+  loses_each before now after P same loses = all_from_in (Contains before) after (λ x there. rw (← same) ((loses x).0 there).0)
+
+-- ---- what a search among sorted spots tells
+
+module _ {D : ℕ} where
+  -- a list that held nothing has just what was given to it, in any order
+  pub same_by_sort : (given none after : List (CompactSpot D)) → none ≡ [] → IsPermutation (none ++ given) after → (x : CompactSpot D)
+      → Contains after x ↔ Contains given x
+  same_by_sort given none after empty moved x =
+      same_by_permutation given after (rw empty at moved) x
+
+  cmp_from_sorted : (xs : List (CompactSpot D)) → AreSorted xs → IsSorted spot_cmp xs
+  cmp_from_sorted xs sorted = λ k d low high. by (get_or xs (k + 1) d) (get_or xs k d) (sorted k (k + 1) d (omega arith) high)
+      (spot_cmp (get_or xs (k + 1) d) (get_or xs k d)) refl
+    where
+      by : (a b : CompactSpot D) → ¬ SpotLess a b → (o : Ordering) → spot_cmp a b ≡ o → is_lt (spot_cmp a b) ≡ false
+      by a b other Less e = absurd (other (SpotLess_from_cmp a b e))
+      by a b other Equal e = ap is_lt e
+      by a b other Greater e = ap is_lt e
+
+  -- whether the search failed says whether the spot is there
+  pub told_by_search : (xs : List (CompactSpot D)) (s : CompactSpot D) (r : Result ℕ ℕ) (b : Bool) → AreSorted xs → IsSearchInRange r (length xs)
+      → IfOk r (HoldsAt (λ y. spot_cmp y s ≡ Equal) xs) → IsBinarySearchResult (λ y. spot_cmp y s) xs r → b ≡ is_err r
+      → IsTrue b ↔ (¬ Contains xs s)
+  told_by_search xs s (Ok i) b up within tie at is =
+      (λ yes. absurd (false≢true (sym is ∙ yes)), λ none. absurd (none (i, within, same_from_cmp (get_or xs i s) s (tie s))))
+  told_by_search xs s (Err i) b up within tie at is =
+      (λ _. none_in_gap xs s i (found_gap xs s (Err i) (cmp_from_sorted xs up) within at), λ _. is)

@@ -1,8 +1,7 @@
-use Rattle.std.proofs.Common.{rules, ◌≡◌, ◌≤◌, ◌++◌, ◌∷◌, [], take, arith, sym, subst, ap, ◌∙◌, ◌+◌}
-use Rattle.std.proofs.lemmas.List.{take_more}
+use Rattle.std.proofs.Common.{rules, ◌≤◌, arith, refl, sym, subst}
 use Rattle.compact_labels.specs.declared.label.CompactSpot.{CompactSpot}
 use Rattle.node_front.specs.NodeFronts.{front_at}
-use Rattle.round_core.specs.Taking.{SettlesAll}
+use Rattle.node_front.proofs.RoundLemmas.{next_taken}
 use Rattle.round_core.specs.Unsettled.{HasUnsettled}
 use Rattle.round_core.proofs.SettlingLemmas.{apart_still, news_through, not_before, settles_more, unsettled_still}
 use Rattle.round_core.proofs.begin.settle_all.Goals as goal
@@ -16,23 +15,20 @@ settle_one-requires g c =
     let other = not_before c.args.spots.now i x c.requires.once within c.spot-item.is in
     let has = subst (λ (y : CompactSpot g.row.D). HasUnsettled (front_at c.args.fronts.now y.node.0) y.cost.0) (sym c.spot-item.is)
     (c.requires.unsettled i x within) in
-    let still = unsettled_still c.args.fronts.now c.loop-spot.fronts (take i c.args.spots.now) all x.node.0 x.cost.0 other has in
-    let apart = apart_still c.args.fronts.now c.loop-spot.fronts (take i c.args.spots.now) all c.args.target.0 c.requires.apart in
+    let still = unsettled_still all x.node.0 x.cost.0 other has in
+    let apart = apart_still all c.args.target.0 c.requires.apart in
     let room : 1 ≤ c.loop-spot.bounds.spare = omega (arith, within, c.loop-spot.invariant.room) in
-    (search rules, (search rules, (search rules, (room, (still, (apart, c.loop-spot.invariant.bounds_are))))))
+    search (rules, room, still, apart, c.loop-spot.invariant.bounds_are)
 
 pub loop-spot-preserved : goal.loop-spot-preserved
 loop-spot-preserved g c =
-    let i = c.loop-spot.spot-index in
+    let was = c.loop-spot.invariant in
     let xs = c.args.spots.now in
     let x = c.spot-item.result in
-    let longer : take (i + 1) xs ≡ take i xs ++ x ∷ [] =
-    take_more xs i x c.loop-spot-test.true ∙ ap (λ (y : CompactSpot g.row.D). take i xs ++ y ∷ []) (sym c.spot-item.is) in
     record {
-      room = omega (arith, c.loop-spot.invariant.room, c.settle_one.ensures.room_left);
-      settled = subst (λ ys. SettlesAll c.args.fronts.now ys c.settle_one.new.fronts) (sym longer)
-          (settles_more c.args.fronts.now c.loop-spot.fronts c.settle_one.new.fronts (take i xs) x c.loop-spot.invariant.settled
-          c.settle_one.ensures.elsewhere c.settle_one.ensures.settled);
+      room = omega (arith, was.room, c.settle_one.ensures.room_left);
+      settled = rw (next_taken xs xs c.loop-spot.spot-index x refl c.loop-spot-test.true c.spot-item.is)
+          (settles_more x was.settled c.settle_one.ensures.elsewhere c.settle_one.ensures.settled);
       bounds_are = c.settle_one.ensures.bounds_are;
-      news = news_through c.args.bounds.now c.loop-spot.bounds c.settle_one.new.bounds c.loop-spot.invariant.news c.settle_one.ensures.news;
+      news = news_through was.news c.settle_one.ensures.news;
     }

@@ -3,7 +3,7 @@ use Rattle.std.specs.Prelude.{Contains}
 use Rattle.std.proofs.lemmas.List.{take_all}
 use Rattle.node_front.proofs.RoundLemmas.{next_taken}
 use Rattle.round_core.specs.Waiting.{all_waiting}
-use Rattle.round_core.proofs.WaitingLists.{next_not_waiting, all_came}
+use Rattle.round_core.proofs.WaitingLemmas.{next_not_waiting, all_came}
 use Rattle.round_core.proofs.finish.wait_for.Goals as goal
 
 pub add-requires : goal.add-requires

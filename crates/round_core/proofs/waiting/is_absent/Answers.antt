@@ -1,4 +1,4 @@
-use Rattle.round_core.proofs.SearchLemmas.{told_by_search}
+use Rattle.round_core.proofs.WaitingLemmas.{told_by_search}
 use Rattle.round_core.proofs.waiting.is_absent.Goals as goal
 
 pub returns : goal.returns

@@ -1,7 +1,5 @@
-use Rattle.std.proofs.Common.{◌↔◌, ◌∙◌, refl, false, not, subst, sym, inl, inr}
-use Rattle.std.specs.Prelude.{IsTrue}
+use Rattle.std.proofs.Common.{◌∙◌, refl, sym, inl, inr}
 use Rattle.std.proofs.lemmas.Bool.{false≢true}
-use Rattle.round_core.specs.Bounds.{Bounds, IsUseless}
 use Rattle.round_core.proofs.BoundsLemmas.{undominated}
 use Rattle.round_core.proofs.bounds.Bounds.exclude.Goals as goal
 
@@ -9,16 +7,11 @@ pub returns-then-not-is_within : goal.returns-then-not-is_within
 returns-then-not-is_within g c =
     let told = c.is_within.ensures c.self.inside.limit c.self.invariant.greatest in
     let none = c.if-not-is_within.true in
-    subst (λ (b : Bounds g.row.D). IsTrue (not c.is_within.result) ↔ IsUseless b c.args.cost.now.0) c.self.view_is
-    (rw none (λ _. inl (λ h. false≢true (sym none ∙ told.1 h)), λ _. refl))
+    rw (← c.self.view_is, none) (λ _. inl (λ h. false≢true (sym none ∙ told.1 h)), λ _. refl)
 
 pub returns-in_default : goal.returns-in_default
 returns-in_default g c =
-    let state = g.F.ParetoFront.state in
     let told = c.is_within.ensures c.self.inside.limit c.self.invariant.greatest in
-    let none = undominated g.row.D (state c.self.inside.front) c.compare.ensures.front c.args.cost.now.0 c.compare.result c.compare.ensures.standing
-    c.in_default.not-Dominated in
-    subst (λ (b : Bounds g.row.D). IsTrue false ↔ IsUseless b c.args.cost.now.0) c.self.view_is (
-      λ wrong. absurd (false≢true wrong),
-      elim [ inl beyond ↦ absurd (beyond (told.0 c.if-not-is_within.false)) | inr by ↦ absurd (none by) ],
-    )
+    let none = undominated c.compare.ensures.front c.args.cost.now.0 c.compare.result c.compare.ensures.standing c.in_default.not-Dominated in
+    rw (← c.self.view_is)
+    (λ wrong. absurd (false≢true wrong), elim [ inl beyond ↦ absurd (beyond (told.0 c.if-not-is_within.false)) | inr by ↦ absurd (none by) ])

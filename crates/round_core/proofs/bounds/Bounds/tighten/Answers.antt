@@ -1,32 +1,21 @@
-use Rattle.std.proofs.Common.{rules, ◌≡◌, ◌⊎◌, ◌↔◌, ap, subst, refl}
-use Rattle.pareto_front.specs.Fronts.{Entry, Front, HasCost, entries}
-use Rattle.round_core.specs.Bounds.{Bounds}
+use Rattle.std.proofs.Common.{rules, refl}
 use Rattle.round_core.proofs.BoundsLemmas.{has_entered, news_on, still_all_settled, tightened}
 use Rattle.round_core.proofs.bounds.Bounds.tighten.Goals as goal
 
 pub settle-requires : goal.settle-requires
-settle-requires g c =
-    let e : Entry = record { cost = c.args.cost.now.0; arc = 0 } in
-    let state = g.F.ParetoFront.state in
-    (search rules, has_entered (state c.self.inside.front) (state c.enter.new.self) e c.self.invariant.all_settled c.enter.ensures.entered)
+settle-requires g c = (search rules, has_entered c.self.invariant.all_settled c.enter.ensures.entered)
 
 pub invariant_of-self : goal.invariant_of-self
 invariant_of-self g c =
-    let e : Entry = record { cost = c.args.cost.now.0; arc = 0 } in
-    let state = g.F.ParetoFront.state in record {
+    let settled = c.self.invariant.all_settled in
+    let entered = c.enter.ensures.entered in
+    record {
       greatest = c.self.invariant.greatest;
-      all_settled = still_all_settled (state c.self.inside.front) (state c.enter.new.self) (state c.settle.new.self) e c.self.invariant.all_settled
-          c.enter.ensures.entered c.settle.ensures.settled;
-      new_settled = rw c.push_reserved.ensures.items (news_on (state c.self.inside.front) (state c.enter.new.self) (state c.settle.new.self) e
-          c.self.invariant.all_settled c.enter.ensures.entered c.settle.ensures.settled c.self.inside.news.items c.args.cost.now refl
+      all_settled = still_all_settled settled entered c.settle.ensures.settled;
+      new_settled = rw c.push_reserved.ensures.items (news_on settled entered c.settle.ensures.settled c.self.inside.news.items c.args.cost.now refl
           c.self.invariant.new_settled);
     }
 
 pub returns-clause-costs : goal.returns-clause-costs
 returns-clause-costs g c k =
-    let e : Entry = record { cost = c.args.cost.now.0; arc = 0 } in
-    let state = g.F.ParetoFront.state in
-    let after = state c.settle.new.self in
-    let same : state c.self.inside.front ≡ c.args.self.now.front = ap (λ (b : Bounds g.row.D). b.front) c.self.view_is in
-    subst (λ (f : Front). HasCost (entries after) k ↔ (HasCost (entries f) k ⊎ (k ≡ c.args.cost.now.0))) same
-    (tightened (state c.self.inside.front) (state c.enter.new.self) after e c.self.invariant.all_settled c.enter.ensures.entered c.settle.ensures.settled k)
+    rw (← c.self.view_is) (tightened c.self.invariant.all_settled c.enter.ensures.entered c.settle.ensures.settled k)

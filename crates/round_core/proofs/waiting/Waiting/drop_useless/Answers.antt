@@ -1,9 +1,6 @@
-use Rattle.std.proofs.Common.{IsTrue, ◌↔◌, rules, subst, ap, ◌≢◌, List, ◌∙◌}
-use Rattle.std.specs.Prelude.{All}
-use Rattle.compact_labels.specs.declared.cost.CompactCost.{CompactCost}
+use Rattle.std.proofs.Common.{IsTrue, ◌↔◌, rules, subst, ap, ◌≢◌, ◌∙◌}
 use Rattle.compact_labels.specs.declared.label.CompactSpot.{CompactSpot}
-use Rattle.pareto_front.specs.Fronts.{HasCost, entries}
-use Rattle.pareto_queue.specs.Queues.{IsDominatedBy, LosesWhere}
+use Rattle.pareto_queue.specs.Queues.{LosesWhere}
 use Rattle.pareto_queue.proofs.RetainedLemmas.{pairs_by_retain}
 use Rattle.round_core.specs.Bounds.{IsUseless}
 use Rattle.round_core.specs.Waiting.{Waiting}
@@ -13,12 +10,8 @@ use Rattle.round_core.proofs.waiting.Waiting.drop_useless.Goals as goal
 queued_left : (g : _) (c : goal.After-retain g) → LosesWhere (λ x. IsUseless c.args.bounds.now x.cost.0) c.args.self.now.queued c.drop_dominated.new.self.queued
 queued_left g c =
     let b = c.args.bounds.now in
-    let settled : All (λ (k : CompactCost g.row.D). HasCost (entries b.front) k.0) b.news =
-    subst (λ ks. All (λ (k : CompactCost g.row.D). HasCost (entries b.front) k.0) ks) c.news.ensures.value c.news.ensures.settled in
-    let loses : LosesWhere (λ x. IsDominatedBy b.news x.cost.0) c.args.self.now.queued c.drop_dominated.new.self.queued =
-    subst (λ (ks : List (CompactCost g.row.D)). LosesWhere (λ x. IsDominatedBy ks x.cost.0) c.args.self.now.queued c.drop_dominated.new.self.queued)
-    c.news.ensures.value c.drop_dominated.ensures.queued in
-    useless_by_news b c.args.self.now.queued c.drop_dominated.new.self.queued settled c.requires loses
+    useless_by_news b c.args.self.now.queued c.drop_dominated.new.self.queued (rw c.news.ensures.value at c.news.ensures.settled) c.requires
+    (rw c.news.ensures.value at c.drop_dominated.ensures.queued)
 
 fresh_left : (g : _) (c : goal.After-retain g) → LosesWhere (λ x. IsUseless c.args.bounds.now x.cost.0) c.self.inside.fresh.items c.retain.new.self.items
 fresh_left g c = left_by_retain _ _ _ _ c.retain.ensures.filtered (λ x. IsUseless c.args.bounds.now x.cost.0)
@@ -36,5 +29,4 @@ returns-clause-queued g c = rw (ap (λ (v : Waiting g.row.D). v.queued) c.self.v
 
 pub returns-clause-fresh : goal.returns-clause-fresh
 returns-clause-fresh g c =
-    let same = ap (λ (v : Waiting g.row.D). v.fresh) c.self.view_is ∙ c.drop_dominated.ensures.fresh in
-    subst (λ (xs : List (CompactSpot g.row.D)). LosesWhere (λ x. IsUseless c.args.bounds.now x.cost.0) xs c.retain.new.self.items) same (fresh_left g c)
+    rw (← (ap (λ (v : Waiting g.row.D). v.fresh) c.self.view_is ∙ c.drop_dominated.ensures.fresh)) (fresh_left g c)

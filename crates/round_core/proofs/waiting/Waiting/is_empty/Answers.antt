@@ -1,6 +1,3 @@
-use Rattle.std.proofs.Common.{◌≡◌, ◌↔◌, subst, []}
-use Rattle.std.specs.Prelude.{IsTrue}
-use Rattle.round_core.specs.Waiting.{Waiting, all_waiting}
 use Rattle.round_core.proofs.WaitingLemmas.{both_empty}
 use Rattle.round_core.proofs.waiting.Waiting.is_empty.Goals as goal
 
@@ -9,5 +6,4 @@ returns-else-is_empty g c =
     let both = both_empty c.self.inside.queue c.self.inside.fresh.items in
     let test = c.is_empty.ensures in
     let wrong = c.if-is_empty.false in
-    subst (λ (v : Waiting g.row.D). IsTrue c.is_empty.result ↔ (all_waiting v ≡ [])) c.self.view_is
-    ((λ yes. absurd cc), (λ h. test.1 (both.1 h).0))
+    rw (← c.self.view_is) (λ yes. absurd cc, λ h. test.1 (both.1 h).0)

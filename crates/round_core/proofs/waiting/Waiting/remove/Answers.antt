@@ -1,20 +1,19 @@
-use Rattle.std.proofs.Common.{rules, subst, IsTrue, ◌↔◌, ◌≢◌}
-use Rattle.std.specs.Prelude.{Contains, IsPermutation}
+use Rattle.std.proofs.Common.{rules, IsTrue, ◌↔◌, ◌≢◌}
+use Rattle.std.specs.Prelude.{Contains}
 use Rattle.list_laws.proofs.OnceLaws.{told_in}
 use Rattle.list_laws.proofs.Retained.{without_by_retain}
 use Rattle.pareto_queue.specs.Queues.{AreSorted, LosesWhere}
 use Rattle.pareto_queue.proofs.OrderLemmas.{cases_spot, sorted_from_cmp}
-use Rattle.round_core.proofs.SearchLemmas.{same_by_sort}
+use Rattle.round_core.proofs.WaitingLemmas.{same_by_sort, once_left}
 use Rattle.pareto_queue.proofs.RetainedLemmas.{fails_by_test_of, loses_by_without, pairs_by_retain}
 use Rattle.round_core.specs.Waiting.{Waiting}
-use Rattle.round_core.proofs.WaitingLemmas.{once_left}
 use Rattle.round_core.proofs.waiting.Waiting.remove.Goals as goal
 
 fresh_left : (g : _) (c : goal.After-retain g) → LosesWhere (Contains c.args.spots.now) c.self.inside.fresh.items c.retain.new.self.items
 fresh_left g c =
     let sorted = sorted_from_cmp c.sort_unstable.new.self.items c.sort_unstable.ensures.sorted in
     let same = same_by_sort c.args.spots.now c.clear.new.self.items c.sort_unstable.new.self.items c.clear.ensures.items
-    (subst (λ xs. IsPermutation xs c.sort_unstable.new.self.items) c.in_ok-extend_from_slice.ensures.items c.sort_unstable.ensures.permutation) in
+    (rw c.in_ok-extend_from_slice.ensures.items at c.sort_unstable.ensures.permutation) in
     loses_by_without (Contains c.args.spots.now) _ _
     (without_by_retain _ _ _ _ _ (λ x b f r. (
       fails_by_test_of (Contains c.args.spots.now x) (Contains c.sort_unstable.new.self.items x) (told_in cases_spot c.args.spots.now x) (same x) b
@@ -30,8 +29,8 @@ invariant_of-self-2 g c =
 
 pub returns-clause-queued : goal.returns-clause-queued
 returns-clause-queued g c =
-    subst (λ (v : Waiting g.row.D). LosesWhere (Contains c.args.spots.now) v.queued c.remove_all.new.self) c.self.view_is c.in_ok-remove_all.ensures.removed
+    rw (← c.self.view_is) c.in_ok-remove_all.ensures.removed
 
 pub returns-clause-fresh : goal.returns-clause-fresh
 returns-clause-fresh g c =
-    subst (λ (v : Waiting g.row.D). LosesWhere (Contains c.args.spots.now) v.fresh c.retain.new.self.items) c.self.view_is (fresh_left g c)
+    rw (← c.self.view_is) (fresh_left g c)

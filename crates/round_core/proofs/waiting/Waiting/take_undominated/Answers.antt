@@ -1,11 +1,7 @@
-use Rattle.std.proofs.Common.{List, ◌++◌, ◌≡◌, sym, subst}
-use Rattle.compact_labels.specs.declared.label.CompactSpot.{CompactSpot}
-use Rattle.list_laws.specs.Sets.{SameMembers}
+use Rattle.std.proofs.Common.{◌++◌, ◌≡◌}
 use Rattle.pareto_queue.specs.Queues.{TakesUndominated}
 use Rattle.pareto_queue.proofs.QueueLemmas.{takes_alike}
-use Rattle.round_core.proofs.SearchLemmas.{by_success}
-use Rattle.round_core.specs.Waiting.{Waiting, all_waiting}
-use Rattle.round_core.proofs.WaitingLemmas.{by_error, none_fresh}
+use Rattle.round_core.proofs.WaitingLemmas.{by_success, by_error, none_fresh}
 use Rattle.round_core.proofs.waiting.Waiting.take_undominated.Goals as goal
 
 pub returns-then-is_err-clause-same : goal.returns-then-is_err-clause-same
@@ -13,9 +9,7 @@ returns-then-is_err-clause-same g c =
     let same : c.take_undominated.new.self ≡ c.self.inside.queue =
     by_error c.take_undominated.result c.is_err.result (c.take_undominated.new.self ≡ c.self.inside.queue) c.is_err.ensures.value c.if-is_err.true
     c.take_undominated.ensures.same in
-    subst (λ (v : Waiting g.row.D). SameMembers (c.take_undominated.new.self ++ c.self.inside.fresh.items) (all_waiting v)) c.self.view_is
-    (subst (λ (q : List (CompactSpot g.row.D)). SameMembers (q ++ c.self.inside.fresh.items) (c.self.inside.queue ++ c.self.inside.fresh.items)) (sym same)
-    (λ x. (λ h. h, λ h. h)))
+    rw (← c.self.view_is, same) (λ x. (λ h. h, λ h. h))
 
 pub returns-clause-taken : goal.returns-clause-taken
 returns-clause-taken g c =
@@ -23,9 +17,7 @@ returns-clause-taken g c =
     let took = c.take_undominated.new.taken.items in
     let queue = c.take_undominated.new.self in
     let takes : TakesUndominated before took queue =
-    subst (λ (xs : List (CompactSpot g.row.D)). TakesUndominated (c.self.inside.queue ++ xs) took queue) c.deref.ensures.value
-    (by_success c.take_undominated.result c.is_err.result (TakesUndominated (c.self.inside.queue ++ c.deref.result.now) took queue)
+    rw (← c.deref.ensures.value) (by_success c.take_undominated.result c.is_err.result (TakesUndominated (c.self.inside.queue ++ c.deref.result.now) took queue)
     c.is_err.ensures.value c.if-is_err.false c.take_undominated.ensures.taken) in
-    subst (λ (v : Waiting g.row.D). TakesUndominated (all_waiting v) took (queue ++ c.clear-2.new.self.items)) c.self.view_is
-    (takes_alike before before took queue (queue ++ c.clear-2.new.self.items) (λ x. (λ h. h, λ h. h))
+    rw (← c.self.view_is) (takes_alike before before took queue (queue ++ c.clear-2.new.self.items) (λ x. (λ h. h, λ h. h))
     (none_fresh queue c.clear-2.new.self.items c.clear-2.ensures.items) takes)

@@ -1,8 +1,5 @@
-use Rattle.std.proofs.Common.{IsTrue, ◌↔◌, subst}
-use Rattle.std.specs.Prelude.{Contains}
-use Rattle.pareto_queue.specs.Queues.{AreSorted}
 use Rattle.round_core.proofs.waiting.fn.Waiting.remove.retain.Goals as goal
 
 pub returns : goal.returns
 returns g c =
-    subst (λ spots. AreSorted spots → (IsTrue c.is_absent.result ↔ (¬ Contains spots c.args.spot.now))) c.deref.ensures.value c.is_absent.ensures
+    rw (← c.deref.ensures.value) c.is_absent.ensures

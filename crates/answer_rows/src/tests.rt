@@ -1,18 +1,17 @@
-ghost use Rattle.std.specs.Prelude.{◌≡◌, length, IfOk, IsTrue};
+ghost use Rattle.std.specs.Prelude.{◌≡◌, length, vec_len, IfOk, IsTrue};
 ghost use Rattle.road_network.specs.Network.{IsNode};
 ghost use Rattle.arc_graph.specs.Graph.{Match};
 ghost use Rattle.answer_writer.specs.Forms.{limit_of};
 
 use answer_writer::{Form, put_answer, put_refusal};
-use arc_graph::{ArcFile, ArcLine, Graph, Weights, join_files};
-use cost_vector::{Limit, NodeNo};
+use arc_graph::{ArcFile, ArcLine, Graph, JoinFault, Weights, join_files};
+use cost_vector::{Limit, NodeNo, OutOfMemory};
 use path_readback::Room;
 use route_io::memory::MemorySink;
 use route_io::{Sink, WriteFault};
 use standing::Standing;
 use std::alloc::Global;
 use std::process::Abort;
-use std::test::Fail;
 
 mod standing;
 
@@ -26,7 +25,7 @@ const ARCS: [[u32; 4]; 6] = [
     [1, 4, 9, 9],
 ];
 
-fn file(rt: &impl Abort, alloc: Global, criterion: usize) -> Result<ArcFile, Fail> {
+fn file(rt: &impl Abort, alloc: Global, criterion: usize) -> Result<ArcFile, OutOfMemory> {
     assert!(rt; criterion < 2);
     let mut file = ArcFile::new(alloc, 4);
     for arc in &ARCS {
@@ -41,11 +40,19 @@ fn file(rt: &impl Abort, alloc: Global, criterion: usize) -> Result<ArcFile, Fai
     Ok(file)
 }
 
-fn graph(rt: &impl Abort, alloc: Global) -> Result<(Graph, Weights), Fail>
+fn files(rt: &impl Abort, alloc: Global) -> Result<Vec<ArcFile>, OutOfMemory>
+    ensures { IfOk result (λ f. vec_len f ≡ 2) }
+{
+    let mut files = Vec::new(alloc);
+    files.push(file(rt, alloc, 0)?)?;
+    files.push(file(rt, alloc, 1)?)?;
+    Ok(files)
+}
+
+fn graph(rt: &impl Abort, alloc: Global) -> Result<(Graph, Weights), JoinFault>
     ensures { IfOk result (λ r. Match r.0 r.1) }
 {
-    let files = vec![in alloc; file(rt, alloc, 0)?, file(rt, alloc, 1)?]?;
-    Ok(join_files(alloc, files)?)
+    join_files(alloc, files(rt, alloc)?)
 }
 
 /// Sends the answer to the query from node 4 to itself.
@@ -86,14 +93,14 @@ fn answer<K: Sink>(
     alloc: Global,
     form: &Form,
     sink: &mut K,
-) -> Result<Result<(), WriteFault>, Fail> {
+) -> Result<Result<(), WriteFault>, JoinFault> {
     let (graph, weights) = graph(rt, alloc)?;
     assert!(rt; graph.criteria() == 2 && graph.has_node(4) && has_two(form));
     let mut room = Room::with(alloc, 0)?;
     Ok(stand(sink, &graph, &weights, form, &mut room))
 }
 
-/// The answer's forms, each with its text.
+/// Each form of the answer, with its text.
 fn texts() -> [(Form, &'static str); 3] {
     let limit = Limit::of_places(&[None, Some(3)]);
     [
@@ -108,29 +115,69 @@ fn small_sink(alloc: Global, bound: usize) -> MemorySink {
     MemorySink::new(alloc, bound as u64, Vec::new(alloc)).with_piece(3)
 }
 
-#[test]
-fn sends_the_front_that_a_sink_takes(rt: HostRuntime) -> Result<(), Fail> {
-    for (form, text) in texts() {
-        for bound in 0..=text.len() {
-            let mut sink = small_sink(rt.alloc(), bound);
-            let sent = answer(&rt, rt.alloc(), &form, &mut sink)?;
-            assert_eq!(rt; sent.is_ok(), bound == text.len(), "{text}: {bound}");
-            assert_eq!(rt; sink.sent(), &text.as_bytes()[..bound], "{text}: {bound}");
-        }
+/// A sink whose second write fails.
+fn single_sink(alloc: Global) -> Result<MemorySink, OutOfMemory> {
+    let mut fails = Vec::new(alloc);
+    fails.push(1)?;
+    Ok(MemorySink::new(alloc, 100, fails))
+}
+
+/// Whether a sink took so many bytes of a text, and its fault was told if those aren't all.
+fn is_cut(sent: Result<(), WriteFault>, sink: &MemorySink, text: &str, bound: usize) -> bool {
+    let wanted = &text.as_bytes()[..bound.min(text.len())];
+    sink.sent() == wanted && sent.is_ok() == (bound == text.len())
+}
+
+/// Whether the answer goes as far as a small sink takes it.
+fn answer_is_cut(
+    rt: &impl Abort,
+    alloc: Global,
+    form: &Form,
+    text: &str,
+    bound: usize,
+) -> Result<bool, JoinFault> {
+    let mut sink = small_sink(alloc, bound);
+    let sent = answer(rt, alloc, form, &mut sink)?;
+    Ok(is_cut(sent, &sink, text, bound))
+}
+
+/// Whether one write sends the answer.
+fn is_sent_at_once(
+    rt: &impl Abort,
+    alloc: Global,
+    form: &Form,
+    text: &str,
+) -> Result<bool, JoinFault> {
+    let mut sink = single_sink(alloc)?;
+    let sent = answer(rt, alloc, form, &mut sink)?;
+    Ok(sent == Ok(()) && sink.sent() == text.as_bytes())
+}
+
+fn assert_holds(rt: &impl Abort, holds: Result<bool, JoinFault>, text: &str, bound: usize) {
+    assert!(rt; holds == Ok(true), "{text}: {bound}");
+}
+
+/// The answer goes as far as any small sink takes it.
+fn assert_cuts(rt: &impl Abort, alloc: Global, form: &Form, text: &str) {
+    for bound in 0..=text.len() {
+        let is_cut = answer_is_cut(rt, alloc, form, text, bound);
+        assert_holds(rt, is_cut, text, bound);
     }
-    Ok(())
 }
 
 #[test]
-fn sends_a_short_answer_by_one_write(rt: HostRuntime) -> Result<(), Fail> {
-    for (form, text) in texts() {
-        let second = vec![in rt.alloc(); 1]?;
-        let mut sink = MemorySink::new(rt.alloc(), 100, second);
-        let sent = answer(&rt, rt.alloc(), &form, &mut sink)?;
-        assert_eq!(rt; sent, Ok(()), "{text}");
-        assert_eq!(rt; sink.sent(), text.as_bytes(), "{text}");
+fn sends_the_front_that_a_sink_takes(rt: HostRuntime) {
+    for (form, text) in &texts() {
+        assert_cuts(&rt, rt.alloc(), form, text);
     }
-    Ok(())
+}
+
+#[test]
+fn sends_a_short_answer_by_one_write(rt: HostRuntime) {
+    for (form, text) in &texts() {
+        let is_sent = is_sent_at_once(&rt, rt.alloc(), form, text);
+        assert_holds(&rt, is_sent, text, 100);
+    }
 }
 
 #[test]
@@ -139,7 +186,6 @@ fn refuses_as_far_as_a_sink_takes_it(rt: HostRuntime) {
     for bound in 0..=text.len() {
         let mut sink = small_sink(rt.alloc(), bound);
         let sent = put_refusal(&mut sink, 0, 9, 1, " node");
-        assert_eq!(rt; sent.is_ok(), bound == text.len(), "{bound}");
-        assert_eq!(rt; sink.sent(), &text.as_bytes()[..bound], "{bound}");
+        assert!(rt; is_cut(sent, &sink, text, bound), "{bound}");
     }
 }

@@ -1,12 +1,10 @@
-ghost use Rattle.std.specs.Prelude.{IfOk};
-ghost use Rattle.arc_graph.specs.Graph.{Match};
+ghost use Rattle.std.specs.Prelude.{◌≡◌, IfOk, vec_len};
 
-use arc_graph::{ArcFile, ArcLine, Graph, Weights, join_files};
-use cost_vector::{ArcNo, Cost, Label, Limit, NodeNo};
+use arc_graph::{ArcFile, ArcLine, JoinFault, join_files};
+use cost_vector::{ArcNo, Cost, Label, Limit, NodeNo, OutOfMemory};
 use machine_model::{Event, State, Task};
 use std::alloc::Global;
 use std::process::Abort;
-use std::test::Fail;
 
 mod rows;
 
@@ -50,7 +48,7 @@ fn file(
     alloc: Global,
     arcs: &[[u32; 4]],
     criterion: usize,
-) -> Result<ArcFile, Fail> {
+) -> Result<ArcFile, OutOfMemory> {
     assert!(rt; criterion < 2);
     let mut file = ArcFile::new(alloc, 4);
     for arc in arcs {
@@ -65,15 +63,17 @@ fn file(
     Ok(file)
 }
 
-fn graph(rt: &impl Abort, alloc: Global, arcs: &[[u32; 4]]) -> Result<(Graph, Weights), Fail>
-    ensures { IfOk result (λ r. Match r.0 r.1) }
+fn files(rt: &impl Abort, alloc: Global, arcs: &[[u32; 4]]) -> Result<Vec<ArcFile>, OutOfMemory>
+    ensures { IfOk result (λ f. vec_len f ≡ 2) }
 {
-    let files = vec![in alloc; file(rt, alloc, arcs, 0)?, file(rt, alloc, arcs, 1)?]?;
-    Ok(join_files(alloc, files)?)
+    let mut files = Vec::new(alloc);
+    files.push(file(rt, alloc, arcs, 0)?)?;
+    files.push(file(rt, alloc, arcs, 1)?)?;
+    Ok(files)
 }
 
-fn task(rt: &impl Abort, alloc: Global, script: &Script) -> Result<Task, Fail> {
-    let (graph, weights) = graph(rt, alloc, script.arcs)?;
+fn task(rt: &impl Abort, alloc: Global, script: &Script) -> Result<Task, JoinFault> {
+    let (graph, weights) = join_files(alloc, files(rt, alloc, script.arcs)?)?;
     Ok(Task {
         graph,
         weights,
@@ -100,64 +100,86 @@ fn event(act: &Act) -> Event {
     }
 }
 
+/// Lets an event happen; and whether it may, and does.
+fn happens(task: &Task, state: &mut State, event: &Event) -> bool {
+    state.may(task, event) && event.fits(task) && state.step(task, event).is_ok()
+}
+
 /// Plays the events of a script, each of which may happen.
-fn play(rt: &impl Abort, alloc: Global, script: &Script, task: &Task) -> Result<State, Fail> {
+fn play(
+    rt: &impl Abort,
+    alloc: Global,
+    script: &Script,
+    task: &Task,
+) -> Result<State, OutOfMemory> {
     let mut state = State::start(alloc, task)?;
-    for act in script.acts {
-        let event = event(act);
-        let may = state.may(task, &event);
-        let fits = event.fits(task);
-        assert!(rt; may && fits, "{}: {event:?}", script.name);
-        state.step(task, &event)?;
+    for (k, act) in script.acts.iter().enumerate() {
+        assert!(rt;
+            happens(task, &mut state, &event(act)),
+            "{}: event {k}",
+            script.name
+        );
     }
     Ok(state)
 }
 
-fn assert_labels(
-    rt: &impl Abort,
-    alloc: Global,
-    name: &str,
-    found: &mut Vec<Label>,
-    wanted: &[Plain],
-) -> Result<(), Fail> {
+/// Whether these are the wanted labels, in whatever order.
+fn are(found: &mut [Label], wanted: &[Plain]) -> bool {
     found.sort_unstable();
-    let wanted: Vec<Label> = wanted.iter().map(label).collect(alloc)?;
-    assert_eq!(rt; found.as_slice(), wanted.as_slice(), "{name}");
-    Ok(())
+    let mut same = found.len() == wanted.len();
+    for (found, plain) in found.iter().zip(wanted) {
+        same = same && *found == label(plain);
+    }
+    same
 }
 
-fn assert_lists(
-    rt: &impl Abort,
-    alloc: Global,
-    name: &str,
-    mut state: State,
-    lists: &Lists,
-) -> Result<(), Fail> {
-    assert_labels(rt, alloc, name, &mut state.settled, lists.settled)?;
-    assert_labels(rt, alloc, name, &mut state.dropped, lists.dropped)?;
-    assert_labels(rt, alloc, name, &mut state.waiting, lists.waiting)?;
-    assert_labels(rt, alloc, name, &mut state.candidates, lists.candidates)?;
-    state.unrelaxed.sort_unstable();
-    let pairs = lists.unrelaxed.iter();
-    let pairs = pairs.map(|pair| (label(&pair.0), ArcNo(pair.1)));
-    let wanted: Vec<(Label, ArcNo)> = pairs.collect(alloc)?;
-    assert_eq!(rt; state.unrelaxed.as_slice(), wanted.as_slice(), "{name}");
-    Ok(())
+/// Whether these are the wanted labels with their arcs, in whatever order.
+fn are_pairs(found: &mut [(Label, ArcNo)], wanted: &[(Plain, u32)]) -> bool {
+    found.sort_unstable();
+    let mut same = found.len() == wanted.len();
+    for (found, (plain, arc)) in found.iter().zip(wanted) {
+        same = same && found.0 == label(plain) && found.1.0 == *arc;
+    }
+    same
+}
+
+/// Which of a state's lists isn't the one that is wanted; no text if all are.
+fn other_list(state: &mut State, lists: &Lists) -> &'static str {
+    if !are(&mut state.settled, lists.settled) {
+        "settled"
+    } else if !are(&mut state.dropped, lists.dropped) {
+        "dropped"
+    } else if !are(&mut state.waiting, lists.waiting) {
+        "waiting"
+    } else if !are_pairs(&mut state.unrelaxed, lists.unrelaxed) {
+        "unrelaxed"
+    } else if !are(&mut state.candidates, lists.candidates) {
+        "candidates"
+    } else {
+        ""
+    }
+}
+
+/// What is wrong at the end of a script; no text if nothing is.
+fn wrong(task: &Task, mut state: State, end: &End) -> &'static str {
+    match end {
+        End::At(lists) => other_list(&mut state, lists),
+        End::Refuses(act) if state.may(task, &event(act)) => "not refused",
+        End::Refuses(_) => "",
+    }
+}
+
+/// The same, once the script is played.
+fn told(rt: &impl Abort, alloc: Global, script: &Script) -> Result<&'static str, JoinFault> {
+    let task = task(rt, alloc, script)?;
+    let state = play(rt, alloc, script, &task)?;
+    Ok(wrong(&task, state, &script.end))
 }
 
 #[test]
-fn scripts_lead_where_they_should(rt: HostRuntime) -> Result<(), Fail> {
-    let alloc = rt.alloc();
+fn scripts_lead_where_they_should(rt: HostRuntime) {
     for script in rows::SCRIPTS {
-        let task = task(&rt, alloc, script)?;
-        let state = play(&rt, alloc, script, &task)?;
-        match &script.end {
-            End::At(lists) => assert_lists(&rt, alloc, script.name, state, lists)?,
-            End::Refuses(act) => {
-                let may = state.may(&task, &event(act));
-                assert!(rt; !may, "{}", script.name);
-            }
-        }
+        let told = told(&rt, rt.alloc(), script).unwrap_or("no memory, or files that disagree");
+        assert!(rt; told == "", "{}: {told}", script.name);
     }
-    Ok(())
 }

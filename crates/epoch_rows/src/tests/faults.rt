@@ -30,45 +30,74 @@ fn refuse_all<S: Store, R: Wait + Abort>(
     requires two { S.origin.base.criteria ≡ 2 }
 {
     let (mut operator, _readers) = make::<S>(alloc, chronicle, 4294967294, weights, 1)?;
-    let told = refusals(rt, &mut operator);
+    assert!(rt; fill(&mut operator), "one change more");
+    assert_sets_refused(rt, &mut operator);
+    assert_shuts_refused(rt, &mut operator);
+    assert_last_epoch(rt, &mut operator);
     close(rt, operator).end(rt);
-    told
+    Ok(())
 }
 
-fn refusals<S: Store, R: Wait + Abort>(rt: &R, operator: &mut Operator<S>) -> Result<(), Fail>
+const ZERO: [u32; 2] = [0, 0];
+
+const ONE: [u32; 2] = [1, 0];
+
+/// Asks for as many changes as may be pending, and answers whether each is taken.
+fn fill<S: Store>(operator: &mut Operator<S>) -> bool
     requires two { S.origin.base.criteria ≡ 2 }
 {
-    let (zero, one) = (Weight::of_numbers(&[0, 0]), Weight::of_numbers(&[1, 0]));
+    let mut taken = true;
     for _ in 0..65536 {
-        operator.set(1, one).map_err(|_| "one change more")?;
+        taken = operator.set(1, Weight::of_numbers(&ONE)).is_ok() && taken;
     }
-    for (arc, weight, fault) in [
-        (0, zero, SetFault::Arc),
-        (7, zero, SetFault::Arc),
-        (1, zero, SetFault::Zero),
-        (6, zero, SetFault::Zero),
-        (6, one, SetFault::Full),
+    taken
+}
+
+fn assert_sets_refused<S: Store, R: Abort>(rt: &R, operator: &mut Operator<S>)
+    requires two { S.origin.base.criteria ≡ 2 }
+{
+    for (arc, weight, fault) in &[
+        (0, ZERO, SetFault::Arc),
+        (7, ZERO, SetFault::Arc),
+        (1, ZERO, SetFault::Zero),
+        (6, ZERO, SetFault::Zero),
+        (6, ONE, SetFault::Full),
     ] {
-        assert_eq!(rt; operator.set(arc, weight), Err(fault), "setting arc {arc}");
+        let told = operator.set(*arc, Weight::of_numbers(weight));
+        assert!(rt; told == Err(*fault), "setting arc {arc}");
     }
-    for (arc, fault) in [
+}
+
+fn assert_shuts_refused<S: Store, R: Abort>(rt: &R, operator: &mut Operator<S>) {
+    for (arc, fault) in &[
         (0, ShutFault::Arc),
         (7, ShutFault::Arc),
         (6, ShutFault::Full),
     ] {
-        assert_eq!(rt; operator.shut(arc), Err(fault), "shutting arc {arc}");
+        assert!(rt; operator.shut(*arc) == Err(*fault), "shutting arc {arc}");
     }
+}
+
+/// Once the changes are given up, one more is taken, and the last epoch is published.
+fn assert_last_epoch<S: Store, R: Wait + Abort>(rt: &R, operator: &mut Operator<S>) {
     operator.drop_pending();
-    assert_eq!(rt; operator.shut(6), Ok(()), "room again");
-    assert_eq!(rt; operator.publish(rt), Ok(4294967295), "the last epoch");
-    assert_eq!(rt;
-        operator.publish(rt),
-        Err(PublishFault::LastEpoch),
+    assert!(rt; operator.shut(6) == Ok(()), "room again");
+    assert!(rt; operator.publish(rt) == Ok(4294967295), "the last epoch");
+    assert!(rt;
+        operator.publish(rt) == Err(PublishFault::LastEpoch),
         "and no more"
     );
-    let set = operator.sets().last().ok_or("a set was published")?;
-    assert_eq!(rt; set.changes().len(), 1, "what was given up isn't published");
-    assert_eq!(rt; operator.sets().len(), 1, "one set");
-    assert_eq!(rt; operator.first(), 4294967294, "the first number stays");
-    Ok(())
+    assert!(rt;
+        changes_of_one_set(operator) == Some(1),
+        "one set, and what was given up isn't published"
+    );
+    assert!(rt; operator.first() == 4294967294, "the first number stays");
+}
+
+/// How many changes the published set has, if there is one set.
+fn changes_of_one_set<S: Store>(operator: &Operator<S>) -> Option<usize> {
+    match operator.sets() {
+        [set] => Some(set.changes().len()),
+        _ => None,
+    }
 }

@@ -1,4 +1,4 @@
-ghost use Rattle.std.specs.Prelude.{◌≡◌};
+ghost use Rattle.std.specs.Prelude.{◌≡◌, length};
 
 use super::stores::{close, weights};
 use arc_graph::Weights;
@@ -30,30 +30,52 @@ fn publish_often<S: Store, R: Wait + Abort>(
     requires four { S.origin.base.criteria ≡ 4 }
 {
     let (mut operator, mut readers) = make::<S>(alloc, chronicle, 0, weights, 1)?;
-    let seen = read_after_each(rt, &mut operator, &mut readers);
+    read_after_each(rt, &mut operator, &mut readers[0]);
     close(rt, operator).end(rt);
-    seen
+    Ok(())
 }
 
 fn read_after_each<S: Store, R: Wait + Abort>(
     rt: &R,
     operator: &mut Operator<S>,
-    readers: &mut Vec<EpochReader<S>>,
-) -> Result<(), Fail>
+    reader: &mut EpochReader<S>,
+)
     requires four { S.origin.base.criteria ≡ 4 }
 {
-    let reader = readers.get_mut(0).ok_or("a reader")?;
     for k in 0..20000u32 {
         let arc = k * 209 + 1;
         let weight = Weight::of_numbers(&[k + 1, 1, 1, 1]);
-        operator.set(arc, weight).map_err(|_| "an arc is set")?;
-        operator.publish(rt).map_err(|_| "a set is published")?;
-        reader.read()?;
-        let snapshot = reader.snapshot();
-        assert_eq!(rt; snapshot.number, k + 1, "the number");
-        let found = arc <= snapshot.weights.arcs()
-            && snapshot.weights.get(ArcNo(arc)) == Some(weight);
-        assert!(rt; found, "the state of arc {arc}");
+        assert!(rt; publish_arc(rt, operator, arc, weight), "arc {arc} is set");
+        assert!(rt;
+            shows_arc(reader, k + 1, arc, &weight),
+            "the state of arc {arc}"
+        );
     }
-    Ok(())
+}
+
+/// Gives an arc these weights with the next epoch; and whether it is published.
+fn publish_arc<S: Store, R: Wait>(
+    rt: &R,
+    operator: &mut Operator<S>,
+    arc: u32,
+    weight: Weight,
+) -> bool
+    requires criteria { S.origin.base.criteria ≡ length weight }
+{
+    operator.set(arc, weight).is_ok() && operator.publish(rt).is_ok()
+}
+
+/// Whether a reader looks, and then shows an epoch of this number, in which the arc has these weights.
+fn shows_arc<S: Store>(
+    reader: &mut EpochReader<S>,
+    number: u32,
+    arc: u32,
+    weight: &Weight,
+) -> bool {
+    let seen = reader.read().is_ok();
+    let snapshot = reader.snapshot();
+    seen && snapshot.number == number
+        && 1 <= arc
+        && arc <= snapshot.weights.arcs()
+        && snapshot.weights.get(ArcNo(arc)) == Some(*weight)
 }

@@ -1,9 +1,9 @@
 ghost use Rattle.std.specs.Prelude.{◌≡◌, IfOk};
 
-use super::stores::{Replay, close, shows, weights};
+use super::stores::{Replay, changes, close, finds, weights};
 use arc_graph::Weights;
 use cost_vector::Weight;
-use epoch_store::{Chronicle, Ended, EpochReader, Operator, Store, make};
+use epoch_store::{Chronicle, EpochReader, Operator, Store, make};
 use std::alloc::Global;
 use std::marker::Brand;
 use std::process::Abort;
@@ -15,7 +15,7 @@ type Asked = (u32, Option<[u32; 2]>);
 
 /// Over the end of the first page, which has arcs 1 to 4,096: both sides of it, no change at all, an arc twice in a set, an
 /// arc that is shut, also twice, and one that is opened again.
-const SETS: [&[Asked]; 6] = [
+const SETS: &[&[Asked]] = &[
     &[
         (4095, Some([5, 5])),
         (4096, Some([6, 0])),
@@ -37,6 +37,10 @@ const SETS: [&[Asked]; 6] = [
     ],
 ];
 
+fn sets() -> &'static [&'static [Asked]] {
+    SETS
+}
+
 #[test]
 fn readers_find_each_epoch_whole(rt: HostRuntime) -> Result<(), Fail> {
     let alloc = rt.alloc();
@@ -57,62 +61,55 @@ fn publish_over_a_page<S: Store, R: Wait + Abort>(
 {
     let mut replay = Replay::of(alloc, &weights)?;
     let (mut operator, mut readers) = make::<S>(alloc, chronicle, 7, weights, 2)?;
-    let seen = publish_all(rt, &mut operator, &mut readers, &mut replay);
+    let (early, late) = readers.split_at_mut(1);
+    publish_all(rt, &mut operator, &mut early[0], &mut late[0], &mut replay);
     close(rt, operator).end(rt);
-    seen
-}
-
-/// Publishes each set. The first reader looks after each, the second after every third.
-fn publish_all<S: Store, R: Wait + Abort>(
-    rt: &R,
-    operator: &mut Operator<S>,
-    readers: &mut Vec<EpochReader<S>>,
-    replay: &mut Replay,
-) -> Result<(), Fail>
-    requires two { S.origin.base.criteria ≡ 2 }
-{
-    let mut late = readers.pop().ok_or("two readers")?;
-    let mut early = readers.pop().ok_or("one reader")?;
-    for (k, asked) in SETS.iter().enumerate() {
-        publish(rt, operator, asked, replay)?;
-        early.read()?;
-        assert!(rt;
-            shows(&early, operator.number(), false, replay),
-            "the epoch of set {k}"
-        );
-        if k % 3 == 2 {
-            late.read()?;
-            assert!(rt;
-                shows(&late, operator.number(), false, replay),
-                "three sets at once"
-            );
-        }
-    }
-    assert_eq!(rt; operator.number(), 13, "a number for each set");
     Ok(())
 }
 
-/// Asks for these changes and publishes them.
+/// Publishes each set. One reader looks after each, the other after every third.
+fn publish_all<S: Store, R: Wait + Abort>(
+    rt: &R,
+    operator: &mut Operator<S>,
+    early: &mut EpochReader<S>,
+    late: &mut EpochReader<S>,
+    replay: &mut Replay,
+)
+    requires two { S.origin.base.criteria ≡ 2 }
+{
+    for (k, asked) in sets().iter().enumerate() {
+        let published = publish(rt, operator, asked, replay);
+        assert!(rt;
+            published && finds(early, operator.number(), false, replay),
+            "the epoch of set {k}"
+        );
+        assert!(rt;
+            k % 3 != 2 || finds(late, operator.number(), false, replay),
+            "three sets at once, up to set {k}"
+        );
+    }
+    assert!(rt; operator.number() == 13, "a number for each set");
+}
+
+/// Asks for these changes and publishes them; and whether all is done.
 fn publish<S: Store, R: Wait>(
     rt: &R,
     operator: &mut Operator<S>,
     asked: &[Asked],
     replay: &mut Replay,
-) -> Result<(), Fail>
+) -> bool
     requires two { S.origin.base.criteria ≡ 2 }
 {
-    for &(arc, weight) in asked {
-        match weight {
-            Some(weight) => operator
-                .set(arc, Weight::of_numbers(&weight))
-                .map_err(|_| "an arc is set")?,
-            None => operator.shut(arc).map_err(|_| "an arc is shut")?,
-        }
+    let mut done = true;
+    for (arc, weight) in asked {
+        done = changes(operator, *arc, *weight) && done;
     }
-    operator.publish(rt).map_err(|_| "a set is published")?;
-    let set = operator.sets().last().ok_or("a set was published")?;
-    replay.take_in(set.changes());
-    Ok(())
+    let done = operator.publish(rt).is_ok() && done;
+    match operator.sets().last() {
+        Some(set) => replay.take_in(set.changes()),
+        None => return false,
+    }
+    done
 }
 
 /// The vectors of six arcs.
@@ -152,56 +149,35 @@ fn publish_and_close<S: Store, R: Wait + Abort>(
 {
     let mut replay = Replay::of(alloc, &weights)?;
     let (mut operator, mut readers) = make::<S>(alloc, chronicle, 0, weights, 1)?;
-    let told = set_and_tell(rt, &mut operator, &mut readers, &mut replay);
+    let reader = &mut readers[0];
+    set_and_tell(rt, &mut operator, reader, &mut replay);
     let ended = close(rt, operator);
-    let learnt = match told {
-        Ok(()) => learn(rt, &ended, &mut readers, &replay),
-        Err(fail) => Err(fail),
-    };
+    let learnt = reader.learn(&ended).is_ok();
+    assert!(rt;
+        learnt && finds(reader, 1, true, &replay),
+        "no further epoch, and no pending change"
+    );
     ended.end(rt);
-    learnt
+    Ok(())
 }
 
 fn set_and_tell<S: Store, R: Wait + Abort>(
     rt: &R,
     operator: &mut Operator<S>,
-    readers: &mut Vec<EpochReader<S>>,
+    reader: &mut EpochReader<S>,
     replay: &mut Replay,
-) -> Result<(), Fail>
+)
     requires two { S.origin.base.criteria ≡ 2 }
 {
-    let reader = readers.get_mut(0).ok_or("a reader")?;
-    reader.read()?;
-    assert!(rt; shows(reader, 0, false, replay), "the first epoch");
-    operator
-        .set(2, Weight::of_numbers(&[5, 5]))
-        .map_err(|_| "an arc is set")?;
-    reader.read()?;
+    assert!(rt; finds(reader, 0, false, replay), "the first epoch");
+    assert!(rt; changes(operator, 2, Some([5, 5])), "an arc is set");
     assert!(rt;
-        shows(reader, 0, false, replay),
+        finds(reader, 0, false, replay),
         "a pending change isn't seen"
     );
-    assert_eq!(rt; operator.publish(rt).ok(), Some(1), "the next number");
-    operator.tell(reader)?;
-    reader.read()?;
+    assert!(rt; operator.publish(rt) == Ok(1), "the next number");
+    assert!(rt; operator.tell(reader).is_ok(), "the reader is told");
     replay.set(2, Some(Weight::of_numbers(&[5, 5])));
-    assert!(rt; shows(reader, 1, false, replay), "the next epoch");
-    operator.shut(3).map_err(|_| "an arc is shut")?;
-    Ok(())
-}
-
-fn learn<S: Store, R: Abort>(
-    rt: &R,
-    ended: &Ended<S>,
-    readers: &mut Vec<EpochReader<S>>,
-    replay: &Replay,
-) -> Result<(), Fail> {
-    let reader = readers.get_mut(0).ok_or("a reader")?;
-    reader.learn(ended)?;
-    reader.read()?;
-    assert!(rt;
-        shows(reader, 1, true, replay),
-        "no further epoch, and no pending change"
-    );
-    Ok(())
+    assert!(rt; finds(reader, 1, false, replay), "the next epoch");
+    assert!(rt; changes(operator, 3, None), "an arc is shut");
 }

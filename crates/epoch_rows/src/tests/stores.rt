@@ -63,25 +63,52 @@ impl Replay {
         }
     }
 
+    /// Whether this is the state at a place, from 0.
+    fn has(&self, place: u32, state: Option<Weight>) -> bool {
+        match self.states.get(place as usize) {
+            Some(own) => *own == state,
+            None => false,
+        }
+    }
+
     /// Whether the weights are these states, each of them.
     pub fn agrees(&self, weights: &Weights) -> bool {
         let mut same = weights.arcs() as usize == self.states.len();
         for arc in 0..weights.arcs() {
-            same = same && self.states.get(arc as usize) == Some(&weights.get(ArcNo(arc + 1)));
+            same = same && self.has(arc, weights.get(ArcNo(arc + 1)));
         }
         same
     }
 }
 
 /// Whether a reader's snapshot has this number and these states, and is the last one or not.
-pub(super) fn shows<S: Store>(
-    reader: &EpochReader<S>,
+fn shows<S: Store>(reader: &EpochReader<S>, number: u32, closed: bool, replay: &Replay) -> bool {
+    let snapshot = reader.snapshot();
+    snapshot.number == number && snapshot.closed == closed && replay.agrees(&snapshot.weights)
+}
+
+/// Whether a reader looks, and then shows this.
+pub(super) fn finds<S: Store>(
+    reader: &mut EpochReader<S>,
     number: u32,
     closed: bool,
     replay: &Replay,
 ) -> bool {
-    let snapshot = reader.snapshot();
-    snapshot.number == number && snapshot.closed == closed && replay.agrees(&snapshot.weights)
+    reader.read().is_ok() && shows(reader, number, closed, replay)
+}
+
+/// Whether an arc is given these weights, or shut if there are none.
+pub(super) fn changes<S: Store>(
+    operator: &mut Operator<S>,
+    arc: u32,
+    weight: Option<[u32; 2]>,
+) -> bool
+    requires two { S.origin.base.criteria ≡ 2 }
+{
+    match weight {
+        Some(weight) => operator.set(arc, Weight::of_numbers(&weight)).is_ok(),
+        None => operator.shut(arc).is_ok(),
+    }
 }
 
 /// Closes a store, however often it takes.

@@ -60,7 +60,8 @@ fn publish_beside_readers<S: Store + Send + Sync, R: Threads + Wait + Abort + Sy
     let mut one = Replay::of(alloc, &weights)?;
     let mut other = Replay::of(alloc, &weights)?;
     let (mut operator, mut readers) = make::<S>(alloc, chronicle, 0, weights, 2)?;
-    let (first, second) = (readers.pop(), readers.pop());
+    let (first, second) = readers.split_at_mut(1);
+    let (first, second) = (&mut first[0], &mut second[0]);
     let (published, (seen, also)) = join(
         rt,
         || publish_all(rt, &mut operator),
@@ -73,54 +74,77 @@ fn publish_beside_readers<S: Store + Send + Sync, R: Threads + Wait + Abort + Sy
         },
     );
     close(rt, operator).end(rt);
-    assert_eq!(rt; published, None, "the operator");
-    assert_eq!(rt; seen, None, "the first reader");
-    assert_eq!(rt; also, None, "the second reader");
+    assert_well(rt, published, "the operator");
+    assert_well(rt, seen, "the first reader");
+    assert_well(rt, also, "the second reader");
     Ok(())
 }
 
+fn assert_well<R: Abort>(rt: &R, told: Result<(), &'static str>, who: &str) {
+    let what = match told {
+        Ok(()) => "",
+        Err(what) => what,
+    };
+    assert!(rt; what == "", "{who}: {what}");
+}
+
 /// Publishes all epochs, or says what fails.
-fn publish_all<S: Store, R: Wait>(rt: &R, operator: &mut Operator<S>) -> Option<&'static str>
+fn publish_all<S: Store, R: Wait>(rt: &R, operator: &mut Operator<S>) -> Result<(), &'static str>
     requires two { S.origin.base.criteria ≡ 2 }
 {
     for k in 0..STEPS {
-        for change in changes_of(k + 1) {
-            let asked = match change.weight {
+        if !ask(operator, &changes_of(k + 1)) {
+            return Err("a change is refused");
+        }
+        if operator.publish(rt) != Ok(k + 1) {
+            return Err("another number is published");
+        }
+    }
+    Ok(())
+}
+
+/// Asks for these changes; and whether none is refused.
+fn ask<S: Store>(operator: &mut Operator<S>, changes: &[Change]) -> bool
+    requires two { S.origin.base.criteria ≡ 2 }
+{
+    let mut taken = true;
+    for change in changes {
+        taken = taken
+            && match change.weight {
                 Some(weight) => weight.count() == 2 && operator.set(change.arc.0, weight).is_ok(),
                 None => operator.shut(change.arc.0).is_ok(),
             };
-            if !asked {
-                return Some("a change is refused");
-            }
-        }
-        if operator.publish(rt).ok() != Some(k + 1) {
-            return Some("another number is published");
-        }
     }
-    None
+    taken
 }
 
-/// Looks as often, and compares each snapshot with a plain replay of the epochs up to its number. It says what differs.
-fn follow<S: Store>(reader: Option<EpochReader<S>>, replay: &mut Replay) -> Option<&'static str> {
-    let Some(mut reader) = reader else {
-        return Some("there is no reader");
-    };
+/// Looks as often, and compares each snapshot with a plain replay of the epochs up to its number, or says what differs.
+fn follow<S: Store>(reader: &mut EpochReader<S>, replay: &mut Replay) -> Result<(), &'static str> {
     let mut seen = 0;
     for _ in 0..STEPS {
-        if reader.read().is_err() {
-            return Some("a look is refused");
-        }
-        let snapshot = reader.snapshot();
-        if snapshot.number < seen || snapshot.number > STEPS {
-            return Some("a number falls, or is none of those published");
-        }
-        for k in seen..snapshot.number {
-            replay.take_in(&changes_of(k + 1));
-        }
-        seen = snapshot.number;
-        if snapshot.closed || !replay.agrees(&snapshot.weights) {
-            return Some("a snapshot isn't the epoch of its number");
-        }
+        seen = look(reader, seen, replay)?;
     }
-    None
+    Ok(())
+}
+
+/// Looks once, where the number seen last is this one.
+fn look<S: Store>(
+    reader: &mut EpochReader<S>,
+    seen: u32,
+    replay: &mut Replay,
+) -> Result<u32, &'static str> {
+    if reader.read().is_err() {
+        return Err("a look is refused");
+    }
+    let snapshot = reader.snapshot();
+    if snapshot.number < seen || snapshot.number > STEPS {
+        return Err("a number falls, or is none of those published");
+    }
+    for k in seen..snapshot.number {
+        replay.take_in(&changes_of(k + 1));
+    }
+    if snapshot.closed || !replay.agrees(&snapshot.weights) {
+        return Err("a snapshot isn't the epoch of its number");
+    }
+    Ok(snapshot.number)
 }

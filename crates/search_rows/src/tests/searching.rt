@@ -1,120 +1,133 @@
-ghost use Rattle.std.specs.Prelude.{IfOk};
+ghost use Rattle.std.specs.Prelude.{IfOk, IsTrue};
 ghost use Rattle.arc_graph.specs.Graph.{Match};
 
 use super::cases::{Case, tables};
-use arc_graph::{ArcFile, ArcLine, Graph, Weights, join_files};
-use cost_vector::{Cost, Limit, NodeNo};
+use arc_graph::{ArcFile, ArcLine, Graph, JoinFault, Weights, join_files};
+use cost_vector::{Cost, Limit, NodeNo, OutOfMemory};
 use plain_search::{Query, SearchFault, plain_search};
 use road_network::MAX_BUDGET;
 use std::alloc::Global;
 use std::process::Abort;
-use std::test::Fail;
+
+/// Ends the test unless this holds of the case of this name.
+fn expect(rt: &impl Abort, name: &str, holds: bool, what: &str)
+    ensures { IsTrue holds }
+{
+    assert!(rt; holds, "{name}: {what}");
+}
 
 /// The weight file of one criterion.
-fn file(rt: &impl Abort, alloc: Global, case: &Case, criterion: usize) -> Result<ArcFile, Fail> {
+fn file(
+    rt: &impl Abort,
+    alloc: Global,
+    case: &Case,
+    criterion: usize,
+) -> Result<ArcFile, OutOfMemory> {
     let name = case.name;
-    assert!(rt; criterion < 4, "{name}: criteria");
-    assert!(rt; 1 <= case.nodes && case.nodes <= 10, "{name}: nodes");
+    expect(rt, name, criterion < 4, "criteria");
+    expect(rt, name, 1 <= case.nodes && case.nodes <= 10, "nodes");
     let mut file = ArcFile::new(alloc, case.nodes);
     for arc in case.arcs {
         let (nodes, tail, head) = (file.nodes(), arc[0], arc[1]);
-        assert!(rt; 1 <= tail && tail <= nodes, "{name}: tail {tail}");
-        assert!(rt; 1 <= head && head <= nodes, "{name}: head {head}");
-        assert!(rt; file.arcs().len() < 100, "{name}: arcs");
+        expect(rt, name, 1 <= tail && tail <= nodes, "tail");
+        expect(rt, name, 1 <= head && head <= nodes, "head");
+        expect(rt, name, file.arcs().len() < 100, "arcs");
         let weight = arc[2 + criterion];
         file.push(ArcLine { tail, head, weight })?;
     }
     Ok(file)
 }
 
-fn graph(rt: &impl Abort, alloc: Global, case: &Case) -> Result<(Graph, Weights), Fail>
-    ensures { IfOk result (λ r. Match r.0 r.1) }
-{
-    let name = case.name;
+fn files(rt: &impl Abort, alloc: Global, case: &Case) -> Result<Vec<ArcFile>, OutOfMemory> {
     let mut files = Vec::new(alloc);
     for criterion in 0..case.limit.len() {
         files.push(file(rt, alloc, case, criterion)?)?;
     }
-    assert!(rt; 2 <= files.len() && files.len() <= 4, "{name}: files");
-    Ok(join_files(alloc, files)?)
+    Ok(files)
 }
 
+fn graph(rt: &impl Abort, alloc: Global, case: &Case) -> Result<(Graph, Weights), JoinFault>
+    ensures { IfOk result (λ r. Match r.0 r.1) }
+{
+    let files = files(rt, alloc, case)?;
+    expect(rt, case.name, 2 <= files.len() && files.len() <= 4, "files");
+    join_files(alloc, files)
+}
+
+/// The answer of a search, once the files are joined.
 fn answer(
     rt: &impl Abort,
     alloc: Global,
     case: &Case,
     budget: u32,
-) -> Result<Result<Vec<Cost>, SearchFault>, Fail> {
-    let name = case.name;
+) -> Result<Result<Vec<Cost>, SearchFault>, JoinFault> {
     let (graph, weights) = graph(rt, alloc, case)?;
-    assert!(rt;
-        graph.has_node(case.from) && graph.has_node(case.to),
-        "{name}: ends"
-    );
-    assert!(rt;
-        2 <= case.limit.len() && case.limit.len() <= 4,
-        "{name}: limit"
-    );
-    assert!(rt;
-        case.limit.len() == graph.criteria(),
-        "{name}: criteria of the graph"
-    );
-    assert!(rt; budget <= MAX_BUDGET, "{name}: budget {budget}");
+    let (name, from, to, limit) = (case.name, case.from, case.to, case.limit);
+    expect(rt, name, graph.has_node(from) && graph.has_node(to), "ends");
+    expect(rt, name, 2 <= limit.len() && limit.len() <= 4, "limit");
+    expect(rt, name, limit.len() == graph.criteria(), "places");
+    expect(rt, name, budget <= MAX_BUDGET, "budget");
     let query = Query {
-        from: NodeNo(case.from),
-        to: NodeNo(case.to),
-        limit: Limit::of_places(case.limit),
+        from: NodeNo(from),
+        to: NodeNo(to),
+        limit: Limit::of_places(limit),
         budget,
     };
     Ok(plain_search(alloc, &graph, &weights, &query))
 }
 
-/// Compares the answer to what is expected.
-fn expect_costs(rt: &impl Abort, case: &Case, costs: &[Cost]) {
-    let name = case.name;
-    assert_eq!(rt; costs.len(), case.costs.len(), "{name}: number of costs");
-    for (cost, numbers) in costs.iter().zip(case.costs) {
-        assert!(rt;
-            2 <= numbers.len() && numbers.len() <= 4,
-            "{name}: components"
-        );
-        assert_eq!(rt; *cost, Cost::of_numbers(numbers), "{name}: cost");
+fn is_cost(cost: &Cost, numbers: &[u64]) -> bool {
+    2 <= numbers.len() && numbers.len() <= 4 && *cost == Cost::of_numbers(numbers)
+}
+
+/// Whether these are the costs that are expected.
+fn are_costs(costs: &[Cost], wanted: &[&[u64]]) -> bool {
+    let mut same = costs.len() == wanted.len();
+    for (cost, numbers) in costs.iter().zip(wanted) {
+        same = same && is_cost(cost, numbers);
+    }
+    same
+}
+
+/// Whether a search by the relevant pairs finds the costs.
+fn finds(rt: &impl Abort, alloc: Global, case: &Case) -> bool {
+    match answer(rt, alloc, case, case.relevant) {
+        Ok(Ok(costs)) => are_costs(&costs, case.costs),
+        _ => false,
     }
 }
 
-fn assert_found(rt: &impl Abort, alloc: Global, cases: &[Case]) -> Result<(), Fail> {
+fn assert_found(rt: &impl Abort, alloc: Global, cases: &[Case]) {
     for case in cases {
-        let costs = answer(rt, alloc, case, case.relevant)??;
-        expect_costs(rt, case, &costs);
+        expect(rt, case.name, finds(rt, alloc, case), "costs");
     }
-    Ok(())
 }
 
 #[test]
-fn finds_the_best_costs_of_small_graphs(rt: HostRuntime) -> Result<(), Fail> {
+fn finds_the_best_costs_of_small_graphs(rt: HostRuntime) {
     for cases in &tables() {
-        assert_found(&rt, rt.alloc(), cases)?;
+        assert_found(&rt, rt.alloc(), cases);
     }
-    Ok(())
 }
 
-fn assert_refused(rt: &impl Abort, alloc: Global, cases: &[Case]) -> Result<(), Fail> {
-    for case in cases {
-        let name = case.name;
-        assert!(rt; 1 <= case.relevant, "{name}: relevant pairs");
-        let refused = answer(rt, alloc, case, case.relevant - 1)?;
-        assert!(rt;
-            matches!(refused, Err(SearchFault::Budget)),
-            "{name}: refusal"
-        );
+/// Whether a search by one pair less is refused.
+fn refuses(rt: &impl Abort, alloc: Global, case: &Case) -> bool {
+    expect(rt, case.name, 1 <= case.relevant, "relevant pairs");
+    match answer(rt, alloc, case, case.relevant - 1) {
+        Ok(Err(fault)) => fault == SearchFault::Budget,
+        _ => false,
     }
-    Ok(())
+}
+
+fn assert_refused(rt: &impl Abort, alloc: Global, cases: &[Case]) {
+    for case in cases {
+        expect(rt, case.name, refuses(rt, alloc, case), "refusal");
+    }
 }
 
 #[test]
-fn refuses_a_budget_that_is_one_too_small(rt: HostRuntime) -> Result<(), Fail> {
+fn refuses_a_budget_that_is_one_too_small(rt: HostRuntime) {
     for cases in &tables() {
-        assert_refused(&rt, rt.alloc(), cases)?;
+        assert_refused(&rt, rt.alloc(), cases);
     }
-    Ok(())
 }

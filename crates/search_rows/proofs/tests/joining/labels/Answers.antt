@@ -3,10 +3,10 @@ use Rattle.std.specs.Prelude.{All}
 use Rattle.std.specs.List.{AllByRecursion}
 use Rattle.std.proofs.lemmas.List.Elements.{All-from_recursion}
 use Rattle.arc_graph.proofs.RelaxLaws.{sums_fit}
-use Rattle.search_rows.proofs.tests.joining.joins_files_that_agree.Goals as goal
+use Rattle.search_rows.proofs.tests.joining.labels.Goals as goal
 
 pub relax-requires-clause-fits : goal.relax-requires-clause-fits
 relax-requires-clause-fits g c =
     let zeros : AllByRecursion (λ x. x < 2 ^ 58) (0 ∷ 0 ∷ 0 ∷ []) = (omega arith, (omega arith, (omega arith, tt))) in
     let small = subst (All (λ x. x < 2 ^ 58)) (sym c.zero.ensures) (All-from_recursion (λ x. x < 2 ^ 58) (0 ∷ 0 ∷ 0 ∷ []) zeros) in
-    sums_fit c.in_ok-graph.graph c.in_ok-weights.weights 1 c.zero.result c.arcs-2.ensures.states small
+    sums_fit c.args.graph.now c.args.weights.now 1 c.zero.result c.arcs.ensures.states small

@@ -1,8 +1,10 @@
 -- The spots of a list that aren't gone.
-use Rattle.std.proofs.Common.{◌≡◌, ℕ, Bool, true, false, Decides, List, [], ◌∷◌, ◌++◌, ◌↔◌, inl, inr, refl, sym, ap, subst, ◌∙◌}
+use Rattle.std.proofs.Common.{◌≡◌, ◌<◌, ◌+◌, ℕ, take, get_or, length, cond, Bool, true, false, Decides, List, [], ◌∷◌, ◌++◌, ◌↔◌, inl, inr, refl, sym, ap, subst, ◌∙◌}
 use Rattle.std.specs.Prelude.{not, nat_eq, ◌&&◌, All, AllPairs, Contains, IsPermutation}
 use Rattle.std.specs.Cmp.Lexicographic.{pointwise}
 use Rattle.std.proofs.lemmas.Bool.{false≢true}
+use Rattle.std.proofs.lemmas.Bool.Decides.{same_from_decides}
+use Rattle.std.proofs.lemmas.List.Filters.{length-filter_more}
 use Rattle.std.proofs.lemmas.List.Folds.{Any-from_list_any, list_any-from_Any}
 use Rattle.std.proofs.lemmas.List.Kept.{AllPairs-filter}
 use Rattle.compact_labels.specs.declared.label.CompactSpot.{CompactSpot}
@@ -76,6 +78,14 @@ module _ {D : ℕ} where
       | inr none ↦ absurd (in_none x (subst (λ ys. Contains ys x) empty ((in_without spots gone x).1 (h, none))))
     ]),
   )
+
+  -- how many are left, with one spot more
+  pub left_counted : (spots gone : List (CompactSpot D)) (i : ℕ) (s d : CompactSpot D) (b : Bool) → i < length spots → s ≡ get_or spots i d
+      → Decides b (Contains gone s) → length (without (take (i + 1) spots) gone) ≡ length (without (take i spots) gone) + cond (not b) 1 0
+  unfolding without
+  left_counted spots gone i s d b within here told =
+      rw (same_from_decides b (has_spot gone s) told (has_spot_told gone s), here)
+      (length-filter_more (λ x. not (has_spot gone x)) spots i d within)
 
   -- a change of the list is one of what isn't gone
   pub loses_where_without : (P : CompactSpot D → Type 0) (before after gone : List (CompactSpot D)) → LosesWhere P before after

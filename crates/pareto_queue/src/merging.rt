@@ -1,4 +1,4 @@
-ghost use Rattle.std.specs.Prelude.{◌≡◌, ◌↔◌, [], AllPairs, All, Contains, IfOk, IsTrue, OnOk};
+ghost use Rattle.std.specs.Prelude.{◌≡◌, ◌↔◌, [], AllPairs, All, Contains, IfOk, IsTrue, OnOk, length};
 ghost use Rattle.pareto_queue.specs.Passing.{WithoutFirst, PassesOn};
 ghost use Rattle.pareto_queue.specs.Queues.{AreSorted, Gains, LosesWhere, SpotLess, without};
 
@@ -95,6 +95,17 @@ pub(crate) fn are_gone<const D: usize>(spots: &[CompactSpot<D>], gone: &[Compact
         }
     }
     true
+}
+
+/// How many of the spots aren't gone.
+pub(crate) fn count_left<const D: usize>(spots: &[CompactSpot<D>], gone: &[CompactSpot<D>]) -> usize
+    ensures { result ≡ length (without spots.now gone.now) }
+{
+    let mut left = 0;
+    for spot in spots {
+        left += usize::from(!is_among(gone, spot));
+    }
+    left
 }
 
 /// Takes those that are gone out of a list.

@@ -1,11 +1,11 @@
-ghost use Rattle.std.specs.Prelude.{◌≡◌, ◌≢◌, ◌+◌, ◌^◌, ◌<◌, ◌≤◌, ◌↔◌, ◌⊎◌, [], ◌∷◌, ◌++◌, IsTrue, IfOk, OnOk, OnErr, All, AllPairs, Contains};
+ghost use Rattle.std.specs.Prelude.{◌≡◌, ◌≢◌, ◌+◌, ◌^◌, ◌<◌, ◌≤◌, ◌↔◌, ◌⊎◌, [], ◌∷◌, ◌++◌, length, IsTrue, IfOk, OnOk, OnErr, All, AllPairs, Contains};
 ghost use Rattle.cost_vector.specs.Costs.{AtMost, Within, max_criteria, min_criteria};
 ghost use Rattle.list_laws.specs.Sets.{Loses};
 ghost use Rattle.pareto_queue.specs.Queues.{Gains, IsDominatedBy, LosesWhere, TakesUndominated};
 
 use crate::Steps;
 use crate::extraction::part_renewed;
-use crate::merging::{are_gone, is_among, merge, strike};
+use crate::merging::{are_gone, count_left, is_among, merge, strike};
 use crate::order::{gap_of, list_sorted, place_of};
 use crate::shadow::is_dominated;
 use compact_labels::{CompactCost, CompactSpot};
@@ -68,6 +68,13 @@ impl<const D: usize> Queue<D> {
         ensures { IsTrue result ↔ (self.now ≡ []) }
     {
         are_gone(&self.spots, &self.gone)
+    }
+
+    /// How many spots wait. Where some were removed since the last call that went through the list, each is sought among them.
+    pub fn len(&self) -> usize
+        ensures { result ≡ length self.now }
+    {
+        count_left(&self.spots, &self.gone)
     }
 
     /// Puts in a spot that isn't there.
@@ -154,9 +161,22 @@ impl<const D: usize> Queue<D> {
         );
     }
 
-    /// Lets these spots in, each of which is given once, and takes out the spots whose cost no cost in the queue dominates, all
-    /// at once, and lists them in ascending order. What `taken` held before is gone.
+    /// Takes out the spots whose cost no cost in the queue dominates, all at once, and lists them in ascending order. What
+    /// `taken` held before is gone.
     pub fn take_undominated<L: Ledger>(
+        &mut self,
+        taken: &mut Vec<CompactSpot<D>>,
+        steps: &mut Steps<L>,
+    ) -> Result<(), OutOfMemory>
+        ensures taken { IfOk result (λ _. TakesUndominated self.old taken.new.items self.new) }
+        ensures same { OnErr result (self.new ≡ self.old) }
+        ensures step { steps.new ≡ steps.old + 1 }
+    {
+        self.renew(&[], taken, steps)
+    }
+
+    /// Lets these spots in, each of which is given once, and does what `take_undominated` does, in one pass.
+    pub fn renew<L: Ledger>(
         &mut self,
         fresh: &[CompactSpot<D>],
         taken: &mut Vec<CompactSpot<D>>,

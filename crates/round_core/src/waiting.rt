@@ -133,11 +133,7 @@ impl<const D: usize> Waiting<D> {
         ensures no_less { steps.old ≤ steps.new }
         ensures at_most_one { steps.new ≤ steps.old + 1 }
     {
-        if self
-            .queue
-            .take_undominated(&self.fresh, taken, steps)
-            .is_err()
-        {
+        if self.queue.renew(&self.fresh, taken, steps).is_err() {
             taken.clear();
             return Err(OutOfMemory);
         }

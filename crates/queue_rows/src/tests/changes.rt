@@ -110,7 +110,7 @@ fn is_empty_once_all_are_removed(rt: HostRuntime) -> Result<(), Fail> {
     let alloc = rt.alloc();
     let mut queue = queue_of(alloc, &[[1, 9], [2, 8], [3, 7]])?;
     queue.remove_all(&[spot([3, 7], 3), spot([1, 9], 1)])?;
-    assert!(rt; !queue.is_empty(), "one is left");
+    assert!(rt; !queue.is_empty() && queue.len() == 1, "one is left");
     assert!(rt; !queue.remove(&spot([3, 7], 3)), "one that was removed");
     queue.remove_all(&[spot([2, 8], 2)])?;
     assert!(rt; queue.is_empty());

@@ -79,7 +79,7 @@ pub(super) fn take<const D: usize, L: Ledger>(
     requires { AllPairs ◌≢◌ fresh.now }
 {
     let mut taken = Vec::new(alloc);
-    queue.take_undominated(fresh, &mut taken, steps)?;
+    queue.renew(fresh, &mut taken, steps)?;
     Ok(taken)
 }
 
@@ -93,7 +93,9 @@ fn counted<L: Ledger>(
     requires some { 0 < L.parts }
 {
     let mut steps = Steps::<L>::new(blank);
-    take(alloc, queue, &[], &mut steps)
+    let mut taken = Vec::new(alloc);
+    queue.take_undominated(&mut taken, &mut steps)?;
+    Ok(taken)
 }
 
 /// What one call takes, where the steps aren't told.

@@ -6,18 +6,18 @@ use Rattle.round_core.proofs.waiting.Waiting.take_undominated.Goals as goal
 
 pub returns-then-is_err-clause-same : goal.returns-then-is_err-clause-same
 returns-then-is_err-clause-same g c =
-    let same : c.take_undominated.new.self ≡ c.self.inside.queue =
-    by_error c.take_undominated.result c.is_err.result (c.take_undominated.new.self ≡ c.self.inside.queue) c.is_err.ensures.value c.if-is_err.true
-    c.take_undominated.ensures.same in
+    let same : c.renew.new.self ≡ c.self.inside.queue =
+    by_error c.renew.result c.is_err.result (c.renew.new.self ≡ c.self.inside.queue) c.is_err.ensures.value c.if-is_err.true
+    c.renew.ensures.same in
     rw (← c.self.view_is, same) (λ x. (λ h. h, λ h. h))
 
 pub returns-clause-taken : goal.returns-clause-taken
 returns-clause-taken g c =
     let before = c.self.inside.queue ++ c.self.inside.fresh.items in
-    let took = c.take_undominated.new.taken.items in
-    let queue = c.take_undominated.new.self in
+    let took = c.renew.new.taken.items in
+    let queue = c.renew.new.self in
     let takes : TakesUndominated before took queue =
-    rw (← c.deref.ensures.value) (by_success c.take_undominated.result c.is_err.result (TakesUndominated (c.self.inside.queue ++ c.deref.result.now) took queue)
-    c.is_err.ensures.value c.if-is_err.false c.take_undominated.ensures.taken) in
+    rw (← c.deref.ensures.value) (by_success c.renew.result c.is_err.result (TakesUndominated (c.self.inside.queue ++ c.deref.result.now) took queue)
+    c.is_err.ensures.value c.if-is_err.false c.renew.ensures.taken) in
     rw (← c.self.view_is) (takes_alike before before took queue (queue ++ c.clear-2.new.self.items) (λ x. (λ h. h, λ h. h))
     (none_fresh queue c.clear-2.new.self.items c.clear-2.ensures.items) takes)

@@ -2,7 +2,7 @@ use Rattle.std.proofs.Common.{rules, ◌++◌, sym, subst}
 use Rattle.pareto_queue.specs.Queues.{TakesUndominated, without}
 use Rattle.pareto_queue.proofs.QueueLemmas.{ascending_by_sort, takes_alike}
 use Rattle.pareto_queue.proofs.WithoutLemmas.{renewed_in_order, unstruck}
-use Rattle.pareto_queue.proofs.queue.Queue.take_undominated.Goals as goal
+use Rattle.pareto_queue.proofs.queue.Queue.renew.Goals as goal
 
 pub part_renewed-requires : goal.part_renewed-requires
 part_renewed-requires g c = (

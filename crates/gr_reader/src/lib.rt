@@ -17,7 +17,7 @@ mod weight_form;
 mod weights;
 
 pub use fault::{FileFault, FileLimits, LineKind};
-pub use fields::{front_number, only_number};
+pub use fields::{front_number, number, only_number, three_fields};
 pub use grammar::Grammar;
 pub use read::{read_gr, read_into, read_records};
 pub use record_lines::RecordLines;

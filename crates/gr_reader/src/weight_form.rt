@@ -3,7 +3,7 @@ ghost use Rattle.line_text.specs.Fields.{fields_of};
 ghost use Rattle.gr_reader.specs.Grammar.{arc_from, problem_from, weights_form};
 ghost use Rattle.gr_reader.specs.WeightForms.{as_form, capped, or_malformed};
 
-use crate::fields::{front_number, only_number};
+use crate::fields::{front_number, number, only_number, three_fields};
 use line_text::next_field;
 
 /// What a line of a weight file says that isn't ignored, or that it has none of the forms.
@@ -51,11 +51,11 @@ fn arc_behind(text: &[u8]) -> Option<Form>
 fn problem_behind(text: &[u8]) -> Option<Form>
     ensures { or_malformed result ≡ capped (problem_from (fields_of text.now)) }
 {
-    let (word, rest) = next_field(text)?;
+    let (word, nodes, arcs) = three_fields(text)?;
     if word != b"sp".as_slice() {
         return None;
     }
-    let (nodes, rest) = front_number(rest)?;
-    let arcs = only_number(rest)?;
+    let nodes = number(nodes)?;
+    let arcs = number(arcs)?;
     Some(Form::Problem { nodes, arcs })
 }

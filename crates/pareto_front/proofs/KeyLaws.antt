@@ -1,0 +1,70 @@
+-- Keys of costs: where a cost is at most another, so is its key.
+use Rattle.std.proofs.Common.{◌≡◌, ◌≤◌, ℕ, ◌-◌, List, [], ◌∷◌, get_or, map, take, drop, insert, remove, sym, ap, ◌∙◌, arith}
+use Rattle.std.specs.Prelude.{All, min}
+use Rattle.std.proofs.lemmas.List.{drop-map, map-append, take-map}
+use Rattle.cost_vector.specs.Costs.{AtMost, Dominates}
+use Rattle.list_laws.proofs.Members.{all_from_in, each_in, in_map}
+use Rattle.pareto_front.specs.declared.front.FrontEntry.{FrontEntry}
+use Rattle.pareto_front.specs.declared.waiting.Key.{Key}
+use Rattle.pareto_front.specs.Blocks.{CoversNone}
+use Rattle.pareto_front.specs.Waiting.{IsKeyAtMost, keys_of, told_key}
+
+-- each component of a cost is at most that of a cost that it is at most
+component_most : (a b : List ℕ) (i : ℕ) → AtMost a b → get_or a i 0 ≤ get_or b i 0
+component_most [] [] i most = omega arith
+component_most [] (y ∷ ys) i most = absurd most
+component_most (x ∷ xs) [] i most = absurd most
+component_most (x ∷ xs) (y ∷ ys) zero most = most.0
+component_most (x ∷ xs) (y ∷ ys) (suc i) most = component_most xs ys i most.1
+
+least_most : (x y m : ℕ) → x ≤ y → min x m ≤ min y m
+least_most x y m most = omega (arith, most)
+
+-- where a cost is at most another, so is its key
+pub key_most : (a b : List ℕ) → AtMost a b → IsKeyAtMost (told_key a) (told_key b)
+key_most a b most = record {
+  second = least_most (get_or a 1 0) (get_or b 1 0) (2 ^ 32 - 1) (component_most a b 1 most);
+  third = least_most (get_or a 2 0) (get_or b 2 0) (2 ^ 32 - 1) (component_most a b 2 most);
+}
+
+module _ {D : ℕ} (entries : List (FrontEntry D)) (c : List ℕ) where
+  key_in : (P : Key → Type 0) → All P (keys_of entries) → All (λ (e : FrontEntry D). P (told_key e.cost.0)) entries
+  key_in P all = all_from_in (λ (e : FrontEntry D). P (told_key e.cost.0)) entries (λ e h.
+      each_in P (keys_of entries) all (told_key e.cost.0) (in_map (λ (x : FrontEntry D). told_key x.cost.0) entries e h))
+
+  -- where no key is at most that of a cost, no entry is at most the cost
+  pub keys_above : All (λ k. ¬ IsKeyAtMost k (told_key c)) (keys_of entries) → CoversNone entries c
+  keys_above none = all_from_in (λ (e : FrontEntry D). ¬ AtMost e.cost.0 c) entries (λ e h most.
+      each_in (λ (x : FrontEntry D). ¬ IsKeyAtMost (told_key x.cost.0) (told_key c)) entries
+      (key_in (λ k. ¬ IsKeyAtMost k (told_key c)) none) e h (key_most e.cost.0 c most))
+
+  -- where it is at most no key, the cost dominates no entry
+  pub keys_below : All (λ k. ¬ IsKeyAtMost (told_key c) k) (keys_of entries) → All (λ (e : FrontEntry D). ¬ Dominates c e.cost.0) entries
+  keys_below none = all_from_in (λ (e : FrontEntry D). ¬ Dominates c e.cost.0) entries (λ e h dominated.
+      each_in (λ (x : FrontEntry D). ¬ IsKeyAtMost (told_key c) (told_key x.cost.0)) entries
+      (key_in (λ k. ¬ IsKeyAtMost (told_key c) k) none) e h (key_most c e.cost.0 dominated.at_most))
+
+module _ {D : ℕ} (keys : List Key) (entries : List (FrontEntry D)) (keyed : keys ≡ keys_of entries) where
+  told : FrontEntry D → Key
+  told e = told_key e.cost.0
+
+  -- the keys of a part of the entries
+  pub keys_of_front : (i : ℕ) → take i keys ≡ keys_of (take i entries)
+  keys_of_front i = ap (take i) keyed ∙ take-map told i entries
+
+  pub keys_behind : (i : ℕ) → drop i keys ≡ keys_of (drop i entries)
+  keys_behind i = ap (drop i) keyed ∙ drop-map told i entries
+
+  pub keys_of_run : (n i : ℕ) → take n (drop i keys) ≡ keys_of (take n (drop i entries))
+  keys_of_run n i = ap (take n) (keys_behind i) ∙ take-map told n (drop i entries)
+
+  -- one entry more, and one less
+  pub keys_in : (i : ℕ) (x : FrontEntry D) → insert keys i (told x) ≡ keys_of (insert entries i x)
+  keys_in i x = ap (λ l. insert l i (told x)) keyed ∙ with_it i entries where
+    with_it : (i : ℕ) (l : List (FrontEntry D)) → insert (keys_of l) i (told x) ≡ keys_of (insert l i x)
+    with_it i l = search (map-append, take-map, drop-map)
+
+  pub keys_out : (i : ℕ) → remove keys i ≡ keys_of (remove entries i)
+  keys_out i = ap (λ l. remove l i) keyed ∙ without i entries where
+    without : (i : ℕ) (l : List (FrontEntry D)) → remove (keys_of l) i ≡ keys_of (remove l i)
+    without i l = search (map-append, take-map, drop-map)

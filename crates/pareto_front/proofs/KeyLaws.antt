@@ -1,5 +1,5 @@
 -- Keys of costs: where a cost is at most another, so is its key.
-use Rattle.std.proofs.Common.{◌≡◌, ◌≤◌, ℕ, ◌-◌, List, [], ◌∷◌, get_or, map, take, drop, insert, remove, sym, ap, ◌∙◌, arith}
+use Rattle.std.proofs.Common.{◌≡◌, ◌≤◌, ℕ, zero, suc, ◌+◌, ◌-◌, ◌^◌, List, [], ◌∷◌, ◌++◌, get_or, map, take, drop, insert, remove, sym, ap, ap₂, ◌∙◌, arith}
 use Rattle.std.specs.Prelude.{All, min}
 use Rattle.std.proofs.lemmas.List.{drop-map, map-append, take-map}
 use Rattle.cost_vector.specs.Costs.{AtMost, Dominates}
@@ -44,27 +44,25 @@ module _ {D : ℕ} (entries : List (FrontEntry D)) (c : List ℕ) where
       each_in (λ (x : FrontEntry D). ¬ IsKeyAtMost (told_key c) (told_key x.cost.0)) entries
       (key_in (λ k. ¬ IsKeyAtMost (told_key c) k) none) e h (key_most c e.cost.0 dominated.at_most))
 
-module _ {D : ℕ} (keys : List Key) (entries : List (FrontEntry D)) (keyed : keys ≡ keys_of entries) where
-  told : FrontEntry D → Key
-  told e = told_key e.cost.0
+-- the key of an entry
+abbrev pub entry_key : {D : ℕ} → FrontEntry D → Key
+entry_key e = told_key e.cost.0
 
-  -- the keys of a part of the entries
+module _ {D : ℕ} (keys : List Key) (entries : List (FrontEntry D)) (keyed : keys ≡ keys_of entries) where
+  -- the keys of the first entries, of those behind them, and of so many of these
   pub keys_of_front : (i : ℕ) → take i keys ≡ keys_of (take i entries)
-  keys_of_front i = ap (take i) keyed ∙ take-map told i entries
+  keys_of_front i = ap (take i) keyed ∙ take-map entry_key i entries
 
   pub keys_behind : (i : ℕ) → drop i keys ≡ keys_of (drop i entries)
-  keys_behind i = ap (drop i) keyed ∙ drop-map told i entries
+  keys_behind i = ap (drop i) keyed ∙ drop-map entry_key i entries
 
   pub keys_of_run : (n i : ℕ) → take n (drop i keys) ≡ keys_of (take n (drop i entries))
-  keys_of_run n i = ap (take n) (keys_behind i) ∙ take-map told n (drop i entries)
+  keys_of_run n i = ap (take n) (keys_behind i) ∙ take-map entry_key n (drop i entries)
 
   -- one entry more, and one less
-  pub keys_in : (i : ℕ) (x : FrontEntry D) → insert keys i (told x) ≡ keys_of (insert entries i x)
-  keys_in i x = ap (λ l. insert l i (told x)) keyed ∙ with_it i entries where
-    with_it : (i : ℕ) (l : List (FrontEntry D)) → insert (keys_of l) i (told x) ≡ keys_of (insert l i x)
-    with_it i l = search (map-append, take-map, drop-map)
+  pub keys_in : (i : ℕ) (x : FrontEntry D) → insert keys i (entry_key x) ≡ keys_of (insert entries i x)
+  keys_in i x = ap₂ (λ near far. near ++ entry_key x ∷ far) (keys_of_front i) (keys_behind i)
+      ∙ sym (map-append entry_key (take i entries) (x ∷ drop i entries))
 
   pub keys_out : (i : ℕ) → remove keys i ≡ keys_of (remove entries i)
-  keys_out i = ap (λ l. remove l i) keyed ∙ without i entries where
-    without : (i : ℕ) (l : List (FrontEntry D)) → remove (keys_of l) i ≡ keys_of (remove l i)
-    without i l = search (map-append, take-map, drop-map)
+  keys_out i = ap₂ ◌++◌ (keys_of_front i) (keys_behind (i + 1)) ∙ sym (map-append entry_key (take i entries) (drop (i + 1) entries))

@@ -1,7 +1,7 @@
 -- Keys of costs: where a cost is at most another, so is its key.
-use Rattle.std.proofs.Common.{◌≡◌, ◌≤◌, ℕ, zero, suc, ◌+◌, ◌-◌, ◌^◌, List, [], ◌∷◌, ◌++◌, get_or, map, take, drop, insert, remove, sym, ap, ap₂, ◌∙◌, arith}
+use Rattle.std.proofs.Common.{◌≡◌, ◌≤◌, ℕ, zero, suc, ◌-◌, ◌^◌, List, [], ◌∷◌, ◌++◌, get_or, length, take, drop, insert, remove, sym, ap, ap₂, ◌∙◌, arith}
 use Rattle.std.specs.Prelude.{All, min}
-use Rattle.std.proofs.lemmas.List.{drop-map, map-append, take-map}
+use Rattle.std.proofs.lemmas.List.{drop-map, length-map, map-append, take-map}
 use Rattle.cost_vector.specs.Costs.{AtMost, Dominates}
 use Rattle.list_laws.proofs.Members.{all_from_in, each_in, in_map}
 use Rattle.pareto_front.specs.declared.front.FrontEntry.{FrontEntry}
@@ -49,6 +49,10 @@ abbrev pub entry_key : {D : ℕ} → FrontEntry D → Key
 entry_key e = told_key e.cost.0
 
 module _ {D : ℕ} (keys : List Key) (entries : List (FrontEntry D)) (keyed : keys ≡ keys_of entries) where
+  -- there are as many keys as entries
+  pub as_many_keys : length keys ≡ length entries
+  as_many_keys = ap length keyed ∙ length-map entries entry_key
+
   -- the keys of the first entries, of those behind them, and of so many of these
   pub keys_of_front : (i : ℕ) → take i keys ≡ keys_of (take i entries)
   keys_of_front i = ap (take i) keyed ∙ take-map entry_key i entries
@@ -65,4 +69,4 @@ module _ {D : ℕ} (keys : List Key) (entries : List (FrontEntry D)) (keyed : ke
       ∙ sym (map-append entry_key (take i entries) (x ∷ drop i entries))
 
   pub keys_out : (i : ℕ) → remove keys i ≡ keys_of (remove entries i)
-  keys_out i = ap₂ ◌++◌ (keys_of_front i) (keys_behind (i + 1)) ∙ sym (map-append entry_key (take i entries) (drop (i + 1) entries))
+  keys_out i = ap₂ (λ near far. near ++ far) (keys_of_front i) (keys_behind (suc i)) ∙ sym (map-append entry_key (take i entries) (drop (suc i) entries))

@@ -1,5 +1,6 @@
 -- How the waiting entries of a front of three or four criteria lie in memory, with a key beside each.
 use Rattle.std.specs.Prelude.{◌≡◌, ℕ, ◌-◌, ◌≤◌, ◌^◌, List, map, min, slice_index_or}
+use Rattle.cost_vector.specs.Costs.{max_criteria}
 use Rattle.pareto_front.specs.declared.front.FrontEntry.{FrontEntry}
 use Rattle.pareto_front.specs.declared.waiting.Key.{Key}
 
@@ -24,3 +25,8 @@ pub record IsKeyAtMost (a b : Key) : Type 0 where
 -- the keys of the entries, in order
 abbrev pub keys_of : {D : ℕ} → List (FrontEntry D) → List Key
 keys_of entries = map (λ e. told_key e.cost.0) entries
+
+-- the keys are those of the entries, and a cost has at most four components
+pub record AreKeyed {D : ℕ} (entries : List (FrontEntry D)) (keys : List Key) : Type 0 where
+  pub keyed : keys ≡ keys_of entries
+  pub four : D ≤ max_criteria

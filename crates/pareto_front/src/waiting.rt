@@ -1,6 +1,6 @@
 ghost use Rattle.std.specs.Prelude.{◌≡◌, ◌≢◌, ℕ, ◌+◌, ◌<◌, ◌≤◌, ◌^◌, ◌↔◌, ◌∷◌, [], MatchBool, IsTrue, false, IfErr, IfOk, IfSome, OnOk, None, All, AllPairs, IsPermutation, length, map, slice_index_or, vec_len, vec_capacity};
 ghost use Rattle.std.specs.Prelude.{remove, set};
-ghost use Rattle.cost_vector.specs.Costs.{Dominates};
+ghost use Rattle.cost_vector.specs.Costs.{Dominates, max_criteria};
 ghost use Rattle.list_laws.specs.Without.{IsWithout};
 ghost use Rattle.pareto_front.specs.Fronts.{AreIncomparable, HasCost};
 ghost use Rattle.pareto_front.specs.Calls.{GrowsBy, told_entry};
@@ -66,8 +66,8 @@ pub struct Waiting<const D: usize> {
 }
 
 impl<const D: usize> Model for Waiting<D> {
-    ghost use Rattle.std.specs.Prelude.{◌≡◌, min, vec_capacity};
-    ghost use Rattle.pareto_front.specs.Waiting.{Waits, keys_of};
+    ghost use Rattle.std.specs.Prelude.{min, vec_capacity};
+    ghost use Rattle.pareto_front.specs.Waiting.{AreKeyed, Waits};
 
     ghost Value = { Waits D };
 
@@ -76,12 +76,13 @@ impl<const D: usize> Model for Waiting<D> {
       capacity = min (vec_capacity w.entries) (vec_capacity w.keys);
     } };
 
-    ghost invariant = { λ w. w.keys.items ≡ keys_of w.entries.items };
+    ghost invariant = { λ w. AreKeyed w.entries.items w.keys.items };
 }
 
 impl<const D: usize> Waiting<D> {
     /// No entries.
     pub fn new(alloc: Global) -> Waiting<D>
+        requires { D ≤ max_criteria }
         ensures { result.items ≡ [] }
     {
         Waiting {

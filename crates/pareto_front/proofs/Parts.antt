@@ -1,9 +1,9 @@
 -- The two parts of a list that is cut at a place.
-use Rattle.std.proofs.Common.{◌≡◌, ◌⊎◌, ℕ, ◌+◌, ◌<◌, Bool, true, false, ◌||◌, List, length, get_or, take, drop, refl, sym, subst, take-append-drop}
+use Rattle.std.proofs.Common.{◌≡◌, ◌⊎◌, ℕ, ◌+◌, ◌<◌, Bool, true, false, ◌||◌, List, [], ◌∷◌, length, get_or, arith, take, drop, refl, sym, subst, take-append-drop}
 use Rattle.std.specs.Prelude.{All, AllPairs, Contains}
 use Rattle.std.proofs.Math.Seq.{take-add}
 use Rattle.std.proofs.lemmas.Bool.{false≢true}
-use Rattle.std.proofs.lemmas.List.{drop-drop, take_more}
+use Rattle.std.proofs.lemmas.List.{drop-drop, get_or_default, take_more}
 use Rattle.std.proofs.lemmas.List.Elements.{All-append, All-push, Contains-append_cases, Contains-append_left, Contains-append_right}
 use Rattle.pareto_front.proofs.FrontLaws.{pairs_behind}
 
@@ -42,3 +42,8 @@ pub none_up_to : {X : Type 0} (P : X → Type 0) (xs : List X) (i : ℕ) (d : X)
 none_up_to P xs i d within false here before there is =
     subst (All P) (sym (take_more xs i d within)) (All-push P (take i xs) (get_or xs i d) (before refl) (there is))
 none_up_to P xs i d within true here before there is = absurd (false≢true (sym is))
+
+-- the element at a place
+pub read_at : {X : Type 0} (xs : List X) (i : ℕ) → i < length xs → (x : X) × (x ≡ get_or xs i x)
+read_at [] i within = absurd (omega (arith, within))
+read_at (y ∷ ys) i within = (get_or (y ∷ ys) i y, get_or_default (y ∷ ys) i y (get_or (y ∷ ys) i y) within)

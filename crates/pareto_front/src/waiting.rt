@@ -210,6 +210,7 @@ impl<const D: usize> Waiting<D> {
         requires { place < length self.old.items }
         ensures items { (e : FrontEntry D) → self.new.items ≡ set self.old.items place
             (record { cost = (slice_index_or self.old.items place e).cost; arc = arc }) }
+        ensures len { length self.new.items ≡ length self.old.items }
         ensures capacity { self.new.capacity ≡ self.old.capacity }
     {
         self.entries[place].arc = arc;

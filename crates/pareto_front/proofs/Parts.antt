@@ -1,7 +1,6 @@
 -- The two parts of a list that is cut at a place.
 use Rattle.std.proofs.Common.{◌≡◌, ◌⊎◌, ℕ, ◌+◌, ◌<◌, Bool, true, false, ◌||◌, List, [], ◌∷◌, length, get_or, arith, take, drop, refl, sym, subst, take-append-drop}
 use Rattle.std.specs.Prelude.{All, AllPairs, Contains}
-use Rattle.std.proofs.Math.Seq.{take-add}
 use Rattle.std.proofs.lemmas.Bool.{false≢true}
 use Rattle.std.proofs.lemmas.List.{drop-drop, get_or_default, take_more}
 use Rattle.std.proofs.lemmas.List.Elements.{All-append, All-push, Contains-append_cases, Contains-append_left, Contains-append_right}
@@ -31,10 +30,6 @@ module _ {X : Type 0} (i : ℕ) (xs : List X) where
 -- what holds of a part and of all behind it
 pub all_more : {X : Type 0} (P : X → Type 0) (n m : ℕ) (xs : List X) → All P (take n (drop m xs)) → All P (drop (m + n) xs) → All P (drop m xs)
 all_more P n m xs part rest = all_parts n (drop m xs) P part (rw (drop-drop n m xs) rest)
-
--- what holds of a part and of all before it
-pub all_before : {X : Type 0} (P : X → Type 0) (n m : ℕ) (xs : List X) → All P (take m xs) → All P (take n (drop m xs)) → All P (take (m + n) xs)
-all_before P n m xs front part = subst (All P) (sym (take-add m n xs)) (All-append P (take m xs) (take n (drop m xs)) front part)
 
 -- where neither one of the elements before a place passes a test nor the one there, none up to it does
 pub none_up_to : {X : Type 0} (P : X → Type 0) (xs : List X) (i : ℕ) (d : X) → i < length xs → (any here : Bool) → (any ≡ false → All P (take i xs))

@@ -57,8 +57,7 @@ fn tell_component<const D: usize>(cost: &CompactCost<D>, i: usize) -> u32
 /// The unsettled entries of a front, with the key of each.
 ///
 /// They stand in ascending order, so that only those before a cost can be at most the cost, and only those behind it can be
-/// dominated. Mostly none is: the keys, a quarter of the entries' bytes, tell so for a run of them at a time, and entries are
-/// looked into where they don't.
+/// dominated. Mostly none is, and the keys, which are a quarter of the entries' bytes or less, rule out a whole run of entries.
 #[derive(Drop)]
 pub struct Waiting<const D: usize> {
     entries: Vec<FrontEntry<D>>,
@@ -138,12 +137,12 @@ impl<const D: usize> Waiting<D> {
     }
 
     /// Whether the cost may dominate one of the entries: it does, or it is the cost of one.
-    pub fn dominates_any(&self, cost: &CompactCost<D>) -> bool
+    pub fn may_dominate(&self, cost: &CompactCost<D>) -> bool
         requires { AscendByCost self.now.items }
         ensures { result ≡ false → All (λ e. ¬ Dominates cost.now.0 e.cost.0) self.now.items }
     {
         let start = count_before(&self.entries, cost);
-        dominates_one(&self.entries[start..], &self.keys[start..], cost)
+        may_dominate_one(&self.entries[start..], &self.keys[start..], cost)
     }
 
     /// Puts in an entry at a new cost, and takes out those that it dominates, if there are any.
@@ -282,7 +281,7 @@ fn find_in_runs<const D: usize>(
     find_covering(&entries[..end], cost)
 }
 
-/// The place of an entry whose cost is at most this one; the entries are compared where a key is.
+/// The place of an entry whose cost is at most this one; the entries are compared where a key is at most the cost's.
 fn find_in_run<const D: usize>(
     entries: &[FrontEntry<D>],
     keys: &[Key],
@@ -343,7 +342,7 @@ fn list_in_runs<const D: usize>(
     list_dominated(&entries[start..], by, found)
 }
 
-/// Appends those spots; the entries are compared where a key is at least the spot's.
+/// Appends those spots; the entries are compared where a key is at least that of the spot's cost.
 fn list_in_run<const D: usize>(
     entries: &[FrontEntry<D>],
     keys: &[Key],
@@ -384,8 +383,8 @@ fn list_dominated<const D: usize>(
     Ok(())
 }
 
-/// Whether the cost may dominate one of the entries; they are compared where a key is at least its own.
-fn dominates_one<const D: usize>(
+/// Whether the cost may dominate one of the entries; they are compared where a key is at least the cost's.
+fn may_dominate_one<const D: usize>(
     entries: &[FrontEntry<D>],
     keys: &[Key],
     cost: &CompactCost<D>,

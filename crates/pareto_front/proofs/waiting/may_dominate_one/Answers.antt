@@ -1,5 +1,5 @@
 use Rattle.pareto_front.proofs.KeyLaws.{keys_below}
-use Rattle.pareto_front.proofs.waiting.dominates_one.Goals as goal
+use Rattle.pareto_front.proofs.waiting.may_dominate_one.Goals as goal
 
 pub returns-else-any_at_least : goal.returns-else-any_at_least
 returns-else-any_at_least g c fails =

@@ -1,5 +1,4 @@
-ghost use Rattle.std.specs.Prelude.{◌≡◌, ◌≢◌, ℕ, ◌+◌, ◌<◌, ◌≤◌, ◌^◌, ◌↔◌, ◌∷◌, [], MatchBool, IsTrue, false, IfErr, IfOk, IfSome, OnOk, None, All, AllPairs, IsPermutation, length, map, slice_index_or, vec_len, vec_capacity};
-ghost use Rattle.std.specs.Prelude.{remove, set};
+ghost use Rattle.std.specs.Prelude.{◌≡◌, ◌≢◌, ◌+◌, ◌<◌, ◌≤◌, ◌^◌, ◌↔◌, ◌∷◌, [], MatchBool, IsTrue, false, IfErr, IfOk, IfSome, OnOk, None, All, AllPairs, IsPermutation, length, map, slice_index_or, remove, set, vec_len, vec_capacity};
 ghost use Rattle.cost_vector.specs.Costs.{Dominates, max_criteria};
 ghost use Rattle.list_laws.specs.Without.{IsWithout};
 ghost use Rattle.pareto_front.specs.Fronts.{AreIncomparable, HasCost};

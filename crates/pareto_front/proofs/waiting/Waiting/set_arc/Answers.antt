@@ -8,7 +8,8 @@ pub invariant_of-self : goal.invariant_of-self
 invariant_of-self g c =
     let x = c.index_mut.result.now in
     let same = ap (λ (e : FrontEntry g.row.D). entry_key e) c.index_mut.ensures.value in
+    let new = map-set_same entry_key c.self.inside.entries.items c.args.place (record { cost = x.cost; arc = c.args.arc }) x same in
     record {
-      keyed = c.self.invariant.keyed ∙ sym (map-set_same entry_key c.self.inside.entries.items c.args.place (record { cost = x.cost; arc = c.args.arc }) x same);
+      keyed = c.self.invariant.keyed ∙ sym new;
       four = c.self.invariant.four;
     }

@@ -163,7 +163,7 @@ module _ {D : ℕ} (v : ℕ) (by : List ℕ) (first second whole : List Entry) (
   in_one c h k = (pairs_across AreIncomparable first second (subst (AllPairs AreIncomparable) is pairs) (record { cost = c; arc = h.arc })
       (record { cost = c; arc = k.arc }) h.contains k.contains).one_way (AtMost-refl c)
 
-  pub grows_on : GrowsBy v (λ c. HasCost first c × Dominates by c) xs ys → GrowsBy v (λ c. HasCost second c × Dominates by c) ys zs
+  grows_on : GrowsBy v (λ c. HasCost first c × Dominates by c) xs ys → GrowsBy v (λ c. HasCost second c × Dominates by c) ys zs
       → GrowsBy v (λ c. HasCost whole c × Dominates by c) xs zs
   grows_on near far = record {
     more = near.more ++ far.more;
@@ -177,15 +177,17 @@ module _ {D : ℕ} (v : ℕ) (by : List ℕ) (first second whole : List Entry) (
     both : {A B C N : Type 0} → (A ↔ (B ⊎ C)) → ((A × N) ↔ ((B × N) ⊎ (C × N)))
     both f = grind arith
 
--- the dominated ones before a place are added, and then those from there on: so many, or all
+-- the dominated ones before a place are added, and then those from there on
 module _ {D : ℕ} (v : ℕ) (by : List ℕ) (list : List (FrontEntry D)) (m : ℕ) (pairs : AllPairs AreIncomparable (map told_entry list))
     (xs ys zs : List (CompactSpot D)) (near : GrowsBy v (DominatedBefore by list m) xs ys) where
+  -- of so many entries
   pub finds_run : (n : ℕ) → GrowsBy v (λ c. HasCost (map told_entry (take n (drop m list))) c × Dominates by c) ys zs
       → GrowsBy v (DominatedBefore by list (m + n)) xs zs
   finds_run n far = grows_on v by (map told_entry (take m list)) (map told_entry (take n (drop m list))) (map told_entry (take (m + n) list))
       (ap (map told_entry) (take-add m n list) ∙ map-append told_entry (take m list) (take n (drop m list)))
       (subst (AllPairs AreIncomparable) (take-map told_entry (m + n) list) (pairs_take AreIncomparable (m + n) (map told_entry list) pairs)) xs ys zs near far
 
+  -- or of all that are left
   pub finds_rest : GrowsBy v (λ c. HasCost (map told_entry (drop m list)) c × Dominates by c) ys zs
       → GrowsBy v (λ c. HasCost (map told_entry list) c × Dominates by c) xs zs
   finds_rest far = grows_on v by (map told_entry (take m list)) (map told_entry (drop m list)) (map told_entry list)

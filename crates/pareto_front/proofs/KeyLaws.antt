@@ -38,7 +38,7 @@ module _ {D : ℕ} (entries : List (FrontEntry D)) (c : List ℕ) where
       each_in (λ (x : FrontEntry D). ¬ IsKeyAtMost (told_key x.cost.0) (told_key c)) entries
       (key_in (λ k. ¬ IsKeyAtMost k (told_key c)) none) e h (key_most e.cost.0 c most))
 
-  -- where it is at most no key, the cost dominates no entry
+  -- where the key of a cost is at most none of theirs, the cost dominates no entry
   pub keys_below : All (λ k. ¬ IsKeyAtMost (told_key c) k) (keys_of entries) → All (λ (e : FrontEntry D). ¬ Dominates c e.cost.0) entries
   keys_below none = all_from_in (λ (e : FrontEntry D). ¬ Dominates c e.cost.0) entries (λ e h dominated.
       each_in (λ (x : FrontEntry D). ¬ IsKeyAtMost (told_key c) (told_key x.cost.0)) entries
@@ -53,20 +53,23 @@ module _ {D : ℕ} (keys : List Key) (entries : List (FrontEntry D)) (keyed : ke
   pub as_many_keys : length keys ≡ length entries
   as_many_keys = ap length keyed ∙ length-map entries entry_key
 
-  -- the keys of the first entries, of those behind them, and of so many of these
+  -- the first ones are those of the first entries
   pub keys_of_front : (i : ℕ) → take i keys ≡ keys_of (take i entries)
   keys_of_front i = ap (take i) keyed ∙ take-map entry_key i entries
 
+  -- those behind a place are those of the entries behind it
   pub keys_behind : (i : ℕ) → drop i keys ≡ keys_of (drop i entries)
   keys_behind i = ap (drop i) keyed ∙ drop-map entry_key i entries
 
+  -- and so many of these those of as many entries
   pub keys_of_run : (n i : ℕ) → take n (drop i keys) ≡ keys_of (take n (drop i entries))
   keys_of_run n i = ap (take n) (keys_behind i) ∙ take-map entry_key n (drop i entries)
 
-  -- one entry more, and one less
+  -- with the key of an entry more, at its place, they are those with that entry
   pub keys_in : (i : ℕ) (x : FrontEntry D) → insert keys i (entry_key x) ≡ keys_of (insert entries i x)
   keys_in i x = ap₂ (λ near far. near ++ entry_key x ∷ far) (keys_of_front i) (keys_behind i)
       ∙ sym (map-append entry_key (take i entries) (x ∷ drop i entries))
 
+  -- without the key at a place they are those without the entry there
   pub keys_out : (i : ℕ) → remove keys i ≡ keys_of (remove entries i)
   keys_out i = ap₂ (λ near far. near ++ far) (keys_of_front i) (keys_behind (suc i)) ∙ sym (map-append entry_key (take i entries) (drop (suc i) entries))

@@ -1,15 +1,15 @@
--- How the waiting entries of a front of three or four criteria lie in memory, with a key beside each.
+-- How the entries of a front of three or four criteria that aren't settled lie in memory, with a key beside each.
 use Rattle.std.specs.Prelude.{◌≡◌, ℕ, ◌-◌, ◌≤◌, ◌^◌, List, map, min, slice_index_or}
 use Rattle.cost_vector.specs.Costs.{max_criteria}
 use Rattle.pareto_front.specs.declared.front.FrontEntry.{FrontEntry}
 use Rattle.pareto_front.specs.declared.waiting.Key.{Key}
 
--- waiting entries in their order, and for how many there is room
+-- these entries in their order, and for how many there is room
 pub record Waits (D : ℕ) : Type 0 where
   pub items : List (FrontEntry D)
   pub capacity : ℕ
 
--- the component at a place as keys tell it: a greater one as the greatest number of 32 bits, and 0 where there is none
+-- the component at a place as a key tells it: at most as the greatest number of 32 bits, and as 0 where there is none
 abbrev pub told_component : List ℕ → ℕ → ℕ
 told_component c i = min (slice_index_or c i 0) (2 ^ 32 - 1)
 

@@ -39,6 +39,6 @@ none_up_to P xs i d within false here before there is =
 none_up_to P xs i d within true here before there is = absurd (false≢true (sym is))
 
 -- the element at a place
-pub read_at : {X : Type 0} (xs : List X) (i : ℕ) → i < length xs → (x : X) × (x ≡ get_or xs i x)
-read_at [] i within = absurd (omega (arith, within))
-read_at (y ∷ ys) i within = (get_or (y ∷ ys) i y, get_or_default (y ∷ ys) i y (get_or (y ∷ ys) i y) within)
+pub element_at : {X : Type 0} (xs : List X) (i : ℕ) → i < length xs → (x : X) × (x ≡ get_or xs i x)
+element_at [] i within = absurd (omega (arith, within))
+element_at (y ∷ ys) i within = (get_or (y ∷ ys) i y, get_or_default (y ∷ ys) i y (get_or (y ∷ ys) i y) within)

@@ -13,3 +13,4 @@ pub mod GrowsLaws
 pub mod BlockLaws
 pub mod ToldLaws
 pub mod Ascending
+pub mod KeyLaws

@@ -161,11 +161,6 @@ module _ {D : ℕ} (list : List (FrontEntry D)) (i : ℕ) where
   pub apart_behind : AllPairs AreIncomparable (map told_entry list) → AllPairs AreIncomparable (map told_entry (drop i list))
   apart_behind pairs = subst (AllPairs AreIncomparable) (drop-map told_entry i list) (pairs_drop i (map told_entry list) AreIncomparable pairs)
 
-  -- and so are so many of these
-  pub apart_in_run : (n : ℕ) → AllPairs AreIncomparable (map told_entry list) → AllPairs AreIncomparable (map told_entry (take n (drop i list)))
-  apart_in_run n pairs = subst (AllPairs AreIncomparable) (take-map told_entry n (drop i list))
-      (pairs_take AreIncomparable n (map told_entry (drop i list)) (apart_behind pairs))
-
   -- a cost dominates none of the entries before its place
   pub undominated_before : (by : List ℕ) → IsBeforeOf list by i → All (λ (e : FrontEntry D). ¬ Dominates by e.cost.0) (take i list)
   undominated_before by at = all_from_in (λ (e : FrontEntry D). ¬ Dominates by e.cost.0) (take i list) (λ e h dominated.

@@ -1,17 +1,16 @@
 -- Lists to which the spots of a kind are added one by one.
-use Rattle.std.proofs.Common.{◌≡◌, ◌≢◌, ◌↔◌, refl, ◌⊎◌, inl, inr, ℕ, ◌+◌, ◌<◌, ◌≤◌, List, [], ◌∷◌, ◌++◌, length, map, take, drop, get_or, sym, ap, subst, ◌∙◌, append_assoc, take-append-drop, arith}
+use Rattle.std.proofs.Common.{◌≡◌, ◌≢◌, ◌↔◌, refl, ◌⊎◌, inl, inr, ℕ, ◌+◌, ◌<◌, ◌≤◌, List, [], ◌∷◌, ◌++◌, length, map, take, get_or, sym, ap, subst, ◌∙◌, append_assoc, arith}
 use Rattle.std.specs.Prelude.{All, AllPairs, Contains}
-use Rattle.std.proofs.Math.Seq.{take-add}
-use Rattle.std.proofs.lemmas.List.{append-nil, length-append, length-map, map-append, map_push, take_all, take_more, take-map}
-use Rattle.std.proofs.lemmas.List.Elements.{All-append, All-map, All-nil, All-push, Contains-append_cases, Contains-append_left, Contains-append_right}
+use Rattle.std.proofs.lemmas.List.{append-nil, length-append, length-map, map_push, take_all, take_more, take-map}
+use Rattle.std.proofs.lemmas.List.Elements.{All-nil, All-push}
 use Rattle.std.proofs.lemmas.List.Sorted.{IsPermutation-sym, IsPermutation-to_front}
 use Rattle.cost_vector.specs.Costs.{Dominates}
 use Rattle.cost_vector.proofs.Vectors.{AtMost-refl}
 use Rattle.compact_labels.specs.declared.label.CompactSpot.{CompactSpot}
 use Rattle.list_laws.specs.Sets.{ListsOnce}
 use Rattle.cost_vector.specs.declared.label.NodeNo.{NodeNo}
-use Rattle.list_laws.proofs.Members.{all_from_in, each_in, in_none, in_first, in_map}
-use Rattle.list_laws.proofs.OnceLaws.{alike_through, lists_append}
+use Rattle.list_laws.proofs.Members.{all_from_in, in_none, in_first, in_map}
+use Rattle.list_laws.proofs.OnceLaws.{alike_through}
 use Rattle.list_laws.proofs.SetLaws.{gains_by_permutation}
 use Rattle.list_laws.proofs.Pairs.{pairs_none, pairs_push, pairs_take}
 use Rattle.pareto_front.specs.declared.front.FrontEntry.{FrontEntry}
@@ -133,62 +132,3 @@ pub none_dominated : {D : ℕ} (v : ℕ) (by : List ℕ) (list : List (FrontEntr
 none_dominated {D} v by list xs ys short grown = all_from_in (λ (e : FrontEntry D). ¬ Dominates by e.cost.0) list (λ e h dominated.
     let there = (grown.costs.exact e.cost.0).1 (record { arc = e.arc.0; contains = in_map told_entry list e h }, dominated) in
     omega (arith, short, there.1, length-map grown.more (λ (s : CompactSpot D). s.cost.0), ap length grown.appended, length-append xs grown.more))
-
--- where no entry is dominated, nothing is added
-pub grows_none : {D : ℕ} (v : ℕ) (by : List ℕ) (list : List (FrontEntry D)) (xs : List (CompactSpot D))
-    → All (λ (e : FrontEntry D). ¬ Dominates by e.cost.0) list → GrowsBy v (λ c. HasCost (map told_entry list) c × Dominates by c) xs xs
-grows_none {D} v by list xs none = grows_as v (DominatedBefore by list 0) (λ c. HasCost (map told_entry list) c × Dominates by c) xs xs
-    (λ c. (
-      λ h. absurd (in_none (record { cost = c; arc = h.0.arc }) h.0.contains),
-      λ h. absurd (each_in (λ (e : Entry). ¬ Dominates by e.cost) (map told_entry list) (All-map (λ (e : Entry). ¬ Dominates by e.cost) told_entry list none)
-          (record { cost = c; arc = h.0.arc }) h.0.contains h.1),
-    )) (finds_none v by list xs)
-
--- the dominated ones of a list are added, and then those of the list behind it
-module _ {D : ℕ} (v : ℕ) (by : List ℕ) (first second whole : List Entry) (is : whole ≡ first ++ second) (pairs : AllPairs AreIncomparable whole)
-    (xs ys zs : List (CompactSpot D)) where
-  in_either : (c : List ℕ) → HasCost whole c ↔ (HasCost first c ⊎ HasCost second c)
-  in_either c = rw is (
-    λ h. elim (Contains-append_cases first second (record { cost = c; arc = h.arc }) h.contains) [
-      | inl near ↦ inl (record { arc = h.arc; contains = near })
-      | inr far ↦ inr (record { arc = h.arc; contains = far })
-    ],
-    elim [
-      | inl h ↦ record { arc = h.arc; contains = Contains-append_left first second (record { cost = c; arc = h.arc }) h.contains }
-      | inr h ↦ record { arc = h.arc; contains = Contains-append_right first second (record { cost = c; arc = h.arc }) h.contains }
-    ],
-  )
-
-  in_one : (c : List ℕ) → HasCost first c → ¬ HasCost second c
-  in_one c h k = (pairs_across AreIncomparable first second (subst (AllPairs AreIncomparable) is pairs) (record { cost = c; arc = h.arc })
-      (record { cost = c; arc = k.arc }) h.contains k.contains).one_way (AtMost-refl c)
-
-  grows_on : GrowsBy v (λ c. HasCost first c × Dominates by c) xs ys → GrowsBy v (λ c. HasCost second c × Dominates by c) ys zs
-      → GrowsBy v (λ c. HasCost whole c × Dominates by c) xs zs
-  grows_on near far = record {
-    more = near.more ++ far.more;
-    appended = far.appended ∙ (ap (λ l. l ++ far.more) near.appended ∙ append_assoc xs near.more far.more);
-    node = All-append (λ (s : CompactSpot D). s.node.0 ≡ v) near.more far.more near.node far.node;
-    costs = rw (map-append (λ (s : CompactSpot D). s.cost.0) near.more far.more)
-        (lists_append (λ c. HasCost first c × Dominates by c) (λ c. HasCost second c × Dominates by c) (λ c. HasCost whole c × Dominates by c)
-        (map (λ (s : CompactSpot D). s.cost.0) near.more) (map (λ (s : CompactSpot D). s.cost.0) far.more) (λ c. both (in_either c))
-        (λ c h k. in_one c h.0 k.0) near.costs far.costs);
-  } where
-    both : {A B C N : Type 0} → (A ↔ (B ⊎ C)) → ((A × N) ↔ ((B × N) ⊎ (C × N)))
-    both f = grind arith
-
--- the dominated ones before a place are added, and then those from there on
-module _ {D : ℕ} (v : ℕ) (by : List ℕ) (list : List (FrontEntry D)) (m : ℕ) (pairs : AllPairs AreIncomparable (map told_entry list))
-    (xs ys zs : List (CompactSpot D)) (near : GrowsBy v (DominatedBefore by list m) xs ys) where
-  -- of so many entries
-  pub finds_run : (n : ℕ) → GrowsBy v (λ c. HasCost (map told_entry (take n (drop m list))) c × Dominates by c) ys zs
-      → GrowsBy v (DominatedBefore by list (m + n)) xs zs
-  finds_run n far = grows_on v by (map told_entry (take m list)) (map told_entry (take n (drop m list))) (map told_entry (take (m + n) list))
-      (ap (map told_entry) (take-add m n list) ∙ map-append told_entry (take m list) (take n (drop m list)))
-      (subst (AllPairs AreIncomparable) (take-map told_entry (m + n) list) (pairs_take AreIncomparable (m + n) (map told_entry list) pairs)) xs ys zs near far
-
-  -- or of all that are left
-  pub finds_rest : GrowsBy v (λ c. HasCost (map told_entry (drop m list)) c × Dominates by c) ys zs
-      → GrowsBy v (λ c. HasCost (map told_entry list) c × Dominates by c) xs zs
-  finds_rest far = grows_on v by (map told_entry (take m list)) (map told_entry (drop m list)) (map told_entry list)
-      (ap (map told_entry) (sym (take-append-drop m list)) ∙ map-append told_entry (take m list) (drop m list)) pairs xs ys zs near far

@@ -13,4 +13,3 @@ pub mod GrowsLaws
 pub mod BlockLaws
 pub mod ToldLaws
 pub mod Ascending
-pub mod KeyLaws

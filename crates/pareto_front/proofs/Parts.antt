@@ -1,9 +1,9 @@
 -- The two parts of a list that is cut at a place.
-use Rattle.std.proofs.Common.{◌≡◌, ◌⊎◌, ℕ, ◌+◌, ◌<◌, Bool, true, false, ◌||◌, List, [], ◌∷◌, length, get_or, arith, take, drop, refl, sym, subst, take-append-drop}
+use Rattle.std.proofs.Common.{◌⊎◌, ℕ, ◌+◌, List, take, drop, sym, subst, take-append-drop}
 use Rattle.std.specs.Prelude.{All, AllPairs, Contains}
-use Rattle.std.proofs.lemmas.Bool.{false≢true}
-use Rattle.std.proofs.lemmas.List.{drop-drop, get_or_default, take_more}
-use Rattle.std.proofs.lemmas.List.Elements.{All-append, All-push, Contains-append_cases, Contains-append_left, Contains-append_right}
+use Rattle.std.proofs.Math.Seq.{take-add}
+use Rattle.std.proofs.lemmas.List.{drop-drop}
+use Rattle.std.proofs.lemmas.List.Elements.{All-append, Contains-append_cases, Contains-append_left, Contains-append_right}
 use Rattle.pareto_front.proofs.FrontLaws.{pairs_behind}
 
 module _ {X : Type 0} (i : ℕ) (xs : List X) where
@@ -31,14 +31,6 @@ module _ {X : Type 0} (i : ℕ) (xs : List X) where
 pub all_more : {X : Type 0} (P : X → Type 0) (n m : ℕ) (xs : List X) → All P (take n (drop m xs)) → All P (drop (m + n) xs) → All P (drop m xs)
 all_more P n m xs part rest = all_parts n (drop m xs) P part (rw (drop-drop n m xs) rest)
 
--- where neither one of the elements before a place passes a test nor the one there, none up to it does
-pub none_up_to : {X : Type 0} (P : X → Type 0) (xs : List X) (i : ℕ) (d : X) → i < length xs → (any here : Bool) → (any ≡ false → All P (take i xs))
-    → (here ≡ false → P (get_or xs i d)) → any || here ≡ false → All P (take (i + 1) xs)
-none_up_to P xs i d within false here before there is =
-    subst (All P) (sym (take_more xs i d within)) (All-push P (take i xs) (get_or xs i d) (before refl) (there is))
-none_up_to P xs i d within true here before there is = absurd (false≢true (sym is))
-
--- the element at a place
-pub element_at : {X : Type 0} (xs : List X) (i : ℕ) → i < length xs → (x : X) × (x ≡ get_or xs i x)
-element_at [] i within = absurd (omega (arith, within))
-element_at (y ∷ ys) i within = (get_or (y ∷ ys) i y, get_or_default (y ∷ ys) i y (get_or (y ∷ ys) i y) within)
+-- what holds of a part and of all before it
+pub all_before : {X : Type 0} (P : X → Type 0) (n m : ℕ) (xs : List X) → All P (take m xs) → All P (take n (drop m xs)) → All P (take (m + n) xs)
+all_before P n m xs front part = subst (All P) (sym (take-add m n xs)) (All-append P (take m xs) (take n (drop m xs)) front part)

@@ -3,4 +3,3 @@ pub mod Merging
 pub mod Calls
 pub mod Sorted
 pub mod Blocks
-pub mod Waiting

@@ -5,7 +5,6 @@
 mod blocks;
 mod front;
 mod sorted;
-mod waiting;
 
 pub use blocks::BlockFront;
 pub use front::{FrontEntry, ParetoFront, Standing};

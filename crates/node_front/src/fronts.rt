@@ -100,15 +100,17 @@ impl<const D: usize, F: ParetoFront<D> + Drop> Fronts<D, F> {
         merging::arrive(&mut self.fronts[place], label, removed)
     }
 
-    /// Settles the entry of this spot.
-    pub fn settle(&mut self, spot: &CompactSpot<D>)
+    /// Settles the entry of this spot, and answers its arc.
+    pub fn settle(&mut self, spot: &CompactSpot<D>) -> ArcNo
         requires { HasCost (entries (front_at self.old spot.now.node.0)) spot.now.cost.0 }
+        ensures arc { Contains (entries (front_at self.old spot.now.node.0))
+            (record { cost = spot.now.cost.0; arc = result.0 }) }
         ensures elsewhere { SameElsewhere spot.now.node.0 self.old self.new }
         ensures settled { Settles (front_at self.old spot.now.node.0) spot.now.cost.0
             (front_at self.new spot.now.node.0) }
     {
         let place = self.places[spot.node.0 as usize] as usize;
-        self.fronts[place].settle(&spot.cost);
+        self.fronts[place].settle(&spot.cost)
     }
 
     /// Appends what the candidates, which are all of one node, make of its front.

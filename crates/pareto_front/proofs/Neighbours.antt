@@ -97,6 +97,14 @@ module _ {list : List (FrontEntry 2)} {marks : List Bool} {n : ℕ} (s : IsSorte
   pub entry_in : (x : FrontEntry 2) → Contains list x → Contains (entries (front_of list marks)) (told_entry x)
   entry_in x h = (same_by_permutation (map told_entry list) (entries (front_of list marks)) all_moved (told_entry x)).1 (in_map told_entry list x h)
 
+  -- so is one that was read, which has the cost c
+  pub entry_at : {c : List ℕ} {i : ℕ} → IsAt list c i → (x : FrontEntry 2) → x ≡ get_or list i x
+      → Contains (entries (front_of list marks)) (record { cost = c; arc = x.arc.0 })
+  entry_at {c} {i} here x is =
+      let same = ap (λ (e : FrontEntry 2). e.cost.0) (sym (read_at list i x here.within is)) ∙ here.cost in
+      subst (λ v. Contains (entries (front_of list marks)) (record { cost = v; arc = x.arc.0 })) same
+      (entry_in x (subst (Contains list) (sym is) (Contains-get_or list i x here.within)))
+
   of_entries : (e : Entry) → Contains (entries (front_of list marks)) e → (k : ℕ) × (k < length list) × (told_entry (at list k) ≡ e)
   of_entries e h =
       let (x, there, is) = of_entry e h in

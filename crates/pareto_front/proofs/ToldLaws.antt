@@ -1,5 +1,5 @@
 -- What happens to lists of stored entries, said of the fronts that they stand for.
-use Rattle.std.proofs.Common.{◌≡◌, ◌≢◌, ◌↔◌, ◌<◌, inl, inr, ℕ, None, Some, List, [], ◌∷◌, ◌++◌, length, map, get_or, remove, set, sym, ap, subst, ◌∙◌}
+use Rattle.std.proofs.Common.{◌≡◌, ◌≢◌, ◌↔◌, ◌<◌, inl, inr, ℕ, Option, None, Some, List, [], ◌∷◌, ◌++◌, length, map, get_or, remove, set, sym, ap, subst, ◌∙◌}
 use Rattle.std.proofs.Common.{false, refl, arith, ◌+◌, ◌≤◌}
 use Rattle.std.specs.Prelude.{All, AllPairs, Contains, IsPermutation}
 use Rattle.std.specs.List.Sorted.{IsSortedBy}
@@ -10,7 +10,7 @@ use Rattle.std.proofs.lemmas.Option.{same_Some, none-some}
 use Rattle.std.proofs.Math.Seq.{map-set_same}
 use Rattle.std.proofs.lemmas.List.{get_or_default, length-set}
 use Rattle.std.proofs.lemmas.List.Edits.{length-remove}
-use Rattle.std.proofs.lemmas.List.Elements.{All-append, All-map, Contains-get_or, Contains-append_left, Contains-append_right}
+use Rattle.std.proofs.lemmas.List.Elements.{All-append, All-map, Contains-get_or, Contains-append_left, Contains-append_right, Contains-append_cases}
 use Rattle.std.proofs.lemmas.List.Sorted.{IsPermutation-map, IsPermutation-remove, IsPermutation-sym, IsPermutation-to_front, IsPermutation-trans, sorted_far, ranks_by}
 use Rattle.std.proofs.lemmas.Simd.{map-map}
 use Rattle.cost_vector.specs.Costs.{AtMost, Dominates, LexLess, lex_cmp}
@@ -87,6 +87,13 @@ module _ {D : ℕ} (settled unsettled : List (FrontEntry D)) (front : IsFront D 
         → Settles (told_front settled unsettled) c (told_front list (remove unsettled i))
     told_settles has = settles front (map told_entry (remove unsettled i)) (told_entry x) out
         (same_cost front c has (told_entry x) (told_unsettled there x is settled) (covers there x is)) (map told_entry list) come
+
+  -- its arc is that of the entry of this cost
+  pub told_arc : HasCost (entries (told_front settled unsettled)) c → Contains (entries (told_front settled unsettled)) (record { cost = c; arc = x.arc.0 })
+  told_arc has =
+      let there_too = told_unsettled there x is settled in
+      subst (λ k. Contains (entries (told_front settled unsettled)) (record { cost = k; arc = x.arc.0 }))
+      (same_cost front c has (told_entry x) there_too (covers there x is)) there_too
 
   -- it is gone from the blocks
   pub removed_blocks : {corners wide : List (CompactCost D)} {room : ℕ} → AreBlocks settled corners wide unsettled room
@@ -266,6 +273,18 @@ no_arc settled c none arc = (
   λ h. absurd (each_in (λ (e : Entry). ¬ AtMost e.cost c) (map told_entry settled) (All-map (λ (e : Entry). ¬ AtMost e.cost c) told_entry settled none)
       (record { cost = c; arc = arc.0 }) h (AtMost-refl c)),
 )
+
+-- where no unsettled entry is at most the cost of an entry, its arc was found among the settled ones
+pub arc_of_settled : {D : ℕ} (settled unsettled : List (FrontEntry D)) (c : List ℕ) → CoversNone unsettled c
+    → HasCost (entries (told_front settled unsettled)) c → (found : Option ArcNo)
+    → ((arc : ArcNo) → (found ≡ Some arc) ↔ Contains (map told_entry settled) (record { cost = c; arc = arc.0 }))
+    → (arc : ArcNo) × (found ≡ Some arc)
+arc_of_settled settled unsettled c none has found tells =
+    let e : Entry = record { cost = c; arc = has.arc } in
+    elim (Contains-append_cases (map told_entry settled) (map told_entry unsettled) e has.contains) [
+      | inl near ↦ (record { 0 = has.arc }, (tells (record { 0 = has.arc })).1 near)
+      | inr far ↦ absurd (none-some (record { 0 = has.arc }) ((no_arc unsettled c none (record { 0 = has.arc })).1 far))
+    ]
 
 -- the settled entries, sorted by their costs
 module _ {D : ℕ} (settled unsettled : List (FrontEntry D)) (front : IsFront D (told_front settled unsettled)) (list : List (FrontEntry D))

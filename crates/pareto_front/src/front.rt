@@ -119,9 +119,11 @@ pub trait ParetoFront<const D: usize> {
             (record { cost = cost.now.0; arc = arc.0 }) (state self.new) }
         ensures room { spare self.new ≡ spare self.old };
 
-    /// Settles the entry of this cost.
-    fn settle(&mut self, cost: &CompactCost<D>)
+    /// Settles the entry of this cost, and answers its arc.
+    fn settle(&mut self, cost: &CompactCost<D>) -> ArcNo
         requires { HasCost (entries (state self.old)) cost.now.0 }
+        ensures arc { Contains (entries (state self.old))
+            (record { cost = cost.now.0; arc = result.0 }) }
         ensures settled { Settles (state self.old) cost.now.0 (state self.new) }
         ensures room { spare self.old ≤ spare self.new };
 

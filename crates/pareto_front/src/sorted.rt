@@ -138,12 +138,13 @@ impl ParetoFront<2> for SortedFront {
         self.entries[at].arc = arc;
     }
 
-    fn settle(&mut self, cost: &CompactCost<2>) {
+    fn settle(&mut self, cost: &CompactCost<2>) -> ArcNo {
         let at = before(&self.entries, cost.0[0]);
         if !self.marks[at] {
             self.marks[at] = true;
             self.settled += 1;
         }
+        self.entries[at].arc
     }
 
     fn into_settled(self) -> Vec<FrontEntry<2>> {

@@ -11,6 +11,7 @@ pub returns : goal.returns
 returns g c =
     let here = at_cost c.self.invariant c.self.view_is c.requires c.index.ensures c.index_mut.ensures.value in
     record {
+      arc = rw (front_here here) c.settle.ensures.arc;
       elsewhere = elsewhere here c.settle.new.self;
       settled = rw (front_here here, front_after here c.settle.new.self) c.settle.ensures.settled;
     }

@@ -1,2 +1,3 @@
+mod Onward
 mod OutArcs
 mod PieceLemmas

@@ -1,10 +1,15 @@
--- The candidates that taken spots give.
-use Rattle.std.specs.Prelude.{ℕ, List, map, flat_map}
+-- The candidates that taken spots and taken labels give.
+use Rattle.std.specs.Prelude.{ℕ, ◌≤◌, ◌==◌, List, length, map, filter, flat_map, not, nat_eq, if◌then◌else◌}
+use Rattle.cost_vector.specs.declared.label.ArcNo.{ArcNo}
 use Rattle.cost_vector.specs.declared.label.Label.{Label}
 use Rattle.compact_labels.specs.declared.label.CompactLabel.{CompactLabel}
 use Rattle.compact_labels.specs.declared.label.CompactSpot.{CompactSpot}
 use Rattle.road_network.specs.Network.{IsNode}
-use Rattle.arc_graph.specs.Graph.{Graph, Weights, SumsFit, relaxed}
+use Rattle.arc_graph.specs.Graph.{Graph, Weights, SumsFit, relaxed, tail_of}
+
+-- the node that an arc leads from, or 0 where there is no arc, as at the start
+abbrev pub origin_of : Graph → ArcNo → ℕ
+origin_of g a = if a.0 == 0 then 0 else tail_of g a
 
 module _ {D : ℕ} where
   -- the spot's node is one of the graph, and its cost can be added to
@@ -23,3 +28,26 @@ module _ {D : ℕ} where
   -- those of all spots, in the order of the spots
   abbrev pub candidates_of : Graph → Weights → List (CompactSpot D) → List (CompactLabel D)
   candidates_of g w spots = flat_map (candidates_from g w) spots
+
+  -- ---- of labels, whose arcs tell from where they came
+
+  -- the label's node and cost
+  abbrev pub spot_of : CompactLabel D → CompactSpot D
+  spot_of l = record { cost = l.cost; node = l.node }
+
+  -- the label at the spot, with no arc
+  abbrev pub unled : CompactSpot D → CompactLabel D
+  unled s = record { node = s.node; cost = s.cost; arc = record { 0 = 0 } }
+
+  -- the label's spot can be relaxed, and its arc is one of the graph, or none
+  pub record CanGoOn (g : Graph) (w : Weights) (l : CompactLabel D) : Type 0 where
+    pub relax : CanRelax g w (spot_of l)
+    pub arc : l.arc.0 ≤ length g.ends
+
+  -- the candidates that the label's spot gives, but for those at the node from which the label's arc leads
+  abbrev pub onward_from : Graph → Weights → CompactLabel D → List (CompactLabel D)
+  onward_from g w l = filter (λ x. not (nat_eq x.node.0 (origin_of g l.arc))) (candidates_from g w (spot_of l))
+
+  -- those of all labels, in the order of the labels
+  abbrev pub onward_of : Graph → Weights → List (CompactLabel D) → List (CompactLabel D)
+  onward_of g w labels = flat_map (onward_from g w) labels

@@ -1,27 +1,27 @@
--- The pieces into which taken spots are cut.
+-- The pieces into which taken labels are cut.
 use Rattle.std.specs.Prelude.{◌≡◌, ℕ, ◌*◌, ◌<◌, ◌≤◌, List, length, take, drop, All}
 use Rattle.cost_vector.specs.Costs.{max_criteria}
-use Rattle.compact_labels.specs.declared.label.CompactSpot.{CompactSpot}
+use Rattle.compact_labels.specs.declared.label.CompactLabel.{CompactLabel}
 use Rattle.arc_graph.specs.Graph.{Graph, Weights, Match}
-use Rattle.relax_workers.specs.Candidates.{CanRelax}
+use Rattle.relax_workers.specs.Candidates.{CanGoOn}
 
--- how many spots are a piece; the last piece may have fewer
+-- how many labels are a piece; the last piece may have fewer
 abbrev pub piece_size : ℕ
 piece_size = 64
 
 module _ {D : ℕ} where
-  -- the spots of a piece
-  abbrev pub spots_of : List (CompactSpot D) → ℕ → List (CompactSpot D)
-  spots_of taken piece = take piece_size (drop (piece * piece_size) taken)
+  -- the labels of a piece
+  abbrev pub labels_of : List (CompactLabel D) → ℕ → List (CompactLabel D)
+  labels_of taken piece = take piece_size (drop (piece * piece_size) taken)
 
-  -- the weights are the graph's, the costs have its criteria, and each spot can be relaxed
-  pub record AreReady (g : Graph) (w : Weights) (taken : List (CompactSpot D)) : Type 0 where
+  -- the weights are the graph's, the costs have its criteria, and each label can go on
+  pub record AreReady (g : Graph) (w : Weights) (taken : List (CompactLabel D)) : Type 0 where
     pub weights : Match g w
     pub criteria : g.criteria ≡ D
     pub four : D ≤ max_criteria
-    pub each : All (CanRelax g w) taken
+    pub each : All (CanGoOn g w) taken
 
   -- there is such a piece of them
-  pub record CanDo (g : Graph) (w : Weights) (taken : List (CompactSpot D)) (piece : ℕ) : Type 0 where
+  pub record CanDo (g : Graph) (w : Weights) (taken : List (CompactLabel D)) (piece : ℕ) : Type 0 where
     pub ready : AreReady g w taken
     pub there : piece * piece_size < length taken

@@ -1,7 +1,7 @@
-//! Relaxing the spots that a round of a bulk-synchronous Pareto search takes, by several workers.
+//! Relaxing the labels that a round of a bulk-synchronous Pareto search takes, by several workers.
 #![tactic(auto)]
 
+mod labels;
 mod relaxing;
-mod spots;
 
-pub use relaxing::relax_all;
+pub use relaxing::{relax_all, relax_onward};

@@ -1,4 +1,5 @@
 mod counting;
 mod meeting;
+mod onward;
 mod order;
 mod relaxing;

@@ -28,10 +28,15 @@ const TAKEN: [(u32, [u64; 2]); 2] = [(2, [1, 4]), (3, [2, 1])];
 /// The node, the cost and the arc of each label that they give.
 const GIVEN: [(u32, [u64; 2], u32); 3] = [(4, [2, 8], 3), (3, [2, 5], 5), (4, [4, 2], 4)];
 
-fn file(rt: &impl Abort, alloc: Global, criterion: usize) -> Result<ArcFile, Fail> {
+fn file(
+    rt: &impl Abort,
+    alloc: Global,
+    arcs: &[[u32; 4]],
+    criterion: usize,
+) -> Result<ArcFile, Fail> {
     assert!(rt; criterion < 2);
     let mut file = ArcFile::new(alloc, 4);
-    for arc in &ARCS {
+    for arc in arcs {
         assert!(rt; 1 <= arc[0] && arc[0] <= 4 && 1 <= arc[1] && arc[1] <= 4);
         assert!(rt; file.arcs().len() < 100 && file.nodes() == 4);
         file.push(ArcLine {
@@ -43,10 +48,15 @@ fn file(rt: &impl Abort, alloc: Global, criterion: usize) -> Result<ArcFile, Fai
     Ok(file)
 }
 
-fn network(rt: &impl Abort, alloc: Global) -> Result<(Graph, Weights), Fail>
+/// The network of four nodes with these arcs.
+pub(super) fn network(
+    rt: &impl Abort,
+    alloc: Global,
+    arcs: &[[u32; 4]],
+) -> Result<(Graph, Weights), Fail>
     ensures { IfOk result (λ r. Match r.0 r.1) }
 {
-    let files = vec![in alloc; file(rt, alloc, 0)?, file(rt, alloc, 1)?]?;
+    let files = vec![in alloc; file(rt, alloc, arcs, 0)?, file(rt, alloc, arcs, 1)?]?;
     Ok(join_files(alloc, files)?)
 }
 
@@ -58,7 +68,12 @@ fn is_small(cost: &[u64; 2]) -> bool
 }
 
 /// A spot of the network, whose cost can be added to.
-fn spot(rt: &impl Abort, graph: &Graph, weights: &Weights, plain: (u32, [u64; 2])) -> CompactSpot<2>
+pub(super) fn spot(
+    rt: &impl Abort,
+    graph: &Graph,
+    weights: &Weights,
+    plain: (u32, [u64; 2]),
+) -> CompactSpot<2>
     ensures { CanRelax graph.now weights.now result }
 {
     let (node, cost) = plain;
@@ -90,7 +105,7 @@ fn taken(
     Ok(spots)
 }
 
-fn label((node, cost, arc): (u32, [u64; 2], u32)) -> CompactLabel<2> {
+pub(super) fn label((node, cost, arc): (u32, [u64; 2], u32)) -> CompactLabel<2> {
     CompactLabel {
         node: NodeNo(node),
         cost: CompactCost(cost),
@@ -101,7 +116,7 @@ fn label((node, cost, arc): (u32, [u64; 2], u32)) -> CompactLabel<2> {
 #[test]
 fn relaxes_in_the_order_of_the_spots(rt: HostRuntime) -> Result<(), Fail> {
     let alloc = rt.alloc();
-    let (graph, weights) = network(&rt, alloc)?;
+    let (graph, weights) = network(&rt, alloc, &ARCS)?;
     assert_eq!(rt; graph.criteria(), 2);
     let mut candidates = vec![in alloc; label((1, [7, 7], 6))]?;
     for workers in [1, 3, 64] {

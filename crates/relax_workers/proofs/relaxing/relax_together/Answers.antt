@@ -1,7 +1,7 @@
 use Rattle.std.proofs.Common.{◌≡◌, Some, length, refl, subst}
 use Rattle.std.specs.Prelude.{slice_get}
 use Rattle.std.proofs.lemmas.Option.{slice_get_read}
-use Rattle.relax_workers.specs.Candidates.{candidates_from}
+use Rattle.relax_workers.specs.Candidates.{onward_from}
 use Rattle.relax_workers.specs.Pieces.{piece_size}
 use Rattle.relax_workers.proofs.PieceLemmas.{next_piece}
 use Rattle.relax_workers.proofs.relaxing.relax_together.Goals as goal
@@ -15,4 +15,4 @@ loop-list-preserved g c =
     let read = slice_get_read lists (length lists) piece list refl c.loop-list-test.true c.list-item.is in
     let given = c.in_ok-lists.ensures.each piece list (subst (λ ls. slice_get ls piece ≡ Some list) c.deref-list-items.ensures.value read) in
     rw (c.in_ok-extend_from_slice.ensures.items, c.deref.ensures.value, given)
-    (next_piece (candidates_from job.graph.now job.weights.now) job.taken.now piece piece_size c.loop-list.candidates.items c.loop-list.invariant)
+    (next_piece (onward_from job.graph.now job.weights.now) job.taken.now piece piece_size c.loop-list.candidates.items c.loop-list.invariant)

@@ -1,25 +1,35 @@
--- What the taken labels of an open round give along their arcs: they can be relaxed, and the candidates are what arrives.
-use Rattle.std.proofs.Common.{◌≡◌, ℕ, ◌*◌, ◌-◌, ◌^◌, ◌<◌, ◌≤◌, List, [], ◌∷◌, inl, inr, refl, sym, ap, subst, ◌∙◌, arith, Contains}
-use Rattle.std.specs.Prelude.{All, flat_map}
+-- What the taken labels of an open round give along their arcs: they can be relaxed, and the candidates are what arrives, but for what is
+-- dominated.
+use Rattle.std.proofs.Common.{◌≡◌, ℕ, ◌*◌, ◌-◌, ◌^◌, ◌<◌, ◌≤◌, ◌⊎◌, List, [], ◌∷◌, Option, None, Some, length, cond, nat_eq, true, inl, inr, refl, sym, ap, subst, ◌∙◌, arith, Contains, IsPermutation}
+use Rattle.std.specs.Prelude.{All, flat_map, not, slice_get}
+use Rattle.std.specs.Option.{option_map_or}
+use Rattle.std.proofs.lemmas.Bool.{cases_Bool}
+use Rattle.std.proofs.lemmas.Bool.Decides.{nat_tests}
+use Rattle.std.proofs.lemmas.List.{length-map}
 use Rattle.std.proofs.lemmas.List.Elements.{All-weaker}
 use Rattle.cost_vector.specs.Costs.{plus}
+use Rattle.cost_vector.specs.declared.label.ArcNo.{ArcNo}
 use Rattle.compact_labels.specs.declared.label.CompactLabel.{CompactLabel}
 use Rattle.compact_labels.specs.declared.label.CompactSpot.{CompactSpot}
 use Rattle.list_laws.specs.Sets.{HasMoreThan}
-use Rattle.list_laws.proofs.Members.{in_none, in_front, in_rest, cases_in, in_map, of_map, all_from_in}
+use Rattle.list_laws.proofs.Members.{in_none, in_front, in_rest, cases_in, in_map, of_map, in_filter, of_filter, each_in, all_from_in}
 use Rattle.list_laws.proofs.OnceLaws.{in_append}
-use Rattle.list_laws.proofs.SetLaws.{none_of_empty}
+use Rattle.list_laws.proofs.SetLaws.{none_of_empty, same_by_permutation}
 use Rattle.road_network.specs.Network.{Network, AreSmall, IsNode, Leads}
 use Rattle.road_network.specs.Walks.{IsSumOf}
-use Rattle.arc_graph.specs.Graph.{Graph, Weights, AreWeights, network, relaxed, label_over}
+use Rattle.road_network.proofs.WalkLaws.{leads_to_node}
+use Rattle.arc_graph.specs.Graph.{Graph, Weights, AreWeights, network, relaxed, label_over, tail_of}
 use Rattle.arc_graph.proofs.RelaxLaws.{label_in, label_of, sums_fit}
 use Rattle.event_machine.specs.Machine.{Task, Label, SearchState}
 use Rattle.event_machine.specs.Orders.{IsArrival, IsOutcome}
 use Rattle.node_front.specs.NodeFronts.{front_at}
-use Rattle.pareto_front.specs.Fronts.{SparesSettled}
-use Rattle.relax_workers.specs.Candidates.{CanRelax, compact_of, candidates_from, candidates_of}
-use Rattle.round_core.specs.Cores.{Core, IsAt, as_spot, as_compact}
-use Rattle.round_core.specs.Finishes.{AreArrivals}
+use Rattle.pareto_front.specs.Calls.{entry_of}
+use Rattle.pareto_front.specs.Fronts.{IsDominated, SparesSettled, entries}
+use Rattle.relax_workers.specs.Candidates.{CanGoOn, CanRelax, compact_of, candidates_from, candidates_of, onward_from, onward_of, origin_of}
+use Rattle.round_core.specs.Arriving.{spot_at}
+use Rattle.round_core.specs.Cores.{Core, IsAt, as_entry, as_spot, as_compact}
+use Rattle.round_core.specs.Finishes.{AreArrivals, FinishesRound, MergesRound}
+use Rattle.round_core.specs.Onward.{AreLabelsOf, IsWayBack, LeavesOutDominated}
 use Rattle.pareto_search.specs.Rounds.{IsOpen, EndsWith, EndsOver}
 
 module _ {X Y : Type 0} (f : X → List Y) where
@@ -113,30 +123,117 @@ abbrev pub ArrivalsSpare : Type 0
 ArrivalsSpare = (D : ℕ) (task : Task) (core : Core D) (s : SearchState) (x : Label)
     → IsAt task core s → IsArrival task.network s x → SparesSettled (front_at core.fronts x.node) x.cost
 
-module _ {D : ℕ} (g : Graph) (w : Weights) (core : Core D) (round : IsOpen (network g w) core)
-    (candidates : List (CompactLabel D)) (all : candidates ≡ candidates_of g w core.taken) where
-  -- the label that a candidate is
-  abbrev label_as : CompactLabel D → Label
-  label_as l = record { node = l.node.0; cost = l.cost.0; arc = l.arc.0 }
+-- the label of the machine that is kept so
+abbrev pub label_as : {D : ℕ} → CompactLabel D → Label
+label_as l = record { node = l.node.0; cost = l.cost.0; arc = l.arc.0 }
 
-  candidate_arrives : (l : CompactLabel D) → Contains candidates l → IsArrival round.task.network round.state (label_as l)
-  candidate_arrives l there = arrives g w round.task core round.state round.over round.at (label_as l) (subst (λ ls. Contains ls l) all there)
+-- what is told of settled labels: their arcs are there
+abbrev pub ArcsAreThere : Type 0
+ArcsAreThere = (D : ℕ) (task : Task) (core : Core D) (s : SearchState) (l : Label)
+    → IsAt task core s → Contains (front_at core.fronts l.node).settled (as_entry l) → l.arc ≤ length task.network.ends
 
-  pub candidates_at_nodes : ArrivalsAreNodes → All (λ l. IsNode core.fronts.nodes l.node.0) candidates
-  candidates_at_nodes nodes = all_from_in (λ l. IsNode core.fronts.nodes l.node.0) candidates
-      (λ l there. nodes D round.task core round.state (label_as l) round.at (candidate_arrives l there))
+-- and what they give back along these is dominated
+abbrev pub WaysBackAreDominated : Type 0
+WaysBackAreDominated = (D : ℕ) (task : Task) (core : Core D) (s : SearchState) (l x : Label) → IsAt task core s
+    → Contains (front_at core.fronts l.node).settled (as_entry l) → IsWayBack task.network l x → IsDominated (entries (front_at core.fronts x.node)) x.cost
 
-  pub candidates_spare : ArrivalsSpare → All (λ l. SparesSettled (front_at core.fronts l.node.0) l.cost.0) candidates
-  candidates_spare spares = all_from_in (λ l. SparesSettled (front_at core.fronts l.node.0) l.cost.0) candidates
-      (λ l there. spares D round.task core round.state (label_as l) round.at (candidate_arrives l there))
+-- the node from which an arc leads tells the arc's ends
+arc_from : (g : Graph) (a : ArcNo) (u : ℕ) → u ≡ origin_of g a → 1 ≤ u → (1 ≤ a.0) × (to : ℕ) × (slice_get g.ends (a.0 - 1) ≡ Some (u, to))
+arc_from g a u is some = elim (cases_Bool (nat_eq a.0 0)) [
+  | inl none ↦ let zero : u ≡ 0 = is ∙ ap (λ b. cond b 0 (tail_of g a)) none in absurd (omega (arith, zero, some))
+  | inr led ↦
+      let counted : 1 ≤ a.0 = grind (arith, nat_tests) in
+      let (to, ends) = by_ends (slice_get g.ends (a.0 - 1)) refl (is ∙ ap (λ b. cond b 0 (tail_of g a)) led) in
+      (counted, to, ends)
+] where
+  by_ends : (o : Option (ℕ × ℕ)) → slice_get g.ends (a.0 - 1) ≡ o → u ≡ option_map_or (λ (e : ℕ × ℕ). e.0) o 0
+      → (to : ℕ) × (slice_get g.ends (a.0 - 1) ≡ Some (u, to))
+  by_ends None at zero = absurd (omega (arith, zero, some))
+  by_ends (Some e) at same = (e.1, at ∙ ap (λ v. Some (v, e.1)) (sym same))
 
--- a round that ends with the candidates of its taken labels has ended
-pub ends_over : {D : ℕ} (g : Graph) (w : Weights) (candidates : List (CompactLabel D)) (before after : Core D)
-    → candidates ≡ candidates_of g w before.taken → EndsWith candidates before after → EndsOver (network g w) before after
-ends_over g w candidates before after all ends = record {
-  same_search = ends.same_search;
-  none_taken = ends.none_taken;
-  outcome = λ task s end over at outcome. ends.outcome task s end at
-      (subst (AreArrivals task.network s) (sym all) (are_arrivals g w task before s over at))
-      (subst (λ net. IsOutcome net s end) (sym over) outcome);
-}
+module _ {D : ℕ} (g : Graph) (w : Weights) (core : Core D) (round : IsOpen (network g w) core) (labels : List (CompactLabel D))
+    (has : AreLabelsOf core.fronts core.taken labels) where
+  spot_taken : (l : CompactLabel D) → Contains labels l → Contains core.taken (spot_at l)
+  spot_taken l l_in = subst (λ xs. Contains xs (spot_at l)) has.spots_are (in_map spot_at labels l l_in)
+
+  is_settled : (l : CompactLabel D) → Contains labels l → Contains (front_at core.fronts l.node.0).settled (entry_of l)
+  is_settled = each_in (λ (m : CompactLabel D). Contains (front_at core.fronts m.node.0).settled (entry_of m)) labels has.settled
+
+  pub few_labels : length labels ≡ length core.taken
+  few_labels = sym (length-map labels spot_at) ∙ ap length has.spots_are
+
+  pub can_go_on : ArcsAreThere → All (CanRelax g w) core.taken → All (CanGoOn g w) labels
+  can_go_on there can = all_from_in (CanGoOn g w) labels (λ l l_in. record {
+    relax = each_in (CanRelax g w) core.taken can (spot_at l) (spot_taken l l_in);
+    arc = subst (λ (net : Network). l.arc.0 ≤ length net.ends) round.over (there D round.task core round.state (label_as l) round.at (is_settled l l_in));
+  })
+
+  -- ---- what leads onward is among the candidates of the spots, and the others are dominated
+
+  among : (x : CompactLabel D) → Contains (onward_of g w labels) x → Contains (candidates_of g w core.taken) x
+  among x there =
+      let (l, l_in, from) = of_flat (onward_from g w) labels x there in
+      let (gives, _) = of_filter (λ (y : CompactLabel D). not (nat_eq y.node.0 (origin_of g l.arc))) (candidates_from g w (spot_at l)) x from in
+      in_flat (candidates_from g w) core.taken (spot_at l) x (spot_taken l l_in) gives
+
+  way_back : (l x : CompactLabel D) → Contains (candidates_from g w (spot_at l)) x → nat_eq x.node.0 (origin_of g l.arc) ≡ true
+      → IsWayBack round.task.network (label_as l) (label_as x)
+  way_back l x gives same =
+      let (label, given, is) = of_map compact_of (relaxed g w l.node.0 l.cost.0) x gives in
+      let comes = label_of g w l.node.0 l.cost.0 label given in
+      let leads = subst (λ (y : CompactLabel D). Leads (network g w) y.arc.0 l.node.0 comes.by y.node.0) (sym is) comes.leads in
+      let on = subst (λ (net : Network). Leads net x.arc.0 l.node.0 comes.by x.node.0) (sym round.over) leads in
+      let node = leads_to_node round.task.network round.at.search.is_task.network x.arc.0 l.node.0 x.node.0 comes.by on in
+      let (counted, to, ends) = arc_from g l.arc x.node.0 (grind (arith, nat_tests)) node.0 in
+      record {
+        follows = record { by = comes.by; leads = on; cost = ap (λ (y : CompactLabel D). y.cost.0) is ∙ comes.cost };
+        counted = counted;
+        to = to;
+        ends = subst (λ (net : Network). slice_get net.ends (l.arc.0 - 1) ≡ Some (x.node.0, to)) (sym round.over) ends;
+      }
+
+  others : WaysBackAreDominated → (x : CompactLabel D) → Contains (candidates_of g w core.taken) x
+      → Contains (onward_of g w labels) x ⊎ IsDominated (entries (front_at core.fronts x.node.0)) x.cost.0
+  others dominated x there =
+      let (spot, taken, gives) = of_flat (candidates_from g w) core.taken x there in
+      let (l, l_in, is) = of_map spot_at labels spot (subst (λ xs. Contains xs spot) (sym has.spots_are) taken) in
+      let here = subst (λ y. Contains (candidates_from g w y) x) is gives in
+      elim (cases_Bool (nat_eq x.node.0 (origin_of g l.arc))) [
+        | inl same ↦ inr (dominated D round.task core round.state (label_as l) (label_as x) round.at (is_settled l l_in) (way_back l x here same))
+        | inr other ↦ inl (in_flat (onward_from g w) labels l x l_in (in_filter (λ (y : CompactLabel D). not (nat_eq y.node.0 (origin_of g l.arc)))
+            (candidates_from g w (spot_at l)) x here (ap not other)))
+      ]
+
+  module _ (candidates : List (CompactLabel D)) (all : candidates ≡ onward_of g w labels) where
+    candidate_arrives : (l : CompactLabel D) → Contains candidates l → IsArrival round.task.network round.state (label_as l)
+    candidate_arrives l there = arrives g w round.task core round.state round.over round.at (label_as l) (among l (subst (λ ls. Contains ls l) all there))
+
+    pub candidates_at_nodes : ArrivalsAreNodes → All (λ l. IsNode core.fronts.nodes l.node.0) candidates
+    candidates_at_nodes nodes = all_from_in (λ l. IsNode core.fronts.nodes l.node.0) candidates
+        (λ l there. nodes D round.task core round.state (label_as l) round.at (candidate_arrives l there))
+
+    pub candidates_spare : ArrivalsSpare → All (λ l. SparesSettled (front_at core.fronts l.node.0) l.cost.0) candidates
+    candidates_spare spares = all_from_in (λ l. SparesSettled (front_at core.fronts l.node.0) l.cost.0) candidates
+        (λ l there. spares D round.task core round.state (label_as l) round.at (candidate_arrives l there))
+
+    -- in whatever order they are merged, they leave out nothing but what is dominated
+    leaves_out : WaysBackAreDominated → (merged : List (CompactLabel D)) → IsPermutation candidates merged
+        → LeavesOutDominated core.fronts (candidates_of g w core.taken) merged
+    leaves_out dominated merged order = record {
+      among = λ x there. among x (subst (λ ls. Contains ls x) all ((same_by_permutation candidates merged order x).0 there));
+      others = λ x there. elim (others dominated x there) [
+        | inl onward ↦ inl ((same_by_permutation candidates merged order x).1 (subst (λ ls. Contains ls x) (sym all) onward))
+        | inr less ↦ inr less
+      ];
+    }
+
+    -- a round that ends with them has ended
+    pub ends_over : WaysBackAreDominated → (after : Core D) → ((every some : List (CompactLabel D)) (next : Core D) → LeavesOutDominated core.fronts every some
+        → MergesRound some core next → FinishesRound every core next) → EndsWith candidates core after → EndsOver (network g w) core after
+    ends_over dominated after law ends = record {
+      same_search = ends.merges.same_search;
+      none_taken = ends.merges.none_taken;
+      outcome = λ task s end over at outcome.
+          (law (candidates_of g w core.taken) ends.merged after (leaves_out dominated ends.merged ends.order) ends.merges).outcome task s end at
+          (are_arrivals g w task core s over at) (subst (λ net. IsOutcome net s end) (sym over) outcome);
+    }

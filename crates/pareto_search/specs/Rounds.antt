@@ -1,5 +1,5 @@
 -- A search between its rounds, and what becomes of it in a round.
-use Rattle.std.specs.Prelude.{◌≡◌, ◌≢◌, ℕ, ◌≤◌, List, [], length, AllPairs, Contains}
+use Rattle.std.specs.Prelude.{◌≡◌, ◌≢◌, ℕ, ◌≤◌, List, [], length, AllPairs, Contains, IsPermutation}
 use Rattle.compact_labels.specs.declared.label.CompactLabel.{CompactLabel}
 use Rattle.list_laws.specs.Sets.{HasMoreThan}
 use Rattle.road_network.specs.Limits.{max_budget}
@@ -11,7 +11,7 @@ use Rattle.event_machine.specs.Rounds.{GoRounds}
 use Rattle.path_readback.specs.Found.{Found}
 use Rattle.path_readback.specs.WellFound.{HasAllRelevant}
 use Rattle.round_core.specs.Cores.{Core, IsAt, SameSearch}
-use Rattle.round_core.specs.Finishes.{AreArrivals}
+use Rattle.round_core.specs.Finishes.{MergesRound}
 
 -- the list contains so many different things
 pub record HasSoMany {X : Type 0} (n : ℕ) (xs : List X) : Type 0 where
@@ -41,12 +41,11 @@ pub record IsOpen {D : ℕ} (net : Network) (core : Core D) : Type 0 where
   pub few : length core.taken ≤ core.budget
   pub most : core.budget ≤ max_budget
 
--- The open round has ended: where these candidates arrive, the core stands for the outcome of all orders of its events.
+-- The open round has ended with these candidates, merged in some order.
 pub record EndsWith {D : ℕ} (candidates : List (CompactLabel D)) (before after : Core D) : Type 0 where
-  pub same_search : SameSearch before after
-  pub none_taken : after.taken ≡ []
-  pub outcome : (task : Task) (s end : SearchState) → IsAt task before s → AreArrivals task.network s candidates
-      → IsOutcome task.network s end → IsAt task after end
+  pub merged : List (CompactLabel D)
+  pub order : IsPermutation candidates merged
+  pub merges : MergesRound merged before after
 
 -- The open round over this network has ended: the core stands for the outcome of all orders of its events.
 pub record EndsOver {D : ℕ} (net : Network) (before after : Core D) : Type 0 where

@@ -5,7 +5,8 @@ ghost use Rattle.event_machine.specs.Orders.{IsOutcome};
 ghost use Rattle.event_machine.specs.Pieces.{AreDoneInPieces, AreMergePieces, AreRelaxPieces, merges_of};
 
 /// However a round's relaxing and then its merging are cut into pieces, and in whatever order workers draw these and do
-/// what is in them, that is a run, and it ends in the state for which the search stands after the round.
+/// what is in them, that is a run, and it ends in the state for which the search stands after the round. The run relaxes all
+/// arcs; what the search leaves out of them is dominated.
 pub fn rounds_end_alike_for_all_pieces()
     ensures { (task : Task) (s end : SearchState) (labels arrivals : List (List Label))
         (relaxes : List (List Event)) (drawn drawn_next : List ℕ) (first second : List Event)

@@ -17,9 +17,10 @@ use front_merge::{Marks, merge_all};
 use node_front::{Deltas, FoundFronts};
 use pareto_front::ParetoFront;
 use pareto_queue::Steps;
-use relax_workers::relax_all;
+use relax_workers::relax_onward;
 use round_core::{
-    Begun, Core, arrivals_spare_settled, taken_labels_are_relevant, taken_labels_have_small_costs,
+    Begun, Core, arrivals_spare_settled, settled_labels_come_by_arcs, taken_labels_are_relevant,
+    taken_labels_have_small_costs,
 };
 use route_io::Gate;
 use route_query::{Query, SearchFault};
@@ -67,8 +68,8 @@ impl<const D: usize, F: ParetoFront<D> + Drop + Sync> Rounds<D, F> {
         })
     }
 
-    /// Ends the open round: relaxes the arcs of the labels that it has taken, and merges what they give. Where memory runs
-    /// out the search is given up.
+    /// Ends the open round: relaxes the arcs of the labels that it has taken, but for those that lead back, and merges what
+    /// they give. Where memory runs out the search is given up.
     pub(crate) fn finish<R: Threads + Sync, G: Gate>(
         mut self,
         crew: &Crew<'_, R, G>,
@@ -88,9 +89,11 @@ impl<const D: usize, F: ParetoFront<D> + Drop + Sync> Rounds<D, F> {
         prove!(graph.arcs() == weights.arcs());
         taken_labels_are_relevant();
         taken_labels_have_small_costs();
-        let taken = self.core.taken();
-        relax_all(crew, alloc, graph, weights, taken, &mut self.candidates)?;
+        settled_labels_come_by_arcs();
+        let taken = self.core.taken_labels();
+        relax_onward(crew, alloc, graph, weights, taken, &mut self.candidates)?;
         arrivals_spare_settled();
+        self.core.dominated_candidates_may_be_left_out();
         if crew.workers == 1 {
             self.merge_here(crew)
         } else {

@@ -1,9 +1,11 @@
 -- What follows for the labels of a core from the state for which it stands.
-use Rattle.std.proofs.Common.{◌≡◌, ◌↔◌, ℕ, List, [], inl, inr, refl, sym, ◌∙◌}
+use Rattle.std.proofs.Common.{◌≡◌, ◌↔◌, ℕ, ◌-◌, ◌≤◌, List, [], Option, length, inl, inr, refl, sym, ap, ◌∙◌, arith}
+use Rattle.std.specs.Option.{option_map_or}
+use Rattle.std.proofs.lemmas.Option.{slice_get_within}
 use Rattle.std.specs.Prelude.{Contains}
-use Rattle.cost_vector.proofs.Vectors.{AtMost-Dominates}
+use Rattle.cost_vector.proofs.Vectors.{AtMost-Dominates, Dominates-trans}
 use Rattle.list_laws.specs.Sets.{HasMoreThan}
-use Rattle.list_laws.proofs.OnceLaws.{alike_back, alike_through, empty_if_none}
+use Rattle.list_laws.proofs.OnceLaws.{alike_back, alike_through, empty_if_none, in_append}
 use Rattle.list_laws.proofs.SetLaws.{none_of_empty}
 use Rattle.compact_labels.specs.declared.label.CompactSpot.{CompactSpot}
 use Rattle.road_network.specs.Network.{AreSmall, IsNode}
@@ -13,13 +15,15 @@ use Rattle.road_network.proofs.WalkLaws.{leads_to_node, node_of_walk}
 use Rattle.event_machine.specs.Machine.{Task, Label, SearchState, has_arc, settled}
 use Rattle.event_machine.specs.Machine.{HasSettled as HasSettledLabel}
 use Rattle.event_machine.specs.Orders.{IsArrival, IsGiven}
-use Rattle.event_machine.proofs.Sound.{IsSound, grown_from_settled, known_is_bounded}
+use Rattle.event_machine.proofs.Sound.{IsSound, at_start, grown_from_settled, known_is_bounded}
+use Rattle.event_machine.proofs.Sound.{follows as founded_by}
 use Rattle.event_machine.proofs.Keeping.{end_has_all, sound_if_reached}
-use Rattle.pareto_front.specs.Fronts.{Entry, SparesSettled}
+use Rattle.pareto_front.specs.Fronts.{Entry, IsDominated, SparesSettled, entries}
 use Rattle.node_front.specs.NodeFronts.{front_at}
 use Rattle.path_readback.specs.Found.{Found, HasSettled}
 use Rattle.path_readback.specs.WellFound.{HasAllRelevant}
-use Rattle.round_core.specs.Cores.{Core, IsAt, as_spot}
+use Rattle.round_core.specs.Cores.{Core, IsAt, as_entry, as_spot}
+use Rattle.round_core.specs.Onward.{IsWayBack}
 
 module _ {D : ℕ} (task : Task) (core : Core D) (s : SearchState) (at : IsAt task core s) where
   sound : IsSound task s
@@ -66,6 +70,33 @@ module _ {D : ℕ} (task : Task) (core : Core D) (s : SearchState) (at : IsAt ta
   taken_at_node x there =
       let reached = (taken_is_relevant x there).best.reached in
       rw (← at.search.nodes) (node_of_walk task.network at.search.is_task.network reached.0 task.start x.node.0 x.cost.0 reached.1)
+
+  -- ---- settled labels, and the arcs by which they were reached
+
+  -- a settled label's arc is one of the network, or none
+  pub arc_of_settled : (l : Label) → Contains (front_at core.fronts l.node).settled (as_entry l) → l.arc ≤ length task.network.ends
+  arc_of_settled l there = elim (sound.founded l (inl (settled, (at.stands.settled l).1 there))) [
+    | at_start is ↦ omega (arith, ap (λ (y : Label). y.arc) is)
+    | founded_by e e_in f ↦ omega (arith, slice_get_within task.network.ends (l.arc - 1) (e.node, l.node) f.leads.ends)
+  ]
+
+  -- what a settled label gives to the node from which its own arc leads is dominated there
+  pub way_back_dominated : (l x : Label) → Contains (front_at core.fronts l.node).settled (as_entry l) → IsWayBack task.network l x
+      → IsDominated (entries (front_at core.fronts x.node)) x.cost
+  way_back_dominated l x there back = elim (sound.founded l (inl (settled, l_in))) [
+    | at_start is ↦ absurd (omega (arith, back.counted, ap (λ (y : Label). y.arc) is))
+    | founded_by e e_in f ↦
+        let node : e.node ≡ x.node = ap (λ (o : Option (ℕ × ℕ)). option_map_or (λ (p : ℕ × ℕ). p.0) o 0) (sym f.leads.ends ∙ back.ends) in
+        record {
+          by = as_entry e;
+          contains = rw (← node) ((in_append (front_at core.fronts e.node).settled (front_at core.fronts e.node).unsettled (as_entry e)).1
+              (inl ((at.stands.settled e).0 e_in)));
+          dominates = Dominates-trans e.cost l.cost x.cost (grown_from_settled task at.search.is_task s sound e l e_in f)
+              (grown_from_settled task at.search.is_task s sound l x l_in back.follows);
+        }
+  ] where
+    l_in : Contains s.settled l
+    l_in = (at.stands.settled l).1 there
 
   -- ---- what was found at the end
 

@@ -1,5 +1,6 @@
 pub mod UnsettledLemmas
 pub mod OutcomeLemmas
+pub mod OnwardLemmas
 pub mod ArrivingLemmas
 pub mod BoundsLemmas
 pub mod DeltaSpots
@@ -9,5 +10,6 @@ pub mod BarredLemmas
 pub mod BegunLemmas
 pub mod WaitingLemmas
 pub mod SettlingLemmas
+pub mod LabelLemmas
 pub mod KeptLemmas
 pub mod BeginLemmas

@@ -6,4 +6,5 @@ pub mod Begins
 pub mod Finishes
 pub mod Bounds
 pub mod Waiting
+pub mod Onward
 pub mod Kept

@@ -9,7 +9,9 @@ ghost use Rattle.pareto_front.specs.Merging.{IsMerged, IsRemoved};
 ghost use Rattle.road_network.specs.Network.{IsNode};
 ghost use Rattle.pareto_queue.specs.Queues.{Gains};
 ghost use Rattle.round_core.specs.Arriving.{AddsIfNew, WaitsAsMerged, spot_at};
+ghost use Rattle.round_core.specs.Cores.{Core as CoreTold};
 ghost use Rattle.round_core.specs.Finishes.{FinishesRound, MergesRound};
+ghost use Rattle.round_core.specs.Onward.{LeavesOutDominated};
 ghost use Rattle.round_core.specs.Unsettled.{HasUnsettled};
 ghost use Rattle.round_core.specs.Waiting.{all_waiting};
 
@@ -21,6 +23,16 @@ use node_front::{Deltas, Fronts};
 use pareto_front::ParetoFront;
 
 impl<const D: usize, F: ParetoFront<D> + Drop> Core<D, F> {
+    /// Of the candidates that the taken labels give those that an entry dominates may be left out: once the others are
+    /// merged, the search stands for the outcome of all. It does nothing.
+    pub fn dominated_candidates_may_be_left_out(&self)
+        ensures { (all some : List (LabelTold D)) (after : CoreTold D)
+            → LeavesOutDominated self.now.fronts all some → MergesRound some self.now after
+            → FinishesRound all self.now after }
+    {
+        let _kept = &self.fronts;
+    }
+
     /// Ends the open round by the deltas of the candidates that its labels gave. Where memory runs out the search is given
     /// up.
     pub fn finish(mut self, deltas: &Deltas<D>) -> Result<Core<D, F>, OutOfMemory>
@@ -35,6 +47,7 @@ impl<const D: usize, F: ParetoFront<D> + Drop> Core<D, F> {
         wait_for(&mut self.waiting, deltas.added())?;
         self.waiting.remove(deltas.removed())?;
         self.taken.clear();
+        self.labels.clear();
         Ok(self)
     }
 
@@ -47,13 +60,15 @@ impl<const D: usize, F: ParetoFront<D> + Drop> Core<D, F> {
         ensures merged { IfOk result (MergesRound candidates.now self) }
         ensures finished { IfOk result (FinishesRound candidates.now self) }
     {
+        // The spots that were taken have had their turn: their list has room for those of entries that are gone.
         arrive_all(
             &mut self.fronts,
             &mut self.waiting,
-            &mut self.removed,
+            &mut self.taken,
             candidates,
         )?;
         self.taken.clear();
+        self.labels.clear();
         Ok(self)
     }
 }

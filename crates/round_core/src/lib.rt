@@ -12,5 +12,8 @@ mod rounds;
 mod waiting;
 
 pub use begin::Begun;
-pub use laws::{arrivals_spare_settled, taken_labels_are_relevant, taken_labels_have_small_costs};
+pub use laws::{
+    arrivals_spare_settled, settled_labels_come_by_arcs, taken_labels_are_relevant,
+    taken_labels_have_small_costs,
+};
 pub use rounds::Core;

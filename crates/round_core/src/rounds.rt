@@ -7,6 +7,7 @@ ghost use Rattle.path_readback.specs.WellFound.{HasAllRelevant};
 ghost use Rattle.road_network.specs.Limits.{max_budget, max_nodes};
 ghost use Rattle.road_network.specs.Network.{IsNode};
 ghost use Rattle.round_core.specs.Cores.{IsAt, IsNewSearch, IsStartLabel};
+ghost use Rattle.round_core.specs.Onward.{AreLabelsOf};
 
 use crate::bounds::Bounds;
 use crate::finish::arrive;
@@ -21,7 +22,7 @@ use std::marker::Model;
 /// A search for the best costs from a node to another, within a limit and a budget of settled labels, round by round.
 ///
 /// A round is begun by `begin`, which settles the labels that are taken, and ended by `finish` or `finish_here` with what
-/// these give along their arcs. After `Begun::Done` it has found all.
+/// these give along their arcs, but for what an entry dominates already. After `Begun::Done` it has found all.
 #[derive(Drop)]
 pub struct Core<const D: usize, F: ParetoFront<D>> {
     pub(crate) start: NodeNo,
@@ -30,17 +31,19 @@ pub struct Core<const D: usize, F: ParetoFront<D>> {
     pub(crate) bounds: Bounds<D, F>,
     pub(crate) fronts: Fronts<D, F>,
     pub(crate) waiting: Waiting<D>,
-    /// The spots of the open round; none between rounds.
+    /// The spots of the open round; none between rounds. Candidates arrive once these aren't needed any more, and until all
+    /// have come it has room for the spots of entries that are gone.
     pub(crate) taken: Vec<CompactSpot<D>>,
+    /// The labels of these spots, with their arcs.
+    pub(crate) labels: Vec<CompactLabel<D>>,
     /// How many labels are settled.
     pub(crate) settled: usize,
-    /// Room for the spots of entries that candidates dominate.
-    pub(crate) removed: Vec<CompactSpot<D>>,
 }
 
 impl<const D: usize, F: ParetoFront<D>> Model for Core<D, F> {
     ghost use Rattle.round_core.specs.Cores.{Core};
     ghost use Rattle.round_core.specs.Kept.{IsKept};
+    ghost use Rattle.round_core.specs.Onward.{AreLabelsOf};
     ghost use Rattle.round_core.specs.Waiting.{all_waiting};
 
     ghost Value = { Core D };
@@ -56,7 +59,8 @@ impl<const D: usize, F: ParetoFront<D>> Model for Core<D, F> {
     } };
 
     ghost invariant = { λ c.
-        IsKept D c.start.0 c.target.0 c.budget c.bounds c.fronts c.waiting c.settled };
+        IsKept D c.start.0 c.target.0 c.budget c.bounds c.fronts c.waiting c.settled
+        × AreLabelsOf c.fronts c.taken.items c.labels.items };
 }
 
 impl<const D: usize, F: ParetoFront<D> + Drop> Core<D, F> {
@@ -80,9 +84,10 @@ impl<const D: usize, F: ParetoFront<D> + Drop> Core<D, F> {
     {
         let mut fronts = Fronts::new(alloc, nodes)?;
         let mut waiting = Waiting::new(alloc);
-        let mut removed = Vec::new(alloc);
+        let mut taken = Vec::new(alloc);
         let label = start_label(start);
-        arrive(&mut fronts, &mut waiting, &mut removed, &label)?;
+        arrive(&mut fronts, &mut waiting, &mut taken, &label)?;
+        taken.clear();
         Ok(Core {
             start,
             target,
@@ -90,9 +95,9 @@ impl<const D: usize, F: ParetoFront<D> + Drop> Core<D, F> {
             bounds: Bounds::new(alloc, limit),
             fronts,
             waiting,
-            taken: Vec::new(alloc),
+            taken,
+            labels: Vec::new(alloc),
             settled: 0,
-            removed,
         })
     }
 
@@ -108,6 +113,13 @@ impl<const D: usize, F: ParetoFront<D> + Drop> Core<D, F> {
         ensures { result.now ≡ self.now.taken }
     {
         &self.taken
+    }
+
+    /// The labels that the open round has taken, in the order of their spots.
+    pub fn taken_labels(&self) -> &[CompactLabel<D>]
+        ensures { AreLabelsOf self.now.fronts self.now.taken result.now }
+    {
+        &self.labels
     }
 
     /// What was found, once nothing waits and no round is open. It takes no memory.

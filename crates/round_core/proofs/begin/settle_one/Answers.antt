@@ -14,7 +14,7 @@ tighten-requires g c =
 pub returns-then-eq-clause-bounds_are : goal.returns-then-eq-clause-bounds_are
 returns-then-eq-clause-bounds_are g c =
     let same : c.args.spot.now.node.0 ≡ c.args.target.0 = grind (arith, nat_tests) in
-    bounds_with (rw same at c.settle.ensures.settled) (rw same at c.requires.unsettled) c.args.bounds.now c.tighten.new.self c.requires.bounds_are
+    bounds_with (rw same at c.settle-arc.ensures.settled) (rw same at c.requires.unsettled) c.args.bounds.now c.tighten.new.self c.requires.bounds_are
     c.tighten.ensures.costs
 
 pub returns-then-eq-clause-news : goal.returns-then-eq-clause-news
@@ -23,4 +23,4 @@ returns-then-eq-clause-news g c = news_with c.args.spot.now.cost c.tighten.ensur
 pub returns-else-eq-clause-bounds_are : goal.returns-else-eq-clause-bounds_are
 returns-else-eq-clause-bounds_are g c =
     let other : c.args.target.0 ≢ c.args.spot.now.node.0 = grind (arith, nat_tests) in
-    rw (c.settle.ensures.elsewhere.others c.args.target.0 other) c.requires.bounds_are
+    rw (c.settle-arc.ensures.elsewhere.others c.args.target.0 other) c.requires.bounds_are

@@ -1,5 +1,5 @@
 use Rattle.std.proofs.Common.{rules}
-use Rattle.pareto_search.proofs.EndLemmas.{ends_by_deltas}
+use Rattle.std.proofs.lemmas.List.Sorted.{IsPermutation-refl}
 use Rattle.pareto_search.proofs.rounds.Rounds.merge_apart.Goals as goal
 
 pub merge_all-requires-after_bounds : goal.merge_all-requires-after_bounds
@@ -7,4 +7,8 @@ merge_all-requires-after_bounds g c κs within =
     rw (c.fronts-fronts.ensures) (search rules, (search rules, (search rules, (c.requires.at_least_one, (c.requires.at_most_64, (c.requires.four, (c.requires.nodes, c.requires.spares)))))))
 
 pub returns : goal.returns
-returns g c = ends_by_deltas _ _ _ _ (rw c.fronts-fronts.ensures at c.in_ok-merge_all.ensures.deltas) c.in_ok-core.ensures.merged c.in_ok-core.ensures.finished
+returns g c = record {
+  merged = c.args.self.candidates.items;
+  order = IsPermutation-refl _;
+  merges = c.in_ok-core.ensures.merged _ (rw c.fronts-fronts.ensures at c.in_ok-merge_all.ensures.deltas);
+}

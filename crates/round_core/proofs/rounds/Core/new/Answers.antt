@@ -8,6 +8,7 @@ use Rattle.road_network.specs.Network.{IsNode}
 use Rattle.pareto_front.specs.Fronts.{Entry, Front, IsCovered, entries}
 use Rattle.node_front.specs.NodeFronts.{front_at}
 use Rattle.round_core.specs.Waiting.{all_waiting}
+use Rattle.round_core.proofs.LabelLemmas.{none_settled}
 use Rattle.round_core.proofs.StartLemmas.{HasOne, at_start, kept_at_start, nothing_waits, one_came}
 use Rattle.round_core.proofs.rounds.Core.new.Goals as goal
 
@@ -33,9 +34,11 @@ one g c =
 pub invariant_of-result : goal.invariant_of-result
 invariant_of-result g c =
     let came = c.in_ok-arrive.ensures in
-    let nodes = came.elsewhere.nodes ∙ c.in_ok-fronts.ensures.nodes in
-    kept_at_start (one g c) c.requires.two c.requires.four (rw nodes c.requires.start) (rw nodes c.requires.target) c.requires.budget c.new-2.ensures.front
-    (none_of_empty c.arrive.new.waiting.queued (came.queued ∙ c.new-waiting.ensures.queued))
+    let nodes = came.elsewhere.nodes ∙ c.in_ok-fronts.ensures.nodes in (
+      kept_at_start (one g c) c.requires.two c.requires.four (rw nodes c.requires.start) (rw nodes c.requires.target) c.requires.budget c.new-2.ensures.front
+          (none_of_empty c.arrive.new.waiting.queued (came.queued ∙ c.new-waiting.ensures.queued)),
+      none_settled _ c.clear.ensures.items c.new-3.ensures.items,
+    )
 
 pub returns : goal.returns
 returns g c = record {
@@ -44,6 +47,6 @@ returns g c = record {
   target_is = refl;
   limit_is = c.new-2.ensures.limit;
   budget_is = refl;
-  none_taken = c.new-3.ensures.items;
-  stands = at_start (one g c) c.start_label-label.ensures c.new-3.ensures.items;
+  none_taken = c.clear.ensures.items;
+  stands = at_start (one g c) c.start_label-label.ensures c.clear.ensures.items;
 }

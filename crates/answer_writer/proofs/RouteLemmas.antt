@@ -13,12 +13,11 @@ use Rattle.road_network.specs.Answers.{IsAnswer, Route}
 use Rattle.road_network.proofs.AnswerLaws.{one_list}
 use Rattle.road_network.proofs.BackwardLaws.{one_backward_least}
 use Rattle.list_laws.proofs.Members.{all_got}
-use Rattle.path_readback.specs.Found.{Found, IsFound}
+use Rattle.road_network.specs.Found.{Found, IsFound, IsOf}
 use Rattle.path_readback.specs.WellFound.{IsWellFound}
-use Rattle.answer_writer.specs.Replies.{and_arc, and_number, cost_line, head_line, limit_line, walk_line}
-use Rattle.answer_writer.specs.declared.form.Form.{Form}
-use Rattle.answer_writer.specs.declared.form.Form.TheVariants.{Costs, Walks, Within}
-use Rattle.answer_writer.specs.Forms.{first_line, limit_of, line_of, reply_of}
+use Rattle.road_network.specs.declared.query.AnswerKind.{AnswerKind}
+use Rattle.road_network.specs.declared.query.Query.{Query}
+use Rattle.answer_writer.specs.Replies.{and_arc, and_number, cost_line, first_line, line_of, reply_of, walk_line}
 use Rattle.answer_writer.specs.Pages.{Holds}
 use Rattle.answer_writer.specs.Pieces.{walk_text}
 use Rattle.answer_writer.proofs.GathersLemmas.{HoldsFirst, more_held, cut_at}
@@ -43,14 +42,6 @@ route_of_cost (r ∷ rest) (suc i) c at = route_of_cost rest i c at
 lines_of_costs : (routes : List Route) → flat_map (λ r. cost_line r.cost) routes ≡ flat_map cost_line (map (λ r. r.cost) routes)
 lines_of_costs [] = refl
 lines_of_costs (r ∷ rest) = ap (λ t. cost_line r.cost ++ t) (lines_of_costs rest)
-
--- a reply is its first line and the lines of the routes
-parts_of_reply : (form : Form) (epoch s t : ℕ) (routes : List Route) (count : ℕ) → length routes ≡ count
-    → first_line form epoch s t count ++ flat_map (line_of form) routes ≡ reply_of form epoch s t routes
-parts_of_reply Costs epoch s t routes count e =
-    ap₂ (λ n lines. head_line epoch s t n ++ lines) (sym e ∙ sym (length-map routes (λ r. r.cost))) (lines_of_costs routes)
-parts_of_reply Walks epoch s t routes count e = ap (λ n. head_line epoch s t n ++ flat_map walk_line routes) (sym e)
-parts_of_reply (Within limit) epoch s t routes count e = ap (λ n. limit_line epoch s t limit n ++ flat_map walk_line routes) (sym e)
 
 module _ (net : Network) (limit : List (Option ℕ)) (f : Found) (found : IsFound f) (well : IsWellFound net limit f) (routes : List Route)
     (answer : IsAnswer net f.start f.target limit routes) where
@@ -101,9 +92,15 @@ module _ (net : Network) (limit : List (Option ℕ)) (f : Found) (found : IsFoun
         old mid new before between held fault (subst (λ t. Sends {T = Unit {0}} mid new (between ++ t) (Err fault)) text line)
 
 -- the reply of an answer to which what was found is well found, put on an empty page
-pub reply_in_parts : (net : Network) (f : Found) (form : Form) (epoch : ℕ) (page : List ℕ) → page ≡ [] → IsFound f
-    → IsWellFound net (limit_of net.criteria form) f → (routes : List Route) → IsAnswer net f.start f.target (limit_of net.criteria form) routes
-    → page ++ (first_line form epoch f.start f.target (length f.costs) ++ flat_map (line_of form) routes) ≡ reply_of form epoch f.start f.target routes
-reply_in_parts net f form epoch page empty found well routes answer =
-    ap (λ p. p ++ (first_line form epoch f.start f.target (length f.costs) ++ flat_map (line_of form) routes)) empty
-    ∙ parts_of_reply form epoch f.start f.target routes (length f.costs) (same_count net (limit_of net.criteria form) f found well routes answer)
+pub reply_in_parts : (net : Network) (f : Found) (kind : AnswerKind) (epoch : ℕ) (query : Query) (page : List ℕ) → page ≡ [] → IsFound f
+    → (limit : List (Option ℕ)) → IsWellFound net limit f → (routes : List Route) → IsAnswer net f.start f.target limit routes
+    → page ++ (first_line epoch query (length f.costs) ++ flat_map (line_of kind) routes) ≡ reply_of kind epoch query routes
+reply_in_parts net f kind epoch query page empty found limit well routes answer =
+    ap (λ p. p ++ (first_line epoch query (length f.costs) ++ flat_map (line_of kind) routes)) empty
+    ∙ ap (λ n. first_line epoch query n ++ flat_map (line_of kind) routes) (sym (same_count net limit f found well routes answer))
+
+-- an answer between the ends of a query is one between those of what was found for it
+pub answer_of_found : (net : Network) (query : Query) (f : Found) (limit : List (Option ℕ)) (routes : List Route) → IsOf net query f
+    → IsAnswer net query.from query.to limit routes → IsAnswer net f.start f.target limit routes
+answer_of_found net query f limit routes of answer =
+    subst (λ s. IsAnswer net s f.target limit routes) (sym of.start) (subst (λ t. IsAnswer net query.from t limit routes) (sym of.target) answer)

@@ -1,4 +1,3 @@
 pub mod Replies
-pub mod Forms
 pub mod Pages
 pub mod Pieces

@@ -4,6 +4,9 @@ use Rattle.std.specs.Prelude.{ℕ, List, [], ◌∷◌, ◌++◌, Option, Some, 
 use Rattle.std.specs.List.{flat_map}
 use Rattle.cost_vector.specs.declared.label.ArcNo.{ArcNo}
 use Rattle.road_network.specs.Answers.{Route}
+use Rattle.road_network.specs.declared.query.AnswerKind.{AnswerKind}
+use Rattle.road_network.specs.declared.query.AnswerKind.TheVariants.{Costs, Walks}
+use Rattle.road_network.specs.declared.query.Query.{Query}
 
 -- the end of a line
 abbrev pub end_line : List ℕ
@@ -39,17 +42,23 @@ abbrev pub limit_line : ℕ → ℕ → ℕ → List (Option ℕ) → ℕ → Li
 limit_line epoch s t limit count =
     codes "l" ++ and_number epoch ++ and_number s ++ and_number t ++ flat_map and_bound limit ++ and_number count ++ end_line
 
--- that line, and then a line for each cost
-abbrev pub costs_reply : ℕ → ℕ → ℕ → List (List ℕ) → List ℕ
-costs_reply epoch s t costs = head_line epoch s t (length costs) ++ flat_map cost_line costs
+-- its first line, which has the limit where there is one
+abbrev pub first_line_within : ℕ → ℕ → ℕ → Option (List (Option ℕ)) → ℕ → List ℕ
+first_line_within epoch s t None count = head_line epoch s t count
+first_line_within epoch s t (Some limit) count = limit_line epoch s t limit count
 
--- that line, and then a line for each cost with its walk
-abbrev pub walks_reply : ℕ → ℕ → ℕ → List Route → List ℕ
-walks_reply epoch s t routes = head_line epoch s t (length routes) ++ flat_map walk_line routes
+-- the first line of the answer to a query
+abbrev pub first_line : ℕ → Query → ℕ → List ℕ
+first_line epoch query count = first_line_within epoch query.from query.to query.limit count
 
--- the same within a limit
-abbrev pub within_reply : ℕ → ℕ → ℕ → List (Option ℕ) → List Route → List ℕ
-within_reply epoch s t limit routes = limit_line epoch s t limit (length routes) ++ flat_map walk_line routes
+-- the line of each best cost
+abbrev pub line_of : AnswerKind → Route → List ℕ
+line_of Costs r = cost_line r.cost
+line_of Walks r = walk_line r
+
+-- the answer to a query: its first line, and then a line for each best cost
+abbrev pub reply_of : AnswerKind → ℕ → Query → List Route → List ℕ
+reply_of kind epoch query routes = first_line epoch query (length routes) ++ flat_map (line_of kind) routes
 
 -- `x K S T` and why a query is refused
 abbrev pub refusal : ℕ → ℕ → ℕ → List ℕ → List ℕ

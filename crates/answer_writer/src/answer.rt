@@ -1,22 +1,22 @@
 //! The text of an answer.
 ghost use Rattle.std.specs.Prelude.{◌≡◌, ◌≤◌, ℕ, List, Option, length, map};
 ghost use Rattle.std.specs.List.{flat_map};
-ghost use Rattle.arc_graph.specs.Graph.{Match, network};
 ghost use Rattle.road_network.specs.Answers.{IsAnswer, Route};
-ghost use Rattle.path_readback.specs.Found.{IsFound, longest_in};
+ghost use Rattle.road_network.specs.Found.{IsFound, IsOf, longest_in};
+ghost use Rattle.road_network.specs.Queries.{limit_of};
 ghost use Rattle.path_readback.specs.WellFound.{IsWellFound};
 ghost use Rattle.route_io.specs.Sinks.{Sends};
-ghost use Rattle.answer_writer.specs.Forms.{first_line, limit_of, line_of, reply_of};
+ghost use Rattle.answer_writer.specs.Replies.{first_line, line_of, reply_of};
 ghost use Rattle.answer_writer.specs.Pages.{Gathers};
 ghost use Rattle.answer_writer.specs.Pieces.{walk_text};
 ghost use Rattle.answer_writer.specs.Replies.{cost_line, walk_line};
 
-use crate::form::Form;
 use crate::page::Page;
 use crate::piece::Piece;
-use arc_graph::{Graph, Weights};
+use arc_graph::Network;
 use cost_vector::{ArcNo, Cost};
-use path_readback::{Found, Room, walk};
+use path_readback::{Room, walk};
+use road_network::{AnswerKind, Found, Query};
 use route_io::{Sink, WriteFault};
 
 /// Sends the reply of an answer at an epoch, or a part of it from the front and answers the sink's fault.
@@ -25,68 +25,64 @@ use route_io::{Sink, WriteFault};
 pub fn put_answer<K: Sink, F: Found>(
     sink: &mut K,
     epoch: u32,
-    graph: &Graph,
-    weights: &Weights,
+    kind: AnswerKind,
+    query: &Query,
+    network: &Network<'_>,
     found: &F,
-    form: &Form,
     room: &mut Room,
 ) -> Result<(), WriteFault>
-    requires weights { Match graph.now weights.now }
-    requires nodes { (F.state found.now).nodes ≡ graph.now.nodes }
-    requires criteria { (F.state found.now).criteria ≡ graph.now.criteria }
-    requires well_found { IsWellFound (network graph.now weights.now)
-        (limit_of graph.now.criteria form.now) (F.state found.now) }
+    requires of_query { IsOf network.now query.now (F.state found.now) }
+    requires well_found { IsWellFound network.now (limit_of network.now.criteria query.now)
+        (F.state found.now) }
     requires room { longest_in (F.state found.now) ≤ room.old.holds }
-    ensures { (routes : List Route) → IsAnswer (network graph.now weights.now)
-        (F.state found.now).start (F.state found.now).target
-        (limit_of graph.now.criteria form.now) routes
-        → Sends (K.state sink.old) (K.state sink.new) (reply_of form.now epoch
-        (F.state found.now).start (F.state found.now).target routes) result }
+    ensures { (routes : List Route) → IsAnswer network.now query.now.from query.now.to
+        (limit_of network.now.criteria query.now) routes
+        → Sends (K.state sink.old) (K.state sink.new) (reply_of kind epoch query.now routes)
+        result }
 {
+    let count = found.count();
     let mut page = Page::new();
-    page.put_first_line(sink, epoch, found, form)?;
-    page.put_lines(sink, graph, weights, found, form, room)?;
+    page.put_first_line(sink, epoch, query, count)?;
+    page.put_lines(sink, kind, network, found, room)?;
     page.send(sink)
 }
 
 impl Page {
-    /// Puts the first line of an answer.
-    fn put_first_line<K: Sink, F: Found>(
+    /// Puts the first line of an answer that has so many costs.
+    fn put_first_line<K: Sink>(
         &mut self,
         sink: &mut K,
         epoch: u32,
-        found: &F,
-        form: &Form,
+        query: &Query,
+        count: usize,
     ) -> Result<(), WriteFault>
-        ensures found { IsFound (F.state found.now) }
-        ensures line { Gathers (K.state sink.old) (K.state sink.new) self.old self.new
-            (first_line form.now epoch (F.state found.now).start (F.state found.now).target
-            (length (F.state found.now).costs)) result }
+        ensures { Gathers (K.state sink.old) (K.state sink.new) self.old self.new
+            (first_line epoch query.now count) result }
     {
         use Piece::{Bounds, Number, Text};
         let epoch = u64::from(epoch);
-        let start = u64::from(found.start().0);
-        let target = u64::from(found.target().0);
-        let count = found.count() as u64;
-        match form {
-            Form::Costs | Form::Walks => self.put_pieces(
+        let from = u64::from(query.from);
+        let to = u64::from(query.to);
+        let count = count as u64;
+        match &query.limit {
+            None => self.put_pieces(
                 sink,
                 &[
                     Text("r"),
                     Number(epoch),
-                    Number(start),
-                    Number(target),
+                    Number(from),
+                    Number(to),
                     Number(count),
                     Text("\n"),
                 ],
             ),
-            Form::Within { limit } => self.put_pieces(
+            Some(limit) => self.put_pieces(
                 sink,
                 &[
                     Text("l"),
                     Number(epoch),
-                    Number(start),
-                    Number(target),
+                    Number(from),
+                    Number(to),
                     Bounds(limit),
                     Number(count),
                     Text("\n"),
@@ -99,30 +95,26 @@ impl Page {
     fn put_lines<K: Sink, F: Found>(
         &mut self,
         sink: &mut K,
-        graph: &Graph,
-        weights: &Weights,
+        kind: AnswerKind,
+        network: &Network<'_>,
         found: &F,
-        form: &Form,
         room: &mut Room,
     ) -> Result<(), WriteFault>
-        requires weights { Match graph.now weights.now }
-        requires nodes { (F.state found.now).nodes ≡ graph.now.nodes }
-        requires criteria { (F.state found.now).criteria ≡ graph.now.criteria }
-        requires well_found { IsWellFound (network graph.now weights.now)
-            (limit_of graph.now.criteria form.now) (F.state found.now) }
+        requires nodes { (F.state found.now).nodes ≡ network.now.nodes }
+        requires criteria { (F.state found.now).criteria ≡ network.now.criteria }
+        requires well_found { (limit : List (Option ℕ))
+            × IsWellFound network.now limit (F.state found.now) }
         requires found { IsFound (F.state found.now) }
         requires room { longest_in (F.state found.now) ≤ room.old.holds }
-        ensures { (routes : List Route) → IsAnswer (network graph.now weights.now)
-            (F.state found.now).start (F.state found.now).target
-            (limit_of graph.now.criteria form.now) routes
+        ensures { (limit : List (Option ℕ)) (routes : List Route)
+            → IsWellFound network.now limit (F.state found.now)
+            → IsAnswer network.now (F.state found.now).start (F.state found.now).target limit routes
             → Gathers (K.state sink.old) (K.state sink.new) self.old self.new
-            (flat_map (line_of form.now) routes) result }
+            (flat_map (line_of kind) routes) result }
     {
-        match form {
-            Form::Costs => self.put_costs(sink, found),
-            Form::Walks | Form::Within { .. } => {
-                self.put_walks(sink, graph, weights, found, room)
-            }
+        match kind {
+            AnswerKind::Costs => self.put_costs(sink, found),
+            AnswerKind::Walks => self.put_walks(sink, network, found, room),
         }
     }
 
@@ -152,26 +144,23 @@ impl Page {
     fn put_walks<K: Sink, F: Found>(
         &mut self,
         sink: &mut K,
-        graph: &Graph,
-        weights: &Weights,
+        network: &Network<'_>,
         found: &F,
         room: &mut Room,
     ) -> Result<(), WriteFault>
-        requires weights { Match graph.now weights.now }
-        requires nodes { (F.state found.now).nodes ≡ graph.now.nodes }
-        requires criteria { (F.state found.now).criteria ≡ graph.now.criteria }
+        requires nodes { (F.state found.now).nodes ≡ network.now.nodes }
+        requires criteria { (F.state found.now).criteria ≡ network.now.criteria }
         requires well_found { (limit : List (Option ℕ))
-            × IsWellFound (network graph.now weights.now) limit (F.state found.now) }
+            × IsWellFound network.now limit (F.state found.now) }
         requires room { longest_in (F.state found.now) ≤ room.old.holds }
         ensures { (limit : List (Option ℕ)) (routes : List Route)
-            → IsWellFound (network graph.now weights.now) limit (F.state found.now)
-            → IsAnswer (network graph.now weights.now)
-            (F.state found.now).start (F.state found.now).target limit routes
+            → IsWellFound network.now limit (F.state found.now)
+            → IsAnswer network.now (F.state found.now).start (F.state found.now).target limit routes
             → Gathers (K.state sink.old) (K.state sink.new) self.old self.new
             (flat_map walk_line routes) result }
     {
         for i in 0..found.count() {
-            walk(graph, weights, found, i, room);
+            walk(network, found, i, room);
             let cost = found.cost(i);
             self.put_walk(sink, &cost, room.arcs())?;
         }

@@ -2,14 +2,12 @@
 #![tactic(auto)]
 
 mod answer;
-mod form;
 mod line;
 mod page;
 mod piece;
 mod refusal;
 
 pub use answer::put_answer;
-pub use form::Form;
 pub use line::put_line;
 pub use piece::Piece;
 pub use refusal::put_refusal;

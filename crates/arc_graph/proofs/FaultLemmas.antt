@@ -1,8 +1,8 @@
 -- Which fault is told.
 use Rattle.std.proofs.Common.{◌≡◌, ℕ, true, false, List, Option, Some, None, Bool, cond, nat_lt, MatchOption, inl, inr, arith, sym, subst, ap, refl, ◌∙◌}
 use Rattle.std.proofs.lemmas.Bool.{ltb-true, ltb-false, cases_order}
-use Rattle.arc_graph.specs.declared.join.JoinFault.{JoinFault}
-use Rattle.arc_graph.specs.declared.join.JoinFault.TheVariants.{Sizes, Ends, ZeroArc, OutOfMemory}
+use Rattle.arc_graph.specs.declared.join.Disagreement.{Disagreement}
+use Rattle.arc_graph.specs.declared.join.Disagreement.TheVariants.{Sizes, Ends, ZeroArc}
 use Rattle.arc_graph.specs.declared.join.OtherEnds.{OtherEnds}
 use Rattle.arc_graph.specs.Files.{ArcFile}
 use Rattle.arc_graph.specs.Agreement.{Agree, AgreeInSize, HasFault, DiffersInEnds, IsZeroArc}
@@ -51,11 +51,10 @@ fault_is_least files (Some e) (Some arc) sizes ends zeros = by_test (nat_lt arc 
   )
 
 -- files that agree have no fault
-pub none_of_agreeing : (files : List ArcFile) (e : JoinFault) → Agree files → ¬ HasFault files e
+pub none_of_agreeing : (files : List ArcFile) (e : Disagreement) → Agree files → ¬ HasFault files e
 none_of_agreeing files (Sizes f) agree has = agree.sizes f has.holds
 none_of_agreeing files (Ends a f) agree has = agree.arcs a (inl (f, has.2.holds))
 none_of_agreeing files (ZeroArc a) agree has = agree.arcs a (inr has.3)
-none_of_agreeing files OutOfMemory agree has = absurd has
 
 least_is_one : (P : ℕ → Type 0) (m n : ℕ) → IsLeastWith P m → IsLeastWith P n → m ≡ n
 least_is_one P m n least other = elim (cases_order m n) [
@@ -64,7 +63,7 @@ least_is_one P m n least other = elim (cases_order m n) [
 ]
 
 -- and others have one at most
-pub one_fault : (files : List ArcFile) (e d : JoinFault) → HasFault files e → HasFault files d → e ≡ d
+pub one_fault : (files : List ArcFile) (e d : Disagreement) → HasFault files e → HasFault files d → e ≡ d
 one_fault files (Sizes f) (Sizes g) x y = ap Sizes (least_is_one _ f g x y)
 one_fault files (Sizes f) (Ends b g) x y = absurd (y.0 f x.holds)
 one_fault files (Sizes f) (ZeroArc b) x y = absurd (y.0 f x.holds)
@@ -77,5 +76,3 @@ one_fault files (Ends a f) (ZeroArc b) x y =
 one_fault files (ZeroArc a) (Sizes g) x y = absurd (x.0 g y.holds)
 one_fault files (ZeroArc a) (Ends b g) x y = absurd (x.2 g (subst (λ n. DiffersInEnds files n g) (sym (least_is_one _ a b x.1 y.1)) y.2.holds))
 one_fault files (ZeroArc a) (ZeroArc b) x y = ap ZeroArc (least_is_one _ a b x.1 y.1)
-one_fault files OutOfMemory d x y = absurd x
-one_fault files e OutOfMemory x y = absurd y

@@ -9,14 +9,14 @@ use Rattle.arc_graph.specs.declared.file.ArcLine.{ArcLine}
 use Rattle.arc_graph.specs.Files.{ArcFile, ends_of}
 use Rattle.arc_graph.specs.Agreement.{Agree, joined, vector_at}
 use Rattle.arc_graph.specs.Joiner.{Joiner, IsJoiner}
-use Rattle.arc_graph.specs.StandsFor.{StandsFor}
+use Rattle.arc_graph.specs.JoinerHolds.{JoinerHolds}
 use Rattle.road_network.specs.Network.{IsNetwork}
 use Rattle.arc_graph.specs.Stored.{is_zero, state_in, states_of}
 use Rattle.arc_graph.proofs.Places.{states_in}
 use Rattle.arc_graph.proofs.ZeroLemmas.{zero_at}
 
 -- the places of an arc that isn't all zero say its vector
-state_joined : (j : Joiner) (first : ArcFile) (others : List ArcFile) (place : ℕ) → IsJoiner j → StandsFor j (first ∷ others) → Agree (first ∷ others)
+state_joined : (j : Joiner) (first : ArcFile) (others : List ArcFile) (place : ℕ) → IsJoiner j → JoinerHolds j (first ∷ others) → Agree (first ∷ others)
     → place < length j.ends → state_in j.begun (get_or j.vectors place []) ≡ Some (vector_at (first ∷ others) place)
 state_joined j first others place kept stands agree within =
     let v = get_or j.vectors place [] in
@@ -26,7 +26,7 @@ state_joined j first others place kept stands agree within =
     ] in
     ap (λ t. cond t None (Some (take j.begun v))) test ∙ ap Some (stands.weights place within)
 
-states_joined : (j : Joiner) (first : ArcFile) (others : List ArcFile) → IsJoiner j → StandsFor j (first ∷ others) → Agree (first ∷ others)
+states_joined : (j : Joiner) (first : ArcFile) (others : List ArcFile) → IsJoiner j → JoinerHolds j (first ∷ others) → Agree (first ∷ others)
     → states_of j.begun j.vectors ≡ map (λ (p : ℕ × ArcLine). Some (vector_at (first ∷ others) p.0)) (enumerate_from 0 first.arcs)
 states_joined j first others kept stands agree =
     let state_of_arc : ℕ × ArcLine → Option (List ℕ) = λ p. Some (vector_at (first ∷ others) p.0) in
@@ -44,7 +44,7 @@ states_joined j first others kept stands agree =
     ∙ sym (get_or-map state_of_arc arcs k (0, any) d (omega (arith, kept.matched))))
 
 -- what a joiner keeps of files that agree is their network
-pub network_joined : (j : Joiner) (files : List ArcFile) → IsJoiner j → 1 ≤ j.begun → StandsFor j files → Agree files
+pub network_joined : (j : Joiner) (files : List ArcFile) → IsJoiner j → 1 ≤ j.begun → JoinerHolds j files → Agree files
     → record { nodes = j.nodes; ends = j.ends; criteria = j.begun; states = states_of j.begun j.vectors } ≡ joined files
 network_joined j [] kept some stands agree = absurd (omega (arith, stands.begun))
 network_joined j (first ∷ others) kept some stands agree =

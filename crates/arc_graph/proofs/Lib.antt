@@ -4,7 +4,7 @@ pub mod OtherEndsLemmas
 pub mod SizeLemmas
 pub mod WeightLemmas
 pub mod EndsLemmas
-pub mod StandingLemmas
+pub mod JoinerHoldsLemmas
 pub mod FaultLemmas
 pub mod ZeroLemmas
 pub mod JoinedLemmas

@@ -7,7 +7,8 @@ use Rattle.std.proofs.lemmas.List.Elements.{All-nil, All-push, All-take}
 use Rattle.std.proofs.lemmas.Option.{slice_get_within}
 use Rattle.list_laws.proofs.Gets.{get_before, get_in_push}
 use Rattle.arc_graph.specs.declared.change.Change.{Change}
-use Rattle.arc_graph.specs.History.{HistoryEntry, History, IsChange, IsHistory, IsOperator, IsPublished, Operator, closed_history, ends_closed, is_closed, max_epoch, max_pending, number_after, sets, sets_of, with_published}
+use Rattle.arc_graph.specs.History.{HistoryEntry, History, IsChange, IsHistory, IsOperator, IsPublished, Operator, closed_history, ends_closed, is_closed, max_pending, number_after, sets, sets_of, with_published}
+use Rattle.road_network.specs.Limits.{max_epoch}
 use Rattle.arc_graph.specs.History.HistoryEntry.{Changes, Closed}
 use Rattle.arc_graph.proofs.HistoryLemmas.{sets_of_both, sets_with_set, sets_closed, count_with_set, ends_with}
 

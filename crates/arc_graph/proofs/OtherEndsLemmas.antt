@@ -32,18 +32,18 @@ pair_if D E a f N M to back adds = record {
   above = adds.above;
 }
 
-pair_kept : (D E : ℕ → ℕ → Type 0) (N : Type 0) (here told : OtherEnds) → AddsPair D E here.arc here.file N → told.arc ≤ here.arc
-    → AreLeastIfAny D (Some told) → AreLeastIfAny E (Some told)
-pair_kept D E N here told adds up_to least = (
+pair_kept : (D E : ℕ → ℕ → Type 0) (N : Type 0) (here known : OtherEnds) → AddsPair D E here.arc here.file N → known.arc ≤ here.arc
+    → AreLeastIfAny D (Some known) → AreLeastIfAny E (Some known)
+pair_kept D E N here known adds up_to least = (
   record {
-    holds = (least.0.holds.0, adds.kept told.arc least.0.holds.0 least.0.holds.1);
+    holds = (least.0.holds.0, adds.kept known.arc least.0.holds.0 least.0.holds.1);
     none_below = λ x below e. elim (adds.only x e.0 e.1) [ inl d ↦ least.0.none_below x below (e.0, d) | inr new ↦ omega (arith, new.0) ];
   },
   record {
-    holds = adds.kept told.arc told.file least.1.holds;
-    none_below = λ y below e. elim (adds.only told.arc y e) [
+    holds = adds.kept known.arc known.file least.1.holds;
+    none_below = λ y below e. elim (adds.only known.arc y e) [
       | inl d ↦ least.1.none_below y below d
-      | inr new ↦ omega (arith, new.1, adds.above told.file (subst (λ x. D x told.file) new.0 least.1.holds))
+      | inr new ↦ omega (arith, new.1, adds.above known.file (subst (λ x. D x known.file) new.0 least.1.holds))
     ];
   },
 )
@@ -66,10 +66,10 @@ pub pair_earlier : (D E : ℕ → ℕ → Type 0) (N : Type 0) (o : Option Other
     → IsEarlier o here e → AreLeastIfAny D o → AreLeastIfAny E (Some e)
 pair_earlier D E N None here e adds differs is none =
     subst (λ x. AreLeastIfAny E (Some x)) (sym is) (pair_added D E N here adds differs (λ x y up_to. none x y))
-pair_earlier D E N (Some told) here e adds differs is least = elim (cases_lt here.arc told.arc) [
+pair_earlier D E N (Some known) here e adds differs is least = elim (cases_lt here.arc known.arc) [
   | inl before ↦
       subst (λ x. AreLeastIfAny E (Some x)) (sym (is.1 before)) (pair_added D E N here adds differs (λ x y up_to d. least.0.none_below x (omega arith) (y, d)))
-  | inr after ↦ subst (λ x. AreLeastIfAny E (Some x)) (sym (is.0 after)) (pair_kept D E N here told adds after least)
+  | inr after ↦ subst (λ x. AreLeastIfAny E (Some x)) (sym (is.0 after)) (pair_kept D E N here known adds after least)
 ]
 
 -- where nothing is added, the least stays

@@ -66,7 +66,7 @@ states_in criteria vectors stored = record {
 }
 
 -- what holds of each vector holds of an arc's
-pub holds_of_state : (P : List ℕ → Type 0) (w : Weights) (a : ArcNo) → All (λ s. IfSome s P) w.states → IfSome (arc_state w a) P
+pub holds_of_state : (P : List ℕ → Type 0) (w : Weights) (a : ArcNo) → All (λ s. IfSome s P) w.states → IfSome (arc_state w.states a) P
 holds_of_state P w a all = by_state (slice_get w.states (a.0 - 1)) refl where
   by_state : (o : Option (Option (List ℕ))) → slice_get w.states (a.0 - 1) ≡ o → IfSome (option_and_then (λ s. s) o) P
   by_state None is = tt
@@ -76,11 +76,11 @@ holds_of_state P w a all = by_state (slice_get w.states (a.0 - 1)) refl where
 pub state_by_places : (criteria : ℕ) (vectors : List (List ℕ)) (w : Weights) (a : ArcNo) (places : List ℕ) (t : Bool)
     → record { criteria = criteria; states = states_of criteria vectors } ≡ w → 1 ≤ a.0 → a.0 ≤ length w.states
     → places ≡ get_or vectors (a.0 - 1) places → pointwise nat_eq places (replicate 4 0) ≡ t
-    → arc_state w a ≡ cond t None (Some (take criteria places))
+    → arc_state w.states a ≡ cond t None (Some (take criteria places))
 state_by_places criteria vectors w a places t view counted there at test =
     let same : length w.states ≡ length (states_of criteria vectors) = ap (λ (v : Weights). length v.states) (sym view) in
     let within : a.0 - 1 < length vectors = omega (arith, same, length-map vectors (state_in criteria)) in
-    ap (λ v. arc_state v a) (sym view)
+    ap (λ v. arc_state v.states a) (sym view)
     ∙ ap (option_and_then (λ s. s)) (slice_get-map (state_in criteria) vectors (a.0 - 1))
     ∙ ap (λ o. option_and_then (λ s. s) (option_map (state_in criteria) o)) (slice_get-get_or vectors (a.0 - 1) places within)
     ∙ ap (state_in criteria) (sym at)

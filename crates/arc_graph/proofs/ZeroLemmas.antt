@@ -18,7 +18,7 @@ use Rattle.arc_graph.specs.Files.{ArcFile, size_of, ends_of}
 use Rattle.arc_graph.specs.Agreement.{AgreeInSize, IsZeroArc, vector_at, weight_at}
 use Rattle.arc_graph.specs.Joiner.{Joiner, IsJoiner}
 use Rattle.list_laws.specs.Least.{IsLeastWith}
-use Rattle.arc_graph.specs.StandsFor.{StandsFor}
+use Rattle.arc_graph.specs.JoinerHolds.{JoinerHolds}
 use Rattle.arc_graph.specs.Stored.{IsStoredState, is_zero}
 use Rattle.arc_graph.proofs.Places.{zero_decides, sum_front}
 
@@ -71,7 +71,7 @@ same_arcs first others sizes i f at =
     ]
 
 -- at each place of the first file the test tells whether the arc has only zero weights
-pub zero_at : (j : Joiner) (first : ArcFile) (others : List ArcFile) (place : ℕ) → IsJoiner j → StandsFor j (first ∷ others) → AgreeInSize (first ∷ others)
+pub zero_at : (j : Joiner) (first : ArcFile) (others : List ArcFile) (place : ℕ) → IsJoiner j → JoinerHolds j (first ∷ others) → AgreeInSize (first ∷ others)
     → place < length j.ends → Decides (is_zero (get_or j.vectors place [])) (IsZeroArc (first ∷ others) (place + 1))
 zero_at j first others place kept stands sizes within =
     let files = first ∷ others in
@@ -88,9 +88,9 @@ zero_at j first others place kept stands sizes within =
     (zero_decides v stored.four)
 
 -- an arc with only zero weights is one of the first file's, and the test tells of it
-told_zero : (j : Joiner) (first : ArcFile) (others : List ArcFile) (a : ℕ) → IsJoiner j → StandsFor j (first ∷ others) → AgreeInSize (first ∷ others)
+known_zero : (j : Joiner) (first : ArcFile) (others : List ArcFile) (a : ℕ) → IsJoiner j → JoinerHolds j (first ∷ others) → AgreeInSize (first ∷ others)
     → IsZeroArc (first ∷ others) a → (a - 1 < length j.vectors) × (is_zero (get_or j.vectors (a - 1) []) ≡ true)
-told_zero j first others a kept stands sizes only =
+known_zero j first others a kept stands sizes only =
     let inside = is_some_within _ first.arcs (a - 1) (All-head (HasZero (a - 1)) first others only.zero) in
     let count : length j.ends ≡ length first.arcs = ap length (stands.ends first refl) ∙ length-map first.arcs ends_of in
     let there : a - 1 < length j.ends = omega arith in
@@ -98,23 +98,23 @@ told_zero j first others a kept stands sizes only =
     (omega (arith, kept.matched), (zero_at j first others (a - 1) kept stands sizes there).1 (subst (IsZeroArc (first ∷ others)) here only))
 
 -- the first place that tests as zero is that of the least such arc
-pub zero_told : (j : Joiner) (files : List ArcFile) (place : ℕ) → IsJoiner j → 1 ≤ j.begun → StandsFor j files → AgreeInSize files
+pub zero_known : (j : Joiner) (files : List ArcFile) (place : ℕ) → IsJoiner j → 1 ≤ j.begun → JoinerHolds j files → AgreeInSize files
     → position is_zero j.vectors ≡ Some place → IsLeastWith (IsZeroArc files) (place + 1)
-zero_told j [] place kept some stands sizes told = absurd (omega (arith, stands.begun))
-zero_told j (first ∷ others) place kept some stands sizes told =
-    let first_at = position-Some is_zero j.vectors place [] told in
+zero_known j [] place kept some stands sizes known = absurd (omega (arith, stands.begun))
+zero_known j (first ∷ others) place kept some stands sizes known =
+    let first_at = position-Some is_zero j.vectors place [] known in
     let there : place < length j.ends = omega (arith, first_at.0, kept.matched) in
     record {
       holds = (zero_at j first others place kept stands sizes there).0 first_at.1;
       none_below = λ a below only.
-          let tested = (told_zero j first others a kept stands sizes only).1 in
+          let tested = (known_zero j first others a kept stands sizes only).1 in
           let before = first_at.2 (a - 1) (omega (arith, only.counted)) in absurd cc;
     }
 
 -- and where none does, there is none
-pub none_told : (j : Joiner) (files : List ArcFile) → IsJoiner j → 1 ≤ j.begun → StandsFor j files → AgreeInSize files → position is_zero j.vectors ≡ None
+pub none_known : (j : Joiner) (files : List ArcFile) → IsJoiner j → 1 ≤ j.begun → JoinerHolds j files → AgreeInSize files → position is_zero j.vectors ≡ None
     → (a : ℕ) → ¬ IsZeroArc files a
-none_told j [] kept some stands sizes told a only = absurd (omega (arith, stands.begun))
-none_told j (first ∷ others) kept some stands sizes told a only =
-    let tested = told_zero j first others a kept stands sizes only in
-    let fails = position_none is_zero j.vectors [] told (a - 1) tested.0 in true≢false (sym tested.1 ∙ fails)
+none_known j [] kept some stands sizes known a only = absurd (omega (arith, stands.begun))
+none_known j (first ∷ others) kept some stands sizes known a only =
+    let tested = known_zero j first others a kept stands sizes only in
+    let fails = position_none is_zero j.vectors [] known (a - 1) tested.0 in true≢false (sym tested.1 ∙ fails)

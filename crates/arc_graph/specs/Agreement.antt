@@ -1,10 +1,12 @@
 -- When files list the same arcs with different weights, and what network they then say.
-use Rattle.std.specs.Prelude.{◌≡◌, ◌≢◌, ℕ, ◌-◌, ◌≤◌, ◌⊎◌, List, [], ◌∷◌, Some, IsSomeAnd, length, map, slice_get, All}
+use Rattle.std.specs.Prelude.{◌≡◌, ◌≢◌, ℕ, ◌-◌, ◌≤◌, ◌⊎◌, ⊤, List, [], ◌∷◌, Some, IsSomeAnd, length, map, slice_get, All}
 use Rattle.std.specs.List.{enumerate_from}
 use Rattle.std.specs.Option.{option_map_or}
 use Rattle.arc_graph.specs.declared.file.ArcLine.{ArcLine}
+use Rattle.arc_graph.specs.declared.join.Disagreement.{Disagreement}
+use Rattle.arc_graph.specs.declared.join.Disagreement.TheVariants.{Sizes, Ends, ZeroArc}
 use Rattle.arc_graph.specs.declared.join.JoinFault.{JoinFault}
-use Rattle.arc_graph.specs.declared.join.JoinFault.TheVariants.{Sizes, Ends, ZeroArc, OutOfMemory}
+use Rattle.arc_graph.specs.declared.join.JoinFault.TheVariants.{Files, OutOfMemory}
 use Rattle.arc_graph.specs.Files.{ArcFile, size_of, ends_of}
 use Rattle.list_laws.specs.Least.{IsLeastWith}
 use Rattle.road_network.specs.Network.{Network}
@@ -58,12 +60,16 @@ pub record Agree (files : List ArcFile) : Type 0 where
 
 -- The fault that is told: another size first, of the least such file; else that of the least faulty arc, where other
 -- ends, in the least such file, come before zero weights.
-abbrev pub HasFault : List ArcFile → JoinFault → Type 0
+abbrev pub HasFault : List ArcFile → Disagreement → Type 0
 HasFault files (Sizes f) = IsLeastWith (DiffersInSize files) f
 HasFault files (Ends a f) = AgreeInSize files × IsLeastWith (IsFaultyArc files) a × IsLeastWith (DiffersInEnds files a) f
 HasFault files (ZeroArc a) =
     AgreeInSize files × IsLeastWith (IsFaultyArc files) a × ((f : ℕ) → ¬ DiffersInEnds files a f) × IsZeroArc files a
-HasFault files OutOfMemory = ⊥
+
+-- what is told of files that aren't joined is theirs, unless memory was wanting
+abbrev pub IsFaultOf : List ArcFile → JoinFault → Type 0
+IsFaultOf files (Files way) = HasFault files way
+IsFaultOf files OutOfMemory = ⊤
 
 -- the weight of the arc at a place, from 0, in one file
 abbrev pub weight_at : ℕ → ArcFile → ℕ

@@ -2,6 +2,7 @@
 -- in sets; each set makes a new epoch.
 use Rattle.std.specs.Prelude.{◌≡◌, ℕ, ◌+◌, ◌-◌, ◌^◌, ◌<◌, ◌≤◌, Bool, true, false, List, [], ◌∷◌, ◌++◌, Option, Some, None, IfSome}
 use Rattle.std.specs.Prelude.{length, take, fold, filter_map, slice_get, slice_set, slice_range, All}
+use Rattle.road_network.specs.Limits.{max_epoch}
 use Rattle.road_network.specs.Network.{IsVector}
 use Rattle.arc_graph.specs.declared.change.Change.{Change}
 use Rattle.arc_graph.specs.Graph.{Weights}
@@ -10,10 +11,6 @@ use Rattle.arc_graph.specs.Pages.{IsOnPage}
 -- the most changes that may be pending
 abbrev pub max_pending : ℕ
 max_pending = 65536
-
--- the greatest number of an epoch
-abbrev pub max_epoch : ℕ
-max_epoch = 2 ^ 32 - 1
 
 -- the change is of one of so many arcs, and gives it a vector of so many weights of 32 bits, not all 0, or shuts it
 pub record IsChange (arcs criteria : ℕ) (c : Change) : Type 0 where

@@ -6,6 +6,6 @@ pub mod Stored
 pub mod Joiner
 pub mod Inside
 pub mod Faults
-pub mod StandsFor
+pub mod JoinerHolds
 pub mod Pages
 pub mod History

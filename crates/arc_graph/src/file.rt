@@ -3,7 +3,8 @@ ghost use Rattle.road_network.specs.Limits.{max_arcs, max_nodes};
 ghost use Rattle.road_network.specs.Network.{IsNode};
 
 use crate::graph::Ends;
-use cost_vector::{NodeNo, OutOfMemory};
+use cost_vector::NodeNo;
+use out_of_memory::OutOfMemory;
 use std::alloc::Global;
 use std::marker::Model;
 

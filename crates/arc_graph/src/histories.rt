@@ -15,7 +15,6 @@ ghost use Rattle.arc_graph.specs.History.{
   closed_history,
   ends_closed,
   epoch_after,
-  max_epoch,
   max_pending,
   number_after,
   sets,
@@ -26,6 +25,7 @@ ghost use Rattle.arc_graph.specs.History.{
   with_published,
 };
 ghost use Rattle.arc_graph.specs.History.HistoryEntry.{Changes, Closed};
+ghost use Rattle.road_network.specs.Limits.{max_epoch};
 ghost use Rattle.arc_graph.specs.Pages.{AgreeOnPage, page_of, pages_of};
 
 /// A published set is one more, and a history that is closed has no more.

@@ -1,12 +1,12 @@
-ghost use Rattle.std.specs.Prelude.{◌≡◌, ◌≢◌, ◌≤◌, ◌<◌, ◌+◌, ◌↔◌, ◌++◌, List, [], ◌∷◌, length, vec_len, map, position};
+ghost use Rattle.std.specs.Prelude.{◌≡◌, ◌≤◌, ◌<◌, ◌+◌, ◌↔◌, ◌++◌, List, [], ◌∷◌, length, vec_len, map, position};
 ghost use Rattle.std.specs.Prelude.{IsTrue, IfOk, IfErr, OnOk, MatchOption};
 ghost use Rattle.road_network.specs.Limits.{max_arcs, max_nodes};
 ghost use Rattle.road_network.specs.Network.{IsNetwork, IsNode};
 ghost use Rattle.arc_graph.specs.Graph.{Match, network};
 ghost use Rattle.arc_graph.specs.Files.{ArcFile, empty_file, size_of, with_arc};
-ghost use Rattle.arc_graph.specs.Agreement.{Agree, AgreeInSize, HasFault, joined};
+ghost use Rattle.arc_graph.specs.Agreement.{Agree, AgreeInSize, HasFault, IsFaultOf, joined};
 ghost use Rattle.arc_graph.specs.Agreement.{IsOtherSize, IsZeroArc, DiffersInEnds};
-ghost use Rattle.arc_graph.specs.StandsFor.{StandsFor};
+ghost use Rattle.arc_graph.specs.JoinerHolds.{JoinerHolds};
 ghost use Rattle.arc_graph.specs.Joiner.{BeginsFile, KeepsFile};
 ghost use Rattle.arc_graph.specs.Faults.{AreLeastIfAny, IsEarlier, arc_fault_of};
 ghost use Rattle.list_laws.specs.Least.{IsLeastIfAny};
@@ -16,20 +16,27 @@ ghost use Rattle.cost_vector.specs.Costs.{max_criteria, min_criteria};
 use crate::file::{ArcFile, ArcLine};
 use crate::graph::{Ends, Graph};
 use crate::weights::{Places, Weights, is_zero};
-use cost_vector::OutOfMemory;
+use out_of_memory::OutOfMemory;
 use std::alloc::Global;
 use std::marker::Model;
 use thiserror::Error;
 
-/// Why files can't be joined. Files and arcs are numbered from 1.
+/// How files don't agree. Files and arcs are numbered from 1.
 #[derive(Clone, Copy, Debug, PartialEq, Eq, Error)]
-pub enum JoinFault {
-    #[error("file {file} has another number of nodes or arcs")]
+pub enum Disagreement {
+    #[error("file {file} has another number of nodes or arcs than the first")]
     Sizes { file: u32 },
-    #[error("arc {arc} has other ends in file {file}")]
+    #[error("arc {arc} has other ends in file {file} than in the first")]
     Ends { arc: u32, file: u32 },
     #[error("arc {arc} has only zero weights")]
     ZeroArc { arc: u32 },
+}
+
+/// Why files can't be joined.
+#[derive(Clone, Copy, Debug, PartialEq, Eq, Error)]
+pub enum JoinFault {
+    #[error("the files don't agree")]
+    Files(Disagreement),
     #[error("out of memory")]
     OutOfMemory,
 }
@@ -91,7 +98,7 @@ impl Joiner {
         ensures begun { result.begun ≡ 0 }
         ensures come { result.come ≡ 0 }
         ensures due { result.due_arcs ≡ 0 }
-        ensures files { StandsFor result [] }
+        ensures files { JoinerHolds result [] }
     {
         Joiner {
             alloc,
@@ -117,8 +124,8 @@ impl Joiner {
 
         // All of the file is due; and the files are those of before, and one without arcs.
         ensures begins { OnOk result (BeginsFile self.old self.new nodes arcs) }
-        ensures files { (files : List ArcFile) → StandsFor self.old files
-            → OnOk result (StandsFor self.new (files ++ empty_file nodes ∷ [])) }
+        ensures files { (files : List ArcFile) → JoinerHolds self.old files
+            → OnOk result (JoinerHolds self.new (files ++ empty_file nodes ∷ [])) }
     {
         if self.begun == 0 {
             self.ends.reserve(arcs as usize)?;
@@ -139,7 +146,7 @@ impl Joiner {
         requires begun { 1 ≤ self.now.begun }
         requires fewer_than_four { self.now.begun < max_criteria }
         requires whole { self.now.come ≡ self.now.due_arcs }
-        ensures { (files : List ArcFile) → StandsFor self.now files
+        ensures { (files : List ArcFile) → JoinerHolds self.now files
             → IsLeastIfAny (IsOtherSize (map size_of files ++ (nodes, arcs) ∷ [])) result }
     {
         if self.is_size(nodes, arcs) {
@@ -161,8 +168,8 @@ impl Joiner {
 
         // The files of before, the last with this arc more.
         ensures files { (front : List ArcFile) (last : ArcFile)
-            → StandsFor self.old (front ++ last ∷ [])
-            → OnOk result (StandsFor self.new (front ++ with_arc last a ∷ [])) }
+            → JoinerHolds self.old (front ++ last ∷ [])
+            → OnOk result (JoinerHolds self.new (front ++ with_arc last a ∷ [])) }
     {
         if self.begun == 1 {
             self.push_first(a)
@@ -184,8 +191,8 @@ impl Joiner {
 
         // The files of before, the last with this arc more.
         ensures files { (front : List ArcFile) (last : ArcFile)
-            → StandsFor self.old (front ++ last ∷ [])
-            → OnOk result (StandsFor self.new (front ++ with_arc last a ∷ [])) }
+            → JoinerHolds self.old (front ++ last ∷ [])
+            → OnOk result (JoinerHolds self.new (front ++ with_arc last a ∷ [])) }
     {
         self.vectors.reserve(1)?;
         self.ends.push(a.ends())?;
@@ -204,8 +211,8 @@ impl Joiner {
 
         // The files of before, the last with this arc more.
         ensures files { (front : List ArcFile) (last : ArcFile)
-            → StandsFor self.old (front ++ last ∷ [])
-            → StandsFor self.new (front ++ with_arc last a ∷ []) }
+            → JoinerHolds self.old (front ++ last ∷ [])
+            → JoinerHolds self.new (front ++ with_arc last a ∷ []) }
     {
         let place = self.come as usize;
         if place < self.ends.len() {
@@ -220,7 +227,7 @@ impl Joiner {
         requires later_file { 2 ≤ self.now.begun }
         requires there { self.now.come < length self.now.ends }
         ensures { (front : List ArcFile) (last : ArcFile)
-            → StandsFor self.now (front ++ last ∷ [])
+            → JoinerHolds self.now (front ++ last ∷ [])
             → AreLeastIfAny (DiffersInEnds (front ++ with_arc last a ∷ [])) result }
     {
         if a.ends() == self.ends[self.come as usize] {
@@ -242,28 +249,28 @@ impl Joiner {
         ensures is_network { IfOk result (λ r. IsNetwork (network r.0 r.1)) }
 
         // The files agree, and the network is theirs, or the fault is.
-        ensures agree { (files : List ArcFile) → StandsFor self files
+        ensures agree { (files : List ArcFile) → JoinerHolds self files
             → IfOk result (λ _. Agree files) }
-        ensures joined { (files : List ArcFile) → StandsFor self files
+        ensures joined { (files : List ArcFile) → JoinerHolds self files
             → IfOk result (λ r. network r.0 r.1 ≡ joined files) }
-        ensures fault { (files : List ArcFile) → StandsFor self files
-            → IfErr result (λ e. e ≢ JoinFault.OutOfMemory → HasFault files e) }
+        ensures fault { (files : List ArcFile) → JoinerHolds self files
+            → IfErr result (IsFaultOf files) }
     {
         match self.fault() {
-            Some(fault) => Err(fault),
+            Some(way) => Err(JoinFault::Files(way)),
             None => self.joined(),
         }
     }
 
     /// The fault that is told, if there is one: another size first, then the least arc that can't be joined.
-    fn fault(&self) -> Option<JoinFault>
+    fn fault(&self) -> Option<Disagreement>
         requires some { 1 ≤ self.now.begun }
         requires whole { self.now.come ≡ self.now.due_arcs }
-        ensures { (files : List ArcFile) → StandsFor self.now files
+        ensures { (files : List ArcFile) → JoinerHolds self.now files
             → MatchOption result (Agree files) (HasFault files) }
     {
         if let Some(file) = self.other_size {
-            return Some(JoinFault::Sizes { file });
+            return Some(Disagreement::Sizes { file });
         }
         arc_fault(self.other_ends, self.zero_arc())
     }
@@ -271,7 +278,7 @@ impl Joiner {
     /// The least arc whose weight is 0 in every file.
     fn zero_arc(&self) -> Option<u32>
         requires some { 1 ≤ self.now.begun }
-        ensures { (files : List ArcFile) → StandsFor self.now files → AgreeInSize files
+        ensures { (files : List ArcFile) → JoinerHolds self.now files → AgreeInSize files
             → IsLeastIfAny (IsZeroArc files) result }
     {
         let place = first_zero(&self.vectors)?;
@@ -307,26 +314,26 @@ impl Joiner {
 }
 
 /// The lesser of two arcs, and of one arc in two files that which was told before.
-fn earlier(told: Option<OtherEnds>, here: OtherEnds) -> OtherEnds
-    ensures { IsEarlier told here result }
+fn earlier(known: Option<OtherEnds>, here: OtherEnds) -> OtherEnds
+    ensures { IsEarlier known here result }
 {
-    match told {
+    match known {
         Some(other) if other.arc <= here.arc => other,
         _ => here,
     }
 }
 
 /// The fault of the least arc that can't be joined; at the same arc other ends come before zero weights.
-fn arc_fault(other: Option<OtherEnds>, zero: Option<u32>) -> Option<JoinFault>
+fn arc_fault(other: Option<OtherEnds>, zero: Option<u32>) -> Option<Disagreement>
     ensures { result ≡ arc_fault_of other zero }
 {
     match (other, zero) {
-        (Some(other), Some(arc)) if arc < other.arc => Some(JoinFault::ZeroArc { arc }),
-        (Some(other), _) => Some(JoinFault::Ends {
+        (Some(other), Some(arc)) if arc < other.arc => Some(Disagreement::ZeroArc { arc }),
+        (Some(other), _) => Some(Disagreement::Ends {
             arc: other.arc,
             file: other.file,
         }),
-        (None, Some(arc)) => Some(JoinFault::ZeroArc { arc }),
+        (None, Some(arc)) => Some(Disagreement::ZeroArc { arc }),
         (None, None) => None,
     }
 }
@@ -349,7 +356,7 @@ pub fn join_files(alloc: Global, files: Vec<ArcFile>) -> Result<(Graph, Weights)
     // The files agree, and the network is theirs, or the fault is.
     ensures agree { IfOk result (λ _. Agree files.items) }
     ensures joined { IfOk result (λ r. network r.0 r.1 ≡ joined files.items) }
-    ensures fault { IfErr result (λ e. e ≢ JoinFault.OutOfMemory → HasFault files.items e) }
+    ensures fault { IfErr result (IsFaultOf files.items) }
 {
     let mut joiner = Joiner::new(alloc);
     for file in &files {
@@ -364,8 +371,8 @@ fn add_file(joiner: &mut Joiner, file: &ArcFile) -> Result<(), OutOfMemory>
     requires whole { joiner.old.come ≡ joiner.old.due_arcs }
     ensures begun { OnOk result (joiner.new.begun ≡ joiner.old.begun + 1) }
     ensures whole { OnOk result (joiner.new.come ≡ joiner.new.due_arcs) }
-    ensures files { (files : List ArcFile) → StandsFor joiner.old files
-        → OnOk result (StandsFor joiner.new (files ++ file.now ∷ [])) }
+    ensures files { (files : List ArcFile) → JoinerHolds joiner.old files
+        → OnOk result (JoinerHolds joiner.new (files ++ file.now ∷ [])) }
 {
     let arcs = file.arcs();
     joiner.begin_file(file.nodes(), arcs.len() as u32)?;

@@ -5,7 +5,8 @@ ghost use Rattle.arc_graph.specs.History.{with_change};
 ghost use Rattle.arc_graph.specs.Pages.{CopiesPage, page_of, page_size, pages_of, with_copied_page};
 ghost use Rattle.arc_graph.specs.Stored.{AreStoredStates, IsStoredAs, IsStoredState, is_zero, states_of};
 
-use cost_vector::{ArcNo, OutOfMemory, Weight};
+use cost_vector::{ArcNo, Weight};
+use out_of_memory::OutOfMemory;
 use std::alloc::Global;
 use std::marker::Model;
 
@@ -63,7 +64,7 @@ impl Weights {
     pub fn get(&self, a: ArcNo) -> Option<Weight>
         requires counted { 1 ≤ a.0 }
         requires there { a.0 ≤ length self.now.states }
-        ensures state { result ≡ arc_state self.now a }
+        ensures state { result ≡ arc_state self.now.states a }
         ensures vector { IfSome result (IsVector self.now.criteria) }
         ensures small { IfSome result (All (λ x. x < 2 ^ 32)) }
     {

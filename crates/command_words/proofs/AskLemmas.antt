@@ -4,15 +4,15 @@ use Rattle.std.specs.Prelude.{codes, if◌then◌else◌, option_and_then}
 use Rattle.std.specs.Str.{bytes_eq}
 use Rattle.clap.specs.Words.{App, Row, Text, fault_of, first_of, is_simple_and_free, matches_of}
 use Rattle.command_words.specs.Apps.{app_for, word_of}
-use Rattle.command_words.specs.Words.{AreWords, Asked, Asks, AsksAs, AsksBatch, AsksEffort, AsksGen, AsksLanes, AsksPlan, AsksQuery, AsksSingle, BatchAsked, GenAsked, LanesAsked}
+use Rattle.command_words.specs.Words.{AreWords, Asked, Asks, AsksAs, AsksBatch, AsksLimits, AsksGen, AsksLanes, AsksPlan, AsksQuery, AsksSingle, BatchAsked, GenAsked, LanesAsked}
 use Rattle.command_words.specs.Words.{IsGiven, IsGivenIf, IsGivenOr, IsNamed, NamesFiles, SingleAsked, batch, check, generate, lanes, single}
 use Rattle.graph_gen.specs.declared.GenPlan.{GenPlan}
 use Rattle.line_text.specs.declared.numerals.Numeral.TheVariants.{Value}
 use Rattle.command_words.specs.declared.apps.Name.{Name}
-use Rattle.command_words.specs.declared.AnswerKind.{AnswerKind}
-use Rattle.command_words.specs.declared.AnswerKind.TheVariants.{Costs, Walks}
-use Rattle.command_words.specs.declared.Effort.{Effort}
-use Rattle.command_words.specs.declared.Query.{Query}
+use Rattle.road_network.specs.declared.query.AnswerKind.{AnswerKind}
+use Rattle.road_network.specs.declared.query.AnswerKind.TheVariants.{Costs, Walks}
+use Rattle.command_words.specs.declared.SearchLimits.{SearchLimits}
+use Rattle.road_network.specs.declared.query.Query.{Query}
 use Rattle.command_words.specs.declared.apps.Name.TheVariants.{Batch, Check, Gen, Lanes, Single}
 
 -- each command's arguments are of the kind whose matches are a function of the words
@@ -51,10 +51,11 @@ same_name words m n a b =
     let back : Some m ≡ Some n = sym (named_back m) ∙ ap (option_and_then name_for) same ∙ named_back n in cc
 
 -- the arguments of the command that the words name take them, and the values are its values
-abbrev AsksUnder : List Text → Name → Asked → Type 0
+abbrev pub AsksUnder : List Text → Name → Asked → Type 0
 AsksUnder words name asked = (fault_of (app_for name) words ≡ []) × AsksAs name (matches_of (app_for name) words) asked
 
-under_name : (words : List Text) (name : Name) (asked : Asked) → IsNamed words name → Asks words asked → AsksUnder words name asked
+-- words of a command that they name
+pub under_name : (words : List Text) (name : Name) (asked : Asked) → IsNamed words name → Asks words asked → AsksUnder words name asked
 under_name words name asked named a =
     subst (λ (n : Name). AsksUnder words n asked) (same_name words a.name name a.named named) (a.accepted, a.values)
 
@@ -100,20 +101,21 @@ same_number_if least greatest None None None a b = refl
 same_number_if least greatest (Some m) n None a b = absurd a
 same_number_if least greatest None (Some n) None a b = absurd b
 
-same_effort : (rows : List Row) (a b : Effort) → AsksEffort rows a → AsksEffort rows b → a ≡ b
-same_effort rows a b x y =
+same_limits : (rows : List Row) (a b : SearchLimits) → AsksLimits rows a → AsksLimits rows b → a ≡ b
+same_limits rows a b x y =
     let budget = same_number_or _ _ _ a.budget b.budget _ x.budget y.budget in
     let workers = same_number_or _ _ _ a.workers b.workers _ x.workers y.workers in
-    let effort : ℕ → ℕ → Effort = λ n w. record { budget = n; workers = w } in
-    ap₂ effort budget workers
+    let limits : ℕ → ℕ → SearchLimits = λ n w. record { budget = n; workers = w } in
+    ap₂ limits budget workers
 
 same_query : (rows : List Row) (a b : Query) → AsksQuery rows a → AsksQuery rows b → a ≡ b
 same_query rows a b x y =
     let from = same_number _ _ a.from b.from _ x.from y.from in
     let to = same_number _ _ a.to b.to _ x.to y.to in
-    let effort = same_effort rows a.effort b.effort x.effort y.effort in
-    let query : ℕ → ℕ → Effort → Query = λ f t n. record { from = f; to = t; effort = n } in
-    let e : query a.from a.to a.effort ≡ query b.from b.to b.effort = cc in e
+    let limit = x.unlimited ∙ sym y.unlimited in
+    let budget = same_number_or _ _ _ a.budget b.budget _ x.budget y.budget in
+    let query : ℕ → ℕ → Option (List (Option ℕ)) → ℕ → Query = λ f t l n. record { from = f; to = t; limit = l; budget = n } in
+    let e : query a.from a.to a.limit a.budget ≡ query b.from b.to b.limit b.budget = cc in e
 
 same_files : (rows : List Row) (a b : List Text) → NamesFiles rows a → NamesFiles rows b → a ≡ b
 same_files rows a b x y = let e : Some a ≡ Some b = sym x.all ∙ y.all in cc
@@ -121,17 +123,18 @@ same_files rows a b x y = let e : Some a ≡ Some b = sym x.all ∙ y.all in cc
 same_single : (rows : List Row) (a b : SingleAsked) → a.kind ≡ b.kind → AsksSingle rows a → AsksSingle rows b → a ≡ b
 same_single rows a b kind x y =
     let query = same_query rows a.query b.query x.query y.query in
+    let workers = same_number_or _ _ _ a.workers b.workers _ x.workers y.workers in
     let files = same_files rows a.files b.files x.files y.files in
-    let asked : AnswerKind → Query → List Text → SingleAsked = λ k q f. record { kind = k; query = q; files = f } in
-    let e : asked a.kind a.query a.files ≡ asked b.kind b.query b.files = cc in e
+    let asked : AnswerKind → Query → ℕ → List Text → SingleAsked = λ k q w f. record { kind = k; query = q; workers = w; files = f } in
+    let e : asked a.kind a.query a.workers a.files ≡ asked b.kind b.query b.workers b.files = cc in e
 
 same_batch : (rows : List Row) (a b : BatchAsked) → AsksBatch rows a → AsksBatch rows b → a ≡ b
 same_batch rows a b x y =
     let pairs : Some a.pairs ≡ Some b.pairs = sym x.pairs ∙ y.pairs in
-    let effort = same_effort rows a.effort b.effort x.effort y.effort in
+    let limits = same_limits rows a.limits b.limits x.limits y.limits in
     let files = same_files rows a.files b.files x.files y.files in
-    let asked : Text → Effort → List Text → BatchAsked = λ p n f. record { pairs = p; effort = n; files = f } in
-    let e : asked a.pairs a.effort a.files ≡ asked b.pairs b.effort b.files = cc in e
+    let asked : Text → SearchLimits → List Text → BatchAsked = λ p n f. record { pairs = p; limits = n; files = f } in
+    let e : asked a.pairs a.limits a.files ≡ asked b.pairs b.limits b.files = cc in e
 
 pub same_plan : (rows : List Row) (a b : GenPlan) → AsksPlan rows a → AsksPlan rows b → a ≡ b
 same_plan rows a b x y =
@@ -152,9 +155,9 @@ same_gen : (rows : List Row) (a b : GenAsked) → AsksGen rows a → AsksGen row
 same_gen rows a b x y =
     let plan = same_plan rows a.plan b.plan x.plan y.plan in
     let file = same_number_if _ _ a.file b.file _ (file_of_plan rows a b plan x) y.file in
-    let effort = same_effort rows a.effort b.effort x.effort y.effort in
-    let asked : GenPlan → Option ℕ → Effort → GenAsked = λ p f n. record { plan = p; file = f; effort = n } in
-    let e : asked a.plan a.file a.effort ≡ asked b.plan b.file b.effort = cc in e
+    let limits = same_limits rows a.limits b.limits x.limits y.limits in
+    let asked : GenPlan → Option ℕ → SearchLimits → GenAsked = λ p f n. record { plan = p; file = f; limits = n } in
+    let e : asked a.plan a.file a.limits ≡ asked b.plan b.file b.limits = cc in e
 
 same_lanes : (rows : List Row) (a b : LanesAsked) → AsksLanes rows a → AsksLanes rows b → a ≡ b
 same_lanes rows a b x y =
@@ -162,11 +165,11 @@ same_lanes rows a b x y =
     let stem : Some a.stem ≡ Some b.stem = sym x.stem ∙ y.stem in
     let count = same_number_or _ _ _ a.count b.count _ x.count y.count in
     let epoch = same_number_or _ _ _ a.epoch b.epoch _ x.epoch y.epoch in
-    let effort = same_effort rows a.effort b.effort x.effort y.effort in
+    let limits = same_limits rows a.limits b.limits x.limits y.limits in
     let files = same_files rows a.files b.files x.files y.files in
-    let asked : Text → Text → ℕ → ℕ → Effort → List Text → LanesAsked =
-    λ o s l k n f. record { operator = o; stem = s; count = l; epoch = k; effort = n; files = f } in
-    let e : asked a.operator a.stem a.count a.epoch a.effort a.files ≡ asked b.operator b.stem b.count b.epoch b.effort b.files = cc in e
+    let asked : Text → Text → ℕ → ℕ → SearchLimits → List Text → LanesAsked =
+    λ o s l k n f. record { operator = o; stem = s; count = l; epoch = k; limits = n; files = f } in
+    let e : asked a.operator a.stem a.count a.epoch a.limits a.files ≡ asked b.operator b.stem b.count b.epoch b.limits b.files = cc in e
 
 -- ---- a command's values are of its own kind
 

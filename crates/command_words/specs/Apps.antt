@@ -2,7 +2,7 @@
 use Rattle.std.specs.Prelude.{Bool, true, false, Some, codes}
 use Rattle.clap.specs.Words.{App, Rule, Text, new_app, new_rule, with_rule}
 use Rattle.clap.specs.declared.builder.action.ArgAction.TheVariants.{Append, Set}
-use Rattle.command_words.specs.declared.AnswerKind.TheVariants.{Costs, Walks}
+use Rattle.road_network.specs.declared.query.AnswerKind.TheVariants.{Costs, Walks}
 use Rattle.command_words.specs.declared.apps.Name.{Name}
 use Rattle.command_words.specs.declared.apps.Name.TheVariants.{Batch, Check, Gen, Lanes, Single}
 
@@ -34,12 +34,12 @@ bare_app name = record (new_app name) {
 }
 
 -- and then `[--budget B] [--workers W]`
-abbrev pub with_effort : App → App
-with_effort app = with_rule (with_rule app (option_rule (codes "budget") false)) (option_rule (codes "workers") false)
+abbrev pub with_limits : App → App
+with_limits app = with_rule (with_rule app (option_rule (codes "budget") false)) (option_rule (codes "workers") false)
 
 -- `WORD --from S --to T [--budget B] [--workers W] FILES`
 abbrev pub single_app : Text → App
-single_app word = with_rule (with_effort (with_rule (with_rule (bare_app word)
+single_app word = with_rule (with_limits (with_rule (with_rule (bare_app word)
     (option_rule (codes "from") true)) (option_rule (codes "to") true))) files_rule
 
 -- `check FILES`
@@ -48,7 +48,7 @@ check_app = with_rule (bare_app (word_of Check)) files_rule
 
 -- `batch --pairs P [--budget B] [--workers W] FILES`
 abbrev pub batch_app : App
-batch_app = with_rule (with_effort (with_rule (bare_app (word_of Batch))
+batch_app = with_rule (with_limits (with_rule (bare_app (word_of Batch))
     (option_rule (codes "pairs") true))) files_rule
 
 -- the numbers of a plan: `gen --start N --side N --criteria D --pairs P`
@@ -59,7 +59,7 @@ plan_app = with_rule (with_rule (with_rule (with_rule (bare_app (word_of Gen))
 
 -- and then `[--file J] [--budget B] [--workers W]`
 abbrev pub gen_app : App
-gen_app = with_effort (with_rule plan_app (option_rule (codes "file") false))
+gen_app = with_limits (with_rule plan_app (option_rule (codes "file") false))
 
 -- the scripts and the store of lanes: `lanes --operator NAME --sessions STEM [--lanes N] [--epoch N]`
 abbrev pub scripts_app : App
@@ -69,7 +69,7 @@ scripts_app = with_rule (with_rule (with_rule (with_rule (bare_app (word_of Lane
 
 -- and then `[--budget B] [--workers W] FILES`
 abbrev pub lanes_app : App
-lanes_app = with_rule (with_effort scripts_app) files_rule
+lanes_app = with_rule (with_limits scripts_app) files_rule
 
 -- the arguments of a command
 abbrev pub app_for : Name → App

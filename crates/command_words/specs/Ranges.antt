@@ -1,5 +1,6 @@
 -- The ranges of the values of words.
 use Rattle.std.specs.Prelude.{ℕ, ◌-◌, ◌^◌}
+use Rattle.cost_vector.specs.Costs.{max_criteria, min_criteria}
 
 -- the budget of a query that gives none
 abbrev pub default_budget : ℕ
@@ -33,14 +34,10 @@ max_lanes = 16
 abbrev pub default_epoch : ℕ
 default_epoch = 0
 
--- the greatest number of an epoch
-abbrev pub max_epoch : ℕ
-max_epoch = 2 ^ 32 - 1
-
 -- the fewest weight files: each is one criterion
 abbrev pub min_files : ℕ
-min_files = 2
+min_files = min_criteria
 
 -- the most weight files
 abbrev pub max_files : ℕ
-max_files = 4
+max_files = max_criteria

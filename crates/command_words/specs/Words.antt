@@ -6,44 +6,45 @@ use Rattle.std.specs.String.{string_bytes}
 use Rattle.clap.specs.Words.{Row, Text, all_of, fault_of, first_of, matches_of}
 use Rattle.command_words.specs.Apps.{app_for, word_of}
 use Rattle.line_text.specs.Numerals.{numeral_of}
-use Rattle.command_words.specs.declared.AnswerKind.{AnswerKind}
 use Rattle.command_words.specs.declared.BatchWords.{BatchWords}
 use Rattle.command_words.specs.declared.CheckWords.{CheckWords}
 use Rattle.command_words.specs.declared.Command.{Command}
 use Rattle.command_words.specs.declared.Command.TheVariants as command
-use Rattle.command_words.specs.declared.Effort.{Effort}
+use Rattle.command_words.specs.declared.SearchLimits.{SearchLimits}
 use Rattle.command_words.specs.declared.GenWords.{GenWords}
 use Rattle.command_words.specs.declared.LanesWords.{LanesWords}
-use Rattle.command_words.specs.declared.Query.{Query}
 use Rattle.command_words.specs.declared.SingleWords.{SingleWords}
 use Rattle.command_words.specs.declared.apps.Name.{Name}
 use Rattle.command_words.specs.declared.apps.Name.TheVariants.{Batch, Check, Gen, Lanes, Single}
 use Rattle.line_text.specs.declared.numerals.Numeral.TheVariants.{Value}
 use Rattle.graph_gen.specs.declared.GenPlan.{GenPlan}
 use Rattle.graph_gen.specs.Plans.{IsPlan, max_pairs, max_side, min_pairs, min_side}
-use Rattle.road_network.specs.Limits.{max_budget}
+use Rattle.road_network.specs.Limits.{max_budget, max_epoch}
+use Rattle.road_network.specs.declared.query.AnswerKind.{AnswerKind}
+use Rattle.road_network.specs.declared.query.Query.{Query}
 use Rattle.command_words.specs.Ranges.{default_budget, default_workers, max_node, max_start, max_workers, min_files, max_files}
-use Rattle.command_words.specs.Ranges.{default_epoch, default_lanes, max_epoch, max_lanes}
+use Rattle.command_words.specs.Ranges.{default_epoch, default_lanes, max_lanes}
 
 -- ---- what a command may be asked for
 
--- one query over the network of the files, and what its answer shows of each cost
+-- one query over the network of the files, what its answer shows of each cost, and how many workers share the search
 pub record SingleAsked : Type 0 where
   pub kind : AnswerKind
   pub query : Query
+  pub workers : ℕ
   pub files : List Text
 
 -- queries over the network of the files, between the pairs of a file
 pub record BatchAsked : Type 0 where
   pub pairs : Text
-  pub effort : Effort
+  pub limits : SearchLimits
   pub files : List Text
 
--- the files of a plan, or one of them, which the effort doesn't change
+-- the files of a plan, or one of them, which doesn't depend on how queries are searched
 pub record GenAsked : Type 0 where
   pub plan : GenPlan
   pub file : Option ℕ
-  pub effort : Effort
+  pub limits : SearchLimits
 
 -- lanes beside each other over the network of the files, by an operator's script and one of each session; the names of
 -- these begin with the stem, and the first epoch has this number
@@ -52,7 +53,7 @@ pub record LanesAsked : Type 0 where
   pub stem : Text
   pub count : ℕ
   pub epoch : ℕ
-  pub effort : Effort
+  pub limits : SearchLimits
   pub files : List Text
 
 -- one command and its values; `check` has the names of its files alone
@@ -93,19 +94,28 @@ FilesInRange (generate asked) = Unit {0}
 FilesInRange (lanes asked) = CountInRange asked.files
 
 -- a budget and a number of workers are within their ranges
-pub record IsEffort (effort : Effort) : Type 0 where
-  pub some_budget : 1 ≤ effort.budget
-  pub budget : effort.budget ≤ max_budget
-  pub some_workers : 1 ≤ effort.workers
-  pub workers : effort.workers ≤ max_workers
+pub record AreSearchLimits (limits : SearchLimits) : Type 0 where
+  pub some_budget : 1 ≤ limits.budget
+  pub budget : limits.budget ≤ max_budget
+  pub some_workers : 1 ≤ limits.workers
+  pub workers : limits.workers ≤ max_workers
 
--- the effort of a command that has one is within its ranges
-abbrev pub EffortInRange : Asked → Type 0
-EffortInRange (single asked) = IsEffort asked.query.effort
-EffortInRange (check files) = Unit {0}
-EffortInRange (batch asked) = IsEffort asked.effort
-EffortInRange (generate asked) = IsEffort asked.effort
-EffortInRange (lanes asked) = IsEffort asked.effort
+-- how the only query of a command is searched
+abbrev pub limits_of_single : SingleAsked → SearchLimits
+limits_of_single asked = record { budget = asked.query.budget; workers = asked.workers }
+
+-- a single query has no limit, and is searched within the ranges
+pub record SingleInRange (asked : SingleAsked) : Type 0 where
+  pub unlimited : asked.query.limit ≡ None
+  pub limits : AreSearchLimits (limits_of_single asked)
+
+-- how a command searches is within the ranges
+abbrev pub LimitsInRange : Asked → Type 0
+LimitsInRange (single asked) = SingleInRange asked
+LimitsInRange (check files) = Unit {0}
+LimitsInRange (batch asked) = AreSearchLimits asked.limits
+LimitsInRange (generate asked) = AreSearchLimits asked.limits
+LimitsInRange (lanes asked) = AreSearchLimits asked.limits
 
 -- The plan is one, and the file that is asked for is one of its files.
 pub record GenInRange (asked : GenAsked) : Type 0 where
@@ -171,26 +181,36 @@ pub record NamesFiles (rows : List Row) (files : List Text) : Type 0 where
   pub enough : min_files ≤ length files
   pub not_more : length files ≤ max_files
 
--- the options give how a search is done
-pub record AsksEffort (rows : List Row) (effort : Effort) : Type 0 where
-  pub budget : IsGivenOr default_budget 1 max_budget (first_of (codes "budget") rows) effort.budget
-  pub workers : IsGivenOr default_workers 1 max_workers (first_of (codes "workers") rows) effort.workers
+-- an option gives the budget
+abbrev pub AsksBudget : List Row → ℕ → Type 0
+AsksBudget rows n = IsGivenOr default_budget 1 max_budget (first_of (codes "budget") rows) n
 
--- the options give the query
+-- an option gives the number of workers
+abbrev pub AsksWorkers : List Row → ℕ → Type 0
+AsksWorkers rows n = IsGivenOr default_workers 1 max_workers (first_of (codes "workers") rows) n
+
+-- the options give how a search is done
+pub record AsksLimits (rows : List Row) (limits : SearchLimits) : Type 0 where
+  pub budget : AsksBudget rows limits.budget
+  pub workers : AsksWorkers rows limits.workers
+
+-- the options give the query, which has no limit
 pub record AsksQuery (rows : List Row) (query : Query) : Type 0 where
   pub from : IsGiven 0 max_node (first_of (codes "from") rows) query.from
   pub to : IsGiven 0 max_node (first_of (codes "to") rows) query.to
-  pub effort : AsksEffort rows query.effort
+  pub unlimited : query.limit ≡ None
+  pub budget : AsksBudget rows query.budget
 
 -- the values are those of one query
 pub record AsksSingle (rows : List Row) (asked : SingleAsked) : Type 0 where
   pub query : AsksQuery rows asked.query
+  pub workers : AsksWorkers rows asked.workers
   pub files : NamesFiles rows asked.files
 
 -- the values are those of `batch`
 pub record AsksBatch (rows : List Row) (asked : BatchAsked) : Type 0 where
   pub pairs : first_of (codes "pairs") rows ≡ Some asked.pairs
-  pub effort : AsksEffort rows asked.effort
+  pub limits : AsksLimits rows asked.limits
   pub files : NamesFiles rows asked.files
 
 -- the options give the plan
@@ -204,7 +224,7 @@ pub record AsksPlan (rows : List Row) (plan : GenPlan) : Type 0 where
 pub record AsksGen (rows : List Row) (asked : GenAsked) : Type 0 where
   pub plan : AsksPlan rows asked.plan
   pub file : IsGivenIf 0 asked.plan.criteria (first_of (codes "file") rows) asked.file
-  pub effort : AsksEffort rows asked.effort
+  pub limits : AsksLimits rows asked.limits
 
 -- the values are those of `lanes`
 pub record AsksLanes (rows : List Row) (asked : LanesAsked) : Type 0 where
@@ -212,7 +232,7 @@ pub record AsksLanes (rows : List Row) (asked : LanesAsked) : Type 0 where
   pub stem : first_of (codes "sessions") rows ≡ Some asked.stem
   pub count : IsGivenOr default_lanes 1 max_lanes (first_of (codes "lanes") rows) asked.count
   pub epoch : IsGivenOr default_epoch 0 max_epoch (first_of (codes "epoch") rows) asked.epoch
-  pub effort : AsksEffort rows asked.effort
+  pub limits : AsksLimits rows asked.limits
   pub files : NamesFiles rows asked.files
 
 -- the values are those of the command
@@ -249,7 +269,7 @@ AreWords words = (asked : Asked) × Asks words asked
 
 -- the words of one query, as what they ask for
 abbrev pub single_asked : SingleWords → SingleAsked
-single_asked c = record { kind = c.kind; query = c.query; files = map (λ s. s.now) c.files.items }
+single_asked c = record { kind = c.kind; query = c.query; workers = c.workers; files = map (λ s. s.now) c.files.items }
 
 -- the words of `check`, as the names of the files that they ask for
 abbrev pub check_asked : CheckWords → List Text
@@ -257,11 +277,11 @@ check_asked c = map (λ s. s.now) c.files.items
 
 -- the words of `batch`, as what they ask for
 abbrev pub batch_asked : BatchWords → BatchAsked
-batch_asked b = record { pairs = b.pairs.now; effort = b.effort; files = map (λ s. s.now) b.files.items }
+batch_asked b = record { pairs = b.pairs.now; limits = b.limits; files = map (λ s. s.now) b.files.items }
 
 -- the words of `gen`, as what they ask for
 abbrev pub gen_asked : GenWords → GenAsked
-gen_asked g = record { plan = g.plan; file = g.file; effort = g.effort }
+gen_asked g = record { plan = g.plan; file = g.file; limits = g.limits }
 
 -- the words of `lanes`, as what they ask for
 abbrev pub lanes_asked : LanesWords → LanesAsked
@@ -270,7 +290,7 @@ lanes_asked l = record {
   stem = l.sessions.now;
   count = l.lanes;
   epoch = l.epoch;
-  effort = l.effort;
+  limits = l.limits;
   files = map (λ s. s.now) l.files.items;
 }
 

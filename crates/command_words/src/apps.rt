@@ -2,15 +2,15 @@
 ghost use Rattle.std.specs.Prelude.{◌≡◌, IfOk};
 ghost use Rattle.clap.specs.Words.{app_of, with_rule};
 ghost use Rattle.command_words.specs.Apps.{bare_app, batch_app, check_app, files_rule};
-ghost use Rattle.command_words.specs.Apps.{gen_app, lanes_app, option_rule, scripts_app, single_app, with_effort};
+ghost use Rattle.command_words.specs.Apps.{gen_app, lanes_app, option_rule, scripts_app, single_app, with_limits};
 
-use crate::AnswerKind;
 use clap::{Arg, ArgAction, Command};
+use road_network::AnswerKind;
 use std::alloc::{AllocError, Global};
 
 /// A command's name.
 #[derive(Clone, Copy)]
-pub(crate) enum Name {
+pub enum Name {
     Single(AnswerKind),
     Check,
     Batch,
@@ -42,7 +42,7 @@ fn single<'a>(alloc: Global, name: &'a str) -> Result<Command<'a>, AllocError>
     let command = bare(alloc, name);
     let command = with_option(alloc, command, "from", true)?;
     let command = with_option(alloc, command, "to", true)?;
-    let command = with_effort(alloc, command)?;
+    let command = with_limits(alloc, command)?;
     with_files(alloc, command)
 }
 
@@ -57,7 +57,7 @@ fn batch<'a>(alloc: Global) -> Result<Command<'a>, AllocError>
 {
     let command = bare(alloc, "batch");
     let command = with_option(alloc, command, "pairs", true)?;
-    let command = with_effort(alloc, command)?;
+    let command = with_limits(alloc, command)?;
     with_files(alloc, command)
 }
 
@@ -70,13 +70,13 @@ fn generate<'a>(alloc: Global) -> Result<Command<'a>, AllocError>
     let command = with_option(alloc, command, "criteria", true)?;
     let command = with_option(alloc, command, "pairs", true)?;
     let command = with_option(alloc, command, "file", false)?;
-    with_effort(alloc, command)
+    with_limits(alloc, command)
 }
 
 fn lanes<'a>(alloc: Global) -> Result<Command<'a>, AllocError>
     ensures { IfOk result (λ c. app_of c ≡ lanes_app) }
 {
-    let command = with_effort(alloc, scripts(alloc)?)?;
+    let command = with_limits(alloc, scripts(alloc)?)?;
     with_files(alloc, command)
 }
 
@@ -99,8 +99,8 @@ fn bare<'a>(alloc: Global, name: &'a str) -> Command<'a>
         .disable_version_flag(true)
 }
 
-fn with_effort<'a>(alloc: Global, command: Command<'a>) -> Result<Command<'a>, AllocError>
-    ensures { IfOk result (λ c. app_of c ≡ with_effort (app_of command.entry)) }
+fn with_limits<'a>(alloc: Global, command: Command<'a>) -> Result<Command<'a>, AllocError>
+    ensures { IfOk result (λ c. app_of c ≡ with_limits (app_of command.entry)) }
 {
     let command = with_option(alloc, command, "budget", false)?;
     with_option(alloc, command, "workers", false)

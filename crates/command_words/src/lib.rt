@@ -4,17 +4,19 @@
 ghost use Rattle.std.specs.Prelude.{◌≡◌, ◌≢◌, ◌↔◌, IfOk, IfSome, IfNone, [], true};
 ghost use Rattle.clap.specs.Words.{app_of, fault_of, found_of, is_simple_and_free, kind_of};
 ghost use Rattle.clap.specs.Words.{matches_of, rows_of};
-ghost use Rattle.command_words.specs.Words.{AreWords, Asks, EffortInRange, FilesInRange};
+ghost use Rattle.command_words.specs.Words.{AreWords, Asks, LimitsInRange, FilesInRange};
 ghost use Rattle.command_words.specs.Words.{IsNamed, LanesInRange, PlanInRange, asked_of, texts_of};
 
 mod apps;
 mod numbers;
 mod values;
 
-use apps::Name;
+pub use apps::Name;
 use clap::ArgMatches;
 use clap::error::ErrorKind;
+use cost_vector::{MAX_CRITERIA, MIN_CRITERIA};
 use graph_gen::GenPlan;
+use road_network::{AnswerKind, Query};
 use std::alloc::{AllocError, Global};
 use thiserror::Error;
 
@@ -34,44 +36,27 @@ pub const DEFAULT_LANES: u32 = 1;
 pub const MAX_LANES: u32 = 16;
 /// The number of the first epoch where none is given, which is that of the files' weights.
 pub const DEFAULT_EPOCH: u32 = 0;
-/// The greatest number of an epoch.
-pub const MAX_EPOCH: u32 = u32::MAX;
 /// The fewest weight files, of which each is one criterion.
-pub const MIN_FILES: usize = 2;
+pub const MIN_FILES: usize = MIN_CRITERIA;
 /// The most weight files.
-pub const MAX_FILES: usize = 4;
-
-/// What an answer shows of each cost.
-#[derive(Clone, Copy, Debug, PartialEq, Eq)]
-pub enum AnswerKind {
-    /// The cost alone, as `costs` does.
-    Costs,
-    /// The cost with its walk, as `one` does.
-    Walks,
-}
+pub const MAX_FILES: usize = MAX_CRITERIA;
 
 /// How a search is done.
 #[derive(Clone, Copy, Debug, PartialEq, Eq)]
-pub struct Effort {
+pub struct SearchLimits {
     /// The most labels that it may settle.
     pub budget: u32,
     /// How many workers share it.
     pub workers: u32,
 }
 
-/// A query from one node to another.
-#[derive(Clone, Copy, Debug, PartialEq, Eq)]
-pub struct Query {
-    pub from: u32,
-    pub to: u32,
-    pub effort: Effort,
-}
-
-/// The words of `costs` and of `one`.
+/// The words of `costs`, which asks for costs alone, and of `one`, which asks for walks.
 #[derive(Debug, Drop)]
 pub struct SingleWords<'a> {
     pub kind: AnswerKind,
     pub query: Query,
+    /// How many workers share the search.
+    pub workers: u32,
     pub files: Vec<&'a str>,
 }
 
@@ -87,7 +72,7 @@ pub struct BatchWords<'a> {
     /// The name of the file of pairs.
     pub pairs: &'a str,
     /// How each query is searched.
-    pub effort: Effort,
+    pub limits: SearchLimits,
     pub files: Vec<&'a str>,
 }
 
@@ -97,7 +82,7 @@ pub struct GenWords {
     pub plan: GenPlan,
     /// The file of the plan that is to be sent, or none where the queries of all files are to be answered.
     pub file: Option<u32>,
-    pub effort: Effort,
+    pub limits: SearchLimits,
 }
 
 /// The words of `lanes`.
@@ -112,7 +97,7 @@ pub struct LanesWords<'a> {
     /// The number of the epoch of the files' weights.
     pub epoch: u32,
     /// How each query is searched.
-    pub effort: Effort,
+    pub limits: SearchLimits,
     pub files: Vec<&'a str>,
 }
 
@@ -177,7 +162,7 @@ pub fn read_words<'a>(alloc: Global, words: &'a [String]) -> Result<Command<'a>,
         → other ≡ asked_of c) }
     ensures refused { result ≡ Err WordsFault.Refused → ¬ AreWords (texts_of words.entry.now) }
     ensures files { IfOk result (λ c. FilesInRange (asked_of c)) }
-    ensures effort { IfOk result (λ c. EffortInRange (asked_of c)) }
+    ensures limits { IfOk result (λ c. LimitsInRange (asked_of c)) }
     ensures plan { IfOk result (λ c. PlanInRange (asked_of c)) }
     ensures lanes { IfOk result (λ c. LanesInRange (asked_of c)) }
 {

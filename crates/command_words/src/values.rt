@@ -1,20 +1,20 @@
 //! Reads the values that the words give to a command's arguments.
 ghost use Rattle.std.specs.Prelude.{◌≡◌, IfOk, IfNone, IfSome, codes, map, option_map};
 ghost use Rattle.clap.specs.Words.{all_of, first_of, found_of, rows_of};
-ghost use Rattle.command_words.specs.Words.{AsksAs, AsksBatch, AsksEffort, AsksGen, AsksLanes, AsksPlan};
+ghost use Rattle.command_words.specs.Words.{AsksAs, AsksBatch, AsksBudget, AsksLimits, AsksGen, AsksLanes, AsksPlan, AsksWorkers};
 ghost use Rattle.command_words.specs.Words.{AsksQuery, AsksSingle, NamesFiles};
 ghost use Rattle.command_words.specs.Words.{asked_of, batch_asked, gen_asked, lanes_asked, single_asked};
 
 use crate::apps::Name;
 use crate::numbers::{number_if, number_or, required_number, value};
 use crate::{
-    AnswerKind, BatchWords, CheckWords, Command, DEFAULT_BUDGET, DEFAULT_EPOCH, DEFAULT_LANES,
-    DEFAULT_WORKERS, Effort, GenWords, LanesWords, MAX_EPOCH, MAX_FILES, MAX_LANES, MAX_NODE,
-    MAX_START, MAX_WORKERS, MIN_FILES, Query, SingleWords, WordsFault,
+    BatchWords, CheckWords, Command, DEFAULT_BUDGET, DEFAULT_EPOCH, DEFAULT_LANES, DEFAULT_WORKERS,
+    GenWords, LanesWords, MAX_FILES, MAX_LANES, MAX_NODE, MAX_START, MAX_WORKERS, MIN_FILES,
+    SearchLimits, SingleWords, WordsFault,
 };
 use clap::ArgMatches;
 use graph_gen::{GenPlan, MAX_PAIRS, MAX_SIDE, MIN_PAIRS, MIN_SIDE};
-use road_network::MAX_BUDGET;
+use road_network::{AnswerKind, MAX_BUDGET, MAX_EPOCH, Query};
 use std::alloc::Global;
 
 /// Reads the values of a command.
@@ -50,8 +50,14 @@ fn read_single<'a>(
         → (asked : _) → ¬ AsksSingle (rows_of (found_of matches.now)) asked }
 {
     let query = read_query(matches).ok_or(WordsFault::Refused)?;
+    let workers = read_workers(matches).ok_or(WordsFault::Refused)?;
     let files = read_files(alloc, matches)?;
-    Ok(SingleWords { kind, query, files })
+    Ok(SingleWords {
+        kind,
+        query,
+        workers,
+        files,
+    })
 }
 
 fn read_query(matches: &ArgMatches) -> Option<Query>
@@ -62,19 +68,36 @@ fn read_query(matches: &ArgMatches) -> Option<Query>
     Some(Query {
         from: required_number(matches, "from", 0, MAX_NODE)?,
         to: required_number(matches, "to", 0, MAX_NODE)?,
-        effort: read_effort(matches)?,
+        limit: None,
+        budget: read_budget(matches)?,
     })
 }
 
-fn read_effort(matches: &ArgMatches) -> Option<Effort>
-    ensures asked { IfSome result (AsksEffort (rows_of (found_of matches.now))) }
-    ensures refused { IfNone result ((effort : _) →
-        ¬ AsksEffort (rows_of (found_of matches.now)) effort) }
+fn read_limits(matches: &ArgMatches) -> Option<SearchLimits>
+    ensures asked { IfSome result (AsksLimits (rows_of (found_of matches.now))) }
+    ensures refused { IfNone result ((limits : _) →
+        ¬ AsksLimits (rows_of (found_of matches.now)) limits) }
 {
-    Some(Effort {
-        budget: number_or(DEFAULT_BUDGET, matches, "budget", 1, MAX_BUDGET)?,
-        workers: number_or(DEFAULT_WORKERS, matches, "workers", 1, MAX_WORKERS)?,
+    Some(SearchLimits {
+        budget: read_budget(matches)?,
+        workers: read_workers(matches)?,
     })
+}
+
+fn read_budget(matches: &ArgMatches) -> Option<u32>
+    ensures asked { IfSome result (AsksBudget (rows_of (found_of matches.now))) }
+    ensures refused { IfNone result ((n : _) →
+        ¬ AsksBudget (rows_of (found_of matches.now)) n) }
+{
+    number_or(DEFAULT_BUDGET, matches, "budget", 1, MAX_BUDGET)
+}
+
+fn read_workers(matches: &ArgMatches) -> Option<u32>
+    ensures asked { IfSome result (AsksWorkers (rows_of (found_of matches.now))) }
+    ensures refused { IfNone result ((n : _) →
+        ¬ AsksWorkers (rows_of (found_of matches.now)) n) }
+{
+    number_or(DEFAULT_WORKERS, matches, "workers", 1, MAX_WORKERS)
 }
 
 fn read_batch<'a>(alloc: Global, matches: &ArgMatches<'a>) -> Result<BatchWords<'a>, WordsFault>
@@ -83,11 +106,11 @@ fn read_batch<'a>(alloc: Global, matches: &ArgMatches<'a>) -> Result<BatchWords<
         → (asked : _) → ¬ AsksBatch (rows_of (found_of matches.now)) asked }
 {
     let pairs = value(matches, "pairs").ok_or(WordsFault::Refused)?;
-    let effort = read_effort(matches).ok_or(WordsFault::Refused)?;
+    let limits = read_limits(matches).ok_or(WordsFault::Refused)?;
     let files = read_files(alloc, matches)?;
     Ok(BatchWords {
         pairs,
-        effort,
+        limits,
         files,
     })
 }
@@ -105,14 +128,14 @@ fn read_lanes<'a>(alloc: Global, matches: &ArgMatches<'a>) -> Result<LanesWords<
     let epoch = number_or(DEFAULT_EPOCH, matches, "epoch", 0, MAX_EPOCH).ok_or(
         WordsFault::Refused,
     )?;
-    let effort = read_effort(matches).ok_or(WordsFault::Refused)?;
+    let limits = read_limits(matches).ok_or(WordsFault::Refused)?;
     let files = read_files(alloc, matches)?;
     Ok(LanesWords {
         operator,
         sessions,
         lanes,
         epoch,
-        effort,
+        limits,
         files,
     })
 }
@@ -126,7 +149,7 @@ fn read_gen(matches: &ArgMatches) -> Option<GenWords>
     Some(GenWords {
         plan,
         file: number_if(matches, "file", 0, plan.criteria)?,
-        effort: read_effort(matches)?,
+        limits: read_limits(matches)?,
     })
 }
 

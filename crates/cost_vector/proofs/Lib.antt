@@ -1,3 +1,4 @@
 pub mod Stored
 pub mod Sums
 pub mod Vectors
+pub mod Components

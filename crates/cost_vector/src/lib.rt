@@ -5,16 +5,18 @@
 //! them as the list of its components.
 #![tactic(auto)]
 
+mod compact_cost;
+mod compact_label;
 mod cost;
 mod label;
 mod limit;
-mod out_of_memory;
 mod weight;
 
+pub use compact_cost::CompactCost;
+pub use compact_label::{CompactLabel, CompactSpot};
 pub use cost::Cost;
 pub use label::{ArcNo, Label, NodeNo, Spot};
 pub use limit::Limit;
-pub use out_of_memory::OutOfMemory;
 pub use weight::Weight;
 
 /// The fewest criteria.

@@ -6,15 +6,16 @@ use Rattle.std.proofs.lemmas.List.{map-append}
 use Rattle.std.proofs.lemmas.List.Sums.{sum_by-cons}
 use Rattle.std.proofs.lemmas.List.Elements.{All-nil, All-cons, All-push}
 use Rattle.arc_graph.proofs.HistoryLemmas.{count_with_set, sets_closed}
-use Rattle.arc_graph.proofs.OperatorLemmas.{operator_published, operator_closed}
+use Rattle.arc_graph.proofs.OperatorLemmas.{operator_published}
 use Rattle.arc_graph.specs.declared.change.Change.{Change}
-use Rattle.arc_graph.specs.History.{History, IsChange, Operator, max_epoch, sets_of, with_none_pending, with_pending}
+use Rattle.arc_graph.specs.History.{History, IsChange, Operator, sets_of, with_none_pending, with_pending}
+use Rattle.road_network.specs.Limits.{max_epoch}
 use Rattle.arc_graph.specs.History.HistoryEntry.{Changes, Closed}
 use Rattle.epoch_store.specs.Faults.{MayPend, IsZero}
 use Rattle.epoch_store.specs.Origin.{Origin, IsOperatorIn, arcs_of, criteria_of, last_number}
-use Rattle.epoch_store.specs.Published.{Published, closing_of, epoch_of, of_sets}
-use Rattle.epoch_store.specs.Standing.{MayFollow}
-use Rattle.epoch_store.proofs.EpochLemmas.{nothing_published, set_follows, closing_follows}
+use Rattle.epoch_store.specs.Published.{Published, epoch_of, of_sets}
+use Rattle.epoch_store.specs.StoreRule.{MayFollow}
+use Rattle.epoch_store.proofs.EpochLemmas.{nothing_published, set_follows}
 
 -- the change sets are those of the history that they make
 pub sets_of_sets : (css : List (List Change)) → sets_of (of_sets css) ≡ css
@@ -81,13 +82,6 @@ module _ (o : Origin) (css : List (List Change)) (cs : List Change) (n : ℕ)
   pub next_follows : (p : Published) → p.history ≡ of_sets css → n < max_epoch
       → MayFollow o p (epoch_of (n + 1) css cs)
   next_follows p shown below = set_follows o p (of_sets css) cs (n + 1) shown (omega (arith, number)) (next_operator below).published
-
-  -- so does the end of the history
-  pub end_follows : (p : Published) → p.history ≡ of_sets css
-      → MayFollow o p (closing_of n css)
-  end_follows p shown =
-      closing_follows o p (of_sets css) n shown number
-      (operator_closed (arcs_of o) (criteria_of o) o.first (record { published = of_sets css; pending = cs }) is)
 
 -- the closed history has the last epoch that was published
 pub closed_last : (o : Origin) (h : History) → last_number o (h ++ Closed ∷ []) ≡ last_number o h

@@ -6,11 +6,11 @@ use Rattle.std.proofs.lemmas.Bool.{cases_eq, cases_lt}
 use Rattle.std.proofs.lemmas.List.Elements.{All-nil, All-cons, All-push}
 use Rattle.arc_graph.specs.declared.change.Change.{Change}
 use Rattle.arc_graph.specs.History.{History, LeavePage, LeavesPage, number_after, sets, sets_of}
-use Rattle.arc_graph.specs.History.HistoryEntry.{Changes, Closed}
+use Rattle.arc_graph.specs.History.HistoryEntry.{Changes}
 use Rattle.arc_graph.specs.Pages.{IsOnPage, page_of}
-use Rattle.arc_graph.proofs.HistoryLemmas.{sets_with_set, sets_closed, count_with_set}
+use Rattle.arc_graph.proofs.HistoryLemmas.{sets_with_set, count_with_set}
 use Rattle.epoch_store.specs.Published.{with_page_numbers}
-use Rattle.epoch_store.specs.Standing.{ArePageNumbers}
+use Rattle.epoch_store.specs.StoreRule.{ArePageNumbers}
 
 -- a set has an arc of the page, which gets the set's number; or it has none, and the page's number stays
 pub page_number_after : (n page : ℕ) (cs : List Change) (pages : List ℕ) → page < length pages
@@ -73,10 +73,3 @@ numbers_with_set first h cs pages numbers page i there within upto =
       | inl last ↦ left_between_same page (h ++ Changes cs ∷ []) i (sets h + 1) (omega (arith, count))
     ] in
     subst (LeavePage page (h ++ Changes cs ∷ []) i) (sym count) left
-
--- Closed comes, and changes no number
-pub numbers_closed : (first : ℕ) (h : History) (pages : List ℕ) → ArePageNumbers first h pages → ArePageNumbers first (h ++ Closed ∷ []) pages
-numbers_closed first h pages numbers page i there within upto =
-    let same = sets_closed h in
-    let left = numbers page i there (omega (arith, ap length same)) upto in
-    subst (λ (css : List (List Change)). All (LeavesPage page) (slice_range css i (length css))) (sym same) left

@@ -7,7 +7,7 @@ use Rattle.left_right.specs.Register.{Admits, Turns, TurnsAt}
 use Rattle.arc_graph.specs.History.{History}
 use Rattle.epoch_store.specs.Origin.{Origin}
 use Rattle.epoch_store.specs.Published.{Published, Publication, with_publication}
-use Rattle.epoch_store.specs.Standing.{BeginsWithAll, MayFollow, Looks, Stands}
+use Rattle.epoch_store.specs.StoreRule.{BeginsWithAll, MayFollow, Looks, Stands}
 use Rattle.epoch_store.proofs.PrefixLemmas.{prefix_self, prefix_trans}
 
 -- a new reader has seen nothing

@@ -11,7 +11,7 @@ use Rattle.arc_graph.proofs.HistoryLemmas.{sets_of_both, epoch_arcs, epoch_crite
 use Rattle.arc_graph.proofs.PageLemmas.{same_by_pages}
 use Rattle.epoch_store.specs.Origin.{Origin, arcs_of, criteria_of, last_number, last_weights}
 use Rattle.epoch_store.specs.Published.{Published}
-use Rattle.epoch_store.specs.Standing.{IsBrought, IsEpoch, IsShown}
+use Rattle.epoch_store.specs.StoreRule.{IsBrought, IsEpoch, IsShown}
 
 -- a page whose number is no greater than the snapshot's is as it was
 pub page_stands : (o : Origin) (seen : History) (p : Published) (w : Weights) (n page : ℕ) → IsPrefix seen p.history → IsEpoch o p

@@ -1,6 +1,7 @@
 -- When a request to the operator is refused, and how. Want of memory may come at any time.
 use Rattle.std.specs.Prelude.{◌≡◌, ℕ, ◌≤◌, ◌<◌, List, length, All}
-use Rattle.arc_graph.specs.History.{Operator, max_epoch, max_pending}
+use Rattle.arc_graph.specs.History.{Operator, max_pending}
+use Rattle.road_network.specs.Limits.{max_epoch}
 use Rattle.epoch_store.specs.Origin.{Origin, arcs_of, last_number}
 use Rattle.epoch_store.specs.declared.fault.SetFault.{SetFault}
 use Rattle.epoch_store.specs.declared.fault.SetFault.TheVariants as set

@@ -1,5 +1,6 @@
 pub mod Origin
 pub mod Chronicle
 pub mod Published
-pub mod Standing
+pub mod EndMark
+pub mod StoreRule
 pub mod Faults

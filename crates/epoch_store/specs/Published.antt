@@ -6,10 +6,19 @@ use Rattle.arc_graph.specs.History.{History, with_changes}
 use Rattle.arc_graph.specs.History.HistoryEntry.{Changes, Closed}
 use Rattle.arc_graph.specs.Pages.{page_of}
 
+-- A history that was drawn up, with its place in the chronicle.
+pub record Drawn : Type 0 where
+  pub place : ℕ
+  pub history : History
+
+-- a history, or the closed one that it becomes
+abbrev pub ended_if : Bool → History → History
+ended_if false h = h
+ended_if true h = h ++ Closed ∷ []
+
 -- An epoch, with a number for each page of its weights, and the history that led to it, which the code keeps as a witness.
 pub record Published : Type 0 where
   pub number : ℕ
-  pub closed : Bool
   pub weights : Weights
   pub pages : List ℕ
   pub history : History
@@ -18,10 +27,9 @@ pub record Published : Type 0 where
 abbrev pub of_sets : List (List Change) → History
 of_sets css = map Changes css
 
--- one publication: the next epoch's number, whether the history is closed, the changes, and the whole history
+-- one publication: the next epoch's number, its changes, and the whole history
 pub record Publication : Type 0 where
   pub number : ℕ
-  pub closed : Bool
   pub changes : List Change
   pub history : History
 
@@ -37,7 +45,6 @@ with_page_numbers number pages cs = fold (with_page_number number) pages cs
 abbrev pub with_publication : Published → Publication → Published
 with_publication p q = record {
   number = q.number;
-  closed = q.closed;
   weights = with_changes p.weights q.changes;
   pages = with_page_numbers q.number p.pages q.changes;
   history = q.history;
@@ -45,8 +52,4 @@ with_publication p q = record {
 
 -- the publication of an epoch, by the change sets of before and those that are pending
 abbrev pub epoch_of : ℕ → List (List Change) → List Change → Publication
-epoch_of number css cs = record { number = number; closed = false; changes = cs; history = of_sets css ++ Changes cs ∷ [] }
-
--- the publication that no more are to come
-abbrev pub closing_of : ℕ → List (List Change) → Publication
-closing_of number css = record { number = number; closed = true; changes = []; history = of_sets css ++ Closed ∷ [] }
+epoch_of number css cs = record { number = number; changes = cs; history = of_sets css ++ Changes cs ∷ [] }

@@ -1,7 +1,7 @@
 //! The chronicle of a store, a list of histories that stands in proofs alone. The code has the number of these
 //! histories, and witnesses, which say that a history was drawn up in the store. Two witnesses of one place in the list
 //! are of one history.
-ghost use Rattle.std.specs.Prelude.{◌≡◌, [], None, IsTrue, IfSome};
+ghost use Rattle.std.specs.Prelude.{◌≡◌, ◌↔◌, [], None, IsTrue, IfSome};
 
 use crate::draft::Draft;
 use crate::history::History;
@@ -94,7 +94,7 @@ impl Chronicle {
     }
 }
 
-/// That a history was drawn up in the store. Contracts see the history.
+/// That a history was drawn up in the store. Contracts see the history, and its place in the chronicle.
 #[derive(Drop)]
 pub struct Witness<S: Store> {
     place: u64,
@@ -104,12 +104,12 @@ pub struct Witness<S: Store> {
 
 impl<S: Store> Model for Witness<S> {
     ghost use Rattle.std.specs.Prelude.{◌≡◌, length};
-    ghost use Rattle.arc_graph.specs.History.{History};
     ghost use Rattle.epoch_store.specs.Chronicle.{latest};
+    ghost use Rattle.epoch_store.specs.Published.{Drawn};
 
-    ghost Value = { History };
+    ghost Value = { Drawn };
 
-    ghost view = { λ w. latest w.seen.log };
+    ghost view = { λ w. record { place = w.place; history = latest w.seen.log } };
 
     ghost invariant = { λ w. (w.place ≡ length w.seen.log) × (w.seen.book ≡ S.origin.chronicle) };
 }
@@ -128,7 +128,7 @@ impl<S: Store> Witness<S> {
 
     /// Whether both stand at one place, and so are of one history.
     pub(crate) fn agrees(&self, other: &Witness<S>) -> bool
-        ensures { IsTrue result → self.now ≡ other.now }
+        ensures { IsTrue result ↔ self.now ≡ other.now }
     {
         let mut both = self.seen.again();
         both.learn(&other.seen);
@@ -162,7 +162,7 @@ impl<S: Store> Model for Keeper<S> {
 impl<S: Store> Keeper<S> {
     /// A witness of the history that was added last.
     pub(crate) fn last(&self) -> Witness<S>
-        ensures { result ≡ self.now }
+        ensures { result.history ≡ self.now }
     {
         Witness {
             place: self.place,
@@ -174,7 +174,7 @@ impl<S: Store> Keeper<S> {
     /// Adds the history that the draft leads to. It doesn't where the count has reached its end.
     pub(crate) fn add<M: Plain<Draft, History, u64>>(&mut self, draft: &Draft) -> Option<Witness<S>>
         requires { M.state draft.now ≡ None }
-        ensures { IfSome result (λ w. w ≡ M.ask draft.now) }
+        ensures { IfSome result (λ w. w.history ≡ M.ask draft.now) }
     {
         let place = self.place;
         let next = place.checked_add(1)?;

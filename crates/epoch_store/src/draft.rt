@@ -63,16 +63,3 @@ impl Plain<Draft, History, u64> for Publishing {
 
     ghost state = { λ d. None };
 }
-
-/// To publish no more.
-pub(crate) struct Closing;
-
-impl Plain<Draft, History, u64> for Closing {
-    ghost use Rattle.std.specs.Prelude.{None, [], ◌∷◌, ◌++◌};
-    ghost use Rattle.arc_graph.specs.History.HistoryEntry.{Closed};
-    ghost use Rattle.epoch_store.specs.Published.{of_sets};
-
-    ghost ask = { λ d. of_sets d.sets.items ++ Closed ∷ [] };
-
-    ghost state = { λ d. None };
-}

@@ -1,4 +1,4 @@
-use cost_vector::OutOfMemory;
+use out_of_memory::OutOfMemory;
 
 /// Why an arc isn't given other weights. The first that holds is told.
 #[derive(Clone, Copy, Debug, PartialEq, Eq)]

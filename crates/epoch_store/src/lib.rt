@@ -3,6 +3,7 @@
 
 mod chronicle;
 mod draft;
+mod end_mark;
 mod fault;
 mod history;
 mod laws;
@@ -18,6 +19,6 @@ pub use draft::ChangeSet;
 pub use fault::{PublishFault, SetFault, ShutFault};
 pub use laws::closed_histories_go_no_further;
 pub use making::make;
-pub use operator::{CloseRefused, Ended, Operator};
+pub use operator::{Ended, Operator};
 pub use reader::{EpochReader, Snapshot};
 pub use store::Store;

@@ -1,21 +1,23 @@
 //! How a store is made.
 ghost use Rattle.std.specs.Prelude.{◌≡◌, ◌≤◌, ◌<◌, [], All, IfOk, vec_len};
 ghost use Rattle.epoch_store.specs.Origin.{max_readers};
-ghost use Rattle.epoch_store.specs.Standing.{opening_of};
+ghost use Rattle.epoch_store.specs.StoreRule.{opening_of};
 
 use crate::chronicle::{Chronicle, Witness};
+use crate::end_mark::{MarkWriter, unset_mark};
 use crate::operator::Operator;
 use crate::published::Published;
-use crate::reader::{EpochReader, Shown};
+use crate::reader::{EpochReader, Readers, Shown};
 use crate::rule::StoreWriter;
 use crate::store::Store;
 use arc_graph::Weights;
-use cost_vector::OutOfMemory;
+use out_of_memory::OutOfMemory;
 use std::alloc::Global;
 use std::mem::ManuallyDrop;
 
 /// Makes a store with an operator and so many readers, 1 to 16. The current epoch has the first number and these
-/// weights. A reader that is refused its place counts as want of memory; the memory of the store is lost then.
+/// weights. All memory that closing it takes is taken here. A reader that is refused its place counts as want of memory; the
+/// memory of the store is lost then.
 pub fn make<S: Store>(
     alloc: Global,
     chronicle: Chronicle,
@@ -37,16 +39,16 @@ pub fn make<S: Store>(
     let shown = snapshots(alloc, first, &weights, &history, readers)?;
     let places = Vec::with_capacity(alloc, shown.len())?;
     let second = opening(alloc, first, weights.try_copy()?, &history)?;
-    let writer = StoreWriter::new(
-        alloc,
-        opening(alloc, first, weights, &history)?,
-        second,
-        readers as usize,
-    )?;
-    match seat_readers(&writer, shown, places) {
-        Ok(seated) => Ok((Operator::new(alloc, first, keeper, writer), seated)),
+    let opening = opening(alloc, first, weights, &history)?;
+    let mark = unset_mark(alloc, readers)?;
+    let Ok(writer) = StoreWriter::new(alloc, opening, second, readers as usize) else {
+        let _lost = unsafe { ManuallyDrop::new_unchecked(mark) };
+        return Err(OutOfMemory);
+    };
+    match seat_readers(&writer, &mark, shown, places) {
+        Ok(seated) => Ok((Operator::new(alloc, first, keeper, writer, mark), seated)),
         Err(_) => {
-            let _lost = unsafe { ManuallyDrop::new_unchecked(writer) };
+            let _lost = unsafe { ManuallyDrop::new_unchecked((writer, mark)) };
             Err(OutOfMemory)
         }
     }
@@ -60,13 +62,12 @@ fn opening<S: Store>(
     history: &Witness<S>,
 ) -> Result<Published<S>, OutOfMemory>
     requires weights { weights ≡ S.origin.base }
-    requires nothing { history.now ≡ [] }
+    requires nothing { history.now.history ≡ [] }
     ensures { IfOk result (λ p. p ≡ opening_of S.origin first) }
 {
     let pages = vec![in alloc; first; weights.pages()]?;
     Ok(Published {
         number: first,
-        closed: false,
         weights,
         pages,
         history: history.again(),
@@ -83,7 +84,7 @@ fn snapshots<S: Store>(
 ) -> Result<Vec<Shown<S>>, OutOfMemory>
     requires first { first ≡ S.origin.first }
     requires weights { weights.now ≡ S.origin.base }
-    requires nothing { history.now ≡ [] }
+    requires nothing { history.now.history ≡ [] }
     ensures readers { IfOk result (λ v. vec_len v ≡ readers) }
     ensures unread { IfOk result (λ v. All (λ h. h ≡ []) v.items) }
 {
@@ -97,6 +98,7 @@ fn snapshots<S: Store>(
 /// Gives each snapshot a reader of its own, in these places.
 fn seat_readers<S: Store>(
     writer: &StoreWriter<S>,
+    mark: &MarkWriter,
     snapshots: Vec<Shown<S>>,
     places: Vec<EpochReader<S>>,
 ) -> Result<Vec<EpochReader<S>>, OutOfMemory>
@@ -108,7 +110,9 @@ fn seat_readers<S: Store>(
     let mut rest = snapshots;
     let mut seated = places;
     while let Some(shown) = rest.pop() {
-        seated.push(EpochReader::new(writer.factory().reader()?, shown))?;
+        let epochs = writer.factory().reader()?;
+        let mark = mark.factory().reader()?;
+        seated.push(EpochReader::new(Readers { epochs, mark }, shown))?;
     }
     Ok(seated)
 }

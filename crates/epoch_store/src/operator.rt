@@ -1,15 +1,16 @@
 //! The operator of a store.
 ghost use Rattle.std.specs.Prelude.{◌≡◌, ◌<◌, [], ◌∷◌, ◌++◌, ◌↔◌, Some, None, length, drop, fold, vec_len, vec_capacity, All, IsTrue, IsOk, IfOk, IfErr, OnOk, OnErr};
 ghost use Rattle.arc_graph.specs.History.{IsChange, closed_history, max_pending, sets_of, with_none_pending, with_pending, with_published};
-ghost use Rattle.arc_graph.specs.History.HistoryEntry.{Closed};
 ghost use mathlib.Core.List.{IsPrefix};
+ghost use Rattle.epoch_store.specs.EndMark.{IsReady};
 ghost use Rattle.epoch_store.specs.Faults.{HasPublishFault, MayPend, HasSetFault, HasShutFault, HasArc, MayPublish, MaySet, MayShut};
 ghost use Rattle.epoch_store.specs.Origin.{IsOperatorIn, arcs_of, criteria_of, last_number};
-ghost use Rattle.epoch_store.specs.Published.{closing_of, epoch_of, of_sets, with_publication};
-ghost use Rattle.epoch_store.specs.Standing.{AwaitsOne, MayFollow};
+ghost use Rattle.epoch_store.specs.Published.{epoch_of, of_sets, with_publication};
+ghost use Rattle.epoch_store.specs.StoreRule.{AwaitsOne, MayFollow};
 
 use crate::chronicle::Keeper;
-use crate::draft::{ChangeSet, Closing, Draft, Publishing};
+use crate::draft::{ChangeSet, Draft, Publishing};
+use crate::end_mark::{MarkWriter, set_mark};
 use crate::fault::{PublishFault, SetFault, ShutFault};
 use crate::published::{Publication, Published};
 use crate::reader::EpochReader;
@@ -17,8 +18,9 @@ use crate::rule::{Look, StoreWriter};
 use crate::store::Store;
 use arc_graph::Change;
 use core::mem::replace_with;
-use cost_vector::{ArcNo, OutOfMemory, Weight};
+use cost_vector::{ArcNo, Weight};
 use left_right::Absorb;
+use out_of_memory::OutOfMemory;
 use std::alloc::Global;
 use std::marker::Model;
 use std::sync::Wait;
@@ -39,6 +41,7 @@ where
     draft: Draft,
     keeper: Keeper<S>,
     writer: StoreWriter<S>,
+    mark: MarkWriter,
 }
 
 impl<S: Store> Model for Operator<S>
@@ -47,6 +50,7 @@ where
 {
     ghost use Rattle.std.specs.Prelude.{◌≡◌, [], drop};
     ghost use Rattle.arc_graph.specs.History.{Operator};
+    ghost use Rattle.epoch_store.specs.EndMark.{IsReady};
     ghost use Rattle.epoch_store.specs.Published.{of_sets};
     ghost use Rattle.epoch_store.specs.Origin.{IsOperatorIn, last_number};
 
@@ -59,12 +63,8 @@ where
         × (o.first ≡ S.origin.first)
         × (o.number ≡ last_number S.origin (of_sets o.draft.sets.items))
         × (o.writer.desk.shown.value.history ≡ of_sets o.draft.sets.items)
-        × (drop o.writer.behind o.writer.log.items ≡ []) };
-}
-
-/// That there was no memory to close, with the operator as it was.
-pub struct CloseRefused<S: Store> {
-    pub operator: Operator<S>,
+        × (drop o.writer.behind o.writer.log.items ≡ [])
+        × IsReady (drop o.mark.behind o.mark.log.items) };
 }
 
 /// A store that its operator has closed. Contracts see its whole history.
@@ -77,21 +77,24 @@ where
     /// The number of the last epoch.
     last: u32,
     pub(crate) writer: StoreWriter<S>,
+    mark: MarkWriter,
 }
 
 impl<S: Store> Model for Ended<S>
 where
     Published<S>: Absorb<Publication<S>, State = Published<S>>,
 {
-    ghost use Rattle.std.specs.Prelude.{◌≡◌};
+    ghost use Rattle.std.specs.Prelude.{◌≡◌, true};
     ghost use Rattle.arc_graph.specs.History.{History};
     ghost use Rattle.epoch_store.specs.Origin.{last_number};
+    ghost use Rattle.epoch_store.specs.Published.{ended_if};
 
     ghost Value = { History };
 
-    ghost view = { λ e. e.writer.desk.shown.value.history };
+    ghost view = { λ e. ended_if true e.writer.desk.shown.value.history };
 
-    ghost invariant = { λ e. e.last ≡ last_number S.origin e.writer.desk.shown.value.history };
+    ghost invariant = { λ e. (e.last ≡ last_number S.origin (ended_if true e.writer.desk.shown.value.history))
+        × (e.mark.desk.shown.value.closed ≡ true) };
 }
 
 impl<S: Store> Operator<S> {
@@ -101,10 +104,12 @@ impl<S: Store> Operator<S> {
         first: u32,
         keeper: Keeper<S>,
         writer: StoreWriter<S>,
+        mark: MarkWriter,
     ) -> Operator<S>
         requires first { first ≡ S.origin.first }
         requires shown { writer.desk.shown.value.history ≡ [] }
         requires idle { drop writer.behind writer.log.items ≡ [] }
+        requires ready { IsReady (drop mark.behind mark.log.items) }
         ensures { result ≡ record { published = []; pending = [] } }
     {
         let draft = Draft {
@@ -118,6 +123,7 @@ impl<S: Store> Operator<S> {
             draft,
             keeper,
             writer,
+            mark,
         }
     }
 
@@ -220,43 +226,28 @@ impl<S: Store> Operator<S> {
 
     /// Brings a reader's look to what is published now.
     pub fn tell(&self, reader: &mut EpochReader<S>) -> Result<(), OutOfMemory>
-        ensures told { OnOk result (reader.new ≡ self.now.published) }
+        ensures published { OnOk result (reader.new ≡ self.now.published) }
         ensures begins { IsPrefix reader.old reader.new }
         ensures unchanged { OnErr result (reader.new ≡ reader.old) }
     {
-        reader.look(Some(self.writer.published().history.again()))
+        reader.look(Some((self.writer.published().history.again(), false)))
     }
 
-    /// Ends the history. Pending changes aren't published. All memory is taken before the one step at which readers can
-    /// see it. It may wait for readers.
-    pub fn close<R: Wait>(self, rt: &R) -> Result<Ended<S>, CloseRefused<S>>
-        ensures ended { IfOk result (λ e. e ≡ closed_history self) }
-        ensures refused { IfErr result (λ r. r.operator ≡ self) }
+    /// Ends the history. Pending changes aren't published. It takes no memory, and may wait for readers.
+    pub fn close<R: Wait>(self, rt: &R) -> Ended<S>
+        ensures { result ≡ closed_history self }
     {
         let Operator {
-            alloc,
-            first,
-            number,
-            draft,
-            mut keeper,
-            mut writer,
+            alloc: _,
+            first: _,
+            number: last,
+            draft: _,
+            keeper: _,
+            writer,
+            mark,
         } = self;
-        match end_history(rt, alloc, number, &draft, &mut keeper, &mut writer) {
-            Ok(()) => Ok(Ended {
-                last: number,
-                writer,
-            }),
-            Err(_) => Err(CloseRefused {
-                operator: Operator {
-                    alloc,
-                    first,
-                    number,
-                    draft,
-                    keeper,
-                    writer,
-                },
-            }),
-        }
+        let mark = set_mark(mark, rt);
+        Ended { last, writer, mark }
     }
 
     fn has_arc(&self, arc: u32) -> bool
@@ -288,8 +279,9 @@ impl<S: Store> Ended<S> {
     pub fn end<R: Wait>(self, rt: &R) -> u32
         ensures { result ≡ last_number S.origin self }
     {
-        let Ended { last, writer } = self;
+        let Ended { last, writer, mark } = self;
         writer.take(rt);
+        mark.take(rt);
         last
     }
 }
@@ -309,38 +301,9 @@ fn next_epoch<S: Store>(
     let history = keeper.add::<Publishing>(draft).ok_or(OutOfMemory)?;
     Ok(Publication {
         number,
-        closed: false,
         changes,
         history,
     })
-}
-
-/// Hands over to the readers that the history has ended. Nothing changes where there is no memory for it.
-fn end_history<S: Store, R: Wait>(
-    rt: &R,
-    alloc: Global,
-    number: u32,
-    draft: &Draft,
-    keeper: &mut Keeper<S>,
-    writer: &mut StoreWriter<S>,
-) -> Result<(), OutOfMemory>
-    requires idle { drop writer.old.behind writer.old.log.items ≡ [] }
-    requires follows { MayFollow S.origin writer.old.desk.shown.value
-        (closing_of number draft.now.sets.items) }
-    ensures shown { OnOk result (writer.new.desk.shown.value.history
-        ≡ of_sets draft.now.sets.items ++ Closed ∷ []) }
-    ensures unchanged { OnErr result (writer.new.desk.shown.value
-        ≡ writer.old.desk.shown.value) }
-    ensures idle { drop writer.new.behind writer.new.log.items ≡ [] }
-{
-    let history = keeper.add::<Closing>(draft).ok_or(OutOfMemory)?;
-    let publication = Publication {
-        number,
-        closed: true,
-        changes: Vec::new(alloc),
-        history,
-    };
-    hand_over(rt, writer, publication)
 }
 
 /// Hands a publication over to the readers. Nothing changes where there is no memory for it.

@@ -15,7 +15,6 @@ use std::marker::Model;
 #[derive(Drop)]
 pub struct Published<S: Store> {
     pub(crate) number: u32,
-    pub(crate) closed: bool,
     pub(crate) weights: Weights,
     /// For each page of the weights, the number of the last epoch that changed it, or the first number.
     pub(crate) pages: Vec<u32>,
@@ -32,10 +31,9 @@ impl<S: Store> Model for Published<S> {
 
     ghost view = { λ p. record {
       number = p.number;
-      closed = p.closed;
       weights = p.weights;
       pages = p.pages.items;
-      history = p.history;
+      history = p.history.history;
     } };
 
     ghost invariant = { λ p. (p.weights.criteria ≡ criteria_of S.origin)
@@ -47,7 +45,6 @@ impl<S: Store> Model for Published<S> {
 #[derive(Drop)]
 pub struct Publication<S: Store> {
     pub(crate) number: u32,
-    pub(crate) closed: bool,
     pub(crate) changes: Vec<Change>,
     pub(crate) history: Witness<S>,
 }
@@ -62,9 +59,8 @@ impl<S: Store> Model for Publication<S> {
 
     ghost view = { λ q. record {
       number = q.number;
-      closed = q.closed;
       changes = q.changes.items;
-      history = q.history;
+      history = q.history.history;
     } };
 
     ghost invariant = { λ q. All (IsChange (arcs_of S.origin) (criteria_of S.origin)) q.changes.items };
@@ -80,7 +76,6 @@ impl<S: Store> Published<S> {
             self.pages[Weights::page_of(change.arc)] = publication.number;
         }
         self.number = publication.number;
-        self.closed = publication.closed;
         self.history = publication.history.again();
     }
 }

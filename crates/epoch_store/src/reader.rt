@@ -1,18 +1,20 @@
 //! The readers of a store.
-ghost use Rattle.std.specs.Prelude.{◌≡◌, ◌<◌, [], length, Some, IfSome, OnOk, OnErr};
+ghost use Rattle.std.specs.Prelude.{◌≡◌, ◌<◌, ◌↔◌, false, [], length, Some, IfSome, IsOk, OnOk, OnErr};
 ghost use mathlib.Core.List.{IsPrefix};
 ghost use Rattle.arc_graph.specs.History.{ends_closed};
 ghost use Rattle.left_right.specs.Sides.{view};
 ghost use Rattle.epoch_store.specs.Origin.{IsPublishedIn, arcs_of, criteria_of, last_number, last_weights};
-ghost use Rattle.epoch_store.specs.Standing.{IsEpoch, IsShown};
+ghost use Rattle.epoch_store.specs.Published.{ended_if};
+ghost use Rattle.epoch_store.specs.StoreRule.{IsEpoch, IsShown};
 
 use crate::chronicle::Witness;
+use crate::end_mark::{MarkReader, look_for_mark};
 use crate::operator::Ended;
 use crate::published::Published;
 use crate::rule::{Look, StoreReader};
 use crate::store::Store;
 use arc_graph::Weights;
-use cost_vector::OutOfMemory;
+use out_of_memory::OutOfMemory;
 use std::marker::Model;
 
 /// An epoch, whole.
@@ -24,7 +26,7 @@ pub struct Snapshot {
     pub weights: Weights,
 }
 
-/// A snapshot, and the history whose last epoch it is. Contracts see the history.
+/// A snapshot, and the history whose last epoch it is, but for its end. Contracts see the whole history.
 #[derive(Drop)]
 pub(crate) struct Shown<S: Store> {
     pub snapshot: Snapshot,
@@ -33,13 +35,15 @@ pub(crate) struct Shown<S: Store> {
 
 impl<S: Store> Model for Shown<S> {
     ghost use Rattle.arc_graph.specs.History.{History};
-    ghost use Rattle.epoch_store.specs.Standing.{IsShown};
+    ghost use Rattle.epoch_store.specs.Published.{ended_if};
+    ghost use Rattle.epoch_store.specs.StoreRule.{IsShown};
 
     ghost Value = { History };
 
-    ghost view = { λ s. s.history };
+    ghost view = { λ s. ended_if s.snapshot.closed s.history.history };
 
-    ghost invariant = { λ s. IsShown S.origin s.history s.snapshot.number s.snapshot.closed s.snapshot.weights };
+    ghost invariant = { λ s. IsShown S.origin (ended_if s.snapshot.closed s.history.history)
+        s.snapshot.number s.snapshot.closed s.snapshot.weights };
 }
 
 impl<S: Store> Shown<S> {
@@ -47,7 +51,7 @@ impl<S: Store> Shown<S> {
     pub(crate) fn first(first: u32, weights: Weights, history: Witness<S>) -> Shown<S>
         requires first { first ≡ S.origin.first }
         requires weights { weights ≡ S.origin.base }
-        requires nothing { history ≡ [] }
+        requires nothing { history.history ≡ [] }
         ensures { result ≡ [] }
     {
         Shown {
@@ -70,11 +74,11 @@ impl<S: Store> Shown<S> {
         &self.snapshot
     }
 
-    /// Goes on to an epoch that was found, in place: it copies the pages that have changed.
-    fn take_over(&mut self, published: &Published<S>)
+    /// Goes on to an epoch that was found, the last where `closed`, in place: it copies the pages that have changed.
+    fn take_over(&mut self, published: &Published<S>, closed: bool)
         requires epoch { IsEpoch S.origin published.now }
         requires begins { IsPrefix self.old published.now.history }
-        ensures { self.new ≡ published.now.history }
+        ensures { self.new ≡ ended_if closed published.now.history }
     {
         let seen = self.snapshot.number;
         for page in 0..published.pages.len() {
@@ -83,9 +87,16 @@ impl<S: Store> Shown<S> {
             }
         }
         self.snapshot.number = published.number;
-        self.snapshot.closed = published.closed;
+        self.snapshot.closed = closed;
         self.history = published.history.again();
     }
+}
+
+/// What a reader looks by: at epochs, and for the mark that no more will come.
+#[derive(Drop)]
+pub(crate) struct Readers<S: Store> {
+    pub epochs: StoreReader<S>,
+    pub mark: MarkReader,
 }
 
 /// A reader, with a snapshot of its own. Contracts see the history that it has seen, was told of or has learnt; the
@@ -93,12 +104,13 @@ impl<S: Store> Shown<S> {
 #[derive(Drop)]
 pub struct EpochReader<S: Store> {
     /// None during a look alone.
-    reader: Option<StoreReader<S>>,
+    readers: Option<Readers<S>>,
     shown: Shown<S>,
 }
 
 impl<S: Store> Model for EpochReader<S> {
     ghost use Rattle.arc_graph.specs.History.{History};
+    ghost use Rattle.epoch_store.specs.Published.{ended_if};
     ghost use Rattle.left_right.specs.Sides.{view as seen_by};
     ghost use Rattle.std.specs.Prelude.{MatchOption};
     ghost use mathlib.Core.List.{IsPrefix};
@@ -107,16 +119,17 @@ impl<S: Store> Model for EpochReader<S> {
 
     ghost view = { λ r. r.shown };
 
-    ghost invariant = { λ r. MatchOption r.reader ⊥ (λ x. IsPrefix r.shown (seen_by x.place)) };
+    ghost invariant = { λ r. MatchOption r.readers ⊥
+        (λ x. IsPrefix r.shown (ended_if (seen_by x.mark.place) (seen_by x.epochs.place))) };
 }
 
 impl<S: Store> EpochReader<S> {
-    pub(crate) fn new(reader: StoreReader<S>, shown: Shown<S>) -> EpochReader<S>
-        requires { IsPrefix shown (view reader.place) }
+    pub(crate) fn new(readers: Readers<S>, shown: Shown<S>) -> EpochReader<S>
+        requires { IsPrefix shown (view readers.epochs.place) }
         ensures { result ≡ shown }
     {
         EpochReader {
-            reader: Some(reader),
+            readers: Some(readers),
             shown,
         }
     }
@@ -147,42 +160,85 @@ impl<S: Store> EpochReader<S> {
         ensures begins { IsPrefix self.old self.new }
         ensures unchanged { OnErr result (self.new ≡ self.old) }
     {
-        self.look(Some(ended.writer.published().history.again()))
+        self.look(Some((ended.writer.published().history.again(), true)))
     }
 
-    /// Looks once, and goes on to what it finds; where a history is named, only if it finds that one.
-    pub(crate) fn look(&mut self, only: Option<Witness<S>>) -> Result<(), OutOfMemory>
-        ensures named { OnOk result (IfSome only (λ w. self.new ≡ w)) }
+    /// Looks once, and goes on to what it finds; where a history is named, open or closed, only if it finds that one. A
+    /// closed history goes no further.
+    pub(crate) fn look(&mut self, only: Option<(Witness<S>, bool)>) -> Result<(), OutOfMemory>
+        ensures named { OnOk result (IfSome only (λ w. self.new ≡ ended_if w.1 w.0.history)) }
         ensures begins { IsPrefix self.old self.new }
         ensures unchanged { OnErr result (self.new ≡ self.old) }
     {
-        let reader = self.reader.take().unwrap();
-        let (reader, taken) = look_by(reader, &mut self.shown, only);
-        self.reader = Some(reader);
+        if self.shown.snapshot.closed {
+            return expect(&self.shown.history, true, only);
+        }
+        let readers = self.readers.take().unwrap();
+        let (readers, taken) = look_by(readers, &mut self.shown, only);
+        self.readers = Some(readers);
         taken
     }
 }
 
-/// Looks by a reader of the store, which comes back.
+/// Refuses a history, open or closed, where another one is named.
+fn expect<S: Store>(
+    history: &Witness<S>,
+    closed: bool,
+    only: Option<(Witness<S>, bool)>,
+) -> Result<(), OutOfMemory>
+    ensures { IsOk result ↔ IfSome only (λ w. (w.0 ≡ history.now) × (w.1 ≡ closed)) }
+{
+    match only {
+        Some((named, ended)) if ended != closed || !named.agrees(history) => Err(OutOfMemory),
+        _ => Ok(()),
+    }
+}
+
+/// Looks by the readers of the store, which come back: first for the mark, so that the epoch is the last where it is set.
 fn look_by<S: Store>(
+    readers: Readers<S>,
+    shown: &mut Shown<S>,
+    only: Option<(Witness<S>, bool)>,
+) -> (Readers<S>, Result<(), OutOfMemory>)
+    requires { IsPrefix shown.old (view readers.epochs.place) }
+    ensures takes_in { OnOk result.1 (shown.new
+        ≡ ended_if (view result.0.mark.place) (view result.0.epochs.place)) }
+    ensures named { OnOk result.1 (IfSome only (λ w. shown.new ≡ ended_if w.1 w.0.history)) }
+    ensures begins { IsPrefix shown.old shown.new }
+    ensures seen { IsPrefix shown.new
+        (ended_if (view result.0.mark.place) (view result.0.epochs.place)) }
+    ensures unchanged { OnErr result.1 (shown.new ≡ shown.old) }
+{
+    let Readers { epochs, mark } = readers;
+    let (mark, closed) = look_for_mark(mark);
+    let (epochs, taken) = match closed {
+        Ok(closed) => look_at_epoch(epochs, shown, closed, only),
+        Err(refused) => (epochs, Err(refused)),
+    };
+    (Readers { epochs, mark }, taken)
+}
+
+/// Looks at the epoch that is published, by a reader, which comes back. It is the last where `closed`.
+fn look_at_epoch<S: Store>(
     reader: StoreReader<S>,
     shown: &mut Shown<S>,
-    only: Option<Witness<S>>,
+    closed: bool,
+    only: Option<(Witness<S>, bool)>,
 ) -> (StoreReader<S>, Result<(), OutOfMemory>)
     requires { IsPrefix shown.old (view reader.place) }
-    ensures named { OnOk result.1 (IfSome only (λ w. shown.new ≡ w)) }
+    ensures takes_in { OnOk result.1 (shown.new ≡ ended_if closed (view result.0.place)) }
+    ensures named { OnOk result.1 (IfSome only (λ w. shown.new ≡ ended_if w.1 w.0.history)) }
     ensures begins { IsPrefix shown.old shown.new }
-    ensures seen { IsPrefix shown.new (view result.0.place) }
+    ensures seen { IsPrefix shown.new (ended_if closed (view result.0.place)) }
     ensures unchanged { OnErr result.1 (shown.new ≡ shown.old) }
 {
     match reader.enter_as::<Look<S>>() {
         Ok(reading) => {
             let published = reading.get();
-            let is_wanted = only.is_none_or(|history| history.agrees(&published.history));
-            if !is_wanted {
-                return (reading.leave(), Err(OutOfMemory));
+            if let Err(refused) = expect(&published.history, closed, only) {
+                return (reading.leave(), Err(refused));
             }
-            shown.take_over(published);
+            shown.take_over(published, closed);
             (reading.leave(), Ok(()))
         }
         Err(reader) => (reader, Err(OutOfMemory)),

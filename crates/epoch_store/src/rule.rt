@@ -8,13 +8,13 @@ use left_right::writer::Writer;
 use std::marker::PhantomData;
 
 /// What readers find is the last epoch of one history, which begins with what each has seen.
-pub struct Standing<S: Store> {
+pub struct StoreRule<S: Store> {
     of: PhantomData<S>,
 }
 
-impl<S: Store> Protocol<Published<S>, History> for Standing<S> {
+impl<S: Store> Protocol<Published<S>, History> for StoreRule<S> {
     ghost use Rattle.std.specs.Prelude.{[]};
-    ghost use Rattle.epoch_store.specs.Standing.{Stands};
+    ghost use Rattle.epoch_store.specs.StoreRule.{Stands};
 
     ghost holds = { Stands S.origin };
 
@@ -27,11 +27,11 @@ pub(crate) struct Look<S: Store> {
 }
 
 impl<S: Store> Outcome<Published<S>, History> for Look<S> {
-    ghost use Rattle.epoch_store.specs.Standing.{Looks};
+    ghost use Rattle.epoch_store.specs.StoreRule.{Looks};
 
     ghost then = { λ before _ p after. Looks S.origin before p after };
 }
 
-pub(crate) type StoreReader<S> = Reader<Published<S>, History, Standing<S>>;
+pub(crate) type StoreReader<S> = Reader<Published<S>, History, StoreRule<S>>;
 
-pub(crate) type StoreWriter<S> = Writer<Published<S>, Publication<S>, History, Standing<S>>;
+pub(crate) type StoreWriter<S> = Writer<Published<S>, Publication<S>, History, StoreRule<S>>;

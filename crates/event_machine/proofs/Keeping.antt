@@ -11,7 +11,8 @@ use Rattle.list_laws.proofs.Members.{in_none, in_first, in_one}
 use Rattle.road_network.specs.Network.{Network}
 use Rattle.road_network.specs.Answers.{IsRelevant}
 use Rattle.road_network.proofs.Reached.{leads_alike}
-use Rattle.event_machine.specs.Machine.{Task, Label, IsSamePair, Beats, SearchState, Place, settled, waiting, entries_at, IsEntry, IsActive, waits}
+use Rattle.event_machine.specs.Machine.{Task, Beats, SearchState, Place, settled, waiting, entries_at, IsEntry, IsActive, waits}
+use Rattle.road_network.specs.Labels.{Label, IsSamePair}
 use Rattle.event_machine.specs.Machine.{is_candidate, IsTask, dropped, has_arc, IsBeatenAtTarget, LeadsOn, Follows, start_label, start_state, HasSettled}
 use Rattle.event_machine.specs.Events.{SameEntries, Becomes, Enters, IsMerged, keeps, lowers, discards, enters, Event, take, drop, relax, merge, MayTake, Takes}
 use Rattle.event_machine.specs.Events.{Drops, Relaxes, Merges, Happens, IsSame, Runs, IsReached}

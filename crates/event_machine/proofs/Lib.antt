@@ -1,3 +1,6 @@
 pub mod Running
 pub mod Sound
 pub mod Keeping
+pub mod CompletesLaws
+pub mod BegunLaws
+pub mod RoundLaws

@@ -2,7 +2,8 @@
 use Rattle.std.proofs.Common.{ℕ, ◌⊎◌, List, [], ◌∷◌, ◌++◌, ◌↔◌, arith, Contains}
 use Rattle.std.proofs.lemmas.List.Sorted.{IsPermutation-refl, IsPermutation-sym, IsPermutation-trans}
 use Rattle.cost_vector.specs.Costs.{Within}
-use Rattle.event_machine.specs.Machine.{Task, Label, SearchState, settled, waiting, IsBeatenAtTarget}
+use Rattle.event_machine.specs.Machine.{Task, SearchState, settled, waiting, IsBeatenAtTarget}
+use Rattle.road_network.specs.Labels.{Label}
 use Rattle.event_machine.specs.Events.{Event, IsSame, MayDrop, Happens, Runs}
 
 -- ---- same states

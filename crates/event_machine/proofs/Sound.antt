@@ -8,7 +8,7 @@ use Rattle.cost_vector.specs.Costs.{AtMost, Dominates, Within, plus}
 use Rattle.cost_vector.proofs.Vectors.{AtMost-refl, AtMost-trans, AtMost-antisymm, cases_same, cases_Dominates, AtMost-plus, AtMost-Dominates, Dominates-AtMost}
 use Rattle.cost_vector.proofs.Vectors.{Within-AtMost, plus_cancel, sum-Dominates}
 use Rattle.list_laws.specs.Sets.{HasMoreThan}
-use Rattle.list_laws.proofs.OnceLaws.{IsTold, told_as, told_both}
+use Rattle.list_laws.proofs.OnceLaws.{IsDecidable, decidable_as, decidable_both}
 use Rattle.list_laws.proofs.SetLaws.{none_of_empty, more_by_list}
 use Rattle.list_laws.proofs.Members.{in_none, in_one, cases_in}
 use Rattle.list_laws.proofs.Pairs.{pairs_none, pairs_cons}
@@ -21,10 +21,11 @@ use Rattle.road_network.proofs.BestLaws.{grows_along, best_before}
 use Rattle.road_network.proofs.BackwardLaws.{none_at_zero, with_last_arc}
 use Rattle.road_network.proofs.Reached.{leads_alike}
 use Rattle.road_network.proofs.SumLaws.{sum_of_none, sum_of_more, sum_of_most, small_by}
-use Rattle.event_machine.specs.Machine.{Task, Label, IsSamePair, Beats, SearchState, start_label, Place, entries_at, IsEntry, IsActive, IsBeatenAtTarget}
+use Rattle.event_machine.specs.Machine.{Task, Beats, SearchState, start_label, Place, entries_at, IsEntry, IsActive, IsBeatenAtTarget}
+use Rattle.road_network.specs.Labels.{Label, IsSamePair, HasLeastArc}
 use Rattle.event_machine.specs.Machine.{LeadsOn, Follows, IsTask, settled, dropped, waiting, waits, is_candidate, has_arc, HasSettled}
 use Rattle.event_machine.specs.Orders.{IsGiven, IsArrival}
-use Rattle.event_machine.specs.Laws.{IsKnown, HasLeastArc}
+use Rattle.event_machine.specs.Laws.{IsKnown}
 use Rattle.event_machine.specs.Events.{MayTake}
 use Rattle.event_machine.specs.Rounds.{NoneStays}
 
@@ -39,19 +40,19 @@ same_pair x y e = record { node = ap (λ (l : Label). l.node) e; cost = ap (λ (
 pub pair_back : (x y : Label) → IsSamePair x y → IsSamePair y x
 pair_back x y h = record { node = sym h.node; cost = sym h.cost }
 
-pub told_pair : (x y : Label) → IsTold (IsSamePair x y)
-told_pair x y = told_as (λ h. record { node = h.0; cost = h.1 }) (λ h. (h.node, h.cost)) (told_both (cases_eq x.node y.node) (cases_same x.cost y.cost))
+pub decidable_pair : (x y : Label) → IsDecidable (IsSamePair x y)
+decidable_pair x y = decidable_as (λ h. record { node = h.0; cost = h.1 }) (λ h. (h.node, h.cost)) (decidable_both (cases_eq x.node y.node) (cases_same x.cost y.cost))
 
-pub cases_label : (x y : Label) → IsTold (x ≡ y)
-cases_label x y = told_as (λ h. label_by_parts x y h.0 h.1) (λ e. (same_pair x y e, ap (λ (l : Label). l.arc) e))
-    (told_both (told_pair x y) (cases_eq x.arc y.arc))
+pub cases_label : (x y : Label) → IsDecidable (x ≡ y)
+cases_label x y = decidable_as (λ h. label_by_parts x y h.0 h.1) (λ e. (same_pair x y e, ap (λ (l : Label). l.arc) e))
+    (decidable_both (decidable_pair x y) (cases_eq x.arc y.arc))
 
-pub cases_pair : (p q : Label × ℕ) → IsTold (p ≡ q)
-cases_pair p q = told_as (λ h. ap₂ (λ (l : Label) (k : ℕ). (l, k)) h.0 h.1) (λ e. (ap (λ (r : Label × ℕ). r.0) e, ap (λ (r : Label × ℕ). r.1) e))
-    (told_both (cases_label p.0 q.0) (cases_eq p.1 q.1))
+pub cases_pair : (p q : Label × ℕ) → IsDecidable (p ≡ q)
+cases_pair p q = decidable_as (λ h. ap₂ (λ (l : Label) (k : ℕ). (l, k)) h.0 h.1) (λ e. (ap (λ (r : Label × ℕ). r.0) e, ap (λ (r : Label × ℕ). r.1) e))
+    (decidable_both (cases_label p.0 q.0) (cases_eq p.1 q.1))
 
-pub cases_beats : (x y : Label) → IsTold (Beats x y)
-cases_beats x y = told_as (λ h. record { node = h.0; cost = h.1 }) (λ h. (h.node, h.cost)) (told_both (cases_eq x.node y.node) (cases_Dominates x.cost y.cost))
+pub cases_beats : (x y : Label) → IsDecidable (Beats x y)
+cases_beats x y = decidable_as (λ h. record { node = h.0; cost = h.1 }) (λ h. (h.node, h.cost)) (decidable_both (cases_eq x.node y.node) (cases_Dominates x.cost y.cost))
 
 -- at one node what costs at most as much as another has its cost, or dominates it
 pub cases_below : (x y : Label) → x.node ≡ y.node → AtMost x.cost y.cost → IsSamePair x y ⊎ Beats x y

@@ -4,7 +4,8 @@
 use Rattle.std.specs.Prelude.{◌≡◌, ◌≢◌, ℕ, ◌<◌, ◌≤◌, ◌⊎◌, ◌↔◌, List, [], ◌∷◌, Contains, IsPermutation}
 use Rattle.cost_vector.specs.Costs.{Dominates, Within}
 use Rattle.list_laws.specs.Sets.{SameMembers, Loses}
-use Rattle.event_machine.specs.Machine.{Task, Label, IsSamePair, Beats, SearchState, start_state, Place, settled}
+use Rattle.event_machine.specs.Machine.{Task, Beats, SearchState, start_state, Place, settled}
+use Rattle.road_network.specs.Labels.{Label, IsSamePair}
 use Rattle.event_machine.specs.Machine.{dropped, waiting, entries_at, IsEntry, IsActive, IsBeatenAtTarget, LeadsOn}
 use Rattle.event_machine.specs.Machine.{Follows}
 

@@ -4,6 +4,7 @@
 use Rattle.std.specs.Prelude.{◌≡◌, ℕ, List, [], ◌∷◌, Option, length, replicate, Contains}
 use Rattle.cost_vector.specs.Costs.{Dominates, plus}
 use Rattle.road_network.specs.Network.{Network, IsNetwork, IsNode, Leads}
+use Rattle.road_network.specs.Labels.{Label}
 
 -- what is searched: the walks of a network from one node to another, within a limit
 pub record Task : Type 0 where
@@ -18,17 +19,6 @@ pub record IsTask (task : Task) : Type 0 where
   pub start : IsNode task.network.nodes task.start
   pub target : IsNode task.network.nodes task.target
   pub limit : length task.limit ≡ task.network.criteria
-
--- A label: some walk from the start to the node has this cost and this last arc, or no arc where the number is 0.
-pub record Label : Type 0 where
-  pub node : ℕ
-  pub cost : List ℕ
-  pub arc : ℕ
-
--- both labels are of one node and one cost
-pub record IsSamePair (x y : Label) : Type 0 where
-  pub node : x.node ≡ y.node
-  pub cost : x.cost ≡ y.cost
 
 -- x is of y's node, and its cost dominates y's
 pub record Beats (x y : Label) : Type 0 where

@@ -3,7 +3,8 @@ use Rattle.std.specs.Prelude.{◌≡◌, ℕ, ◌≤◌, ◌⊎◌, ◌↔◌, L
 use Rattle.cost_vector.specs.Costs.{Dominates}
 use Rattle.road_network.specs.Network.{Network}
 use Rattle.list_laws.specs.Sets.{ListsOnce}
-use Rattle.event_machine.specs.Machine.{Task, Label, IsSamePair, Beats, SearchState, Place, settled, dropped, waiting, entries_at, IsEntry}
+use Rattle.event_machine.specs.Machine.{Task, Beats, SearchState, Place, settled, dropped, waiting, entries_at, IsEntry}
+use Rattle.road_network.specs.Labels.{Label, IsSamePair}
 use Rattle.event_machine.specs.Machine.{LeadsOn, Follows}
 use Rattle.event_machine.specs.Events.{Event, relax, merge, MayDrop}
 

@@ -4,7 +4,8 @@ use Rattle.std.specs.Prelude.{AllPairs, Contains, IsPermutation}
 use Rattle.std.specs.List.{AllZip}
 use Rattle.road_network.specs.Network.{Network}
 use Rattle.list_laws.specs.Sets.{ListsOnce}
-use Rattle.event_machine.specs.Machine.{Label, SearchState}
+use Rattle.event_machine.specs.Machine.{SearchState}
+use Rattle.road_network.specs.Labels.{Label}
 use Rattle.event_machine.specs.Events.{Event, relax, merge}
 use Rattle.event_machine.specs.Orders.{IsArrival}
 
@@ -31,8 +32,12 @@ AreMergePieces net s cut = ListsOnce (IsArrival net s) (joined cut)
 abbrev pub merges_of : List (List Label) → List (List Event)
 merges_of cut = map (λ labels. map (λ x. merge x) labels) cut
 
+-- the events of the pieces of these numbers, piece by piece
+abbrev pub events_of : List (List Event) → List ℕ → List Event
+events_of pieces numbers = flat_map (λ i. slice_index_or pieces i []) numbers
+
 -- The numbers, from 0, are those of all pieces, each once, in the order in which they were drawn; and the events are
 -- those of the pieces so listed, each once, in any order.
 pub record AreDoneInPieces (pieces : List (List Event)) (numbers : List ℕ) (events : List Event) : Type 0 where
   pub drawn : ListsOnce (λ i. i < length pieces) numbers
-  pub done : IsPermutation (flat_map (λ i. slice_index_or pieces i []) numbers) events
+  pub done : IsPermutation (events_of pieces numbers) events

@@ -2,7 +2,8 @@
 use Rattle.std.specs.Prelude.{◌≡◌, ℕ, zero, suc, ◌⊎◌, List, [], map, Contains, IsPermutation}
 use Rattle.cost_vector.specs.Costs.{Dominates}
 use Rattle.list_laws.specs.Sets.{ListsOnce, HasMoreThan}
-use Rattle.event_machine.specs.Machine.{Task, Label, SearchState, start_state}
+use Rattle.event_machine.specs.Machine.{Task, SearchState, start_state}
+use Rattle.road_network.specs.Labels.{Label}
 use Rattle.event_machine.specs.Events.{Event, take, drop, relax, merge, IsSame, MayDrop, Runs}
 
 -- no arc is to be relaxed and no candidate to be merged

@@ -4,9 +4,10 @@ ghost use Rattle.road_network.specs.Network.{AreSmall};
 ghost use Rattle.road_network.specs.Walks.{IsSumOf};
 ghost use Rattle.road_network.specs.Answers.{IsRelevant};
 ghost use Rattle.list_laws.specs.Sets.{HasMoreThan};
-ghost use Rattle.event_machine.specs.Machine.{Task, IsTask, Label, IsSamePair, SearchState, IsEntry, HasSettled};
+ghost use Rattle.event_machine.specs.Machine.{Task, IsTask, SearchState, IsEntry, HasSettled};
+ghost use Rattle.road_network.specs.Labels.{Label, IsSamePair, HasLeastArc};
 ghost use Rattle.event_machine.specs.Events.{Event, Happens, IsReached};
-ghost use Rattle.event_machine.specs.Laws.{IsKnown, HasLeastArc};
+ghost use Rattle.event_machine.specs.Laws.{IsKnown};
 
 /// Whatever the order of the events, a settled label is final: it is a relevant pair, settled once, with the last arc
 /// of the backward-least walk of its cost, or 0 at the start.

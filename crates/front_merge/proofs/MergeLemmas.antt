@@ -6,10 +6,10 @@ use Rattle.std.proofs.lemmas.List.Elements.{All-drop, All-take}
 use Rattle.std.proofs.lemmas.List.Sorted.{All-permutation}
 use Rattle.list_laws.proofs.Members.{in_first, in_map, each_in, all_from_in}
 use Rattle.list_laws.proofs.OnceLaws.{in_append}
-use Rattle.compact_labels.specs.declared.label.CompactLabel.{CompactLabel}
+use Rattle.cost_vector.specs.declared.compact_label.CompactLabel.{CompactLabel}
 use Rattle.pareto_front.specs.Fronts.{SparesSettled}
 use Rattle.road_network.specs.Network.{IsNode}
-use Rattle.node_front.specs.Deltas.{AppendsDeltas, AreDeltas, Deltas, GrowNodeByNode, label_told, spot_told}
+use Rattle.node_front.specs.Deltas.{AppendsDeltas, AreDeltas, Deltas, GrowNodeByNode, label_view, spot_view}
 use Rattle.node_front.specs.NodeFronts.{Fronts, front_at}
 use Rattle.node_front.proofs.RemovedLemmas.{pairs_across, pairs_front}
 use Rattle.front_merge.specs.Groups.{AreBefore, AreDeltasBehind, AreGroups, CanMerge, HaveOneNode, MergesGroup, joined, run_of}
@@ -152,11 +152,11 @@ module _ {D : ℕ} where
         }) (record {
           delta = delta;
           exact = merges.exact.exact;
-          added = appends.added ∙ ap (λ ls. before.added ++ ls) merges.exact.added ∙ sym (append_assoc before.added out.added (map (label_told v) delta.added));
+          added = appends.added ∙ ap (λ ls. before.added ++ ls) merges.exact.added ∙ sym (append_assoc before.added out.added (map (label_view v) delta.added));
           removed = appends.removed ∙ ap (λ ss. before.removed ++ ss) merges.exact.removed
-              ∙ sym (append_assoc before.removed out.removed (map (spot_told v) delta.removed));
+              ∙ sym (append_assoc before.removed out.removed (map (spot_view v) delta.removed));
           lowered = appends.lowered ∙ ap (λ ls. before.lowered ++ ls) merges.exact.lowered
-              ∙ sym (append_assoc before.lowered out.lowered (map (label_told v) delta.lowered));
+              ∙ sym (append_assoc before.lowered out.lowered (map (label_view v) delta.lowered));
         })) where
           all : AreGroups ((earlier ++ hs) ++ g ∷ [])
           all = subst AreGroups (sym (append_assoc earlier hs (g ∷ []))) groups

@@ -1,7 +1,7 @@
 -- Candidates cut into one group for each node, and what is merged of a group.
 use Rattle.std.specs.Prelude.{◌≡◌, ℕ, ◌*◌, ◌<◌, ◌≤◌, List, ◌++◌, length, map, take, drop, flat_map, All, AllPairs}
 use Rattle.cost_vector.specs.Costs.{max_criteria}
-use Rattle.compact_labels.specs.declared.label.CompactLabel.{CompactLabel}
+use Rattle.cost_vector.specs.declared.compact_label.CompactLabel.{CompactLabel}
 use Rattle.pareto_front.specs.Calls.{entry_of}
 use Rattle.pareto_front.specs.Fronts.{SparesSettled}
 use Rattle.road_network.specs.Network.{IsNode}

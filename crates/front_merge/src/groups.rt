@@ -2,26 +2,26 @@ ghost use Rattle.std.specs.Prelude.{◌≡◌, ◌≢◌, ◌<◌, ◌≤◌, le
 ghost use Rattle.std.specs.List.{AllWithin, HoldsAt};
 ghost use Rattle.front_merge.specs.Groups.{AreGroups, AscendByNode, SplitsGroup, joined};
 
-use compact_labels::CompactLabel;
-use cost_vector::{NodeNo, OutOfMemory};
+use cost_vector::{CompactLabel, NodeNo};
+use out_of_memory::OutOfMemory;
 use rayon::prelude::*;
 use route_io::Gate;
 use std::alloc::Global;
 use std::thread::Threads;
-use work_claim::Crew;
+use work_claim::Workers;
 
 /// Sorts candidates by node, cost and arc.
 pub fn sort_by_node<const D: usize, R: Threads + Sync, G: Gate>(
-    crew: &Crew<'_, R, G>,
+    workers: &Workers<'_, R, G>,
     candidates: &mut [CompactLabel<D>],
 )
     ensures permutation { IsPermutation candidates.old candidates.new }
     ensures ascending { AscendByNode candidates.new }
 {
-    if crew.workers == 1 {
+    if workers.count() == 1 {
         candidates.sort_unstable();
     } else {
-        par_sort_unstable(crew.rt, candidates);
+        par_sort_unstable(workers.rt(), candidates);
     }
 }
 

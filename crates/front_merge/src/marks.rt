@@ -1,14 +1,14 @@
 ghost use Rattle.std.specs.Prelude.{◌≡◌, IfOk, IsPermutation};
 
 use crate::groups::sort_by_node;
-use compact_labels::CompactLabel;
-use cost_vector::{NodeNo, OutOfMemory};
+use cost_vector::{CompactLabel, NodeNo};
+use out_of_memory::OutOfMemory;
 use route_io::{Gate, Phase};
 use std::alloc::Global;
 use std::marker::Model;
 use std::mem;
 use std::thread::Threads;
-use work_claim::Crew;
+use work_claim::Workers;
 
 /// For each node, whether it has come up among a round's candidates; between rounds no node is marked.
 #[derive(Drop)]
@@ -37,21 +37,21 @@ impl Marks {
     /// which then has them arrive one by one.
     pub fn pass_nodes<const D: usize, R: Threads + Sync, G: Gate>(
         &mut self,
-        crew: &Crew<'_, R, G>,
+        workers: &Workers<'_, R, G>,
         candidates: &mut [CompactLabel<D>],
     )
         ensures nodes { self.new ≡ self.old }
         ensures same { IsPermutation candidates.old candidates.new }
     {
-        bring_together(crew, candidates);
-        self.pass_marked(crew, candidates);
+        bring_together(workers, candidates);
+        self.pass_marked(workers, candidates);
         self.clear(candidates);
     }
 
     /// Lets a piece pass for each node of these candidates, and marks it.
     fn pass_marked<const D: usize, R, G: Gate>(
         &mut self,
-        crew: &Crew<'_, R, G>,
+        workers: &Workers<'_, R, G>,
         candidates: &[CompactLabel<D>],
     )
         ensures { self.new ≡ self.old }
@@ -59,7 +59,7 @@ impl Marks {
         let mut piece: u64 = 0;
         for label in candidates {
             if self.set(label.node, true) {
-                crew.gate.pass(Phase::Merge, piece);
+                workers.gate().pass(Phase::Merge, piece);
                 piece = piece.wrapping_add(1);
             }
         }
@@ -88,12 +88,12 @@ impl Marks {
 /// Brings the candidates of a node together where a front is scanned for each, as under 3 and 4 criteria. Under 2 it is
 /// searched, and to sort takes longer than it saves.
 fn bring_together<const D: usize, R: Threads + Sync, G: Gate>(
-    crew: &Crew<'_, R, G>,
+    workers: &Workers<'_, R, G>,
     candidates: &mut [CompactLabel<D>],
 )
     ensures { IsPermutation candidates.old candidates.new }
 {
     if D > 2 {
-        sort_by_node(crew, candidates);
+        sort_by_node(workers, candidates);
     }
 }

@@ -3,34 +3,32 @@ ghost use Rattle.std.specs.Prelude.{◌≡◌, ℕ, ◌+◌, ◌-◌, ◌*◌, �
 ghost use Rattle.cost_vector.specs.Costs.{max_criteria};
 ghost use Rattle.front_merge.specs.Groups.{AreDeltasBehind, CanMerge, CanMergeRun, HaveOneNode, MergesGroup, run_of, runs_per_worker};
 
-use compact_labels::CompactLabel;
-use cost_vector::OutOfMemory;
+use cost_vector::CompactLabel;
 use node_front::{Deltas, Fronts};
+use out_of_memory::OutOfMemory;
 use pareto_front::ParetoFront;
 use route_io::{Gate, Phase};
 use std::alloc::Global;
-use work_claim::Job;
+use work_claim::{Job, Workers};
 
 /// At most so many runs come to each worker on the average: so many that the work is shared evenly, and so few that it takes
 /// little to share it.
 const RUNS_PER_WORKER: usize = 8;
 
 /// How many groups are a run.
-pub(crate) fn run_size(groups: usize, workers: u32) -> usize
-    requires at_least_one { 1 ≤ workers }
-    requires at_most_64 { workers ≤ 64 }
+pub(crate) fn run_size<R, G>(groups: usize, workers: &Workers<'_, R, G>) -> usize
     ensures some { 1 ≤ result }
-    ensures enough { groups ≤ result * (workers * runs_per_worker) }
-    ensures least { 1 < result → (result - 1) * (workers * runs_per_worker) < groups }
+    ensures enough { groups ≤ result * (workers.now.count * runs_per_worker) }
+    ensures least { 1 < result → (result - 1) * (workers.now.count * runs_per_worker) < groups }
 {
-    let runs = workers as usize * RUNS_PER_WORKER;
+    let runs = workers.count() as usize * RUNS_PER_WORKER;
     groups.div_ceil(runs).max(1)
 }
 
 /// Groups that are to be merged with these fronts. So many consecutive ones are a run, which one worker merges into deltas
 /// of its own; each group passes the gate by its number.
 #[derive(Drop)]
-pub(crate) struct Runs<'c, const D: usize, F: ParetoFront<D>, G> {
+pub(crate) struct GroupRuns<'c, const D: usize, F: ParetoFront<D>, G> {
     pub alloc: Global,
     pub gate: &'c G,
     pub fronts: &'c Fronts<D, F>,
@@ -38,7 +36,7 @@ pub(crate) struct Runs<'c, const D: usize, F: ParetoFront<D>, G> {
     pub size: usize,
 }
 
-impl<const D: usize, F: ParetoFront<D>, G> Runs<'_, D, F, G> {
+impl<const D: usize, F: ParetoFront<D>, G> GroupRuns<'_, D, F, G> {
     /// How many runs there are.
     pub(crate) fn count(&self) -> usize
         requires { 1 ≤ self.now.size }
@@ -50,7 +48,7 @@ impl<const D: usize, F: ParetoFront<D>, G> Runs<'_, D, F, G> {
     }
 }
 
-impl<const D: usize, F: ParetoFront<D> + Drop + Sync, G: Gate> Job for Runs<'_, D, F, G> {
+impl<const D: usize, F: ParetoFront<D> + Drop + Sync, G: Gate> Job for GroupRuns<'_, D, F, G> {
     type Out = Deltas<D>;
 
     ghost accepts = { λ job run.

@@ -17,7 +17,7 @@ use Rattle.graph_gen.specs.Plans.{IsPlan}
 use Rattle.graph_gen.specs.Sequence.{first_number, nth_behind, weight_by, weights_behind}
 use Rattle.gen_laws.specs.Laws.{arc_of, file_of}
 use Rattle.gen_laws.proofs.GridLemmas.{AreNodes, all_range, ends_are_nodes}
-use Rattle.gen_laws.proofs.RecordLemmas.{all_zip}
+use Rattle.gen_laws.proofs.ZipLemmas.{all_zip}
 use Rattle.gen_laws.proofs.WeightLemmas.{drawn, length-drawn}
 
 -- what holds of all items holds of the one at a place

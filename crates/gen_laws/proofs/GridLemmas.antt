@@ -7,7 +7,7 @@ use Rattle.std.proofs.lemmas.Bool.{ltb-true}
 use Rattle.std.proofs.lemmas.Bool.Decides.{nat_tests}
 use Rattle.std.proofs.lemmas.List.Elements.{All-append, All-cons, All-head, All-nil, All-tail}
 use Rattle.road_network.specs.Network.{IsNode}
-use Rattle.graph_gen.specs.declared.grid.Place.{Place}
+use Rattle.graph_gen.specs.declared.grid.GridCell.{GridCell}
 use Rattle.graph_gen.specs.Grids.{IsOnGrid, above, arc_between, arc_count, arc_to, arcs_from, below, grid_arcs, left_of, node_at, node_count, place_at, right_of, row_arcs}
 use Rattle.graph_gen.proofs.RangeLemmas.{flat_map-range_more}
 
@@ -31,22 +31,22 @@ pub record AreNodes (side : ℕ) (ends : ℕ × ℕ) : Type 0 where
   pub tail : IsNode (node_count side) ends.0
   pub head : IsNode (node_count side) ends.1
 
-pub node_is : (side : ℕ) (place : Place) → IsOnGrid side place → IsNode (node_count side) (node_at side place)
+pub node_is : (side : ℕ) (place : GridCell) → IsOnGrid side place → IsNode (node_count side) (node_at side place)
 node_is side place on =
     let row : place.row + 1 ≤ side = omega (arith, on.row) in
     (omega arith, omega (arith, on.column, mul-le-mul_left side row))
 
-on_grid_if : (side : ℕ) (test : Bool) (place : Place) → (test ≡ true → IsOnGrid side place) → IfSome (if test then Some place else None) (IsOnGrid side)
+on_grid_if : (side : ℕ) (test : Bool) (place : GridCell) → (test ≡ true → IsOnGrid side place) → IfSome (if test then Some place else None) (IsOnGrid side)
 on_grid_if side true place on = on refl
 on_grid_if side false place on = tt
 
-arc_has_nodes : (side : ℕ) (tail : Place) (head : Option Place) → IsOnGrid side tail → IfSome head (IsOnGrid side) → All (AreNodes side) (arc_to side tail head)
+arc_has_nodes : (side : ℕ) (tail : GridCell) (head : Option GridCell) → IsOnGrid side tail → IfSome head (IsOnGrid side) → All (AreNodes side) (arc_to side tail head)
 arc_has_nodes side tail None on head_on = All-nil (AreNodes side)
 arc_has_nodes side tail (Some head) on head_on =
     All-cons (AreNodes side) (arc_between side tail head) [] (record { tail = node_is side tail on; head = node_is side head head_on })
     (All-nil (AreNodes side))
 
-module _ (side : ℕ) (place : Place) (on : IsOnGrid side place) where
+module _ (side : ℕ) (place : GridCell) (on : IsOnGrid side place) where
   to_right : All (AreNodes side) (arc_to side place (right_of side place))
   to_right =
       arc_has_nodes side place (right_of side place) on (on_grid_if side (nat_lt (place.column + 1) side) (place_at place.row (place.column + 1))
@@ -85,7 +85,7 @@ ends_are_nodes side =
 abbrev bit : Bool → ℕ
 bit test = if test then 1 else 0
 
-length_if : (side : ℕ) (tail head : Place) (test : Bool) → length (arc_to side tail (if test then Some head else None)) ≡ bit test
+length_if : (side : ℕ) (tail head : GridCell) (test : Bool) → length (arc_to side tail (if test then Some head else None)) ≡ bit test
 length_if side tail head true = refl
 length_if side tail head false = refl
 

@@ -1,9 +1,6 @@
-pub mod LineLemmas
-pub mod FileLemmas
-pub mod GridLemmas
-pub mod WordLemmas
-pub mod RecordLemmas
-pub mod WeightLemmas
-pub mod PairLemmas
 pub mod AgreeLemmas
 pub mod CostLemmas
+pub mod GridLemmas
+pub mod PairLemmas
+pub mod WeightLemmas
+pub mod ZipLemmas

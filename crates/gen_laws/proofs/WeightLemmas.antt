@@ -6,16 +6,17 @@ use Rattle.std.proofs.lemmas.Bool.{le-leb, lt-ltb}
 use Rattle.std.proofs.lemmas.List.Elements.{All-map, All-weaker}
 use Rattle.std.proofs.lemmas.List.FromFn.{length-map-range_with_len}
 use Rattle.road_network.specs.Network.{IsNode}
+use Rattle.line_text.proofs.WrittenLineLemmas.{line_of_fields}
 use Rattle.gr_reader.specs.Grammar.{is_node, weights}
 use Rattle.gr_reader.specs.Rules.{IsWithinRange}
+use Rattle.gr_reader.proofs.WrittenFileLemmas.{SaysRecord}
+use Rattle.gr_reader.proofs.WrittenWeightLemmas.{arc_fields, says_arc}
 use Rattle.graph_gen.specs.Grids.{arc_count, grid_arcs, node_count}
 use Rattle.graph_gen.specs.Plans.{max_side}
 use Rattle.graph_gen.specs.Sequence.{nth_behind, weight_by, weights_behind}
 use Rattle.gen_laws.specs.Laws.{arc_of}
-use Rattle.gen_laws.proofs.FileLemmas.{SaysRecord}
 use Rattle.gen_laws.proofs.GridLemmas.{AreNodes, all_range, arcs_are_counted, ends_are_nodes}
-use Rattle.gen_laws.proofs.LineLemmas.{line_of_fields}
-use Rattle.gen_laws.proofs.RecordLemmas.{all_zip, arc_fields, length-zip, says_arc}
+use Rattle.gen_laws.proofs.ZipLemmas.{all_zip, length-zip}
 
 pub both : (a b : Bool) → a ≡ true → b ≡ true → (a && b) ≡ true
 both a b first second = ap (λ t. t && b) first ∙ second
@@ -53,11 +54,11 @@ module _ (side x : ℕ) (within : side ≤ max_side) where
       (weights_are_small x (length (grid_arcs side)))
 
   -- the lines of these arcs say them
-  pub all_say : All (SaysRecord weights (λ p. line_of_fields (codes "a") (arc_fields p)) arc_of) drawn
+  pub all_say : All (SaysRecord weights (λ p. line_of_fields (codes "a") (arc_fields (arc_of p))) arc_of) drawn
   all_say =
-      All-weaker IsSmallArc (SaysRecord weights (λ p. line_of_fields (codes "a") (arc_fields p)) arc_of)
+      All-weaker IsSmallArc (SaysRecord weights (λ p. line_of_fields (codes "a") (arc_fields (arc_of p))) arc_of)
       (λ p small. let nodes = few_nodes side within in
-      says_arc p (omega (arith, small.0.tail.1)) (omega (arith, small.0.head.1)) (omega (arith, small.1))) drawn all_small
+      says_arc (arc_of p) (omega (arith, small.0.tail.1)) (omega (arith, small.0.head.1)) (omega (arith, small.1))) drawn all_small
 
   node_test : (v : ℕ) → IsNode (node_count side) v → is_node (node_count side) v ≡ true
   node_test v is = both _ _ (le-leb 1 v is.0) (le-leb v (node_count side) is.1)

@@ -6,7 +6,7 @@ use Rattle.road_network.specs.Walks.{IsWalk}
 use Rattle.arc_graph.specs.declared.file.ArcLine.{ArcLine}
 use Rattle.arc_graph.specs.Files.{ArcFile}
 use Rattle.arc_graph.specs.Agreement.{Agree, joined}
-use Rattle.gr_reader.specs.declared.fault.FileLimits.{FileLimits}
+use Rattle.line_text.specs.declared.limits.LineLimits.{LineLimits}
 use Rattle.gr_reader.specs.Grammar.{IsGr}
 use Rattle.query_reader.specs.declared.pairs.Pair.{Pair}
 use Rattle.query_reader.specs.Grammar.{IsPairs}
@@ -17,9 +17,9 @@ use Rattle.graph_gen.specs.Sequence.{first_number, weights_behind}
 use Rattle.graph_gen.specs.Texts.{diagonal_node, pairs_text, reach, start_row, weight_text}
 
 -- the limits leave room for generated files
-pub record LeaveRoom (limits : FileLimits) : Type 0 where
+pub record LeaveRoom (limits : LineLimits) : Type 0 where
   pub line : 100 ≤ limits.line
-  pub file : 2 ^ 29 ≤ limits.file
+  pub file : 2 ^ 29 ≤ limits.total
 
 -- an arc and its weight, as a line of a weight file says them
 abbrev pub arc_of : (ℕ × ℕ) × ℕ → ArcLine
@@ -34,7 +34,7 @@ arcs_of plan criterion =
 -- each weight file of a plan is a weight file of these arcs
 abbrev pub WeightFilesAreRead : Type 0
 WeightFilesAreRead =
-    (limits : FileLimits) (plan : GenPlan) (criterion : ℕ) → LeaveRoom limits → IsPlan plan
+    (limits : LineLimits) (plan : GenPlan) (criterion : ℕ) → LeaveRoom limits → IsPlan plan
     → IsGr limits (weight_text plan criterion) (node_count plan.side) (arcs_of plan criterion)
 
 -- what the weight file of a criterion says
@@ -81,5 +81,5 @@ PairsHaveNodes = (plan : GenPlan) → IsPlan plan → All (HasNodes (node_count 
 -- the file of pairs of a plan is a file of these pairs
 abbrev pub PairFilesAreRead : Type 0
 PairFilesAreRead =
-    (limits : FileLimits) (plan : GenPlan) → LeaveRoom limits → IsPlan plan
+    (limits : LineLimits) (plan : GenPlan) → LeaveRoom limits → IsPlan plan
     → IsPairs limits (pairs_text plan) (pairs_of plan)

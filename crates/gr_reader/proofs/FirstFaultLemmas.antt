@@ -9,12 +9,12 @@ use Rattle.std.proofs.lemmas.List.{append-nil, length_push, take_at}
 use Rattle.std.proofs.lemmas.List.Elements.{filter_map-append}
 use Rattle.std.proofs.lemmas.List.Sums.{sum_by_push}
 use Rattle.line_text.specs.Lines.{without_cr, lines_of}
-use Rattle.gr_reader.specs.declared.fault.FileLimits.{FileLimits}
+use Rattle.line_text.specs.declared.limits.LineLimits.{LineLimits}
 use Rattle.gr_reader.specs.declared.fault.LineKind.{LineKind}
-use Rattle.gr_reader.specs.Rules.{Form, Rules, form_of}
-use Rattle.gr_reader.specs.Rules.Form.{Problem, Record, Malformed}
+use Rattle.gr_reader.specs.Rules.{LineForm, Rules, form_of}
+use Rattle.gr_reader.specs.Rules.LineForm.{Problem, Record, Malformed}
 use Rattle.gr_reader.specs.Table.{State, form_kind, line_kind, end_kind, size_in}
-use Rattle.gr_reader.specs.Rest.{Fault, Told, past, with_form, ends, with_line, line_told, read_lines, read_rest, at_start}
+use Rattle.gr_reader.specs.Rest.{Fault, Known, past, with_form, ends, with_line, line_known, read_lines, read_rest, at_start}
 use Rattle.gr_reader.specs.Files.{FirstFault, forms_of, problem_in, is_record, state_behind, kind_there, kind_at}
 use Rattle.gr_reader.proofs.LimitLemmas.{with_lf}
 
@@ -27,7 +27,7 @@ same_state : {P : Type 0} (problem problem' : Option P) (come come' number numbe
     → number ≡ number' → passed ≡ passed' → a_state problem come number passed ≡ a_state problem' come' number' passed'
 same_state problem problem' come come' number number' passed passed' e f g h = cc
 
-problem_in-push : {P R : Type 0} (forms : List (Form P R)) (form : Form P R)
+problem_in-push : {P R : Type 0} (forms : List (LineForm P R)) (form : LineForm P R)
     → problem_in (forms ++ form ∷ []) ≡ option_or (problem_in forms) (problem_in (form ∷ []))
 problem_in-push [] form = refl
 problem_in-push (Problem problem ∷ forms) form = refl
@@ -48,11 +48,11 @@ passed_more : (total sum line : ℕ) → min sum total + min (line + 1) (total -
 passed_more total sum line = omega arith
 
 module _ {P R : Type 0} (rules : Rules P R) (total : ℕ) (front : List (List ℕ)) (line : List ℕ) where
-  abbrev forms : List (Form P R)
+  abbrev forms : List (LineForm P R)
   forms = forms_of rules front
 
   -- with these forms behind those in front
-  state_is : (form : Option (Form P R)) → form_of rules (without_cr line) ≡ form → (known : Option P) (come : ℕ)
+  state_is : (form : Option (LineForm P R)) → form_of rules (without_cr line) ≡ form → (known : Option P) (come : ℕ)
       → known ≡ problem_in (forms ++ cons_option form [])
       → come ≡ count_by is_record (forms ++ cons_option form [])
       → a_state known come (length front + 1) (min (sum_by with_lf front) total + size_in total (min (sum_by with_lf front) total) line)
@@ -62,16 +62,16 @@ module _ {P R : Type 0} (rules : Rules P R) (total : ℕ) (front : List (List �
       same_state sizes _ come _ _ _ _ _ (e ∙ ap problem_in (sym more)) (g ∙ ap (count_by is_record) (sym more)) (sym (length_push front line))
       (passed_more total (sum_by with_lf front) (length line) ∙ ap (λ n. min n total) (sym (sum_by_push with_lf front line)))
 
-  state_more : (form : Option (Form P R)) → form_of rules (without_cr line) ≡ form
+  state_more : (form : Option (LineForm P R)) → form_of rules (without_cr line) ≡ form
       → option_and_then (form_kind rules (problem_in forms) (count_by is_record forms)) form ≡ None
       → with_form (past total (state_behind rules total front) line) form ≡ state_behind rules total (front ++ line ∷ [])
   state_more None f k = let same = sym (append-nil forms) in state_is None f _ _ (ap problem_in same) (ap (count_by is_record) same)
   state_more (Some (Problem problem)) f k =
-      let count = sum_by_push (λ (f : Form P R). cond (is_record f) 1 0) forms (Problem problem) in
+      let count = sum_by_push (λ (f : LineForm P R). cond (is_record f) 1 0) forms (Problem problem) in
       state_is (Some (Problem problem)) f _ _
       (problem-first rules (problem_in forms) (count_by is_record forms) problem k ∙ sym (problem_in-push forms (Problem problem))) (omega (arith, count))
   state_more (Some (Record r)) f k =
-      let count = sum_by_push (λ (f : Form P R). cond (is_record f) 1 0) forms (Record r) in
+      let count = sum_by_push (λ (f : LineForm P R). cond (is_record f) 1 0) forms (Record r) in
       state_is (Some (Record r)) f _ _ (problem-stays (problem_in forms) ∙ sym (problem_in-push forms (Record r))) (sym count)
   state_more (Some Malformed) f k = absurd cc
 
@@ -82,7 +82,7 @@ or_none (Some kind) b e = absurd cc
 
 -- ---- the first faulty place
 
-with_line-end : {P R : Type 0} (form : Option (Form P R)) (later : Told P R) → (with_line form later).end ≡ later.end
+with_line-end : {P R : Type 0} (form : Option (LineForm P R)) (later : Known P R) → (with_line form later).end ≡ later.end
 with_line-end None later = refl
 with_line-end (Some (Problem problem)) later = refl
 with_line-end (Some (Record r)) later = refl
@@ -100,7 +100,7 @@ one_first kind_of p q kind other here before there first =
     (λ ge. ⊎_elim (λ lt. let none = before q lt in absurd cc) (λ le. let same : p ≡ q = omega arith in let one = ap kind_of same in (same, cc)) (cases_lt q p))
     (cases_lt p q)
 
-module _ {P R : Type 0} (rules : Rules P R) (limits : FileLimits) (bytes : List ℕ) where
+module _ {P R : Type 0} (rules : Rules P R) (limits : LineLimits) (bytes : List ℕ) where
   -- the state behind these first lines
   abbrev behind : List (List ℕ) → State P
   behind front = state_behind rules (length bytes) front
@@ -134,7 +134,7 @@ module _ {P R : Type 0} (rules : Rules P R) (limits : FileLimits) (bytes : List 
   says_line : (front : List (List ℕ)) (line : List ℕ) (back : List (List ℕ)) → front ++ line ∷ back ≡ lines_of bytes → NoneBefore (length front)
       → (NoneBefore (length front + 1) → Says (read_lines rules limits (length bytes) (behind (front ++ line ∷ [])) back).end)
       → (kind : Option LineKind) → line_kind rules limits (length bytes) (behind front) line ≡ kind
-      → Says (line_told kind (past (length bytes) (behind front) line) (form_of rules (without_cr line))
+      → Says (line_known kind (past (length bytes) (behind front) line) (form_of rules (without_cr line))
       (read_lines rules limits (length bytes) (with_form (past (length bytes) (behind front) line) (form_of rules (without_cr line))) back)).end
   says_line front line back e before later (Some kind) k =
       let within : length front ≤ length (lines_of bytes) = omega (arith, ap length (sym e), length-append front (line ∷ back)) in
@@ -162,7 +162,7 @@ module _ {P R : Type 0} (rules : Rules P R) (limits : FileLimits) (bytes : List 
       let total : length bytes ≡ 0 + length bytes = omega arith in
       let same = ap (λ n. read_lines rules limits (length bytes) (a_state None 0 0 n) (lines_of bytes)) start
       ∙ ap (λ n. read_lines rules limits n at_start (lines_of bytes)) total in
-      subst (λ (told : Told P R). Says told.end) same (says (lines_of bytes) [] refl (λ i lt. absurd (omega arith)))
+      subst (λ (known : Known P R). Says known.end) same (says (lines_of bytes) [] refl (λ i lt. absurd (omega arith)))
 
   -- The fault that a reading meets is that of the first faulty line.
   pub fault_is_first : (kind : LineKind) (line : ℕ) → (read_rest rules limits at_start bytes).end ≡ Some (record { kind = kind; line = line })

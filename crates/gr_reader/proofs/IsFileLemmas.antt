@@ -5,17 +5,17 @@ use Rattle.std.specs.List.{AllByRecursion}
 use Rattle.std.proofs.lemmas.Bool.Decides.{nat_tests}
 use Rattle.std.proofs.lemmas.List.Elements.{All-from_recursion, recursion_from_All}
 use Rattle.line_text.specs.Lines.{without_cr, lines_of}
-use Rattle.gr_reader.specs.declared.fault.FileLimits.{FileLimits}
+use Rattle.line_text.specs.declared.limits.LineLimits.{LineLimits}
 use Rattle.gr_reader.specs.declared.fault.LineKind.{LineKind}
 use Rattle.gr_reader.specs.declared.fault.LineKind.TheVariants.{SizeRange, CountWrong, NodeRange, WeightRange}
-use Rattle.gr_reader.specs.Rules.{Form, Rules, IsWithinRange, form_of}
-use Rattle.gr_reader.specs.Rules.Form.{Problem, Record, Malformed}
+use Rattle.gr_reader.specs.Rules.{LineForm, Rules, IsWithinRange, form_of}
+use Rattle.gr_reader.specs.Rules.LineForm.{Problem, Record, Malformed}
 use Rattle.gr_reader.specs.Table.{State, form_kind, lacking, line_kind}
-use Rattle.gr_reader.specs.Rest.{Told, past, ends, with_line, read_lines, read_rest, at_start}
+use Rattle.gr_reader.specs.Rest.{Known, past, ends, with_line, read_lines, read_rest, at_start}
 use Rattle.gr_reader.specs.Files.{IsFile, forms_of}
 use Rattle.gr_reader.proofs.FirstFaultLemmas.{or_none}
 use Rattle.gr_reader.proofs.LimitLemmas.{limit_of, Unbroken, unbroken-short, unbroken-within, file_unbroken}
-use Rattle.gr_reader.proofs.ToldLemmas.{given}
+use Rattle.gr_reader.proofs.KnownLemmas.{given}
 
 -- a test that decides a kind was passed
 passed_test : (kind : LineKind) (rest : Option LineKind) (test : Bool) → cond (not test) (Some kind) rest ≡ None → (test ≡ true) × (rest ≡ None)
@@ -47,7 +47,7 @@ module _ {P R : Type 0} (rules : Rules P R) where
       rw (more, fits.nodes, fits.weight) refl
 
   -- what stands in front of the records: the problem line, where it is still to come
-  abbrev header : Option P → P → List (Form P R)
+  abbrev header : Option P → P → List (LineForm P R)
   header None known = Problem known ∷ []
   header (Some problem) known = []
 
@@ -64,7 +64,7 @@ module _ {P R : Type 0} (rules : Rules P R) where
   abbrev at : Option P → ℕ → ℕ → ℕ → State P
   at problem come number passed = record { problem = problem; come = come; number = number; passed = passed }
 
-  module _ (limits : FileLimits) (total : ℕ) where
+  module _ (limits : LineLimits) (total : ℕ) where
     -- The lines behind a state are the rest of a file of this problem line, and these are its records.
     record Ends (state : State P) (lines : List (List ℕ)) (known : P) (records : List R) : Type 0 where
       unbroken : Unbroken limits total state.passed lines
@@ -74,8 +74,8 @@ module _ {P R : Type 0} (rules : Rules P R) where
       fit : AllByRecursion (IsWithinRange rules known) records
 
     -- what is told from the state on is such a rest
-    abbrev Accepted : State P → List (List ℕ) → Told P R → Type 0
-    Accepted state lines told = (known : P) × (told.problem ≡ Some known) × Ends state lines known told.records
+    abbrev Accepted : State P → List (List ℕ) → Known P R → Type 0
+    Accepted state lines known = (problem : P) × (known.problem ≡ Some problem) × Ends state lines problem known.records
 
     abbrev Accepts : List (List ℕ) → Type 0
     Accepts lines =
@@ -93,7 +93,7 @@ module _ {P R : Type 0} (rules : Rules P R) where
         (known, refl, record { unbroken = tt; knows = refl; forms = refl; count = omega arith; fit = tt })
 
     accepts-line : (line : List ℕ) (lines : List (List ℕ)) → Accepts lines → (problem : Option P) (come number passed : ℕ) → MayCome problem come
-        → limit_of limits total passed line ≡ None → (form : Option (Form P R)) → form_of rules (without_cr line) ≡ form
+        → limit_of limits total passed line ≡ None → (form : Option (LineForm P R)) → form_of rules (without_cr line) ≡ form
         → option_and_then (form_kind rules problem come) form ≡ None
         → (given rules limits total None (past total (at problem come number passed) line) form lines).end ≡ None
         → Accepted (at problem come number passed) (line ∷ lines) (given rules limits total None (past total (at problem come number passed) line) form lines)
@@ -153,7 +153,7 @@ module _ {P R : Type 0} (rules : Rules P R) where
         rw (said.knows, full) refl
 
     tells-line : (line : List ℕ) (lines : List (List ℕ)) → Tells lines → (problem : Option P) (come number passed : ℕ) (known : P) (records : List R)
-        → Ends (at problem come number passed) (line ∷ lines) known records → (form : Option (Form P R)) → form_of rules (without_cr line) ≡ form
+        → Ends (at problem come number passed) (line ∷ lines) known records → (form : Option (LineForm P R)) → form_of rules (without_cr line) ≡ form
         → given rules limits total (option_and_then (form_kind rules problem come) form) (past total (at problem come number passed) line) form lines
         ≡ record { problem = Some known; records = records; end = None }
     unfolding given
@@ -180,25 +180,25 @@ module _ {P R : Type 0} (rules : Rules P R) where
     tells (line ∷ lines) problem come number passed known records said =
         rw said.unbroken.0 (tells-line line lines (tells lines) problem come number passed known records said (form_of rules (without_cr line)) refl)
 
-  module _ (limits : FileLimits) (bytes : List ℕ) where
+  module _ (limits : LineLimits) (bytes : List ℕ) where
     -- A reading that ends without a fault is of a file.
     pub reading_is : (read_rest rules limits at_start bytes).end ≡ None
         → (problem : P) × ((read_rest rules limits at_start bytes).problem ≡ Some problem)
         × IsFile rules limits bytes problem (read_rest rules limits at_start bytes).records
     reading_is accepted =
         let total : 0 + length bytes ≡ length bytes = omega arith in
-        let told = accepts limits (0 + length bytes) (lines_of bytes) None 0 0 0 refl accepted in
-        let ends = told.2 in
+        let known = accepts limits (0 + length bytes) (lines_of bytes) None 0 0 0 refl accepted in
+        let ends = known.2 in
         let unbroken = subst (λ n. Unbroken limits n 0 (lines_of bytes)) total ends.unbroken in (
-          told.0,
-          told.1,
+          known.0,
+          known.1,
           record {
             short_lines = unbroken-short limits bytes unbroken;
             short_file = unbroken-within limits bytes unbroken;
             lines = ends.forms;
             right_size = ends.knows;
             counted = omega (arith, ends.count);
-            in_range = All-from_recursion (IsWithinRange rules told.0) _ ends.fit;
+            in_range = All-from_recursion (IsWithinRange rules known.0) _ ends.fit;
           },
         )
 

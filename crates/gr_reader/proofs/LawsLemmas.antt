@@ -3,10 +3,10 @@ use Rattle.std.proofs.Common.{◌≡◌, ℕ, List, Option, Some, None, Result, 
 use Rattle.std.proofs.lemmas.Option.{same_Some}
 use Rattle.gr_reader.specs.declared.fault.FileFault.{FileFault}
 use Rattle.gr_reader.specs.declared.fault.FileFault.TheVariants.{Line, Read, OutOfMemory}
-use Rattle.gr_reader.specs.declared.fault.FileLimits.{FileLimits}
+use Rattle.line_text.specs.declared.limits.LineLimits.{LineLimits}
 use Rattle.gr_reader.specs.declared.fault.LineKind.{LineKind}
 use Rattle.gr_reader.specs.Rules.{Rules}
-use Rattle.gr_reader.specs.Rest.{Fault, Told, read_rest, at_start}
+use Rattle.gr_reader.specs.Rest.{Fault, Known, read_rest, at_start}
 use Rattle.gr_reader.specs.Files.{IsFile, FirstFault}
 use Rattle.gr_reader.specs.Reader.{IsSound, IsComplete}
 use Rattle.gr_reader.specs.Laws.{FilesAreRead, FirstFaultsAreMet, IsDecided, TextsAreDecided}
@@ -15,17 +15,17 @@ use Rattle.gr_reader.proofs.FirstFaultLemmas.{fault_is_first, first_is_fault}
 
 module _ {P R : Type 0} (rules : Rules P R) where
   -- what is told of a whole file
-  abbrev whole : P → List R → Told P R
+  abbrev whole : P → List R → Known P R
   whole problem records = record { problem = Some problem; records = records; end = None }
 
-  module _ (limits : FileLimits) (bytes : List ℕ) where
+  module _ (limits : LineLimits) (bytes : List ℕ) where
     -- a text that is read to its end is this file
     pub read_is_file : (problem : P) (records : List R) → read_rest rules limits at_start bytes ≡ whole problem records
         → IsFile rules limits bytes problem records
     read_is_file problem records e =
-        let found = reading_is rules limits bytes (ap (λ told. told.end) e) in
-        let problem_is = same_Some _ _ (sym found.1 ∙ ap (λ told. told.problem) e) in
-        subst (λ p. IsFile rules limits bytes p records) problem_is (subst (IsFile rules limits bytes found.0) (ap (λ told. told.records) e) found.2)
+        let found = reading_is rules limits bytes (ap (λ known. known.end) e) in
+        let problem_is = same_Some _ _ (sym found.1 ∙ ap (λ known. known.problem) e) in
+        subst (λ p. IsFile rules limits bytes p records) problem_is (subst (IsFile rules limits bytes found.0) (ap (λ known. known.records) e) found.2)
 
     by_end : (end : Option Fault) → (read_rest rules limits at_start bytes).end ≡ end
         → ((problem : P) × (records : List R) × IsFile rules limits bytes problem records)
@@ -39,12 +39,12 @@ module _ {P R : Type 0} (rules : Rules P R) where
       answer = by_end (read_rest rules limits at_start bytes).end refl;
       one_file = λ problem other records others file second.
           let e = sym (file_is_read rules limits bytes problem records file) ∙ file_is_read rules limits bytes other others second in
-          (same_Some _ _ (ap (λ told. told.problem) e), ap (λ told. told.records) e);
+          (same_Some _ _ (ap (λ known. known.problem) e), ap (λ known. known.records) e);
       one_fault = λ kind other line other_line first second.
           let e = sym (first_is_fault rules limits bytes kind line first) ∙ first_is_fault rules limits bytes other other_line second in
           (ap (λ (fault : Fault). fault.kind) (same_Some _ _ e), ap (λ (fault : Fault). fault.line) (same_Some _ _ e));
       never_both = λ problem records kind line file first.
-          let none = ap (λ (told : Told P R). told.end) (file_is_read rules limits bytes problem records file) in
+          let none = ap (λ (known : Known P R). known.end) (file_is_read rules limits bytes problem records file) in
           let some = first_is_fault rules limits bytes kind line first in
           absurd cc;
     }

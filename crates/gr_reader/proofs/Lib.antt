@@ -1,4 +1,4 @@
-pub mod ToldLemmas
+pub mod KnownLemmas
 pub mod StepsLemmas
 pub mod LimitLemmas
 pub mod FirstFaultLemmas
@@ -9,3 +9,5 @@ pub mod HasComeLemmas
 pub mod ReadsIntoLemmas
 pub mod WeightLemmas
 pub mod MayTellLemmas
+pub mod WrittenFileLemmas
+pub mod WrittenWeightLemmas

@@ -7,27 +7,27 @@ use Rattle.std.proofs.lemmas.List.Elements.{All-from_recursion, recursion_from_A
 use Rattle.std.proofs.lemmas.List.Sums.{sum_by-cons}
 use Rattle.line_text.specs.Lines.{is_lf, lines_of}
 use Rattle.line_text.specs.Marks.{line_fault}
-use Rattle.gr_reader.specs.declared.fault.FileLimits.{FileLimits}
+use Rattle.line_text.specs.declared.limits.LineLimits.{LineLimits}
 use Rattle.gr_reader.specs.declared.fault.LineKind.{LineKind}
-use Rattle.gr_reader.specs.Table.{limit_kind, line_limits, size_in}
+use Rattle.gr_reader.specs.Table.{limit_kind, size_in}
 
 -- the limit that a line breaks
-abbrev pub limit_of : FileLimits → ℕ → ℕ → List ℕ → Option LineKind
-limit_of limits total passed line = limit_kind (line_fault (line_limits limits) passed (length line) (size_in total passed line))
+abbrev pub limit_of : LineLimits → ℕ → ℕ → List ℕ → Option LineKind
+limit_of limits total passed line = limit_kind (line_fault limits passed (length line) (size_in total passed line))
 
 -- how many bytes a line takes with an LF
 abbrev pub with_lf : List ℕ → ℕ
 with_lf line = length line + 1
 
-limit_kept : (limits : FileLimits) (passed raw size : ℕ) → limit_kind (line_fault (line_limits limits) passed raw size) ≡ None → (raw ≤ limits.line)
-    × (passed + size ≤ limits.file)
+limit_kept : (limits : LineLimits) (passed raw size : ℕ) → limit_kind (line_fault limits passed raw size) ≡ None → (raw ≤ limits.line)
+    × (passed + size ≤ limits.total)
 limit_kept limits passed raw size e = grind (arith, nat_tests)
 
-limit_none : (limits : FileLimits) (passed raw size : ℕ) → raw ≤ limits.line → passed + size ≤ limits.file
-    → limit_kind (line_fault (line_limits limits) passed raw size) ≡ None
+limit_none : (limits : LineLimits) (passed raw size : ℕ) → raw ≤ limits.line → passed + size ≤ limits.total
+    → limit_kind (line_fault limits passed raw size) ≡ None
 limit_none limits passed raw size short within = grind (arith, nat_tests)
 
-module _ (limits : FileLimits) (total : ℕ) where
+module _ (limits : LineLimits) (total : ℕ) where
   -- no line breaks a limit
   abbrev pub Unbroken : ℕ → List (List ℕ) → Type 0
   Unbroken passed [] = ⊤
@@ -36,9 +36,9 @@ module _ (limits : FileLimits) (total : ℕ) where
   -- the lines are short, and at most so many bytes stand up to their end
   record Keeps (passed : ℕ) (lines : List (List ℕ)) : Type 0 where
     short : AllByRecursion (λ line. length line ≤ limits.line) lines
-    within : min (passed + sum_by with_lf lines) total ≤ limits.file
+    within : min (passed + sum_by with_lf lines) total ≤ limits.total
 
-  keeps_from : (passed : ℕ) (lines : List (List ℕ)) → passed ≤ total → passed ≤ limits.file → Unbroken passed lines → Keeps passed lines
+  keeps_from : (passed : ℕ) (lines : List (List ℕ)) → passed ≤ total → passed ≤ limits.total → Unbroken passed lines → Keeps passed lines
   keeps_from passed [] low within unbroken = record { short = tt; within = omega arith }
   keeps_from passed (line ∷ lines) low within unbroken =
       let kept = limit_kept limits passed (length line) _ unbroken.0 in
@@ -67,7 +67,7 @@ lines_of-sum : (bytes : List ℕ) → length bytes ≤ sum_by with_lf (lines_of 
 lines_of-sum [] = omega arith
 lines_of-sum (byte ∷ bytes) = lines_of-step byte bytes (lines_of-sum bytes) (is_lf byte)
 
-module _ (limits : FileLimits) (bytes : List ℕ) where
+module _ (limits : LineLimits) (bytes : List ℕ) where
   file_keeps : Unbroken limits (length bytes) 0 (lines_of bytes) → Keeps limits (length bytes) 0 (lines_of bytes)
   file_keeps unbroken = keeps_from limits (length bytes) 0 (lines_of bytes) (omega arith) (omega arith) unbroken
 
@@ -76,11 +76,11 @@ module _ (limits : FileLimits) (bytes : List ℕ) where
   unbroken-short unbroken = All-from_recursion _ (lines_of bytes) (file_keeps unbroken).short
 
   -- and so is the file
-  pub unbroken-within : Unbroken limits (length bytes) 0 (lines_of bytes) → length bytes ≤ limits.file
+  pub unbroken-within : Unbroken limits (length bytes) 0 (lines_of bytes) → length bytes ≤ limits.total
   unbroken-within unbroken = omega (arith, (file_keeps unbroken).within, lines_of-sum bytes)
 
   -- the lines of a short file, if each is short
-  pub file_unbroken : All (λ line. length line ≤ limits.line) (lines_of bytes) → length bytes ≤ limits.file → Unbroken limits (length bytes) 0 (lines_of bytes)
+  pub file_unbroken : All (λ line. length line ≤ limits.line) (lines_of bytes) → length bytes ≤ limits.total → Unbroken limits (length bytes) 0 (lines_of bytes)
   file_unbroken short within =
       unbroken_from limits (length bytes) 0 (lines_of bytes) (omega arith)
       (record { short = recursion_from_All _ (lines_of bytes) short; within = omega arith })

@@ -4,8 +4,8 @@ use Rattle.gr_reader.specs.declared.fault.LineKind.{LineKind}
 use Rattle.gr_reader.specs.declared.fault.LineKind.TheVariants.{SizeRange, NodeRange}
 use Rattle.gr_reader.specs.declared.fault.LineKind.TheVariants.{WeightRange, CountWrong}
 use Rattle.gr_reader.specs.declared.fault.FileFault.TheVariants.{Line}
-use Rattle.gr_reader.specs.Rules.{Form, Rules}
-use Rattle.gr_reader.specs.Rules.Form.{Problem, Record, Malformed}
+use Rattle.gr_reader.specs.Rules.{LineForm, Rules}
+use Rattle.gr_reader.specs.Rules.LineForm.{Problem, Record, Malformed}
 use Rattle.gr_reader.specs.Table.{form_kind}
 use Rattle.gr_reader.specs.Reader.{MayTell}
 
@@ -21,7 +21,7 @@ module _ {P R : Type 0} (rules : Rules P R) where
   size_is true e = absurd cc
   size_is false e = absurd cc
 
-  weight_of : (known : Option P) (come : ℕ) (form : Form P R) → form_kind rules known come form ≡ Some WeightRange → (r : R) × (rules.has_weight r ≡ false)
+  weight_of : (known : Option P) (come : ℕ) (form : LineForm P R) → form_kind rules known come form ≡ Some WeightRange → (r : R) × (rules.has_weight r ≡ false)
   weight_of known come Malformed e = absurd cc
   weight_of None come (Problem problem) e = absurd (size_is (rules.is_size problem) e)
   weight_of (Some known) come (Problem problem) e = absurd cc
@@ -29,7 +29,7 @@ module _ {P R : Type 0} (rules : Rules P R) where
   weight_of (Some known) come (Record r) e = (r, weight_is (nat_le (rules.count known) come) (rules.has_nodes known r) (rules.has_weight r) e)
 
   -- a fault of what a line says
-  pub may_tell-form : (known : Option P) (come : ℕ) (form : Form P R) (kind : LineKind) (line : ℕ) → form_kind rules known come form ≡ Some kind
+  pub may_tell-form : (known : Option P) (come : ℕ) (form : LineForm P R) (kind : LineKind) (line : ℕ) → form_kind rules known come form ≡ Some kind
       → MayTell rules (Line kind line)
   may_tell-form known come form WeightRange line e = weight_of known come form e
   may_tell-form known come form kind line e = tt

@@ -1,9 +1,8 @@
 -- How many bytes a reader takes from its source.
-use Rattle.std.proofs.Common.{◌≡◌, ℕ, ◌+◌, ◌≤◌, List, [], Option, Some, None, IfSome, IsSomeAnd, length, ap, subst, ◌∙◌, arith, length-append}
-use Rattle.std.specs.Io.KnownBytes.{prepend_known}
+use Rattle.std.proofs.Common.{◌≡◌, ℕ, ◌+◌, ◌≤◌, List, Option, Some, None, IfSome, IsSomeAnd, length, ap, subst, ◌∙◌, arith}
 use Rattle.route_io.specs.Sources.{SourceState}
 use Rattle.line_text.specs.declared.limits.LineLimits.{LineLimits}
-use Rattle.line_text.specs.Reading.{Lines, begun, rest_of, LosesNone}
+use Rattle.line_text.specs.Reading.{Lines, begun, LosesNone}
 use Rattle.gr_reader.specs.Reader.{TakesBytes, TakesAtMost}
 use Rattle.gr_reader.proofs.StepsLemmas.{IfSome_through}
 
@@ -11,8 +10,8 @@ use Rattle.gr_reader.proofs.StepsLemmas.{IfSome_through}
 pub loses_none-then : (old mid new : Lines) (before between after : SourceState) → LosesNone old mid before between → LosesNone mid new between after
     → LosesNone old new before after
 loses_none-then old mid new before between after first next =
-    IfSome_through (rest_of old before) (rest_of mid between) (λ xs ys. mid.passed + length ys ≡ old.passed + length xs) first next
-    (λ xs ys e more. subst (λ size. IsSomeAnd (rest_of new after) (λ zs. new.passed + length zs ≡ size)) e more)
+    IfSome_through before.left between.left (λ xs ys. mid.passed + length mid.held + length ys ≡ old.passed + length old.held + length xs) first next
+    (λ xs ys e more. subst (λ size. IsSomeAnd after.left (λ zs. new.passed + length new.held + length zs ≡ size)) e more)
 
 -- one reading and then another
 pub takes_bytes-then : {old mid new : Lines} {before between after : SourceState} → TakesBytes old mid before between → TakesBytes mid new between after
@@ -28,11 +27,11 @@ by_sizes : (limits : LineLimits) (new : Lines) (before after : SourceState) → 
     → LosesNone (begun limits) new before after → TakesAtMost (limits.total + 1) before after
 by_sizes limits new before after within = by_left before.left after.left where
   by_left : (left more : Option (List ℕ))
-      → IfSome (prepend_known [] left) (λ rest. IsSomeAnd (prepend_known new.held more) (λ more. new.passed + length more ≡ 0 + length rest))
+      → IfSome left (λ bytes. IsSomeAnd more (λ rest. new.passed + length new.held + length rest ≡ 0 + 0 + length bytes))
       → IfSome left (λ bytes. IsSomeAnd more (λ rest. length bytes ≤ length rest + (limits.total + 1)))
   by_left None more loses_none = tt
   by_left (Some bytes) None loses_none = absurd loses_none
-  by_left (Some bytes) (Some rest) loses_none = omega (arith, loses_none, length-append new.held rest)
+  by_left (Some bytes) (Some rest) loses_none = omega (arith, loses_none)
 
 -- from the start on at most one byte past the total is taken
 pub takes_at_most : {limits : LineLimits} {new : Lines} {before after : SourceState} → TakesBytes (begun limits) new before after

@@ -6,8 +6,8 @@ use Rattle.arc_graph.specs.declared.file.ArcLine.{ArcLine}
 use Rattle.gr_reader.specs.declared.weights.Sizes.{Sizes}
 use Rattle.gr_reader.specs.Capped.{capped_number}
 use Rattle.gr_reader.specs.Grammar.{is_node, weights}
-use Rattle.gr_reader.specs.Rules.{Form}
-use Rattle.gr_reader.specs.Rules.Form.{Problem, Record, Malformed}
+use Rattle.gr_reader.specs.Rules.{LineForm}
+use Rattle.gr_reader.specs.Rules.LineForm.{Problem, Record, Malformed}
 use Rattle.gr_reader.specs.Table.{form_kind}
 use Rattle.gr_reader.specs.WeightForms.{capped}
 
@@ -21,7 +21,7 @@ most_nodes : (sizes : Sizes) → weights.is_size sizes ≡ true → sizes.nodes 
 most_nodes sizes e = grind (arith, nat_tests)
 
 -- a line behind the problem line has the same fault with its numbers capped
-pub kind-capped : (sizes : Sizes) (come : ℕ) (form : Form Sizes ArcLine) → weights.is_size sizes ≡ true
+pub kind-capped : (sizes : Sizes) (come : ℕ) (form : LineForm Sizes ArcLine) → weights.is_size sizes ≡ true
     → form_kind weights (Some sizes) come (capped form) ≡ form_kind weights (Some sizes) come form
 kind-capped sizes come (Problem other) right = refl
 kind-capped sizes come (Record a) right =

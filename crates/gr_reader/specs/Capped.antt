@@ -1,8 +1,8 @@
 -- Numbers of more than 32 bits are read as one: they are out of every range, whichever they are.
 use Rattle.std.specs.Prelude.{◌≡◌, ℕ, ◌^◌, min, List, [], ◌∷◌, Option, Some, None}
 use Rattle.std.specs.Option.{option_map}
-use Rattle.gr_reader.specs.Rules.{Form, number_of}
-use Rattle.gr_reader.specs.Rules.Form.{Problem, Record, Malformed}
+use Rattle.gr_reader.specs.Rules.{LineForm, number_of}
+use Rattle.gr_reader.specs.Rules.LineForm.{Problem, Record, Malformed}
 
 -- the number, or the least of more than 32 bits in place of a greater one
 abbrev pub capped_number : ℕ → ℕ
@@ -25,7 +25,7 @@ pub record FirstCapped (fields : List (List ℕ)) (number : ℕ) (others : List 
   pub writes : Some number ≡ option_map capped_number (number_of field)
 
 -- the form with its numbers changed by these
-abbrev pub map_form : {P R : Type 0} → (P → P) → (R → R) → Form P R → Form P R
+abbrev pub map_form : {P R : Type 0} → (P → P) → (R → R) → LineForm P R → LineForm P R
 map_form of_problem of_record (Problem problem) = Problem (of_problem problem)
 map_form of_problem of_record (Record r) = Record (of_record r)
 map_form of_problem of_record Malformed = Malformed

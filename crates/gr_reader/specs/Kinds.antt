@@ -21,8 +21,8 @@ kind_number LineTooLong = 8
 kind_number FileTooLong = 9
 
 -- a fault of a reader of lines, found at this line, as a file's fault
-abbrev pub told_as : LineFault → ℕ → FileFault
-told_as lines.TooLong line = Line LineTooLong line
-told_as lines.Total line = Line FileTooLong line
-told_as lines.Read line = Read
-told_as lines.OutOfMemory line = OutOfMemory
+abbrev pub known_as : LineFault → ℕ → FileFault
+known_as lines.TooLong line = Line LineTooLong line
+known_as lines.Total line = Line FileTooLong line
+known_as lines.Read line = Read
+known_as lines.OutOfMemory line = OutOfMemory

@@ -1,6 +1,6 @@
 -- The laws that join the grammar of a whole text with the reading of what is left of it.
 use Rattle.std.specs.Prelude.{◌≡◌, ℕ, ◌↔◌, ◌⊎◌, List, None, Some}
-use Rattle.gr_reader.specs.declared.fault.FileLimits.{FileLimits}
+use Rattle.line_text.specs.declared.limits.LineLimits.{LineLimits}
 use Rattle.gr_reader.specs.declared.fault.LineKind.{LineKind}
 use Rattle.gr_reader.specs.Rules.{Rules}
 use Rattle.gr_reader.specs.Rest.{read_rest, at_start}
@@ -10,19 +10,19 @@ module _ {P R : Type 0} (rules : Rules P R) where
   -- A text is a file exactly where its reading ends without a fault, and its records are those that are told.
   abbrev pub FilesAreRead : Type 0
   FilesAreRead =
-      (limits : FileLimits) (bytes : List ℕ) (problem : P) (records : List R) →
+      (limits : LineLimits) (bytes : List ℕ) (problem : P) (records : List R) →
       IsFile rules limits bytes problem records
       ↔ (read_rest rules limits at_start bytes ≡ record { problem = Some problem; records = records; end = None })
 
   -- The fault that a reading meets is exactly that of the first faulty line.
   abbrev pub FirstFaultsAreMet : Type 0
   FirstFaultsAreMet =
-      (limits : FileLimits) (bytes : List ℕ) (kind : LineKind) (line : ℕ) →
+      (limits : LineLimits) (bytes : List ℕ) (kind : LineKind) (line : ℕ) →
       FirstFault rules limits bytes kind line
       ↔ ((read_rest rules limits at_start bytes).end ≡ Some (record { kind = kind; line = line }))
 
   -- A text is one file, or it has one first fault, and never both.
-  pub record IsDecided (limits : FileLimits) (bytes : List ℕ) : Type 0 where
+  pub record IsDecided (limits : LineLimits) (bytes : List ℕ) : Type 0 where
     pub answer : ((problem : P) × (records : List R) × IsFile rules limits bytes problem records)
         ⊎ ((kind : LineKind) × (line : ℕ) × FirstFault rules limits bytes kind line)
     pub one_file : (problem other : P) (records others : List R) → IsFile rules limits bytes problem records
@@ -34,4 +34,4 @@ module _ {P R : Type 0} (rules : Rules P R) where
 
   -- the same of every text
   abbrev pub TextsAreDecided : Type 0
-  TextsAreDecided = (limits : FileLimits) (bytes : List ℕ) → IsDecided limits bytes
+  TextsAreDecided = (limits : LineLimits) (bytes : List ℕ) → IsDecided limits bytes

@@ -6,15 +6,14 @@ use Rattle.line_text.specs.declared.limits.LineLimits.{LineLimits}
 use Rattle.line_text.specs.Reading.{Lines, InLimits, LosesNone, begun, rest_of}
 use Rattle.gr_reader.specs.declared.fault.FileFault.{FileFault}
 use Rattle.gr_reader.specs.declared.fault.FileFault.TheVariants.{Line, Read, OutOfMemory}
-use Rattle.gr_reader.specs.declared.fault.FileLimits.{FileLimits}
 use Rattle.gr_reader.specs.declared.fault.LineKind.{LineKind}
 use Rattle.gr_reader.specs.declared.fault.LineKind.TheVariants.{WeightRange}
 use Rattle.gr_reader.specs.declared.record_lines.Stage.{Stage}
 use Rattle.gr_reader.specs.declared.record_lines.Stage.TheVariants.{Unread, Records, Whole, Failed}
 use Rattle.gr_reader.specs.Rules.{Rules, IsWithinRange}
-use Rattle.gr_reader.specs.Rules.Form.{Record}
-use Rattle.gr_reader.specs.Table.{State, line_limits}
-use Rattle.gr_reader.specs.Rest.{Fault, Told, read_rest, with_line}
+use Rattle.gr_reader.specs.Rules.LineForm.{Record}
+use Rattle.gr_reader.specs.Table.{State}
+use Rattle.gr_reader.specs.Rest.{Fault, Known, read_rest, with_line}
 use Rattle.gr_reader.specs.Files.{IsFile, FirstFault}
 
 -- a reader of a file: its lines, and how far it has come
@@ -45,10 +44,6 @@ stage_next problem come (Ok (Some r)) = Records problem (come + 1)
 stage_next problem come (Ok None) = Whole
 stage_next problem come (Err fault) = Failed fault
 
--- the limits of a file
-abbrev pub file_limits : LineLimits → FileLimits
-file_limits limits = record { line = limits.line; file = limits.total }
-
 -- What was taken from a source stays in the limits: at most one byte past the total in all. No byte is lost.
 pub record TakesBytes (old new : Lines) (before after : SourceState) : Type 0 where
   pub limits : new.limits ≡ old.limits
@@ -72,8 +67,8 @@ failed_at other result = false
 
 module _ {P : Type 0} where
   -- a reader before its first line
-  abbrev pub unread : FileLimits → RecordLines P
-  unread limits = record { lines = begun (line_limits limits); stage = Unread }
+  abbrev pub unread : LineLimits → RecordLines P
+  unread limits = record { lines = begun limits; stage = Unread }
 
   -- the state behind the current line, with this problem line and so many records
   abbrev pub line_state : Lines → Option P → ℕ → State P
@@ -81,14 +76,14 @@ module _ {P : Type 0} where
       record { problem = problem; come = come; number = lines.number; passed = lines.passed }
 
 -- no record is told any more, but how the file ends
-abbrev pub ends_with : {P R : Type 0} → Option P → Option Fault → Told P R
+abbrev pub ends_with : {P R : Type 0} → Option P → Option Fault → Known P R
 ends_with problem end = record { problem = problem; records = []; end = end }
 
 -- Where the fault is of a line, no more records are told, and then this fault.
-abbrev pub FaultTold : {P R : Type 0} → Option P → Told P R → FileFault → Type 0
-FaultTold problem told (Line kind line) = told ≡ ends_with problem (Some (record { kind = kind; line = line }))
-FaultTold problem told Read = ⊤
-FaultTold problem told OutOfMemory = ⊤
+abbrev pub FaultKnown : {P R : Type 0} → Option P → Known P R → FileFault → Type 0
+FaultKnown problem known (Line kind line) = known ≡ ends_with problem (Some (record { kind = kind; line = line }))
+FaultKnown problem known Read = ⊤
+FaultKnown problem known OutOfMemory = ⊤
 
 -- this value is answered, unless the source fails or memory runs out
 abbrev pub Gives : {A : Type 0} → A → Result A FileFault → Type 0
@@ -145,55 +140,55 @@ module _ {P R : Type 0} (rules : Rules P R) where
   Moves old new other = ⊥
 
   -- what the rest of the file gives from there on
-  abbrev pub told_of : Lines → Option P → ℕ → List ℕ → Told P R
-  told_of lines problem come rest = read_rest rules (file_limits lines.limits) (line_state lines problem come) rest
+  abbrev pub known_of : Lines → Option P → ℕ → List ℕ → Known P R
+  known_of lines problem come rest = read_rest rules lines.limits (line_state lines problem come) rest
 
   -- The first problem line is accepted, and it says this. What is left gives the same as what was left before.
-  pub record BeginsWithProblem (new : Lines) (told : Told P R) (after : Option (List ℕ)) (problem : P) : Type 0 where
+  pub record BeginsWithProblem (new : Lines) (known : Known P R) (after : Option (List ℕ)) (problem : P) : Type 0 where
     pub rest : List ℕ
     pub left : after ≡ Some rest
-    pub problem_is : told.problem ≡ Some problem
-    pub same : told ≡ told_of new (Some problem) 0 rest
+    pub problem_is : known.problem ≡ Some problem
+    pub same : known ≡ known_of new (Some problem) 0 rest
 
   -- what `begin` answers where this was told of what was left before
-  abbrev pub ProblemTold : Lines → Told P R → Option (List ℕ) → Result P FileFault → Type 0
-  ProblemTold new told after (Ok problem) = BeginsWithProblem new told after problem
-  ProblemTold new told after (Err fault) = FaultTold None told fault
+  abbrev pub ProblemKnown : Lines → Known P R → Option (List ℕ) → Result P FileFault → Type 0
+  ProblemKnown new known after (Ok problem) = BeginsWithProblem new known after problem
+  ProblemKnown new known after (Err fault) = FaultKnown None known fault
 
   -- the same of a reader and its source, where the source tells what it has left
   abbrev pub BeginTells : Lines → Lines → SourceState → SourceState → Result P FileFault → Type 0
   BeginTells old new before after result =
-      IfSome (rest_of old before) (λ rest. ProblemTold new (told_of old None 0 rest) (rest_of new after) result)
+      IfSome (rest_of old before) (λ rest. ProblemKnown new (known_of old None 0 rest) (rest_of new after) result)
 
   -- This record is told first, and what is left gives the others and the same end.
   pub record BeginsWithRecord
-      (new : Lines) (problem : Option P) (come : ℕ) (told : Told P R) (after : Option (List ℕ)) (r : R)
+      (new : Lines) (problem : Option P) (come : ℕ) (known : Known P R) (after : Option (List ℕ)) (r : R)
       : Type 0 where
     pub rest : List ℕ
     pub left : after ≡ Some rest
-    pub first : told ≡ with_line (Some (Record r)) (told_of new problem (come + 1) rest)
+    pub first : known ≡ with_line (Some (Record r)) (known_of new problem (come + 1) rest)
 
   -- what `next_record` answers where this was told of what was left before
-  abbrev pub RecordTold : Lines → Option P → ℕ → Told P R → Option (List ℕ) → Result (Option R) FileFault → Type 0
-  RecordTold new problem come told after (Ok (Some r)) = BeginsWithRecord new problem come told after r
-  RecordTold new problem come told after (Ok None) = told ≡ ends_with problem None
-  RecordTold new problem come told after (Err fault) = FaultTold problem told fault
+  abbrev pub RecordKnown : Lines → Option P → ℕ → Known P R → Option (List ℕ) → Result (Option R) FileFault → Type 0
+  RecordKnown new problem come known after (Ok (Some r)) = BeginsWithRecord new problem come known after r
+  RecordKnown new problem come known after (Ok None) = known ≡ ends_with problem None
+  RecordKnown new problem come known after (Err fault) = FaultKnown problem known fault
 
   -- the same of a reader and its source
   abbrev pub RecordTells : Option P → ℕ → Lines → Lines → SourceState → SourceState
       → Result (Option R) FileFault → Type 0
   RecordTells problem come old new before after result =
       IfSome (rest_of old before)
-      (λ rest. RecordTold new problem come (told_of old problem come rest) (rest_of new after) result)
+      (λ rest. RecordKnown new problem come (known_of old problem come rest) (rest_of new after) result)
 
   -- the fault of a line is the first of the text
-  abbrev pub IsFirstFault : FileLimits → List ℕ → FileFault → Type 0
+  abbrev pub IsFirstFault : LineLimits → List ℕ → FileFault → Type 0
   IsFirstFault limits bytes (Line kind line) = FirstFault rules limits bytes kind line
   IsFirstFault limits bytes Read = ⊤
   IsFirstFault limits bytes OutOfMemory = ⊤
 
   -- A whole file was taken, which is that of the text where the text is known.
-  pub record TakesWhole (limits : FileLimits) (text : Option (List ℕ)) (HasTaken : P → List R → Type 0) : Type 0 where
+  pub record TakesWhole (limits : LineLimits) (text : Option (List ℕ)) (HasTaken : P → List R → Type 0) : Type 0 where
     pub problem : P
     pub records : List R
     pub counted : length records ≡ rules.count problem
@@ -201,19 +196,19 @@ module _ {P R : Type 0} (rules : Rules P R) where
     pub is_file : IfSome text (λ bytes. IsFile rules limits bytes problem records)
 
   -- A whole file was taken, or the fault is the text's.
-  abbrev pub ReadsWhole : {T : Type 0} → FileLimits → Option (List ℕ) → (P → List R → Type 0) → Result T FileFault
+  abbrev pub ReadsWhole : {T : Type 0} → LineLimits → Option (List ℕ) → (P → List R → Type 0) → Result T FileFault
       → Type 0
   ReadsWhole limits text HasTaken (Ok done) = TakesWhole limits text HasTaken
   ReadsWhole limits text HasTaken (Err fault) = IfSome text (λ bytes. IsFirstFault limits bytes fault)
 
   -- A value is answered only for its text, and the fault of a line only where it is the first.
-  abbrev pub IsSound : {A : Type 0} → (A → Type 0) → FileLimits → List ℕ → Result A FileFault → Type 0
+  abbrev pub IsSound : {A : Type 0} → (A → Type 0) → LineLimits → List ℕ → Result A FileFault → Type 0
   IsSound IsOf limits bytes (Ok value) = IsOf value
   IsSound IsOf limits bytes (Err fault) = IsFirstFault limits bytes fault
 
   -- Where the text is of a value, that is answered, and otherwise its first fault.
   pub record IsComplete
-      {A : Type 0} (IsOf : A → Type 0) (limits : FileLimits) (bytes : List ℕ) (result : Result A FileFault)
+      {A : Type 0} (IsOf : A → Type 0) (limits : LineLimits) (bytes : List ℕ) (result : Result A FileFault)
       : Type 0 where
     pub accepts : (value : A) → IsOf value → Gives value result
     pub refuses : (kind : LineKind) (line : ℕ) → FirstFault rules limits bytes kind line → Refuses kind line result

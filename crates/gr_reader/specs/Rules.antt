@@ -6,15 +6,15 @@ use Rattle.line_text.specs.Fields.{fields_of}
 use Rattle.line_text.specs.Numerals.{is_digits, value_of}
 
 -- what a line says, or that it has none of the forms
-pub data Form (P R : Type 0) : Type 0 where
-  Problem : P → Form P R
-  Record : R → Form P R
-  Malformed : Form P R
+pub data LineForm (P R : Type 0) : Type 0 where
+  Problem : P → LineForm P R
+  Record : R → LineForm P R
+  Malformed : LineForm P R
 
 -- What tells one kind of files from another, where a problem line says a P, and each record is an R.
 pub record Rules (P R : Type 0) : Type 0 where
   -- what a line of these fields says
-  pub form_from : List (List ℕ) → Form P R
+  pub form_from : List (List ℕ) → LineForm P R
   -- the test that the numbers of the problem line are in range
   pub is_size : P → Bool
   -- how many records the problem line says
@@ -39,11 +39,11 @@ is_ignored (word ∷ fields) = slice_index word 0 == 99
 
 module _ {P R : Type 0} (rules : Rules P R) where
   -- what a line without a CR at its end says, where it isn't ignored
-  abbrev pub form_in : List ℕ → Form P R
+  abbrev pub form_in : List ℕ → LineForm P R
   form_in line = rules.form_from (fields_of line)
 
   -- what a line says, or None where it is ignored
-  abbrev pub form_of : List ℕ → Option (Form P R)
+  abbrev pub form_of : List ℕ → Option (LineForm P R)
   form_of line = if is_ignored (fields_of line) then None else Some (form_in line)
 
   -- the record's ends are nodes, and its weight is in range

@@ -3,9 +3,9 @@ use Rattle.std.specs.Prelude.{◌≡◌, ℕ, ◌+◌, ◌<◌, ◌≤◌, true,
 use Rattle.road_network.specs.Limits.{max_arcs}
 use Rattle.arc_graph.specs.Files.{ArcFile}
 use Rattle.arc_graph.specs.Joiner.{Joiner}
-use Rattle.arc_graph.specs.StandsFor.{StandsFor}
+use Rattle.arc_graph.specs.JoinerHolds.{JoinerHolds}
 use Rattle.gr_reader.specs.declared.fault.FileFault.{FileFault}
-use Rattle.gr_reader.specs.declared.fault.FileLimits.{FileLimits}
+use Rattle.line_text.specs.declared.limits.LineLimits.{LineLimits}
 use Rattle.gr_reader.specs.Rules.{Rules, IsWithinRange}
 use Rattle.gr_reader.specs.Grammar.{IsGr, weights}
 use Rattle.gr_reader.specs.Reader.{IsFirstFault}
@@ -33,7 +33,7 @@ pub record JoinerHasTaken (before now : Joiner) (arcs : ℕ) (file : ArcFile) : 
   pub nodes : now.due_nodes ≡ file.nodes
   pub due : now.due_arcs ≡ arcs
   pub come : now.come ≡ length file.arcs
-  pub stands : (files : List ArcFile) → StandsFor before files → StandsFor now (files ++ file ∷ [])
+  pub stands : (files : List ArcFile) → JoinerHolds before files → JoinerHolds now (files ++ file ∷ [])
 
 -- a sink of one file has this of it
 pub record OneHasTaken (one : Option ArcFile) (arcs : ℕ) (file : ArcFile) : Type 0 where
@@ -41,13 +41,13 @@ pub record OneHasTaken (one : Option ArcFile) (arcs : ℕ) (file : ArcFile) : Ty
   pub most : arcs ≤ max_arcs
 
 -- A whole weight file was taken, which is that of the text where the text is known.
-pub record TakesFile (limits : FileLimits) (text : Option (List ℕ)) (HasTaken : ℕ → ArcFile → Type 0) : Type 0 where
+pub record TakesFile (limits : LineLimits) (text : Option (List ℕ)) (HasTaken : ℕ → ArcFile → Type 0) : Type 0 where
   pub file : ArcFile
   pub taken : HasTaken (length file.arcs) file
   pub is_gr : IfSome text (λ bytes. IsGr limits bytes file.nodes file.arcs)
 
 -- A whole weight file was taken, or the fault is the text's.
-abbrev pub ReadsInto : {T : Type 0} → FileLimits → Option (List ℕ) → (ℕ → ArcFile → Type 0) → Result T FileFault
+abbrev pub ReadsInto : {T : Type 0} → LineLimits → Option (List ℕ) → (ℕ → ArcFile → Type 0) → Result T FileFault
     → Type 0
 ReadsInto limits text HasTaken (Ok done) = TakesFile limits text HasTaken
 ReadsInto limits text HasTaken (Err fault) = IfSome text (λ bytes. IsFirstFault weights limits bytes fault)

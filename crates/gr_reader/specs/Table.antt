@@ -7,12 +7,11 @@ use Rattle.line_text.specs.declared.limits.LineFault.TheVariants as lines
 use Rattle.line_text.specs.declared.limits.LineLimits.{LineLimits}
 use Rattle.line_text.specs.Lines.{without_cr}
 use Rattle.line_text.specs.Marks.{line_fault}
-use Rattle.gr_reader.specs.declared.fault.FileLimits.{FileLimits}
 use Rattle.gr_reader.specs.declared.fault.LineKind.{LineKind}
 use Rattle.gr_reader.specs.declared.fault.LineKind.TheVariants.{BadLine, NoProblem, SecondProblem, SizeRange, NodeRange}
 use Rattle.gr_reader.specs.declared.fault.LineKind.TheVariants.{WeightRange, CountWrong, LineTooLong, FileTooLong}
-use Rattle.gr_reader.specs.Rules.{Form, Rules, form_of}
-use Rattle.gr_reader.specs.Rules.Form.{Problem, Record, Malformed}
+use Rattle.gr_reader.specs.Rules.{LineForm, Rules, form_of}
+use Rattle.gr_reader.specs.Rules.LineForm.{Problem, Record, Malformed}
 
 -- what stands before a place of a file: what the problem line says, and how many records, lines and bytes
 pub record State (P : Type 0) : Type 0 where
@@ -24,10 +23,6 @@ pub record State (P : Type 0) : Type 0 where
 -- the faults of what a line says, in the order in which they are tried
 abbrev pub order : List LineKind
 order = BadLine ∷ NoProblem ∷ SecondProblem ∷ SizeRange ∷ CountWrong ∷ NodeRange ∷ WeightRange ∷ []
-
--- the limits as those of a reader of lines
-abbrev pub line_limits : FileLimits → LineLimits
-line_limits limits = record { line = limits.line; total = limits.file }
 
 -- a limit that is broken
 abbrev pub limit_kind : Option LineFault → Option LineKind
@@ -43,7 +38,7 @@ size_in total passed line = min (length line + 1) (total - passed)
 
 module _ {P R : Type 0} (rules : Rules P R) where
   -- the test that a line of this form has this fault, where this problem line and so many records stand before it
-  abbrev pub fits : Option P → ℕ → Form P R → LineKind → Bool
+  abbrev pub fits : Option P → ℕ → LineForm P R → LineKind → Bool
   fits problem come Malformed BadLine = true
   fits problem come (Record r) NoProblem = is_none problem
   fits problem come (Problem sizes) SecondProblem = is_some problem
@@ -54,14 +49,14 @@ module _ {P R : Type 0} (rules : Rules P R) where
   fits problem come form kind = false
 
   -- the first fault of what a line says
-  abbrev pub form_kind : Option P → ℕ → Form P R → Option LineKind
+  abbrev pub form_kind : Option P → ℕ → LineForm P R → Option LineKind
   form_kind problem come form = find (fits problem come form) order
 
   -- the first fault of a line in a file of so many bytes: a broken limit comes before what it says
-  abbrev pub line_kind : FileLimits → ℕ → State P → List ℕ → Option LineKind
+  abbrev pub line_kind : LineLimits → ℕ → State P → List ℕ → Option LineKind
   line_kind limits total state line =
       option_or
-      (limit_kind (line_fault (line_limits limits) state.passed (length line) (size_in total state.passed line)))
+      (limit_kind (line_fault limits state.passed (length line) (size_in total state.passed line)))
       (option_and_then (form_kind state.problem state.come) (form_of rules (without_cr line)))
 
   -- what a file lacks at its end, where this problem line and so many records stand in it

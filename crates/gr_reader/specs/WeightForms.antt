@@ -4,26 +4,26 @@ use Rattle.arc_graph.specs.declared.file.ArcLine.{ArcLine}
 use Rattle.gr_reader.specs.declared.fault.LineKind.{LineKind}
 use Rattle.gr_reader.specs.declared.fault.LineKind.TheVariants.{SizeRange, NodeRange, WeightRange}
 use Rattle.gr_reader.specs.declared.weights.Sizes.{Sizes}
-use Rattle.gr_reader.specs.declared.weight_form.Form.TheVariants as read
-use Rattle.gr_reader.specs.declared.weight_form.Form.{Form as ReadForm}
+use Rattle.gr_reader.specs.declared.grammar.LineForm.TheVariants as read
+use Rattle.gr_reader.specs.declared.grammar.LineForm.{LineForm as ReadForm}
 use Rattle.gr_reader.specs.Capped.{capped_number, map_form}
-use Rattle.gr_reader.specs.Rules.{Form}
-use Rattle.gr_reader.specs.Rules.Form.{Problem, Record, Malformed}
+use Rattle.gr_reader.specs.Rules.{LineForm}
+use Rattle.gr_reader.specs.Rules.LineForm.{Problem, Record, Malformed}
 use Rattle.gr_reader.specs.Grammar.{is_node, weights}
 
 -- what was read
-abbrev pub as_form : ReadForm → Form Sizes ArcLine
-as_form (read.Problem nodes arcs) = Problem (record { nodes = nodes; arcs = arcs })
-as_form (read.Arc tail head weight) = Record (record { tail = tail; head = head; weight = weight })
+abbrev pub as_form : ReadForm (ℕ × ℕ) (ℕ × ℕ × ℕ) → LineForm Sizes ArcLine
+as_form (read.Problem (nodes, arcs)) = Problem (record { nodes = nodes; arcs = arcs })
+as_form (read.Record (tail, head, weight)) = Record (record { tail = tail; head = head; weight = weight })
 as_form read.Malformed = Malformed
 
 -- the same, where nothing fits that isn't malformed
-abbrev pub or_malformed : Option ReadForm → Form Sizes ArcLine
+abbrev pub or_malformed : Option (ReadForm (ℕ × ℕ) (ℕ × ℕ × ℕ)) → LineForm Sizes ArcLine
 or_malformed None = Malformed
 or_malformed (Some form) = as_form form
 
 -- the form with its numbers capped
-abbrev pub capped : Form Sizes ArcLine → Form Sizes ArcLine
+abbrev pub capped : LineForm Sizes ArcLine → LineForm Sizes ArcLine
 capped form =
     map_form (λ sizes. record { nodes = capped_number sizes.nodes; arcs = capped_number sizes.arcs })
     (λ arc. record { tail = capped_number arc.tail; head = capped_number arc.head; weight = capped_number arc.weight })

@@ -5,7 +5,7 @@ ghost use Rattle.gr_reader.specs.Sinks.{JoinerHasTaken, JoinerIsReady, OneHasTak
 use crate::record_sink::RecordSink;
 use crate::weights::{Sizes, WeightFiles};
 use arc_graph::{ArcFile, ArcLine, Joiner};
-use cost_vector::OutOfMemory;
+use out_of_memory::OutOfMemory;
 use std::alloc::Global;
 
 impl RecordSink<WeightFiles> for Joiner {

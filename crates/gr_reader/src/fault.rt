@@ -1,17 +1,10 @@
 ghost use Rattle.std.specs.Prelude.{◌≡◌};
-ghost use Rattle.gr_reader.specs.Kinds.{kind_number, told_as};
+ghost use Rattle.gr_reader.specs.Kinds.{kind_number, known_as};
 
-use cost_vector::OutOfMemory;
 use line_text::LineFault;
+use out_of_memory::OutOfMemory;
 use std::fmt;
 use thiserror::Error;
-
-/// How many bytes a line may have before its LF, and how many the whole file may have.
-#[derive(Clone, Copy, Debug, PartialEq, Eq)]
-pub struct FileLimits {
-    pub line: u32,
-    pub file: u64,
-}
 
 /// What is wrong with a line, or with the place behind the last line.
 #[derive(Clone, Copy, Debug, PartialEq, Eq)]
@@ -76,7 +69,7 @@ pub enum FileFault {
 impl FileFault {
     /// What a reader of lines found at this line.
     pub fn at_line(fault: LineFault, line: u64) -> FileFault
-        ensures { result ≡ told_as fault line }
+        ensures { result ≡ known_as fault line }
     {
         let kind = match fault {
             LineFault::TooLong => LineKind::LineTooLong,

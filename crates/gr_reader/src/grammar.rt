@@ -1,11 +1,19 @@
 //! What tells one kind of files from another.
 ghost use Rattle.std.specs.Prelude.{◌≡◌, true, None, Some, IfOk, IfErr};
 ghost use Rattle.gr_reader.specs.Rules.{Rules, form_in};
-ghost use Rattle.gr_reader.specs.Rules.Form.{Problem, Record};
+ghost use Rattle.gr_reader.specs.Rules.LineForm.{Problem, Record};
 ghost use Rattle.gr_reader.specs.Steps.{IsAccepted};
 ghost use Rattle.gr_reader.specs.Table.{form_kind};
 
 use crate::fault::LineKind;
+
+/// What a line says that isn't ignored, or that it has none of the forms. The ranges of its numbers are tried later.
+#[derive(Clone, Copy)]
+pub enum LineForm<P, R> {
+    Problem(P),
+    Record(R),
+    Malformed,
+}
 
 /// A kind of files: a problem line says how many records follow, and then they come, one a line.
 ///

@@ -16,9 +16,9 @@ mod record_sink;
 mod weight_form;
 mod weights;
 
-pub use fault::{FileFault, FileLimits, LineKind};
+pub use fault::{FileFault, LineKind};
 pub use fields::{front_number, number, only_number, three_fields};
-pub use grammar::Grammar;
+pub use grammar::{Grammar, LineForm};
 pub use read::{read_gr, read_into, read_records};
 pub use record_lines::RecordLines;
 pub use record_sink::RecordSink;

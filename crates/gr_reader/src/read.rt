@@ -6,12 +6,13 @@ ghost use Rattle.gr_reader.specs.Reader.{IsComplete, IsSound, MayAnswer, ReadsWh
 ghost use Rattle.gr_reader.specs.Sinks.{ReadsInto};
 
 use crate::arc_sink::OneFile;
-use crate::fault::{FileFault, FileLimits};
+use crate::fault::FileFault;
 use crate::grammar::Grammar;
 use crate::record_lines::RecordLines;
 use crate::record_sink::RecordSink;
 use crate::weights::WeightFiles;
 use arc_graph::ArcFile;
+use line_text::LineLimits;
 use route_io::Source;
 use std::alloc::Global;
 
@@ -19,11 +20,11 @@ use std::alloc::Global;
 pub fn read_gr<S: Source>(
     alloc: Global,
     source: &mut S,
-    limits: FileLimits,
+    limits: LineLimits,
 ) -> Result<ArcFile, FileFault>
     requires some { 1 ≤ limits.line }
     requires line { limits.line ≤ max_line }
-    requires file { limits.file ≤ 2 ^ 63 }
+    requires file { limits.total ≤ 2 ^ 63 }
 
     // Where the source tells its bytes, a file is answered exactly for its text, and a fault of a line exactly
     // where it is the first, but for the source's failures and want of memory.
@@ -33,7 +34,7 @@ pub fn read_gr<S: Source>(
         IsComplete weights (IsGrFile limits bytes) limits bytes result) }
 
     // Where the source tells its bytes, at most one byte past the limit is taken.
-    ensures takes_at_most { TakesAtMost (limits.file + 1)
+    ensures takes_at_most { TakesAtMost (limits.total + 1)
         (S.state source.old) (S.state source.new) }
 
     // The source's failures alone make a failed read.
@@ -48,12 +49,12 @@ pub fn read_gr<S: Source>(
 pub fn read_into<S: Source, K: RecordSink<WeightFiles>>(
     alloc: Global,
     source: &mut S,
-    limits: FileLimits,
+    limits: LineLimits,
     sink: &mut K,
 ) -> Result<(), FileFault>
     requires some { 1 ≤ limits.line }
     requires line { limits.line ≤ max_line }
-    requires file { limits.file ≤ 2 ^ 63 }
+    requires file { limits.total ≤ 2 ^ 63 }
     requires ready { K.is_ready sink.old }
 
     // The sink has taken the file that is read. Where the source tells its bytes, that is the one of the text, and a
@@ -63,7 +64,7 @@ pub fn read_into<S: Source, K: RecordSink<WeightFiles>>(
         (record { nodes = file.nodes; arcs = arcs }) file.arcs) result }
 
     // Where the source tells its bytes, at most one byte past the limit is taken.
-    ensures takes_at_most { TakesAtMost (limits.file + 1)
+    ensures takes_at_most { TakesAtMost (limits.total + 1)
         (S.state source.old) (S.state source.new) }
 
     // The source's failures alone make a failed read.
@@ -76,12 +77,12 @@ pub fn read_into<S: Source, K: RecordSink<WeightFiles>>(
 pub fn read_records<G: Grammar, S: Source, K: RecordSink<G>>(
     alloc: Global,
     source: &mut S,
-    limits: FileLimits,
+    limits: LineLimits,
     sink: &mut K,
 ) -> Result<(), FileFault>
     requires some { 1 ≤ limits.line }
     requires line { limits.line ≤ max_line }
-    requires file { limits.file ≤ 2 ^ 63 }
+    requires file { limits.total ≤ 2 ^ 63 }
     requires ready { K.is_ready sink.old }
 
     // The sink has taken the file that is read. Where the source tells its bytes, that is the one of the text, and a
@@ -93,7 +94,7 @@ pub fn read_records<G: Grammar, S: Source, K: RecordSink<G>>(
     ensures may { IfErr result (MayAnswer G.rules) }
 
     // Where the source tells its bytes, at most one byte past the limit is taken.
-    ensures takes_at_most { TakesAtMost (limits.file + 1)
+    ensures takes_at_most { TakesAtMost (limits.total + 1)
         (S.state source.old) (S.state source.new) }
 
     // The source's failures alone make a failed read.

@@ -8,10 +8,10 @@ ghost use Rattle.gr_reader.specs.Steps.{LineTells};
 ghost use Rattle.gr_reader.specs.Reader.{BeginTells, IsEnded, IsNext, IsStage, MayTell, Moves, RecordTells};
 ghost use Rattle.gr_reader.specs.Reader.{TakesBytes, WhereRecords, failed_at, file_failed, stage_begun, unread};
 
-use crate::fault::{FileFault, FileLimits, LineKind};
+use crate::fault::{FileFault, LineKind};
 use crate::grammar::Grammar;
-use cost_vector::OutOfMemory;
 use line_text::{LineLimits, Lines, first_byte};
+use out_of_memory::OutOfMemory;
 use route_io::Source;
 use std::alloc::Global;
 use std::marker::Model;
@@ -48,16 +48,12 @@ impl<G: Grammar> Model for RecordLines<G> {
 
 impl<G: Grammar> RecordLines<G> {
     /// Takes the one buffer that the reader has.
-    pub fn new(alloc: Global, limits: FileLimits) -> Result<RecordLines<G>, OutOfMemory>
+    pub fn new(alloc: Global, limits: LineLimits) -> Result<RecordLines<G>, OutOfMemory>
         requires some { 1 ≤ limits.line }
         requires line { limits.line ≤ max_line }
-        requires file { limits.file ≤ 2 ^ 63 }
+        requires file { limits.total ≤ 2 ^ 63 }
         ensures { IfOk result (λ lines. lines ≡ unread limits) }
     {
-        let limits = LineLimits {
-            line: limits.line,
-            total: limits.file,
-        };
         Ok(RecordLines {
             lines: Lines::new(alloc, limits)?,
             stage: Stage::Unread,

@@ -3,7 +3,7 @@ ghost use Rattle.std.specs.Prelude.{◌≡◌, ℕ, true, List, [], ◌∷◌, �
 ghost use Rattle.gr_reader.specs.Sinks.{IsDue};
 
 use crate::grammar::Grammar;
-use cost_vector::OutOfMemory;
+use out_of_memory::OutOfMemory;
 
 /// What takes files of one kind record by record, one file after the other.
 pub trait RecordSink<G: Grammar> {

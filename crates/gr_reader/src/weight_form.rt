@@ -4,28 +4,24 @@ ghost use Rattle.gr_reader.specs.Grammar.{arc_from, problem_from, weights_form};
 ghost use Rattle.gr_reader.specs.WeightForms.{as_form, capped, or_malformed};
 
 use crate::fields::{front_number, number, only_number, three_fields};
+use crate::grammar::LineForm;
 use line_text::next_field;
 
-/// What a line of a weight file says that isn't ignored, or that it has none of the forms.
-#[derive(Drop)]
-pub(crate) enum Form {
-    Problem { nodes: u64, arcs: u64 },
-    Arc { tail: u64, head: u64, weight: u64 },
-    Malformed,
-}
+/// What a line of a weight file says: the numbers of nodes and of arcs, or a tail, a head and a weight.
+pub(crate) type WeightForm = LineForm<(u64, u64), (u64, u64, u64)>;
 
 /// What a line says.
-pub(crate) fn form_of(line: &[u8]) -> Form
+pub(crate) fn form_of(line: &[u8]) -> WeightForm
     ensures { as_form result ≡ capped (weights_form (fields_of line.now)) }
 {
     match next_field(line) {
-        None => Form::Malformed,
-        Some((word, rest)) => form_behind(word, rest).unwrap_or(Form::Malformed),
+        None => LineForm::Malformed,
+        Some((word, rest)) => form_behind(word, rest).unwrap_or(LineForm::Malformed),
     }
 }
 
 /// What a line says whose first field is this word.
-fn form_behind(word: &[u8], rest: &[u8]) -> Option<Form>
+fn form_behind(word: &[u8], rest: &[u8]) -> Option<WeightForm>
     ensures { or_malformed result ≡ capped (weights_form (word.now ∷ fields_of rest.now)) }
 {
     if word == b"a".as_slice() {
@@ -38,17 +34,17 @@ fn form_behind(word: &[u8], rest: &[u8]) -> Option<Form>
 }
 
 /// The arc that three numbers say.
-fn arc_behind(text: &[u8]) -> Option<Form>
+fn arc_behind(text: &[u8]) -> Option<WeightForm>
     ensures { or_malformed result ≡ capped (arc_from (fields_of text.now)) }
 {
     let (tail, rest) = front_number(text)?;
     let (head, rest) = front_number(rest)?;
     let weight = only_number(rest)?;
-    Some(Form::Arc { tail, head, weight })
+    Some(LineForm::Record((tail, head, weight)))
 }
 
 /// What the word `sp` and two numbers say of the file's size.
-fn problem_behind(text: &[u8]) -> Option<Form>
+fn problem_behind(text: &[u8]) -> Option<WeightForm>
     ensures { or_malformed result ≡ capped (problem_from (fields_of text.now)) }
 {
     let (word, nodes, arcs) = three_fields(text)?;
@@ -57,5 +53,5 @@ fn problem_behind(text: &[u8]) -> Option<Form>
     }
     let nodes = number(nodes)?;
     let arcs = number(arcs)?;
-    Some(Form::Problem { nodes, arcs })
+    Some(LineForm::Problem((nodes, arcs)))
 }

@@ -2,14 +2,14 @@
 ghost use Rattle.std.specs.Prelude.{◌≡◌, None, Some, IfOk, IfErr};
 ghost use Rattle.std.specs.Result.{result_err};
 ghost use Rattle.gr_reader.specs.Grammar.{is_node, weights};
-ghost use Rattle.gr_reader.specs.Rules.Form.{Problem, Record};
+ghost use Rattle.gr_reader.specs.Rules.LineForm.{Problem, Record};
 ghost use Rattle.gr_reader.specs.Steps.{IsAccepted};
 ghost use Rattle.gr_reader.specs.Table.{form_kind};
 ghost use Rattle.gr_reader.specs.WeightForms.{as_form, range_kind, size_kind};
 
 use crate::fault::LineKind;
-use crate::grammar::Grammar;
-use crate::weight_form::{Form, form_of};
+use crate::grammar::{Grammar, LineForm};
+use crate::weight_form::{WeightForm, form_of};
 use arc_graph::ArcLine;
 use road_network::{MAX_ARCS, MAX_NODES};
 
@@ -44,31 +44,31 @@ impl Grammar for WeightFiles {
 }
 
 /// The sizes in the first line.
-fn sizes_in(form: Form) -> Result<Sizes, LineKind>
+fn sizes_in(form: WeightForm) -> Result<Sizes, LineKind>
     ensures accepted { IfOk result
         (λ sizes. IsAccepted weights None 0 (as_form form) (Problem sizes)) }
     ensures refused { IfErr result
         (λ kind. form_kind weights None 0 (as_form form) ≡ Some kind) }
 {
     match form {
-        Form::Malformed => Err(LineKind::BadLine),
-        Form::Arc { .. } => Err(LineKind::NoProblem),
-        Form::Problem { nodes, arcs } => sizes_of(nodes, arcs),
+        LineForm::Malformed => Err(LineKind::BadLine),
+        LineForm::Record(_) => Err(LineKind::NoProblem),
+        LineForm::Problem((nodes, arcs)) => sizes_of(nodes, arcs),
     }
 }
 
 /// The arc in a line behind the problem line and so many arcs.
-fn arc_in(form: Form, sizes: Sizes, come: u32) -> Result<ArcLine, LineKind>
+fn arc_in(form: WeightForm, sizes: Sizes, come: u32) -> Result<ArcLine, LineKind>
     ensures accepted { IfOk result
         (λ arc. IsAccepted weights (Some sizes) come (as_form form) (Record arc)) }
     ensures refused { IfErr result
         (λ kind. form_kind weights (Some sizes) come (as_form form) ≡ Some kind) }
 {
     match form {
-        Form::Malformed => Err(LineKind::BadLine),
-        Form::Problem { .. } => Err(LineKind::SecondProblem),
-        Form::Arc { .. } if sizes.arcs <= come => Err(LineKind::CountWrong),
-        Form::Arc { tail, head, weight } => arc_of(sizes.nodes, tail, head, weight),
+        LineForm::Malformed => Err(LineKind::BadLine),
+        LineForm::Problem(_) => Err(LineKind::SecondProblem),
+        LineForm::Record(_) if sizes.arcs <= come => Err(LineKind::CountWrong),
+        LineForm::Record((tail, head, weight)) => arc_of(sizes.nodes, tail, head, weight),
     }
 }
 

@@ -8,10 +8,10 @@ ghost use Rattle.graph_gen.specs.Texts.{sizes_line, weight_text};
 ghost use Rattle.graph_gen.specs.Writing.{PutsArcs};
 
 use crate::GenPlan;
-use crate::grid::Place;
+use crate::grid::GridCell;
 use crate::line::put_line;
 use crate::sequence::{first_number, next_number, weight_by};
-use cost_vector::OutOfMemory;
+use out_of_memory::OutOfMemory;
 use std::alloc::Global;
 use std::marker::Model;
 
@@ -62,13 +62,13 @@ impl ArcLines {
         ensures { OnOk result (PutsArcs self.old self.new (row_arcs self.old.side row)) }
     {
         for column in 0..self.side {
-            self.put_arcs(Place { row, column })?;
+            self.put_arcs(GridCell { row, column })?;
         }
         Ok(())
     }
 
     /// Puts the arcs that lead from a place.
-    fn put_arcs(&mut self, place: Place) -> Result<(), OutOfMemory>
+    fn put_arcs(&mut self, place: GridCell) -> Result<(), OutOfMemory>
         requires { IsOnGrid self.old.side place }
         ensures { OnOk result (PutsArcs self.old self.new (arcs_from self.old.side place)) }
     {
@@ -80,7 +80,7 @@ impl ArcLines {
     }
 
     /// Puts the arc to a neighbour, where there is one.
-    fn put_arc(&mut self, tail: Place, head: Option<Place>) -> Result<(), OutOfMemory>
+    fn put_arc(&mut self, tail: GridCell, head: Option<GridCell>) -> Result<(), OutOfMemory>
         requires tail { IsOnGrid self.old.side tail }
         requires head { IfSome head (IsOnGrid self.old.side) }
         ensures { OnOk result (PutsArcs self.old self.new (arc_to self.old.side tail head)) }

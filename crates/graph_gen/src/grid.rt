@@ -5,12 +5,12 @@ ghost use Rattle.graph_gen.specs.Grids.{IsOnGrid, above, below, left_of, node_at
 
 /// A place, by its row and its column, both from 0.
 #[derive(Clone, Copy, Debug, PartialEq, Eq)]
-pub struct Place {
+pub struct GridCell {
     pub row: u32,
     pub column: u32,
 }
 
-impl Place {
+impl GridCell {
     /// The number of the node here.
     pub(crate) fn node(self, side: u32) -> u32
         requires on_grid { IsOnGrid side self }
@@ -21,52 +21,52 @@ impl Place {
     }
 
     /// The place to the right.
-    pub(crate) fn right(self, side: u32) -> Option<Place>
+    pub(crate) fn right(self, side: u32) -> Option<GridCell>
         requires { IsOnGrid side self }
         ensures place { result ≡ right_of side self }
         ensures on_grid { IfSome result (IsOnGrid side) }
     {
         let column = self.column + 1;
         if column < side {
-            Some(Place { column, ..self })
+            Some(GridCell { column, ..self })
         } else {
             None
         }
     }
 
     /// The place below.
-    pub(crate) fn below(self, side: u32) -> Option<Place>
+    pub(crate) fn below(self, side: u32) -> Option<GridCell>
         requires { IsOnGrid side self }
         ensures place { result ≡ below side self }
         ensures on_grid { IfSome result (IsOnGrid side) }
     {
         let row = self.row + 1;
         if row < side {
-            Some(Place { row, ..self })
+            Some(GridCell { row, ..self })
         } else {
             None
         }
     }
 
     /// The place to the left.
-    pub(crate) fn left(self) -> Option<Place>
+    pub(crate) fn left(self) -> Option<GridCell>
         ensures { result ≡ left_of self }
     {
         if self.column > 0 {
             let column = self.column - 1;
-            Some(Place { column, ..self })
+            Some(GridCell { column, ..self })
         } else {
             None
         }
     }
 
     /// The place above.
-    pub(crate) fn above(self) -> Option<Place>
+    pub(crate) fn above(self) -> Option<GridCell>
         ensures { result ≡ above self }
     {
         if self.row > 0 {
             let row = self.row - 1;
-            Some(Place { row, ..self })
+            Some(GridCell { row, ..self })
         } else {
             None
         }

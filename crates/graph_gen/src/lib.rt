@@ -13,8 +13,8 @@ mod pairs;
 mod sequence;
 
 use arc_lines::weight_file;
-use cost_vector::OutOfMemory;
-pub use grid::Place;
+pub use grid::GridCell;
+use out_of_memory::OutOfMemory;
 use pairs::pairs_file;
 use std::alloc::Global;
 

@@ -2,8 +2,8 @@
 ghost use Rattle.std.specs.Prelude.{◌≡◌, ◌++◌, OnOk};
 ghost use Rattle.graph_gen.specs.Texts.{and_number, line_of};
 
-use cost_vector::OutOfMemory;
 use itoa::Buffer;
+use out_of_memory::OutOfMemory;
 
 /// Puts a line behind a text: a word, and numbers in decimal, each behind a space.
 pub(crate) fn put_line(text: &mut Vec<u8>, word: &[u8], numbers: &[u32]) -> Result<(), OutOfMemory>

@@ -5,9 +5,9 @@ ghost use Rattle.graph_gen.specs.Plans.{IsPlan};
 ghost use Rattle.graph_gen.specs.Texts.{diagonal_node, pair_line, pairs_text, reach, start_row};
 
 use crate::GenPlan;
-use crate::grid::Place;
+use crate::grid::GridCell;
 use crate::line::put_line;
-use cost_vector::OutOfMemory;
+use out_of_memory::OutOfMemory;
 use std::alloc::Global;
 
 /// Room for the longest line: the word, two nodes of up to seven digits, two blanks and the LF; also for the first line.
@@ -43,9 +43,9 @@ fn put_pair(text: &mut Vec<u8>, plan: &GenPlan, number: u32) -> Result<(), OutOf
 }
 
 /// The place in this row and column.
-fn on_diagonal(row: u32) -> Place
+fn on_diagonal(row: u32) -> GridCell
     ensures row { result.row ≡ row }
     ensures column { result.column ≡ row }
 {
-    Place { row, column: row }
+    GridCell { row, column: row }
 }

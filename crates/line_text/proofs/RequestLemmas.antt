@@ -1,10 +1,10 @@
 -- The next request, step by step.
-use Rattle.std.proofs.Common.{◌≡◌, ℕ, ◌+◌, ◌-◌, ◌<◌, ◌≤◌, ◌||◌, nat_lt, max, Bool, true, false, List, [], ◌∷◌, ◌++◌, Option, Some, None, IfSome, IsSomeAnd, Result, Ok, Err, length, drop, refl, sym, ap, subst, ◌∙◌, arith, append_assoc, length-append}
+use Rattle.std.proofs.Common.{◌≡◌, ℕ, ◌+◌, ◌-◌, ◌<◌, ◌≤◌, ◌||◌, nat_lt, max, Bool, true, false, cond, List, [], ◌∷◌, ◌++◌, Option, Some, None, IfSome, Result, Ok, Err, length, drop, refl, sym, ap, subst, ◌∙◌, arith, append_assoc, length-append}
 use Rattle.std.proofs.Math.Seq.{drop-append-add, drop-append_seam}
 use Rattle.std.proofs.lemmas.Bool.{lt-ltb, le-ltb}
 use Rattle.std.proofs.lemmas.Bool.Decides.{nat_tests}
 use Rattle.std.proofs.lemmas.List.{append-nil, length-drop}
-use Rattle.std.specs.Io.KnownBytes.{Keeps, IsAtEnd, prepend_known}
+use Rattle.std.specs.Io.KnownBytes.{Keeps, prepend_known}
 use Rattle.route_io.specs.declared.fault.Failed.{Failed}
 use Rattle.route_io.specs.Sources.{SourceState}
 use Rattle.line_text.specs.declared.limits.LineFault.{LineFault}
@@ -13,21 +13,24 @@ use Rattle.line_text.specs.declared.limits.LineLimits.{LineLimits}
 use Rattle.line_text.specs.declared.limits.Request.{Request}
 use Rattle.line_text.specs.declared.limits.Request.TheVariants.{Whole, Long}
 use Rattle.line_text.specs.Lines.{first_lf, raw_line, after_line, line_size, without_cr}
-use Rattle.line_text.specs.Pieces.{Fills}
-use Rattle.line_text.specs.Reading.{Lines, rest_of, CountsLine}
+use Rattle.line_text.specs.Pieces.{Refills}
+use Rattle.line_text.specs.Reading.{CountsLine, KnowsEnd, Lines, LosesNone, left_for, rest_of}
 use Rattle.line_text.specs.Requests.{request_by, first_request, request_of, request_text, RequestCounts, CountsEnd, CountsFault, FailsRead, PassesPart, TakesFirst, TellsRequest, Requests}
 use Rattle.line_text.specs.RequestSteps.{request_behind, past_request, TakesEnded, LacksEnd, EndsPast, EndsInput, without_held}
 use Rattle.line_text.proofs.LineLemmas.{BeginsAlike, begins_alike, begins_alike-nil, first_lf-le, first_lf-front, first_lf-grows, first_lf-part, length-raw_line, length-without_cr, lines_of-first}
-use Rattle.line_text.proofs.AdvancesLemmas.{rest_grown, told}
+use Rattle.line_text.proofs.AdvancesLemmas.{ended_behind, ends_by, held_same, known, loses_none-kept, loses_none-read, none_left, rest_grown}
 
 -- Bytes of the first line were passed, if it is too long, others are held behind them, and there is no current line.
 pub record HoldsPart (old now : Lines) (cut : Bool) (before after : SourceState) : Type 0 where
   pub front : List ℕ
-  pub stays : now ≡ record old { held = now.held; text = []; passed = old.passed + length front }
+  pub stays : now ≡ record old { held = now.held; text = []; passed = old.passed + length front; ended = now.ended }
   pub no_lf : first_lf front ≡ length front
   pub long : cut ≡ true → old.limits.line < length front
   pub whole : cut ≡ false → front ≡ []
-  pub rest : Keeps (rest_of old before) (prepend_known (front ++ now.held) after.left)
+  pub rest : Keeps (rest_of old before) (prepend_known (front ++ now.held) (left_for now after))
+  pub loses_none : LosesNone old now before after
+  pub stays_ended : old.ended ≡ true → now.ended ≡ true
+  pub knows_end : KnowsEnd old before → KnowsEnd now after
   pub none_past : now.passed + length now.held ≤ max old.limits.total (old.passed + length old.held)
 
 -- ---- a line of which a part was passed in front
@@ -89,25 +92,27 @@ request_of-nothing limits passed within = rw (lt-ltb (passed + 0) limits.total (
 module _ (old now : Lines) (cut : Bool) (before after : SourceState) (cuts : HoldsPart old now cut before after) where
   -- the same reader by its parts
   abbrev same : Lines
-  same = record old { held = now.held; text = []; passed = old.passed + length cuts.front }
+  same = record old { held = now.held; text = []; passed = old.passed + length cuts.front; ended = now.ended }
 
-  each_rest : (P : List ℕ → Option (List ℕ) → Type 0) → ((more : List ℕ) → after.left ≡ Some more → P (cuts.front ++ (now.held ++ more)) (Some more))
-      → IfSome (rest_of old before) (λ rest. P rest after.left)
+  each_rest : (P : List ℕ → Option (List ℕ) → Type 0)
+      → ((more : List ℕ) → left_for now after ≡ Some more → P (cuts.front ++ (now.held ++ more)) (Some more))
+      → IfSome (rest_of old before) (λ rest. P rest (left_for now after))
   each_rest P each =
-      told _ _ (cuts.front ++ now.held) P cuts.rest (λ more left.
+      known _ _ (cuts.front ++ now.held) P cuts.rest (λ more left.
       subst (λ rest. P rest (Some more)) (sym (append_assoc cuts.front now.held more)) (each more left))
 
   -- a step that loses no byte, as its answer says
-  requests_by : (next : Lines) (result : Result (Option Request) LineFault) → next.limits ≡ old.limits → RequestCounts old next result
-      → next.passed + length next.held ≡ same.passed + length now.held
-      → ((more : List ℕ) → after.left ≡ Some more → TellsRequest old next (cuts.front ++ (now.held ++ more)) (Some (next.held ++ more)) result)
+  requests_by : (next : Lines) (result : Result (Option Request) LineFault) → next.limits ≡ old.limits → next.ended ≡ now.ended
+      → RequestCounts old next result → (result ≡ Err Read → now.ended ≡ false) → next.passed + length next.held ≡ same.passed + length now.held
+      → ((more : List ℕ) → left_for now after ≡ Some more → TellsRequest old next (cuts.front ++ (now.held ++ more)) (Some (next.held ++ more)) result)
       → Requests old next before after result
-  requests_by next result limits counts kept each = record {
+  requests_by next result limits ended counts goes_on kept each = record {
     limits = limits;
     counts = counts;
-    request = each_rest (λ rest left. TellsRequest old next rest (prepend_known next.held left) result) each;
-    loses_none = each_rest (λ rest left. IsSomeAnd (prepend_known next.held left) (λ more. next.passed + length more ≡ old.passed + length rest))
-        (λ more left. omega (arith, kept, length-append cuts.front (now.held ++ more), length-append {A = ℕ}));
+    request = subst (λ is. IfSome (rest_of old before) (λ rest. TellsRequest old next rest (prepend_known next.held (cond is (Some []) after.left)) result))
+        (sym ended) (each_rest (λ rest left. TellsRequest old next rest (prepend_known next.held left) result) each);
+    loses_none = loses_none-kept old now next before after cuts.loses_none (omega (arith, kept, ap (λ lines. lines.passed) cuts.stays));
+    ends = ends_by old now next before after result ended cuts.stays_ended cuts.knows_end goes_on;
     none_past = omega (arith, kept, cuts.none_past, ap (λ lines. lines.passed) cuts.stays);
   }
 
@@ -146,9 +151,18 @@ module _ (old now : Lines) (cut : Bool) (before after : SourceState) (cuts : Hol
         let nothing = cuts.whole (whole_uncut old.limits cut (length (raw_line now.held)) (sym e ∙ is)) in
         ap without_cr (sym (ap (λ front. raw_line (front ++ (now.held ++ more))) nothing ∙ alike.raw))
 
-    takes_first : old.passed + length cuts.front + first_lf now.held < old.limits.total → (more : List ℕ) → BeginsAlike now.held more
-        → TakesFirst old (past_request same request) (cuts.front ++ (now.held ++ more)) (Some (after_line now.held ++ more)) request
-    takes_first within more alike =
+    -- without an LF the line is the last one
+    is_last : (now.ended ≡ false → first_lf now.held < length now.held) → (more : List ℕ) → (line : BeginsBehind cuts.front now.held more)
+        → first_lf (cuts.front ++ (now.held ++ more)) ≡ length (cuts.front ++ (now.held ++ more)) → now.ended ≡ true
+    is_last whole more line part = by now.ended refl where
+      by : (is : Bool) → now.ended ≡ is → now.ended ≡ true
+      by true e = e
+      by false e =
+          absurd (omega (arith, whole e, part, line.lf, length-append cuts.front (now.held ++ more), length-append now.held more))
+
+    takes_first : old.passed + length cuts.front + first_lf now.held < old.limits.total → (now.ended ≡ false → first_lf now.held < length now.held)
+        → (more : List ℕ) → BeginsAlike now.held more → TakesFirst old (past_request same request) (cuts.front ++ (now.held ++ more)) (Some (after_line now.held ++ more)) request
+    takes_first within whole more alike =
         let rest = cuts.front ++ (now.held ++ more) in
         let line = begins_behind cuts.front now.held more cuts.no_lf alike in
         let raw : length (raw_line rest) ≡ length cuts.front + length (raw_line now.held) =
@@ -163,21 +177,23 @@ module _ (old now : Lines) (cut : Bool) (before after : SourceState) (cuts : Hol
           passed = omega (arith, line.size);
           left = ap Some (sym line.behind);
           lines = lines_of-first rest long;
+          last = is_last whole more line;
         }
 
-    requests_past : old.passed + length cuts.front + first_lf now.held < old.limits.total
-        → ((more : List ℕ) → after.left ≡ Some more → BeginsAlike now.held more)
+    requests_past : old.passed + length cuts.front + first_lf now.held < old.limits.total → (now.ended ≡ false → first_lf now.held < length now.held)
+        → ((more : List ℕ) → left_for now after ≡ Some more → BeginsAlike now.held more)
         → Requests old (past_request same request) before after (Ok (Some request))
-    requests_past within alike =
-        requests_by (past_request same request) (Ok (Some request)) refl (counts_past request refl)
+    requests_past within whole alike =
+        requests_by (past_request same request) (Ok (Some request)) refl refl (counts_past request refl) (λ e. absurd cc)
         (omega (arith, length-raw_line now.held, first_lf-le now.held, length-drop {A = ℕ}))
-        (λ more left. takes_first within more (alike more left))
+        (λ more left. takes_first within whole more (alike more left))
 
   -- the first line that is held with its LF is taken
   pub requests_whole : (next : Lines) (request : Request) → TakesEnded now next cut request → Requests old next before after (Ok (Some request))
   requests_whole next request taken =
       let step = rw cuts.stays at taken in
-      rw step.taken (requests_past request step.answer (λ e. omega (arith, step.whole)) step.within (λ more left. begins_alike now.held more step.whole))
+      rw step.taken (requests_past request step.answer (λ e. omega (arith, step.whole)) step.within (λ going. step.whole)
+      (λ more left. begins_alike now.held more step.whole))
 
   part_left : (more : List ℕ) → PassesPart old same (cuts.front ++ (now.held ++ more)) (Some (now.held ++ more))
   part_left more =
@@ -195,7 +211,7 @@ module _ (old now : Lines) (cut : Bool) (before after : SourceState) (cuts : Hol
   pub requests_fault : (next : Lines) (fault : LineFault) → EndsPast now next fault → Requests old next before after (Err fault)
   requests_fault next fault past =
       let step = rw cuts.stays at past in
-      rw (step.total, step.same) (requests_by same (Err Total) refl (record { counts = counts_fault; taken = step.past }) refl (λ more left.
+      rw (step.total, step.same) (requests_by same (Err Total) refl refl (record { counts = counts_fault; taken = step.past }) (λ e. absurd cc) refl (λ more left.
       let rest = now.held ++ more in
       let whole = cuts.front ++ rest in
       let far : old.limits.total ≤ old.passed + length (raw_line whole) =
@@ -203,20 +219,21 @@ module _ (old now : Lines) (cut : Bool) (before after : SourceState) (cuts : Hol
       record { answer = request_of-past old.limits old.passed whole far; part = part_left more }))
 
   -- a read failed
-  requests_read : first_lf now.held ≡ length now.held → now.passed + length now.held < now.limits.total → Requests old now before after (Err Read)
-  requests_read part within =
+  requests_read : first_lf now.held ≡ length now.held → now.passed + length now.held < now.limits.total → now.ended ≡ false
+      → Requests old now before after (Err Read)
+  requests_read part within goes_on =
       let total = rw cuts.stays at within in
       let fails : FailsRead old same = record { counts = counts_fault; part = part; within = total } in
-      rw cuts.stays (requests_by same (Err Read) refl fails refl (λ more left. part_left more))
+      rw cuts.stays (requests_by same (Err Read) refl refl fails (λ e. goes_on) refl (λ more left. part_left more))
 
   -- the last line, which has no LF, is taken at the end of input, if there is a byte of it
   requests_end : (next : Lines) (result : Option Request) → EndsInput now next cut result → first_lf now.held ≡ length now.held
-      → now.passed + length now.held < now.limits.total → IsAtEnd after.left → Requests old next before after (Ok result)
+      → now.passed + length now.held < now.limits.total → now.ended ≡ true → Requests old next before after (Ok result)
   requests_end next (Some request) last part within end =
       let step = rw cuts.stays at last in
       let total = rw cuts.stays at within in
-      rw step.taken (requests_past request step.answer step.some (omega (arith, total, part)) (λ more left.
-      let nothing : more ≡ [] = subst IsAtEnd left end in rw nothing (begins_alike-nil now.held)))
+      rw step.taken (requests_past request step.answer step.some (omega (arith, total, part)) (λ going. let no : false ≡ true = sym going ∙ end in absurd cc)
+      (λ more left. let nothing : more ≡ [] = none_left now after more end left in rw nothing (begins_alike-nil now.held)))
   requests_end next None last part within end =
       let step = rw cuts.stays at last in
       let total = rw cuts.stays at within in
@@ -225,9 +242,10 @@ module _ (old now : Lines) (cut : Bool) (before after : SourceState) (cuts : Hol
         counts = record { text = refl; number = refl; passed = omega (arith, ap length front) };
         nothing = step.nothing;
         within = omega (arith, total);
+        ended = end;
       } in
-      rw step.same (requests_by same (Ok None) refl counts refl (λ more left.
-      let nothing : more ≡ [] = subst IsAtEnd left end in
+      rw step.same (requests_by same (Ok None) refl refl counts (λ e. absurd cc) refl (λ more left.
+      let nothing : more ≡ [] = none_left now after more end left in
       let empty : cuts.front ++ (now.held ++ more) ≡ [] = rw (front, step.nothing, nothing) refl in
       record { answer = ap (request_of old.limits old.passed) empty ∙ request_of-nothing old.limits old.passed (omega arith); part = part_left more }))
 
@@ -244,7 +262,7 @@ skips_held old now cut true before after cuts part is =
     let size = length-append cuts.front now.held in
     let add : old.passed + length cuts.front + length now.held ≡ old.passed + length (cuts.front ++ now.held) = omega (arith, size) in
     let passed : Lines → Lines = λ lines. record lines { held = []; passed = lines.passed + length now.held } in
-    let part_of_old : ℕ → Lines = λ n. record old { held = []; text = []; passed = n } in
+    let part_of_old : ℕ → Lines = λ n. record old { held = []; text = []; passed = n; ended = now.ended } in
     record {
       front = cuts.front ++ now.held;
       stays = ap passed cuts.stays ∙ ap part_of_old add;
@@ -253,6 +271,9 @@ skips_held old now cut true before after cuts part is =
           (is ∙ ap (λ lines. cut || nat_lt lines.limits.line (length now.held)) cuts.stays);
       whole = λ e. let no : ⊥ = cc in absurd no;
       rest = rw (append-nil (cuts.front ++ now.held)) cuts.rest;
+      loses_none = loses_none-kept old now (without_held now true) before after cuts.loses_none (omega arith);
+      stays_ended = cuts.stays_ended;
+      knows_end = cuts.knows_end;
       none_past = omega (arith, cuts.none_past);
     }
 skips_held old now true false before after cuts part is = let no : ⊥ = cc in absurd no
@@ -260,8 +281,8 @@ skips_held old now false false before after cuts part is = cuts
 
 module _ (old now mid skipped next : Lines) (cut long : Bool) (before after later : SourceState) (result : Result Bool Failed)
     (cuts : HoldsPart old now cut before after) (lacks : LacksEnd now mid) (is : long ≡ (cut || nat_lt mid.limits.line (length mid.held)))
-    (without : skipped ≡ without_held mid long) (stays : next ≡ record skipped { held = next.held })
-    (none_past : skipped.passed + length next.held ≤ skipped.limits.total) (fills : Fills skipped.held next.held after later result) where
+    (without : skipped ≡ without_held mid long) (stays : next ≡ record skipped { held = next.held; ended = next.ended })
+    (none_past : skipped.passed + length next.held ≤ skipped.limits.total) (fills : Refills skipped next after later result) where
   cuts_skipped : HoldsPart old skipped long before after
   cuts_skipped =
       let was = subst (λ lines. HoldsPart old lines cut before after) (sym lacks.same) cuts in
@@ -281,11 +302,15 @@ module _ (old now mid skipped next : Lines) (cut long : Bool) (before after late
   within_skipped : skipped.passed + length skipped.held < skipped.limits.total
   within_skipped = rw without (within_held long)
 
+  -- the end of input stays known
+  pub skipped_ended : old.ended ≡ true → skipped.ended ≡ true
+  skipped_ended = cuts_skipped.stays_ended
+
   -- a read behind the bytes that are held, which have no LF
   pub cuts_more : HoldsPart old next long before later
   cuts_more =
       let was = cuts_skipped in
-      let with_held : Lines → Lines = λ lines. record lines { held = next.held } in
+      let with_held : Lines → Lines = λ lines. record lines { held = next.held; ended = next.ended } in
       let grown : (was.front ++ skipped.held) ++ fills.more ≡ was.front ++ next.held =
       append_assoc was.front skipped.held fills.more ∙ ap (λ held. was.front ++ held) (sym fills.grown) in
       record {
@@ -294,7 +319,12 @@ module _ (old now mid skipped next : Lines) (cut long : Bool) (before after late
         no_lf = was.no_lf;
         long = was.long;
         whole = was.whole;
-        rest = rw (← grown) (rest_grown (rest_of old before) after.left later.left (was.front ++ skipped.held) fills.more was.rest fills.taken);
+        rest = rw (← grown) (rest_grown (rest_of old before) (left_for skipped after) (left_for next later) (was.front ++ skipped.held) fills.more was.rest
+            fills.known);
+        loses_none = loses_none-read old skipped next before after later fills.more was.loses_none fills.taken
+            (omega (arith, ap (λ lines. lines.passed) stays, ap length fills.grown, length-append skipped.held fills.more));
+        stays_ended = λ e. ended_behind skipped next fills.more result fills.answer (was.stays_ended e);
+        knows_end = λ knows. fills.knows_end (was.knows_end knows);
         none_past = omega (arith, none_past, ap (λ lines. lines.passed) stays, ap (λ lines. lines.limits.total) was.stays);
       }
 
@@ -303,13 +333,15 @@ module _ (old now mid skipped next : Lines) (cut long : Bool) (before after late
       → Requests old last before later (Ok answer)
   requests_last last answer ends is_end =
       let end = rw is_end at fills.answer in
-      requests_end old next long before later cuts_more last answer ends (rw end.0 part_skipped) (rw (stays, end.0) within_skipped) end.1
+      let same = held_same skipped.held next.held fills.more fills.grown end.0 in
+      requests_end old next long before later cuts_more last answer ends (rw same part_skipped) (rw (stays, same) within_skipped) end.1
 
   -- the read failed
   pub requests_failed : (failed : Failed) → result ≡ Err failed → Requests old next before later (Err Read)
   requests_failed failed is_err =
-      let held = rw is_err at fills.answer in
-      requests_read old next long before later cuts_more (rw held part_skipped) (rw (stays, held) within_skipped)
+      let failed = rw is_err at fills.answer in
+      let same = held_same skipped.held next.held fills.more fills.grown failed.0 in
+      requests_read old next long before later cuts_more (rw same part_skipped) (rw (stays, same) within_skipped) failed.2
 
   pub searched_none : length skipped.held ≤ first_lf next.held
   searched_none = rw fills.grown (first_lf-part skipped.held fills.more part_skipped)

@@ -1,5 +1,5 @@
 -- What the steps of a reader do to the bytes that it holds.
-use Rattle.std.specs.Prelude.{◌≡◌, ◌<◌, ◌≤◌, ◌+◌, ℕ, Bool, true, false, List, ◌++◌, length, slice_range, Option, Some, None, Result, Ok, Err, is_err}
+use Rattle.std.specs.Prelude.{◌≡◌, ◌<◌, ◌≤◌, ◌+◌, ℕ, Bool, true, false, not, List, [], ◌++◌, length, slice_range, Option, Some, None, Result, Ok, Err, is_err}
 use Rattle.std.specs.Io.KnownBytes.{Consumes, IsAtEnd}
 use Rattle.route_io.specs.Sources.{SourceState, ReadsFrom}
 use Rattle.route_io.specs.declared.fault.Failed.{Failed}
@@ -8,7 +8,7 @@ use Rattle.line_text.specs.declared.limits.LineFault.{LineFault}
 use Rattle.line_text.specs.declared.limits.LineLimits.{LineLimits}
 use Rattle.line_text.specs.Lines.{first_lf, raw_line, after_line, line_size, without_cr}
 use Rattle.line_text.specs.Marks.{first_fault}
-use Rattle.line_text.specs.Reading.{Lines, max_line}
+use Rattle.line_text.specs.Reading.{KnowsEnd, Lines, left_for, max_line}
 
 -- a part of a buffer
 abbrev pub part_of : List ℕ → Span → List ℕ
@@ -39,6 +39,27 @@ pub record Fills (old new : List ℕ) (before after : SourceState) (result : Res
   pub grown : new ≡ old ++ more
   pub taken : Consumes before.left after.left more
   pub answer : Took old new after.left result
+  pub source : ReadsFrom before after (is_err result)
+
+-- the test that an answer of a read says that the input has ended
+abbrev pub is_end : Result Bool Failed → Bool
+is_end (Ok some) = not some
+is_end (Err failed) = false
+
+-- what an answer says of what was read for a reader: some bytes, or none at the end of input and where the read failed
+abbrev pub Refilled : Lines → Lines → List ℕ → Result Bool Failed → Type 0
+Refilled old new more (Ok true) = (0 < length more) × (new.ended ≡ old.ended)
+Refilled old new more (Ok false) = (more ≡ []) × (new.ended ≡ true)
+Refilled old new more (Err failed) = (more ≡ []) × (old.ended ≡ false) × (new.ended ≡ false)
+
+-- One read for a reader, or none where its input has ended. The bytes stand behind those that were held.
+pub record Refills (old new : Lines) (before after : SourceState) (result : Result Bool Failed) : Type 0 where
+  pub more : List ℕ
+  pub grown : new.held ≡ old.held ++ more
+  pub taken : Consumes before.left after.left more
+  pub known : Consumes (left_for old before) (left_for new after) more
+  pub answer : Refilled old new more result
+  pub knows_end : KnowsEnd old before → KnowsEnd new after
   pub source : ReadsFrom before after (is_err result)
 
 -- the reader behind the first line that is held

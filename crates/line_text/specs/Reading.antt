@@ -1,12 +1,12 @@
 -- What a reader of lines shows, and what the next line does to it.
-use Rattle.std.specs.Prelude.{◌≡◌, ◌≢◌, ◌+◌, ◌<◌, ◌≤◌, ℕ, Bool, true, false, List, [], ◌∷◌, length, Option, Some, None}
+use Rattle.std.specs.Prelude.{◌≡◌, ◌≢◌, ◌+◌, ◌<◌, ◌≤◌, ℕ, if◌then◌else◌, Bool, true, false, List, [], ◌∷◌, length, Option, Some, None}
 use Rattle.std.specs.Prelude.{IfSome, IsSomeAnd, Result, Ok, Err}
-use Rattle.std.specs.Io.KnownBytes.{prepend_known}
+use Rattle.std.specs.Io.KnownBytes.{IsAtEnd, prepend_known}
 use Rattle.route_io.specs.Sources.{SourceState}
 use Rattle.line_text.specs.declared.limits.LineFault.{LineFault}
 use Rattle.line_text.specs.declared.limits.LineFault.TheVariants as fault
 use Rattle.line_text.specs.declared.limits.LineLimits.{LineLimits}
-use Rattle.line_text.specs.Lines.{raw_line, after_line, line_size, without_cr, lines_of}
+use Rattle.line_text.specs.Lines.{first_lf, raw_line, after_line, line_size, without_cr, lines_of}
 use Rattle.line_text.specs.Marks.{answer_of}
 
 -- the greatest limit of a line, in bytes before its LF
@@ -30,6 +30,8 @@ pub record Lines : Type 0 where
   pub passed : ℕ
   -- the fault that is kept
   pub fault : Option LineFault
+  -- whether the source said that it is at its end
+  pub ended : Bool
 
 -- a reader before its first line
 abbrev pub begun : LineLimits → Lines
@@ -40,11 +42,20 @@ begun limits = record {
   number = 0;
   passed = 0;
   fault = None;
+  ended = false;
 }
 
--- what is left to read: the bytes that are held, and then what the source has left, where it tells
+-- what the source has left for a reader, where it tells: nothing where the input has ended
+abbrev pub left_for : Lines → SourceState → Option (List ℕ)
+left_for lines source = if lines.ended then Some [] else source.left
+
+-- what is left to read: the bytes that are held, and then what the source has left
 abbrev pub rest_of : Lines → SourceState → Option (List ℕ)
-rest_of lines source = prepend_known lines.held source.left
+rest_of lines source = prepend_known lines.held (left_for lines source)
+
+-- Where the input has ended for a reader, its source is at its end.
+abbrev pub KnowsEnd : Lines → SourceState → Type 0
+KnowsEnd lines source = lines.ended ≡ true → IsAtEnd source.left
 
 -- The counts are within the limits: each line has a byte at least. At most one byte past the total was taken from the
 -- source, and no more bytes are held than the buffer has.
@@ -62,11 +73,11 @@ pub record CountsLine (old new : Lines) : Type 0 where
   pub holds_text : old.passed + length new.text ≤ new.passed
   pub at_most : new.passed ≤ old.passed + length new.text + 2
 
--- No byte is lost: where it is told what is left to read, as many bytes as before are passed or left.
+-- No byte is lost: where the source tells what it has left, as many bytes as before are passed, held or left.
 abbrev pub LosesNone : Lines → Lines → SourceState → SourceState → Type 0
 LosesNone old new before after =
-    IfSome (rest_of old before) (λ rest.
-    IsSomeAnd (rest_of new after) (λ more. new.passed + length more ≡ old.passed + length rest))
+    IfSome before.left (λ left. IsSomeAnd after.left (λ more.
+    new.passed + length new.held + length more ≡ old.passed + length old.held + length left))
 
 -- There is no current line, and the counts stand.
 pub record CountsNone (old new : Lines) : Type 0 where
@@ -74,10 +85,11 @@ pub record CountsNone (old new : Lines) : Type 0 where
   pub number : new.number ≡ old.number
   pub passed : new.passed ≡ old.passed
 
--- what an answer says of the counts
+-- what an answer says of the counts, and of the end of input
 abbrev pub Counts : Lines → Lines → Result Bool LineFault → Type 0
 Counts old new (Ok true) = CountsLine old new
-Counts old new other = CountsNone old new
+Counts old new (Ok false) = CountsNone old new × (new.ended ≡ true)
+Counts old new (Err other) = CountsNone old new
 
 -- the test that the source failed in a call with this answer, where this fault was kept before the call
 abbrev pub line_failed : {T : Type 0} → Option LineFault → Result T LineFault → Bool
@@ -92,18 +104,25 @@ pub record TakesLine (old new : Lines) (rest : List ℕ) (after : Option (List �
     pub passed : new.passed ≡ old.passed + line_size rest
     pub left : after ≡ Some (after_line rest)
     pub lines : lines_of rest ≡ raw_line rest ∷ lines_of (after_line rest)
+    pub last : first_lf rest ≡ length rest → new.ended ≡ true
 
 -- The rest stays, and this is the answer for it.
-pub record Stays (old : Lines) (rest : List ℕ) (after : Option (List ℕ)) (result : Result Bool LineFault) : Type 0 where
+pub record KeepsRest (old : Lines) (rest : List ℕ) (after : Option (List ℕ)) (result : Result Bool LineFault) : Type 0 where
   pub answer : answer_of old.limits old.passed rest ≡ result
   pub left : after ≡ Some rest
 
 -- what an answer says of the rest, and what is left of it afterwards
 abbrev pub Tells : Lines → Lines → List ℕ → Option (List ℕ) → Result Bool LineFault → Type 0
 Tells old new rest after (Ok true) = TakesLine old new rest after
-Tells old new rest after (Ok false) = Stays old rest after (Ok false)
+Tells old new rest after (Ok false) = KeepsRest old rest after (Ok false)
 Tells old new rest after (Err fault.Read) = after ≡ Some rest
-Tells old new rest after (Err other) = Stays old rest after (Err other)
+Tells old new rest after (Err other) = KeepsRest old rest after (Err other)
+
+-- What a call does to what a reader knows of the end of input: it stays known, and no read fails behind it.
+pub record Ends {T : Type 0} (old new : Lines) (before after : SourceState) (result : Result T LineFault) : Type 0 where
+  pub stays : old.ended ≡ true → new.ended ≡ true
+  pub knows_end : KnowsEnd old before → KnowsEnd new after
+  pub fails_before : result ≡ Err fault.Read → old.ended ≡ false
 
 -- What a call does to a reader that keeps no fault, and to the source: the next line, or the answer that there is none.
 pub record Advances (old new : Lines) (before after : SourceState) (result : Result Bool LineFault) : Type 0 where
@@ -111,4 +130,5 @@ pub record Advances (old new : Lines) (before after : SourceState) (result : Res
   pub counts : Counts old new result
   pub lines : IfSome (rest_of old before) (λ rest. Tells old new rest (rest_of new after) result)
   pub loses_none : LosesNone old new before after
+  pub ends : Ends old new before after result
   pub takes_no_memory : result ≢ Err fault.OutOfMemory

@@ -1,5 +1,5 @@
 -- The next line as a request: a line that is too long is skipped, and no byte past the total is taken.
-use Rattle.std.specs.Prelude.{◌≡◌, ◌<◌, ◌≤◌, ◌+◌, ◌-◌, ℕ, nat_lt, max, if◌then◌else◌, List, [], ◌∷◌, length, drop}
+use Rattle.std.specs.Prelude.{◌≡◌, ◌<◌, ◌≤◌, ◌+◌, ◌-◌, ℕ, nat_lt, max, if◌then◌else◌, true, List, [], ◌∷◌, length, drop}
 use Rattle.std.specs.Prelude.{Option, Some, None, IfSome, Result, Ok, Err}
 use Rattle.route_io.specs.Sources.{SourceState}
 use Rattle.line_text.specs.declared.limits.LineFault.{LineFault}
@@ -8,7 +8,7 @@ use Rattle.line_text.specs.declared.limits.LineLimits.{LineLimits}
 use Rattle.line_text.specs.declared.limits.Request.{Request}
 use Rattle.line_text.specs.declared.limits.Request.TheVariants.{Whole, Long}
 use Rattle.line_text.specs.Lines.{first_lf, raw_line, after_line, line_size, without_cr, lines_of}
-use Rattle.line_text.specs.Reading.{Lines, rest_of, LosesNone, CountsLine, CountsNone}
+use Rattle.line_text.specs.Reading.{Lines, rest_of, LosesNone, Ends, CountsLine, CountsNone}
 
 -- what a line of so many bytes before its LF is
 abbrev pub request_by : LineLimits → ℕ → Request
@@ -60,6 +60,7 @@ pub record CountsEnd (old new : Lines) : Type 0 where
   pub counts : CountsNone old new
   pub nothing : new.held ≡ []
   pub within : new.passed < new.limits.total
+  pub ended : new.ended ≡ true
 
 -- The total was reached: as many bytes were taken, and of a whole line that is held the LF stands behind them.
 pub record ReachesTotal (old new : Lines) : Type 0 where
@@ -83,6 +84,7 @@ pub record TakesFirst (old new : Lines) (rest : List ℕ) (after : Option (List 
   pub passed : new.passed ≡ old.passed + line_size rest
   pub left : after ≡ Some (after_line rest)
   pub lines : lines_of rest ≡ raw_line rest ∷ lines_of (after_line rest)
+  pub last : first_lf rest ≡ length rest → new.ended ≡ true
 
 -- A part of the first line was passed, or nothing, and what stands behind it is left.
 pub record PassesPart (old new : Lines) (rest : List ℕ) (after : Option (List ℕ)) : Type 0 where
@@ -109,6 +111,7 @@ pub record Requests (old new : Lines) (before after : SourceState) (result : Res
     pub counts : RequestCounts old new result
     pub request : IfSome (rest_of old before) (λ rest. TellsRequest old new rest (rest_of new after) result)
     pub loses_none : LosesNone old new before after
+    pub ends : Ends old new before after result
     pub none_past : new.passed + length new.held ≤ max old.limits.total (old.passed + length old.held)
 
 -- The first line is held with its LF.

@@ -5,14 +5,14 @@ ghost use Rattle.std.specs.Result.{result_err};
 ghost use Rattle.route_io.specs.Sources.{Reads, ReadsFrom};
 ghost use Rattle.line_text.specs.Lines.{first_lf, without_cr};
 ghost use Rattle.line_text.specs.Marks.{first_fault, line_fault};
-ghost use Rattle.line_text.specs.Pieces.{Fills, LiesIn, TakesHeld, part_of, past_line};
+ghost use Rattle.line_text.specs.Pieces.{Fills, LiesIn, Refills, TakesHeld, is_end, part_of, past_line};
 ghost use Rattle.line_text.specs.Reading.{Advances, InLimits, begun, max_held, max_line, line_failed};
 ghost use Rattle.line_text.specs.Requests.{HoldsLine, Requests, request_text};
 ghost use Rattle.line_text.specs.RequestSteps.{EndsInput, TakesAsked, request_behind, without_held};
 
 use crate::{LineFault, LineLimits, Request};
-use cost_vector::OutOfMemory;
 use memchr::memchr;
+use out_of_memory::OutOfMemory;
 use route_io::{Failed, Source};
 use std::alloc::Global;
 use std::marker::Model;
@@ -43,6 +43,7 @@ pub struct Lines {
     number: u64,
     passed: u64,
     fault: Option<LineFault>,
+    ended: bool,
 }
 
 impl Model for Lines {
@@ -60,6 +61,7 @@ impl Model for Lines {
       number = lines.number;
       passed = lines.passed;
       fault = lines.fault;
+      ended = lines.ended;
     } };
 
     ghost invariant = { λ lines. (vec_len lines.buffer ≡ max_held)
@@ -84,6 +86,7 @@ impl Lines {
             number: 0,
             passed: 0,
             fault: None,
+            ended: false,
         })
     }
 
@@ -92,10 +95,11 @@ impl Lines {
     /// `TooLong` is a line with more bytes before its LF than the limit, and `Total` one in which the first byte past
     /// the total stands. Where both are so, the byte that comes first decides, and at one byte it is `TooLong`.
     pub fn next_line<S: Source>(&mut self, source: &mut S) -> Result<bool, LineFault>
-        // A kept fault is answered again. Nothing changes then, and nothing is read.
+        // A kept fault is answered again, and nothing changes then. Nothing is read behind the end of input.
         ensures again { IfSome self.old.fault (λ fault. result ≡ Err fault) }
-        ensures stays { IsSome self.old.fault → self.new ≡ self.old }
-        ensures reads_nothing { IsSome self.old.fault → source.new ≡ source.old }
+        ensures stays { IsSome self.old.fault
+            → (self.new ≡ self.old) × (source.new ≡ source.old) }
+        ensures at_end { IsTrue self.old.ended → source.new ≡ source.old }
 
         // A fault is kept, and no other answer leaves one.
         ensures keeps_fault { self.new.fault ≡ result_err result }
@@ -126,10 +130,11 @@ impl Lines {
     /// A line with more bytes before its LF than the limit is skipped, and its text is empty. `Total` is a line that
     /// doesn't end within as many bytes as the total, which are all that is read.
     pub fn next_request<S: Source>(&mut self, source: &mut S) -> Result<Option<Request>, LineFault>
-        // A kept fault is answered again. Nothing changes then, and nothing is read.
+        // A kept fault is answered again, and nothing changes then. Nothing is read behind the end of input.
         ensures again { IfSome self.old.fault (λ fault. result ≡ Err fault) }
-        ensures stays { IsSome self.old.fault → self.new ≡ self.old }
-        ensures reads_nothing { IsSome self.old.fault → source.new ≡ source.old }
+        ensures stays { IsSome self.old.fault
+            → (self.new ≡ self.old) × (source.new ≡ source.old) }
+        ensures at_end { IsTrue self.old.ended → source.new ≡ source.old }
 
         // A fault is kept, and no other answer leaves one.
         ensures keeps_fault { self.new.fault ≡ result_err result }
@@ -171,6 +176,7 @@ impl Lines {
 
     /// What `next_line` does where no fault is kept.
     fn read_line<S: Source>(&mut self, source: &mut S) -> Result<bool, LineFault>
+        ensures at_end { IsTrue self.old.ended → source.new ≡ source.old }
         ensures advances { Advances self.old self.new
             (S.state source.old) (S.state source.new) result }
         ensures source { ReadsFrom (S.state source.old) (S.state source.new)
@@ -198,6 +204,7 @@ impl Lines {
         ensures requests { Requests self.old self.new
             (S.state source.old) (S.state source.new) result }
         ensures held_first { HoldsLine self.old → source.new ≡ source.old }
+        ensures at_end { IsTrue self.old.ended → source.new ≡ source.old }
         ensures source { ReadsFrom (S.state source.old) (S.state source.new)
             (line_failed None result) }
     {
@@ -408,8 +415,10 @@ impl Lines {
         requires room { length self.old.held ≤ max_line }
         requires in_total { self.old.passed + length self.old.held ≤ self.old.limits.total }
         requires no_text { self.old.text ≡ [] }
-        ensures stays { self.new ≡ record self.old { held = self.new.held } }
-        ensures reads { Fills self.old.held self.new.held
+        ensures stays { self.new
+            ≡ record self.old { held = self.new.held; ended = self.new.ended } }
+        ensures at_end { IsTrue self.old.ended → (source.new ≡ source.old) × (result ≡ Ok false) }
+        ensures reads { Refills self.old self.new
             (S.state source.old) (S.state source.new) result }
     {
         let wanted = self.wanted();
@@ -421,17 +430,41 @@ impl Lines {
         requires room { length self.old.held ≤ max_line }
         requires in_total { self.old.passed + length self.old.held < self.old.limits.total }
         requires no_text { self.old.text ≡ [] }
-        ensures stays { self.new ≡ record self.old { held = self.new.held } }
+        ensures stays { self.new
+            ≡ record self.old { held = self.new.held; ended = self.new.ended } }
         ensures none_past { self.old.passed + length self.new.held ≤ self.old.limits.total }
-        ensures reads { Fills self.old.held self.new.held
+        ensures at_end { IsTrue self.old.ended → (source.new ≡ source.old) × (result ≡ Ok false) }
+        ensures reads { Refills self.old self.new
             (S.state source.old) (S.state source.new) result }
     {
         let wanted = self.left().min(MAX_HELD as u64) as usize;
         self.read_more(source, wanted)
     }
 
-    /// Reads once behind the bytes that are held, and takes at most `most` bytes.
+    /// Reads once behind the bytes that are held, and takes at most `most` bytes. Behind the end of input nothing is read.
     fn read_more<S: Source>(&mut self, source: &mut S, most: usize) -> Result<bool, Failed>
+        requires room { length self.old.held ≤ max_line }
+        requires some { 0 < most }
+        requires one_past { self.old.passed + length self.old.held + most
+            ≤ self.old.limits.total + 1 }
+        requires no_text { self.old.text ≡ [] }
+        ensures stays { self.new
+            ≡ record self.old { held = self.new.held; ended = self.new.ended } }
+        ensures at_most { length self.new.held ≤ length self.old.held + most }
+        ensures at_end { IsTrue self.old.ended → (source.new ≡ source.old) × (result ≡ Ok false) }
+        ensures reads { Refills self.old self.new
+            (S.state source.old) (S.state source.new) result }
+    {
+        if self.ended {
+            return Ok(false);
+        }
+        let answer = self.read_once(source, most);
+        self.ended = is_end(&answer);
+        answer
+    }
+
+    /// Reads once behind the bytes that are held, and takes at most `most` bytes.
+    fn read_once<S: Source>(&mut self, source: &mut S, most: usize) -> Result<bool, Failed>
         requires room { length self.old.held ≤ max_line }
         requires some { 0 < most }
         requires one_past { self.old.passed + length self.old.held + most
@@ -460,6 +493,16 @@ impl Lines {
         ensures { result ≡ self.now.limits.total - (self.now.passed + length self.now.held) }
     {
         self.limits.total - self.passed - self.held().len() as u64
+    }
+}
+
+/// Whether an answer of a read says that the input has ended.
+fn is_end(answer: &Result<bool, Failed>) -> bool
+    ensures { result ≡ is_end answer.now }
+{
+    match answer {
+        Ok(some) => !*some,
+        Err(Failed) => false,
     }
 }
 

@@ -17,21 +17,21 @@ use Rattle.list_laws.specs.Sets.{SameMembers, ListsOnce, HasMoreThan}
 use Rattle.list_laws.proofs.SetLaws.{same_by_permutation, longer, more_by_list, more_on}
 
 -- it can be told whether P holds
-abbrev pub IsTold : Type 0 → Type 0
-IsTold P = P ⊎ (¬ P)
+abbrev pub IsDecidable : Type 0 → Type 0
+IsDecidable P = P ⊎ (¬ P)
 
 -- what is told of the parts is told of the whole
-pub told_as : {P Q : Type 0} → (P → Q) → (Q → P) → IsTold P → IsTold Q
-told_as to back told = grind arith
+pub decidable_as : {P Q : Type 0} → (P → Q) → (Q → P) → IsDecidable P → IsDecidable Q
+decidable_as to back decision = grind arith
 
-pub told_not : {P : Type 0} → IsTold P → IsTold (¬ P)
-told_not told = grind arith
+pub decidable_not : {P : Type 0} → IsDecidable P → IsDecidable (¬ P)
+decidable_not decision = grind arith
 
-pub told_both : {P Q : Type 0} → IsTold P → IsTold Q → IsTold (P × Q)
-told_both told told_too = grind arith
+pub decidable_both : {P Q : Type 0} → IsDecidable P → IsDecidable Q → IsDecidable (P × Q)
+decidable_both decision decidable_too = grind arith
 
-pub told_either : {P Q : Type 0} → IsTold P → IsTold Q → IsTold (P ⊎ Q)
-told_either told told_too = grind arith
+pub decidable_either : {P Q : Type 0} → IsDecidable P → IsDecidable Q → IsDecidable (P ⊎ Q)
+decidable_either decision decidable_too = grind arith
 
 -- what is so exactly where another thing is: the other way round, and through a third
 pub alike_back : {P Q : Type 0} → (P ↔ Q) → (Q ↔ P)
@@ -68,34 +68,34 @@ module _ {X : Type 0} where
   once_as P Q xs same lists = record { exact = λ x. let s = same x in let e = lists.exact x in grind arith; once = lists.once }
 
   -- whether P holds of a member of a list
-  pub told_some : (P : X → Type 0) → ((x : X) → IsTold (P x)) → (xs : List X) → ((x : X) × Contains xs x × P x) ⊎ ((x : X) → Contains xs x → ¬ P x)
-  told_some P told [] = inr (λ x h. absurd (in_none x h))
-  told_some P told (y ∷ ys) = elim (told y) [
+  pub decidable_some : (P : X → Type 0) → ((x : X) → IsDecidable (P x)) → (xs : List X) → ((x : X) × Contains xs x × P x) ⊎ ((x : X) → Contains xs x → ¬ P x)
+  decidable_some P decision [] = inr (λ x h. absurd (in_none x h))
+  decidable_some P decision (y ∷ ys) = elim (decision y) [
     | inl here ↦ inl (y, in_first y ys, here)
-    | inr not_here ↦ elim (told_some P told ys) [
+    | inr not_here ↦ elim (decidable_some P decision ys) [
       | inl later ↦ inl (later.0, in_rest y ys later.0 later.1, later.2)
       | inr none ↦ inr (λ x h p. elim (cases_in y ys x h) [ inl e ↦ not_here (subst P e p) | inr later ↦ none x later p ])
     ]
   ]
 
-  pub told_member : (P : X → Type 0) → ((x : X) → IsTold (P x)) → (xs : List X) → IsTold ((x : X) × Contains xs x × P x)
-  told_member P told xs = elim (told_some P told xs) [ inl found ↦ inl found | inr none ↦ inr (λ (x, here, holds). none x here holds) ]
+  pub decidable_member : (P : X → Type 0) → ((x : X) → IsDecidable (P x)) → (xs : List X) → IsDecidable ((x : X) × Contains xs x × P x)
+  decidable_member P decision xs = elim (decidable_some P decision xs) [ inl found ↦ inl found | inr none ↦ inr (λ (x, here, holds). none x here holds) ]
 
-module _ {X : Type 0} (same : (x y : X) → IsTold (x ≡ y)) where
+module _ {X : Type 0} (same : (x y : X) → IsDecidable (x ≡ y)) where
   -- whether a list contains x
-  pub told_in : (xs : List X) (x : X) → IsTold (Contains xs x)
-  told_in xs x = elim (told_some (λ y. y ≡ x) (λ y. same y x) xs) [
+  pub decidable_in : (xs : List X) (x : X) → IsDecidable (Contains xs x)
+  decidable_in xs x = elim (decidable_some (λ y. y ≡ x) (λ y. same y x) xs) [
     | inl found ↦ inl (subst (Contains xs) found.2 found.1)
     | inr none ↦ inr (λ h. none x h refl)
   ]
 
-  module _ (P : X → Type 0) (told : (x : X) → IsTold (P x)) where
+  module _ (P : X → Type 0) (decision : (x : X) → IsDecidable (P x)) where
     -- those members of a list that P holds of, each once
     pub sift : (xs : List X) → (ys : List X) × ListsOnce (λ y. Contains xs y × P y) ys
     sift [] = ([], record { exact = λ y. (λ h. absurd (in_none y h), λ h. h.0); once = pairs_none ◌≢◌ })
     sift (x ∷ xs) =
         let (ys, lists) = sift xs in
-        elim (told_both (told x) (told_not (told_in ys x))) [
+        elim (decidable_both (decision x) (decidable_not (decidable_in ys x))) [
           | inl new ↦ (
             x ∷ ys,
             record {
@@ -107,7 +107,7 @@ module _ {X : Type 0} (same : (x y : X) → IsTold (x ≡ y)) where
             ys,
             record {
               exact = λ y. without (lists.exact y) (in_cons x xs y)
-                  (λ e h. elim (told_in ys x) [ inl there ↦ subst (Contains ys) (sym e) there | inr new ↦ absurd (old (subst P e h, new)) ]);
+                  (λ e h. elim (decidable_in ys x) [ inl there ↦ subst (Contains ys) (sym e) there | inr new ↦ absurd (old (subst P e h, new)) ]);
               once = lists.once;
             },
           )
@@ -192,14 +192,14 @@ module _ {X : Type 0} where
     joined : {W A B C D H : Type 0} → (W ↔ (A ⊎ B)) → (H ↔ (C ⊎ D)) → (A ↔ C) → (B ↔ D) → (W ↔ H)
     joined f g h k = grind arith
 
-module _ {X : Type 0} (same : (x y : X) → IsTold (x ≡ y)) where
+module _ {X : Type 0} (same : (x y : X) → IsDecidable (x ≡ y)) where
   -- the members of a list, each once
   pub members_once : (xs : List X) → (ys : List X) × ListsOnce (Contains xs) ys
-  members_once xs = list_all same (Contains xs) (told_in same xs) xs (λ y there. there)
+  members_once xs = list_all same (Contains xs) (decidable_in same xs) xs (λ y there. there)
 
   -- whether a list contains more than n different things
-  pub told_more : (n : ℕ) (xs : List X) → IsTold (HasMoreThan n xs)
-  told_more n xs =
+  pub decidable_more : (n : ℕ) (xs : List X) → IsDecidable (HasMoreThan n xs)
+  decidable_more n xs =
       let (ys, lists) = members_once xs in
       elim (cases_lt n (length ys)) [
         | inl below ↦ inl (more_by_list n xs ys lists.once (λ y there. (lists.exact y).0 there) below)

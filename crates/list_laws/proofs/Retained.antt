@@ -44,8 +44,8 @@ module _ {F X : Type 0} (R : F → X → Bool → F → Type 0) (P : X → Type 
   without_in_turn f tells [] (b ∷ bs) last long turns = absurd (omega arith)
   without_in_turn f tells (x ∷ xs) [] last long turns = absurd (omega arith)
   without_in_turn f tells (x ∷ xs) (b ∷ bs) last long turns =
-      let told = tells x b turns.0 turns.1 in
-      without_more b x xs bs told.0 (without_in_turn f tells xs bs last (omega arith) (subst (λ g. ReturnsInTurn R g bs xs last) told.1 turns.2))
+      let decision = tells x b turns.0 turns.1 in
+      without_more b x xs bs decision.0 (without_in_turn f tells xs bs last (omega arith) (subst (λ g. ReturnsInTurn R g bs xs last) decision.1 turns.2))
 
   -- the list without the members of which the test says that P holds
   pub without_by_retain : (f : F) (before after : List X) → Tells f → IsFiltered R f before after → IsWithout P before after

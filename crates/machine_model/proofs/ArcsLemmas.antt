@@ -4,7 +4,8 @@ use Rattle.std.specs.Prelude.{Contains}
 use Rattle.std.proofs.lemmas.Bool.{cases_lt}
 use Rattle.std.proofs.lemmas.Option.{slice_get_within}
 use Rattle.road_network.specs.Network.{Network}
-use Rattle.event_machine.specs.Machine.{Label, LeadsOn}
+use Rattle.event_machine.specs.Machine.{LeadsOn}
+use Rattle.road_network.specs.Labels.{Label}
 
 -- arcs are counted from 1
 pub counted : (net : Network) (u : ℕ) → ¬ LeadsOn net u 0

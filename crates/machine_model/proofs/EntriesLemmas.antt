@@ -1,7 +1,8 @@
 -- What becomes of the entries, by what becomes of each list.
 use Rattle.std.proofs.Common.{◌≡◌, ◌↔◌, ◌⊎◌, ℕ, List}
 use Rattle.std.specs.Prelude.{Contains}
-use Rattle.event_machine.specs.Machine.{Label, SearchState, Place, settled, dropped, waiting, entries_at}
+use Rattle.event_machine.specs.Machine.{SearchState, Place, settled, dropped, waiting, entries_at}
+use Rattle.road_network.specs.Labels.{Label}
 use Rattle.event_machine.specs.Events.{SameEntries, Becomes}
 use Rattle.machine_model.specs.Entries.{ChangesEntries}
 

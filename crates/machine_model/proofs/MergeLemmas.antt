@@ -2,7 +2,8 @@
 use Rattle.std.proofs.Common.{◌≢◌, ◌∷◌, ◌<◌, ◌≤◌, List, sym, subst}
 use Rattle.std.specs.Prelude.{Contains, IsPermutation}
 use Rattle.list_laws.specs.Sets.{SameMembers}
-use Rattle.event_machine.specs.Machine.{Label, IsSamePair, SearchState, Place, entries_at}
+use Rattle.event_machine.specs.Machine.{SearchState, Place, entries_at}
+use Rattle.road_network.specs.Labels.{Label, IsSamePair}
 use Rattle.event_machine.specs.Events.{Merges, IsMerged, keeps, lowers}
 use Rattle.machine_model.specs.Entries.{ChangesEntries}
 use Rattle.machine_model.proofs.EntriesLemmas.{same_entries, becomes_from}

@@ -41,8 +41,8 @@ module _ {X Y F : Type 0} (f : X → Y) (R : F → X → Bool → F → Type 0) 
   left_in_turn s tells [] (b ∷ bs) last long turns y = absurd (omega arith)
   left_in_turn s tells (x ∷ xs) [] last long turns y = absurd (omega arith)
   left_in_turn s tells (x ∷ xs) (b ∷ bs) last long turns y =
-      let told = tells x b turns.0 turns.1 in
-      left_more b x xs bs told.0 (left_in_turn s tells xs bs last (omega arith) (subst (λ t. ReturnsInTurn R t bs xs last) told.1 turns.2)) y
+      let decision = tells x b turns.0 turns.1 in
+      left_more b x xs bs decision.0 (left_in_turn s tells xs bs last (omega arith) (subst (λ t. ReturnsInTurn R t bs xs last) decision.1 turns.2)) y
 
   -- what `retain` leaves
   pub left_by_retain : (s : F) (before after : List X) → Spares s → IsFiltered R s before after → IsLeft before after

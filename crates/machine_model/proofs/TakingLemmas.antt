@@ -2,7 +2,8 @@
 use Rattle.std.proofs.Common.{◌⊎◌, ℕ, List, inl, inr}
 use Rattle.std.specs.Prelude.{Any, Contains}
 use Rattle.cost_vector.specs.Costs.{Dominates, Within}
-use Rattle.event_machine.specs.Machine.{Task, Label, SearchState, waits, is_candidate, has_arc}
+use Rattle.event_machine.specs.Machine.{Task, SearchState, waits, is_candidate, has_arc}
+use Rattle.road_network.specs.Labels.{Label}
 use Rattle.event_machine.specs.Events.{MayTake}
 use Rattle.machine_model.specs.Taking.{IsActiveBelow, IsForbidden}
 

@@ -3,7 +3,7 @@ use Rattle.std.proofs.Common.{◌≡◌, ◌↔◌, ℕ, Bool, true, false, IsTr
 use Rattle.std.specs.Prelude.{MatchBool, MatchOption, Option, Some, None, IsSome, IfNone, All, Any, Contains}
 use Rattle.cost_vector.specs.declared.label.ArcNo.{ArcNo}
 use Rattle.cost_vector.specs.declared.label.Label.{Label as StoredLabel}
-use Rattle.event_machine.specs.Machine.{Label}
+use Rattle.road_network.specs.Labels.{Label}
 use Rattle.list_laws.proofs.Members.{each_in, in_map, of_map}
 
 -- the label in memory

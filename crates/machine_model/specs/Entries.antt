@@ -1,6 +1,7 @@
 -- What becomes of the lists of a state.
 use Rattle.std.specs.Prelude.{◌≡◌}
-use Rattle.event_machine.specs.Machine.{Label, SearchState, Place}
+use Rattle.event_machine.specs.Machine.{SearchState, Place}
+use Rattle.road_network.specs.Labels.{Label}
 use Rattle.event_machine.specs.Events.{Becomes}
 
 -- Of the entries those stay that Stays holds of, and n comes to stand at the place `to`. All else stays.

@@ -1,7 +1,8 @@
 -- What forbids to settle a label.
 use Rattle.std.specs.Prelude.{ℕ, ◌⊎◌, List, Any}
 use Rattle.cost_vector.specs.Costs.{Dominates}
-use Rattle.event_machine.specs.Machine.{Task, Label, SearchState, IsActive, IsSamePair, IsBeatenAtTarget}
+use Rattle.event_machine.specs.Machine.{Task, SearchState, IsActive, IsBeatenAtTarget}
+use Rattle.road_network.specs.Labels.{Label, IsSamePair}
 
 -- a label from which the search still goes on dominates the cost
 abbrev pub IsActiveBelow : SearchState → List ℕ → Type 0

@@ -4,7 +4,8 @@ use Rattle.std.specs.Prelude.{◌≡◌, ℕ, ◌^◌, ◌<◌, List, length, ma
 use Rattle.cost_vector.specs.declared.label.ArcNo.{ArcNo}
 use Rattle.cost_vector.specs.declared.label.Label.{Label as StoredLabel}
 use Rattle.arc_graph.specs.Graph.{network}
-use Rattle.event_machine.specs.Machine.{Label, SearchState, Task, Place, settled, dropped, waiting}
+use Rattle.event_machine.specs.Machine.{SearchState, Task, Place, settled, dropped, waiting}
+use Rattle.road_network.specs.Labels.{Label}
 use Rattle.event_machine.specs.Events.{Event, take, drop, relax, merge}
 use Rattle.machine_model.specs.declared.task.Task.{Task as StoredTask}
 use Rattle.machine_model.specs.declared.state.Place.{Place as StoredPlace}

@@ -1,11 +1,13 @@
 ghost use Rattle.std.specs.Prelude.{◌≡◌, ◌≢◌, ◌↔◌, ◌⊎◌, ◌∷◌, IsTrue, IfSome, IfNone, OnOk};
 ghost use Rattle.std.specs.Prelude.{All, Any, Contains, IsPermutation};
 ghost use Rattle.cost_vector.specs.Costs.{Dominates};
-ghost use Rattle.event_machine.specs.Machine.{IsSamePair, Beats};
+ghost use Rattle.event_machine.specs.Machine.{Beats};
+ghost use Rattle.road_network.specs.Labels.{IsSamePair};
 ghost use Rattle.list_laws.specs.Sets.{Loses};
 ghost use Rattle.machine_model.specs.Views.{label_of, labels_of};
 
-use cost_vector::{Cost, Label, OutOfMemory};
+use cost_vector::{Cost, Label};
+use out_of_memory::OutOfMemory;
 
 /// Whether the cost dominates the other, where both may have any number of components.
 pub(crate) fn dominates(cost: &Cost, other: &Cost) -> bool

@@ -6,7 +6,8 @@ ghost use Rattle.machine_model.specs.Views.{label_of, pair_of, task_of};
 
 use crate::Task;
 use crate::labels::dominates;
-use cost_vector::{ArcNo, Cost, Label, OutOfMemory};
+use cost_vector::{ArcNo, Cost, Label};
+use out_of_memory::OutOfMemory;
 
 /// Whether the arc is to be relaxed from the label.
 pub(crate) fn has_pair(pairs: &[(Label, ArcNo)], label: &Label, arc: ArcNo) -> bool

@@ -1,11 +1,13 @@
 ghost use Rattle.std.specs.Prelude.{◌≡◌, ◌↔◌, IsTrue, IfOk, IfSome, IfNone, Contains};
-ghost use Rattle.event_machine.specs.Machine.{start_state, IsSamePair, Beats, entries_at, IsEntry, IsBeatenAtTarget};
+ghost use Rattle.event_machine.specs.Machine.{start_state, Beats, entries_at, IsEntry, IsBeatenAtTarget};
+ghost use Rattle.road_network.specs.Labels.{IsSamePair};
 ghost use Rattle.event_machine.specs.Events.{May, MayTake, MayDrop};
 
 use crate::labels::{any_beats, any_dominates, any_same, contains, dominates, find_same};
 use crate::pairs::{any_pair_dominates, has_pair};
 use crate::{Event, Task};
-use cost_vector::{ArcNo, Cost, Label, OutOfMemory};
+use cost_vector::{ArcNo, Cost, Label};
+use out_of_memory::OutOfMemory;
 use std::alloc::Global;
 
 /// Where an entry of a node stands.

@@ -8,7 +8,8 @@ use crate::labels::{add, replace, take_out_beaten, take_out_once};
 use crate::pairs::{add_arcs, take_out_pair};
 use crate::state::Place;
 use crate::{Event, State, Task};
-use cost_vector::{ArcNo, Label, OutOfMemory};
+use cost_vector::{ArcNo, Label};
+use out_of_memory::OutOfMemory;
 
 impl State {
     /// Does what happens by the event. After an error the state is only dropped.

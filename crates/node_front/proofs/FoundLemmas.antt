@@ -20,16 +20,16 @@ use Rattle.list_laws.proofs.Members.{in_none, each_in, in_filter, in_map, of_fil
 use Rattle.list_laws.proofs.Pairs.{pairs_none, pairs_map}
 use Rattle.list_laws.proofs.OnceLaws.{alike_through, flat_in_any_order, in_append, pairs_append, range_once}
 use Rattle.list_laws.specs.Sets.{ListsOnce}
-use Rattle.event_machine.specs.Machine.{Label, IsSamePair}
-use Rattle.path_readback.specs.Found.{IsFound}
+use Rattle.road_network.specs.Labels.{Label, IsSamePair}
+use Rattle.road_network.specs.Found.{IsFound}
 use Rattle.road_network.specs.Limits.{max_nodes}
 use Rattle.road_network.specs.Network.{IsNode}
 use Rattle.pareto_front.specs.declared.front.FrontEntry.{FrontEntry}
 use Rattle.pareto_front.proofs.Ascending.{rises_to}
-use Rattle.pareto_front.specs.Calls.{ListsSettled, told_entry}
+use Rattle.pareto_front.specs.Calls.{ListsSettled, entry_view}
 use Rattle.pareto_front.specs.Fronts.{AreIncomparable, Entry, Front, IsFront, empty_front}
 use Rattle.pareto_front.proofs.FrontLaws.{pairs_of_map}
-use Rattle.node_front.specs.FoundFronts.{counted_labels, found_in, labels_told, settled_from}
+use Rattle.node_front.specs.FoundFronts.{counted_labels, found_in, labels_view, settled_from}
 use Rattle.node_front.specs.NodeFronts.{Fronts, IsPlaced, SameElsewhere, front_at, fronts_by}
 use Rattle.node_front.proofs.ApartLemmas.{AtMost-same, pairs_cases}
 use Rattle.node_front.proofs.PlacedLemmas.{cases_number}
@@ -42,11 +42,11 @@ label v e = record { node = v; cost = e.cost; arc = e.arc }
 
 -- one more front at the end
 pub settled_push : (n : ℕ) (fs : List Front) (f : Front) → length (settled_from n (fs ++ f ∷ [])) ≡ length (settled_from n fs) + length f.settled
-settled_push n [] f = omega (arith, length-append (labels_told n f.settled) [], length-map f.settled (label n))
+settled_push n [] f = omega (arith, length-append (labels_view n f.settled) [], length-map f.settled (label n))
 settled_push n (g ∷ fs) f =
     let rest = settled_push (n + 1) fs f in
-    let whole = length-append (labels_told n g.settled) (settled_from (n + 1) (fs ++ f ∷ [])) in
-    let before = length-append (labels_told n g.settled) (settled_from (n + 1) fs) in
+    let whole = length-append (labels_view n g.settled) (settled_from (n + 1) (fs ++ f ∷ [])) in
+    let before = length-append (labels_view n g.settled) (settled_from (n + 1) fs) in
     omega (arith, rest, whole, before)
 
 -- the labels counted so far, and those of one front more
@@ -62,7 +62,7 @@ counted_more fs i f count n more within at counted is_n is_more =
 -- of the first of some fronts, and of the others
 settled_first : (n : ℕ) (f : Front) (fs : List Front) → length (settled_from n (f ∷ fs)) ≡ length f.settled + length (settled_from (n + 1) fs)
 settled_first n f fs =
-    length-append (labels_told n f.settled) (settled_from (n + 1) fs)
+    length-append (labels_view n f.settled) (settled_from (n + 1) fs)
     ∙ ap (λ long. long + length (settled_from (n + 1) fs)) (length-map f.settled (label n))
 
 -- ---- each front that was begun is one node's
@@ -137,7 +137,7 @@ module _ (places : List ℕ) (states : List Front) (placed : IsPlaced places sta
 
 -- a label is that of an entry of its node
 in_labels : (n : ℕ) (es : List Entry) (v : ℕ) (e : Entry)
-    → Contains (labels_told n es) (label v e) ↔ ((v ≡ n) × Contains es e)
+    → Contains (labels_view n es) (label v e) ↔ ((v ≡ n) × Contains es e)
 in_labels n es v e = (
   λ there.
       let (x, x_in, is) = of_map (label n) es (label v e) there in
@@ -150,15 +150,15 @@ in_settled : (n : ℕ) (fs : List Front) (v : ℕ) (e : Entry) → Contains (set
     ↔ ((k : ℕ) × (v ≡ n + k) × Contains (get_or fs k empty_front).settled e)
 in_settled n [] v e = (λ there. absurd (in_none (label v e) there), λ h. absurd (in_none e h.2))
 in_settled n (f ∷ fs) v e = (
-  λ there. elim ((in_append (labels_told n f.settled) (settled_from (n + 1) fs) (label v e)).0 there) [
+  λ there. elim ((in_append (labels_view n f.settled) (settled_from (n + 1) fs) (label v e)).0 there) [
     | inl here ↦ let (at, e_in) = (in_labels n f.settled v e).0 here in (zero, omega (arith, at), e_in)
     | inr later ↦ let (k, at, e_in) = (in_settled (n + 1) fs v e).0 later in (suc k, omega (arith, at), e_in)
   ],
-  λ h. (in_append (labels_told n f.settled) (settled_from (n + 1) fs) (label v e)).1 (back (in_settled (n + 1) fs v e).1 h),
+  λ h. (in_append (labels_view n f.settled) (settled_from (n + 1) fs) (label v e)).1 (back (in_settled (n + 1) fs v e).1 h),
 ) where
   back : ((k : ℕ) × (v ≡ (n + 1) + k) × Contains (get_or fs k empty_front).settled e → Contains (settled_from (n + 1) fs) (label v e))
       → (k : ℕ) × (v ≡ n + k) × Contains (get_or (f ∷ fs) k empty_front).settled e
-      → Contains (labels_told n f.settled) (label v e) ⊎ Contains (settled_from (n + 1) fs) (label v e)
+      → Contains (labels_view n f.settled) (label v e) ⊎ Contains (settled_from (n + 1) fs) (label v e)
   back later (zero, at, e_in) = inl ((in_labels n f.settled v e).1 (omega (arith, at), e_in))
   back later (suc k, at, e_in) = inr (later (k, omega (arith, at), e_in))
 
@@ -170,13 +170,13 @@ in_fronts f v e = (
 )
 
 -- no two labels of different costs are of one pair
-labels_once : (n : ℕ) (es : List Entry) → AllPairs (λ a b. a.cost ≢ b.cost) es → AllPairs (λ l m. ¬ IsSamePair l m) (labels_told n es)
+labels_once : (n : ℕ) (es : List Entry) → AllPairs (λ a b. a.cost ≢ b.cost) es → AllPairs (λ l m. ¬ IsSamePair l m) (labels_view n es)
 labels_once n es differ = pairs_map (λ a b. a.cost ≢ b.cost) (λ l m. ¬ IsSamePair l m)
     (label n) (λ a b other same. other same.cost) es differ
 
 settled_once : (d n : ℕ) (fs : List Front) → ((k : ℕ) → IsFront d (get_or fs k empty_front)) → AllPairs (λ l m. ¬ IsSamePair l m) (settled_from n fs)
 settled_once d n [] fronts = pairs_none (λ l m. ¬ IsSamePair l m)
-settled_once d n (f ∷ fs) fronts = pairs_append (λ l m. ¬ IsSamePair l m) (labels_told n f.settled) (settled_from (n + 1) fs)
+settled_once d n (f ∷ fs) fronts = pairs_append (λ l m. ¬ IsSamePair l m) (labels_view n f.settled) (settled_from (n + 1) fs)
     (labels_once n f.settled differ) (settled_once d (n + 1) fs (λ k. fronts (suc k))) (λ l m l_in m_in same.
     let (at, l_there) = (in_labels n f.settled l.node (record { cost = l.cost; arc = l.arc })).0 l_in in
     let (k, later, m_there) = (in_settled (n + 1) fs m.node (record { cost = m.cost; arc = m.arc })).0 m_in in
@@ -200,14 +200,14 @@ module _ {D : ℕ} (list : List (FrontEntry D)) (ascending : AllPairs LexLess (m
 
   -- the entry of a cost tells its arc
   pub arc_found : (x : FrontEntry D) (c : List ℕ) → Contains list x → x.cost.0 ≡ c → (arc : ArcNo)
-      → (Some x.arc ≡ Some arc) ↔ Contains (map (told_entry {D = D}) list) (record { cost = c; arc = arc.0 })
+      → (Some x.arc ≡ Some arc) ↔ Contains (map (entry_view {D = D}) list) (record { cost = c; arc = arc.0 })
   arc_found x c x_in same arc = (
     λ is.
         let arcs : x.arc ≡ arc = cc in
-        subst (λ (a : ArcNo). Contains (map (told_entry {D = D}) list) (record { cost = c; arc = a.0 })) arcs
-        (subst (λ k. Contains (map (told_entry {D = D}) list) (record { cost = k; arc = x.arc.0 })) same (in_map (told_entry {D = D}) list x x_in)),
+        subst (λ (a : ArcNo). Contains (map (entry_view {D = D}) list) (record { cost = c; arc = a.0 })) arcs
+        (subst (λ k. Contains (map (entry_view {D = D}) list) (record { cost = k; arc = x.arc.0 })) same (in_map (entry_view {D = D}) list x x_in)),
     λ there.
-        let (y, y_in, is) = of_map (told_entry {D = D}) list (record { cost = c; arc = arc.0 }) there in
+        let (y, y_in, is) = of_map (entry_view {D = D}) list (record { cost = c; arc = arc.0 }) there in
         let one = one_of_cost x y x_in y_in (same ∙ ap (λ (e : Entry). e.cost) is) in
         let arcs = ap (λ (z : FrontEntry D). z.arc.0) one ∙ sym (ap (λ (e : Entry). e.arc) is) in
         ap (λ n. let a : Option ArcNo = Some (record { 0 = n }) in a) arcs,
@@ -216,11 +216,11 @@ module _ {D : ℕ} (list : List (FrontEntry D)) (ascending : AllPairs LexLess (m
 -- where no entry has the cost, there is no arc
 pub arc_missing : {D : ℕ} (list : List (FrontEntry D)) (c : List ℕ) → ((k : ℕ) (d : FrontEntry D) → k < length list → (get_or list k d).cost.0 ≢ c)
     → (arc : ArcNo)
-    → (None ≡ Some arc) ↔ Contains (map (told_entry {D = D}) list) (record { cost = c; arc = arc.0 })
+    → (None ≡ Some arc) ↔ Contains (map (entry_view {D = D}) list) (record { cost = c; arc = arc.0 })
 arc_missing {D} list c none arc = (
   λ is. absurd cc,
   λ there.
-      let (y, y_in, is) = of_map (told_entry {D = D}) list (record { cost = c; arc = arc.0 }) there in
+      let (y, y_in, is) = of_map (entry_view {D = D}) list (record { cost = c; arc = arc.0 }) there in
       absurd (none y_in.0 y y_in.1 (ap (λ (z : FrontEntry D). z.cost.0) y_in.2 ∙ sym (ap (λ (e : Entry). e.cost) is))),
 )
 
@@ -250,24 +250,24 @@ none_between {D} list ascending c i splits k d within same = elim (cases_lt k i)
 
 -- the cost at a place
 pub cost_found : {D : ℕ} (list : List (FrontEntry D)) (i : ℕ) (x : FrontEntry D) → i < length list → x ≡ get_or list i x
-    → slice_get (map (λ (e : Entry). e.cost) (map (told_entry {D = D}) list)) i ≡ Some x.cost.0
+    → slice_get (map (λ (e : Entry). e.cost) (map (entry_view {D = D}) list)) i ≡ Some x.cost.0
 cost_found {D} list i x within read =
-    slice_get-map (λ (e : Entry). e.cost) (map (told_entry {D = D}) list) i
-    ∙ ap (option_map (λ (e : Entry). e.cost)) (slice_get-map (told_entry {D = D}) list i)
-    ∙ ap (λ (o : Option (FrontEntry D)). option_map (λ (e : Entry). e.cost) (option_map (told_entry {D = D}) o)) (slice_get-get_or list i x within)
+    slice_get-map (λ (e : Entry). e.cost) (map (entry_view {D = D}) list) i
+    ∙ ap (option_map (λ (e : Entry). e.cost)) (slice_get-map (entry_view {D = D}) list i)
+    ∙ ap (λ (o : Option (FrontEntry D)). option_map (λ (e : Entry). e.cost) (option_map (entry_view {D = D}) o)) (slice_get-get_or list i x within)
     ∙ ap (λ (y : FrontEntry D). let o : Option (List ℕ) = Some y.cost.0 in o) (sym read)
 
 -- the costs that told entries have
-pub told_costs : {D : ℕ} (list : List (FrontEntry D)) → map (λ (e : Entry). e.cost) (map (told_entry {D = D}) list) ≡ map (λ (e : FrontEntry D). e.cost.0) list
-told_costs [] = refl
-told_costs (x ∷ xs) = ap (λ (cs : List (List ℕ)). x.cost.0 ∷ cs) (told_costs xs)
+pub view_costs : {D : ℕ} (list : List (FrontEntry D)) → map (λ (e : Entry). e.cost) (map (entry_view {D = D}) list) ≡ map (λ (e : FrontEntry D). e.cost.0) list
+view_costs [] = refl
+view_costs (x ∷ xs) = ap (λ (cs : List (List ℕ)). x.cost.0 ∷ cs) (view_costs xs)
 
 -- ---- what is found at the target, and elsewhere
 
 module _ (d start target : ℕ) (es : List Entry) (f : Fronts) (taken : front_at f target ≡ empty_front) where
   in_found : (v : ℕ) (e : Entry) → Contains (found_in d start target es f).settled (label v e)
       ↔ (((v ≡ target) × Contains es e) ⊎ Contains (front_at f v).settled e)
-  in_found v e = parts (in_append (labels_told target es) (settled_from 0 f.fronts) (label v e)) (in_labels target es v e) (in_fronts f v e) where
+  in_found v e = parts (in_append (labels_view target es) (settled_from 0 f.fronts) (label v e)) (in_labels target es v e) (in_fronts f v e) where
     parts : {A B C M N : Type 0} → (A ↔ (B ⊎ C)) → (B ↔ M) → (C ↔ N) → (A ↔ (M ⊎ N))
     parts f g h = grind arith
 
@@ -293,7 +293,7 @@ module _ (d start target : ℕ) (es : List Entry) (f : Fronts) (taken : front_at
   pub counted_all : (count more : ℕ) → count ≡ counted_labels (length (settled_from 0 f.fronts)) → more ≡ min (count + length es) (2 ^ 64 - 1)
       → more ≡ counted_labels (length (found_in d start target es f).settled)
   counted_all count more counted is_more =
-      let whole = length-append (labels_told target es) (settled_from 0 f.fronts) in
+      let whole = length-append (labels_view target es) (settled_from 0 f.fronts) in
       omega (arith, whole, length-map es (label target), counted, is_more)
 
 -- ---- all that is found
@@ -302,44 +302,44 @@ module _ (d start target : ℕ) (before after : Fronts) (list : List (FrontEntry
     (taken : front_at after target ≡ empty_front) (lists : ListsSettled (front_at before target) list) where
   -- found is what was settled in the fronts before
   pub settled_in_fronts : (v : ℕ) (e : Entry)
-      → Contains (found_in d start target (map (told_entry {D = d}) list) after).settled (record { node = v; cost = e.cost; arc = e.arc })
+      → Contains (found_in d start target (map (entry_view {D = d}) list) after).settled (record { node = v; cost = e.cost; arc = e.arc })
       ↔ Contains (front_at before v).settled e
   settled_in_fronts v e = elim (cases_number v target) [
-    | inl same ↦ rw same (alike_through (found_at_target d start target (map (told_entry {D = d}) list) after taken e) (lists.exact e))
-    | inr other ↦ rw (← elsewhere.others v other) (found_elsewhere d start target (map (told_entry {D = d}) list) after taken v other e)
+    | inl same ↦ rw same (alike_through (found_at_target d start target (map (entry_view {D = d}) list) after taken e) (lists.exact e))
+    | inr other ↦ rw (← elsewhere.others v other) (found_elsewhere d start target (map (entry_view {D = d}) list) after taken v other e)
   ]
 
   -- and it is what a search finds
   pub is_found : ((v : ℕ) → IsFront d (front_at after v)) → before.nodes ≤ max_nodes → IsNode before.nodes start → IsNode before.nodes target
-      → IsFound (found_in d start target (map (told_entry {D = d}) list) after)
+      → IsFound (found_in d start target (map (entry_view {D = d}) list) after)
   is_found fronts few start_in target_in = record {
     two = (fronts 0).two;
     four = (fronts 0).four;
     nodes = rw elsewhere.nodes few;
     start = rw elsewhere.nodes start_in;
     target = rw elsewhere.nodes target_in;
-    once = pairs_append (λ l m. ¬ IsSamePair l m) (labels_told target (map (told_entry {D = d}) list)) (settled_from 0 after.fronts)
-        (labels_once target (map (told_entry {D = d}) list) listed_differ) (settled_once d 0 after.fronts fronts) (λ l m l_in m_in same.
+    once = pairs_append (λ l m. ¬ IsSamePair l m) (labels_view target (map (entry_view {D = d}) list)) (settled_from 0 after.fronts)
+        (labels_once target (map (entry_view {D = d}) list) listed_differ) (settled_once d 0 after.fronts fronts) (λ l m l_in m_in same.
         let x : Entry = record { cost = m.cost; arc = m.arc } in
-        let at = ((in_labels target (map (told_entry {D = d}) list) l.node (record { cost = l.cost; arc = l.arc })).0 l_in).0 in
-        none_taken d start target (map (told_entry {D = d}) list) after taken x
+        let at = ((in_labels target (map (entry_view {D = d}) list) l.node (record { cost = l.cost; arc = l.arc })).0 l_in).0 in
+        none_taken d start target (map (entry_view {D = d}) list) after taken x
         (subst (λ u. Contains (front_at after u).settled x) (sym same.node ∙ at) ((in_fronts after m.node x).0 m_in)));
-    ascending = rw told_costs lists.ascending;
+    ascending = rw view_costs lists.ascending;
     costs = λ c. (
       λ there.
-          let (e, e_in, is) = of_map (λ (x : Entry). x.cost) (map (told_entry {D = d}) list) c there in
+          let (e, e_in, is) = of_map (λ (x : Entry). x.cost) (map (entry_view {D = d}) list) c there in
           rw is (record { arc = e.arc; settled = (at_target e).1 e_in }),
       λ has.
           let e : Entry = record { cost = c; arc = has.arc } in
-          in_map (λ (x : Entry). x.cost) (map (told_entry {D = d}) list) e ((at_target e).0 has.settled),
+          in_map (λ (x : Entry). x.cost) (map (entry_view {D = d}) list) e ((at_target e).0 has.settled),
     );
   } where
-    at_target : (e : Entry) → Contains (found_in d start target (map (told_entry {D = d}) list) after).settled (label target e)
-        ↔ Contains (map (told_entry {D = d}) list) e
-    at_target = found_at_target d start target (map (told_entry {D = d}) list) after taken
+    at_target : (e : Entry) → Contains (found_in d start target (map (entry_view {D = d}) list) after).settled (label target e)
+        ↔ Contains (map (entry_view {D = d}) list) e
+    at_target = found_at_target d start target (map (entry_view {D = d}) list) after taken
 
-    listed_differ : AllPairs (λ (a b : Entry). a.cost ≢ b.cost) (map (told_entry {D = d}) list)
-    listed_differ = pairs_map (λ (a b : FrontEntry d). LexLess a.cost.0 b.cost.0) (λ (a b : Entry). a.cost ≢ b.cost) (told_entry {D = d})
+    listed_differ : AllPairs (λ (a b : Entry). a.cost ≢ b.cost) (map (entry_view {D = d}) list)
+    listed_differ = pairs_map (λ (a b : FrontEntry d). LexLess a.cost.0 b.cost.0) (λ (a b : Entry). a.cost ≢ b.cost) (entry_view {D = d})
         (λ a b less same. LexLess-irrefl a.cost.0 (subst (LexLess a.cost.0) (sym same) less)) list
         (pairs_of_map LexLess (λ (e : FrontEntry d). e.cost.0) list lists.ascending)
 

@@ -7,7 +7,7 @@ use Rattle.list_laws.specs.Sets.{ListsOnce}
 use Rattle.list_laws.proofs.Members.{in_none, in_front, cases_push}
 use Rattle.list_laws.proofs.Pairs.{pairs_none}
 use Rattle.list_laws.proofs.OnceLaws.{in_append, once_as}
-use Rattle.compact_labels.specs.declared.label.CompactSpot.{CompactSpot}
+use Rattle.cost_vector.specs.declared.compact_label.CompactSpot.{CompactSpot}
 use Rattle.pareto_front.specs.Calls.{GrowsBy}
 
 -- one more at the end

@@ -10,12 +10,12 @@ use Rattle.list_laws.proofs.Members.{all_from_in, each_in, in_none}
 use Rattle.list_laws.proofs.OnceLaws.{alike_through, in_append}
 use Rattle.pareto_front.specs.Fronts.{Entry, Front, HasCost, IsCovered, IsDominated, SparesSettled, entries}
 use Rattle.pareto_front.specs.Calls.{Enters, Relabels}
-use Rattle.pareto_front.specs.Merging.{Stays, Delta, IsDelta, IsMerged}
+use Rattle.pareto_front.specs.Merging.{Remains, Delta, IsDelta, IsMerged}
 use Rattle.node_front.specs.Apart.{AreApart}
 use Rattle.node_front.proofs.ApartLemmas.{dominated_append, AtMost-same, has_append, has_cost_of, apart_not_dominated}
 use Rattle.node_front.proofs.GrowsLemmas.{in_append_more, in_push}
 use Rattle.node_front.proofs.StaysLemmas.{apart_of_stays, apart_stays, stays_among, stays_below, stays_core, stays_of_cost}
-use Rattle.node_front.proofs.NeedlessLemmas.{lowered_not_old, news_cases, told_entry_in}
+use Rattle.node_front.proofs.NeedlessLemmas.{lowered_not_old, news_cases, decidable_entry}
 use Rattle.node_front.proofs.MergedLemmas.{relabelled_merges, merged_apart}
 
 -- where no candidate comes, an apart front is as it was
@@ -30,7 +30,7 @@ pub merged_then : (first second third : Front) (xs ys : List Entry) → IsMerged
 merged_then first second third xs ys merged again = record {
   entries = λ x.
       let same = stays_core ((entries first ++ xs) ++ ys) (entries second ++ ys) sub core x in
-      subst (λ l. Contains (entries third) x ↔ Stays l x) (append_assoc (entries first) xs ys) (
+      subst (λ l. Contains (entries third) x ↔ Remains l x) (append_assoc (entries first) xs ys) (
         λ there. same.0 ((again.entries x).0 there),
         λ stays. (again.entries x).1 (same.1 stays),
       );
@@ -42,7 +42,7 @@ merged_then first second third xs ys merged again = record {
     | inr new ↦ inr new
   ])
 
-  core : (x : Entry) → Stays ((entries first ++ xs) ++ ys) x → Contains (entries second ++ ys) x
+  core : (x : Entry) → Remains ((entries first ++ xs) ++ ys) x → Contains (entries second ++ ys) x
   core x stays = (in_append (entries second) ys x).1 (elim ((in_append (entries first ++ xs) ys x).0 stays.contains) [
     | inr new ↦ inr new
     | inl old ↦ inl ((merged.entries x).1 (stays_among ((entries first ++ xs) ++ ys) (entries first ++ xs)
@@ -61,7 +61,7 @@ pub record HasPut (before : Front) (removed : List (List ℕ)) (xs : List Entry)
 
 module _ (before : Front) (candidates : List Entry) (delta : Delta) (is : IsDelta before candidates delta) (apart : AreApart (entries before)) where
   -- what the delta brings stays
-  pub brought_stays : (x : Entry) → Contains (delta.added ++ delta.lowered) x → Stays (entries before ++ candidates) x
+  pub brought_stays : (x : Entry) → Contains (delta.added ++ delta.lowered) x → Remains (entries before ++ candidates) x
   brought_stays x there = elim ((in_append delta.added delta.lowered x).0 there) [
     | inl added ↦ ((is.added.exact x).0 added).stays
     | inr lowered ↦ ((is.lowered.exact x).0 lowered).stays
@@ -82,8 +82,8 @@ module _ (before : Front) (candidates : List Entry) (delta : Delta) (is : IsDelt
   ]
 
   -- all that stays is old or brought
-  stays_brought : (x : Entry) → Stays (entries before ++ candidates) x → Contains (entries before) x ⊎ Contains (delta.added ++ delta.lowered) x
-  stays_brought x stays = elim (told_entry_in (entries before) x) [
+  stays_brought : (x : Entry) → Remains (entries before ++ candidates) x → Contains (entries before) x ⊎ Contains (delta.added ++ delta.lowered) x
+  stays_brought x stays = elim (decidable_entry (entries before) x) [
     | inl old ↦ inl old
     | inr not_old ↦ inr ((in_append delta.added delta.lowered x).1 (elim (news_cases before candidates x stays not_old) [
       | inl added ↦ inl ((is.added.exact x).1 added)
@@ -127,7 +127,7 @@ module _ (before : Front) (candidates : List Entry) (delta : Delta) (is : IsDelt
     sub : (x : Entry) → Contains (entries before ++ (delta.added ++ delta.lowered)) x → Contains (entries before ++ candidates) x
     sub = in_append_more (entries before) (delta.added ++ delta.lowered) candidates brought_candidate
 
-    core : (x : Entry) → Stays (entries before ++ candidates) x → Contains (entries before ++ (delta.added ++ delta.lowered)) x
+    core : (x : Entry) → Remains (entries before ++ candidates) x → Contains (entries before ++ (delta.added ++ delta.lowered)) x
     core x stays = (in_append (entries before) (delta.added ++ delta.lowered) x).1 (stays_brought x stays)
 
 -- ---- step by step: the removed costs leave, added entries come one by one, and then lowered ones
@@ -241,13 +241,13 @@ module _ {before : Front} {candidates : List Entry} {delta : Delta} (sparing : I
         λ h. record { arc = h.0.arc; contains = (puts.settled (record { cost = c; arc = h.0.arc })).1 h.0.contains },
       );
     } where
-      not_removed : (x : Entry) → Stays (entries before ++ delta.added) x → ¬ Contains delta.removed x.cost
+      not_removed : (x : Entry) → Remains (entries before ++ delta.added) x → ¬ Contains delta.removed x.cost
       not_removed x stays there =
           let removed = (sparing.is.removed.exact x.cost).0 there in
           let by = added_dominates before candidates delta sparing.is sparing.apart x.cost removed.old removed.dominated in
           stays.nondominated (record { by = by.by; contains = Contains-append_right (entries before) delta.added by.by by.contains; dominates = by.dominates })
 
-      core : (x : Entry) → Stays (entries before ++ delta.added) x → Contains (entries mid) x
+      core : (x : Entry) → Remains (entries before ++ delta.added) x → Contains (entries mid) x
       core x stays = (in_append mid.settled mid.unsettled x).1 (elim ((in_append (entries before) delta.added x).0 stays.contains) [
         | inr new ↦ inr ((puts.unsettled x).1 (inr (all x new)))
         | inl old ↦ elim ((in_append before.settled before.unsettled x).0 old) [

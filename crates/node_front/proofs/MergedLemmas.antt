@@ -8,7 +8,7 @@ use Rattle.list_laws.proofs.Members.{each_in, in_first, in_front, cases_push}
 use Rattle.list_laws.proofs.OnceLaws.{alike_back, alike_through, in_append}
 use Rattle.pareto_front.specs.Fronts.{Entry, Front, entries, HasCost, IsCovered, SparesSettled}
 use Rattle.pareto_front.specs.Calls.{Removes, Enters, GetsArc, Relabels, Settles}
-use Rattle.pareto_front.specs.Merging.{Stays, IsMerged, IsAdded, IsRemoved}
+use Rattle.pareto_front.specs.Merging.{Remains, IsMerged, IsAdded, IsRemoved}
 use Rattle.node_front.specs.Apart.{AreApart}
 use Rattle.node_front.proofs.ApartLemmas.{dominated_by_one, same_entry, AtMost-same, has_append, has_cost_of, apart_not_dominated}
 use Rattle.node_front.specs.Survivors.{IsNeedlessAmong}
@@ -132,7 +132,7 @@ module _ (before : Front) (e : Entry) (apart : AreApart (entries before)) where
     covered : IsCovered (entries before) e.cost
     covered = record { by = record { cost = e.cost; arc = arc }; contains = there; at_most = AtMost-same e.cost e.cost refl }
 
-    arcs : (x : Entry) → Contains (entries before) x → x.cost ≡ e.cost → Stays (entries before ++ e ∷ []) x → x.arc ≡ e.arc
+    arcs : (x : Entry) → Contains (entries before) x → x.cost ≡ e.cost → Remains (entries before ++ e ∷ []) x → x.arc ≡ e.arc
     arcs x old same s =
         let low = s.least e (Contains-append_right (entries before) (e ∷ []) e (in_first e [])) (sym same) in
         let one = apart x (record { cost = e.cost; arc = arc }) old there (AtMost-same x.cost e.cost same) in

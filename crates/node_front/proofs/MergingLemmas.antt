@@ -5,13 +5,13 @@ use Rattle.std.proofs.lemmas.List.{append-nil, map_push}
 use Rattle.std.proofs.lemmas.List.Elements.{All-nil, Contains-append_left, Contains-append_right}
 use Rattle.list_laws.proofs.Members.{in_none, in_first, each_in, all_from_in, cases_push}
 use Rattle.list_laws.proofs.Pairs.{pairs_none}
-use Rattle.compact_labels.specs.declared.label.CompactLabel.{CompactLabel}
+use Rattle.cost_vector.specs.declared.compact_label.CompactLabel.{CompactLabel}
 use Rattle.pareto_front.specs.Calls.{entry_of}
 use Rattle.pareto_front.specs.Fronts.{Front, entries}
-use Rattle.pareto_front.specs.Merging.{Stays}
+use Rattle.pareto_front.specs.Merging.{Remains}
 use Rattle.node_front.specs.Apart.{AreApart}
 use Rattle.node_front.specs.declared.merging.Survivor.{Survivor}
-use Rattle.node_front.specs.Survivors.{IsNeedlessAmong, IsNews, AreSurvivors, IsMarked, HaveOtherCosts, told}
+use Rattle.node_front.specs.Survivors.{IsNeedlessAmong, IsNews, AreSurvivors, IsMarked, HaveOtherCosts, views}
 use Rattle.list_laws.proofs.OnceLaws.{alike_through}
 use Rattle.node_front.proofs.StaysLemmas.{stays_among}
 use Rattle.node_front.proofs.NeedlessLemmas.{needless_news, more_news}
@@ -39,10 +39,10 @@ gathering_none {front} none = rw none (record {
 module _ {D : ℕ} {front : Front} {candidates : List (CompactLabel D)} {survivors : List (Survivor D)}
     (gathering : IsGathering front candidates survivors) where
   -- the news are what stays of themselves
-  pub gathering_survive : AreSurvivors (Stays (told survivors)) survivors
+  pub gathering_survive : AreSurvivors (Remains (views survivors)) survivors
   gathering_survive = record {
     exact = λ e. (
-      λ there. stays_among (entries front ++ map entry_of candidates) (told survivors)
+      λ there. stays_among (entries front ++ map entry_of candidates) (views survivors)
           (λ x x_in. ((gathering.news.exact x).0 x_in).stays.contains) e ((gathering.news.exact e).0 there).stays there,
       λ stays. stays.contains,
     );
@@ -74,12 +74,12 @@ module _ {D : ℕ} {front : Front} {candidates : List (CompactLabel D)} {survivo
 
     -- another one
     pub gathering_more : (new : Survivor D) (after : List (Survivor D)) → ¬ IsNeedlessAmong (entries front) (entry_of label) → new.label ≡ label
-        → IsMarked label.node.0 front new → AreSurvivors (Stays (told survivors ++ entry_of new.label ∷ [])) after
+        → IsMarked label.node.0 front new → AreSurvivors (Remains (views survivors ++ entry_of new.label ∷ [])) after
         → All (Contains (survivors ++ new ∷ [])) after → IsGathering front more after
     gathering_more new after not_needless is marked survive members = record {
       news = record {
         exact = λ x. rw entries_more (alike_through (rw is at (survive.exact x))
-            (more_news front (map entry_of candidates) (entry_of label) (told survivors) gathering.news.exact not_needless x));
+            (more_news front (map entry_of candidates) (entry_of label) (views survivors) gathering.news.exact not_needless x));
         one_a_cost = survive.one_a_cost;
       };
       marked = λ v nodes.

@@ -6,9 +6,9 @@ use Rattle.std.proofs.lemmas.List.Elements.{Contains-append_left, Contains-appen
 use Rattle.cost_vector.specs.Costs.{AtMost}
 use Rattle.cost_vector.proofs.Vectors.{cases_same}
 use Rattle.list_laws.proofs.Members.{in_first, in_front, in_one, cases_push}
-use Rattle.list_laws.proofs.OnceLaws.{alike_back, in_append, told_some}
+use Rattle.list_laws.proofs.OnceLaws.{alike_back, in_append, decidable_some}
 use Rattle.pareto_front.specs.Fronts.{Entry, Front, entries, HasCost, IsCovered}
-use Rattle.pareto_front.specs.Merging.{Stays, IsAdded, IsLowered}
+use Rattle.pareto_front.specs.Merging.{Remains, IsAdded, IsLowered}
 use Rattle.node_front.specs.Apart.{AreApart}
 use Rattle.node_front.specs.Survivors.{IsNeedless, IsNeedlessAmong, IsNews}
 use Rattle.node_front.proofs.ApartLemmas.{same_entry, AtMost-same, has_cost_of}
@@ -28,8 +28,8 @@ needless_itself : (e : Entry) → IsNeedless e e
 needless_itself e = inr (refl, omega arith)
 
 -- whether a list has an entry, or one of a cost
-pub told_entry_in : (list : List Entry) (e : Entry) → Contains list e ⊎ (¬ Contains list e)
-told_entry_in list e = elim (told_some (λ x. x ≡ e) cases_entry list) [
+pub decidable_entry : (list : List Entry) (e : Entry) → Contains list e ⊎ (¬ Contains list e)
+decidable_entry list e = elim (decidable_some (λ x. x ≡ e) cases_entry list) [
   | inl found ↦ inl (subst (Contains list) found.2 found.1)
   | inr none ↦ inr (λ there. none e there refl)
 ] where
@@ -43,14 +43,14 @@ told_entry_in list e = elim (told_some (λ x. x ≡ e) cases_entry list) [
   ]
 
 -- it can be told whether a list has an entry of a cost
-pub told_has_cost : (list : List Entry) (c : List ℕ) → HasCost list c ⊎ (¬ HasCost list c)
-told_has_cost list c = elim (told_some (λ x. x.cost ≡ c) (λ x. cases_same x.cost c) list) [
+pub decidable_has_cost : (list : List Entry) (c : List ℕ) → HasCost list c ⊎ (¬ HasCost list c)
+decidable_has_cost list c = elim (decidable_some (λ x. x.cost ≡ c) (λ x. cases_same x.cost c) list) [
   | inl found ↦ inl (subst (HasCost list) found.2 (has_cost_of list found.0 found.1))
   | inr none ↦ inr (λ has. none (record { cost = c; arc = has.arc }) has.contains refl)
 ]
 
 -- an entry stays alone
-pub stays_alone : (e : Entry) → Stays (e ∷ []) e
+pub stays_alone : (e : Entry) → Remains (e ∷ []) e
 stays_alone e = stays_unbeaten (e ∷ []) e (in_first e []) (λ y there beats. elim beats [
   | inl less ↦ less.differs (ap (λ (w : Entry). w.cost) (in_one e y there))
   | inr less ↦ omega (arith, less.1, ap (λ (w : Entry). w.arc) (in_one e y there))
@@ -61,7 +61,7 @@ beaten_needless : (x y : Entry) → Beats y x → IsNeedless x y
 beaten_needless x y = elim [ inl less ↦ inl less | inr less ↦ inr (less.0, omega (arith, less.1)) ]
 
 -- what stays of some entries stays beside others that don't make it needless
-pub stays_above : (known list : List Entry) (x : Entry) → Stays list x → ((y : Entry) → Contains known y → ¬ IsNeedless x y) → Stays (known ++ list) x
+pub stays_above : (known list : List Entry) (x : Entry) → Remains list x → ((y : Entry) → Contains known y → ¬ IsNeedless x y) → Remains (known ++ list) x
 stays_above known list x stays none = stays_unbeaten (known ++ list) x (Contains-append_right known list x stays.contains) (λ y there beats.
     elim ((in_append known list y).0 there) [
       | inl old ↦ none y old (beaten_needless x y beats)
@@ -72,9 +72,9 @@ stays_above known list x stays none = stays_unbeaten (known ++ list) x (Contains
 
 module _ (known : List Entry) (e : Entry) where
   -- if e is needless, the same stays
-  pub needless_stays : IsNeedlessAmong known e → (x : Entry) → Stays (known ++ e ∷ []) x ↔ Stays known x
+  pub needless_stays : IsNeedlessAmong known e → (x : Entry) → Remains (known ++ e ∷ []) x ↔ Remains known x
   needless_stays among x = alike_back (stays_core (known ++ e ∷ []) known (Contains-append_left known (e ∷ [])) core x) where
-    core : (z : Entry) → Stays (known ++ e ∷ []) z → Contains known z
+    core : (z : Entry) → Remains (known ++ e ∷ []) z → Contains known z
     core z stays = elim (cases_push known e z stays.contains) [
       | inl old ↦ old
       | inr new ↦
@@ -84,8 +84,8 @@ module _ (known : List Entry) (e : Entry) where
     ]
 
   -- if e isn't needless, it stays in place of those that are needless beside it
-  pub stays_instead : ((x : Entry) → Contains known x → Stays known x) → ¬ IsNeedlessAmong known e → (x : Entry)
-      → Stays (known ++ e ∷ []) x ↔ ((Contains known x × (¬ IsNeedless x e)) ⊎ (x ≡ e))
+  pub stays_instead : ((x : Entry) → Contains known x → Remains known x) → ¬ IsNeedlessAmong known e → (x : Entry)
+      → Remains (known ++ e ∷ []) x ↔ ((Contains known x × (¬ IsNeedless x e)) ⊎ (x ≡ e))
   stays_instead all not_needless x = (
     λ stays. elim (cases_push known e x stays.contains) [
       | inr new ↦ inr new
@@ -131,7 +131,7 @@ module _ (before : Front) (candidates : List Entry) (e : Entry) where
     ]
 
     -- the news so far and it, beside the entries, are enough
-    same_stays : (x : Entry) → Stays (entries before ++ (list ++ e ∷ [])) x ↔ Stays ((entries before ++ candidates) ++ e ∷ []) x
+    same_stays : (x : Entry) → Remains (entries before ++ (list ++ e ∷ [])) x ↔ Remains ((entries before ++ candidates) ++ e ∷ []) x
     same_stays = stays_core ((entries before ++ candidates) ++ e ∷ []) (entries before ++ (list ++ e ∷ [])) sub core where
       sub : (x : Entry) → Contains (entries before ++ (list ++ e ∷ [])) x → Contains ((entries before ++ candidates) ++ e ∷ []) x
       sub x there = (in_append (entries before ++ candidates) (e ∷ []) x).1 (elim ((in_append (entries before) (list ++ e ∷ []) x).0 there) [
@@ -139,8 +139,8 @@ module _ (before : Front) (candidates : List Entry) (e : Entry) where
         | inr new ↦ elim (cases_push list e x new) [ inl news ↦ inl ((lists x).0 news).stays.contains | inr is ↦ inr (in_front e [] x is) ]
       ])
 
-      core : (x : Entry) → Stays ((entries before ++ candidates) ++ e ∷ []) x → Contains (entries before ++ (list ++ e ∷ [])) x
-      core x stays = (in_append (entries before) (list ++ e ∷ []) x).1 (elim (told_entry_in (entries before) x) [
+      core : (x : Entry) → Remains ((entries before ++ candidates) ++ e ∷ []) x → Contains (entries before ++ (list ++ e ∷ [])) x
+      core x stays = (in_append (entries before) (list ++ e ∷ []) x).1 (elim (decidable_entry (entries before) x) [
         | inl old ↦ inl old
         | inr not_old ↦ inr ((in_append list (e ∷ []) x).1 (elim (cases_push (entries before ++ candidates) e x stays.contains) [
           | inl known ↦ inl ((lists x).1 (record {
@@ -153,7 +153,7 @@ module _ (before : Front) (candidates : List Entry) (e : Entry) where
       ])
 
     -- they are the news of one candidate more
-    pub more_news : (x : Entry) → Stays (list ++ e ∷ []) x ↔ IsNews before (candidates ++ e ∷ []) x
+    pub more_news : (x : Entry) → Remains (list ++ e ∷ []) x ↔ IsNews before (candidates ++ e ∷ []) x
     more_news x = (
       λ stays. record {
         stays = rw (← append_assoc) ((same_stays x).0 (stays_above (entries before) (list ++ e ∷ []) x stays (not_needless_beside x stays.contains)));
@@ -179,9 +179,9 @@ equal_not_needless list e arc apart there less among =
 -- ---- what is new
 
 -- what stays and is no old entry is added, or lowered
-pub news_cases : (before : Front) (candidates : List Entry) (e : Entry) → Stays (entries before ++ candidates) e → ¬ Contains (entries before) e
+pub news_cases : (before : Front) (candidates : List Entry) (e : Entry) → Remains (entries before ++ candidates) e → ¬ Contains (entries before) e
     → IsAdded before candidates e ⊎ IsLowered before candidates e
-news_cases before candidates e stays not_old = elim (told_has_cost (entries before) e.cost) [
+news_cases before candidates e stays not_old = elim (decidable_has_cost (entries before) e.cost) [
   | inr none ↦ inl (record { stays = stays; new = none })
   | inl has ↦
       let x : Entry = record { cost = e.cost; arc = has.arc } in

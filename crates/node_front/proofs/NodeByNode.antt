@@ -7,50 +7,50 @@ use Rattle.list_laws.proofs.Members.{in_none, in_first, in_rest, in_filter, in_m
 use Rattle.list_laws.proofs.Pairs.{pairs_none}
 use Rattle.list_laws.proofs.OnceLaws.{in_append, empty_if_none, once_as, pairs_append, pairs_of_members}
 use Rattle.list_laws.proofs.SetLaws.{same_by_permutation}
-use Rattle.compact_labels.specs.declared.label.CompactLabel.{CompactLabel}
+use Rattle.cost_vector.specs.declared.compact_label.CompactLabel.{CompactLabel}
 use Rattle.pareto_front.specs.Calls.{entry_of}
 use Rattle.pareto_front.specs.Fronts.{Entry, Front, SparesSettled, IsDominated, entries}
-use Rattle.pareto_front.specs.Merging.{Delta, IsAdded, IsDelta, IsLowered, IsRemoved, Stays}
+use Rattle.pareto_front.specs.Merging.{Delta, IsAdded, IsDelta, IsLowered, IsRemoved, Remains}
 use Rattle.road_network.specs.Network.{IsNode}
 use Rattle.node_front.specs.Apart.{AreApart}
-use Rattle.node_front.specs.Deltas.{Deltas, AppendsDelta, AreDeltas, ComeNext, FitAnyOrder, GrowNodeByNode, delta_at, label_told, no_deltas, spot_told, told_at}
+use Rattle.node_front.specs.Deltas.{Deltas, AppendsDelta, AreDeltas, ComeNext, FitAnyOrder, GrowNodeByNode, delta_at, label_view, no_deltas, spot_view, entries_of_node}
 use Rattle.node_front.specs.NodeFronts.{Fronts, front_at}
 use Rattle.node_front.proofs.ApartLemmas.{AtMost-same, has_cost_of}
 use Rattle.node_front.proofs.StaysLemmas.{stays_core}
 use Rattle.node_front.proofs.PlacedLemmas.{cases_number}
-use Rattle.node_front.proofs.RoundLemmas.{label_node, spot_node, spot_cost, told_of, of_append, same_test, other_test, of_at, at_append}
+use Rattle.node_front.proofs.RoundLemmas.{label_node, spot_node, spot_cost, of_node, of_append, same_test, other_test, of_at, at_append}
 use Rattle.node_front.proofs.GrowsLemmas.{in_append_more, lists_nothing}
 
 -- ---- what labels and spots of one node tell
 
 module _ {X Y : Type 0} (node : X → ℕ) (f : X → Y) (v : ℕ) (before : List X) (tell : Y → X) (ys : List Y) where
   -- what is told of v behind other nodes
-  told_behind : told_of node f v before ≡ [] → ((y : Y) → node (tell y) ≡ v) → ((y : Y) → f (tell y) ≡ y) → told_of node f v (before ++ map tell ys) ≡ ys
-  told_behind none at back = rw (of_append node f v before (map tell ys), none) (told_all ys) where
-    told_all : (zs : List Y) → told_of node f v (map tell zs) ≡ zs
-    told_all [] = refl
-    told_all (z ∷ zs) = rw (same_test (node (tell z)) v (at z)) (rw (back z) (ap (λ ws. z ∷ ws) (told_all zs)))
+  view_behind : of_node node f v before ≡ [] → ((y : Y) → node (tell y) ≡ v) → ((y : Y) → f (tell y) ≡ y) → of_node node f v (before ++ map tell ys) ≡ ys
+  view_behind none at back = rw (of_append node f v before (map tell ys), none) (view_all ys) where
+    view_all : (zs : List Y) → of_node node f v (map tell zs) ≡ zs
+    view_all [] = refl
+    view_all (z ∷ zs) = rw (same_test (node (tell z)) v (at z)) (rw (back z) (ap (λ ws. z ∷ ws) (view_all zs)))
 
   -- what is told of another node behind which v comes
-  told_before : ((y : Y) → node (tell y) ≢ v) → told_of node f v (before ++ map tell ys) ≡ told_of node f v before
-  told_before other = rw (of_append node f v before (map tell ys), told_none ys) (append-nil (told_of node f v before)) where
-    told_none : (zs : List Y) → told_of node f v (map tell zs) ≡ []
-    told_none [] = refl
-    told_none (z ∷ zs) = rw (other_test (node (tell z)) v (other z)) (told_none zs)
+  view_before : ((y : Y) → node (tell y) ≢ v) → of_node node f v (before ++ map tell ys) ≡ of_node node f v before
+  view_before other = rw (of_append node f v before (map tell ys), view_none ys) (append-nil (of_node node f v before)) where
+    view_none : (zs : List Y) → of_node node f v (map tell zs) ≡ []
+    view_none [] = refl
+    view_none (z ∷ zs) = rw (other_test (node (tell z)) v (other z)) (view_none zs)
 
 module _ {D : ℕ} where
   -- a label of the node
-  in_at : (v : ℕ) (ls : List (CompactLabel D)) (l : CompactLabel D) → Contains ls l → l.node.0 ≡ v → Contains (told_at v ls) (entry_of l)
+  in_at : (v : ℕ) (ls : List (CompactLabel D)) (l : CompactLabel D) → Contains ls l → l.node.0 ≡ v → Contains (entries_of_node v ls) (entry_of l)
   in_at v ls l there at = in_map (entry_of {D = D}) (filter (λ (m : CompactLabel D). nat_eq m.node.0 v) ls) l
       (in_filter (λ (m : CompactLabel D). nat_eq m.node.0 v) ls l there (same_test l.node.0 v at))
 
-  at_all : (v : ℕ) (ls : List (CompactLabel D)) → ((l : CompactLabel D) → Contains ls l → l.node.0 ≡ v) → told_at v ls ≡ map entry_of ls
+  at_all : (v : ℕ) (ls : List (CompactLabel D)) → ((l : CompactLabel D) → Contains ls l → l.node.0 ≡ v) → entries_of_node v ls ≡ map entry_of ls
   at_all v [] at = refl
   at_all v (l ∷ ls) at = rw (same_test l.node.0 v (at l (in_first l ls)))
       (ap (λ es. entry_of l ∷ es) (at_all v ls (λ m there. at m (in_rest l ls m there))))
 
-  at_none : (v : ℕ) (ls : List (CompactLabel D)) → ((l : CompactLabel D) → Contains ls l → l.node.0 ≢ v) → told_at v ls ≡ []
-  at_none v ls other = empty_if_none (told_at v ls) (λ e there. let (l, l_in, at, is) = of_at v ls e there in other l l_in at)
+  at_none : (v : ℕ) (ls : List (CompactLabel D)) → ((l : CompactLabel D) → Contains ls l → l.node.0 ≢ v) → entries_of_node v ls ≡ []
+  at_none v ls other = empty_if_none (entries_of_node v ls) (λ e there. let (l, l_in, at, is) = of_at v ls e there in other l l_in at)
 
 -- ---- no candidates
 
@@ -106,7 +106,7 @@ module _ {D : ℕ} (f : Fronts) (apart : (v : ℕ) → AreApart (entries (front_
     below : (l : CompactLabel D) → Contains candidates l → l.node.0 < v
     below = each_in (λ (l : CompactLabel D). l.node.0 < v) candidates next.behind
 
-    exact_here : IsDelta (front_at f v) (told_at v (candidates ++ more)) (delta_at v after)
+    exact_here : IsDelta (front_at f v) (entries_of_node v (candidates ++ more)) (delta_at v after)
     exact_here =
         let none = at_none v candidates (λ l there at. let low = below l there in omega (arith, low, at)) in
         let (added, removed, lowered) = none_of_delta (front_at f v) (apart v) (delta_at v before) (rw none at (are.exact v)) in
@@ -115,33 +115,33 @@ module _ {D : ℕ} (f : Fronts) (apart : (v : ℕ) → AreApart (entries (front_
           none,
           at_all v more at_node,
           appends.added,
-          told_behind label_node entry_of v before.added (label_told v) appends.delta.added added (λ e. refl) (λ e. refl),
+          view_behind label_node entry_of v before.added (label_view v) appends.delta.added added (λ e. refl) (λ e. refl),
           appends.removed,
-          told_behind spot_node spot_cost v before.removed (spot_told v) appends.delta.removed removed (λ c. refl) (λ c. refl),
+          view_behind spot_node spot_cost v before.removed (spot_view v) appends.delta.removed removed (λ c. refl) (λ c. refl),
           appends.lowered,
-          told_behind label_node entry_of v before.lowered (label_told v) appends.delta.lowered lowered (λ e. refl) (λ e. refl),
+          view_behind label_node entry_of v before.lowered (label_view v) appends.delta.lowered lowered (λ e. refl) (λ e. refl),
         ) appends.exact
 
-    exact_elsewhere : (w : ℕ) → w ≢ v → IsDelta (front_at f w) (told_at w (candidates ++ more)) (delta_at w after)
+    exact_elsewhere : (w : ℕ) → w ≢ v → IsDelta (front_at f w) (entries_of_node w (candidates ++ more)) (delta_at w after)
     exact_elsewhere w other =
         let away : v ≢ w = λ same. other (sym same) in
         rw (
           at_append w candidates more,
           at_none w more (λ l there at. away (sym (at_node l there) ∙ at)),
-          append-nil (told_at w candidates),
+          append-nil (entries_of_node w candidates),
           appends.added,
-          told_before label_node entry_of w before.added (label_told v) appends.delta.added (λ e. away),
+          view_before label_node entry_of w before.added (label_view v) appends.delta.added (λ e. away),
           appends.removed,
-          told_before spot_node spot_cost w before.removed (spot_told v) appends.delta.removed (λ c. away),
+          view_before spot_node spot_cost w before.removed (spot_view v) appends.delta.removed (λ c. away),
           appends.lowered,
-          told_before label_node entry_of w before.lowered (label_told v) appends.delta.lowered (λ e. away),
+          view_before label_node entry_of w before.lowered (label_view v) appends.delta.lowered (λ e. away),
         ) (are.exact w)
 
     -- a label that was told before is of a candidate's node
     old_below : (l : CompactLabel D) → Contains before.added l → l.node.0 < v
     old_below l there =
         let added = ((are.exact l.node.0).added.exact (entry_of l)).0 (in_at l.node.0 before.added l there refl) in
-        elim ((in_append (entries (front_at f l.node.0)) (told_at l.node.0 candidates) (entry_of l)).0 added.stays.contains) [
+        elim ((in_append (entries (front_at f l.node.0)) (entries_of_node l.node.0 candidates) (entry_of l)).0 added.stays.contains) [
           | inl old ↦ absurd (added.new (has_cost_of (entries (front_at f l.node.0)) (entry_of l) old))
           | inr new ↦
               let (m, m_in, at, is) = of_at l.node.0 candidates (entry_of l) new in
@@ -149,8 +149,8 @@ module _ {D : ℕ} (f : Fronts) (apart : (v : ℕ) → AreApart (entries (front_
               omega (arith, low, at)
         ]
 
-    new_at : (l : CompactLabel D) → Contains (map (label_told {D = D} v) appends.delta.added) l → l.node.0 ≡ v
-    new_at l there = let (e, e_in, is) = of_map (label_told {D = D} v) appends.delta.added l there in ap (λ (m : CompactLabel D). m.node.0) is
+    new_at : (l : CompactLabel D) → Contains (map (label_view {D = D} v) appends.delta.added) l → l.node.0 ≡ v
+    new_at l there = let (e, e_in, is) = of_map (label_view {D = D} v) appends.delta.added l there in ap (λ (m : CompactLabel D). m.node.0) is
 
     grown : AreDeltas f (candidates ++ more) after
     grown = record {
@@ -165,8 +165,8 @@ module _ {D : ℕ} (f : Fronts) (apart : (v : ℕ) → AreApart (entries (front_
         | inr other ↦ exact_elsewhere w other
       ];
       ascending = subst (AllPairs (λ (l m : CompactLabel D). l.node.0 ≤ m.node.0)) (sym appends.added)
-          (pairs_append (λ (l m : CompactLabel D). l.node.0 ≤ m.node.0) before.added (map (label_told v) appends.delta.added) are.ascending
-          (pairs_of_members (λ (l m : CompactLabel D). l.node.0 ≤ m.node.0) (map (label_told v) appends.delta.added)
+          (pairs_append (λ (l m : CompactLabel D). l.node.0 ≤ m.node.0) before.added (map (label_view v) appends.delta.added) are.ascending
+          (pairs_of_members (λ (l m : CompactLabel D). l.node.0 ≤ m.node.0) (map (label_view v) appends.delta.added)
           (λ l m l_in m_in. omega (arith, new_at l l_in, new_at m m_in)))
           (λ l m l_in m_in. let low = old_below l l_in in omega (arith, low, new_at m m_in)));
     }
@@ -178,7 +178,7 @@ module _ {D : ℕ} (f : Fronts) (apart : (v : ℕ) → AreApart (entries (front_
 -- ---- other lists of the same candidates
 
 module _ (front : Front) (es others : List Entry) (same : (e : Entry) → Contains es e ↔ Contains others e) where
-  stays_same : (e : Entry) → Stays (entries front ++ es) e ↔ Stays (entries front ++ others) e
+  stays_same : (e : Entry) → Remains (entries front ++ es) e ↔ Remains (entries front ++ others) e
   stays_same = stays_core (entries front ++ others) (entries front ++ es) (in_append_more (entries front) es others (λ e. (same e).0))
       (λ e stays. in_append_more (entries front) others es (λ x. (same x).1) e stays.contains)
 
@@ -208,7 +208,7 @@ fit_any_order D f candidates others d moved are = record {
       (λ l there. each_in (λ (m : CompactLabel D). IsNode f.nodes m.node.0) candidates are.nodes l ((same l).1 there));
   spares = all_from_in (λ (l : CompactLabel D). SparesSettled (front_at f l.node.0) l.cost.0) others
       (λ l there. each_in (λ (m : CompactLabel D). SparesSettled (front_at f m.node.0) m.cost.0) candidates are.spares l ((same l).1 there));
-  exact = λ v. delta_of_same (front_at f v) (told_at v candidates) (told_at v others)
+  exact = λ v. delta_of_same (front_at f v) (entries_of_node v candidates) (entries_of_node v others)
       (λ e. (moves v candidates others (λ l. (same l).0) e, moves v others candidates (λ l. (same l).1) e)) (delta_at v d) (are.exact v);
   ascending = are.ascending;
 } where
@@ -216,7 +216,7 @@ fit_any_order D f candidates others d moved are = record {
   same l = let s = same_by_permutation candidates others moved l in (s.1, s.0)
 
   moves : (v : ℕ) (ls ms : List (CompactLabel D)) → ((l : CompactLabel D) → Contains ls l → Contains ms l) → (e : Entry)
-      → Contains (told_at v ls) e → Contains (told_at v ms) e
+      → Contains (entries_of_node v ls) e → Contains (entries_of_node v ms) e
   moves v ls ms sub e there =
       let (l, l_in, at, is) = of_at v ls e there in
-      subst (Contains (told_at v ms)) (sym is) (in_at v ms l (sub l l_in) at)
+      subst (Contains (entries_of_node v ms)) (sym is) (in_at v ms l (sub l l_in) at)

@@ -7,33 +7,33 @@ use Rattle.cost_vector.specs.Costs.{Dominates}
 use Rattle.cost_vector.proofs.Vectors.{cases_Dominates}
 use Rattle.list_laws.proofs.Members.{in_none, in_first, in_map, of_map, each_in, all_from_in, found_in, any_in, cases_in}
 use Rattle.list_laws.proofs.Pairs.{pairs_none, pairs_rest, pair_with_first, pairs_cons, pairs_push, pairs_map}
-use Rattle.list_laws.proofs.OnceLaws.{in_append, pairs_append, told_some}
-use Rattle.compact_labels.specs.declared.label.CompactSpot.{CompactSpot}
+use Rattle.list_laws.proofs.OnceLaws.{in_append, pairs_append, decidable_some}
+use Rattle.cost_vector.specs.declared.compact_label.CompactSpot.{CompactSpot}
 use Rattle.pareto_front.specs.Calls.{GrowsBy, entry_of}
 use Rattle.pareto_front.specs.Fronts.{Entry, Front, HasCost, IsDominated, entries}
 use Rattle.pareto_front.proofs.FrontLaws.{pairs_of_map}
 use Rattle.node_front.specs.declared.merging.Survivor.{Survivor}
-use Rattle.node_front.specs.Survivors.{AppendsOthers, IsMarked, told}
+use Rattle.node_front.specs.Survivors.{AppendsOthers, IsMarked, views}
 use Rattle.node_front.specs.Apart.{AreApart}
 use Rattle.std.proofs.lemmas.Bool.{false≢true}
 use Rattle.node_front.proofs.GrowsLemmas.{in_push}
 use Rattle.node_front.proofs.ApartLemmas.{dominated_append, dominated_by_one, has_append, apart_not_dominated}
-use Rattle.node_front.proofs.NeedlessLemmas.{told_has_cost}
-use Rattle.node_front.proofs.SurvivorsLemmas.{in_told, of_told, told_push}
+use Rattle.node_front.proofs.NeedlessLemmas.{decidable_has_cost}
+use Rattle.node_front.proofs.SurvivorsLemmas.{in_views, of_views, view_push}
 
 -- a survivor dominates the cost
 pub dominated_by_any : {D : ℕ} (survivors : List (Survivor D)) (c : List ℕ)
-    → Any (λ (s : Survivor D). Dominates s.label.cost.0 c) survivors ↔ IsDominated (told survivors) c
+    → Any (λ (s : Survivor D). Dominates s.label.cost.0 c) survivors ↔ IsDominated (views survivors) c
 dominated_by_any {D} survivors c = (
   λ any. let (s, there, less) = found_in (λ (t : Survivor D). Dominates t.label.cost.0 c) survivors any in
-      record { by = entry_of s.label; contains = in_told survivors s there; dominates = less },
-  λ h. let (s, there, is) = of_told survivors h.by h.contains in
+      record { by = entry_of s.label; contains = in_views survivors s there; dominates = less },
+  λ h. let (s, there, is) = of_views survivors h.by h.contains in
       any_in (λ (t : Survivor D). Dominates t.label.cost.0 c) survivors s there (subst (λ (e : Entry). Dominates e.cost c) is h.dominates),
 )
 
 -- it can be told
-pub told_dominated : (list : List Entry) (c : List ℕ) → IsDominated list c ⊎ (¬ IsDominated list c)
-told_dominated list c = elim (told_some (λ (e : Entry). Dominates e.cost c) (λ e. cases_Dominates e.cost c) list) [
+pub decidable_dominated : (list : List Entry) (c : List ℕ) → IsDominated list c ⊎ (¬ IsDominated list c)
+decidable_dominated list c = elim (decidable_some (λ (e : Entry). Dominates e.cost c) (λ e. cases_Dominates e.cost c) list) [
   | inl found ↦ inl (record { by = found.0; contains = found.1; dominates = found.2 })
   | inr none ↦ inr (λ h. none h.by h.contains h.dominates)
 ]
@@ -146,30 +146,30 @@ module _ {D : ℕ} (v : ℕ) (P Q R : List ℕ → Type 0) (before after found n
     both f g h = grind arith
 
 module _ {D : ℕ} (front : Front) (survivors more : List (Survivor D)) (s : Survivor D) (is_more : more ≡ survivors ++ s ∷ []) where
-  dominated_more : (c : List ℕ) → IsDominated (told more) c ↔ (IsDominated (told survivors) c ⊎ Dominates s.label.cost.0 c)
-  dominated_more c = rw (is_more, told_push survivors s)
-      (parts (dominated_append (told survivors) (entry_of s.label ∷ []) c) (dominated_by_one (entry_of s.label) c)) where
+  dominated_more : (c : List ℕ) → IsDominated (views more) c ↔ (IsDominated (views survivors) c ⊎ Dominates s.label.cost.0 c)
+  dominated_more c = rw (is_more, view_push survivors s)
+      (parts (dominated_append (views survivors) (entry_of s.label ∷ []) c) (dominated_by_one (entry_of s.label) c)) where
         parts : {A B C L : Type 0} → (A ↔ (B ⊎ C)) → (C ↔ L) → (A ↔ (B ⊎ L))
         parts f g = grind arith
 
   -- what one survivor more removes is what it dominates and none of the others does
   pub removed_more : (c : List ℕ)
-      → ((HasCost front.unsettled c × IsDominated (told survivors) c)
-      ⊎ ((HasCost front.unsettled c × Dominates s.label.cost.0 c) × (¬ IsDominated (told survivors) c)))
-      ↔ (HasCost front.unsettled c × IsDominated (told more) c)
-  removed_more c = parts (dominated_more c) (told_dominated (told survivors) c) where
+      → ((HasCost front.unsettled c × IsDominated (views survivors) c)
+      ⊎ ((HasCost front.unsettled c × Dominates s.label.cost.0 c) × (¬ IsDominated (views survivors) c)))
+      ↔ (HasCost front.unsettled c × IsDominated (views more) c)
+  removed_more c = parts (dominated_more c) (decidable_dominated (views survivors) c) where
     parts : {H M R L : Type 0} → (M ↔ (R ⊎ L)) → (R ⊎ (¬ R)) → ((H × R) ⊎ ((H × L) × (¬ R))) ↔ (H × M)
-    parts f told_r = grind arith
+    parts f views_r = grind arith
 
   -- one that isn't new removes nothing
   pub removed_same : (v : ℕ) → AreApart (entries front) → IsMarked v front s → s.is_new ≡ false → (c : List ℕ)
-      → (HasCost front.unsettled c × IsDominated (told survivors) c) ↔ (HasCost front.unsettled c × IsDominated (told more) c)
+      → (HasCost front.unsettled c × IsDominated (views survivors) c) ↔ (HasCost front.unsettled c × IsDominated (views more) c)
   removed_same v apart marked not_new c = parts (dominated_more c) idle where
     parts : {H M R L : Type 0} → (M ↔ (R ⊎ L)) → (H → ¬ L) → (H × R) ↔ (H × M)
     parts f none = grind arith
 
     idle : HasCost front.unsettled c → ¬ Dominates s.label.cost.0 c
-    idle has less = elim (told_has_cost (entries front) s.label.cost.0) [
+    idle has less = elim (decidable_has_cost (entries front) s.label.cost.0) [
       | inr none ↦ false≢true (sym not_new ∙ marked.is_new.1 none)
       | inl old ↦
           let at = (has_append front.settled front.unsettled c).1 (inr has) in

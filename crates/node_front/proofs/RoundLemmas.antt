@@ -8,13 +8,13 @@ use Rattle.std.proofs.lemmas.List.{take_all, take_more, get_or-drop, get_or_defa
 use Rattle.std.proofs.lemmas.List.Elements.{filter-append, All-push, All-weaker}
 use Rattle.list_laws.proofs.Members.{in_first, in_none, of_map, of_filter, each_in}
 use Rattle.list_laws.proofs.OnceLaws.{alike_through, in_append, empty_if_none}
-use Rattle.compact_labels.specs.declared.label.CompactLabel.{CompactLabel}
-use Rattle.compact_labels.specs.declared.label.CompactSpot.{CompactSpot}
+use Rattle.cost_vector.specs.declared.compact_label.CompactLabel.{CompactLabel}
+use Rattle.cost_vector.specs.declared.compact_label.CompactSpot.{CompactSpot}
 use Rattle.pareto_front.specs.Calls.{Removes, Enters, Relabels, entry_of}
 use Rattle.pareto_front.specs.Fronts.{Entry, Front, HasCost, IsCovered, SparesSettled, entries}
 use Rattle.pareto_front.specs.Merging.{IsMerged}
 use Rattle.node_front.specs.Apart.{AreApart}
-use Rattle.node_front.specs.Deltas.{Deltas, AreDeltas, HasRoom, MergesAll, costs_told_at, delta_at, told_at}
+use Rattle.node_front.specs.Deltas.{Deltas, AreDeltas, HasRoom, MergesAll, costs_of_node, delta_at, entries_of_node}
 use Rattle.node_front.specs.NodeFronts.{Fronts, SameElsewhere, SameFronts, front_at, spare_at}
 use Rattle.node_front.proofs.PlacedLemmas.{cases_number}
 use Rattle.node_front.proofs.RemovedLemmas.{pairs_front, pairs_across}
@@ -45,61 +45,61 @@ other_numbers a b test is fails same = false≢true (sym fails ∙ is ∙ same_t
 -- what things tell whose node is v
 module _ {X Y : Type 0} (node : X → ℕ) (tell : X → Y) where
   -- what those of the node v tell
-  abbrev pub told_of : ℕ → List X → List Y
-  told_of v xs = map tell (filter (λ x. nat_eq (node x) v) xs)
+  abbrev pub of_node : ℕ → List X → List Y
+  of_node v xs = map tell (filter (λ x. nat_eq (node x) v) xs)
 
   -- of two lists, one behind the other
-  pub of_append : (v : ℕ) (xs ys : List X) → told_of v (xs ++ ys) ≡ told_of v xs ++ told_of v ys
+  pub of_append : (v : ℕ) (xs ys : List X) → of_node v (xs ++ ys) ≡ of_node v xs ++ of_node v ys
   of_append v xs ys =
       ap (map tell) (filter-append (λ x. nat_eq (node x) v) xs ys)
       ∙ map-append tell (filter (λ x. nat_eq (node x) v) xs) (filter (λ x. nat_eq (node x) v) ys)
 
-  of_push : (v : ℕ) (xs : List X) (x : X) → node x ≡ v → told_of v (xs ++ x ∷ []) ≡ told_of v xs ++ tell x ∷ []
+  of_push : (v : ℕ) (xs : List X) (x : X) → node x ≡ v → of_node v (xs ++ x ∷ []) ≡ of_node v xs ++ tell x ∷ []
   of_push v xs x same =
-      of_append v xs (x ∷ []) ∙ ap (λ ys. told_of v xs ++ ys) (ap (λ b. map tell (cond b (x ∷ []) [])) (same_test (node x) v same))
+      of_append v xs (x ∷ []) ∙ ap (λ ys. of_node v xs ++ ys) (ap (λ b. map tell (cond b (x ∷ []) [])) (same_test (node x) v same))
 
-  of_push_other : (v : ℕ) (xs : List X) (x : X) → node x ≢ v → told_of v (xs ++ x ∷ []) ≡ told_of v xs
+  of_push_other : (v : ℕ) (xs : List X) (x : X) → node x ≢ v → of_node v (xs ++ x ∷ []) ≡ of_node v xs
   of_push_other v xs x other =
-      of_append v xs (x ∷ []) ∙ ap (λ ys. told_of v xs ++ ys) (ap (λ b. map tell (cond b (x ∷ []) [])) (other_test (node x) v other))
-      ∙ append-nil (told_of v xs)
+      of_append v xs (x ∷ []) ∙ ap (λ ys. of_node v xs ++ ys) (ap (λ b. map tell (cond b (x ∷ []) [])) (other_test (node x) v other))
+      ∙ append-nil (of_node v xs)
 
   -- a list in two parts
-  of_parts : (v i : ℕ) (xs : List X) → told_of v xs ≡ told_of v (take i xs) ++ told_of v (drop i xs)
-  of_parts v i xs = ap (told_of v) (sym (take-append-drop i xs)) ∙ of_append v (take i xs) (drop i xs)
+  of_parts : (v i : ℕ) (xs : List X) → of_node v xs ≡ of_node v (take i xs) ++ of_node v (drop i xs)
+  of_parts v i xs = ap (of_node v) (sym (take-append-drop i xs)) ∙ of_append v (take i xs) (drop i xs)
 
-  of_take : (v i : ℕ) (xs : List X) (y : Y) → Contains (told_of v (take i xs)) y → Contains (told_of v xs) y
+  of_take : (v i : ℕ) (xs : List X) (y : Y) → Contains (of_node v (take i xs)) y → Contains (of_node v xs) y
   of_take v i xs y there =
-      subst (λ ys. Contains ys y) (sym (of_parts v i xs)) ((in_append (told_of v (take i xs)) (told_of v (drop i xs)) y).1 (inl there))
+      subst (λ ys. Contains ys y) (sym (of_parts v i xs)) ((in_append (of_node v (take i xs)) (of_node v (drop i xs)) y).1 (inl there))
 
   -- the next one, of another node
-  next_other : (v i : ℕ) (xs : List X) (x : X) → v ≢ node x → take (i + 1) xs ≡ take i xs ++ x ∷ [] → told_of v (take (i + 1) xs) ≡ told_of v (take i xs)
-  next_other v i xs x other more = ap (told_of v) more ∙ of_push_other v (take i xs) x (λ same. other (sym same))
+  next_other : (v i : ℕ) (xs : List X) (x : X) → v ≢ node x → take (i + 1) xs ≡ take i xs ++ x ∷ [] → of_node v (take (i + 1) xs) ≡ of_node v (take i xs)
+  next_other v i xs x other more = ap (of_node v) more ∙ of_push_other v (take i xs) x (λ same. other (sym same))
 
   -- the next one, among those of its node
   module _ (v i : ℕ) (xs : List X) (x : X) (at : node x ≡ v) (more : take (i + 1) xs ≡ take i xs ++ x ∷ []) where
-    next_more : told_of v (take (i + 1) xs) ≡ told_of v (take i xs) ++ tell x ∷ []
-    next_more = ap (told_of v) more ∙ of_push v (take i xs) x at
+    next_more : of_node v (take (i + 1) xs) ≡ of_node v (take i xs) ++ tell x ∷ []
+    next_more = ap (of_node v) more ∙ of_push v (take i xs) x at
 
-    next_split : told_of v xs ≡ (told_of v (take i xs) ++ tell x ∷ []) ++ told_of v (drop (i + 1) xs)
-    next_split = of_parts v (i + 1) xs ∙ ap (λ ys. ys ++ told_of v (drop (i + 1) xs)) next_more
+    next_split : of_node v xs ≡ (of_node v (take i xs) ++ tell x ∷ []) ++ of_node v (drop (i + 1) xs)
+    next_split = of_parts v (i + 1) xs ∙ ap (λ ys. ys ++ of_node v (drop (i + 1) xs)) next_more
 
-    next_in : Contains (told_of v xs) (tell x)
+    next_in : Contains (of_node v xs) (tell x)
     next_in = of_take v (i + 1) xs (tell x) (subst (λ ys. Contains ys (tell x)) (sym next_more)
-        ((in_append (told_of v (take i xs)) (tell x ∷ []) (tell x)).1 (inr (in_first (tell x) []))))
+        ((in_append (of_node v (take i xs)) (tell x ∷ []) (tell x)).1 (inr (in_first (tell x) []))))
 
-    next_apart : AllPairs ◌≢◌ (told_of v xs) → (y : Y) → Contains (told_of v (take i xs)) y → y ≢ tell x
+    next_apart : AllPairs ◌≢◌ (of_node v xs) → (y : Y) → Contains (of_node v (take i xs)) y → y ≢ tell x
     next_apart pairs y there =
         let whole = subst (AllPairs ◌≢◌) next_split pairs in
-        let front = pairs_front ◌≢◌ (told_of v (take i xs) ++ tell x ∷ []) (told_of v (drop (i + 1) xs)) whole in
-        pairs_across ◌≢◌ (told_of v (take i xs)) (tell x ∷ []) front y (tell x) there (in_first (tell x) [])
+        let front = pairs_front ◌≢◌ (of_node v (take i xs) ++ tell x ∷ []) (of_node v (drop (i + 1) xs)) whole in
+        pairs_across ◌≢◌ (of_node v (take i xs)) (tell x ∷ []) front y (tell x) there (in_first (tell x) [])
 
-    next_length : length (told_of v (take (i + 1) xs)) ≡ length (told_of v (take i xs)) + 1
-    next_length = ap length next_more ∙ length-append (told_of v (take i xs)) (tell x ∷ [])
+    next_length : length (of_node v (take (i + 1) xs)) ≡ length (of_node v (take i xs)) + 1
+    next_length = ap length next_more ∙ length-append (of_node v (take i xs)) (tell x ∷ [])
 
-    next_fits : length (told_of v (take i xs)) + 1 ≤ length (told_of v xs)
+    next_fits : length (of_node v (take i xs)) + 1 ≤ length (of_node v xs)
     next_fits =
-        let whole = ap length next_split ∙ length-append (told_of v (take i xs) ++ tell x ∷ []) (told_of v (drop (i + 1) xs)) in
-        let front = length-append (told_of v (take i xs)) (tell x ∷ []) in
+        let whole = ap length next_split ∙ length-append (of_node v (take i xs) ++ tell x ∷ []) (of_node v (drop (i + 1) xs)) in
+        let front = length-append (of_node v (take i xs)) (tell x ∷ []) in
         omega (arith, whole, front)
 
 module _ {D : ℕ} where
@@ -116,19 +116,19 @@ module _ {D : ℕ} where
   spot_cost s = s.cost.0
 
   -- what the labels of two lists tell
-  pub at_append : (v : ℕ) (ls ms : List (CompactLabel D)) → told_at v (ls ++ ms) ≡ told_at v ls ++ told_at v ms
+  pub at_append : (v : ℕ) (ls ms : List (CompactLabel D)) → entries_of_node v (ls ++ ms) ≡ entries_of_node v ls ++ entries_of_node v ms
   at_append = of_append label_node (entry_of {D = D})
 
   -- one label more, of the node
-  pub at_push : (v : ℕ) (ls : List (CompactLabel D)) (l : CompactLabel D) → l.node.0 ≡ v → told_at v (ls ++ l ∷ []) ≡ told_at v ls ++ entry_of l ∷ []
+  pub at_push : (v : ℕ) (ls : List (CompactLabel D)) (l : CompactLabel D) → l.node.0 ≡ v → entries_of_node v (ls ++ l ∷ []) ≡ entries_of_node v ls ++ entry_of l ∷ []
   at_push = of_push label_node (entry_of {D = D})
 
   -- one label more, of another node
-  pub at_push_other : (v : ℕ) (ls : List (CompactLabel D)) (l : CompactLabel D) → l.node.0 ≢ v → told_at v (ls ++ l ∷ []) ≡ told_at v ls
+  pub at_push_other : (v : ℕ) (ls : List (CompactLabel D)) (l : CompactLabel D) → l.node.0 ≢ v → entries_of_node v (ls ++ l ∷ []) ≡ entries_of_node v ls
   at_push_other = of_push_other label_node (entry_of {D = D})
 
   -- what a label of the node tells
-  pub of_at : (v : ℕ) (ls : List (CompactLabel D)) (e : Entry) → Contains (told_at v ls) e
+  pub of_at : (v : ℕ) (ls : List (CompactLabel D)) (e : Entry) → Contains (entries_of_node v ls) e
       → (l : CompactLabel D) × Contains ls l × (l.node.0 ≡ v) × (e ≡ entry_of l)
   of_at v ls e there =
       let (l, l_in, is) = of_map (entry_of {D = D}) (filter (λ (m : CompactLabel D). nat_eq m.node.0 v) ls) e there in
@@ -136,7 +136,7 @@ module _ {D : ℕ} where
       (l, old, test_same l.node.0 v test, is)
 
   -- they are no more than all labels
-  at_short : (v : ℕ) (ls : List (CompactLabel D)) → length (told_at v ls) ≤ length ls
+  at_short : (v : ℕ) (ls : List (CompactLabel D)) → length (entries_of_node v ls) ≤ length ls
   at_short v [] = omega arith
   at_short v (l ∷ ls) =
       let rest = at_short v ls in
@@ -160,19 +160,19 @@ next_taken {X} items list i x same within read =
 -- they have, and nothing has come
 pub record IsRemoving {D : ℕ} (before : Fronts) (d : Deltas D) (i : ℕ) (now : Fronts) : Type 0 where
   pub nodes : now.nodes ≡ before.nodes
-  pub fronts : (v : ℕ) → HasPut (front_at before v) (costs_told_at v (take i d.removed)) [] (front_at now v)
-  pub room : (v : ℕ) → length (told_at v d.added) ≤ spare_at now v
+  pub fronts : (v : ℕ) → HasPut (front_at before v) (costs_of_node v (take i d.removed)) [] (front_at now v)
+  pub room : (v : ℕ) → length (entries_of_node v d.added) ≤ spare_at now v
 
 -- all removed spots have left, and the first i added labels have come
 pub record IsPutting {D : ℕ} (before : Fronts) (d : Deltas D) (i : ℕ) (now : Fronts) : Type 0 where
   pub nodes : now.nodes ≡ before.nodes
-  pub fronts : (v : ℕ) → HasPut (front_at before v) (costs_told_at v d.removed) (told_at v (take i d.added)) (front_at now v)
-  pub room : (v : ℕ) → length (told_at v d.added) ≤ spare_at now v + length (told_at v (take i d.added))
+  pub fronts : (v : ℕ) → HasPut (front_at before v) (costs_of_node v d.removed) (entries_of_node v (take i d.added)) (front_at now v)
+  pub room : (v : ℕ) → length (entries_of_node v d.added) ≤ spare_at now v + length (entries_of_node v (take i d.added))
 
 -- all removed spots have left, all added labels have come, and the first i lowered ones
 pub record IsLowering {D : ℕ} (before : Fronts) (d : Deltas D) (i : ℕ) (now : Fronts) : Type 0 where
   pub nodes : now.nodes ≡ before.nodes
-  pub merged : (v : ℕ) → IsMerged (front_at before v) (told_at v d.added ++ told_at v (take i d.lowered)) (front_at now v)
+  pub merged : (v : ℕ) → IsMerged (front_at before v) (entries_of_node v d.added ++ entries_of_node v (take i d.lowered)) (front_at now v)
 
 -- nothing has left or come
 put_none : (front : Front) → HasPut front [] [] front
@@ -206,7 +206,7 @@ module _ {D : ℕ} {before : Fronts} {d : Deltas D} where
 
 module _ {D : ℕ} {before : Fronts} {d : Deltas D} {candidates : List (CompactLabel D)} (apart : (v : ℕ) → AreApart (entries (front_at before v)))
     (are : AreDeltas before candidates d) where
-  sparing : (v : ℕ) → IsSparing (front_at before v) (told_at v candidates) (delta_at v d)
+  sparing : (v : ℕ) → IsSparing (front_at before v) (entries_of_node v candidates) (delta_at v d)
   sparing v = record {
     is = are.exact v;
     apart = apart v;
@@ -226,7 +226,7 @@ module _ {D : ℕ} {before : Fronts} {d : Deltas D} {candidates : List (CompactL
   -- once all are lowered, the fronts are what the candidates make of them
   pub lowering_all : {i : ℕ} {now : Fronts} → take i d.lowered ≡ d.lowered → IsLowering before d i now → MergesAll before candidates now
   lowering_all {now} all lowering = record {
-    merged = λ v. merged_by_delta (front_at before v) (told_at v candidates) (delta_at v d) (are.exact v) (apart v) (front_at now v)
+    merged = λ v. merged_by_delta (front_at before v) (entries_of_node v candidates) (delta_at v d) (are.exact v) (apart v) (front_at now v)
         (rw all at (lowering.merged v));
   }
 
@@ -260,10 +260,10 @@ module _ {D : ℕ} {before : Fronts} {d : Deltas D} {candidates : List (CompactL
 
   -- the next added label
   module _ {i : ℕ} {now : Fronts} (putting : IsPutting before d i now) (l : CompactLabel D) (more : take (i + 1) d.added ≡ take i d.added ++ l ∷ []) where
-    came_before : (x : Entry) → Contains (told_at l.node.0 (take i d.added)) x → Contains (told_at l.node.0 d.added) x
+    came_before : (x : Entry) → Contains (entries_of_node l.node.0 (take i d.added)) x → Contains (entries_of_node l.node.0 d.added) x
     came_before = of_take label_node (entry_of {D = D}) l.node.0 i d.added
 
-    here : Contains (told_at l.node.0 d.added) (entry_of l)
+    here : Contains (entries_of_node l.node.0 d.added) (entry_of l)
     here = next_in label_node (entry_of {D = D}) l.node.0 i d.added l refl more
 
     -- there is room for it
@@ -300,12 +300,12 @@ module _ {D : ℕ} {before : Fronts} {d : Deltas D} {candidates : List (CompactL
   -- the next lowered label
   module _ {i : ℕ} {now : Fronts} (lowering : IsLowering before d i now) (l : CompactLabel D) (more : take (i + 1) d.lowered ≡ take i d.lowered ++
       l ∷ []) where
-    came : (x : Entry) → Contains (told_at l.node.0 d.added ++ told_at l.node.0 (take i d.lowered)) x
-        → Contains (told_at l.node.0 d.added ++ told_at l.node.0 d.lowered) x
-    came = in_append_more (told_at l.node.0 d.added) (told_at l.node.0 (take i d.lowered)) (told_at l.node.0 d.lowered)
+    came : (x : Entry) → Contains (entries_of_node l.node.0 d.added ++ entries_of_node l.node.0 (take i d.lowered)) x
+        → Contains (entries_of_node l.node.0 d.added ++ entries_of_node l.node.0 d.lowered) x
+    came = in_append_more (entries_of_node l.node.0 d.added) (entries_of_node l.node.0 (take i d.lowered)) (entries_of_node l.node.0 d.lowered)
         (of_take label_node (entry_of {D = D}) l.node.0 i d.lowered)
 
-    lowered_here : Contains (told_at l.node.0 d.lowered) (entry_of l)
+    lowered_here : Contains (entries_of_node l.node.0 d.lowered) (entry_of l)
     lowered_here = next_in label_node (entry_of {D = D}) l.node.0 i d.lowered l refl more
 
     -- an entry of its cost is there
@@ -329,8 +329,8 @@ module _ {D : ℕ} {before : Fronts} {d : Deltas D} {candidates : List (CompactL
 -- it is, and no front has changed
 pub record IsReserving {D : ℕ} (before : Fronts) (added : List (CompactLabel D)) (i last count : ℕ) (now : Fronts) : Type 0 where
   pub same : SameFronts before now
-  pub room : (v : ℕ) → length (told_at v (take i added)) ≤ spare_at now v
-  pub counted : count ≡ length (told_at last (take i added))
+  pub room : (v : ℕ) → length (entries_of_node v (take i added)) ≤ spare_at now v
+  pub counted : count ≡ length (entries_of_node last (take i added))
   pub earlier : All (λ (l : CompactLabel D). l.node.0 ≤ last) (take i added)
   pub later : All (λ (l : CompactLabel D). last ≤ l.node.0) (drop i added)
 
@@ -352,12 +352,12 @@ module _ {D : ℕ} {before : Fronts} {added : List (CompactLabel D)} where
 
     -- how many of the labels so far are of the next one's node
     counted_next : (next : ℕ) → (next ≡ count + 1) × (l.node.0 ≡ last) ⊎ ((next ≡ 1) × (l.node.0 ≢ last))
-        → next ≡ length (told_at l.node.0 (take (i + 1) added))
+        → next ≡ length (entries_of_node l.node.0 (take (i + 1) added))
     counted_next next (inl same) =
-        let old = subst (λ v. count ≡ length (told_at v (take i added))) (sym same.1) reserving.counted in
+        let old = subst (λ v. count ≡ length (entries_of_node v (take i added))) (sym same.1) reserving.counted in
         omega (arith, same.0, old, next_length label_node (entry_of {D = D}) l.node.0 i added l refl more)
     counted_next next (inr other) =
-        let none = empty_if_none (told_at l.node.0 (take i added)) (λ e there.
+        let none = empty_if_none (entries_of_node l.node.0 (take i added)) (λ e there.
         let (m, m_in, m_at, is) = of_at l.node.0 (take i added) e there in
         let low = each_in (λ (k : CompactLabel D). k.node.0 ≤ last) (take i added) reserving.earlier m m_in in
         other.1 (let high = next_later in omega (arith, low, high, m_at))) in

@@ -8,13 +8,13 @@ use Rattle.list_laws.proofs.Members.{in_none, each_in}
 use Rattle.list_laws.proofs.OnceLaws.{in_cons}
 use Rattle.list_laws.proofs.LeastMember.{decided_by_cases, has_least}
 use Rattle.pareto_front.specs.Fronts.{Entry, IsDominated}
-use Rattle.pareto_front.specs.Merging.{Stays}
+use Rattle.pareto_front.specs.Merging.{Remains}
 use Rattle.node_front.specs.Apart.{AreApart}
 use Rattle.node_front.specs.Survivors.{IsNeedless}
 use Rattle.node_front.proofs.ApartLemmas.{same_entry, AtMost-same, apart_not_dominated}
 
 -- what stays is apart
-pub apart_of_stays : (known list : List Entry) → ((x : Entry) → Contains list x → Stays known x) → AreApart list
+pub apart_of_stays : (known list : List Entry) → ((x : Entry) → Contains list x → Remains known x) → AreApart list
 apart_of_stays known list stays x y x_in y_in below = elim (cases_same x.cost y.cost) [
   | inl same ↦
       let one : x.arc ≤ y.arc = (stays x x_in).least y (stays y y_in).contains (sym same) in
@@ -52,10 +52,10 @@ before_cases x y = elim (cases_LexLess x.cost y.cost) [
 
 -- those members of a list that are of a kind
 kept : {X : Type 0} (P : X → Type 0) → ((x : X) → P x ⊎ (¬ P x)) → (xs : List X) → (ys : List X) × ((y : X) → Contains ys y ↔ (Contains xs y × P y))
-kept P told [] = ([], λ y. (λ h. absurd (in_none y h), λ h. h.0))
-kept P told (x ∷ xs) =
-    let (ys, are) = kept P told xs in
-    elim (told x) [
+kept P views [] = ([], λ y. (λ h. absurd (in_none y h), λ h. h.0))
+kept P views (x ∷ xs) =
+    let (ys, are) = kept P views xs in
+    elim (views x) [
       | inl holds ↦ (x ∷ ys, λ y. more (are y) (in_cons x xs y) (in_cons x ys y) (λ e. subst P (sym e) holds))
       | inr fails ↦ (ys, λ y. no_more (are y) (in_cons x xs y) (λ e p. fails (subst P e p)))
     ] where
@@ -66,7 +66,7 @@ kept P told (x ∷ xs) =
       no_more f g none = grind arith
 
 -- for each known entry one stays whose cost is at most its cost
-pub stays_below : (known : List Entry) (x : Entry) → Contains known x → (b : Entry) × Stays known b × AtMost b.cost x.cost
+pub stays_below : (known : List Entry) (x : Entry) → Contains known x → (b : Entry) × Remains known b × AtMost b.cost x.cost
 stays_below known x there =
     let Below : Entry → Type 0 = λ y. AtMost y.cost x.cost in
     let (ys, are) = kept Below (λ y. cases_AtMost y.cost x.cost) known in
@@ -89,7 +89,7 @@ stays_below known x there =
     )
 
 -- where no known cost dominates a known entry's cost, one of its cost stays
-pub stays_of_cost : (known : List Entry) (x : Entry) → Contains known x → ¬ IsDominated known x.cost → (b : Entry) × Stays known b × (b.cost ≡ x.cost)
+pub stays_of_cost : (known : List Entry) (x : Entry) → Contains known x → ¬ IsDominated known x.cost → (b : Entry) × Remains known b × (b.cost ≡ x.cost)
 stays_of_cost known x there nondominated =
     let (b, stays, below) = stays_below known x there in
     elim (cases_same b.cost x.cost) [
@@ -102,7 +102,7 @@ abbrev pub Beats : Entry → Entry → Type 0
 Beats y x = Dominates y.cost x.cost ⊎ ((y.cost ≡ x.cost) × (y.arc < x.arc))
 
 -- a known entry that none beats stays
-pub stays_unbeaten : (known : List Entry) (x : Entry) → Contains known x → ((y : Entry) → Contains known y → ¬ Beats y x) → Stays known x
+pub stays_unbeaten : (known : List Entry) (x : Entry) → Contains known x → ((y : Entry) → Contains known y → ¬ Beats y x) → Remains known x
 stays_unbeaten known x there none = record {
   contains = there;
   nondominated = λ h. none h.by h.contains (inl h.dominates);
@@ -110,27 +110,27 @@ stays_unbeaten known x there none = record {
 }
 
 -- none beats one that stays
-pub unbeaten : (known : List Entry) (x : Entry) → Stays known x → (y : Entry) → Contains known y → ¬ Beats y x
+pub unbeaten : (known : List Entry) (x : Entry) → Remains known x → (y : Entry) → Contains known y → ¬ Beats y x
 unbeaten known x stays y there = elim [
   | inl less ↦ stays.nondominated (record { by = y; contains = there; dominates = less })
   | inr less ↦ let least = stays.least y there less.0 in omega (arith, least, less.1)
 ]
 
 -- what makes one needless that stays is itself
-pub stays_needless : (known : List Entry) (x b : Entry) → Stays known x → Contains known b → IsNeedless x b → b ≡ x
+pub stays_needless : (known : List Entry) (x b : Entry) → Remains known x → Contains known b → IsNeedless x b → b ≡ x
 stays_needless known x b stays there = elim [
   | inl less ↦ absurd (unbeaten known x stays b there (inl less))
   | inr same ↦ let least = stays.least b there same.0 in same_entry b x same.0 (omega (arith, least, same.1))
 ]
 
 -- what stays, stays among fewer known entries
-pub stays_among : (known fewer : List Entry) → ((x : Entry) → Contains fewer x → Contains known x) → (x : Entry) → Stays known x → Contains fewer x
-    → Stays fewer x
+pub stays_among : (known fewer : List Entry) → ((x : Entry) → Contains fewer x → Contains known x) → (x : Entry) → Remains known x → Contains fewer x
+    → Remains fewer x
 stays_among known fewer sub x stays there = stays_unbeaten fewer x there (λ y y_in. unbeaten known x stays y (sub y y_in))
 
 -- among fewer known entries, with all that stays, the same stays
-pub stays_core : (known fewer : List Entry) → ((x : Entry) → Contains fewer x → Contains known x) → ((x : Entry) → Stays known x → Contains fewer x)
-    → (x : Entry) → Stays fewer x ↔ Stays known x
+pub stays_core : (known fewer : List Entry) → ((x : Entry) → Contains fewer x → Contains known x) → ((x : Entry) → Remains known x → Contains fewer x)
+    → (x : Entry) → Remains fewer x ↔ Remains known x
 stays_core known fewer sub core x = (
   λ stays. stays_unbeaten known x (sub x stays.contains) (λ y y_in beats.
       let (b, b_stays, below) = stays_below known y y_in in
@@ -149,7 +149,7 @@ stays_core known fewer sub core x = (
 
 -- known entries that are apart, with all that stays, are what stays
 pub apart_stays : (known list : List Entry) → AreApart list → ((x : Entry) → Contains list x → Contains known x)
-    → ((x : Entry) → Stays known x → Contains list x) → (x : Entry) → Contains list x ↔ Stays known x
+    → ((x : Entry) → Remains known x → Contains list x) → (x : Entry) → Contains list x ↔ Remains known x
 apart_stays known list apart sub core x = (
   λ there. (stays_core known list sub core x).0 (stays_unbeaten list x there (λ y y_in. elim [
     | inl less ↦ apart_not_dominated list apart y x y_in there less

@@ -1,7 +1,7 @@
 -- What candidates make of the fronts of nodes.
 use Rattle.std.specs.Prelude.{◌≡◌, ℕ, ◌<◌, ◌≤◌, List, [], ◌++◌, length, map, filter, nat_eq, All, AllPairs, IsPermutation}
-use Rattle.compact_labels.specs.declared.label.CompactLabel.{CompactLabel}
-use Rattle.compact_labels.specs.declared.label.CompactSpot.{CompactSpot}
+use Rattle.cost_vector.specs.declared.compact_label.CompactLabel.{CompactLabel}
+use Rattle.cost_vector.specs.declared.compact_label.CompactSpot.{CompactSpot}
 use Rattle.pareto_front.specs.Calls.{entry_of}
 use Rattle.pareto_front.specs.Fronts.{Entry, Front, SparesSettled}
 use Rattle.pareto_front.specs.Merging.{Delta, IsDelta, IsMerged}
@@ -26,40 +26,40 @@ pub record AppendsDeltas {D : ℕ} (before more after : Deltas D) : Type 0 where
   pub lowered : after.lowered ≡ before.lowered ++ more.lowered
 
 -- the label of an entry of the node v
-abbrev pub label_told : {D : ℕ} → ℕ → Entry → CompactLabel D
-label_told v e = record { node = record { 0 = v }; cost = record { 0 = e.cost }; arc = record { 0 = e.arc } }
+abbrev pub label_view : {D : ℕ} → ℕ → Entry → CompactLabel D
+label_view v e = record { node = record { 0 = v }; cost = record { 0 = e.cost }; arc = record { 0 = e.arc } }
 
 -- the spot of a cost of the node v
-abbrev pub spot_told : {D : ℕ} → ℕ → List ℕ → CompactSpot D
-spot_told v c = record { cost = record { 0 = c }; node = record { 0 = v } }
+abbrev pub spot_view : {D : ℕ} → ℕ → List ℕ → CompactSpot D
+spot_view v c = record { cost = record { 0 = c }; node = record { 0 = v } }
 
 -- what the candidates make of the front of the node v was appended
 pub record AppendsDelta {D : ℕ} (v : ℕ) (front : Front) (candidates : List Entry) (before after : Deltas D) : Type 0 where
   pub delta : Delta
   pub exact : IsDelta front candidates delta
-  pub added : after.added ≡ before.added ++ map (label_told v) delta.added
-  pub removed : after.removed ≡ before.removed ++ map (spot_told v) delta.removed
-  pub lowered : after.lowered ≡ before.lowered ++ map (label_told v) delta.lowered
+  pub added : after.added ≡ before.added ++ map (label_view v) delta.added
+  pub removed : after.removed ≡ before.removed ++ map (spot_view v) delta.removed
+  pub lowered : after.lowered ≡ before.lowered ++ map (label_view v) delta.lowered
 
 -- ---- the deltas of many nodes
 
 -- the entries that labels of the node v tell
-abbrev pub told_at : {D : ℕ} → ℕ → List (CompactLabel D) → List Entry
-told_at v labels = map entry_of (filter (λ l. nat_eq l.node.0 v) labels)
+abbrev pub entries_of_node : {D : ℕ} → ℕ → List (CompactLabel D) → List Entry
+entries_of_node v labels = map entry_of (filter (λ l. nat_eq l.node.0 v) labels)
 
 -- the costs that spots of the node v tell
-abbrev pub costs_told_at : {D : ℕ} → ℕ → List (CompactSpot D) → List (List ℕ)
-costs_told_at v spots = map (λ s. s.cost.0) (filter (λ s. nat_eq s.node.0 v) spots)
+abbrev pub costs_of_node : {D : ℕ} → ℕ → List (CompactSpot D) → List (List ℕ)
+costs_of_node v spots = map (λ s. s.cost.0) (filter (λ s. nat_eq s.node.0 v) spots)
 
 -- what the deltas tell of the node v
 abbrev pub delta_at : {D : ℕ} → ℕ → Deltas D → Delta
-delta_at v d = record { added = told_at v d.added; removed = costs_told_at v d.removed; lowered = told_at v d.lowered }
+delta_at v d = record { added = entries_of_node v d.added; removed = costs_of_node v d.removed; lowered = entries_of_node v d.lowered }
 
 -- what the candidates make of the front of each node; new entries are told by ascending node
 pub record AreDeltas {D : ℕ} (f : Fronts) (candidates : List (CompactLabel D)) (d : Deltas D) : Type 0 where
   pub nodes : All (λ l. IsNode f.nodes l.node.0) candidates
   pub spares : All (λ l. SparesSettled (front_at f l.node.0) l.cost.0) candidates
-  pub exact : (v : ℕ) → IsDelta (front_at f v) (told_at v candidates) (delta_at v d)
+  pub exact : (v : ℕ) → IsDelta (front_at f v) (entries_of_node v candidates) (delta_at v d)
   pub ascending : AllPairs (λ l m. l.node.0 ≤ m.node.0) d.added
 
 -- they are what some candidates make of the fronts
@@ -69,11 +69,11 @@ pub record AreSomeDeltas {D : ℕ} (f : Fronts) (d : Deltas D) : Type 0 where
 
 -- the front of each node is what its candidates make of it
 pub record MergesAll {D : ℕ} (before : Fronts) (candidates : List (CompactLabel D)) (after : Fronts) : Type 0 where
-  pub merged : (v : ℕ) → IsMerged (front_at before v) (told_at v candidates) (front_at after v)
+  pub merged : (v : ℕ) → IsMerged (front_at before v) (entries_of_node v candidates) (front_at after v)
 
 -- each front has room for the new entries of its node
 abbrev pub HasRoom : {D : ℕ} → Fronts → List (CompactLabel D) → Type 0
-HasRoom f added = (v : ℕ) → length (told_at v added) ≤ spare_at f v
+HasRoom f added = (v : ℕ) → length (entries_of_node v added) ≤ spare_at f v
 
 -- ---- how they come about
 

@@ -1,18 +1,18 @@
 -- What a search has found, told by fronts.
 use Rattle.std.specs.Prelude.{◌≡◌, ℕ, ◌+◌, ◌-◌, ◌^◌, List, [], ◌∷◌, ◌++◌, length, map, min}
-use Rattle.event_machine.specs.Machine.{Label}
+use Rattle.road_network.specs.Labels.{Label}
 use Rattle.pareto_front.specs.Fronts.{Entry, Front, empty_front}
-use Rattle.path_readback.specs.Found.{Found, IsFound}
+use Rattle.road_network.specs.Found.{Found, IsFound}
 use Rattle.node_front.specs.NodeFronts.{Fronts, front_at}
 
 -- the labels of the node v with these costs and arcs
-abbrev pub labels_told : ℕ → List Entry → List Label
-labels_told v = map (λ e. record { node = v; cost = e.cost; arc = e.arc })
+abbrev pub labels_view : ℕ → List Entry → List Label
+labels_view v = map (λ e. record { node = v; cost = e.cost; arc = e.arc })
 
 -- the settled labels of the nodes from n on, whose fronts these are
 abbrev pub settled_from : ℕ → List Front → List Label
 settled_from n [] = []
-settled_from n (f ∷ fs) = labels_told n f.settled ++ settled_from (n + 1) fs
+settled_from n (f ∷ fs) = labels_view n f.settled ++ settled_from (n + 1) fs
 
 -- how many labels are settled, as far as a number of 64 bits can tell
 abbrev pub counted_labels : ℕ → ℕ
@@ -25,7 +25,7 @@ found_in d start target entries f = record {
   criteria = d;
   start = start;
   target = target;
-  settled = labels_told target entries ++ settled_from 0 f.fronts;
+  settled = labels_view target entries ++ settled_from 0 f.fronts;
   costs = map (λ e. e.cost) entries;
 }
 

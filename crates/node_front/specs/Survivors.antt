@@ -1,10 +1,10 @@
 -- The candidates of a node that aren't needless: what is kept of them while they come one by one.
 use Rattle.std.specs.Prelude.{◌≡◌, ◌≢◌, ◌⊎◌, ◌↔◌, ℕ, ◌≤◌, List, ◌++◌, map, IsTrue, AllPairs, Contains}
 use Rattle.cost_vector.specs.Costs.{Dominates}
-use Rattle.compact_labels.specs.declared.label.CompactSpot.{CompactSpot}
+use Rattle.cost_vector.specs.declared.compact_label.CompactSpot.{CompactSpot}
 use Rattle.pareto_front.specs.Calls.{entry_of}
 use Rattle.pareto_front.specs.Fronts.{Entry, Front, entries, HasCost}
-use Rattle.pareto_front.specs.Merging.{Stays}
+use Rattle.pareto_front.specs.Merging.{Remains}
 use Rattle.node_front.specs.declared.merging.Survivor.{Survivor}
 
 -- beside b, e is needless: b's cost dominates its cost, or is its cost, with an arc that isn't greater
@@ -19,12 +19,12 @@ pub record IsNeedlessAmong (list : List Entry) (e : Entry) : Type 0 where
 
 -- e stays, and wasn't an entry before: its cost is new, or it has a lesser arc than the entry of its cost
 pub record IsNews (before : Front) (candidates : List Entry) (e : Entry) : Type 0 where
-  pub stays : Stays (entries before ++ candidates) e
+  pub stays : Remains (entries before ++ candidates) e
   pub not_old : ¬ Contains (entries before) e
 
 -- the costs and arcs of survivors
-abbrev pub told : {D : ℕ} → List (Survivor D) → List Entry
-told = map (λ s. entry_of s.label)
+abbrev pub views : {D : ℕ} → List (Survivor D) → List Entry
+views = map (λ s. entry_of s.label)
 
 -- two survivors have not the same cost
 abbrev pub HaveOtherCosts : {D : ℕ} → Survivor D → Survivor D → Type 0
@@ -32,7 +32,7 @@ HaveOtherCosts s t = s.label.cost.0 ≢ t.label.cost.0
 
 -- the survivors are the entries that P holds of, and no two of them have one cost
 pub record AreSurvivors {D : ℕ} (P : Entry → Type 0) (survivors : List (Survivor D)) : Type 0 where
-  pub exact : (e : Entry) → Contains (told survivors) e ↔ P e
+  pub exact : (e : Entry) → Contains (views survivors) e ↔ P e
   pub one_a_cost : AllPairs HaveOtherCosts survivors
 
 -- the survivor is a label of the node v, and is marked as new where no entry has its cost

@@ -2,8 +2,8 @@ ghost use Rattle.std.specs.Prelude.{◌≡◌, [], OnOk};
 ghost use Rattle.node_front.specs.Deltas.{AppendsDeltas};
 
 use crate::merging::Survivor;
-use compact_labels::{CompactLabel, CompactSpot};
-use cost_vector::OutOfMemory;
+use cost_vector::{CompactLabel, CompactSpot};
+use out_of_memory::OutOfMemory;
 use std::alloc::Global;
 use std::marker::Model;
 

@@ -1,16 +1,15 @@
 ghost use Rattle.std.specs.Prelude.{◌≡◌, ℕ, ◌<◌, ◌≤◌, ◌↔◌, List, Some, length, map, slice_get, AllPairs, Contains};
 ghost use Rattle.cost_vector.specs.Costs.{LexLess};
-ghost use Rattle.pareto_front.specs.Calls.{told_entry};
+ghost use Rattle.pareto_front.specs.Calls.{entry_view};
 ghost use Rattle.pareto_front.specs.Fronts.{Entry};
-ghost use Rattle.path_readback.specs.Found.{Found as FoundState, IsFound, longest_in};
+ghost use Rattle.road_network.specs.Found.{Found as FoundState, IsFound, longest_in};
 ghost use Rattle.road_network.specs.Network.{IsNode};
 ghost use Rattle.node_front.specs.NodeFronts.{front_at};
 
 use crate::Fronts;
-use compact_labels::CompactCost;
-use cost_vector::{ArcNo, Cost, NodeNo};
+use cost_vector::{ArcNo, CompactCost, Cost, NodeNo};
 use pareto_front::{FrontEntry, ParetoFront};
-use path_readback::Found;
+use road_network::Found;
 use std::marker::Model;
 
 /// What a search has found, in the fronts of all nodes.
@@ -28,16 +27,16 @@ pub struct FoundFronts<const D: usize, F: ParetoFront<D>> {
 
 impl<const D: usize, F: ParetoFront<D>> Model for FoundFronts<D, F> {
     ghost use Rattle.std.specs.Prelude.{map};
-    ghost use Rattle.pareto_front.specs.Calls.{told_entry};
-    ghost use Rattle.path_readback.specs.Found.{Found};
+    ghost use Rattle.pareto_front.specs.Calls.{entry_view};
+    ghost use Rattle.road_network.specs.Found.{Found};
     ghost use Rattle.node_front.specs.FoundFronts.{IsTakenOut, found_in};
 
     ghost Value = { Found };
 
-    ghost view = { λ f. found_in D f.start.0 f.target.0 (map told_entry f.entries.items) f.fronts };
+    ghost view = { λ f. found_in D f.start.0 f.target.0 (map entry_view f.entries.items) f.fronts };
 
     ghost invariant = { λ f. IsTakenOut D f.start.0 f.target.0
-        (map told_entry f.entries.items) f.fronts f.labels };
+        (map entry_view f.entries.items) f.fronts f.labels };
 }
 
 impl<const D: usize, F: ParetoFront<D> + Drop> FoundFronts<D, F> {
@@ -104,7 +103,7 @@ impl<const D: usize, F: ParetoFront<D> + Drop> Found for FoundFronts<D, F> {
 /// The arc of the entry of this cost, if there is one.
 fn arc_of<const D: usize>(entries: &[FrontEntry<D>], cost: &CompactCost<D>) -> Option<ArcNo>
     requires { AllPairs LexLess (map (λ e. e.cost.0) entries.now) }
-    ensures { (arc : ArcNo) → (result ≡ Some arc) ↔ Contains (map told_entry entries.now)
+    ensures { (arc : ArcNo) → (result ≡ Some arc) ↔ Contains (map entry_view entries.now)
         (record { cost = cost.now.0; arc = arc.0 }) }
 {
     let found = entries.binary_search_by_key(

@@ -10,8 +10,8 @@ ghost use Rattle.road_network.specs.Network.{IsNode};
 ghost use Rattle.node_front.specs.NodeFronts.{IsKept, SameElsewhere, SameFronts, front_at, spare_at, fronts_by, spares_by};
 
 use crate::{Deltas, merging};
-use compact_labels::{CompactCost, CompactLabel, CompactSpot};
-use cost_vector::{ArcNo, NodeNo, OutOfMemory};
+use cost_vector::{ArcNo, CompactCost, CompactLabel, CompactSpot, NodeNo};
+use out_of_memory::OutOfMemory;
 use pareto_front::{FrontEntry, ParetoFront};
 use std::alloc::Global;
 use std::marker::Model;

@@ -2,16 +2,16 @@ ghost use Rattle.std.specs.Prelude.{◌≡◌, ◌<◌, ◌≤◌, ◌↔◌, �
 ghost use Rattle.cost_vector.specs.Costs.{Dominates, max_criteria};
 ghost use Rattle.pareto_front.specs.Calls.{GrowsBy, entry_of};
 ghost use Rattle.pareto_front.specs.Fronts.{SparesSettled, HasCost, IsDominated, entries};
-ghost use Rattle.pareto_front.specs.Merging.{IsMerged, IsAdded, IsRemoved, Stays};
+ghost use Rattle.pareto_front.specs.Merging.{IsMerged, IsAdded, IsRemoved, Remains};
 ghost use Rattle.node_front.specs.Apart.{AreApart};
 ghost use Rattle.node_front.specs.Deltas.{AppendsDelta};
-ghost use Rattle.node_front.specs.Survivors.{IsNeedless, IsNeedlessAmong, IsNews, AreSurvivors, IsMarked, AppendsOthers, HaveOtherCosts, told};
+ghost use Rattle.node_front.specs.Survivors.{IsNeedless, IsNeedlessAmong, IsNews, AreSurvivors, IsMarked, AppendsOthers, HaveOtherCosts, views};
 ghost use Rattle.list_laws.specs.Without.{IsWithout};
 
 use crate::Deltas;
-use compact_labels::{CompactLabel, CompactSpot};
-use cost_vector::{NodeNo, OutOfMemory};
-use pareto_front::{ParetoFront, Standing};
+use cost_vector::{CompactLabel, CompactSpot, NodeNo};
+use out_of_memory::OutOfMemory;
+use pareto_front::{CostStanding, ParetoFront};
 
 /// Takes a label into the front; answers whether it is a new entry. The spots of the entries that are gone are appended.
 pub fn arrive<const D: usize, F: ParetoFront<D>>(
@@ -30,14 +30,14 @@ pub fn arrive<const D: usize, F: ParetoFront<D>>(
     ensures unchanged { OnErr result (F.state front.new ≡ F.state front.old) }
 {
     match front.compare(&label.cost) {
-        Standing::Dominated => Ok(false),
-        Standing::Equal(arc) => {
+        CostStanding::Dominated => Ok(false),
+        CostStanding::Equal(arc) => {
             if label.arc < arc {
                 front.relabel(&label.cost, label.arc);
             }
             Ok(false)
         }
-        Standing::New => {
+        CostStanding::New => {
             let spot = CompactSpot {
                 cost: label.cost,
                 node: label.node,
@@ -119,13 +119,13 @@ fn as_news<const D: usize, F: ParetoFront<D>>(
     ensures marked { IfSome result (IsMarked label.now.node.0 (F.state front.now)) }
 {
     match front.compare(&label.cost) {
-        Standing::Dominated => None,
-        Standing::Equal(arc) if arc <= label.arc => None,
-        Standing::Equal(_) => Some(Survivor {
+        CostStanding::Dominated => None,
+        CostStanding::Equal(arc) if arc <= label.arc => None,
+        CostStanding::Equal(_) => Some(Survivor {
             label: *label,
             is_new: false,
         }),
-        Standing::New => Some(Survivor {
+        CostStanding::New => Some(Survivor {
             label: *label,
             is_new: true,
         }),
@@ -137,9 +137,9 @@ fn survive<const D: usize>(
     survivors: &mut Vec<Survivor<D>>,
     survivor: &Survivor<D>,
 ) -> Result<(), OutOfMemory>
-    requires { AreSurvivors (Stays (told survivors.old.items)) survivors.old.items }
+    requires { AreSurvivors (Remains (views survivors.old.items)) survivors.old.items }
     ensures survive { IfOk result (λ _. AreSurvivors
-        (Stays (told survivors.old.items ++ entry_of survivor.now.label ∷ []))
+        (Remains (views survivors.old.items ++ entry_of survivor.now.label ∷ []))
         survivors.new.items) }
     ensures members { IfOk result (λ _. All
         (Contains (survivors.old.items ++ survivor.now ∷ [])) survivors.new.items) }
@@ -200,7 +200,7 @@ fn find_removed<const D: usize, F: ParetoFront<D>>(
     requires marked { All (IsMarked node.0 (F.state front.now)) survivors.now }
     requires spares { All (λ s. SparesSettled (F.state front.now) s.label.cost.0) survivors.now }
     ensures { IfOk result (λ _. GrowsBy node.0
-        (λ c. HasCost (F.state front.now).unsettled c × IsDominated (told survivors.now) c)
+        (λ c. HasCost (F.state front.now).unsettled c × IsDominated (views survivors.now) c)
         removed.old.items removed.new.items) }
 {
     for (i, survivor) in survivors.iter().enumerate() {
@@ -223,7 +223,7 @@ fn append_others<const D: usize>(
     survivors: &[Survivor<D>],
     removed: &mut Vec<CompactSpot<D>>,
 ) -> Result<(), OutOfMemory>
-    ensures { IfOk result (λ _. AppendsOthers (IsDominated (told survivors.now))
+    ensures { IfOk result (λ _. AppendsOthers (IsDominated (views survivors.now))
         found.now removed.old.items removed.new.items) }
 {
     for spot in found {

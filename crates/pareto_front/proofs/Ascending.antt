@@ -14,12 +14,12 @@ use Rattle.list_laws.proofs.Members.{all_from_in, cases_in, each_in, of_map}
 use Rattle.list_laws.proofs.Pairs.{pairs_cons, pairs_take}
 use Rattle.list_laws.proofs.OnceLaws.{pairs_append}
 use Rattle.pareto_front.specs.declared.front.FrontEntry.{FrontEntry}
-use Rattle.pareto_front.specs.Calls.{told_entry}
+use Rattle.pareto_front.specs.Calls.{entry_view}
 use Rattle.pareto_front.specs.Fronts.{AreIncomparable, Entry, HasCost}
 use Rattle.pareto_front.specs.Blocks.{AscendByCost, CoversAt, CoversNone, HasCostAt, IsBeforeOf, IsGapOf}
 use Rattle.pareto_front.proofs.BlockLaws.{covers_in_part}
 use Rattle.pareto_front.proofs.FrontLaws.{set_costs}
-use Rattle.pareto_front.proofs.Parts.{all_parts, cases_part, in_back_part, pairs_drop}
+use Rattle.pareto_front.proofs.ListParts.{all_parts, cases_part, in_back_part, pairs_drop}
 
 -- how a cost stands to another, a lesser one does too, or is less than that
 pub rises_to : (a b c : List ℕ) → LexLess a b → ordering_index (lex_cmp a c) ≤ ordering_index (lex_cmp b c)
@@ -67,9 +67,9 @@ module _ {D : ℕ} (list : List (FrontEntry D)) (c : List ℕ) where
       gap.after)
 
   -- where there is a gap no entry has the cost
-  pub gap_lacks : (i : ℕ) → IsGapOf list c i → ¬ HasCost (map told_entry list) c
+  pub gap_lacks : (i : ℕ) → IsGapOf list c i → ¬ HasCost (map entry_view list) c
   gap_lacks i gap has =
-      let (y, y_in, is) = of_map told_entry list (record { cost = c; arc = has.arc }) has.contains in
+      let (y, y_in, is) = of_map entry_view list (record { cost = c; arc = has.arc }) has.contains in
       let same : y.cost.0 ≡ c = ap (λ (e : Entry). e.cost) (sym is) in
       elim (cases_part i list y y_in) [
         | inl front ↦ LexLess-irrefl c (subst (λ z. LexLess z c) same (each_in (λ (e : FrontEntry D). LexLess e.cost.0 c) (take i list) gap.before y front))
@@ -158,8 +158,8 @@ module _ {D : ℕ} (list : List (FrontEntry D)) (up : AscendByCost list) (i : �
 -- entries that a cost dominates stand behind its place
 module _ {D : ℕ} (list : List (FrontEntry D)) (i : ℕ) where
   -- the entries behind it are incomparable, if all are
-  pub apart_behind : AllPairs AreIncomparable (map told_entry list) → AllPairs AreIncomparable (map told_entry (drop i list))
-  apart_behind pairs = subst (AllPairs AreIncomparable) (drop-map told_entry i list) (pairs_drop i (map told_entry list) AreIncomparable pairs)
+  pub apart_behind : AllPairs AreIncomparable (map entry_view list) → AllPairs AreIncomparable (map entry_view (drop i list))
+  apart_behind pairs = subst (AllPairs AreIncomparable) (drop-map entry_view i list) (pairs_drop i (map entry_view list) AreIncomparable pairs)
 
   -- a cost dominates none of the entries before its place
   pub undominated_before : (by : List ℕ) → IsBeforeOf list by i → All (λ (e : FrontEntry D). ¬ Dominates by e.cost.0) (take i list)
@@ -169,19 +169,19 @@ module _ {D : ℕ} (list : List (FrontEntry D)) (i : ℕ) where
 
   module _ (by : List ℕ) (none : All (λ (e : FrontEntry D). ¬ Dominates by e.cost.0) (take i list)) where
     -- what a cost dominates stands behind it, if it dominates none before it
-    pub dominated_behind : (c : List ℕ) → (HasCost (map told_entry (drop i list)) c × Dominates by c) ↔ (HasCost (map told_entry list) c × Dominates by c)
+    pub dominated_behind : (c : List ℕ) → (HasCost (map entry_view (drop i list)) c × Dominates by c) ↔ (HasCost (map entry_view list) c × Dominates by c)
     dominated_behind c = (
       λ h.
           let e : Entry = record { cost = c; arc = h.0.arc } in
-          let there = subst (λ l. Contains l e) (sym (drop-map told_entry i list)) h.0.contains in
-          (record { arc = h.0.arc; contains = in_back_part i (map told_entry list) e there }, h.1),
+          let there = subst (λ l. Contains l e) (sym (drop-map entry_view i list)) h.0.contains in
+          (record { arc = h.0.arc; contains = in_back_part i (map entry_view list) e there }, h.1),
       λ h.
           let e : Entry = record { cost = c; arc = h.0.arc } in
           let Spared = λ (x : Entry). ¬ Dominates by x.cost in
-          let front : All Spared (take i (map told_entry list)) = rw (take-map told_entry i list) (All-map Spared told_entry (take i list) none) in
-          elim (cases_part i (map told_entry list) e h.0.contains) [
-            | inl there ↦ absurd (each_in Spared (take i (map told_entry list)) front e there h.1)
-            | inr there ↦ (record { arc = h.0.arc; contains = subst (λ l. Contains l e) (drop-map told_entry i list) there }, h.1)
+          let front : All Spared (take i (map entry_view list)) = rw (take-map entry_view i list) (All-map Spared entry_view (take i list) none) in
+          elim (cases_part i (map entry_view list) e h.0.contains) [
+            | inl there ↦ absurd (each_in Spared (take i (map entry_view list)) front e there h.1)
+            | inr there ↦ (record { arc = h.0.arc; contains = subst (λ l. Contains l e) (drop-map entry_view i list) there }, h.1)
           ],
     )
 

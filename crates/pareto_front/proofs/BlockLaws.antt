@@ -11,11 +11,11 @@ use Rattle.std.proofs.lemmas.List.Elements.{Contains-get_or}
 use Rattle.std.proofs.lemmas.List.Sorted.{Contains-permutation, IsPermutation-append_right, IsPermutation-sym, length_permutation}
 use Rattle.cost_vector.specs.Costs.{AtMost}
 use Rattle.cost_vector.proofs.Vectors.{AtMost-refl, AtMost-trans}
-use Rattle.compact_labels.specs.declared.cost.CompactCost.{CompactCost}
+use Rattle.cost_vector.specs.declared.compact_cost.CompactCost.{CompactCost}
 use Rattle.pareto_front.specs.declared.front.FrontEntry.{FrontEntry}
 use Rattle.pareto_front.specs.Blocks.{CoversAt, CoversNone, HaveCorners}
 use Rattle.pareto_front.proofs.FrontLaws.{set_costs}
-use Rattle.pareto_front.proofs.Parts.{all_more}
+use Rattle.pareto_front.proofs.ListParts.{all_more}
 
 -- an element of a part of a list
 module _ {X : Type 0} (n m : ℕ) (xs : List X) (k : ℕ) (inside : k < length (take n (drop m xs))) where

@@ -13,14 +13,14 @@ use Rattle.list_laws.proofs.OnceLaws.{empty_if_none, pairs_append}
 use Rattle.list_laws.proofs.Pairs.{pairs_cons, pairs_take}
 use Rattle.pareto_front.specs.declared.front.FrontEntry.{FrontEntry}
 use Rattle.pareto_front.specs.Fronts.{Entry, entries, IsCovered, SparesSettled}
-use Rattle.pareto_front.specs.Calls.{told_entry, Enters}
+use Rattle.pareto_front.specs.Calls.{entry_view, Enters}
 use Rattle.pareto_front.specs.Sorted.{IsSorted, first, second, front_of, AreAtLeast}
 use Rattle.pareto_front.proofs.FrontChanges as changes
 use Rattle.pareto_front.proofs.KeptLaws.{left_without, without_images, without_middle}
 use Rattle.pareto_front.proofs.Marks.{all_marked, cut_at, in_whole, marked-append}
 use Rattle.pareto_front.proofs.Finding.{at_least_cost, less_first, less_second, middle}
-use Rattle.pareto_front.proofs.Parts.{in_back_part, in_front_part, pairs_drop}
-use Rattle.pareto_front.proofs.Neighbours.{entry_in, is_front, at_most_pair, first_at_most, second_at_most}
+use Rattle.pareto_front.proofs.ListParts.{in_back_part, in_front_part, pairs_drop}
+use Rattle.pareto_front.proofs.SortedPlaces.{entry_in, is_front, at_most_pair, first_at_most, second_at_most}
 
 -- a list with one element in place of those from a to b
 abbrev replaced : {X : Type 0} → ℕ → ℕ → X → List X → List X
@@ -48,7 +48,7 @@ module _ {list : List (FrontEntry 2)} {marks : List Bool} {n : ℕ} (s : IsSorte
   c = y.cost.0
 
   not_at_most : (e : FrontEntry 2) → Contains list e → ¬ AtMost e.cost.0 c
-  not_at_most e h below = new (record { by = told_entry e; contains = entry_in s e h; at_most = below })
+  not_at_most e h below = new (record { by = entry_view e; contains = entry_in s e h; at_most = below })
 
   long_in : (e : FrontEntry 2) → Contains list e → length e.cost.0 ≡ 2
   long_in e h = each_in (λ (x : FrontEntry 2). length x.cost.0 ≡ 2) list s.components e h
@@ -101,7 +101,7 @@ module _ {list : List (FrontEntry 2)} {marks : List Bool} {n : ℕ} (s : IsSorte
       let whole = in_parts marks list a b s.marked span.ascend in
       let none = empty_if_none inner (λ x h.
       let settled = subst (λ l. Contains l x) (sym whole) (Contains-append_right near (inner ++ far) x (Contains-append_left inner far x h)) in
-      spares (told_entry x) (in_map told_entry (items_where_true marks list) x settled) (each_in (λ (e : FrontEntry 2). Dominates c e.cost.0)
+      spares (entry_view x) (in_map entry_view (items_where_true marks list) x settled) (each_in (λ (e : FrontEntry 2). Dominates c e.cost.0)
       (middle s long span) between x (in_whole (take (b - a) (drop a marks)) (middle s long span) x h))) in
       marked-append (take a marks) (take a list) (false ∷ drop b marks) (y ∷ drop b list) (front_length marks s.marked)
       ∙ sym (whole ∙ ap (λ zs. near ++ (zs ++ far)) none)
@@ -163,21 +163,21 @@ module _ {list : List (FrontEntry 2)} {marks : List Bool} {n : ℕ} (s : IsSorte
   spared_far = all_marked Spared (drop b bs) (drop b list) (all_from_in Spared (drop b list) (λ e there h.
       omega (arith, (after e there).1, second_at_most c e.cost.0 long h.at_most)))
 
-  stays : (e : Entry) → Contains (map told_entry (near ++ far)) e ↔ (Contains (front_of list marks).unsettled e × ¬ Dominates c e.cost)
-  stays = left_without (λ (e : Entry). Dominates c e.cost) (front_of list marks).unsettled (map told_entry (near ++ far))
-      (without_images told_entry (λ (e : Entry). Dominates c e.cost) (items_where_true bs list) (near ++ far)
+  stays : (e : Entry) → Contains (map entry_view (near ++ far)) e ↔ (Contains (front_of list marks).unsettled e × ¬ Dominates c e.cost)
+  stays = left_without (λ (e : Entry). Dominates c e.cost) (front_of list marks).unsettled (map entry_view (near ++ far))
+      (without_images entry_view (λ (e : Entry). Dominates c e.cost) (items_where_true bs list) (near ++ far)
       (rw (in_parts bs list a b as_long span.ascend) (without_middle (λ (e : FrontEntry 2). Dominates c e.cost.0) near inner far
       (all_marked (λ (e : FrontEntry 2). Dominates c e.cost.0) (take (b - a) (drop a bs)) (middle s long span) between) spared_near spared_far)))
 
   marks_are : map not marks_now ≡ take a bs ++ true ∷ drop b bs
   marks_are = map-append not (take a marks) (false ∷ drop b marks) ∙ (λ t. sym (take-map not a marks) t ++ true ∷ sym (drop-map not b marks) t)
 
-  come : IsPermutation (told_entry y ∷ map told_entry (near ++ far)) now
+  come : IsPermutation (entry_view y ∷ map entry_view (near ++ far)) now
   come = rw (marks_are, marked-append (take a bs) (take a list) (true ∷ drop b bs) (y ∷ drop b list) (front_length bs as_long))
-      (IsPermutation-map told_entry (y ∷ (near ++ far)) (near ++ y ∷ far)
+      (IsPermutation-map entry_view (y ∷ (near ++ far)) (near ++ y ∷ far)
       (IsPermutation-sym (near ++ y ∷ far) (y ∷ (near ++ far)) (IsPermutation-middle near y far)))
 
   -- of the others, those that it dominates are gone
-  pub enters : Enters (front_of list marks) (told_entry y) (front_of list_now marks_now)
-  enters = subst (λ l. Enters (front_of list marks) (told_entry y) (record { settled = l; unsettled = now }))
-      (sym (ap (map told_entry) settled_same)) (changes.enters (is_front s) (map told_entry (near ++ far)) (told_entry y) stays now come)
+  pub enters : Enters (front_of list marks) (entry_view y) (front_of list_now marks_now)
+  enters = subst (λ l. Enters (front_of list marks) (entry_view y) (record { settled = l; unsettled = now }))
+      (sym (ap (map entry_view) settled_same)) (changes.enters (is_front s) (map entry_view (near ++ far)) (entry_view y) stays now come)

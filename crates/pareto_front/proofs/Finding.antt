@@ -9,14 +9,14 @@ use Rattle.cost_vector.specs.Costs.{AtMost, Dominates}
 use Rattle.cost_vector.specs.declared.label.NodeNo.{NodeNo}
 use Rattle.list_laws.proofs.Members.{each_in, in_map, of_map}
 use Rattle.list_laws.proofs.Pairs.{pairs_map, pairs_take}
-use Rattle.compact_labels.specs.declared.label.CompactSpot.{CompactSpot}
+use Rattle.cost_vector.specs.declared.compact_label.CompactSpot.{CompactSpot}
 use Rattle.pareto_front.specs.declared.front.FrontEntry.{FrontEntry}
 use Rattle.pareto_front.specs.Fronts.{AreIncomparable, Entry, Front, entries, HasCost, SparesSettled}
-use Rattle.pareto_front.specs.Calls.{told_entry, GrowsBy}
+use Rattle.pareto_front.specs.Calls.{entry_view, GrowsBy}
 use Rattle.pareto_front.specs.Sorted.{IsSorted, first, second, front_of, AreAtLeast}
 use Rattle.pareto_front.proofs.GrowsLaws.{DominatedBefore, finds_all, finds_more, finds_no_more, grows_as}
-use Rattle.pareto_front.proofs.Neighbours.{filler, at, apart, entry_in, of_entry, at_most_pair, first_at_most, second_at_most}
-use Rattle.pareto_front.proofs.Parts.{cases_part, in_back_part, in_front_part, pairs_drop}
+use Rattle.pareto_front.proofs.SortedPlaces.{filler, at, apart, entry_in, of_entry, at_most_pair, first_at_most, second_at_most}
+use Rattle.pareto_front.proofs.ListParts.{cases_part, in_back_part, in_front_part, pairs_drop}
 
 module _ {list : List (FrontEntry 2)} {marks : List Bool} {n : ℕ} (s : IsSorted list marks n) {c : List ℕ} (long : length c ≡ 2) {a b : ℕ}
     (span : AreAtLeast list c a b) where
@@ -66,11 +66,11 @@ module _ {list : List (FrontEntry 2)} {marks : List Bool} {n : ℕ} (s : IsSorte
 
   -- and isn't settled, if the cost spares the settled ones
   dominated_same : SparesSettled (front_of list marks) c → (v : List ℕ)
-      → (HasCost (map told_entry middle) v × Dominates c v) ↔ (HasCost (front_of list marks).unsettled v × Dominates c v)
+      → (HasCost (map entry_view middle) v × Dominates c v) ↔ (HasCost (front_of list marks).unsettled v × Dominates c v)
   dominated_same spares v = (
     λ h.
         let e : Entry = record { cost = v; arc = h.0.arc } in
-        let (x, there, is) = of_map told_entry middle e h.0.contains in
+        let (x, there, is) = of_map entry_view middle e h.0.contains in
         let known = entry_in s x (in_back_part a list x (in_front_part (b - a) (drop a list) x there)) in
         elim (Contains-append_cases f.settled f.unsettled e (subst (Contains (entries f)) (sym is) known)) [
           | inl near ↦ absurd (spares e near h.1)
@@ -80,16 +80,16 @@ module _ {list : List (FrontEntry 2)} {marks : List Bool} {n : ℕ} (s : IsSorte
         let e : Entry = record { cost = v; arc = h.0.arc } in
         let (x, there, is) = of_entry s e (Contains-append_right f.settled f.unsettled e h.0.contains) in
         let inside = in_middle x there (subst (Dominates c) (ap (λ (z : Entry). z.cost) is) h.1) in
-        (record { arc = h.0.arc; contains = subst (Contains (map told_entry middle)) (sym is) (in_map told_entry middle x inside) }, h.1),
+        (record { arc = h.0.arc; contains = subst (Contains (map entry_view middle)) (sym is) (in_map entry_view middle x inside) }, h.1),
   )
     where
       f : Front
       f = front_of list marks
 
-  middle_apart : AllPairs AreIncomparable (map told_entry middle)
+  middle_apart : AllPairs AreIncomparable (map entry_view middle)
   middle_apart =
-      let Apart = λ (x z : FrontEntry 2). AreIncomparable (told_entry x) (told_entry z) in
-      pairs_map Apart AreIncomparable told_entry (λ x z h. h) middle (pairs_take Apart (b - a) (drop a list) (pairs_drop a list Apart (apart s)))
+      let Apart = λ (x z : FrontEntry 2). AreIncomparable (entry_view x) (entry_view z) in
+      pairs_map Apart AreIncomparable entry_view (λ x z h. h) middle (pairs_take Apart (b - a) (drop a list) (pairs_drop a list Apart (apart s)))
 
   -- ---- the spots of those that it dominates, one by one
 
@@ -123,5 +123,5 @@ module _ {list : List (FrontEntry 2)} {marks : List Bool} {n : ℕ} (s : IsSorte
     pub found_all : length middle ≤ i → SparesSettled (front_of list marks) c
         → GrowsBy node.0 (λ v. HasCost (front_of list marks).unsettled v × Dominates c v) before found
     found_all past spares =
-        grows_as node.0 (λ v. HasCost (map told_entry middle) v × Dominates c v) (λ v. HasCost (front_of list marks).unsettled v × Dominates c v)
+        grows_as node.0 (λ v. HasCost (map entry_view middle) v × Dominates c v) (λ v. HasCost (front_of list marks).unsettled v × Dominates c v)
         before found (dominated_same spares) (finds_all node.0 c middle i before found past so_far)

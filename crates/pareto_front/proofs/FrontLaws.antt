@@ -104,8 +104,8 @@ front_by_costs {d} f g settled unsettled front = record {
   two = front.two;
   four = front.four;
   components = all_from_in (λ (e : Entry). length e.cost ≡ d) (entries g) (λ e h.
-      let told = of_map (λ (x : Entry). x.cost) (entries f) e.cost (subst (λ l. Contains l e.cost) same (in_map (λ (x : Entry). x.cost) (entries g) e h)) in
-      ap length told.2 ∙ each_in (λ (x : Entry). length x.cost ≡ d) (entries f) front.components told.0 told.1);
+      let viewed = of_map (λ (x : Entry). x.cost) (entries f) e.cost (subst (λ l. Contains l e.cost) same (in_map (λ (x : Entry). x.cost) (entries g) e h)) in
+      ap length viewed.2 ∙ each_in (λ (x : Entry). length x.cost ≡ d) (entries f) front.components viewed.0 viewed.1);
   incomparable =
       let apart = pairs_map AreIncomparable AreApart (λ (e : Entry). e.cost) (λ x z h. (h.one_way, h.other_way)) (entries f) front.incomparable in
       let again = pairs_of_map AreApart (λ (e : Entry). e.cost) (entries g) (subst (AllPairs AreApart) (sym same) apart) in

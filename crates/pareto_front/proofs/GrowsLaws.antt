@@ -6,7 +6,7 @@ use Rattle.std.proofs.lemmas.List.Elements.{All-nil, All-push}
 use Rattle.std.proofs.lemmas.List.Sorted.{IsPermutation-sym, IsPermutation-to_front}
 use Rattle.cost_vector.specs.Costs.{Dominates}
 use Rattle.cost_vector.proofs.Vectors.{AtMost-refl}
-use Rattle.compact_labels.specs.declared.label.CompactSpot.{CompactSpot}
+use Rattle.cost_vector.specs.declared.compact_label.CompactSpot.{CompactSpot}
 use Rattle.list_laws.specs.Sets.{ListsOnce}
 use Rattle.cost_vector.specs.declared.label.NodeNo.{NodeNo}
 use Rattle.list_laws.proofs.Members.{all_from_in, in_none, in_first, in_map}
@@ -15,7 +15,7 @@ use Rattle.list_laws.proofs.SetLaws.{gains_by_permutation}
 use Rattle.list_laws.proofs.Pairs.{pairs_none, pairs_push, pairs_take}
 use Rattle.pareto_front.specs.declared.front.FrontEntry.{FrontEntry}
 use Rattle.pareto_front.specs.Fronts.{Entry, AreIncomparable, HasCost}
-use Rattle.pareto_front.specs.Calls.{GrowsBy, told_entry}
+use Rattle.pareto_front.specs.Calls.{GrowsBy, entry_view}
 use Rattle.pareto_front.proofs.FrontLaws.{pairs_across}
 
 -- what a list has that has got an element more at its end
@@ -70,7 +70,7 @@ has_cost_push xs y c = (
 
 -- the costs of the entries before a place that a cost dominates
 abbrev pub DominatedBefore : {D : ℕ} → List ℕ → List (FrontEntry D) → ℕ → List ℕ → Type 0
-DominatedBefore by list i c = HasCost (map told_entry (take i list)) c × Dominates by c
+DominatedBefore by list i c = HasCost (map entry_view (take i list)) c × Dominates by c
 
 -- before the first place there are none
 pub finds_none : {D : ℕ} (v : ℕ) (by : List ℕ) (list : List (FrontEntry D)) (xs : List (CompactSpot D)) → GrowsBy v (DominatedBefore by list 0) xs xs
@@ -87,22 +87,22 @@ finds_none {D} v by list xs = record {
 -- one place on, at the entry x
 module _ {D : ℕ} (node : NodeNo) (by : List ℕ) (list : List (FrontEntry D)) (i : ℕ) (x : FrontEntry D) (within : i < length list)
     (is : x ≡ get_or list i x) (xs ys : List (CompactSpot D)) (grown : GrowsBy node.0 (DominatedBefore by list i) xs ys) where
-  one_more : map told_entry (take (i + 1) list) ≡ map told_entry (take i list) ++ told_entry x ∷ []
+  one_more : map entry_view (take (i + 1) list) ≡ map entry_view (take i list) ++ entry_view x ∷ []
   one_more =
-      ap (map told_entry) (take_more list i x within ∙ ap (λ y. take i list ++ y ∷ []) (sym is)) ∙ map_push told_entry (take i list) x
+      ap (map entry_view) (take_more list i x within ∙ ap (λ y. take i list ++ y ∷ []) (sym is)) ∙ map_push entry_view (take i list) x
 
-  has_cost_more : (c : List ℕ) → HasCost (map told_entry (take (i + 1) list)) c ↔ (HasCost (map told_entry (take i list)) c ⊎ (c ≡ x.cost.0))
-  has_cost_more c = rw one_more (has_cost_push (map told_entry (take i list)) (told_entry x) c)
+  has_cost_more : (c : List ℕ) → HasCost (map entry_view (take (i + 1) list)) c ↔ (HasCost (map entry_view (take i list)) c ⊎ (c ≡ x.cost.0))
+  has_cost_more c = rw one_more (has_cost_push (map entry_view (take i list)) (entry_view x) c)
 
-  not_before : AllPairs AreIncomparable (map told_entry list) → ¬ HasCost (map told_entry (take i list)) x.cost.0
+  not_before : AllPairs AreIncomparable (map entry_view list) → ¬ HasCost (map entry_view (take i list)) x.cost.0
   not_before pairs h =
-      let front = subst (AllPairs AreIncomparable) (take-map told_entry (i + 1) list ∙ one_more)
-      (pairs_take AreIncomparable (i + 1) (map told_entry list) pairs) in
-      (pairs_across AreIncomparable (map told_entry (take i list)) (told_entry x ∷ []) front (record { cost = x.cost.0; arc = h.arc }) (told_entry x) h.contains
-      (in_first (told_entry x) [])).one_way (AtMost-refl x.cost.0)
+      let front = subst (AllPairs AreIncomparable) (take-map entry_view (i + 1) list ∙ one_more)
+      (pairs_take AreIncomparable (i + 1) (map entry_view list) pairs) in
+      (pairs_across AreIncomparable (map entry_view (take i list)) (entry_view x ∷ []) front (record { cost = x.cost.0; arc = h.arc }) (entry_view x) h.contains
+      (in_first (entry_view x) [])).one_way (AtMost-refl x.cost.0)
 
   -- x is dominated: its spot is added
-  pub finds_more : AllPairs AreIncomparable (map told_entry list) → Dominates by x.cost.0
+  pub finds_more : AllPairs AreIncomparable (map entry_view list) → Dominates by x.cost.0
       → GrowsBy node.0 (DominatedBefore by list (i + 1)) xs (ys ++ record { cost = x.cost; node = node } ∷ [])
   finds_more pairs dominated =
       grows_more node.0 (DominatedBefore by list i) (DominatedBefore by list (i + 1)) xs ys grown (record { cost = x.cost; node = node }) refl
@@ -122,13 +122,13 @@ module _ {D : ℕ} (node : NodeNo) (by : List ℕ) (list : List (FrontEntry D)) 
 
 -- all entries stand before the place
 pub finds_all : {D : ℕ} (v : ℕ) (by : List ℕ) (list : List (FrontEntry D)) (i : ℕ) (xs ys : List (CompactSpot D)) → length list ≤ i
-    → GrowsBy v (DominatedBefore by list i) xs ys → GrowsBy v (λ c. HasCost (map told_entry list) c × Dominates by c) xs ys
+    → GrowsBy v (DominatedBefore by list i) xs ys → GrowsBy v (λ c. HasCost (map entry_view list) c × Dominates by c) xs ys
 finds_all {D} v by list i xs ys past grown =
-    subst (λ (l : List (FrontEntry D)). GrowsBy v (λ c. HasCost (map told_entry l) c × Dominates by c) xs ys) (take_all i list past) grown
+    subst (λ (l : List (FrontEntry D)). GrowsBy v (λ c. HasCost (map entry_view l) c × Dominates by c) xs ys) (take_all i list past) grown
 
 -- where nothing was added, no entry is dominated
 pub none_dominated : {D : ℕ} (v : ℕ) (by : List ℕ) (list : List (FrontEntry D)) (xs ys : List (CompactSpot D)) → length ys ≤ length xs
-    → GrowsBy v (λ c. HasCost (map told_entry list) c × Dominates by c) xs ys → All (λ (e : FrontEntry D). ¬ Dominates by e.cost.0) list
+    → GrowsBy v (λ c. HasCost (map entry_view list) c × Dominates by c) xs ys → All (λ (e : FrontEntry D). ¬ Dominates by e.cost.0) list
 none_dominated {D} v by list xs ys short grown = all_from_in (λ (e : FrontEntry D). ¬ Dominates by e.cost.0) list (λ e h dominated.
-    let there = (grown.costs.exact e.cost.0).1 (record { arc = e.arc.0; contains = in_map told_entry list e h }, dominated) in
+    let there = (grown.costs.exact e.cost.0).1 (record { arc = e.arc.0; contains = in_map entry_view list e h }, dominated) in
     omega (arith, short, there.1, length-map grown.more (λ (s : CompactSpot D). s.cost.0), ap length grown.appended, length-append xs grown.more))

@@ -10,7 +10,7 @@ use Rattle.pareto_front.specs.declared.front.FrontEntry.{FrontEntry}
 use Rattle.pareto_front.specs.Calls.{ListsSettled}
 use Rattle.pareto_front.specs.Sorted.{IsSorted, first, front_of}
 use Rattle.pareto_front.proofs.Marks.{pairs_marked}
-use Rattle.pareto_front.proofs.Neighbours.{filler, cost_at, long_at, falls}
+use Rattle.pareto_front.proofs.SortedPlaces.{filler, cost_at, long_at, falls}
 
 -- the first components decide
 less_by_first : (a b : List ℕ) → length a ≡ 2 → length b ≡ 2 → first a < first b → LexLess a b

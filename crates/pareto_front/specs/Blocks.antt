@@ -2,10 +2,10 @@
 use Rattle.std.specs.Prelude.{◌≡◌, ℕ, ◌+◌, ◌-◌, ◌*◌, ◌/◌, ◌<◌, ◌≤◌, List, ◌∷◌, length, map, slice_index_or, take, drop, min, All, AllPairs, IsPermutation}
 use Rattle.cost_vector.specs.Costs.{AtMost, Dominates, LexLess}
 use Rattle.list_laws.specs.Without.{IsWithout}
-use Rattle.compact_labels.specs.declared.cost.CompactCost.{CompactCost}
+use Rattle.cost_vector.specs.declared.compact_cost.CompactCost.{CompactCost}
 use Rattle.pareto_front.specs.declared.front.FrontEntry.{FrontEntry}
 use Rattle.pareto_front.specs.Fronts.{AreIncomparable, Front, IsFront}
-use Rattle.pareto_front.specs.Calls.{told_entry}
+use Rattle.pareto_front.specs.Calls.{entry_view}
 
 -- a front, and for how many entries more it has room
 pub record Held : Type 0 where
@@ -13,8 +13,8 @@ pub record Held : Type 0 where
   pub spare : ℕ
 
 -- the front of these entries
-abbrev pub told_front : {D : ℕ} → List (FrontEntry D) → List (FrontEntry D) → Front
-told_front settled unsettled = record { settled = map told_entry settled; unsettled = map told_entry unsettled }
+abbrev pub front_view : {D : ℕ} → List (FrontEntry D) → List (FrontEntry D) → Front
+front_view settled unsettled = record { settled = map entry_view settled; unsettled = map entry_view unsettled }
 
 -- how many settled entries a corner speaks of, and a wide corner
 abbrev pub block_size : ℕ
@@ -64,7 +64,7 @@ pub record HaveCorners {D : ℕ} (size : ℕ) (entries : List (FrontEntry D)) (c
 -- settle all entries.
 pub record AreBlocks {D : ℕ} (settled : List (FrontEntry D)) (corners wide_corners : List (CompactCost D))
     (unsettled : List (FrontEntry D)) (room : ℕ) : Type 0 where
-  pub front : IsFront D (told_front settled unsettled)
+  pub front : IsFront D (front_view settled unsettled)
   pub cornered : HaveCorners block_size settled corners
   pub wide_cornered : HaveCorners wide_block_size settled wide_corners
   pub ascend : AscendByCost unsettled
@@ -81,6 +81,6 @@ spare_of settled unsettled room unsettled_room = min (unsettled_room - unsettled
 -- the new entry has come, those are gone that it dominates, and the others are kept, and stay incomparable if they were
 pub record TakesIn {D : ℕ} (before : List (FrontEntry D)) (new : FrontEntry D) (after : List (FrontEntry D)) : Type 0 where
   pub kept : List (FrontEntry D)
-  pub out : IsWithout (λ e. Dominates new.cost.0 e.cost) (map told_entry before) (map told_entry kept)
-  pub apart : AllPairs AreIncomparable (map told_entry before) → AllPairs AreIncomparable (map told_entry kept)
+  pub out : IsWithout (λ e. Dominates new.cost.0 e.cost) (map entry_view before) (map entry_view kept)
+  pub apart : AllPairs AreIncomparable (map entry_view before) → AllPairs AreIncomparable (map entry_view kept)
   pub moved : IsPermutation (new ∷ kept) after

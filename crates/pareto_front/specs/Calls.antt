@@ -2,15 +2,15 @@
 use Rattle.std.specs.Prelude.{◌≡◌, ◌≢◌, ℕ, ◌↔◌, ◌⊎◌, List, ◌++◌, map, All, AllPairs, Contains}
 use Rattle.cost_vector.specs.Costs.{Dominates, LexLess}
 use Rattle.list_laws.specs.Sets.{ListsOnce, SameMembers}
-use Rattle.compact_labels.specs.declared.label.CompactLabel.{CompactLabel}
-use Rattle.compact_labels.specs.declared.label.CompactSpot.{CompactSpot}
+use Rattle.cost_vector.specs.declared.compact_label.CompactLabel.{CompactLabel}
+use Rattle.cost_vector.specs.declared.compact_label.CompactSpot.{CompactSpot}
 use Rattle.pareto_front.specs.declared.front.FrontEntry.{FrontEntry}
-use Rattle.pareto_front.specs.declared.front.Standing.{Standing}
-use Rattle.pareto_front.specs.declared.front.Standing.TheVariants.{Dominated, Equal, New}
+use Rattle.pareto_front.specs.declared.front.CostStanding.{CostStanding}
+use Rattle.pareto_front.specs.declared.front.CostStanding.TheVariants.{Dominated, Equal, New}
 use Rattle.pareto_front.specs.Fronts.{Entry, Front, entries, HasCost, IsDominated, IsCovered}
 
 -- how a cost stands to the entries of a front
-abbrev pub StandsTo : Front → List ℕ → Standing → Type 0
+abbrev pub StandsTo : Front → List ℕ → CostStanding → Type 0
 StandsTo f c Dominated = IsDominated (entries f) c
 StandsTo f c (Equal arc) = Contains (entries f) (record { cost = c; arc = arc.0 })
 StandsTo f c New = ¬ IsCovered (entries f) c
@@ -48,13 +48,13 @@ abbrev pub entry_of : {D : ℕ} → CompactLabel D → Entry
 entry_of l = record { cost = l.cost.0; arc = l.arc.0 }
 
 -- an entry's cost and arc as numbers
-abbrev pub told_entry : {D : ℕ} → FrontEntry D → Entry
-told_entry e = record { cost = e.cost.0; arc = e.arc.0 }
+abbrev pub entry_view : {D : ℕ} → FrontEntry D → Entry
+entry_view e = record { cost = e.cost.0; arc = e.arc.0 }
 
 -- the list has the settled entries of a front, in strictly ascending lexicographic order
 pub record ListsSettled {D : ℕ} (f : Front) (list : List (FrontEntry D)) : Type 0 where
   pub ascending : AllPairs LexLess (map (λ e. e.cost.0) list)
-  pub exact : SameMembers (map told_entry list) f.settled
+  pub exact : SameMembers (map entry_view list) f.settled
 
 -- the list has grown at its end by spots of the node v, of just the costs that P holds of, each once
 pub record GrowsBy {D : ℕ} (v : ℕ) (P : List ℕ → Type 0) (before after : List (CompactSpot D)) : Type 0 where

@@ -4,7 +4,7 @@ use Rattle.std.specs.List.{AllWithin, items_where_true}
 use Rattle.std.specs.List.Sorted.{IsPartitionPoint}
 use Rattle.pareto_front.specs.declared.front.FrontEntry.{FrontEntry}
 use Rattle.pareto_front.specs.Fronts.{Front}
-use Rattle.pareto_front.specs.Calls.{told_entry}
+use Rattle.pareto_front.specs.Calls.{entry_view}
 
 -- the two components of a cost
 abbrev pub first : List ℕ → ℕ
@@ -27,8 +27,8 @@ pub record IsSorted (list : List (FrontEntry 2)) (marks : List Bool) (settled : 
 -- the front of marked entries
 abbrev pub front_of : List (FrontEntry 2) → List Bool → Front
 front_of list marks = record {
-  settled = map told_entry (items_where_true marks list);
-  unsettled = map told_entry (items_where_true (map not marks) list);
+  settled = map entry_view (items_where_true marks list);
+  unsettled = map entry_view (items_where_true (map not marks) list);
 }
 
 -- as many entries have a first component below t, and the others don't

@@ -3,13 +3,13 @@ ghost use Rattle.cost_vector.specs.Costs.{Dominates, max_criteria, min_criteria}
 ghost use Rattle.pareto_front.specs.Fronts.{Front, HasCost, IsCovered, IsFront, SparesSettled, empty_front, entries};
 ghost use Rattle.pareto_front.specs.Calls.{Removes, Enters, GrowsBy, ListsSettled, Relabels, Settles, StandsTo};
 
-use compact_labels::{CompactCost, CompactSpot};
-use cost_vector::{ArcNo, OutOfMemory};
+use cost_vector::{ArcNo, CompactCost, CompactSpot};
+use out_of_memory::OutOfMemory;
 use std::alloc::Global;
 
 /// How a cost stands to the entries of a front.
 #[derive(Clone, Copy, Debug, PartialEq, Eq)]
-pub enum Standing {
+pub enum CostStanding {
     /// An entry dominates it.
     Dominated,
     /// An entry has this cost, with this arc.
@@ -45,7 +45,7 @@ pub trait ParetoFront<const D: usize> {
         ensures value { result ≡ length (state self.now).settled };
 
     /// How the cost stands to the entries.
-    fn compare(&self, cost: &CompactCost<D>) -> Standing
+    fn compare(&self, cost: &CompactCost<D>) -> CostStanding
         ensures front { IsFront D (state self.now) }
         ensures standing { StandsTo (state self.now) cost.now.0 result };
 

@@ -7,5 +7,5 @@ mod front;
 mod sorted;
 
 pub use blocks::BlockFront;
-pub use front::{FrontEntry, ParetoFront, Standing};
+pub use front::{CostStanding, FrontEntry, ParetoFront};
 pub use sorted::SortedFront;

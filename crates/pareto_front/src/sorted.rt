@@ -2,9 +2,9 @@ ghost use Rattle.std.specs.Prelude.{◌≡◌, ◌<◌, ◌≤◌, ◌++◌, ◌
 ghost use Rattle.std.specs.List.{items_where_true, prefix_len};
 ghost use Rattle.pareto_front.specs.Sorted.{Descends, IsBefore, IsUpTo, AreAtLeast};
 
-use crate::front::{FrontEntry, ParetoFront, Standing};
-use compact_labels::{CompactCost, CompactSpot};
-use cost_vector::{ArcNo, OutOfMemory};
+use crate::front::{CostStanding, FrontEntry, ParetoFront};
+use cost_vector::{ArcNo, CompactCost, CompactSpot};
+use out_of_memory::OutOfMemory;
 use std::alloc::Global;
 use std::marker::Model;
 
@@ -52,14 +52,14 @@ impl ParetoFront<2> for SortedFront {
         self.settled
     }
 
-    fn compare(&self, cost: &CompactCost<2>) -> Standing {
+    fn compare(&self, cost: &CompactCost<2>) -> CostStanding {
         let [first, second] = cost.0;
         let reach = up_to(&self.entries, first);
         match self.entries[..reach].last() {
-            Some(nearest) if nearest.cost.0[1] > second => Standing::New,
-            Some(nearest) if nearest.cost == *cost => Standing::Equal(nearest.arc),
-            Some(_) => Standing::Dominated,
-            None => Standing::New,
+            Some(nearest) if nearest.cost.0[1] > second => CostStanding::New,
+            Some(nearest) if nearest.cost == *cost => CostStanding::Equal(nearest.arc),
+            Some(_) => CostStanding::Dominated,
+            None => CostStanding::New,
         }
     }
 

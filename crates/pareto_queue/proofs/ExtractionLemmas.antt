@@ -2,8 +2,8 @@
 use Rattle.std.proofs.Common.{◌≡◌, ℕ, suc, List, [], ◌∷◌, ◌++◌, append-nil, append_assoc, take, drop, take-append-drop, length, inl, inr, sym, ap, subst, arith}
 use Rattle.std.specs.Prelude.{All, slice_get}
 use Rattle.std.proofs.lemmas.List.{nil_from_length}
-use Rattle.compact_labels.specs.declared.cost.CompactCost.{CompactCost}
-use Rattle.compact_labels.specs.declared.label.CompactSpot.{CompactSpot}
+use Rattle.cost_vector.specs.declared.compact_cost.CompactCost.{CompactCost}
+use Rattle.cost_vector.specs.declared.compact_label.CompactSpot.{CompactSpot}
 use Rattle.cost_vector.specs.Costs.{Dominates, LexLess}
 use Rattle.cost_vector.proofs.Vectors.{LexLess-irrefl, LexLess-trans, LexLess_from_Dominates, Dominates-irrefl}
 use Rattle.list_laws.proofs.Members.{cases_in, cases_push, each_in, in_first, in_front, in_rest}

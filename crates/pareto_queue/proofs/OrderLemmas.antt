@@ -14,7 +14,7 @@ use Rattle.std.proofs.lemmas.List.Sorted.{sorted_far, ranks_by, searchable_from_
 use Rattle.std.proofs.lemmas.Option.{slice_get-get_or, slice_get_within, get_or_from_slice_get}
 use Rattle.std.proofs.lemmas.Bool.Decides.{Decides-and, Decides-eqb, nat_tests}
 use Rattle.std.proofs.lemmas.Cmp.{tied_itself, then_total, on_total}
-use Rattle.compact_labels.specs.declared.label.CompactSpot.{CompactSpot}
+use Rattle.cost_vector.specs.declared.compact_label.CompactSpot.{CompactSpot}
 use Rattle.cost_vector.specs.Costs.{LexLess, lex_cmp}
 use Rattle.cost_vector.proofs.Vectors.{LexLess-irrefl, LexLess-trans, same_from_lex_cmp}
 use Rattle.pareto_queue.specs.Passing.{IsSplit}

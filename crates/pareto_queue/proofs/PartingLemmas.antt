@@ -2,8 +2,8 @@
 use Rattle.std.proofs.Common.{◌≡◌, ℕ, ◌<◌, ◌≤◌, List, [], ◌∷◌, ◌++◌, take, drop, length, Bor, Option, Some, None, ◌⊎◌, ◌↔◌, inl, inr, refl, sym, ap, subst, arith}
 use Rattle.std.specs.Prelude.{AllPairs, Contains, IfSome, slice_get}
 use Rattle.std.specs.Option.{option_copied}
-use Rattle.compact_labels.specs.declared.cost.CompactCost.{CompactCost}
-use Rattle.compact_labels.specs.declared.label.CompactSpot.{CompactSpot}
+use Rattle.cost_vector.specs.declared.compact_cost.CompactCost.{CompactCost}
+use Rattle.cost_vector.specs.declared.compact_label.CompactSpot.{CompactSpot}
 use Rattle.list_laws.specs.Sets.{Loses}
 use Rattle.list_laws.proofs.Members.{all_from_in, cases_in, each_in, in_front, in_none, in_one}
 use Rattle.list_laws.proofs.OnceLaws.{in_append}
@@ -196,7 +196,7 @@ module _ {D : ℕ} where
         where
           apart : {E L L' G G' N N' F : Type 0} → E ⊎ (¬ E) → L' ↔ (L × ¬ E) → N' ↔ (N × ¬ E) → (G → E ⊎ G') → (G' → G) → (E → G ⊎ N) → F ↔ (E × N)
               → ((L × ¬ G) ⊎ N) ↔ (F ⊎ ((L' × ¬ G') ⊎ N'))
-          apart told l n still was either f = grind arith
+          apart decision l n still was either f = grind arith
 
       pub new_parted : length new_after < length new → (costs_after : List (CompactCost D)) (took_after rest_after : List (CompactSpot D))
           → PartsNext (take 1 new) costs took rest costs_after took_after rest_after

@@ -5,7 +5,7 @@ use Rattle.std.proofs.Math.Nat.{add-zero}
 use Rattle.std.proofs.lemmas.List.{drop_more, get_or-drop, get_or-take, take_all, take_more, take-take}
 use Rattle.std.proofs.lemmas.Option.{get_or_from_slice_get}
 use Rattle.std.proofs.lemmas.List.Elements.{Contains-get_or}
-use Rattle.compact_labels.specs.declared.label.CompactSpot.{CompactSpot}
+use Rattle.cost_vector.specs.declared.compact_label.CompactSpot.{CompactSpot}
 use Rattle.list_laws.specs.Sets.{Loses}
 use Rattle.list_laws.proofs.Members.{in_none, in_first, in_rest, all_from_in, cases_in, cases_push, each_in}
 use Rattle.list_laws.proofs.OnceLaws.{in_append, pairs_append}

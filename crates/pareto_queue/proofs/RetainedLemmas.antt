@@ -40,15 +40,15 @@ module _ {X : Type 0} where
   )
 
 -- a test that says `true` where P fails
-pub fails_by_test : (P : Type 0) (told : P ⊎ (¬ P)) (b : Bool) → IsTrue b ↔ (¬ P) → MatchBool b (¬ P) P
-fails_by_test P told true test = test.0 refl
-fails_by_test P told false test = elim told [ inl holds ↦ holds | inr fails ↦ absurd (false≢true (test.1 fails)) ]
+pub fails_by_test : (P : Type 0) (decision : P ⊎ (¬ P)) (b : Bool) → IsTrue b ↔ (¬ P) → MatchBool b (¬ P) P
+fails_by_test P decision true test = test.0 refl
+fails_by_test P decision false test = elim decision [ inl holds ↦ holds | inr fails ↦ absurd (false≢true (test.1 fails)) ]
 
 -- a test that says `true` where P holds
-pub holds_by_test : (P : Type 0) (told : P ⊎ (¬ P)) (b : Bool) → IsTrue b ↔ P → MatchBool b (¬ ¬ P) (¬ P)
-holds_by_test P told true test = λ fails. fails (test.0 refl)
-holds_by_test P told false test = λ holds. false≢true (test.1 holds)
+pub holds_by_test : (P : Type 0) (decision : P ⊎ (¬ P)) (b : Bool) → IsTrue b ↔ P → MatchBool b (¬ ¬ P) (¬ P)
+holds_by_test P decision true test = λ fails. fails (test.0 refl)
+holds_by_test P decision false test = λ holds. false≢true (test.1 holds)
 
 -- a test that says `true` where Q fails, which is the same as P
-pub fails_by_test_of : (P Q : Type 0) (told : P ⊎ (¬ P)) (same : Q ↔ P) (b : Bool) → IsTrue b ↔ (¬ Q) → MatchBool b (¬ P) P
-fails_by_test_of P Q told same b test = fails_by_test P told b (λ yes p. test.0 yes (same.1 p), λ fails. test.1 (λ q. fails (same.0 q)))
+pub fails_by_test_of : (P Q : Type 0) (decision : P ⊎ (¬ P)) (same : Q ↔ P) (b : Bool) → IsTrue b ↔ (¬ Q) → MatchBool b (¬ P) P
+fails_by_test_of P Q decision same b test = fails_by_test P decision b (λ yes p. test.0 yes (same.1 p), λ fails. test.1 (λ q. fails (same.0 q)))

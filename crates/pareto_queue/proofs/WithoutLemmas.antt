@@ -7,42 +7,42 @@ use Rattle.std.proofs.lemmas.Bool.Decides.{same_from_decides}
 use Rattle.std.proofs.lemmas.List.Filters.{length-filter_more}
 use Rattle.std.proofs.lemmas.List.Folds.{Any-from_list_any, list_any-from_Any}
 use Rattle.std.proofs.lemmas.List.Kept.{AllPairs-filter}
-use Rattle.compact_labels.specs.declared.label.CompactSpot.{CompactSpot}
+use Rattle.cost_vector.specs.declared.compact_label.CompactSpot.{CompactSpot}
 use Rattle.list_laws.specs.Sets.{SameMembers}
 use Rattle.list_laws.proofs.Ascending.{ascending_same}
 use Rattle.list_laws.proofs.Members.{all_from_in, any_in, each_in, found_in, in_filter, in_none, of_filter}
-use Rattle.list_laws.proofs.OnceLaws.{empty_if_none, in_append, told_in}
+use Rattle.list_laws.proofs.OnceLaws.{empty_if_none, in_append, decidable_in}
 use Rattle.list_laws.proofs.SetLaws.{same_by_permutation}
 use Rattle.pareto_queue.specs.Queues.{LosesWhere, SpotLess, has_spot, without}
 use Rattle.pareto_queue.proofs.OrderLemmas.{SpotLess-irrefl, SpotLess-trans, cases_spot, same_by_test}
 
 -- what the opposite of a test says
 not_by_test : (P : Type 0) (b : Bool) → Decides b P → (not b ≡ true) ↔ (¬ P)
-not_by_test P true told = (λ wrong. absurd (false≢true wrong), λ none. absurd (none (told.0 refl)))
-not_by_test P false told = (λ yes p. false≢true (told.1 p), λ none. refl)
+not_by_test P true decision = (λ wrong. absurd (false≢true wrong), λ none. absurd (none (decision.0 refl)))
+not_by_test P false decision = (λ yes p. false≢true (decision.1 p), λ none. refl)
 
 module _ {D : ℕ} where
   -- whether a list has the spot
-  pub has_spot_told : (spots : List (CompactSpot D)) (s : CompactSpot D) → Decides (has_spot spots s) (Contains spots s)
+  pub has_spot_iff : (spots : List (CompactSpot D)) (s : CompactSpot D) → Decides (has_spot spots s) (Contains spots s)
   unfolding has_spot
-  has_spot_told spots s = (
-    λ yes. let found = found_in (λ x. same x ≡ true) spots (Any-from_list_any same spots yes) in subst (Contains spots) ((told found.0).0 found.2) found.1,
-    λ there. list_any-from_Any same spots (any_in (λ x. same x ≡ true) spots s there ((told s).1 refl)),
+  has_spot_iff spots s = (
+    λ yes. let found = found_in (λ x. same x ≡ true) spots (Any-from_list_any same spots yes) in subst (Contains spots) ((decision found.0).0 found.2) found.1,
+    λ there. list_any-from_Any same spots (any_in (λ x. same x ≡ true) spots s there ((decision s).1 refl)),
   )
     where
       same : CompactSpot D → Bool
       same x = pointwise nat_eq x.cost.0 s.cost.0 && nat_eq x.node.0 s.node.0
 
-      told : (x : CompactSpot D) → Decides (same x) (x ≡ s)
-      told x = same_by_test x s (same x) refl
+      decision : (x : CompactSpot D) → Decides (same x) (x ≡ s)
+      decision x = same_by_test x s (same x) refl
 
   -- what isn't gone
   pub in_without : (spots gone : List (CompactSpot D)) (x : CompactSpot D) → Contains (without spots gone) x ↔ (Contains spots x × ¬ Contains gone x)
   unfolding without
   in_without spots gone x =
-      let told = not_by_test (Contains gone x) (has_spot gone x) (has_spot_told gone x) in (
-        λ h. let kept = of_filter (λ s. not (has_spot gone s)) spots x h in (kept.0, told.0 kept.1),
-        λ h. in_filter (λ s. not (has_spot gone s)) spots x h.0 (told.1 h.1),
+      let decision = not_by_test (Contains gone x) (has_spot gone x) (has_spot_iff gone x) in (
+        λ h. let kept = of_filter (λ s. not (has_spot gone s)) spots x h in (kept.0, decision.0 kept.1),
+        λ h. in_filter (λ s. not (has_spot gone s)) spots x h.0 (decision.1 h.1),
       )
 
   -- it stands in the same order
@@ -57,11 +57,11 @@ module _ {D : ℕ} where
   without_none (x ∷ xs) = ap (λ ys. x ∷ ys) (without_none xs)
 
   -- what is left where those that are gone were taken out, and the other way round
-  pub struck : (spots gone all : List (CompactSpot D)) → without spots gone ≡ all → gone ≡ [] → spots ≡ all
-  struck spots gone all is none = sym (without_none spots) ∙ sym (ap (without spots) none) ∙ is
+  pub purged : (spots gone all : List (CompactSpot D)) → without spots gone ≡ all → gone ≡ [] → spots ≡ all
+  purged spots gone all is none = sym (without_none spots) ∙ sym (ap (without spots) none) ∙ is
 
-  pub unstruck : (spots gone : List (CompactSpot D)) → gone ≡ [] → without spots gone ≡ spots
-  unstruck spots gone none = ap (without spots) none ∙ without_none spots
+  pub unpurged : (spots gone : List (CompactSpot D)) → gone ≡ [] → without spots gone ≡ spots
+  unpurged spots gone none = ap (without spots) none ∙ without_none spots
 
   -- an ascending list of what isn't gone
   pub same_without : (spots gone list : List (CompactSpot D)) → AllPairs SpotLess spots → AllPairs SpotLess list → LosesWhere (Contains gone) spots list
@@ -73,7 +73,7 @@ module _ {D : ℕ} where
   pub without_all : (spots gone : List (CompactSpot D)) → All (Contains gone) spots ↔ (without spots gone ≡ [])
   without_all spots gone = (
     λ all. empty_if_none (without spots gone) (λ x h. let is = (in_without spots gone x).0 h in is.1 (each_in (Contains gone) spots all x is.0)),
-    λ empty. all_from_in (Contains gone) spots (λ x h. elim (told_in cases_spot gone x) [
+    λ empty. all_from_in (Contains gone) spots (λ x h. elim (decidable_in cases_spot gone x) [
       | inl there ↦ there
       | inr none ↦ absurd (in_none x (subst (λ ys. Contains ys x) empty ((in_without spots gone x).1 (h, none))))
     ]),
@@ -83,8 +83,8 @@ module _ {D : ℕ} where
   pub left_counted : (spots gone : List (CompactSpot D)) (i : ℕ) (s d : CompactSpot D) (b : Bool) → i < length spots → s ≡ get_or spots i d
       → Decides b (Contains gone s) → length (without (take (i + 1) spots) gone) ≡ length (without (take i spots) gone) + cond (not b) 1 0
   unfolding without
-  left_counted spots gone i s d b within here told =
-      rw (same_from_decides b (has_spot gone s) told (has_spot_told gone s), here)
+  left_counted spots gone i s d b within here decision =
+      rw (same_from_decides b (has_spot gone s) decision (has_spot_iff gone s), here)
       (length-filter_more (λ x. not (has_spot gone x)) spots i d within)
 
   -- a change of the list is one of what isn't gone

@@ -1,6 +1,6 @@
 -- How one ascending list is gone through along another.
 use Rattle.std.specs.Prelude.{◌≡◌, ℕ, ◌⊎◌, List, ◌∷◌, ◌++◌, take, drop, Some, slice_get, All}
-use Rattle.compact_labels.specs.declared.label.CompactSpot.{CompactSpot}
+use Rattle.cost_vector.specs.declared.compact_label.CompactSpot.{CompactSpot}
 use Rattle.pareto_queue.specs.Queues.{SplitsAt, SpotLess}
 
 module _ {D : ℕ} where

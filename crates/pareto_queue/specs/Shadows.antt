@@ -1,8 +1,8 @@
 -- The shadow of an ascending list of spots: few of their costs, which tell of each later cost whether one of all dominates it.
 use Rattle.std.specs.Prelude.{◌≡◌, ℕ, ◌<◌, ◌≤◌, ◌↔◌, ◌⊎◌, List, [], ◌∷◌, ◌++◌, length, take, drop, slice_index_or, All, AllPairs, Contains}
 use Rattle.cost_vector.specs.Costs.{AtMost, Dominates, LexLess}
-use Rattle.compact_labels.specs.declared.cost.CompactCost.{CompactCost}
-use Rattle.compact_labels.specs.declared.label.CompactSpot.{CompactSpot}
+use Rattle.cost_vector.specs.declared.compact_cost.CompactCost.{CompactCost}
+use Rattle.cost_vector.specs.declared.compact_label.CompactSpot.{CompactSpot}
 use Rattle.list_laws.specs.Sets.{SameMembers}
 use Rattle.pareto_queue.specs.Passing.{BeginsWith}
 use Rattle.pareto_queue.specs.Queues.{IsDominatedBy, IsUndominated, SplitsAt, SpotLess}

@@ -7,8 +7,8 @@ ghost use Rattle.pareto_queue.specs.Shadows.{Descends, HasParted, IsExtracted, P
 use crate::merging::leave_out;
 use crate::order::count_before;
 use crate::shadow::{cast, count_shadowed};
-use compact_labels::{CompactCost, CompactSpot};
-use cost_vector::OutOfMemory;
+use cost_vector::{CompactCost, CompactSpot};
+use out_of_memory::OutOfMemory;
 
 /// Lists the undominated ones of the ascending spots that aren't gone and of those that come, and the others apart. What the
 /// lists held before is gone.

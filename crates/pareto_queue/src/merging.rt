@@ -3,8 +3,8 @@ ghost use Rattle.pareto_queue.specs.Passing.{WithoutFirst, PassesOn};
 ghost use Rattle.pareto_queue.specs.Queues.{AreSorted, Gains, LosesWhere, SpotLess, without};
 
 use crate::order::{count_before, list_sorted};
-use compact_labels::CompactSpot;
-use cost_vector::OutOfMemory;
+use cost_vector::CompactSpot;
+use out_of_memory::OutOfMemory;
 use std::mem;
 
 /// Adds those of the spots that come before this one to a list, and leaves the others.
@@ -109,7 +109,7 @@ pub(crate) fn count_left<const D: usize>(spots: &[CompactSpot<D>], gone: &[Compa
 }
 
 /// Takes those that are gone out of a list.
-pub(crate) fn strike<const D: usize>(
+pub(crate) fn purge<const D: usize>(
     spots: &mut Vec<CompactSpot<D>>,
     gone: &mut Vec<CompactSpot<D>>,
     order: &mut Vec<CompactSpot<D>>,

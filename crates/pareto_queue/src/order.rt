@@ -2,8 +2,8 @@ ghost use Rattle.std.specs.Prelude.{◌≡◌, AllPairs, Contains, IfErr, IfOk, 
 ghost use Rattle.pareto_queue.specs.Passing.{IsSplit};
 ghost use Rattle.pareto_queue.specs.Queues.{AreSorted, IsGap, SpotLess};
 
-use compact_labels::CompactSpot;
-use cost_vector::OutOfMemory;
+use cost_vector::CompactSpot;
+use out_of_memory::OutOfMemory;
 
 /// So many spots are searched before all are.
 const NEAR: usize = 128;

@@ -5,11 +5,11 @@ ghost use Rattle.pareto_queue.specs.Queues.{Gains, IsDominatedBy, LosesWhere, Ta
 
 use crate::Steps;
 use crate::extraction::part_renewed;
-use crate::merging::{are_gone, count_left, is_among, merge, strike};
+use crate::merging::{are_gone, count_left, is_among, merge, purge};
 use crate::order::{gap_of, list_sorted, place_of};
 use crate::shadow::is_dominated;
-use compact_labels::{CompactCost, CompactSpot};
-use cost_vector::{Cost, Limit, OutOfMemory};
+use cost_vector::{CompactCost, CompactSpot, Cost, Limit};
+use out_of_memory::OutOfMemory;
 use std::alloc::Global;
 use std::marker::Model;
 use std::mem;
@@ -36,7 +36,7 @@ pub struct Queue<const D: usize> {
 
 impl<const D: usize> Model for Queue<D> {
     ghost use Rattle.std.specs.Prelude.{List};
-    ghost use Rattle.compact_labels.specs.declared.label.CompactSpot.{CompactSpot};
+    ghost use Rattle.cost_vector.specs.declared.compact_label.CompactSpot.{CompactSpot};
     ghost use Rattle.pareto_queue.specs.Queues.{IsQueue, without};
 
     ghost Value = { List (CompactSpot D) };
@@ -83,7 +83,7 @@ impl<const D: usize> Queue<D> {
         ensures put { OnOk result (Gains self.old (spot.entry ∷ []) self.new) }
         ensures same { OnErr result (self.new ≡ self.old) }
     {
-        strike(
+        purge(
             &mut self.spots,
             &mut self.gone,
             &mut self.order,
@@ -101,7 +101,7 @@ impl<const D: usize> Queue<D> {
         ensures put { OnOk result (Gains self.old spots.now self.new) }
         ensures same { OnErr result (self.new ≡ self.old) }
     {
-        strike(
+        purge(
             &mut self.spots,
             &mut self.gone,
             &mut self.order,

@@ -3,8 +3,8 @@ ghost use Rattle.cost_vector.specs.Costs.{AtMost, Dominates, max_criteria, min_c
 ghost use Rattle.pareto_queue.specs.Queues.{IsDominatedBy};
 ghost use Rattle.pareto_queue.specs.Shadows.{Descends, ExceedsBefore, IsRun, Joins, grounded, second_of};
 
-use compact_labels::{CompactCost, CompactSpot};
-use cost_vector::OutOfMemory;
+use cost_vector::{CompactCost, CompactSpot};
+use out_of_memory::OutOfMemory;
 
 /// So few costs are gone through faster than searched.
 const FEW: usize = 8;

@@ -1,7 +1,7 @@
 -- What holds of candidates holds of them in each order.
 use Rattle.std.proofs.Common.{ℕ, List, IsPermutation}
 use Rattle.std.specs.Prelude.{All}
-use Rattle.compact_labels.specs.declared.label.CompactLabel.{CompactLabel}
+use Rattle.cost_vector.specs.declared.compact_label.CompactLabel.{CompactLabel}
 use Rattle.list_laws.proofs.Members.{each_in, all_from_in}
 use Rattle.list_laws.proofs.SetLaws.{same_by_permutation}
 use Rattle.pareto_front.specs.Fronts.{SparesSettled}

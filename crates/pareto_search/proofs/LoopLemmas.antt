@@ -3,7 +3,7 @@ use Rattle.std.proofs.Common.{◌≡◌, ◌≢◌, ℕ, ◌+◌, ◌<◌, ◌�
 use Rattle.std.proofs.Common.{Contains}
 use Rattle.std.specs.Result.{IsErr, IsErrAnd}
 use Rattle.std.proofs.lemmas.Bool.{cases_lt}
-use Rattle.cost_vector.specs.declared.out_of_memory.OutOfMemory.{OutOfMemory}
+use Rattle.out_of_memory.specs.declared.OutOfMemory.{OutOfMemory}
 use Rattle.list_laws.specs.Sets.{HasMoreThan}
 use Rattle.list_laws.proofs.Members.{in_none, cases_in, all_from_in}
 use Rattle.list_laws.proofs.Pairs.{pairs_none, pairs_cons}
@@ -11,24 +11,25 @@ use Rattle.list_laws.proofs.SetLaws.{longer, more_on, none_of_empty}
 use Rattle.list_laws.proofs.OnceLaws.{empty_if_none}
 use Rattle.road_network.specs.Answers.{Passes}
 use Rattle.road_network.specs.Limits.{max_budget}
-use Rattle.event_machine.specs.Machine.{Task, IsTask, Label, SearchState, start_state, settled}
+use Rattle.event_machine.specs.Machine.{Task, IsTask, SearchState, start_state, settled}
+use Rattle.road_network.specs.Labels.{Label}
 use Rattle.event_machine.specs.Events.{IsReached}
 use Rattle.event_machine.specs.Orders.{IsBegun, IsOutcome}
 use Rattle.event_machine.specs.Rounds.{IsBetweenRounds, Begins, Finishes, CountedRound, GoRounds, Rounds}
 use Rattle.event_machine.proofs.Running.{same_itself}
 use Rattle.pareto_search.proofs.RunLemmas.{run_of_begins, run_of_finishes, reached_by_run, settled_through}
 use Rattle.event_machine.proofs.Keeping.{sound_if_reached, settled_once}
-use Rattle.bulk_rounds.proofs.BegunLaws.{all_drops, some_begun, begins_is_begun}
-use Rattle.bulk_rounds.proofs.CompletesLaws.{some_outcome, finishes_is_outcome}
-use Rattle.bulk_rounds.proofs.RoundLaws.{counted, settles, some_number, at_most_all, round_after_all, more_to_come, passes_where_more, within_where_none_stays}
-use Rattle.path_readback.specs.Found.{Found}
-use Rattle.path_readback.specs.WellFound.{HasAllRelevant}
-use Rattle.arc_graph.specs.Graph.{Graph, Weights}
-use Rattle.route_query.specs.declared.query.Query.{Query}
-use Rattle.route_query.specs.declared.query.SearchFault.{SearchFault}
-use Rattle.route_query.specs.declared.query.SearchFault.TheVariants as fault
+use Rattle.event_machine.proofs.BegunLaws.{all_drops, some_begun, begins_is_begun}
+use Rattle.event_machine.proofs.CompletesLaws.{some_outcome, finishes_is_outcome}
+use Rattle.event_machine.proofs.RoundLaws.{counted, settles, some_number, at_most_all, round_after_all, more_to_come, passes_where_more, within_where_none_stays}
+use Rattle.road_network.specs.Found.{Found, HasAllRelevant}
+use Rattle.road_network.specs.Network.{Network}
+use Rattle.road_network.specs.Queries.{limit_of}
+use Rattle.road_network.specs.declared.query.Query.{Query}
+use Rattle.road_network.specs.declared.query.SearchFault.{SearchFault}
+use Rattle.road_network.specs.declared.query.SearchFault.TheVariants as fault
 use Rattle.round_core.specs.Cores.{Core, IsAt, IsSearchOf, IsNewSearch, SameSearch, as_spot}
-use Rattle.round_core.specs.Begins.{DropsUseless, SomeStay, HasBegun, HasEnded, PassesBudget, CountsRound}
+use Rattle.round_core.specs.Begins.{DropsUseless, SomeStay, HasBegun, HasEnded, ExceedsBudget, CountsRound}
 use Rattle.round_core.specs.declared.begin.Begun.{Begun}
 use Rattle.round_core.specs.declared.begin.Begun.TheVariants.{Taken, Done, Budget}
 use Rattle.pareto_search.specs.Counting.{CountsRounds, task_of}
@@ -79,10 +80,10 @@ at_start task budget core search budget_is none at = record {
 -- ---- a round
 
 -- a new search for a query is at the start of its task
-pub after_none : {D : ℕ} (g : Graph) (w : Weights) (query : Query) (core : Core D) → IsTask (task_of g w query) → g.criteria ≡ D
-    → IsNewSearch g.nodes query.from.0 query.to.0 query.limit query.budget core → IsAfter (task_of g w query) query.budget 0 core
-after_none g w query core is criteria new =
-    let task = task_of g w query in
+pub after_none : {D : ℕ} (net : Network) (query : Query) (core : Core D) → IsTask (task_of net query) → net.criteria ≡ D
+    → IsNewSearch net.nodes query.from query.to (limit_of net.criteria query) query.budget core → IsAfter (task_of net query) query.budget 0 core
+after_none net query core is criteria new =
+    let task = task_of net query in
     let search : IsSearchOf task core = record {
       is_task = is;
       nodes = sym new.nodes_are;
@@ -199,7 +200,7 @@ module _ {D : ℕ} (task : Task) (is : IsTask task) (budget k : ℕ) (before : C
   all_rounds core ended = record { last = s; rounds = after.go; stops = inr (ended.none_stay task s after.at) }
 
   -- with one round more the budget is passed
-  module _ (h : PassesBudget before) where
+  module _ (h : ExceedsBudget before) where
     more_than_budget : HasMoreThan budget begun.0.settled
     more_than_budget = subst (λ n. HasMoreThan n begun.0.settled) after.budget_is (h.more task s begun.0 after.at begun.1)
 

@@ -1,6 +1,7 @@
 -- A round as a run of events: what it leads to is reached, and keeps what is settled.
 use Rattle.std.proofs.Common.{List, ◌++◌, map, Contains}
-use Rattle.event_machine.specs.Machine.{Task, IsTask, Label, SearchState, start_state, settled}
+use Rattle.event_machine.specs.Machine.{Task, IsTask, SearchState, start_state, settled}
+use Rattle.road_network.specs.Labels.{Label}
 use Rattle.event_machine.specs.Events.{Event, drop, take, merge, Runs, IsReached}
 use Rattle.event_machine.specs.Rounds.{Begins, Finishes, relaxing}
 use Rattle.event_machine.proofs.Sound.{IsSound}

@@ -1,16 +1,17 @@
 -- How many rounds a query takes.
 use Rattle.std.specs.Prelude.{◌≡◌, ◌≢◌, ℕ, ◌+◌, ◌≤◌, Result, Err}
-use Rattle.arc_graph.specs.Graph.{Graph, Weights, network}
 use Rattle.event_machine.specs.Machine.{Task}
 use Rattle.event_machine.specs.Rounds.{Rounds}
-use Rattle.route_query.specs.declared.query.Query.{Query}
-use Rattle.route_query.specs.declared.query.SearchFault.{SearchFault}
-use Rattle.route_query.specs.declared.query.SearchFault.TheVariants as fault
+use Rattle.road_network.specs.Network.{Network}
+use Rattle.road_network.specs.Queries.{limit_of}
+use Rattle.road_network.specs.declared.query.Query.{Query}
+use Rattle.road_network.specs.declared.query.SearchFault.{SearchFault}
+use Rattle.road_network.specs.declared.query.SearchFault.TheVariants as fault
 
 -- what is searched for a query
-abbrev pub task_of : Graph → Weights → Query → Task
-task_of g w query =
-    record { network = network g w; start = query.from.0; target = query.to.0; limit = query.limit }
+abbrev pub task_of : Network → Query → Task
+task_of net query =
+    record { network = net; start = query.from; target = query.to; limit = limit_of net.criteria query }
 
 -- The counter rose by the number of counted rounds of the task; where memory ran out, by at most so many.
 pub record CountsRounds {Answer : Type 0} (task : Task) (budget : ℕ) (result : Result Answer SearchFault) (old new : ℕ)

@@ -1,3 +1,4 @@
 pub mod Findings
+pub mod Answers
 pub mod Counting
 pub mod Rounds

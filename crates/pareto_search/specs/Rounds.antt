@@ -1,6 +1,6 @@
 -- A search between its rounds, and what becomes of it in a round.
 use Rattle.std.specs.Prelude.{◌≡◌, ◌≢◌, ℕ, ◌≤◌, List, [], length, AllPairs, Contains, IsPermutation}
-use Rattle.compact_labels.specs.declared.label.CompactLabel.{CompactLabel}
+use Rattle.cost_vector.specs.declared.compact_label.CompactLabel.{CompactLabel}
 use Rattle.list_laws.specs.Sets.{HasMoreThan}
 use Rattle.road_network.specs.Limits.{max_budget}
 use Rattle.road_network.specs.Network.{Network}
@@ -8,8 +8,7 @@ use Rattle.road_network.specs.Answers.{Passes}
 use Rattle.event_machine.specs.Machine.{Task, SearchState, start_state}
 use Rattle.event_machine.specs.Orders.{IsOutcome}
 use Rattle.event_machine.specs.Rounds.{GoRounds}
-use Rattle.path_readback.specs.Found.{Found}
-use Rattle.path_readback.specs.WellFound.{HasAllRelevant}
+use Rattle.road_network.specs.Found.{Found, HasAllRelevant}
 use Rattle.round_core.specs.Cores.{Core, IsAt, SameSearch}
 use Rattle.round_core.specs.Finishes.{MergesRound}
 

@@ -1,7 +1,7 @@
 use cost_vector::{ArcNo, Cost, NodeNo};
 use node_front::FoundFronts;
 use pareto_front::{BlockFront, SortedFront};
-use path_readback::Found;
+use road_network::Found;
 
 /// What a query found, by the number of its criteria.
 #[derive(Drop)]

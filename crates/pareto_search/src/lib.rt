@@ -11,5 +11,5 @@ mod query;
 mod rounds;
 
 pub use findings::Findings;
-pub use pieces::rounds_end_alike_for_all_pieces;
+pub use pieces::{closed_counters_hold_all_pieces, rounds_end_alike_for_all_pieces};
 pub use query::{search, search_counted};

@@ -8,16 +8,14 @@ use Rattle.list_laws.proofs.Pairs.{pair_with_first, pairs_rest}
 use Rattle.cost_vector.specs.declared.label.ArcNo.{ArcNo}
 use Rattle.cost_vector.specs.Costs.{AtMost, plus}
 use Rattle.cost_vector.proofs.Vectors.{AtMost-plus_other, plus_cancel}
-use Rattle.arc_graph.specs.Graph.{Graph, Weights, AreWeights, IsGraph, Match, arc_state, network, tail_of}
-use Rattle.arc_graph.proofs.RelaxLaws.{network_of}
+use Rattle.arc_graph.specs.Graph.{arc_state, tail_of}
 use Rattle.road_network.specs.Network.{Network, IsNetwork, Leads}
 use Rattle.road_network.specs.Walks.{IsWalk}
 use Rattle.road_network.specs.Best.{IsBackwardLeast}
 use Rattle.road_network.proofs.WalkLaws.{ends_by_last, leads_by_vector, length_of_walk}
 use Rattle.road_network.proofs.BackwardLaws.{has_backward_least, one_backward_least, front_is_backward_least}
-use Rattle.event_machine.specs.Machine.{Label, IsSamePair}
-use Rattle.event_machine.specs.Laws.{last_arc}
-use Rattle.path_readback.specs.Found.{Found, IsFound, longest_in}
+use Rattle.road_network.specs.Labels.{Label, IsSamePair, last_arc}
+use Rattle.road_network.specs.Found.{Found, IsFound, longest_in}
 use Rattle.path_readback.specs.WellFound.{HasLeast, IsWellFound}
 use Rattle.path_readback.proofs.WellFoundLaws.{is_within_longest}
 
@@ -88,25 +86,25 @@ pub record IsPart (net : Network) (s : ℕ) (whole : List ℕ) (node : ℕ) (cos
   pub parts : front ++ reverse (numbers arcs) ≡ whole
 
 -- how an arc that was read from the label leads from the front that is left
-pub record StepsBack (g : Graph) (w : Weights) (s : ℕ) (whole : List ℕ) (node : ℕ) (cost : List ℕ) (arcs : List ArcNo) (arc : ArcNo) : Type 0 where
+pub record StepsBack (net : Network) (s : ℕ) (whole : List ℕ) (node : ℕ) (cost : List ℕ) (arcs : List ArcNo) (arc : ArcNo) : Type 0 where
   pub at : ℕ
   pub before : List ℕ
   pub by : List ℕ
-  pub leads : Leads (network g w) arc.0 at by node
+  pub leads : Leads net arc.0 at by node
   pub cost_is : cost ≡ plus before by
-  pub part : IsPart (network g w) s whole at before (arcs ++ arc ∷ [])
+  pub part : IsPart net s whole at before (arcs ++ arc ∷ [])
 
-module _ (g : Graph) (w : Weights) (is : IsNetwork (network g w)) (limit : List (Option ℕ)) (f : Found) (found : IsFound f)
-    (well : IsWellFound (network g w) limit f) (c whole : List ℕ) (there : Contains f.costs c) (goal : IsWalk (network g w) f.start whole f.target c)
-    (node : ℕ) (cost : List ℕ) (arcs : List ArcNo) (part : IsPart (network g w) f.start whole node cost arcs) where
+module _ (net : Network) (is : IsNetwork net) (limit : List (Option ℕ)) (f : Found) (found : IsFound f)
+    (well : IsWellFound net limit f) (c whole : List ℕ) (there : Contains f.costs c) (goal : IsWalk net f.start whole f.target c)
+    (node : ℕ) (cost : List ℕ) (arcs : List ArcNo) (part : IsPart net f.start whole node cost arcs) where
   -- the settled label to which the front leads
-  here : HasLeast (network g w) f node cost
-  here = well.on_the_way part.front (reverse (numbers arcs)) node cost c (subst (λ p. IsWalk (network g w) f.start p f.target c) (sym part.parts) goal)
+  here : HasLeast net f node cost
+  here = well.on_the_way part.front (reverse (numbers arcs)) node cost c (subst (λ p. IsWalk net f.start p f.target c) (sym part.parts) goal)
       there part.least.walk
 
   -- it has the front's last arc
   last_is : here.arc ≡ last_arc part.front
-  last_is = here.least.arc ∙ ap last_arc (one_backward_least (network g w) f.start node cost here.least.walk part.front here.least.least part.least)
+  last_is = here.least.arc ∙ ap last_arc (one_backward_least net f.start node cost here.least.walk part.front here.least.least part.least)
 
   -- and is the one label of this node and this cost
   one_label : (arc : ℕ) → Contains f.settled (record { node = node; cost = cost; arc = arc }) → arc ≡ last_arc part.front
@@ -117,15 +115,15 @@ module _ (g : Graph) (w : Weights) (is : IsNetwork (network g w)) (limit : List 
 
   -- where its arc isn't 0, that arc is the last of the front, which is read back by it
   pub steps_back : (arc : ArcNo) → 1 ≤ arc.0 → Contains f.settled (record { node = node; cost = cost; arc = arc.0 })
-      → StepsBack g w f.start whole node cost arcs arc
+      → StepsBack net f.start whole node cost arcs arc
   steps_back arc counted settled = by_end (cases_end part.front) where
-    by_end : EndsWith part.front → StepsBack g w f.start whole node cost arcs arc
+    by_end : EndsWith part.front → StepsBack net f.start whole node cost arcs arc
     by_end (empty none) = let zero : arc.0 ≡ 0 = one_label arc.0 settled ∙ ap last_arc none in absurd (omega (arith, zero, counted))
     by_end (last front k ends) =
         let is_k : arc.0 ≡ k = one_label arc.0 settled ∙ ap last_arc ends ∙ last_of front k in
         let ends_here : part.front ≡ front ++ arc.0 ∷ [] = ends ∙ ap (λ n. front ++ n ∷ []) (sym is_k) in
-        let least = subst (IsBackwardLeast (network g w) f.start node cost) ends_here part.least in
-        let by_last = (ends_by_last (network g w) is front f.start node arc.0 cost).0 least.walk in
+        let least = subst (IsBackwardLeast net f.start node cost) ends_here part.least in
+        let by_last = (ends_by_last net is front f.start node arc.0 cost).0 least.walk in
         record {
           at = by_last.at;
           before = by_last.before;
@@ -134,7 +132,7 @@ module _ (g : Graph) (w : Weights) (is : IsNetwork (network g w)) (limit : List 
           cost_is = by_last.cost;
           part = record {
             front = front;
-            least = front_is_backward_least (network g w) is front (arc.0 ∷ []) f.start by_last.at node by_last.before cost least by_last.walk;
+            least = front_is_backward_least net is front (arc.0 ∷ []) f.start by_last.at node by_last.before cost least by_last.walk;
             parts = ap (λ rest. front ++ rest) (numbers_push arcs arc) ∙ sym (append_assoc front (arc.0 ∷ []) (reverse (numbers arcs)))
                 ∙ ap (λ p. p ++ reverse (numbers arcs)) (sym ends_here) ∙ part.parts;
           };
@@ -147,41 +145,36 @@ module _ (g : Graph) (w : Weights) (is : IsNetwork (network g w)) (limit : List 
     by_end (empty none) = ap (λ p. p ++ reverse (numbers arcs)) (sym none) ∙ part.parts
     by_end (last front k ends) =
         let is_zero : k ≡ 0 = sym (last_of front k) ∙ ap last_arc (sym ends) ∙ sym last_is ∙ zero (record { 0 = here.arc }) here.settled in
-        let by_last = (ends_by_last (network g w) is front f.start node k cost).0 (subst (λ p. IsWalk (network g w) f.start p node cost) ends part.least.walk) in
+        let by_last = (ends_by_last net is front f.start node k cost).0 (subst (λ p. IsWalk net f.start p node cost) ends part.least.walk) in
         absurd (omega (arith, is_zero, by_last.leads.counted))
 
 -- what `walk` is given
-pub record IsReadable (g : Graph) (w : Weights) (f : Found) : Type 0 where
-  pub graph : IsGraph g
-  pub weights : AreWeights w
-  pub matched : Match g w
+pub record IsReadable (net : Network) (f : Found) : Type 0 where
+  pub network : IsNetwork net
   pub found : IsFound f
-  pub nodes : f.nodes ≡ g.nodes
+  pub nodes : f.nodes ≡ net.nodes
   pub limit : List (Option ℕ)
-  pub well : IsWellFound (network g w) limit f
+  pub well : IsWellFound net limit f
 
 -- A walk of the cost at the place i is being read back: it is the backward-least one, and there is room for its arcs.
-pub record IsReading (g : Graph) (w : Weights) (f : Found) (i node : ℕ) (cost : List ℕ) (arcs : List ArcNo) (holds : ℕ) : Type 0 where
-  pub given : IsReadable g w f
+pub record IsReading (net : Network) (f : Found) (i node : ℕ) (cost : List ℕ) (arcs : List ArcNo) (holds : ℕ) : Type 0 where
+  pub given : IsReadable net f
   pub goal : List ℕ
   pub is_goal : slice_get f.costs i ≡ Some goal
   pub whole : List ℕ
-  pub least : IsBackwardLeast (network g w) f.start f.target goal whole
-  pub part : IsPart (network g w) f.start whole node cost arcs
+  pub least : IsBackwardLeast net f.start f.target goal whole
+  pub part : IsPart net f.start whole node cost arcs
   pub fits : length whole ≤ holds
 
-module _ (g : Graph) (w : Weights) (f : Found) (i holds : ℕ) where
-  is_network : IsReadable g w f → IsNetwork (network g w)
-  is_network given = network_of g w given.graph given.weights given.matched
-
+module _ (net : Network) (f : Found) (i holds : ℕ) where
   -- nothing is read yet
-  pub reading_begins : (c : List ℕ) → IsReadable g w f → slice_get f.costs i ≡ Some c → longest_in f ≤ holds → IsReading g w f i f.target c [] holds
+  pub reading_begins : (c : List ℕ) → IsReadable net f → slice_get f.costs i ≡ Some c → longest_in f ≤ holds → IsReading net f i f.target c [] holds
   reading_begins c given is_goal room =
-      let is = is_network given in
+      let is = given.network in
       let there = in_by_get f.costs i c is_goal in
       let reached = ((given.well.costs c).0 there).0.reached in
-      let walk = has_backward_least (network g w) is reached.0 f.start f.target c reached.1 in
-      let within = is_within_longest (network g w) given.limit f is given.found given.well c walk.0 there walk.1.walk given.nodes in
+      let walk = has_backward_least net is reached.0 f.start f.target c reached.1 in
+      let within = is_within_longest net given.limit f is given.found given.well c walk.0 there walk.1.walk given.nodes in
       record {
         given = given;
         goal = c;
@@ -192,25 +185,25 @@ module _ (g : Graph) (w : Weights) (f : Found) (i holds : ℕ) where
         fits = omega (arith, within, room);
       }
 
-  module _ (node : ℕ) (cost : List ℕ) (arcs : List ArcNo) (r : IsReading g w f i node cost arcs holds) where
-    is_net : IsNetwork (network g w)
-    is_net = is_network r.given
+  module _ (node : ℕ) (cost : List ℕ) (arcs : List ArcNo) (r : IsReading net f i node cost arcs holds) where
+    is_net : IsNetwork net
+    is_net = r.given.network
 
     goal_is_there : Contains f.costs r.goal
     goal_is_there = in_by_get f.costs i r.goal r.is_goal
 
-    pub cost_counts : length cost ≡ w.criteria
-    cost_counts = length_of_walk (network g w) is_net r.part.front f.start node cost r.part.least.walk ∙ sym r.given.matched.criteria
+    pub cost_counts : length cost ≡ net.criteria
+    cost_counts = length_of_walk net is_net r.part.front f.start node cost r.part.least.walk
 
     module _ (arc : ArcNo) (counted : 1 ≤ arc.0) (settled : Contains f.settled (record { node = node; cost = cost; arc = arc.0 })) where
       -- one arc is read
-      pub reading_steps : StepsBack g w f.start r.whole node cost arcs arc
+      pub reading_steps : StepsBack net f.start r.whole node cost arcs arc
       reading_steps =
-          steps_back g w is_net r.given.limit f r.given.found r.given.well r.goal r.whole goal_is_there r.least.walk node cost arcs r.part arc counted settled
+          steps_back net is_net r.given.limit f r.given.found r.given.well r.goal r.whole goal_is_there r.least.walk node cost arcs r.part arc counted settled
 
-      pub arc_is_there : arc.0 ≤ length g.ends
+      pub arc_is_there : arc.0 ≤ length net.ends
       arc_is_there =
-          let within = slice_get_within g.ends (arc.0 - 1) (reading_steps.at, node) reading_steps.leads.ends in
+          let within = slice_get_within net.ends (arc.0 - 1) (reading_steps.at, node) reading_steps.leads.ends in
           omega (arith, counted, within)
 
       pub is_room : length arcs < holds
@@ -222,30 +215,30 @@ module _ (g : Graph) (w : Weights) (f : Found) (i holds : ℕ) where
           omega (arith, all, read, length-append part.front (reverse (numbers (arcs ++ arc ∷ []))), r.fits)
 
       -- and the rest goes on from where it leads, by what the graph and the weights tell
-      pub reading_goes_on : (before : List ℕ) → ((front by : List ℕ) → length front ≡ length by → arc_state w arc ≡ Some by → cost ≡ plus front by → before ≡ front)
-          → IsReading g w f i (tail_of g arc) before (arcs ++ arc ∷ []) holds
+      pub reading_goes_on : (before : List ℕ) → ((front by : List ℕ) → length front ≡ length by → arc_state net.states arc ≡ Some by → cost ≡ plus front by → before ≡ front)
+          → IsReading net f i (tail_of net.ends arc) before (arcs ++ arc ∷ []) holds
       reading_goes_on before left =
           let step = reading_steps in
-          let tail : tail_of g arc ≡ step.at = rw (step.leads.ends) refl in
-          let state : arc_state w arc ≡ Some step.by = rw (step.leads.passable) refl in
+          let tail : tail_of net.ends arc ≡ step.at = rw (step.leads.ends) refl in
+          let state : arc_state net.states arc ≡ Some step.by = rw (step.leads.passable) refl in
           let count : length step.before ≡ length step.by =
-          length_of_walk (network g w) is_net step.part.front f.start step.at step.before step.part.least.walk
-          ∙ sym (leads_by_vector (network g w) is_net arc.0 step.at node step.by step.leads).whole in
+          length_of_walk net is_net step.part.front f.start step.at step.before step.part.least.walk
+          ∙ sym (leads_by_vector net is_net arc.0 step.at node step.by step.leads).whole in
           record {
             given = r.given;
             goal = r.goal;
             is_goal = r.is_goal;
             whole = r.whole;
             least = r.least;
-            part = subst (λ b. IsPart (network g w) f.start r.whole (tail_of g arc) b (arcs ++ arc ∷ [])) (sym (left step.before step.by count state step.cost_is))
-                (subst (λ u. IsPart (network g w) f.start r.whole u step.before (arcs ++ arc ∷ [])) (sym tail) step.part);
+            part = subst (λ b. IsPart net f.start r.whole (tail_of net.ends arc) b (arcs ++ arc ∷ [])) (sym (left step.before step.by count state step.cost_is))
+                (subst (λ u. IsPart net f.start r.whole u step.before (arcs ++ arc ∷ [])) (sym tail) step.part);
             fits = r.fits;
           }
 
     -- all is read
     pub reading_ends : ((arc : ArcNo) → Contains f.settled (record { node = node; cost = cost; arc = arc.0 }) → arc.0 ≡ 0)
-        → IfSome (slice_get f.costs i) (λ c. IsBackwardLeast (network g w) f.start f.target c (numbers (reverse arcs)))
+        → IfSome (slice_get f.costs i) (λ c. IsBackwardLeast net f.start f.target c (numbers (reverse arcs)))
     reading_ends zero =
-        let all = all_is_read g w is_net r.given.limit f r.given.found r.given.well r.goal r.whole goal_is_there r.least.walk node cost arcs r.part zero in
-        let read = subst (IsBackwardLeast (network g w) f.start f.target r.goal) (sym all ∙ sym (numbers_reverse arcs)) r.least in
+        let all = all_is_read net is_net r.given.limit f r.given.found r.given.well r.goal r.whole goal_is_there r.least.walk node cost arcs r.part zero in
+        let read = subst (IsBackwardLeast net f.start f.target r.goal) (sym all ∙ sym (numbers_reverse arcs)) r.least in
         rw (r.is_goal) read

@@ -14,9 +14,9 @@ use Rattle.road_network.proofs.WalkLaws.{length_of_walk, length_of_arrival, part
 use Rattle.road_network.proofs.BestLaws.{first_part_is_best, grows_along}
 use Rattle.road_network.proofs.FiniteLaws.{best_is_short}
 use Rattle.road_network.proofs.BackwardLaws.{one_end}
-use Rattle.event_machine.specs.Machine.{Label}
-use Rattle.path_readback.specs.Found.{Found, IsFound, longest_in}
-use Rattle.path_readback.specs.WellFound.{HasAllRelevant, HasLeast, IsWellFound}
+use Rattle.road_network.specs.Labels.{Label}
+use Rattle.road_network.specs.Found.{Found, IsFound, longest_in, HasAllRelevant}
+use Rattle.path_readback.specs.WellFound.{HasLeast, IsWellFound}
 
 -- an arc more in the front is one less behind it
 longer_front : (k : ℕ) (q r : List ℕ) → reverse q ++ k ∷ r ≡ reverse (k ∷ q) ++ r

@@ -4,10 +4,8 @@ use Rattle.cost_vector.specs.Costs.{Within}
 use Rattle.road_network.specs.Network.{Network}
 use Rattle.road_network.specs.Walks.{IsWalk}
 use Rattle.road_network.specs.Best.{IsBest}
-use Rattle.road_network.specs.Answers.{IsRelevant}
-use Rattle.event_machine.specs.Machine.{Label}
-use Rattle.event_machine.specs.Laws.{HasLeastArc}
-use Rattle.path_readback.specs.Found.{Found, HasSettled}
+use Rattle.road_network.specs.Labels.{HasLeastArc}
+use Rattle.road_network.specs.Found.{Found}
 
 -- the label of this node and this cost whose arc is the last arc of its backward-least walk is settled
 pub record HasLeast (net : Network) (f : Found) (v : ℕ) (c : List ℕ) : Type 0 where
@@ -21,8 +19,3 @@ pub record IsWellFound (net : Network) (limit : List (Option ℕ)) (f : Found) :
   pub costs : (c : List ℕ) → Contains f.costs c ↔ (IsBest net f.start f.target c × Within limit c)
   pub on_the_way : (p q : List ℕ) (v : ℕ) (b c : List ℕ) → IsWalk net f.start (p ++ q) f.target c
       → Contains f.costs c → IsWalk net f.start p v b → HasLeast net f v b
-
--- the settled labels are exactly the relevant pairs of the query, each with the last arc of its backward-least walk
-pub record HasAllRelevant (net : Network) (limit : List (Option ℕ)) (f : Found) : Type 0 where
-  pub relevant : (v : ℕ) (c : List ℕ) → HasSettled f v c ↔ IsRelevant net f.start f.target limit v c
-  pub least : (l : Label) → Contains f.settled l → HasLeastArc net f.start l

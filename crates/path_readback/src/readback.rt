@@ -1,40 +1,39 @@
 ghost use Rattle.std.specs.Prelude.{◌≡◌, ℕ, ◌<◌, ◌≤◌, List, Option, None, Some, length, map, slice_get, IfSome, Contains, ◌↔◌};
-ghost use Rattle.arc_graph.specs.Graph.{Match, arc_state, network};
+ghost use Rattle.arc_graph.specs.Graph.{arc_state};
 ghost use Rattle.cost_vector.specs.Costs.{plus};
 ghost use Rattle.road_network.specs.Best.{IsBackwardLeast};
-ghost use Rattle.path_readback.specs.Found.{longest_in};
+ghost use Rattle.road_network.specs.Found.{longest_in};
 ghost use Rattle.path_readback.specs.WellFound.{IsWellFound};
 
-use crate::{Found, Room};
-use arc_graph::{Graph, Weights};
+use crate::Room;
+use arc_graph::Network;
 use cost_vector::{ArcNo, Cost, NodeNo};
+use road_network::Found;
 
 /// Leaves in the room the backward-least walk of the cost at the place `i`, from 0.
 ///
 /// It goes back from the target: the label of a node and a cost has the last arc of its walk, and without that arc's vector
 /// the cost is that of the walk's front, which ends at the arc's tail.
-pub fn walk<F: Found>(graph: &Graph, weights: &Weights, found: &F, i: usize, room: &mut Room)
-    requires weights { Match graph.now weights.now }
+pub fn walk<F: Found>(network: &Network<'_>, found: &F, i: usize, room: &mut Room)
     requires there { i < length (F.state found.now).costs }
-    requires nodes { (F.state found.now).nodes ≡ graph.now.nodes }
-    requires criteria { (F.state found.now).criteria ≡ graph.now.criteria }
+    requires nodes { (F.state found.now).nodes ≡ network.now.nodes }
+    requires criteria { (F.state found.now).criteria ≡ network.now.criteria }
     requires well_found { (limit : List (Option ℕ))
-        × IsWellFound (network graph.now weights.now) limit (F.state found.now) }
+        × IsWellFound network.now limit (F.state found.now) }
     requires room { longest_in (F.state found.now) ≤ room.old.holds }
     ensures least { IfSome (slice_get (F.state found.now).costs i) (λ c.
-        IsBackwardLeast (network graph.now weights.now) (F.state found.now).start
+        IsBackwardLeast network.now (F.state found.now).start
         (F.state found.now).target c (map (λ a. a.0) room.new.arcs)) }
     ensures room { room.old.holds ≤ room.new.holds }
 {
-    prove!(graph.nodes() >= 1);
-    prove!(graph.arcs() == weights.arcs());
+    prove!(network.nodes() >= 1);
     room.clear();
     let mut node = found.target();
     let mut cost = found.cost(i);
     'arcs: while let Some(arc) = last_arc(found, node, &cost) {
         room.push(arc);
-        node = graph.tail(arc);
-        cost = without_arc(&cost, weights, arc);
+        node = network.tail(arc);
+        cost = without_arc(&cost, network, arc);
     }
     room.reverse();
 }
@@ -54,14 +53,14 @@ fn last_arc<F: Found>(found: &F, node: NodeNo, cost: &Cost) -> Option<ArcNo>
 }
 
 /// The cost of a walk without its last arc.
-fn without_arc(cost: &Cost, weights: &Weights, arc: ArcNo) -> Cost
+fn without_arc(cost: &Cost, network: &Network<'_>, arc: ArcNo) -> Cost
     requires counted { 1 ≤ arc.0 }
-    requires there { arc.0 ≤ length weights.now.states }
-    requires criteria { length cost.now ≡ weights.now.criteria }
-    ensures { (front by : List ℕ) → length front ≡ length by → arc_state weights.now arc ≡ Some by
+    requires there { arc.0 ≤ length network.now.ends }
+    requires criteria { length cost.now ≡ network.now.criteria }
+    ensures { (front by : List ℕ) → length front ≡ length by → arc_state network.now.states arc ≡ Some by
         → cost.now ≡ plus front by → result ≡ front }
 {
-    match weights.get(arc) {
+    match network.weight(arc) {
         Some(by) => cost.minus(&by).unwrap_or(*cost),
         None => *cost,
     }

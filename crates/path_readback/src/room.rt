@@ -1,6 +1,7 @@
 ghost use Rattle.std.specs.Prelude.{◌≡◌, ◌≤◌, ◌<◌, ◌++◌, ◌∷◌, [], length, reverse, IfOk, OnOk};
 
-use cost_vector::{ArcNo, OutOfMemory};
+use cost_vector::ArcNo;
+use out_of_memory::OutOfMemory;
 use std::alloc::Global;
 use std::marker::Model;
 

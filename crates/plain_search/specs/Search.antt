@@ -8,8 +8,9 @@ use Rattle.list_laws.specs.Without.{IsWithout}
 use Rattle.road_network.specs.Network.{Network, Leads}
 use Rattle.road_network.specs.Walks.{Arrives, IsSumOf}
 use Rattle.road_network.specs.Answers.{IsRelevant}
-use Rattle.arc_graph.specs.Graph.{Graph, Weights, network}
-use Rattle.route_query.specs.declared.query.Query.{Query}
+use Rattle.road_network.specs.Queries.{IsQuery, limit_of}
+use Rattle.road_network.specs.declared.query.Query.{Query}
+use Rattle.arc_graph.specs.Graph.{IsRoadNetwork}
 
 -- what is sought: the best costs of a node within a limit, from another
 pub record Task : Type 0 where
@@ -19,8 +20,13 @@ pub record Task : Type 0 where
   pub limit : List (Option ℕ)
 
 -- the task of a query
-abbrev pub task_of : Graph → Weights → Query → Task
-task_of g w query = record { net = network g w; from = query.from.0; to = query.to.0; limit = query.limit }
+abbrev pub task_of : Network → Query → Task
+task_of net query = record { net = net; from = query.from; to = query.to; limit = limit_of net.criteria query }
+
+-- the query can be searched in the network
+pub record IsPosed (net : Network) (query : Query) : Type 0 where
+  pub network : IsRoadNetwork net
+  pub is_query : IsQuery net query
 
 -- the pair of the spot's node and its cost is relevant to the task
 abbrev pub IsRelevantTo : Task → Spot → Type 0

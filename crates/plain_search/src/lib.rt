@@ -6,8 +6,8 @@
 //! label beyond the query's limit.
 #![tactic(auto)]
 
+mod goal;
 mod martins;
 mod search;
 
 pub use martins::plain_search;
-pub use route_query::{Query, SearchFault};

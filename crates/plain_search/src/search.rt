@@ -1,12 +1,13 @@
 ghost use Rattle.std.specs.Prelude.{◌≡◌, ◌≤◌, ◌<◌, ◌⊎◌, ◌↔◌, [], ◌∷◌, ◌++◌, length, map, IsTrue, IfOk, OnOk, IfSome, IfNone, Contains, All};
 ghost use Rattle.cost_vector.specs.Costs.{LexLess};
 ghost use Rattle.road_network.specs.Limits.{max_budget};
-ghost use Rattle.route_query.specs.Query.{IsPosed};
-ghost use Rattle.plain_search.specs.Search.{Prunes, IsPruned, IsLeastOf, TakesOut};
+ghost use Rattle.plain_search.specs.Search.{IsPosed, Prunes, IsPruned, IsLeastOf, TakesOut};
 
-use arc_graph::{Graph, Weights, relax};
-use cost_vector::{Cost, Label, NodeNo, OutOfMemory, Spot};
-use route_query::Query;
+use crate::goal::Goal;
+use arc_graph::{Network, relax};
+use cost_vector::{Cost, Label, NodeNo, Spot};
+use out_of_memory::OutOfMemory;
+use road_network::Query;
 use std::alloc::Global;
 
 /// The spots that a search has come to.
@@ -51,15 +52,14 @@ impl Search {
     pub(crate) fn run(
         &mut self,
         alloc: Global,
-        graph: &Graph,
-        weights: &Weights,
+        network: &Network<'_>,
         query: &Query,
     ) -> Result<(), OutOfMemory>
-        requires posed { IsPosed graph.now weights.now query.now }
+        requires posed { IsPosed network.now query.now }
         requires begun { self.old.permanent.items ≡ [] }
-        requires search { IsSearch (task_of graph.now weights.now query.now)
+        requires search { IsSearch (task_of network.now query.now)
             self.old.permanent.items self.old.waiting.items }
-        ensures search { OnOk result (IsSearch (task_of graph.now weights.now query.now)
+        ensures search { OnOk result (IsSearch (task_of network.now query.now)
             self.new.permanent.items self.new.waiting.items) }
         ensures in_budget { OnOk result (length self.new.permanent.items ≤ query.now.budget) }
         ensures ended { OnOk result
@@ -69,7 +69,7 @@ impl Search {
             let Some(spot) = least(&self.waiting) else {
                 return Ok(());
             };
-            self.expand(alloc, graph, weights, query, &spot)?;
+            self.expand(alloc, network, query, &spot)?;
         }
         Ok(())
     }
@@ -78,24 +78,24 @@ impl Search {
     fn expand(
         &mut self,
         alloc: Global,
-        graph: &Graph,
-        weights: &Weights,
+        network: &Network<'_>,
         query: &Query,
         spot: &Spot,
     ) -> Result<(), OutOfMemory>
-        requires posed { IsPosed graph.now weights.now query.now }
+        requires posed { IsPosed network.now query.now }
         requires room { length self.old.permanent.items < max_budget }
         requires least { IsLeastOf self.old.waiting.items spot.now }
-        requires search { IsSearch (task_of graph.now weights.now query.now)
+        requires search { IsSearch (task_of network.now query.now)
             self.old.permanent.items self.old.waiting.items }
         ensures permanent { OnOk result
             (self.new.permanent.items ≡ self.old.permanent.items ++ spot.now ∷ []) }
-        ensures search { OnOk result (IsSearch (task_of graph.now weights.now query.now)
+        ensures search { OnOk result (IsSearch (task_of network.now query.now)
             self.new.permanent.items self.new.waiting.items) }
     {
-        self.settle(query.to, spot)?;
-        let labels = relax(alloc, graph, weights, spot)?;
-        self.add_all(query, &labels)
+        let goal = Goal::of(network, query);
+        self.settle(goal.node, spot)?;
+        let labels = relax(alloc, network, spot)?;
+        self.add_all(&goal, &labels)
     }
 
     /// Makes a spot permanent, and takes out the waiting ones that it prunes, itself among them.
@@ -111,10 +111,10 @@ impl Search {
     }
 
     /// Adds the spots of labels one by one.
-    fn add_all(&mut self, query: &Query, labels: &[Label]) -> Result<(), OutOfMemory>
-        requires { All (λ l. length query.now.limit ≡ length l.cost) labels.now }
+    fn add_all(&mut self, goal: &Goal, labels: &[Label]) -> Result<(), OutOfMemory>
+        requires { All (λ l. length goal.now.limit ≡ length l.cost) labels.now }
         ensures permanent { self.new.permanent.items ≡ self.old.permanent.items }
-        ensures waiting { OnOk result (Adds query.now.to.0 query.now.limit self.old.permanent.items
+        ensures waiting { OnOk result (Adds goal.now.node.0 goal.now.limit self.old.permanent.items
             self.old.waiting.items (map spot_of labels.now) self.new.waiting.items) }
     {
         for label in labels {
@@ -122,35 +122,35 @@ impl Search {
                 node: label.node,
                 cost: label.cost,
             };
-            self.add(query, &spot)?;
+            self.add(goal, &spot)?;
         }
         Ok(())
     }
 
     /// Lets a spot wait in place of those that it prunes, unless it is covered already.
-    fn add(&mut self, query: &Query, spot: &Spot) -> Result<(), OutOfMemory>
-        requires { length query.now.limit ≡ length spot.now.cost }
+    fn add(&mut self, goal: &Goal, spot: &Spot) -> Result<(), OutOfMemory>
+        requires { length goal.now.limit ≡ length spot.now.cost }
         ensures permanent { self.new.permanent.items ≡ self.old.permanent.items }
-        ensures waiting { OnOk result (Adds query.now.to.0 query.now.limit self.old.permanent.items
+        ensures waiting { OnOk result (Adds goal.now.node.0 goal.now.limit self.old.permanent.items
             self.old.waiting.items (spot.now ∷ []) self.new.waiting.items) }
     {
-        if self.covers(query, spot) {
+        if self.covers(goal, spot) {
             return Ok(());
         }
-        take_out(&mut self.waiting, query.to, spot);
+        take_out(&mut self.waiting, goal.node, spot);
         self.waiting.push(*spot)?;
         Ok(())
     }
 
     /// Whether a permanent or waiting spot prunes this one, or its cost is beyond the limit.
-    fn covers(&self, query: &Query, spot: &Spot) -> bool
-        requires { length query.now.limit ≡ length spot.now.cost }
-        ensures { IsTrue result ↔ IsCovered query.now.to.0 query.now.limit
+    fn covers(&self, goal: &Goal, spot: &Spot) -> bool
+        requires { length goal.now.limit ≡ length spot.now.cost }
+        ensures { IsTrue result ↔ IsCovered goal.now.node.0 goal.now.limit
             self.now.permanent.items self.now.waiting.items spot.now }
     {
-        any_prunes(&self.permanent, query.to, spot)
-            || any_prunes(&self.waiting, query.to, spot)
-            || !query.limit.holds(&spot.cost)
+        any_prunes(&self.permanent, goal.node, spot)
+            || any_prunes(&self.waiting, goal.node, spot)
+            || !goal.limit.holds(&spot.cost)
     }
 }
 

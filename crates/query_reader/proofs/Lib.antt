@@ -1,2 +1,3 @@
 pub mod PairFormLemmas
 pub mod PairLemmas
+pub mod WrittenPairLemmas

@@ -3,8 +3,8 @@ use Rattle.std.proofs.Common.{◌≡◌, ℕ, true, false, cond, List, [], ◌�
 use Rattle.std.specs.Option.{option_map}
 use Rattle.gr_reader.specs.Capped.{capped_number, only_number}
 use Rattle.gr_reader.specs.Rules.{number_of}
-use Rattle.gr_reader.specs.Rules.Form.{Malformed}
-use Rattle.query_reader.specs.declared.pair_form.Form.TheVariants as read
+use Rattle.gr_reader.specs.Rules.LineForm.{Malformed}
+use Rattle.gr_reader.specs.declared.grammar.LineForm.TheVariants as read
 use Rattle.query_reader.specs.Grammar.{are_words, problem_from, problem_of}
 use Rattle.query_reader.specs.PairForms.{capped, or_malformed}
 

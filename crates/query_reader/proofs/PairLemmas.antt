@@ -1,7 +1,7 @@
 -- A text is of one list of pairs, and no weight is at fault.
 use Rattle.std.proofs.Common.{ℕ, List, Result, length}
 use Rattle.gr_reader.specs.declared.fault.FileFault.{FileFault}
-use Rattle.gr_reader.specs.declared.fault.FileLimits.{FileLimits}
+use Rattle.line_text.specs.declared.limits.LineLimits.{LineLimits}
 use Rattle.gr_reader.specs.declared.fault.FileFault.TheVariants.{Line, Read, OutOfMemory}
 use Rattle.gr_reader.specs.declared.fault.LineKind.TheVariants.{WeightRange}
 use Rattle.gr_reader.specs.Reader.{MayAnswer, IsSound, IsComplete}
@@ -18,7 +18,7 @@ no_weight Read may = tt
 no_weight OutOfMemory may = tt
 
 -- what is sound of a file of pairs is complete
-pub pairs_complete : (limits : FileLimits) (bytes : List ℕ) (result : Result (List Pair) FileFault)
+pub pairs_complete : (limits : LineLimits) (bytes : List ℕ) (result : Result (List Pair) FileFault)
     → IsSound pairs (IsPairs limits bytes) limits bytes result → IsComplete pairs (IsPairs limits bytes) limits bytes result
 pairs_complete limits bytes =
     complete pairs limits bytes (IsPairs limits bytes) (λ all other is second. ((is_decided pairs limits bytes).one_file _ _ all other is second).1)

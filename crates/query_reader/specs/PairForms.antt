@@ -3,26 +3,26 @@ use Rattle.std.specs.Prelude.{ℕ, ◌&&◌, if◌then◌else◌, Option, Some, 
 use Rattle.gr_reader.specs.declared.fault.LineKind.{LineKind}
 use Rattle.gr_reader.specs.declared.fault.LineKind.TheVariants.{SizeRange, NodeRange}
 use Rattle.gr_reader.specs.Capped.{capped_number, map_form}
-use Rattle.gr_reader.specs.Rules.{Form}
-use Rattle.gr_reader.specs.Rules.Form.{Problem, Record, Malformed}
-use Rattle.query_reader.specs.declared.pair_form.Form.TheVariants as read
-use Rattle.query_reader.specs.declared.pair_form.Form.{Form as ReadForm}
+use Rattle.gr_reader.specs.Rules.{LineForm}
+use Rattle.gr_reader.specs.Rules.LineForm.{Problem, Record, Malformed}
+use Rattle.gr_reader.specs.declared.grammar.LineForm.TheVariants as read
+use Rattle.gr_reader.specs.declared.grammar.LineForm.{LineForm as ReadForm}
 use Rattle.query_reader.specs.declared.pairs.Pair.{Pair}
 use Rattle.query_reader.specs.Grammar.{may_be_node, pairs}
 
 -- what was read
-abbrev pub as_form : ReadForm → Form ℕ Pair
+abbrev pub as_form : ReadForm ℕ (ℕ × ℕ) → LineForm ℕ Pair
 as_form (read.Problem count) = Problem count
-as_form (read.Pair from to) = Record (record { from = from; to = to })
+as_form (read.Record (from, to)) = Record (record { from = from; to = to })
 as_form read.Malformed = Malformed
 
 -- the same, where nothing fits that isn't malformed
-abbrev pub or_malformed : Option ReadForm → Form ℕ Pair
+abbrev pub or_malformed : Option (ReadForm ℕ (ℕ × ℕ)) → LineForm ℕ Pair
 or_malformed None = Malformed
 or_malformed (Some form) = as_form form
 
 -- the form with its numbers capped
-abbrev pub capped : Form ℕ Pair → Form ℕ Pair
+abbrev pub capped : LineForm ℕ Pair → LineForm ℕ Pair
 capped form =
     map_form capped_number (λ pair. record { from = capped_number pair.from; to = capped_number pair.to }) form
 

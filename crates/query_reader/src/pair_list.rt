@@ -1,8 +1,8 @@
 ghost use Rattle.std.specs.Prelude.{◌≡◌, []};
 
 use crate::pairs::{Pair, PairFiles};
-use cost_vector::OutOfMemory;
 use gr_reader::RecordSink;
+use out_of_memory::OutOfMemory;
 use std::alloc::Global;
 
 /// Takes the pairs of one file.

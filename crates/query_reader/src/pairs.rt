@@ -1,13 +1,13 @@
 ghost use Rattle.std.specs.Prelude.{◌≡◌, None, Some, IfOk, IfErr};
 ghost use Rattle.std.specs.Result.{result_err};
-ghost use Rattle.gr_reader.specs.Rules.Form.{Problem, Record};
+ghost use Rattle.gr_reader.specs.Rules.LineForm.{Problem, Record};
 ghost use Rattle.gr_reader.specs.Steps.{IsAccepted};
 ghost use Rattle.gr_reader.specs.Table.{form_kind};
 ghost use Rattle.query_reader.specs.Grammar.{may_be_node, pairs};
 ghost use Rattle.query_reader.specs.PairForms.{as_form, range_kind, size_kind};
 
-use crate::pair_form::{Form, form_of};
-use gr_reader::{Grammar, LineKind};
+use crate::pair_form::{PairForm, form_of};
+use gr_reader::{Grammar, LineForm, LineKind};
 
 /// The most pairs of a file.
 pub const MAX_PAIRS: u32 = 1_000_000;
@@ -43,31 +43,31 @@ impl Grammar for PairFiles {
 }
 
 /// The number of pairs in the first line.
-fn count_in(form: Form) -> Result<u32, LineKind>
+fn count_in(form: PairForm) -> Result<u32, LineKind>
     ensures accepted { IfOk result
         (λ count. IsAccepted pairs None 0 (as_form form) (Problem count)) }
     ensures refused { IfErr result
         (λ kind. form_kind pairs None 0 (as_form form) ≡ Some kind) }
 {
     match form {
-        Form::Malformed => Err(LineKind::BadLine),
-        Form::Pair { .. } => Err(LineKind::NoProblem),
-        Form::Problem { count } => count_of(count),
+        LineForm::Malformed => Err(LineKind::BadLine),
+        LineForm::Record(_) => Err(LineKind::NoProblem),
+        LineForm::Problem(count) => count_of(count),
     }
 }
 
 /// The pair in a line behind the problem line and so many pairs.
-fn pair_in(form: Form, count: u32, come: u32) -> Result<Pair, LineKind>
+fn pair_in(form: PairForm, count: u32, come: u32) -> Result<Pair, LineKind>
     ensures accepted { IfOk result
         (λ pair. IsAccepted pairs (Some count) come (as_form form) (Record pair)) }
     ensures refused { IfErr result
         (λ kind. form_kind pairs (Some count) come (as_form form) ≡ Some kind) }
 {
     match form {
-        Form::Malformed => Err(LineKind::BadLine),
-        Form::Problem { .. } => Err(LineKind::SecondProblem),
-        Form::Pair { .. } if count <= come => Err(LineKind::CountWrong),
-        Form::Pair { from, to } => pair_of(from, to),
+        LineForm::Malformed => Err(LineKind::BadLine),
+        LineForm::Problem(_) => Err(LineKind::SecondProblem),
+        LineForm::Record(_) if count <= come => Err(LineKind::CountWrong),
+        LineForm::Record((from, to)) => pair_of(from, to),
     }
 }
 

@@ -7,7 +7,8 @@ ghost use Rattle.query_reader.specs.Grammar.{IsPairs, pairs};
 
 use crate::pair_list::PairList;
 use crate::pairs::{Pair, PairFiles};
-use gr_reader::{FileFault, FileLimits, read_records};
+use gr_reader::{FileFault, read_records};
+use line_text::LineLimits;
 use route_io::Source;
 use std::alloc::Global;
 
@@ -15,11 +16,11 @@ use std::alloc::Global;
 pub fn read_p2p<S: Source>(
     alloc: Global,
     source: &mut S,
-    limits: FileLimits,
+    limits: LineLimits,
 ) -> Result<Vec<Pair>, FileFault>
     requires some { 1 ≤ limits.line }
     requires line { limits.line ≤ max_line }
-    requires file { limits.file ≤ 2 ^ 63 }
+    requires file { limits.total ≤ 2 ^ 63 }
 
     // Where the source tells its bytes, pairs are answered exactly for their text, and a fault of a line exactly
     // where it is the first, but for the source's failures and want of memory.
@@ -32,7 +33,7 @@ pub fn read_p2p<S: Source>(
     ensures weights { IfErr result BlamesNoWeight }
 
     // Where the source tells its bytes, at most one byte past the limit is taken.
-    ensures takes_at_most { TakesAtMost (limits.file + 1)
+    ensures takes_at_most { TakesAtMost (limits.total + 1)
         (S.state source.old) (S.state source.new) }
 
     // The source's failures alone make a failed read.

@@ -5,13 +5,15 @@ use Rattle.road_network.specs.Answers.{IsAnswer, Route}
 use Rattle.road_network.proofs.AnswerLaws.{has_answer, some_list}
 use Rattle.route_io.specs.declared.fault.WriteFault.{WriteFault}
 use Rattle.route_io.specs.Sinks.{SinkState}
-use Rattle.answer_writer.specs.Forms.{limit_of, reply_of}
-use Rattle.query_replies.specs.declared.asked.Asked.{Asked}
-use Rattle.query_replies.specs.declared.asked.Reply.{Reply}
-use Rattle.query_replies.specs.declared.asked.Reply.TheVariants.{Answer}
+use Rattle.road_network.specs.Queries.{HaveNodes, IsTooLarge, limit_of}
+use Rattle.road_network.specs.declared.query.AnswerKind.{AnswerKind}
+use Rattle.road_network.specs.declared.query.Query.{Query}
+use Rattle.answer_writer.specs.Replies.{reply_of}
+use Rattle.query_replies.specs.declared.reply.Reply.{Reply}
+use Rattle.query_replies.specs.declared.reply.Reply.TheVariants.{Answer}
 use Rattle.query_replies.specs.declared.fault.ReplyFault.{ReplyFault}
 use Rattle.query_replies.specs.declared.fault.ReplyFault.TheVariants as fault
-use Rattle.query_replies.specs.Queries.{HaveNodes, IsTooLarge, RepliesToQuery}
+use Rattle.query_replies.specs.Queries.{RepliesToQuery}
 use Rattle.query_replies.specs.Sending.{IsReplyOf, Replied, SendsReply}
 
 -- a reply of one kind is one of another
@@ -25,15 +27,15 @@ module _ (One Other : Reply → List ℕ → Type 0) (each : (reply : Reply) (te
   replied_as (Err fault.OutOfMemory) same = same
 
 -- the query is within its budget, and the reply is its answer
-pub answers_query : (net : Network) (epoch : ℕ) (asked : Asked) (out replied : SinkState) (result : Result Reply ReplyFault)
-    → IsNetwork net → HaveNodes net asked → ¬ IsTooLarge net asked
-    → ((routes : List Route) → IsAnswer net asked.from asked.to (limit_of net.criteria asked.form) routes
-    → Replied (IsReplyOf Answer (reply_of asked.form epoch asked.from asked.to routes)) out replied result)
-    → Replied (RepliesToQuery net epoch asked) out replied result
-answers_query net epoch asked out replied result is nodes within replies =
-    let limit = limit_of net.criteria asked.form in
-    let best = some_list net asked.from asked.to is limit in
-    let answer = has_answer net asked.from asked.to is limit best.0 best.1 in
-    replied_as (IsReplyOf Answer (reply_of asked.form epoch asked.from asked.to answer.0)) (RepliesToQuery net epoch asked)
+pub answers_query : (net : Network) (epoch : ℕ) (kind : AnswerKind) (query : Query) (out replied : SinkState) (result : Result Reply ReplyFault)
+    → IsNetwork net → HaveNodes net query → ¬ IsTooLarge net query
+    → ((routes : List Route) → IsAnswer net query.from query.to (limit_of net.criteria query) routes
+    → Replied (IsReplyOf Answer (reply_of kind epoch query routes)) out replied result)
+    → Replied (RepliesToQuery net epoch kind query) out replied result
+answers_query net epoch kind query out replied result is nodes within replies =
+    let limit = limit_of net.criteria query in
+    let best = some_list net query.from query.to is limit in
+    let answer = has_answer net query.from query.to is limit best.0 best.1 in
+    replied_as (IsReplyOf Answer (reply_of kind epoch query answer.0)) (RepliesToQuery net epoch kind query)
     (λ reply text is. rw (is.0, is.1) (record { nodes = nodes; within = within; routes = answer.0; answer = answer.1; reply = refl })) out replied result
     (replies answer.0 answer.1)

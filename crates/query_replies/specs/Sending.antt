@@ -1,18 +1,10 @@
--- What sending a reply does to a sink, and when a query can be replied to.
-use Rattle.std.specs.Prelude.{◌≡◌, ◌≤◌, ℕ, List, length, Result, Ok, Err}
-use Rattle.road_network.specs.Limits.{max_budget}
+-- What sending a reply does to a sink.
+use Rattle.std.specs.Prelude.{◌≡◌, ℕ, List, Result, Ok, Err}
 use Rattle.route_io.specs.Sinks.{SinkState, Sends}
 use Rattle.route_io.specs.declared.fault.WriteFault.{WriteFault}
-use Rattle.answer_writer.specs.Forms.{limit_of}
-use Rattle.query_replies.specs.declared.asked.Asked.{Asked}
-use Rattle.query_replies.specs.declared.asked.Reply.{Reply}
+use Rattle.query_replies.specs.declared.reply.Reply.{Reply}
 use Rattle.query_replies.specs.declared.fault.ReplyFault.{ReplyFault}
 use Rattle.query_replies.specs.declared.fault.ReplyFault.TheVariants as fault
-
--- the limit has a place for each of so many criteria, and the budget isn't beyond the greatest
-pub record IsAsked (criteria : ℕ) (asked : Asked) : Type 0 where
-  pub limit : length (limit_of criteria asked.form) ≡ criteria
-  pub budget : asked.budget ≤ max_budget
 
 -- A reply of this kind was sent, or at a fault a part of it from the front.
 pub record SendsReply (IsReply : Reply → List ℕ → Type 0) (old new : SinkState) (reply : Reply)

@@ -1,32 +1,30 @@
 ghost use Rattle.std.specs.Prelude.{◌≡◌, ◌≤◌, ℕ, List, length};
 ghost use Rattle.road_network.specs.Answers.{IsAnswer, Route};
-ghost use Rattle.arc_graph.specs.Graph.{Match, network};
+ghost use Rattle.road_network.specs.Found.{IsOf};
+ghost use Rattle.road_network.specs.Queries.{IsAsked, limit_of};
 ghost use Rattle.path_readback.specs.WellFound.{IsWellFound};
-ghost use Rattle.answer_writer.specs.Forms.{limit_of, reply_of};
-ghost use Rattle.answer_writer.specs.Replies.{refusal};
+ghost use Rattle.answer_writer.specs.Replies.{refusal, reply_of};
 ghost use Rattle.query_replies.specs.Queries.{RepliesToQuery};
-ghost use Rattle.query_replies.specs.Sending.{IsAsked, IsReplyOf, Replied};
-ghost use Rattle.query_replies.specs.declared.asked.Reply.TheVariants.{Answer, Refusal};
+ghost use Rattle.query_replies.specs.Sending.{IsReplyOf, Replied};
+ghost use Rattle.query_replies.specs.declared.reply.Reply.TheVariants.{Answer, Refusal};
 
-use crate::{Asked, Reply, ReplyFault};
-use answer_writer::{Form, put_answer, put_refusal};
-use arc_graph::{Graph, Weights};
-use cost_vector::{Limit, NodeNo};
+use crate::{Reply, ReplyFault};
+use answer_writer::{put_answer, put_refusal};
+use arc_graph::Network;
 use pareto_search::search;
-use path_readback::{Found, Room};
+use path_readback::Room;
+use road_network::{AnswerKind, Found, Query, SearchFault};
 use route_io::{Gate, Sink};
-use route_query::{Query, SearchFault};
 use std::alloc::Global;
 use std::thread::Threads;
-use work_claim::Crew;
+use work_claim::Workers;
 
-/// Who replies to queries over one network, with a crew that shares each search.
+/// Who replies to queries over one network, with workers who share each search.
 #[derive(Drop)]
 pub struct Answerer<'n, R, G> {
-    pub crew: &'n Crew<'n, R, G>,
+    pub workers: &'n Workers<'n, R, G>,
     pub alloc: Global,
-    pub graph: &'n Graph,
-    pub weights: &'n Weights,
+    pub network: &'n Network<'n>,
 }
 
 impl<R: Threads + Sync, G: Gate> Answerer<'_, R, G> {
@@ -35,26 +33,22 @@ impl<R: Threads + Sync, G: Gate> Answerer<'_, R, G> {
     pub fn reply<K: Sink>(
         &self,
         epoch: u32,
-        asked: &Asked,
+        kind: AnswerKind,
+        query: &Query,
         room: &mut Room,
         out: &mut K,
     ) -> Result<Reply, ReplyFault>
-        requires at_least_one { 1 ≤ self.now.crew.now.workers }
-        requires at_most_64 { self.now.crew.now.workers ≤ 64 }
-        requires weights { Match self.now.graph.now self.now.weights.now }
-        requires asked { IsAsked self.now.graph.now.criteria asked.now }
-        ensures { Replied (RepliesToQuery (network self.now.graph.now self.now.weights.now)
-            epoch asked.now) (K.state out.old) (K.state out.new) result }
+        requires { IsAsked self.now.network.now.criteria query.now }
+        ensures { Replied (RepliesToQuery self.now.network.now epoch kind query.now)
+            (K.state out.old) (K.state out.new) result }
     {
-        if !self.graph.has_node(asked.from) || !self.graph.has_node(asked.to) {
-            return refuse(out, epoch, asked, " node");
+        if !self.network.has_node(query.from) || !self.network.has_node(query.to) {
+            return refuse(out, epoch, query, " node");
         }
-        prove!(self.graph.nodes() >= 1);
-        prove!(self.graph.arcs() == self.weights.arcs());
-        let query = query_of(self.graph, asked);
-        match search(self.crew, self.alloc, self.graph, self.weights, &query) {
-            Ok(found) => self.answer(epoch, &asked.form, &found, room, out),
-            Err(SearchFault::Budget) => refuse(out, epoch, asked, " budget"),
+        prove!(self.network.nodes() >= 1);
+        match search(self.workers, self.alloc, self.network, query) {
+            Ok(found) => self.answer(epoch, kind, query, &found, room, out),
+            Err(SearchFault::Budget) => refuse(out, epoch, query, " budget"),
             Err(SearchFault::OutOfMemory) => Err(ReplyFault::OutOfMemory),
         }
     }
@@ -63,52 +57,31 @@ impl<R: Threads + Sync, G: Gate> Answerer<'_, R, G> {
     fn answer<F: Found, K: Sink>(
         &self,
         epoch: u32,
-        form: &Form,
+        kind: AnswerKind,
+        query: &Query,
         found: &F,
         room: &mut Room,
         out: &mut K,
     ) -> Result<Reply, ReplyFault>
-        requires weights { Match self.now.graph.now self.now.weights.now }
-        requires nodes { (F.state found.now).nodes ≡ self.now.graph.now.nodes }
-        requires criteria { (F.state found.now).criteria ≡ self.now.graph.now.criteria }
-        requires well_found { IsWellFound (network self.now.graph.now self.now.weights.now)
-            (limit_of self.now.graph.now.criteria form.now) (F.state found.now) }
-        ensures { (routes : List Route) → IsAnswer (network self.now.graph.now self.now.weights.now)
-            (F.state found.now).start (F.state found.now).target
-            (limit_of self.now.graph.now.criteria form.now) routes
-            → Replied (IsReplyOf Answer (reply_of form.now epoch (F.state found.now).start
-            (F.state found.now).target routes)) (K.state out.old) (K.state out.new) result }
+        requires of_query { IsOf self.now.network.now query.now (F.state found.now) }
+        requires well_found { IsWellFound self.now.network.now
+            (limit_of self.now.network.now.criteria query.now) (F.state found.now) }
+        ensures { (routes : List Route) → IsAnswer self.now.network.now query.now.from query.now.to
+            (limit_of self.now.network.now.criteria query.now) routes
+            → Replied (IsReplyOf Answer (reply_of kind epoch query.now routes))
+            (K.state out.old) (K.state out.new) result }
     {
         room.make_room(found.longest())?;
-        put_answer(out, epoch, self.graph, self.weights, found, form, room)?;
+        put_answer(out, epoch, kind, query, self.network, found, room)?;
         Ok(Reply::Answer)
     }
 }
 
 /// Sends a refusal.
-fn refuse<K: Sink>(out: &mut K, epoch: u32, asked: &Asked, why: &str) -> Result<Reply, ReplyFault>
-    ensures { Replied (IsReplyOf Refusal (refusal epoch asked.now.from asked.now.to why.now))
+fn refuse<K: Sink>(out: &mut K, epoch: u32, query: &Query, why: &str) -> Result<Reply, ReplyFault>
+    ensures { Replied (IsReplyOf Refusal (refusal epoch query.now.from query.now.to why.now))
         (K.state out.old) (K.state out.new) result }
 {
-    put_refusal(out, epoch, asked.from, asked.to, why)?;
+    put_refusal(out, epoch, query.from, query.to, why)?;
     Ok(Reply::Refusal)
-}
-
-/// The query as the search takes it.
-fn query_of(graph: &Graph, asked: &Asked) -> Query
-    ensures from { result.from.0 ≡ asked.now.from }
-    ensures to { result.to.0 ≡ asked.now.to }
-    ensures limit { result.limit ≡ limit_of graph.now.criteria asked.now.form }
-    ensures budget { result.budget ≡ asked.now.budget }
-{
-    let limit = match asked.form {
-        Form::Costs | Form::Walks => Limit::none(graph.criteria()),
-        Form::Within { limit } => limit,
-    };
-    Query {
-        from: NodeNo(asked.from),
-        to: NodeNo(asked.to),
-        limit,
-        budget: asked.budget,
-    }
 }

@@ -1,4 +1,4 @@
-use cost_vector::OutOfMemory;
+use out_of_memory::OutOfMemory;
 use route_io::WriteFault;
 use thiserror::Error;
 

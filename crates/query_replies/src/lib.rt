@@ -2,9 +2,9 @@
 #![tactic(auto)]
 
 mod answerer;
-mod asked;
 mod fault;
+mod reply;
 
 pub use answerer::Answerer;
-pub use asked::{Asked, Reply};
 pub use fault::ReplyFault;
+pub use reply::Reply;

@@ -2,32 +2,32 @@
 use Rattle.std.specs.Prelude.{ℕ, ◌≤◌, ◌==◌, List, length, map, filter, flat_map, not, nat_eq, if◌then◌else◌}
 use Rattle.cost_vector.specs.declared.label.ArcNo.{ArcNo}
 use Rattle.cost_vector.specs.declared.label.Label.{Label}
-use Rattle.compact_labels.specs.declared.label.CompactLabel.{CompactLabel}
-use Rattle.compact_labels.specs.declared.label.CompactSpot.{CompactSpot}
-use Rattle.road_network.specs.Network.{IsNode}
-use Rattle.arc_graph.specs.Graph.{Graph, Weights, SumsFit, relaxed, tail_of}
+use Rattle.cost_vector.specs.declared.compact_label.CompactLabel.{CompactLabel}
+use Rattle.cost_vector.specs.declared.compact_label.CompactSpot.{CompactSpot}
+use Rattle.road_network.specs.Network.{Network, IsNode}
+use Rattle.arc_graph.specs.Graph.{SumsFit, relaxed, tail_of}
 
 -- the node that an arc leads from, or 0 where there is no arc, as at the start
-abbrev pub origin_of : Graph → ArcNo → ℕ
-origin_of g a = if a.0 == 0 then 0 else tail_of g a
+abbrev pub origin_of : List (ℕ × ℕ) → ArcNo → ℕ
+origin_of ends a = if a.0 == 0 then 0 else tail_of ends a
 
 module _ {D : ℕ} where
   -- the spot's node is one of the graph, and its cost can be added to
-  pub record CanRelax (g : Graph) (w : Weights) (s : CompactSpot D) : Type 0 where
-    pub node : IsNode g.nodes s.node.0
-    pub fits : SumsFit g w s.node.0 s.cost.0
+  pub record CanRelax (net : Network) (s : CompactSpot D) : Type 0 where
+    pub node : IsNode net.nodes s.node.0
+    pub fits : SumsFit net s.node.0 s.cost.0
 
   -- the same label, whose number of criteria is part of its type
   abbrev pub compact_of : Label → CompactLabel D
   compact_of l = record { node = l.node; cost = record { 0 = l.cost }; arc = l.arc }
 
   -- the labels of all passable arcs that lead from the spot's node, by ascending arc
-  abbrev pub candidates_from : Graph → Weights → CompactSpot D → List (CompactLabel D)
-  candidates_from g w s = map compact_of (relaxed g w s.node.0 s.cost.0)
+  abbrev pub candidates_from : Network → CompactSpot D → List (CompactLabel D)
+  candidates_from net s = map compact_of (relaxed net s.node.0 s.cost.0)
 
   -- those of all spots, in the order of the spots
-  abbrev pub candidates_of : Graph → Weights → List (CompactSpot D) → List (CompactLabel D)
-  candidates_of g w spots = flat_map (candidates_from g w) spots
+  abbrev pub candidates_of : Network → List (CompactSpot D) → List (CompactLabel D)
+  candidates_of net spots = flat_map (candidates_from net) spots
 
   -- ---- of labels, whose arcs tell from where they came
 
@@ -36,18 +36,18 @@ module _ {D : ℕ} where
   spot_of l = record { cost = l.cost; node = l.node }
 
   -- the label at the spot, with no arc
-  abbrev pub unled : CompactSpot D → CompactLabel D
-  unled s = record { node = s.node; cost = s.cost; arc = record { 0 = 0 } }
+  abbrev pub without_arc : CompactSpot D → CompactLabel D
+  without_arc s = record { node = s.node; cost = s.cost; arc = record { 0 = 0 } }
 
   -- the label's spot can be relaxed, and its arc is one of the graph, or none
-  pub record CanGoOn (g : Graph) (w : Weights) (l : CompactLabel D) : Type 0 where
-    pub relax : CanRelax g w (spot_of l)
-    pub arc : l.arc.0 ≤ length g.ends
+  pub record CanGoOn (net : Network) (l : CompactLabel D) : Type 0 where
+    pub relax : CanRelax net (spot_of l)
+    pub arc : l.arc.0 ≤ length net.ends
 
   -- the candidates that the label's spot gives, but for those at the node from which the label's arc leads
-  abbrev pub onward_from : Graph → Weights → CompactLabel D → List (CompactLabel D)
-  onward_from g w l = filter (λ x. not (nat_eq x.node.0 (origin_of g l.arc))) (candidates_from g w (spot_of l))
+  abbrev pub onward_from : Network → CompactLabel D → List (CompactLabel D)
+  onward_from net l = filter (λ x. not (nat_eq x.node.0 (origin_of net.ends l.arc))) (candidates_from net (spot_of l))
 
   -- those of all labels, in the order of the labels
-  abbrev pub onward_of : Graph → Weights → List (CompactLabel D) → List (CompactLabel D)
-  onward_of g w labels = flat_map (onward_from g w) labels
+  abbrev pub onward_of : Network → List (CompactLabel D) → List (CompactLabel D)
+  onward_of net labels = flat_map (onward_from net) labels

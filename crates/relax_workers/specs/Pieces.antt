@@ -1,8 +1,8 @@
 -- The pieces into which taken labels are cut.
 use Rattle.std.specs.Prelude.{◌≡◌, ℕ, ◌*◌, ◌<◌, ◌≤◌, List, length, take, drop, All}
 use Rattle.cost_vector.specs.Costs.{max_criteria}
-use Rattle.compact_labels.specs.declared.label.CompactLabel.{CompactLabel}
-use Rattle.arc_graph.specs.Graph.{Graph, Weights, Match}
+use Rattle.cost_vector.specs.declared.compact_label.CompactLabel.{CompactLabel}
+use Rattle.road_network.specs.Network.{Network}
 use Rattle.relax_workers.specs.Candidates.{CanGoOn}
 
 -- how many labels are a piece; the last piece may have fewer
@@ -14,14 +14,13 @@ module _ {D : ℕ} where
   abbrev pub labels_of : List (CompactLabel D) → ℕ → List (CompactLabel D)
   labels_of taken piece = take piece_size (drop (piece * piece_size) taken)
 
-  -- the weights are the graph's, the costs have its criteria, and each label can go on
-  pub record AreReady (g : Graph) (w : Weights) (taken : List (CompactLabel D)) : Type 0 where
-    pub weights : Match g w
-    pub criteria : g.criteria ≡ D
+  -- the costs have the network's criteria, and each label can go on
+  pub record AreReady (net : Network) (taken : List (CompactLabel D)) : Type 0 where
+    pub criteria : net.criteria ≡ D
     pub four : D ≤ max_criteria
-    pub each : All (CanGoOn g w) taken
+    pub each : All (CanGoOn net) taken
 
   -- there is such a piece of them
-  pub record CanDo (g : Graph) (w : Weights) (taken : List (CompactLabel D)) (piece : ℕ) : Type 0 where
-    pub ready : AreReady g w taken
+  pub record CanDo (net : Network) (taken : List (CompactLabel D)) (piece : ℕ) : Type 0 where
+    pub ready : AreReady net taken
     pub there : piece * piece_size < length taken

@@ -1,12 +1,11 @@
 ghost use Rattle.std.specs.Prelude.{◌≡◌, ℕ, ◌*◌, ◌++◌, ◌<◌, ◌≤◌, length, OnOk};
 ghost use Rattle.cost_vector.specs.Costs.{max_criteria};
-ghost use Rattle.arc_graph.specs.Graph.{Match};
 ghost use Rattle.relax_workers.specs.Candidates.{CanGoOn, onward_from, onward_of, origin_of};
 ghost use Rattle.relax_workers.specs.Pieces.{CanDo, labels_of, piece_size};
 
-use arc_graph::{Graph, Weights};
-use compact_labels::CompactLabel;
-use cost_vector::{ArcNo, NodeNo, OutOfMemory};
+use arc_graph::Network;
+use cost_vector::{ArcNo, CompactLabel, NodeNo};
+use out_of_memory::OutOfMemory;
 use std::alloc::Global;
 use work_claim::Job;
 
@@ -17,8 +16,7 @@ const PIECE_SIZE: usize = 64;
 #[derive(Drop)]
 pub(crate) struct TakenLabels<'g, const D: usize> {
     pub alloc: Global,
-    pub graph: &'g Graph,
-    pub weights: &'g Weights,
+    pub network: &'g Network<'g>,
     pub taken: &'g [CompactLabel<D>],
 }
 
@@ -29,10 +27,10 @@ impl<'g, const D: usize> Job for TakenLabels<'g, D> {
 
     type Out = Vec<CompactLabel<D>>;
 
-    ghost accepts = { λ job piece. CanDo job.graph.now job.weights.now job.taken.now piece };
+    ghost accepts = { λ job piece. CanDo job.network.now job.taken.now piece };
 
     ghost gives = { λ job piece out.
-        out.items ≡ onward_of job.graph.now job.weights.now (labels_of job.taken.now piece) };
+        out.items ≡ onward_of job.network.now (labels_of job.taken.now piece) };
 
     fn run(&self, piece: usize) -> Result<Vec<CompactLabel<D>>, OutOfMemory> {
         let mut candidates = Vec::new(self.alloc);
@@ -56,13 +54,12 @@ impl<'g, const D: usize> TakenLabels<'g, D> {
         piece: usize,
         candidates: &mut Vec<CompactLabel<D>>,
     ) -> Result<(), OutOfMemory>
-        requires { CanDo self.now.graph.now self.now.weights.now self.now.taken.now piece }
+        requires { CanDo self.now.network.now self.now.taken.now piece }
         ensures { OnOk result (candidates.new.items ≡ candidates.old.items
-            ++ onward_of self.now.graph.now self.now.weights.now
-            (labels_of self.now.taken.now piece)) }
+            ++ onward_of self.now.network.now (labels_of self.now.taken.now piece)) }
     {
         for label in piece_of(self.taken, piece) {
-            relax_into(self.graph, self.weights, label, candidates)?;
+            relax_into(self.network, label, candidates)?;
         }
         Ok(())
     }
@@ -81,27 +78,25 @@ fn piece_of<const D: usize>(taken: &[CompactLabel<D>], piece: usize) -> &[Compac
 /// Appends the candidates that a label gives: for each arc that leads from its node, isn't shut and doesn't lead back, in
 /// ascending order, the arc's head at the cost with the arc's vector added.
 fn relax_into<const D: usize>(
-    graph: &Graph,
-    weights: &Weights,
+    network: &Network<'_>,
     label: &CompactLabel<D>,
     candidates: &mut Vec<CompactLabel<D>>,
 ) -> Result<(), OutOfMemory>
-    requires weights { Match graph.now weights.now }
-    requires criteria { graph.now.criteria ≡ D }
+    requires criteria { network.now.criteria ≡ D }
     requires four { D ≤ max_criteria }
-    requires label { CanGoOn graph.now weights.now label.now }
+    requires label { CanGoOn network.now label.now }
     ensures { OnOk result (candidates.new.items
-        ≡ candidates.old.items ++ onward_from graph.now weights.now label.now) }
+        ≡ candidates.old.items ++ onward_from network.now label.now) }
 {
-    let origin = find_origin(graph, label.arc);
-    let arcs = graph.out_arcs(label.node);
+    let origin = find_origin(network, label.arc);
+    let arcs = network.out_arcs(label.node);
     candidates.reserve(arcs.len())?;
     for &arc in arcs {
-        let head = graph.head(arc);
+        let head = network.head(arc);
         if head == origin {
             continue;
         }
-        if let Some(weight) = weights.get(arc) {
+        if let Some(weight) = network.weight(arc) {
             candidates.push(CompactLabel {
                 node: head,
                 cost: label.cost.plus(&weight),
@@ -113,12 +108,12 @@ fn relax_into<const D: usize>(
 }
 
 /// The node that an arc leads from, or 0 for the start, to which none has led.
-fn find_origin(graph: &Graph, arc: ArcNo) -> NodeNo
-    requires { arc.0 ≤ length graph.now.ends }
-    ensures { result.0 ≡ origin_of graph.now arc }
+fn find_origin(network: &Network<'_>, arc: ArcNo) -> NodeNo
+    requires { arc.0 ≤ length network.now.ends }
+    ensures { result.0 ≡ origin_of network.now.ends arc }
 {
     if arc.0 == 0 {
         return NodeNo(0);
     }
-    graph.tail(arc)
+    network.tail(arc)
 }

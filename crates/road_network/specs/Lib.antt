@@ -3,3 +3,6 @@ pub mod Network
 pub mod Walks
 pub mod Best
 pub mod Answers
+pub mod Labels
+pub mod Found
+pub mod Queries

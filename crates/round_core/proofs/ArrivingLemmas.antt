@@ -6,25 +6,25 @@ use Rattle.cost_vector.proofs.Vectors.{AtMost-Dominates, AtMost-refl, cases_same
 use Rattle.list_laws.proofs.Members.{in_none, in_one, in_front, in_map, of_map, all_from_in, each_in}
 use Rattle.list_laws.proofs.OnceLaws.{in_append}
 use Rattle.list_laws.proofs.SetLaws.{none_of_empty}
-use Rattle.compact_labels.specs.declared.label.CompactLabel.{CompactLabel}
-use Rattle.compact_labels.specs.declared.label.CompactSpot.{CompactSpot}
+use Rattle.cost_vector.specs.declared.compact_label.CompactLabel.{CompactLabel}
+use Rattle.cost_vector.specs.declared.compact_label.CompactSpot.{CompactSpot}
 use Rattle.pareto_queue.specs.Queues.{LosesWhere}
 use Rattle.pareto_front.specs.Calls.{GrowsBy, entry_of}
 use Rattle.pareto_front.specs.Fronts.{Entry, Front, HasCost, IsCovered, IsDominated, SparesSettled, entries}
 use Rattle.pareto_front.specs.Merging.{IsAdded, IsMerged, IsRemoved}
 use Rattle.node_front.specs.Apart.{AreApart}
-use Rattle.node_front.specs.Deltas.{MergesAll, spot_told, told_at}
+use Rattle.node_front.specs.Deltas.{MergesAll, spot_view, entries_of_node}
 use Rattle.node_front.specs.NodeFronts.{Fronts, SameElsewhere, front_at}
 use Rattle.node_front.proofs.ApartLemmas.{apart_not_dominated, has_cost_of}
 use Rattle.node_front.proofs.MergedLemmas.{merged_apart}
 use Rattle.node_front.proofs.MergeLaws.{merged_none, merged_then}
-use Rattle.node_front.proofs.NeedlessLemmas.{told_has_cost}
+use Rattle.node_front.proofs.NeedlessLemmas.{decidable_has_cost}
 use Rattle.node_front.proofs.PlacedLemmas.{cases_number}
 use Rattle.node_front.proofs.RoundLemmas.{at_append, at_push, at_push_other, of_at}
 use Rattle.node_front.proofs.StaysLemmas.{stays_below, stays_of_cost}
 use Rattle.round_core.specs.Arriving.{AddsIfNew, HaveArrived, WaitsAsMerged, spot_at}
 use Rattle.round_core.specs.Unsettled.{HasUnsettled}
-use Rattle.round_core.proofs.UnsettledLemmas.{dominated_by_first, dominated_by_second, settled_has_cost, spot_by_parts, told_spot}
+use Rattle.round_core.proofs.UnsettledLemmas.{dominated_by_first, dominated_by_second, settled_has_cost, spot_by_parts, decidable_spot}
 
 -- a new entry has the cost
 pub record HasAdded (front : Front) (candidates : List Entry) (c : List ℕ) : Type 0 where
@@ -82,7 +82,7 @@ module _ {before after : Front} {candidates : List Entry} (merged : IsMerged bef
       λ h.
           let x : Entry = record { cost = c; arc = h.entry.arc } in
           let stays = (merged.entries x).0 h.entry.contains in
-          elim (told_has_cost (entries before) c) [
+          elim (decidable_has_cost (entries before) c) [
             | inr new ↦ inr (record { entry = x; added = record { stays = stays; new = new }; cost = refl })
             | inl has ↦ inl (
               record { entry = has; unsettled = λ was. h.unsettled ((settled_costs spares c).1 was) },
@@ -113,7 +113,7 @@ module _ {D : ℕ} where
   -- the candidates of a node spare its settled costs
   pub spares_at : (fronts : Fronts) (candidates : List (CompactLabel D))
       → All (λ (l : CompactLabel D). SparesSettled (front_at fronts l.node.0) l.cost.0) candidates
-      → (v : ℕ) → SpareSettled (front_at fronts v) (told_at v candidates)
+      → (v : ℕ) → SpareSettled (front_at fronts v) (entries_of_node v candidates)
   spares_at fronts candidates spares v c has by =
       let (l, l_in, node, same) = of_at v candidates by.by by.contains in
       let spared = subst (λ u. SparesSettled (front_at fronts u) l.cost.0) node
@@ -139,7 +139,7 @@ module _ {D : ℕ} where
       → HaveArrived before waited first now waiting removed → All (λ (x : CompactSpot D). IsCovered (entries (front_at now x.node.0)) x.cost.0) waiting
   waiting_covered {now = now} {waiting = waiting} {removed} arrived =
       all_from_in (λ (x : CompactSpot D). IsCovered (entries (front_at now x.node.0)) x.cost.0) waiting (λ x there.
-      elim (told_spot removed x) [
+      elim (decidable_spot removed x) [
         | inl gone ↦ let by = arrived.gone x gone in record { by = by.by; contains = by.contains; at_most = by.dominates.at_most }
         | inr not ↦
             let has = ((arrived.waits x).0 (there, not)).0.entry in
@@ -159,17 +159,17 @@ module _ {D : ℕ} where
   -- where some have come, and then others do
   module _ {before now after : Fronts} {waited waiting removed : List (CompactSpot D)} (more_waiting more_removed : List (CompactSpot D))
       {first labels : List (CompactLabel D)} (arrived : HaveArrived before waited first now waiting removed)
-      (spares : (v : ℕ) → SpareSettled (front_at now v) (told_at v labels)) (merges : MergesAll now labels after) (nodes : after.nodes ≡ now.nodes)
+      (spares : (v : ℕ) → SpareSettled (front_at now v) (entries_of_node v labels)) (merges : MergesAll now labels after) (nodes : after.nodes ≡ now.nodes)
       (goes : (x : CompactSpot D) → Contains more_removed x
-      ↔ (Contains removed x ⊎ IsRemoved (front_at now x.node.0) (told_at x.node.0 labels) x.cost.0))
+      ↔ (Contains removed x ⊎ IsRemoved (front_at now x.node.0) (entries_of_node x.node.0 labels) x.cost.0))
       (comes : (x : CompactSpot D) → Contains more_waiting x
-      ↔ (Contains waiting x ⊎ HasAdded (front_at now x.node.0) (told_at x.node.0 labels) x.cost.0)) where
+      ↔ (Contains waiting x ⊎ HasAdded (front_at now x.node.0) (entries_of_node x.node.0 labels) x.cost.0)) where
     still_gone : (x : CompactSpot D) → Contains more_removed x → IsDominated (entries (front_at after x.node.0)) x.cost.0
     still_gone x there =
         let v = x.node.0 in
         dominated_after (merges.merged v) x.cost.0 (elim ((goes x).0 there) [
-          | inl old ↦ dominated_by_first (entries (front_at now v)) (told_at v labels) (arrived.gone x old)
-          | inr new ↦ dominated_by_second (entries (front_at now v)) (told_at v labels) new.dominated
+          | inl old ↦ dominated_by_first (entries (front_at now v)) (entries_of_node v labels) (arrived.gone x old)
+          | inr new ↦ dominated_by_second (entries (front_at now v)) (entries_of_node v labels) new.dominated
         ])
 
     still_waits : WaitsAsMerged before waited after (λ (x : CompactSpot D). Contains more_waiting x × (¬ Contains more_removed x))
@@ -179,7 +179,7 @@ module _ {D : ℕ} where
           v : ℕ
           v = x.node.0
 
-          new_cost : HasAdded (front_at now v) (told_at v labels) x.cost.0
+          new_cost : HasAdded (front_at now v) (entries_of_node v labels) x.cost.0
               → (¬ HasCost (entries (front_at now v)) x.cost.0) × (¬ IsDominated (entries (front_at now v)) x.cost.0)
               × (¬ HasCost (entries (front_at before v)) x.cost.0)
           new_cost h =
@@ -243,7 +243,7 @@ module _ {D : ℕ} where
 
   -- what is so of the label's node and entry, and of all others and none, is so of each node and what the label tells of it
   pub at_each : (l : CompactLabel D) (P : ℕ → List Entry → Type 0) → P l.node.0 (entry_of l ∷ []) → ((v : ℕ) → v ≢ l.node.0 → P v [])
-      → (v : ℕ) → P v (told_at v (l ∷ []))
+      → (v : ℕ) → P v (entries_of_node v (l ∷ []))
   at_each l P here others v = elim (cases_number v l.node.0) [
     | inl same ↦ subst (P v) (sym (at_push v [] l (sym same))) (subst (λ u. P u (entry_of l ∷ [])) (sym same) here)
     | inr other ↦ subst (P v) (sym (at_push_other v [] l (λ e. other (sym e)))) (others v other)
@@ -261,7 +261,7 @@ module _ {D : ℕ} where
         (merged : IsMerged (front_at now l.node.0) (entry_of l ∷ []) (front_at after l.node.0))
         (grows : GrowsBy l.node.0 (IsRemoved (front_at now l.node.0) (entry_of l ∷ [])) removed more_removed)
         (adds : AddsIfNew (front_at now l.node.0) l waiting more_waiting) where
-      each_spares : (v : ℕ) → SpareSettled (front_at now v) (told_at v (l ∷ []))
+      each_spares : (v : ℕ) → SpareSettled (front_at now v) (entries_of_node v (l ∷ []))
       each_spares = at_each l (λ v es. SpareSettled (front_at now v) es)
           (λ c has by. still_spares (record { cost = c; arc = has.arc }) has.contains
           (subst (λ (x : Entry). Dominates x.cost c) (in_one (entry_of l) by.by by.contains) by.dominates))
@@ -274,15 +274,15 @@ module _ {D : ℕ} where
       }
 
       each_goes : (x : CompactSpot D) → Contains more_removed x
-          ↔ (Contains removed x ⊎ IsRemoved (front_at now x.node.0) (told_at x.node.0 (l ∷ [])) x.cost.0)
+          ↔ (Contains removed x ⊎ IsRemoved (front_at now x.node.0) (entries_of_node x.node.0 (l ∷ [])) x.cost.0)
       each_goes x = with_parts (grown l.node.0 (IsRemoved (front_at now l.node.0) (entry_of l ∷ [])) removed more_removed grows x)
           (at_each l (λ v es. ((v ≡ l.node.0) × IsRemoved (front_at now l.node.0) (entry_of l ∷ []) x.cost.0) ↔ IsRemoved (front_at now v) es x.cost.0)
           (λ h. h.1, λ h. (refl, h))
           (λ v other. (λ h. absurd (other h.0), λ h. absurd (in_none h.dominated.by h.dominated.contains))) x.node.0)
 
       each_comes : (x : CompactSpot D) → Contains more_waiting x
-          ↔ (Contains waiting x ⊎ HasAdded (front_at now x.node.0) (told_at x.node.0 (l ∷ [])) x.cost.0)
-      each_comes x = with_parts (adds x) (at_each l (λ v es. ((spot_told v x.cost.0 ≡ spot_at l) × IsAdded f (entry_of l ∷ []) (entry_of l))
+          ↔ (Contains waiting x ⊎ HasAdded (front_at now x.node.0) (entries_of_node x.node.0 (l ∷ [])) x.cost.0)
+      each_comes x = with_parts (adds x) (at_each l (λ v es. ((spot_view v x.cost.0 ≡ spot_at l) × IsAdded f (entry_of l ∷ []) (entry_of l))
           ↔ HasAdded (front_at now v) es x.cost.0) (
             λ (is, new). record { entry = entry_of l; added = new; cost = ap (λ (s : CompactSpot D). s.cost.0) (sym is) },
             λ h.

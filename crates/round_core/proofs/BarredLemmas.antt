@@ -3,25 +3,26 @@ use Rattle.std.proofs.Common.{◌≡◌, ◌⊎◌, ◌↔◌, ℕ, List, inl, i
 use Rattle.std.specs.Prelude.{Contains}
 use Rattle.cost_vector.specs.Costs.{Dominates, Within}
 use Rattle.cost_vector.proofs.Vectors.{cases_Within}
-use Rattle.list_laws.proofs.OnceLaws.{IsTold, told_either, told_not}
-use Rattle.compact_labels.specs.declared.label.CompactSpot.{CompactSpot}
-use Rattle.event_machine.specs.Machine.{Task, Label, SearchState, IsBeatenAtTarget}
+use Rattle.list_laws.proofs.OnceLaws.{IsDecidable, decidable_either, decidable_not}
+use Rattle.cost_vector.specs.declared.compact_label.CompactSpot.{CompactSpot}
+use Rattle.event_machine.specs.Machine.{Task, SearchState, IsBeatenAtTarget}
+use Rattle.road_network.specs.Labels.{Label}
 use Rattle.event_machine.specs.Events.{MayDrop}
 use Rattle.event_machine.specs.Orders.{IsNext, Stays}
 use Rattle.node_front.specs.NodeFronts.{front_at}
-use Rattle.node_front.proofs.RemovedLemmas.{told_dominated}
+use Rattle.node_front.proofs.RemovedLemmas.{decidable_dominated}
 use Rattle.round_core.specs.Cores.{Core, IsAt, as_entry, as_spot}
 use Rattle.round_core.specs.Taking.{IsBarred, IsNextIn, StaysIn}
 use Rattle.round_core.specs.Unsettled.{HasUnsettled, IsUnsettled}
 
 -- it can be told whether a cost is barred
-pub told_barred : {D : ℕ} (core : Core D) (c : List ℕ) → IsTold (IsBarred core c)
-told_barred core c = told_either (told_not (cases_Within core.limit c)) (told_dominated (front_at core.fronts core.target).settled c)
+pub decidable_barred : {D : ℕ} (core : Core D) (c : List ℕ) → IsDecidable (IsBarred core c)
+decidable_barred core c = decidable_either (decidable_not (cases_Within core.limit c)) (decidable_dominated (front_at core.fronts core.target).settled c)
 
 module _ {D : ℕ} (task : Task) (core : Core D) (s : SearchState) (at : IsAt task core s) where
   -- a cost is barred where the machine finds it useless
-  pub barred_told : (c : List ℕ) → IsBarred core c ↔ ((¬ Within task.limit c) ⊎ IsBeatenAtTarget task s c)
-  barred_told c = (
+  pub barred_iff : (c : List ℕ) → IsBarred core c ↔ ((¬ Within task.limit c) ⊎ IsBeatenAtTarget task s c)
+  barred_iff c = (
     elim [
       | inl beyond ↦ inl (rw at.search.limit beyond)
       | inr h ↦
@@ -37,20 +38,20 @@ module _ {D : ℕ} (task : Task) (core : Core D) (s : SearchState) (at : IsAt ta
   )
 
   -- a waiting label may be dropped where its cost is barred
-  pub drop_told : (y : Label) → MayDrop task s y
+  pub drop_iff : (y : Label) → MayDrop task s y
       ↔ (IsUnsettled (front_at core.fronts y.node) (as_entry y) × (Contains core.waiting (as_spot y) × IsBarred core y.cost))
-  drop_told y = both (at.stands.waiting y) (barred_told y.cost) (λ h. (h.waits, h.useless)) (λ w u. record { waits = w; useless = u }) where
+  drop_iff y = both (at.stands.waiting y) (barred_iff y.cost) (λ h. (h.waits, h.useless)) (λ w u. record { waits = w; useless = u }) where
     both : {M W U B E Q : Type 0} → (W ↔ (E × Q)) → (B ↔ U) → (M → (W × U)) → (W → U → M) → (M ↔ (E × (Q × B)))
     both f g h k = grind arith
 
-  stays_told : (y : Label) → Stays task s y ↔ (IsUnsettled (front_at core.fronts y.node) (as_entry y) × StaysIn core (as_spot y))
-  stays_told y = (
+  stays_iff : (y : Label) → Stays task s y ↔ (IsUnsettled (front_at core.fronts y.node) (as_entry y) × StaysIn core (as_spot y))
+  stays_iff y = (
     λ h.
         let (not, waits) = (at.stands.waiting y).0 h.waits in
-        (not, record { waits = waits; free = λ barred. h.kept (record { waits = h.waits; useless = (barred_told y.cost).0 barred }) }),
+        (not, record { waits = waits; free = λ barred. h.kept (record { waits = h.waits; useless = (barred_iff y.cost).0 barred }) }),
     λ h. record {
       waits = (at.stands.waiting y).1 (h.0, h.1.waits);
-      kept = λ may. h.1.free ((barred_told y.cost).1 may.useless);
+      kept = λ may. h.1.free ((barred_iff y.cost).1 may.useless);
     },
   )
 
@@ -67,13 +68,13 @@ module _ {D : ℕ} (task : Task) (core : Core D) (s : SearchState) (at : IsAt ta
     pub label_stays : (x : CompactSpot D) → StaysIn core x → (y : Label) × Stays task s y × (as_spot y ≡ x)
     label_stays x stays =
         let (y, not, same) = label_of x stays in
-        (y, (stays_told y).1 (not, subst (StaysIn core) (sym same) stays), same)
+        (y, (stays_iff y).1 (not, subst (StaysIn core) (sym same) stays), same)
 
     -- a label is next where its spot is
-    pub next_told : (y : Label) → IsNext task s y ↔ (IsUnsettled (front_at core.fronts y.node) (as_entry y) × IsNextIn core (as_spot y))
-    next_told y = (
+    pub next_iff : (y : Label) → IsNext task s y ↔ (IsUnsettled (front_at core.fronts y.node) (as_entry y) × IsNextIn core (as_spot y))
+    next_iff y = (
       λ h.
-          let (not, stays) = (stays_told y).0 h.stays in (
+          let (not, stays) = (stays_iff y).0 h.stays in (
             not,
             record {
               stays = stays;
@@ -83,8 +84,8 @@ module _ {D : ℕ} (task : Task) (core : Core D) (s : SearchState) (at : IsAt ta
             },
           ),
       λ h. record {
-        stays = (stays_told y).1 (h.0, h.1.stays);
-        none_better = λ z z_stays less. h.1.none_better (as_spot z) ((stays_told z).0 z_stays).1 less;
+        stays = (stays_iff y).1 (h.0, h.1.stays);
+        none_better = λ z z_stays less. h.1.none_better (as_spot z) ((stays_iff z).0 z_stays).1 less;
       },
     )
 
@@ -92,4 +93,4 @@ module _ {D : ℕ} (task : Task) (core : Core D) (s : SearchState) (at : IsAt ta
     pub label_next : (x : CompactSpot D) → IsNextIn core x → (y : Label) × IsNext task s y × (as_spot y ≡ x)
     label_next x next =
         let (y, not, same) = label_of x next.stays in
-        (y, (next_told y).1 (not, subst (IsNextIn core) (sym same) next), same)
+        (y, (next_iff y).1 (not, subst (IsNextIn core) (sym same) next), same)

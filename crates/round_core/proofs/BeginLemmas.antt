@@ -2,8 +2,8 @@
 use Rattle.std.proofs.Common.{◌≡◌, ◌≢◌, ℕ, ◌+◌, ◌≤◌, List, [], ◌∷◌, inl, inr, subst, refl, arith}
 use Rattle.std.specs.Prelude.{All, Contains, Result, Ok, Err, IfOk, OnOk}
 use Rattle.list_laws.proofs.Members.{all_from_in, each_in, in_first}
-use Rattle.cost_vector.specs.declared.out_of_memory.OutOfMemory.{OutOfMemory}
-use Rattle.compact_labels.specs.declared.label.CompactSpot.{CompactSpot}
+use Rattle.out_of_memory.specs.declared.OutOfMemory.{OutOfMemory}
+use Rattle.cost_vector.specs.declared.compact_label.CompactSpot.{CompactSpot}
 use Rattle.node_front.specs.NodeFronts.{front_at}
 use Rattle.round_core.specs.declared.begin.Begun.{Begun}
 use Rattle.round_core.specs.declared.begin.Begun.TheVariants.{Taken, Done, Budget}

@@ -8,26 +8,27 @@ use Rattle.list_laws.proofs.Members.{each_in, in_map, of_map}
 use Rattle.list_laws.proofs.OnceLaws.{alike_through, empty_if_none, in_append, list_all, more_of_map, pairs_append}
 use Rattle.list_laws.proofs.Pairs.{pairs_map, pigeonhole}
 use Rattle.list_laws.proofs.SetLaws.{more_by_list, none_of_empty, same_by_permutation}
-use Rattle.compact_labels.specs.declared.label.CompactSpot.{CompactSpot}
-use Rattle.event_machine.specs.Machine.{Task, Label, SearchState, LeadsOn, IsSamePair, settled, dropped, waiting}
+use Rattle.cost_vector.specs.declared.compact_label.CompactSpot.{CompactSpot}
+use Rattle.event_machine.specs.Machine.{Task, SearchState, LeadsOn, settled, dropped, waiting}
+use Rattle.road_network.specs.Labels.{Label, IsSamePair}
 use Rattle.event_machine.specs.Events.{drop, take, IsReached, MayDrop}
 use Rattle.event_machine.specs.Rounds.{IsBetweenRounds}
 use Rattle.event_machine.specs.Orders.{DropsAll, IsBegun, IsNext}
 use Rattle.event_machine.proofs.Sound.{IsSound, cases_label}
 use Rattle.event_machine.proofs.Keeping.{settled_once, sound_if_reached}
-use Rattle.bulk_rounds.proofs.BegunLaws.{all_drops, begins_is_begun, told_may_drop}
+use Rattle.event_machine.proofs.BegunLaws.{all_drops, begins_is_begun, decidable_may_drop}
 use Rattle.pareto_front.specs.Fronts.{HasCost}
 use Rattle.pareto_queue.specs.Queues.{SpotLess, TakesUndominated}
 use Rattle.pareto_queue.proofs.OrderLemmas.{SpotLess-irrefl, SpotLess-trans}
 use Rattle.node_front.specs.NodeFronts.{front_at}
-use Rattle.round_core.specs.Begins.{DropsUseless, HasBegun, HasEnded, PassesBudget, SomeStay}
+use Rattle.round_core.specs.Begins.{DropsUseless, HasBegun, HasEnded, ExceedsBudget, SomeStay}
 use Rattle.round_core.specs.Cores.{Core, IsAt, SameSearch, as_entry, as_spot}
 use Rattle.round_core.specs.Taking.{DropsBarred, IsBarred, IsNextIn, KeepsWaiting, SettlesAll, StaysIn, TakesNext, WouldPass}
 use Rattle.round_core.specs.Unsettled.{CountsSettled, HasUnsettled, IsUnsettled}
-use Rattle.round_core.proofs.BarredLemmas.{barred_told, drop_told, label_next, label_stays, next_told, told_barred}
+use Rattle.round_core.proofs.BarredLemmas.{barred_iff, drop_iff, label_next, label_stays, next_iff, decidable_barred}
 use Rattle.round_core.proofs.OutcomeLemmas.{reached_on, same_task}
 use Rattle.round_core.proofs.SettlingLemmas.{unsettled_then}
-use Rattle.round_core.proofs.UnsettledLemmas.{told_spot}
+use Rattle.round_core.proofs.UnsettledLemmas.{decidable_spot}
 
 -- what waits after the drops waited, and isn't barred
 waits_after_drops : {D : ℕ} (before after : Core D) (drops : DropsBarred before after) (x : CompactSpot D)
@@ -46,7 +47,7 @@ pair_by_spot x y same = grind arith
 module _ {M N U V W X B T : Type 0} (m : M ↔ (U × (W × B))) (n : N ↔ (U × T)) (v : V ↔ (U × (¬ T))) (x : X ↔ ((W × (¬ B)) × (¬ T))) where
   drops_by_parts : {A S Q R : Type 0} → (A ↔ ((S × (¬ M) × (¬ N)) ⊎ ((Q × M) ⊎ (R × N)))) → Q → ¬ R → (S ↔ (U × (¬ W))) → (T → W × (¬ B))
       → (W ⊎ (¬ W)) → (B ⊎ (¬ B)) → (A ↔ (V × (¬ X)))
-  drops_by_parts a q r s t told told_too = grind arith
+  drops_by_parts a q r s t decision decidable_too = grind arith
 
   waits_by_parts : {A S Q R : Type 0} → (A ↔ ((S × (¬ M) × (¬ N)) ⊎ ((Q × M) ⊎ (R × N)))) → ¬ Q → ¬ R → (S ↔ (U × W)) → (A ↔ (V × X))
   waits_by_parts a q r s = grind arith
@@ -82,7 +83,7 @@ module _ {D : ℕ} (task : Task) (before : Core D) (s : SearchState) (none : bef
 
   reached_by_drops : (left : SearchState) → DropsAll task s left → IsReached task left
   reached_by_drops left all =
-      let (drops, each) = list_all cases_label (MayDrop task s) (told_may_drop task s) s.waiting (λ l may. may.waits) in
+      let (drops, each) = list_all cases_label (MayDrop task s) (decidable_may_drop task s) s.waiting (λ l may. may.waits) in
       reached_on task s left (map (λ l. drop l) drops) at.reached (((all_drops task s sound drops each).1 left).1 all)
 
   reached_by_begins : (next : SearchState) → IsBegun task s next → IsReached task next
@@ -93,15 +94,15 @@ module _ {D : ℕ} (task : Task) (before : Core D) (s : SearchState) (none : bef
   module _ (after : Core D) (drops : DropsBarred before after) (left : SearchState) (all : DropsAll task s left) where
     stands_dropped : (y : Label) → Contains left.dropped y
         ↔ (IsUnsettled (front_at before.fronts y.node) (as_entry y) × (¬ Contains after.waiting (as_spot y)))
-    stands_dropped y = both (all.entries dropped y) refl (at.stands.dropped y) (drop_told task before s at y) (waits_after_drops before after drops (as_spot y))
-        (told_spot before.waiting (as_spot y)) (told_barred before y.cost) where
+    stands_dropped y = both (all.entries dropped y) refl (at.stands.dropped y) (drop_iff task before s at y) (waits_after_drops before after drops (as_spot y))
+        (decidable_spot before.waiting (as_spot y)) (decidable_barred before y.cost) where
           both : {A S M Q U W B V : Type 0} → (A ↔ ((S × (¬ M)) ⊎ (Q × M))) → Q → (S ↔ (U × (¬ W))) → (M ↔ (U × (W × B))) → (V ↔ (W × (¬ B)))
               → (W ⊎ (¬ W)) → (B ⊎ (¬ B)) → (A ↔ (U × (¬ V)))
-          both a q s m v told told_too = grind arith
+          both a q s m v decision decidable_too = grind arith
 
     stands_waiting : (y : Label) → Contains left.waiting y
         ↔ (IsUnsettled (front_at before.fronts y.node) (as_entry y) × Contains after.waiting (as_spot y))
-    stands_waiting y = both (all.entries waiting y) (λ wrong. cc) (at.stands.waiting y) (drop_told task before s at y)
+    stands_waiting y = both (all.entries waiting y) (λ wrong. cc) (at.stands.waiting y) (drop_iff task before s at y)
         (waits_after_drops before after drops (as_spot y)) where
           both : {A S M Q U W B V : Type 0} → (A ↔ ((S × (¬ M)) ⊎ (Q × M))) → ¬ Q → (S ↔ (U × W)) → (M ↔ (U × (W × B))) → (V ↔ (W × (¬ B)))
               → (A ↔ (U × V))
@@ -144,7 +145,7 @@ module _ {D : ℕ} (before mid : Core D) (drops : DropsBarred before mid) where
 
   -- where none is left, all were barred
   barred_if_gone : mid.waiting ≡ [] → (x : CompactSpot D) → Contains before.waiting x → IsBarred before x.cost.0
-  barred_if_gone gone x waits = elim (told_barred before x.cost.0) [
+  barred_if_gone gone x waits = elim (decidable_barred before x.cost.0) [
     | inl barred ↦ barred
     | inr free ↦ absurd (none_of_empty mid.waiting gone x ((drops.waiting x).1 (record { waits = waits; free = free })))
   ]
@@ -156,7 +157,7 @@ module _ {D : ℕ} (before mid : Core D) (drops : DropsBarred before mid) where
     all_barred = barred_if_gone gone;
     none_stay = λ task s at l waits. record {
       waits = waits;
-      useless = (barred_told task before s at l.cost).0 (barred_if_gone gone (as_spot l) ((at.stands.waiting l).0 waits).1);
+      useless = (barred_iff task before s at l.cost).0 (barred_if_gone gone (as_spot l) ((at.stands.waiting l).0 waits).1);
     };
   }
 
@@ -204,7 +205,7 @@ module _ {D : ℕ} (before mid : Core D) (drops : DropsBarred before mid) where
       settled_then : (y : Label) → Contains next.settled y → Contains (counts.spots ++ took) (as_spot y)
       settled_then y there = (in_append counts.spots took (as_spot y)).1 (elim ((next_settled y).0 there) [
         | inl old ↦ inl ((settled_spot (as_spot y)).1 (record { arc = y.arc; contains = (at.stands.settled y).0 old }))
-        | inr is_next ↦ inr ((next_in took rest takes (as_spot y)).1 ((next_told task before s at stays_unsettled y).0 is_next).1)
+        | inr is_next ↦ inr ((next_in took rest takes (as_spot y)).1 ((next_iff task before s at stays_unsettled y).0 is_next).1)
       ])
 
       label_then : (x : CompactSpot D) → Contains (counts.spots ++ took) x → (y : Label) × Contains next.settled y × (as_spot y ≡ x)
@@ -240,7 +241,7 @@ module _ {D : ℕ} (before mid : Core D) (drops : DropsBarred before mid) where
           omega (arith, least, length-map more.members spot, more.more, length-append counts.spots took, counts.counted, within)
 
     -- the budget is passed
-    pub passes : (x : CompactSpot D) → Contains mid.waiting x → WouldPass mid → PassesBudget before
+    pub passes : (x : CompactSpot D) → Contains mid.waiting x → WouldPass mid → ExceedsBudget before
     passes x waits would = record {
       some_stay = some_stay x waits;
       more = λ task s next at begun. more_then would.took would.rest would.taken would.count would.counts task s next at begun before.budget
@@ -265,7 +266,7 @@ module _ {D : ℕ} (before mid : Core D) (drops : DropsBarred before mid) where
 
       module _ (task : Task) (s next : SearchState) (at : IsAt task before s) (begun : IsBegun task s next) where
         next_taken : (y : Label) → IsNext task s y ↔ (IsUnsettled (front_at before.fronts y.node) (as_entry y) × Contains after.taken (as_spot y))
-        next_taken y = both (next_told task before s at stays_unsettled y) (is_next (as_spot y)) where
+        next_taken y = both (next_iff task before s at stays_unsettled y) (is_next (as_spot y)) where
           both : {A U N T : Type 0} → (A ↔ (U × N)) → (T ↔ N) → (A ↔ (U × T))
           both f g = grind arith
 
@@ -287,12 +288,12 @@ module _ {D : ℕ} (before mid : Core D) (drops : DropsBarred before mid) where
 
         begun_dropped : (y : Label) → Contains next.dropped y
             ↔ (IsUnsettled (front_at after.fronts y.node) (as_entry y) × (¬ Contains after.waiting (as_spot y)))
-        begun_dropped y = drops_by_parts (drop_told task before s at y) (next_taken y) (left_unsettled y) (waits_then y) (begun.entries dropped y)
-            refl (λ wrong. cc) (at.stands.dropped y) (taken_waits y) (told_spot before.waiting (as_spot y)) (told_barred before y.cost)
+        begun_dropped y = drops_by_parts (drop_iff task before s at y) (next_taken y) (left_unsettled y) (waits_then y) (begun.entries dropped y)
+            refl (λ wrong. cc) (at.stands.dropped y) (taken_waits y) (decidable_spot before.waiting (as_spot y)) (decidable_barred before y.cost)
 
         begun_waiting : (y : Label) → Contains next.waiting y
             ↔ (IsUnsettled (front_at after.fronts y.node) (as_entry y) × Contains after.waiting (as_spot y))
-        begun_waiting y = waits_by_parts (drop_told task before s at y) (next_taken y) (left_unsettled y) (waits_then y) (begun.entries waiting y)
+        begun_waiting y = waits_by_parts (drop_iff task before s at y) (next_taken y) (left_unsettled y) (waits_then y) (begun.entries waiting y)
             (λ wrong. cc) (λ wrong. cc) (at.stands.waiting y)
 
         begun_taken : (x : CompactSpot D) → Contains after.taken x → (y : Label) × Contains next.settled y × (as_spot y ≡ x)
@@ -333,7 +334,7 @@ module _ {D : ℕ} (before mid : Core D) (drops : DropsBarred before mid) where
             exact = is_next;
             taken = λ task s at z. (
               λ there. label_next task before s at stays_unsettled z ((is_next z).0 there),
-              λ (y, next, same). (is_next z).1 (subst (IsNextIn before) same ((next_told task before s at stays_unsettled y).0 next).1),
+              λ (y, next, same). (is_next z).1 (subst (IsNextIn before) same ((next_iff task before s at stays_unsettled y).0 next).1),
             );
             begun = at_begun;
             within = λ task s next at begun. within_then after.taken after.waiting takes.taken takes.count takes.counts task s next at begun before.budget

@@ -3,12 +3,12 @@ use Rattle.std.proofs.Common.{below_more, ◌≡◌, ◌≢◌, ◌+◌, ℕ, �
 use Rattle.std.proofs.Common.{Option, None, zero, suc, inl, inr, refl, sym, ap, subst, ◌∙◌, arith}
 use Rattle.std.specs.Prelude.{Bool, true, false, ◌&&◌, All, IsTrue, Contains, slice_index}
 use Rattle.cost_vector.specs.Costs.{IsAllowed, Within}
-use Rattle.compact_labels.specs.declared.cost.CompactCost.{CompactCost}
+use Rattle.cost_vector.specs.declared.compact_cost.CompactCost.{CompactCost}
 use Rattle.list_laws.proofs.Members.{all_from_in, cases_push, each_in}
 use Rattle.list_laws.proofs.OnceLaws.{in_append, empty_if_none}
 use Rattle.list_laws.proofs.SetLaws.{none_of_empty}
-use Rattle.pareto_front.specs.declared.front.Standing.{Standing}
-use Rattle.pareto_front.specs.declared.front.Standing.TheVariants.{Dominated, Equal, New}
+use Rattle.pareto_front.specs.declared.front.CostStanding.{CostStanding}
+use Rattle.pareto_front.specs.declared.front.CostStanding.TheVariants.{Dominated, Equal, New}
 use Rattle.pareto_front.specs.Calls.{Enters, Settles, StandsTo}
 use Rattle.pareto_front.specs.Fronts.{Entry, Front, HasCost, IsDominated, IsFront, entries}
 use Rattle.node_front.proofs.ApartLemmas.{apart_of_front, apart_not_dominated}
@@ -78,7 +78,7 @@ module _ {before entered after : Front} {e : Entry} (all_settled : before.unsett
   ])
 
 -- a cost stands to the entries as one that none dominates
-pub undominated : {d : ℕ} {f : Front} → IsFront d f → (c : List ℕ) (standing : Standing) → StandsTo f c standing → standing ≢ Dominated
+pub undominated : {d : ℕ} {f : Front} → IsFront d f → (c : List ℕ) (standing : CostStanding) → StandsTo f c standing → standing ≢ Dominated
     → ¬ IsDominated (entries f) c
 undominated is_front c Dominated stands other h = other refl
 undominated {d} {f} is_front c (Equal arc) stands other h =

@@ -5,15 +5,15 @@ use Rattle.std.proofs.lemmas.Bool.Decides.{nat_tests}
 use Rattle.list_laws.proofs.Members.{all_from_in, each_in, in_first, in_none, in_rest, in_map, of_map, in_filter, of_filter}
 use Rattle.list_laws.proofs.OnceLaws.{alike_through, in_append, once_apart}
 use Rattle.list_laws.proofs.Pairs.{pairs_cons, pairs_none}
-use Rattle.compact_labels.specs.declared.label.CompactLabel.{CompactLabel}
-use Rattle.compact_labels.specs.declared.label.CompactSpot.{CompactSpot}
+use Rattle.cost_vector.specs.declared.compact_label.CompactLabel.{CompactLabel}
+use Rattle.cost_vector.specs.declared.compact_label.CompactSpot.{CompactSpot}
 use Rattle.road_network.specs.Network.{IsNode}
 use Rattle.pareto_front.specs.Calls.{entry_of}
 use Rattle.pareto_front.specs.Fronts.{Entry, entries}
 use Rattle.pareto_front.specs.Merging.{IsAdded, IsRemoved}
 use Rattle.pareto_queue.specs.Queues.{Gains, LosesWhere}
 use Rattle.node_front.specs.Apart.{AreApart}
-use Rattle.node_front.specs.Deltas.{AreDeltas, Deltas, MergesAll, costs_told_at, delta_at, told_at}
+use Rattle.node_front.specs.Deltas.{AreDeltas, Deltas, MergesAll, costs_of_node, delta_at, entries_of_node}
 use Rattle.node_front.specs.NodeFronts.{Fronts, SameFronts, front_at}
 use Rattle.node_front.proofs.ApartLemmas.{same_entry}
 use Rattle.node_front.proofs.MergeLaws.{brought_candidate}
@@ -28,8 +28,8 @@ use Rattle.round_core.proofs.WaitingLemmas.{AreOther, loses_each}
 
 module _ {D : ℕ} where
   -- a list has a spot where its node tells the cost
-  spots_told : (spots : List (CompactSpot D)) (x : CompactSpot D) → Contains spots x ↔ Contains (costs_told_at x.node.0 spots) x.cost.0
-  spots_told spots x = (
+  spots_iff : (spots : List (CompactSpot D)) (x : CompactSpot D) → Contains spots x ↔ Contains (costs_of_node x.node.0 spots) x.cost.0
+  spots_iff spots x = (
     λ there.
         let test : nat_eq x.node.0 x.node.0 ≡ true = grind (arith, nat_tests) in
         in_map (λ (s : CompactSpot D). s.cost.0) _ x (in_filter (λ (s : CompactSpot D). nat_eq s.node.0 x.node.0) spots x there test),
@@ -42,23 +42,23 @@ module _ {D : ℕ} where
 
   -- labels have other spots, where each node's entries are told once and a cost tells its entry
   other_spots : (P : ℕ → Entry → Type 0) → ((v : ℕ) (x y : Entry) → P v x → P v y → x.cost ≡ y.cost → x ≡ y) → (ls : List (CompactLabel D))
-      → ((v : ℕ) → AllPairs ◌≢◌ (told_at v ls)) → ((l : CompactLabel D) → Contains ls l → P l.node.0 (entry_of l)) → AllPairs AreOther ls
+      → ((v : ℕ) → AllPairs ◌≢◌ (entries_of_node v ls)) → ((l : CompactLabel D) → Contains ls l → P l.node.0 (entry_of l)) → AllPairs AreOther ls
   other_spots P alike [] once each = pairs_none AreOther
   other_spots P alike (l ∷ ls) once each = pairs_cons AreOther l ls
       (λ m m_in same.
       let node : m.node.0 ≡ l.node.0 = ap (λ (s : CompactSpot D). s.node.0) (sym same) in
       let one = alike l.node.0 (entry_of l) (entry_of m) (each l (in_first l ls))
       (subst (λ v. P v (entry_of m)) node (each m (in_rest l ls m m_in))) (ap (λ (s : CompactSpot D). s.cost.0) same) in
-      let m_told = subst (λ v. Contains (told_at v ls) (entry_of m)) node (in_at ls m m_in) in
-      (apart l.node.0).1 (entry_of l) (in_at (l ∷ []) l (in_first l [])) (subst (Contains (told_at l.node.0 ls)) (sym one) m_told))
+      let m_iff = subst (λ v. Contains (entries_of_node v ls) (entry_of m)) node (in_at ls m m_in) in
+      (apart l.node.0).1 (entry_of l) (in_at (l ∷ []) l (in_first l [])) (subst (Contains (entries_of_node l.node.0 ls)) (sym one) m_iff))
       (other_spots P alike ls (λ v. (apart v).0) (λ m m_in. each m (in_rest l ls m m_in))) where
-        apart : (v : ℕ) → AllPairs ◌≢◌ (told_at v ls) × ((x : Entry) → Contains (told_at v (l ∷ [])) x → ¬ Contains (told_at v ls) x)
-        apart v = once_apart (told_at v (l ∷ [])) (told_at v ls) (subst (AllPairs ◌≢◌) (at_append v (l ∷ []) ls) (once v))
+        apart : (v : ℕ) → AllPairs ◌≢◌ (entries_of_node v ls) × ((x : Entry) → Contains (entries_of_node v (l ∷ [])) x → ¬ Contains (entries_of_node v ls) x)
+        apart v = once_apart (entries_of_node v (l ∷ [])) (entries_of_node v ls) (subst (AllPairs ◌≢◌) (at_append v (l ∷ []) ls) (once v))
 
   module _ {f : Fronts} {candidates : List (CompactLabel D)} {d : Deltas D} (are : AreDeltas f candidates d)
       (apart : (v : ℕ) → AreApart (entries (front_at f v))) where
     abbrev IsNew : ℕ → Entry → Type 0
-    IsNew v e = IsAdded (front_at f v) (told_at v candidates) e
+    IsNew v e = IsAdded (front_at f v) (entries_of_node v candidates) e
 
     each_new : (l : CompactLabel D) → Contains d.added l → IsNew l.node.0 (entry_of l)
     each_new l there = ((are.exact l.node.0).added.exact (entry_of l)).0 (in_at d.added l there)
@@ -67,9 +67,9 @@ module _ {D : ℕ} where
     pub added_nodes : All (λ (l : CompactLabel D). IsNode f.nodes l.node.0) d.added
     added_nodes = all_from_in (λ (l : CompactLabel D). IsNode f.nodes l.node.0) d.added (λ l there.
         let v = l.node.0 in
-        let told = (in_append (told_at v d.added) (told_at v d.lowered) (entry_of l)).1 (inl (in_at d.added l there)) in
+        let decision = (in_append (entries_of_node v d.added) (entries_of_node v d.lowered) (entry_of l)).1 (inl (in_at d.added l there)) in
         let (m, m_in, node, _) = of_at v candidates (entry_of l)
-        (brought_candidate (front_at f v) (told_at v candidates) (delta_at v d) (are.exact v) (apart v) (entry_of l) told) in
+        (brought_candidate (front_at f v) (entries_of_node v candidates) (delta_at v d) (are.exact v) (apart v) (entry_of l) decision) in
         subst (IsNode f.nodes) node (each_in (λ (k : CompactLabel D). IsNode f.nodes k.node.0) candidates are.nodes m m_in))
 
     -- their spots differ
@@ -87,13 +87,13 @@ module _ {D : ℕ} where
     added_dont_wait waiting unsettled = all_from_in (λ (l : CompactLabel D). ¬ Contains waiting (spot_at l)) d.added (λ l there waits.
         (each_new l there).new (each_in (λ (x : CompactSpot D). HasUnsettled (front_at f x.node.0) x.cost.0) waiting unsettled (spot_at l) waits).entry)
 
-    goes : (x : CompactSpot D) → Contains d.removed x ↔ (Contains [] x ⊎ IsRemoved (front_at f x.node.0) (told_at x.node.0 candidates) x.cost.0)
-    goes x = parts (alike_through (spots_told d.removed x) ((are.exact x.node.0).removed.exact x.cost.0)) (in_none x) where
+    goes : (x : CompactSpot D) → Contains d.removed x ↔ (Contains [] x ⊎ IsRemoved (front_at f x.node.0) (entries_of_node x.node.0 candidates) x.cost.0)
+    goes x = parts (alike_through (spots_iff d.removed x) ((are.exact x.node.0).removed.exact x.cost.0)) (in_none x) where
       parts : {A C N : Type 0} → (A ↔ C) → ¬ N → (A ↔ (N ⊎ C))
       parts a none = grind arith
 
-    added_told : (x : CompactSpot D) → Contains (map (spot_at {D = D}) d.added) x ↔ HasAdded (front_at f x.node.0) (told_at x.node.0 candidates) x.cost.0
-    added_told x = (
+    added_iff : (x : CompactSpot D) → Contains (map (spot_at {D = D}) d.added) x ↔ HasAdded (front_at f x.node.0) (entries_of_node x.node.0 candidates) x.cost.0
+    added_iff x = (
       λ there.
           let (l, l_in, same) = of_map (spot_at {D = D}) d.added x there in
           rw same (record { entry = entry_of l; added = each_new l l_in; cost = refl }),
@@ -115,8 +115,8 @@ module _ {D : ℕ} where
         waits_without queued fresh left_queued left_fresh
         (more_arrived _ _ start (spares_at f candidates are.spares) merges nodes goes comes) loses loses_too where
           comes : (x : CompactSpot D) → Contains (queued ++ fresh) x
-              ↔ (Contains (all_waiting waiting) x ⊎ HasAdded (front_at f x.node.0) (told_at x.node.0 candidates) x.cost.0)
-          comes x = rw same (parts (in_append waiting.queued fresh x) (in_append waiting.queued waiting.fresh x) (gains x) (added_told x)) where
+              ↔ (Contains (all_waiting waiting) x ⊎ HasAdded (front_at f x.node.0) (entries_of_node x.node.0 candidates) x.cost.0)
+          comes x = rw same (parts (in_append waiting.queued fresh x) (in_append waiting.queued waiting.fresh x) (gains x) (added_iff x)) where
             parts : {A B Q F N P H : Type 0} → (A ↔ (Q ⊎ N)) → (B ↔ (Q ⊎ F)) → (N ↔ (F ⊎ P)) → (P ↔ H) → (A ↔ (B ⊎ H))
             parts a b n p = grind arith
 

@@ -7,12 +7,13 @@ use Rattle.cost_vector.proofs.Vectors.{AtMost-Dominates, Dominates-trans}
 use Rattle.list_laws.specs.Sets.{HasMoreThan}
 use Rattle.list_laws.proofs.OnceLaws.{alike_back, alike_through, empty_if_none, in_append}
 use Rattle.list_laws.proofs.SetLaws.{none_of_empty}
-use Rattle.compact_labels.specs.declared.label.CompactSpot.{CompactSpot}
+use Rattle.cost_vector.specs.declared.compact_label.CompactSpot.{CompactSpot}
 use Rattle.road_network.specs.Network.{AreSmall, IsNode}
 use Rattle.road_network.specs.Answers.{IsRelevant}
 use Rattle.road_network.specs.Walks.{IsSumOf}
 use Rattle.road_network.proofs.WalkLaws.{leads_to_node, node_of_walk}
-use Rattle.event_machine.specs.Machine.{Task, Label, SearchState, has_arc, settled}
+use Rattle.event_machine.specs.Machine.{Task, SearchState, has_arc, settled}
+use Rattle.road_network.specs.Labels.{Label}
 use Rattle.event_machine.specs.Machine.{HasSettled as HasSettledLabel}
 use Rattle.event_machine.specs.Orders.{IsArrival, IsGiven}
 use Rattle.event_machine.proofs.Sound.{IsSound, at_start, grown_from_settled, known_is_bounded}
@@ -20,8 +21,7 @@ use Rattle.event_machine.proofs.Sound.{follows as founded_by}
 use Rattle.event_machine.proofs.Keeping.{end_has_all, sound_if_reached}
 use Rattle.pareto_front.specs.Fronts.{Entry, IsDominated, SparesSettled, entries}
 use Rattle.node_front.specs.NodeFronts.{front_at}
-use Rattle.path_readback.specs.Found.{Found, HasSettled}
-use Rattle.path_readback.specs.WellFound.{HasAllRelevant}
+use Rattle.road_network.specs.Found.{Found, HasSettled, HasAllRelevant}
 use Rattle.round_core.specs.Cores.{Core, IsAt, as_entry, as_spot}
 use Rattle.round_core.specs.Onward.{IsWayBack}
 

@@ -2,7 +2,7 @@
 use Rattle.std.proofs.Common.{◌≡◌, ◌≢◌, ◌⊎◌, ◌↔◌, ◌+◌, ◌≤◌, ℕ, List, [], ◌++◌, length, inl, inr, refl, sym, subst, arith}
 use Rattle.std.specs.Prelude.{All, AllPairs, Contains, Option}
 use Rattle.std.proofs.lemmas.List.{length-append}
-use Rattle.compact_labels.specs.declared.label.CompactSpot.{CompactSpot}
+use Rattle.cost_vector.specs.declared.compact_label.CompactSpot.{CompactSpot}
 use Rattle.list_laws.specs.Sets.{SameMembers}
 use Rattle.list_laws.proofs.Ascending.{ascending_distinct}
 use Rattle.list_laws.proofs.Members.{all_from_in, each_in}
@@ -19,9 +19,9 @@ use Rattle.round_core.specs.Taking.{AreBoundsOf, DropsBarred, IsBarred, SettlesA
 use Rattle.round_core.specs.Unsettled.{CountsSettled, HasUnsettled}
 use Rattle.round_core.specs.Waiting.{Waiting, all_waiting}
 use Rattle.round_core.proofs.SettlingLemmas.{apart_still, costs_settled, unsettled_still}
-use Rattle.round_core.proofs.UnsettledLemmas.{told_spot}
+use Rattle.round_core.proofs.UnsettledLemmas.{decidable_spot}
 use Rattle.round_core.proofs.WaitingLemmas.{none_fresh}
-use Rattle.compact_labels.specs.declared.label.CompactLabel.{CompactLabel}
+use Rattle.cost_vector.specs.declared.compact_label.CompactLabel.{CompactLabel}
 use Rattle.node_front.specs.Deltas.{MergesAll}
 use Rattle.node_front.proofs.MergedLemmas.{merged_apart}
 use Rattle.round_core.specs.Arriving.{WaitsAsMerged}
@@ -108,9 +108,9 @@ module _ {D : ℕ} {old took left : List (CompactSpot D)} (takes : TakesUndomina
   took_of_old x there = ((takes.taken x).0 there).0
 
   given_back : (queue : List (CompactSpot D)) → SameMembers queue left → SameMembers (queue ++ took) old
-  given_back queue same x = back (in_append queue took x) (same x) (takes.rest x) (took_of_old x) (told_spot took x) where
+  given_back queue same x = back (in_append queue took x) (same x) (takes.rest x) (took_of_old x) (decidable_spot took x) where
     back : {A Q T L O : Type 0} → (A ↔ (Q ⊎ T)) → (Q ↔ L) → (L ↔ (O × (¬ T))) → (T → O) → (T ⊎ (¬ T)) → (A ↔ O)
-    back a q l t told = grind arith
+    back a q l t decision = grind arith
 
 module _ {D : ℕ} (f g : Fronts) (xs : List (CompactSpot D)) (all : SettlesAll f xs g)
     (unsettled : (x : CompactSpot D) → Contains xs x → HasUnsettled (front_at f x.node.0) x.cost.0) where

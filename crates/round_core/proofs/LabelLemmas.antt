@@ -6,8 +6,8 @@ use Rattle.std.proofs.lemmas.List.Elements.{All-push}
 use Rattle.list_laws.proofs.Members.{all_from_in, each_in, in_map, in_none}
 use Rattle.list_laws.proofs.SetLaws.{none_of_empty}
 use Rattle.cost_vector.specs.declared.label.ArcNo.{ArcNo}
-use Rattle.compact_labels.specs.declared.label.CompactLabel.{CompactLabel}
-use Rattle.compact_labels.specs.declared.label.CompactSpot.{CompactSpot}
+use Rattle.cost_vector.specs.declared.compact_label.CompactLabel.{CompactLabel}
+use Rattle.cost_vector.specs.declared.compact_label.CompactSpot.{CompactSpot}
 use Rattle.pareto_front.specs.Calls.{entry_of}
 use Rattle.pareto_front.specs.Fronts.{entries}
 use Rattle.node_front.specs.NodeFronts.{Fronts, front_at}

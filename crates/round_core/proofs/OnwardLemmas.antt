@@ -4,12 +4,12 @@ use Rattle.std.specs.Prelude.{Contains}
 use Rattle.cost_vector.specs.Costs.{Dominates}
 use Rattle.cost_vector.proofs.Vectors.{Dominates-trans}
 use Rattle.list_laws.proofs.OnceLaws.{alike_back, alike_through, in_append}
-use Rattle.compact_labels.specs.declared.label.CompactLabel.{CompactLabel}
+use Rattle.cost_vector.specs.declared.compact_label.CompactLabel.{CompactLabel}
 use Rattle.pareto_front.specs.Calls.{entry_of}
 use Rattle.pareto_front.specs.Fronts.{Entry, Front, HasCost, IsDominated, entries}
-use Rattle.pareto_front.specs.Merging.{IsMerged, Stays}
+use Rattle.pareto_front.specs.Merging.{IsMerged, Remains}
 use Rattle.node_front.specs.Apart.{AreApart}
-use Rattle.node_front.specs.Deltas.{told_at}
+use Rattle.node_front.specs.Deltas.{entries_of_node}
 use Rattle.node_front.specs.NodeFronts.{front_at}
 use Rattle.node_front.proofs.ApartLemmas.{apart_not_dominated}
 use Rattle.node_front.proofs.RoundLemmas.{of_at}
@@ -60,7 +60,7 @@ module _ (old all some : List Entry) (among : (e : Entry) → Contains some e �
   ]
 
   -- the same stays
-  stays_alike : (y : Entry) → Stays (old ++ all) y ↔ Stays (old ++ some) y
+  stays_alike : (y : Entry) → Remains (old ++ all) y ↔ Remains (old ++ some) y
   stays_alike y = (
     λ h.
         let free : ¬ IsDominated (old ++ some) y.cost = λ by. h.nondominated ((dominated_alike y.cost).1 by) in
@@ -102,19 +102,19 @@ finishes_without {D} all some before after apart leaves merges = finishes_by_mer
   none_taken = merges.none_taken;
 }) where
   -- a label of the node v tells its entry there
-  at_node : (v : ℕ) (ls : List (CompactLabel D)) (l : CompactLabel D) (e : Entry) → l.node.0 ≡ v → e ≡ entry_of l → Contains ls l → Contains (told_at v ls) e
+  at_node : (v : ℕ) (ls : List (CompactLabel D)) (l : CompactLabel D) (e : Entry) → l.node.0 ≡ v → e ≡ entry_of l → Contains ls l → Contains (entries_of_node v ls) e
   at_node v ls l e node same there = rw (← node, same) (in_at ls l there)
 
   moved : {v : ℕ} {e : Entry} (l : CompactLabel D) → l.node.0 ≡ v → e ≡ entry_of l → IsDominated (entries (front_at before.fronts l.node.0)) l.cost.0
       → IsDominated (entries (front_at before.fronts v)) e.cost
   moved l node same less = rw (← node, same) less
 
-  among : (v : ℕ) (e : Entry) → Contains (told_at v some) e → Contains (told_at v all) e
+  among : (v : ℕ) (e : Entry) → Contains (entries_of_node v some) e → Contains (entries_of_node v all) e
   among v e there =
       let (l, l_in, node, same) = of_at v some e there in
       at_node v all l e node same (leaves.among l l_in)
 
-  others : (v : ℕ) (e : Entry) → Contains (told_at v all) e → Contains (told_at v some) e ⊎ IsDominated (entries (front_at before.fronts v)) e.cost
+  others : (v : ℕ) (e : Entry) → Contains (entries_of_node v all) e → Contains (entries_of_node v some) e ⊎ IsDominated (entries (front_at before.fronts v)) e.cost
   others v e there =
       let (l, l_in, node, same) = of_at v all e there in
       elim (leaves.others l l_in) [

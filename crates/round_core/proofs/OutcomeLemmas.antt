@@ -5,30 +5,31 @@ use Rattle.std.proofs.lemmas.Bool.Decides.{nat_tests}
 use Rattle.list_laws.proofs.Members.{in_filter, in_map}
 use Rattle.list_laws.proofs.OnceLaws.{alike_back, alike_through, in_append}
 use Rattle.list_laws.proofs.SetLaws.{none_of_empty}
-use Rattle.compact_labels.specs.declared.label.CompactLabel.{CompactLabel}
-use Rattle.event_machine.specs.Machine.{Task, Label, SearchState, IsEntry, settled, dropped, waiting, start_state}
+use Rattle.cost_vector.specs.declared.compact_label.CompactLabel.{CompactLabel}
+use Rattle.event_machine.specs.Machine.{Task, SearchState, IsEntry, settled, dropped, waiting, start_state}
+use Rattle.road_network.specs.Labels.{Label}
 use Rattle.event_machine.specs.Events.{Event, IsReached, Runs, merge}
 use Rattle.event_machine.specs.Rounds.{relaxing}
 use Rattle.event_machine.specs.Orders.{IsArrival, IsOutcome, Survives, HasPair}
 use Rattle.event_machine.proofs.Running.{runs_on}
 use Rattle.event_machine.proofs.Keeping.{sound_if_reached}
-use Rattle.bulk_rounds.proofs.CompletesLaws.{completes_to_outcome, finishes_is_outcome}
+use Rattle.event_machine.proofs.CompletesLaws.{completes_to_outcome, finishes_is_outcome}
 use Rattle.pareto_front.specs.Calls.{entry_of}
 use Rattle.pareto_front.specs.Fronts.{Entry, HasCost, entries}
-use Rattle.pareto_front.specs.Merging.{Stays}
+use Rattle.pareto_front.specs.Merging.{Remains}
 use Rattle.node_front.specs.Apart.{AreApart}
-use Rattle.node_front.specs.Deltas.{told_at}
+use Rattle.node_front.specs.Deltas.{entries_of_node}
 use Rattle.node_front.specs.NodeFronts.{front_at}
 use Rattle.node_front.proofs.MergedLemmas.{merged_apart}
-use Rattle.node_front.proofs.NeedlessLemmas.{told_has_cost}
+use Rattle.node_front.proofs.NeedlessLemmas.{decidable_has_cost}
 use Rattle.node_front.proofs.RoundLemmas.{of_at}
 use Rattle.round_core.specs.Cores.{Core, IsAt, IsSearchOf, SameSearch, StandsFor, as_compact, as_entry, as_spot}
 use Rattle.round_core.specs.Finishes.{AreArrivals, FinishesRound, MergesRound}
 use Rattle.round_core.specs.Unsettled.{IsUnsettled}
-use Rattle.round_core.proofs.UnsettledLemmas.{cases_settled, dominated_by_second, settled_by_cost, told_spot}
+use Rattle.round_core.proofs.UnsettledLemmas.{cases_settled, dominated_by_second, settled_by_cost, decidable_spot}
 
 -- a label of a list tells its entry at its node
-pub in_at : {D : ℕ} (ls : List (CompactLabel D)) (l : CompactLabel D) → Contains ls l → Contains (told_at l.node.0 ls) (entry_of l)
+pub in_at : {D : ℕ} (ls : List (CompactLabel D)) (l : CompactLabel D) → Contains ls l → Contains (entries_of_node l.node.0 ls) (entry_of l)
 in_at {D} ls l there =
     let test : nat_eq l.node.0 l.node.0 ≡ true = grind (arith, nat_tests) in
     in_map (entry_of {D = D}) _ l (in_filter (λ (m : CompactLabel D). nat_eq m.node.0 l.node.0) ls l there test)
@@ -41,16 +42,16 @@ module _ {D : ℕ} (task : Task) (before after : Core D) (s end : SearchState) (
     (stands : StandsFor task.network before s) (apart : (v : ℕ) → AreApart (entries (front_at before.fronts v)))
     (arrivals : AreArrivals task.network s candidates) where
   abbrev known : ℕ → List Entry
-  known v = entries (front_at before.fronts v) ++ told_at v candidates
+  known v = entries (front_at before.fronts v) ++ entries_of_node v candidates
 
   -- ---- entries and arrivals are what is known of their node
 
-  entry_told : (y : Label) → IsEntry s y ↔ Contains (entries (front_at before.fronts y.node)) (as_entry y)
-  entry_told y = (
+  entry_iff : (y : Label) → IsEntry s y ↔ Contains (entries (front_at before.fronts y.node)) (as_entry y)
+  entry_iff y = (
     of_place,
     λ there. elim (cases_settled (front_at before.fronts y.node) (as_entry y) (apart y.node) there) [
       | inl is ↦ (settled, (stands.settled y).1 is)
-      | inr not ↦ elim (told_spot before.waiting (as_spot y)) [
+      | inr not ↦ elim (decidable_spot before.waiting (as_spot y)) [
         | inl waits ↦ (waiting, (stands.waiting y).1 (not, waits))
         | inr gone ↦ (dropped, (stands.dropped y).1 (not, gone))
       ]
@@ -61,8 +62,8 @@ module _ {D : ℕ} (task : Task) (before after : Core D) (s end : SearchState) (
     of_place (dropped, there) = ((stands.dropped y).0 there).0.entry
     of_place (waiting, there) = ((stands.waiting y).0 there).0.entry
 
-  arrival_told : (y : Label) → IsArrival task.network s y ↔ Contains (told_at y.node candidates) (as_entry y)
-  arrival_told y = (
+  arrival_iff : (y : Label) → IsArrival task.network s y ↔ Contains (entries_of_node y.node candidates) (as_entry y)
+  arrival_iff y = (
     λ arrives. in_at candidates (as_compact y) ((arrivals y).1 arrives),
     λ there.
         let (l, l_in, node, same) = of_at y.node candidates (as_entry y) there in
@@ -71,26 +72,26 @@ module _ {D : ℕ} (task : Task) (before after : Core D) (s end : SearchState) (
     again : (l : CompactLabel D) → l.node.0 ≡ y.node → as_entry y ≡ entry_of l → l ≡ as_compact y
     again l node same = grind arith
 
-  present_told : (y : Label) → (IsEntry s y ⊎ IsArrival task.network s y) ↔ Contains (known y.node) (as_entry y)
-  present_told y = both (entry_told y) (arrival_told y) (in_append (entries (front_at before.fronts y.node)) (told_at y.node candidates) (as_entry y)) where
+  present_iff : (y : Label) → (IsEntry s y ⊎ IsArrival task.network s y) ↔ Contains (known y.node) (as_entry y)
+  present_iff y = both (entry_iff y) (arrival_iff y) (in_append (entries (front_at before.fronts y.node)) (entries_of_node y.node candidates) (as_entry y)) where
     both : {A B E F G : Type 0} → (A ↔ B) → (E ↔ F) → (G ↔ (B ⊎ F)) → ((A ⊎ E) ↔ G)
     both f g h = grind arith
 
   present_at : (z : Label) (v : ℕ) → z.node ≡ v → IsEntry s z ⊎ IsArrival task.network s z → Contains (known v) (as_entry z)
-  present_at z v node present = rw node at ((present_told z).0 present)
+  present_at z v node present = rw node at ((present_iff z).0 present)
 
   -- ---- so what survives is what stays
 
-  survives_told : (y : Label) → Survives task.network s y ↔ Stays (known y.node) (as_entry y)
-  survives_told y = (
+  survives_iff : (y : Label) → Survives task.network s y ↔ Remains (known y.node) (as_entry y)
+  survives_iff y = (
     λ h. record {
-      contains = (present_told y).0 h.present;
-      nondominated = λ by. h.unbeaten (label_at y.node by.by) ((present_told (label_at y.node by.by)).1 by.contains)
+      contains = (present_iff y).0 h.present;
+      nondominated = λ by. h.unbeaten (label_at y.node by.by) ((present_iff (label_at y.node by.by)).1 by.contains)
           (record { node = refl; cost = by.dominates });
-      least = λ x there same. h.least (label_at y.node x) ((present_told (label_at y.node x)).1 there) (record { node = refl; cost = same });
+      least = λ x there same. h.least (label_at y.node x) ((present_iff (label_at y.node x)).1 there) (record { node = refl; cost = same });
     },
     λ h. record {
-      present = (present_told y).1 h.contains;
+      present = (present_iff y).1 h.contains;
       unbeaten = λ z there beats. h.nondominated
           (record { by = as_entry z; contains = present_at z y.node beats.node there; dominates = beats.cost });
       least = λ z there same. h.least (as_entry z) (present_at z y.node same.node there) same.cost;
@@ -126,7 +127,7 @@ module _ {D : ℕ} (task : Task) (before after : Core D) (s end : SearchState) (
 
   module _ (merges : MergesRound candidates before after) (outcome : IsOutcome task.network s end) where
     survives_after : (y : Label) → Survives task.network s y ↔ Contains (entries (front_at after.fronts y.node)) (as_entry y)
-    survives_after y = alike_through (survives_told y) (alike_back ((merges.fronts.merged y.node).entries (as_entry y)))
+    survives_after y = alike_through (survives_iff y) (alike_back ((merges.fronts.merged y.node).entries (as_entry y)))
 
     -- what survives is dominated by no candidate
     settled_after : (y : Label) → Survives task.network s y
@@ -135,7 +136,7 @@ module _ {D : ℕ} (task : Task) (before after : Core D) (s end : SearchState) (
       λ has. (((merges.fronts.merged y.node).settled y.cost).0 has).0,
       λ has. ((merges.fronts.merged y.node).settled y.cost).1 (
         has,
-        λ by. ((survives_told y).0 survives).nondominated (dominated_by_second (entries (front_at before.fronts y.node)) (told_at y.node candidates) by),
+        λ by. ((survives_iff y).0 survives).nondominated (dominated_by_second (entries (front_at before.fronts y.node)) (entries_of_node y.node candidates) by),
       ),
     )
 
@@ -146,35 +147,35 @@ module _ {D : ℕ} (task : Task) (before after : Core D) (s end : SearchState) (
           both f p e g h = grind arith
 
     -- what survives and isn't settled waits, if it waited before or is new
-    unsettled_told : (y : Label) → IsUnsettled (front_at after.fronts y.node) (as_entry y)
+    unsettled_iff : (y : Label) → IsUnsettled (front_at after.fronts y.node) (as_entry y)
         ↔ (Survives task.network s y × (¬ HasCost (front_at before.fronts y.node).settled y.cost))
-    unsettled_told y = (
+    unsettled_iff y = (
       λ not. let survives = (survives_after y).1 not.entry in (survives, λ has. not.unsettled ((settled_after y survives).1 has)),
       λ h. record { entry = (survives_after y).0 h.0; unsettled = λ has. h.1 ((settled_after y h.0).0 has) },
     )
 
-    waits_told : (y : Label) → IsUnsettled (front_at after.fronts y.node) (as_entry y) → (Contains after.waiting (as_spot y)
+    waits_iff : (y : Label) → IsUnsettled (front_at after.fronts y.node) (as_entry y) → (Contains after.waiting (as_spot y)
         ↔ (Contains before.waiting (as_spot y) ⊎ (¬ HasCost (entries (front_at before.fronts y.node)) y.cost)))
-    waits_told y not = (
+    waits_iff y not = (
       λ waits. ((merges.waiting (as_spot y)).0 waits).1,
       λ h. (merges.waiting (as_spot y)).1 (record { entry = record { arc = y.arc; contains = not.entry }; unsettled = not.unsettled }, h),
     )
 
     stands_dropped : (y : Label) → Contains end.dropped y
         ↔ (IsUnsettled (front_at after.fronts y.node) (as_entry y) × (¬ Contains after.waiting (as_spot y)))
-    stands_dropped y = both (outcome.entries dropped y) (dropped_pair y) (unsettled_told y) (waits_told y)
-        (told_has_cost (entries (front_at before.fronts y.node)) y.cost) where
+    stands_dropped y = both (outcome.entries dropped y) (dropped_pair y) (unsettled_iff y) (waits_iff y)
+        (decidable_has_cost (entries (front_at before.fronts y.node)) y.cost) where
           both : {A S P W V B N H : Type 0} → (A ↔ (S × P)) → (P ↔ ((H × (¬ B)) × (¬ W))) → (V ↔ (S × (¬ B))) → (V → (N ↔ (W ⊎ (¬ H))))
               → (H ⊎ (¬ H)) → (A ↔ (V × (¬ N)))
-          both f p v n told = grind arith
+          both f p v n decision = grind arith
 
     stands_waiting : (y : Label) → Contains end.waiting y
         ↔ (IsUnsettled (front_at after.fronts y.node) (as_entry y) × Contains after.waiting (as_spot y))
-    stands_waiting y = both (outcome.entries waiting y) (settled_pair y) (dropped_pair y) (unsettled_told y) (waits_told y)
-        (told_has_cost (entries (front_at before.fronts y.node)) y.cost) (told_spot before.waiting (as_spot y)) where
+    stands_waiting y = both (outcome.entries waiting y) (settled_pair y) (dropped_pair y) (unsettled_iff y) (waits_iff y)
+        (decidable_has_cost (entries (front_at before.fronts y.node)) y.cost) (decidable_spot before.waiting (as_spot y)) where
           both : {A S P Q W V B N H : Type 0} → (A ↔ (S × ((¬ Q) × (¬ P)))) → (Q ↔ B) → (P ↔ ((H × (¬ B)) × (¬ W))) → (V ↔ (S × (¬ B)))
               → (V → (N ↔ (W ⊎ (¬ H)))) → (H ⊎ (¬ H)) → (W ⊎ (¬ W)) → (A ↔ (V × N))
-          both f q p v n told told_too = grind arith
+          both f q p v n decision decidable_too = grind arith
 
     stands_after : StandsFor task.network after end
     stands_after = record {

@@ -5,14 +5,14 @@ use Rattle.std.proofs.lemmas.Bool.{cases_eq}
 use Rattle.std.proofs.lemmas.List.{get_or-take}
 use Rattle.cost_vector.specs.Costs.{AtMost, Dominates}
 use Rattle.cost_vector.proofs.Vectors.{cases_same}
-use Rattle.compact_labels.specs.declared.cost.CompactCost.{CompactCost}
-use Rattle.compact_labels.specs.declared.label.CompactSpot.{CompactSpot}
+use Rattle.cost_vector.specs.declared.compact_cost.CompactCost.{CompactCost}
+use Rattle.cost_vector.specs.declared.compact_label.CompactSpot.{CompactSpot}
 use Rattle.list_laws.proofs.Members.{in_either, in_first, in_none}
 use Rattle.list_laws.proofs.OnceLaws.{in_append}
 use Rattle.pareto_front.specs.Calls.{Settles}
 use Rattle.pareto_front.specs.Fronts.{Entry, Front, HasCost, IsCovered, SparesSettled, entries}
 use Rattle.node_front.specs.Apart.{AreApart}
-use Rattle.node_front.specs.Deltas.{spot_told}
+use Rattle.node_front.specs.Deltas.{spot_view}
 use Rattle.node_front.specs.NodeFronts.{Fronts, SameElsewhere, front_at}
 use Rattle.node_front.proofs.ApartLemmas.{apart_not_dominated, has_cost_of}
 use Rattle.round_core.specs.Bounds.{Bounds}
@@ -44,7 +44,7 @@ module _ {before after : Front} {c : List ℕ} (settles : Settles before c after
   entries_stay e = both (in_append after.settled after.unsettled e) (in_append before.settled before.unsettled e) (settles.settled e) (settles.unsettled e)
       (cases_same e.cost c) where
         both : {A S U B T V C : Type 0} → (A ↔ (S ⊎ U)) → (B ↔ (T ⊎ V)) → (S ↔ (T ⊎ (V × C))) → (U ↔ (V × (¬ C))) → (C ⊎ (¬ C)) → (A ↔ B)
-        both a b s u told = grind arith
+        both a b s u decision = grind arith
 
   module _ (has : HasUnsettled before c) where
     settled_costs : (k : List ℕ) → HasCost after.settled k ↔ (HasCost before.settled k ⊎ (k ≡ c))
@@ -93,14 +93,14 @@ module _ {D : ℕ} where
       | inr other ↦ rw (elsewhere.others v other) (λ t. t, λ t. t)
     ]
 
-    is_last : (v : ℕ) (c : List ℕ) → (spot_told v c ≡ x) ↔ ((v ≡ x.node.0) × (c ≡ x.cost.0))
+    is_last : (v : ℕ) (c : List ℕ) → (spot_view v c ≡ x) ↔ ((v ≡ x.node.0) × (c ≡ x.cost.0))
     is_last v c = grind arith
 
     in_more : (y : CompactSpot D) → Contains (xs ++ x ∷ []) y ↔ (Contains xs y ⊎ (y ≡ x))
     in_more y = let a = in_append xs (x ∷ []) y in let one = in_either x [] y in let none = in_none y in grind arith
 
     settled_now : (v : ℕ) (e : Entry) → Contains (front_at h v).settled e
-        ↔ (Contains (front_at g v).settled e ⊎ (Contains (entries (front_at g v)) e × (spot_told v e.cost ≡ x)))
+        ↔ (Contains (front_at g v).settled e ⊎ (Contains (entries (front_at g v)) e × (spot_view v e.cost ≡ x)))
     settled_now v e = elim (cases_eq v x.node.0) [
       | inl same ↦ by (rw same (settled_entries settles e)) (is_last v e.cost) same
       | inr other ↦ rw (elsewhere.others v other) (λ t. inl t, elim [ inl t ↦ t | inr t ↦ absurd (other ((is_last v e.cost).0 t.1).0) ])
@@ -113,7 +113,7 @@ module _ {D : ℕ} where
     settles_more = record {
       nodes = elsewhere.nodes ∙ all.nodes;
       same_entries = λ v e. let a = entries_kept v e in let b = all.same_entries v e in grind arith;
-      settled = λ v e. through (settled_now v e) (all.settled v e) (all.same_entries v e) (in_more (spot_told v e.cost));
+      settled = λ v e. through (settled_now v e) (all.settled v e) (all.same_entries v e) (in_more (spot_view v e.cost));
     } where
       through : {H G F E K X Z L : Type 0} → (H ↔ (G ⊎ (E × L))) → (G ↔ (F ⊎ (K × X))) → (E ↔ K) → (Z ↔ (X ⊎ L)) → (H ↔ (F ⊎ (K × Z)))
       through h g e z = grind arith
@@ -121,12 +121,12 @@ module _ {D : ℕ} where
   module _ {f g : Fronts} {xs : List (CompactSpot D)} (all : SettlesAll f xs g) where
     -- the costs that are settled then
     pub costs_settled : (v : ℕ) (c : List ℕ) → HasCost (front_at g v).settled c
-        ↔ (HasCost (front_at f v).settled c ⊎ (HasCost (entries (front_at f v)) c × Contains xs (spot_told v c)))
+        ↔ (HasCost (front_at f v).settled c ⊎ (HasCost (entries (front_at f v)) c × Contains xs (spot_view v c)))
     costs_settled v =
-        costs_with (front_at g v).settled (front_at f v).settled (entries (front_at f v)) (λ c. Contains xs (spot_told v c)) (all.settled v)
+        costs_with (front_at g v).settled (front_at f v).settled (entries (front_at f v)) (λ c. Contains xs (spot_view v c)) (all.settled v)
 
     -- what isn't settled then wasn't before, and isn't among them
-    pub unsettled_then : (v : ℕ) (e : Entry) → IsUnsettled (front_at g v) e ↔ (IsUnsettled (front_at f v) e × (¬ Contains xs (spot_told v e.cost)))
+    pub unsettled_then : (v : ℕ) (e : Entry) → IsUnsettled (front_at g v) e ↔ (IsUnsettled (front_at f v) e × (¬ Contains xs (spot_view v e.cost)))
     unsettled_then v e = by (unsettled_parts (front_at g v) e) (unsettled_parts (front_at f v) e) (all.same_entries v e) (costs_settled v e.cost)
         (has_cost_of (entries (front_at f v)) e) where
           by : {U' U E' E S' S H T : Type 0} → (U' ↔ (E' × (¬ S'))) → (U ↔ (E × (¬ S))) → (E' ↔ E) → (S' ↔ (S ⊎ (H × T))) → (E → H)
@@ -134,7 +134,7 @@ module _ {D : ℕ} where
           by u' u e s h = grind arith
 
     -- a spot that isn't among them is settled no more than before
-    pub unsettled_still : (v : ℕ) (c : List ℕ) → ¬ Contains xs (spot_told v c) → HasUnsettled (front_at f v) c → HasUnsettled (front_at g v) c
+    pub unsettled_still : (v : ℕ) (c : List ℕ) → ¬ Contains xs (spot_view v c) → HasUnsettled (front_at f v) c → HasUnsettled (front_at g v) c
     unsettled_still v c other has = record {
       entry = record { arc = has.entry.arc; contains = (all.same_entries v _).1 has.entry.contains };
       unsettled = λ h. elim ((costs_settled v c).0 h) [ inl old ↦ has.unsettled old | inr new ↦ other new.1 ];

@@ -6,15 +6,16 @@ use Rattle.list_laws.proofs.Members.{all_from_in, in_first, in_front, in_none, i
 use Rattle.list_laws.proofs.OnceLaws.{in_append}
 use Rattle.list_laws.proofs.Pairs.{pairs_none}
 use Rattle.list_laws.proofs.SetLaws.{none_of_empty}
-use Rattle.compact_labels.specs.declared.label.CompactLabel.{CompactLabel}
-use Rattle.compact_labels.specs.declared.label.CompactSpot.{CompactSpot}
+use Rattle.cost_vector.specs.declared.compact_label.CompactLabel.{CompactLabel}
+use Rattle.cost_vector.specs.declared.compact_label.CompactSpot.{CompactSpot}
 use Rattle.road_network.specs.Limits.{max_budget}
 use Rattle.road_network.specs.Network.{IsNode}
-use Rattle.event_machine.specs.Machine.{Task, Label, start_label, start_state}
+use Rattle.event_machine.specs.Machine.{Task, start_label, start_state}
+use Rattle.road_network.specs.Labels.{Label}
 use Rattle.event_machine.proofs.Running.{same_itself}
 use Rattle.pareto_front.specs.Calls.{entry_of}
 use Rattle.pareto_front.specs.Fronts.{Entry, HasCost, empty_front, entries}
-use Rattle.pareto_front.specs.Merging.{IsMerged, Stays}
+use Rattle.pareto_front.specs.Merging.{IsMerged, Remains}
 use Rattle.pareto_queue.specs.Queues.{IsDominatedBy}
 use Rattle.node_front.specs.NodeFronts.{Fronts, SameElsewhere, front_at}
 use Rattle.round_core.specs.Arriving.{AddsIfNew, spot_at}
@@ -27,7 +28,7 @@ use Rattle.round_core.proofs.ArrivingLemmas.{at_each}
 use Rattle.round_core.proofs.UnsettledLemmas.{spot_by_parts}
 
 -- an entry alone stays
-alone_stays : (e : Entry) → Stays (e ∷ []) e
+alone_stays : (e : Entry) → Remains (e ∷ []) e
 alone_stays e = record {
   contains = in_first e [];
   nondominated = λ h. h.dominates.differs (ap (λ (x : Entry). x.cost) (in_one e h.by h.contains));

@@ -1,13 +1,13 @@
 -- Settled and other entries of a front, told by costs.
 use Rattle.std.proofs.Common.{◌≡◌, ◌⊎◌, ◌↔◌, ℕ, List, ◌++◌, inl, inr, refl, subst, arith}
 use Rattle.std.specs.Prelude.{Contains}
-use Rattle.list_laws.proofs.OnceLaws.{IsTold, in_append, told_in}
-use Rattle.compact_labels.specs.declared.label.CompactSpot.{CompactSpot}
+use Rattle.list_laws.proofs.OnceLaws.{IsDecidable, in_append, decidable_in}
+use Rattle.cost_vector.specs.declared.compact_label.CompactSpot.{CompactSpot}
 use Rattle.pareto_front.specs.Fronts.{Entry, Front, HasCost, IsDominated, entries}
 use Rattle.pareto_queue.proofs.OrderLemmas.{cases_spot}
 use Rattle.node_front.specs.Apart.{AreApart}
 use Rattle.node_front.proofs.ApartLemmas.{AtMost-same, has_append}
-use Rattle.node_front.proofs.NeedlessLemmas.{told_has_cost}
+use Rattle.node_front.proofs.NeedlessLemmas.{decidable_has_cost}
 use Rattle.round_core.specs.Unsettled.{IsUnsettled}
 
 -- a spot by its parts
@@ -23,8 +23,8 @@ pub dominated_by_second : (xs ys : List Entry) {c : List ℕ} → IsDominated ys
 dominated_by_second xs ys h = record { by = h.by; contains = (in_append xs ys h.by).1 (inr h.contains); dominates = h.dominates }
 
 -- it can be told whether a spot stands in a list
-pub told_spot : {D : ℕ} (xs : List (CompactSpot D)) (x : CompactSpot D) → IsTold (Contains xs x)
-told_spot xs x = told_in cases_spot xs x
+pub decidable_spot : {D : ℕ} (xs : List (CompactSpot D)) (x : CompactSpot D) → IsDecidable (Contains xs x)
+decidable_spot xs x = decidable_in cases_spot xs x
 
 -- an unsettled entry by its parts
 pub unsettled_parts : (f : Front) (e : Entry) → IsUnsettled f e ↔ (Contains (entries f) e × (¬ HasCost f.settled e.cost))
@@ -42,7 +42,7 @@ settled_by_cost f e apart = (
 
 -- each entry is settled, or isn't
 pub cases_settled : (f : Front) (e : Entry) → AreApart (entries f) → Contains (entries f) e → Contains f.settled e ⊎ IsUnsettled f e
-cases_settled f e apart there = elim (told_has_cost f.settled e.cost) [
+cases_settled f e apart there = elim (decidable_has_cost f.settled e.cost) [
   | inl has ↦ inl ((settled_by_cost f e apart).1 (there, has))
   | inr none ↦ inr (record { entry = there; unsettled = none })
 ]

@@ -5,12 +5,12 @@ use Rattle.std.specs.Prelude.{All, AllPairs, Bool, true, IsTrue, Contains, OnErr
 use Rattle.std.specs.List.Retain.{IsFiltered}
 use Rattle.std.specs.Result.{is_err}
 use Rattle.std.proofs.lemmas.Bool.{false≢true}
-use Rattle.compact_labels.specs.declared.label.CompactSpot.{CompactSpot}
-use Rattle.compact_labels.specs.declared.cost.CompactCost.{CompactCost}
+use Rattle.cost_vector.specs.declared.compact_label.CompactSpot.{CompactSpot}
+use Rattle.cost_vector.specs.declared.compact_cost.CompactCost.{CompactCost}
 use Rattle.cost_vector.proofs.Vectors.{cases_Within}
 use Rattle.list_laws.specs.Sets.{SameMembers}
 use Rattle.list_laws.proofs.Members.{all_from_in, cases_push, each_in, in_first, of_map}
-use Rattle.list_laws.proofs.OnceLaws.{IsTold, in_append, told_either, told_not}
+use Rattle.list_laws.proofs.OnceLaws.{IsDecidable, in_append, decidable_either, decidable_not}
 use Rattle.list_laws.proofs.Pairs.{pairs_push, pairs_take}
 use Rattle.list_laws.proofs.SetLaws.{none_of_empty, same_by_permutation}
 use Rattle.list_laws.proofs.Retained.{without_by_retain}
@@ -19,8 +19,8 @@ use Rattle.pareto_queue.specs.Queues.{IsDominatedBy, LosesWhere, Gains, AreSorte
 use Rattle.pareto_queue.proofs.RetainedLemmas.{fails_by_test, loses_by_without}
 use Rattle.round_core.specs.Bounds.{Bounds, IsUseless}
 use Rattle.round_core.specs.Waiting.{AreOnce, Waiting, all_waiting}
-use Rattle.compact_labels.specs.declared.label.CompactLabel.{CompactLabel}
-use Rattle.node_front.proofs.RemovedLemmas.{pairs_across, told_dominated}
+use Rattle.cost_vector.specs.declared.compact_label.CompactLabel.{CompactLabel}
+use Rattle.node_front.proofs.RemovedLemmas.{pairs_across, decidable_dominated}
 use Rattle.round_core.specs.Arriving.{AddsIfNew, spot_at}
 use Rattle.std.specs.declared.cmp.Ordering.{Ordering}
 use Rattle.std.specs.Ordering.{is_lt}
@@ -31,8 +31,8 @@ use Rattle.pareto_queue.proofs.OrderLemmas.{SpotLess_from_cmp, found_gap, none_i
 -- ---- what can be told
 
 -- whether a cost is of no use
-pub told_useless : {D : ℕ} (b : Bounds D) (c : List ℕ) → IsTold (IsUseless b c)
-told_useless b c = told_either (told_not (cases_Within b.limit c)) (told_dominated (entries b.front) c)
+pub decidable_useless : {D : ℕ} (b : Bounds D) (c : List ℕ) → IsDecidable (IsUseless b c)
+decidable_useless b c = decidable_either (decidable_not (cases_Within b.limit c)) (decidable_dominated (entries b.front) c)
 
 module _ {D : ℕ} where
   -- ---- each fresh spot stands once, and not in the queue
@@ -103,10 +103,10 @@ by_success (Err e) b P is fine h = absurd (false≢true (sym fine ∙ is))
 
 -- the members that are left where a test tells where P fails
 pub left_by_retain : {F X : Type 0} (R : F → X → Bool → F → Type 0) (f : F) (before after : List X) → IsFiltered R f before after → (P : X → Type 0)
-    → ((x : X) → IsTold (P x)) → ((x : X) (b : Bool) (f' : F) → R f x b f' → (IsTrue b ↔ (¬ P x)) × (f' ≡ f))
+    → ((x : X) → IsDecidable (P x)) → ((x : X) (b : Bool) (f' : F) → R f x b f' → (IsTrue b ↔ (¬ P x)) × (f' ≡ f))
     → (x : X) → Contains after x ↔ (Contains before x × ¬ P x)
-left_by_retain R f before after filtered P told tells = loses_by_without P before after
-    (without_by_retain R P f before after (λ x b f' r. (fails_by_test (P x) (told x) b (tells x b f' r).0, (tells x b f' r).1)) filtered)
+left_by_retain R f before after filtered P decision tells = loses_by_without P before after
+    (without_by_retain R P f before after (λ x b f' r. (fails_by_test (P x) (decision x) b (tells x b f' r).0, (tells x b f' r).1)) filtered)
 
 -- ---- lists of spots that come to wait
 
@@ -168,10 +168,10 @@ module _ {D : ℕ} where
       by a b other Greater e = ap is_lt e
 
   -- whether the search failed says whether the spot is there
-  pub told_by_search : (xs : List (CompactSpot D)) (s : CompactSpot D) (r : Result ℕ ℕ) (b : Bool) → AreSorted xs → IsSearchInRange r (length xs)
+  pub decidable_by_search : (xs : List (CompactSpot D)) (s : CompactSpot D) (r : Result ℕ ℕ) (b : Bool) → AreSorted xs → IsSearchInRange r (length xs)
       → IfOk r (HoldsAt (λ y. spot_cmp y s ≡ Equal) xs) → IsBinarySearchResult (λ y. spot_cmp y s) xs r → b ≡ is_err r
       → IsTrue b ↔ (¬ Contains xs s)
-  told_by_search xs s (Ok i) b up within tie at is =
+  decidable_by_search xs s (Ok i) b up within tie at is =
       (λ yes. absurd (false≢true (sym is ∙ yes)), λ none. absurd (none (i, within, same_from_cmp (get_or xs i s) s (tie s))))
-  told_by_search xs s (Err i) b up within tie at is =
+  decidable_by_search xs s (Err i) b up within tie at is =
       (λ _. none_in_gap xs s i (found_gap xs s (Err i) (cmp_from_sorted xs up) within at), λ _. is)

@@ -1,7 +1,7 @@
 -- What becomes of the spots while labels arrive one by one.
 use Rattle.std.specs.Prelude.{◌≡◌, ℕ, ◌↔◌, ◌⊎◌, List, [], ◌∷◌, Contains}
-use Rattle.compact_labels.specs.declared.label.CompactLabel.{CompactLabel}
-use Rattle.compact_labels.specs.declared.label.CompactSpot.{CompactSpot}
+use Rattle.cost_vector.specs.declared.compact_label.CompactLabel.{CompactLabel}
+use Rattle.cost_vector.specs.declared.compact_label.CompactSpot.{CompactSpot}
 use Rattle.pareto_front.specs.Calls.{entry_of}
 use Rattle.pareto_front.specs.Fronts.{Front, HasCost, IsDominated, entries}
 use Rattle.pareto_front.specs.Merging.{IsAdded}

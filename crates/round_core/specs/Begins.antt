@@ -1,9 +1,10 @@
 -- How a round begins, over each state of the machine at which a search may be between rounds.
 use Rattle.std.specs.Prelude.{◌≡◌, ◌≢◌, ℕ, ◌+◌, ◌<◌, ◌≤◌, ◌↔◌, [], Result, Ok, AllPairs, Contains, length}
-use Rattle.cost_vector.specs.declared.out_of_memory.OutOfMemory.{OutOfMemory}
-use Rattle.compact_labels.specs.declared.label.CompactSpot.{CompactSpot}
+use Rattle.out_of_memory.specs.declared.OutOfMemory.{OutOfMemory}
+use Rattle.cost_vector.specs.declared.compact_label.CompactSpot.{CompactSpot}
 use Rattle.list_laws.specs.Sets.{HasMoreThan}
-use Rattle.event_machine.specs.Machine.{Task, Label, SearchState}
+use Rattle.event_machine.specs.Machine.{Task, SearchState}
+use Rattle.road_network.specs.Labels.{Label}
 use Rattle.event_machine.specs.Orders.{Stays, DropsAll, IsNext, IsBegun}
 use Rattle.event_machine.specs.Rounds.{NoneStays}
 use Rattle.pareto_queue.specs.Queues.{SpotLess}
@@ -43,7 +44,7 @@ pub record HasBegun {D : ℕ} (before after : Core D) : Type 0 where
       → IsAt task before s → IsBegun task s next → ¬ HasMoreThan before.budget next.settled
 
 -- with the next labels more labels are settled than the budget
-pub record PassesBudget {D : ℕ} (before : Core D) : Type 0 where
+pub record ExceedsBudget {D : ℕ} (before : Core D) : Type 0 where
   pub some_stay : SomeStay before
   pub more : (task : Task) (s next : SearchState)
       → IsAt task before s → IsBegun task s next → HasMoreThan before.budget next.settled
@@ -52,7 +53,7 @@ pub record PassesBudget {D : ℕ} (before : Core D) : Type 0 where
 abbrev pub BeginsAs : {D : ℕ} → Core D → Core D → Begun → Type 0
 BeginsAs before after Taken = HasBegun before after
 BeginsAs before after Done = HasEnded before after
-BeginsAs before after Budget = PassesBudget before
+BeginsAs before after Budget = ExceedsBudget before
 
 -- A step was counted where labels were taken or would have passed the budget, at most one in any case, and none where no
 -- label stays after the drops.

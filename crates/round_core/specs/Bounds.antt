@@ -1,7 +1,7 @@
 -- What keeps a label from being taken.
 use Rattle.std.specs.Prelude.{◌≡◌, ℕ, ◌^◌, ◌<◌, ◌≤◌, ◌⊎◌, ◌↔◌, List, [], Option, None, length, slice_index, slice_index_or, All}
 use Rattle.cost_vector.specs.Costs.{IsAllowed, Within}
-use Rattle.compact_labels.specs.declared.cost.CompactCost.{CompactCost}
+use Rattle.cost_vector.specs.declared.compact_cost.CompactCost.{CompactCost}
 use Rattle.pareto_front.specs.Fronts.{Front, HasCost, IsDominated, entries}
 
 -- the limit, the settled costs of the target as a front, and those of them that are new

@@ -1,9 +1,10 @@
 -- A search by bulk rounds as contracts see it, and the state of the event machine for which it stands.
 use Rattle.std.specs.Prelude.{◌≡◌, ℕ, ◌↔◌, List, [], Option, replicate, Contains}
-use Rattle.compact_labels.specs.declared.label.CompactLabel.{CompactLabel}
-use Rattle.compact_labels.specs.declared.label.CompactSpot.{CompactSpot}
+use Rattle.cost_vector.specs.declared.compact_label.CompactLabel.{CompactLabel}
+use Rattle.cost_vector.specs.declared.compact_label.CompactSpot.{CompactSpot}
 use Rattle.road_network.specs.Network.{Network}
-use Rattle.event_machine.specs.Machine.{Task, IsTask, Label, SearchState, start_state, LeadsOn}
+use Rattle.event_machine.specs.Machine.{Task, IsTask, SearchState, start_state, LeadsOn}
+use Rattle.road_network.specs.Labels.{Label}
 use Rattle.event_machine.specs.Events.{IsReached}
 use Rattle.pareto_front.specs.Fronts.{Entry}
 use Rattle.node_front.specs.NodeFronts.{Fronts, front_at}

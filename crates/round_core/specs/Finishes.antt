@@ -1,8 +1,9 @@
 -- How a round ends.
 use Rattle.std.specs.Prelude.{◌≡◌, ℕ, ◌↔◌, List, [], Contains}
-use Rattle.compact_labels.specs.declared.label.CompactLabel.{CompactLabel}
+use Rattle.cost_vector.specs.declared.compact_label.CompactLabel.{CompactLabel}
 use Rattle.road_network.specs.Network.{Network}
-use Rattle.event_machine.specs.Machine.{Task, Label, SearchState}
+use Rattle.event_machine.specs.Machine.{Task, SearchState}
+use Rattle.road_network.specs.Labels.{Label}
 use Rattle.event_machine.specs.Events.{Event, Runs}
 use Rattle.event_machine.specs.Orders.{IsArrival, IsOutcome, Completes}
 use Rattle.node_front.specs.Deltas.{MergesAll}

@@ -1,9 +1,10 @@
 -- The labels that a round has taken, and which of their candidates may be left out.
 use Rattle.std.specs.Prelude.{◌≡◌, ℕ, ◌-◌, ◌≤◌, ◌⊎◌, List, Some, map, slice_get, All, Contains}
-use Rattle.compact_labels.specs.declared.label.CompactLabel.{CompactLabel}
-use Rattle.compact_labels.specs.declared.label.CompactSpot.{CompactSpot}
+use Rattle.cost_vector.specs.declared.compact_label.CompactLabel.{CompactLabel}
+use Rattle.cost_vector.specs.declared.compact_label.CompactSpot.{CompactSpot}
 use Rattle.road_network.specs.Network.{Network}
-use Rattle.event_machine.specs.Machine.{Label, Follows}
+use Rattle.event_machine.specs.Machine.{Follows}
+use Rattle.road_network.specs.Labels.{Label}
 use Rattle.pareto_front.specs.Calls.{entry_of}
 use Rattle.pareto_front.specs.Fronts.{IsDominated, entries}
 use Rattle.node_front.specs.NodeFronts.{Fronts, front_at}

@@ -1,11 +1,11 @@
 -- What keeps a waiting spot from being taken, which are taken next, and what taking them changes.
 use Rattle.std.specs.Prelude.{◌≡◌, ℕ, ◌+◌, ◌<◌, ◌≤◌, ◌⊎◌, ◌↔◌, List, [], length, Contains}
 use Rattle.cost_vector.specs.Costs.{Dominates, Within}
-use Rattle.compact_labels.specs.declared.label.CompactSpot.{CompactSpot}
+use Rattle.cost_vector.specs.declared.compact_label.CompactSpot.{CompactSpot}
 use Rattle.list_laws.specs.Sets.{SameMembers}
 use Rattle.pareto_front.specs.Fronts.{Entry, Front, HasCost, IsDominated, entries}
 use Rattle.pareto_queue.specs.Queues.{TakesUndominated}
-use Rattle.node_front.specs.Deltas.{spot_told}
+use Rattle.node_front.specs.Deltas.{spot_view}
 use Rattle.node_front.specs.NodeFronts.{Fronts, front_at}
 use Rattle.round_core.specs.declared.begin.Begun.{Begun}
 use Rattle.round_core.specs.declared.begin.Begun.TheVariants.{Taken, Done, Budget}
@@ -47,7 +47,7 @@ pub record SettlesAll {D : ℕ} (before : Fronts) (spots : List (CompactSpot D))
   pub nodes : after.nodes ≡ before.nodes
   pub same_entries : (v : ℕ) (e : Entry) → Contains (entries (front_at after v)) e ↔ Contains (entries (front_at before v)) e
   pub settled : (v : ℕ) (e : Entry) → Contains (front_at after v).settled e
-      ↔ (Contains (front_at before v).settled e ⊎ (Contains (entries (front_at before v)) e × Contains spots (spot_told v e.cost)))
+      ↔ (Contains (front_at before v).settled e ⊎ (Contains (entries (front_at before v)) e × Contains spots (spot_view v e.cost)))
 
 -- the bounds have just the settled costs of the front
 abbrev pub AreBoundsOf : {D : ℕ} → Bounds D → Front → Type 0

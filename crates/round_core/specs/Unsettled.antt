@@ -1,6 +1,6 @@
 -- The entries of a front that aren't settled, and how many are settled in all fronts, told by members and costs alone.
 use Rattle.std.specs.Prelude.{◌≡◌, ℕ, List, length, Contains}
-use Rattle.compact_labels.specs.declared.label.CompactSpot.{CompactSpot}
+use Rattle.cost_vector.specs.declared.compact_label.CompactSpot.{CompactSpot}
 use Rattle.list_laws.specs.Sets.{ListsOnce}
 use Rattle.pareto_front.specs.Fronts.{Entry, Front, HasCost, entries}
 use Rattle.node_front.specs.NodeFronts.{Fronts, front_at}

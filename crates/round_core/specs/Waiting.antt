@@ -1,7 +1,7 @@
 -- The spots of the waiting labels.
 use Rattle.std.specs.Prelude.{◌≢◌, ℕ, ◌≤◌, List, ◌++◌, All, AllPairs, Contains}
 use Rattle.cost_vector.specs.Costs.{max_criteria}
-use Rattle.compact_labels.specs.declared.label.CompactSpot.{CompactSpot}
+use Rattle.cost_vector.specs.declared.compact_label.CompactSpot.{CompactSpot}
 
 -- the spots in the queue, and those that have come since the round began
 pub record Waiting (D : ℕ) : Type 0 where

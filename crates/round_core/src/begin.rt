@@ -13,9 +13,9 @@ ghost use Rattle.round_core.specs.Unsettled.{HasUnsettled};
 
 use crate::Core;
 use crate::bounds::Bounds;
-use compact_labels::{CompactLabel, CompactSpot};
-use cost_vector::{ArcNo, NodeNo, OutOfMemory};
+use cost_vector::{ArcNo, CompactLabel, CompactSpot, NodeNo};
 use node_front::Fronts;
+use out_of_memory::OutOfMemory;
 use pareto_front::ParetoFront;
 use pareto_queue::Steps;
 use std::sync::ledger::Ledger;

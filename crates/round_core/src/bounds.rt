@@ -3,9 +3,9 @@ ghost use Rattle.cost_vector.specs.Costs.{Within, max_criteria, min_criteria};
 ghost use Rattle.pareto_front.specs.Fronts.{HasCost, IsCovered, SparesSettled, empty_front, entries};
 ghost use Rattle.round_core.specs.Bounds.{IsGreatestWithin, IsUseless};
 
-use compact_labels::CompactCost;
-use cost_vector::{ArcNo, Limit, OutOfMemory};
-use pareto_front::{ParetoFront, Standing};
+use cost_vector::{ArcNo, CompactCost, Limit};
+use out_of_memory::OutOfMemory;
+use pareto_front::{CostStanding, ParetoFront};
 use std::alloc::Global;
 use std::marker::Model;
 
@@ -58,7 +58,7 @@ impl<const D: usize, F: ParetoFront<D> + Drop> Bounds<D, F> {
     pub(crate) fn exclude(&self, cost: &CompactCost<D>) -> bool
         ensures { IsTrue result ↔ IsUseless self.now cost.now.0 }
     {
-        !is_within(&self.most, cost) || matches!(self.front.compare(cost), Standing::Dominated)
+        !is_within(&self.most, cost) || matches!(self.front.compare(cost), CostStanding::Dominated)
     }
 
     /// The costs of the target that the last round has settled.

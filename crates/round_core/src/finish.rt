@@ -1,5 +1,5 @@
 ghost use Rattle.std.specs.Prelude.{◌≡◌, ◌≢◌, ℕ, List, [], ◌∷◌, map, IfOk, OnOk, All, AllPairs, Contains};
-ghost use Rattle.compact_labels.specs.declared.label.CompactLabel.{CompactLabel as LabelTold};
+ghost use Rattle.cost_vector.specs.declared.compact_label.CompactLabel.{CompactLabel as LabelView};
 ghost use Rattle.node_front.specs.Apart.{AreApart};
 ghost use Rattle.node_front.specs.Deltas.{AreDeltas, AreSomeDeltas, MergesAll};
 ghost use Rattle.node_front.specs.NodeFronts.{SameElsewhere, front_at};
@@ -9,7 +9,7 @@ ghost use Rattle.pareto_front.specs.Merging.{IsMerged, IsRemoved};
 ghost use Rattle.road_network.specs.Network.{IsNode};
 ghost use Rattle.pareto_queue.specs.Queues.{Gains};
 ghost use Rattle.round_core.specs.Arriving.{AddsIfNew, WaitsAsMerged, spot_at};
-ghost use Rattle.round_core.specs.Cores.{Core as CoreTold};
+ghost use Rattle.round_core.specs.Cores.{Core as CoreView};
 ghost use Rattle.round_core.specs.Finishes.{FinishesRound, MergesRound};
 ghost use Rattle.round_core.specs.Onward.{LeavesOutDominated};
 ghost use Rattle.round_core.specs.Unsettled.{HasUnsettled};
@@ -17,16 +17,16 @@ ghost use Rattle.round_core.specs.Waiting.{all_waiting};
 
 use crate::Core;
 use crate::waiting::Waiting;
-use compact_labels::{CompactLabel, CompactSpot};
-use cost_vector::OutOfMemory;
+use cost_vector::{CompactLabel, CompactSpot};
 use node_front::{Deltas, Fronts};
+use out_of_memory::OutOfMemory;
 use pareto_front::ParetoFront;
 
 impl<const D: usize, F: ParetoFront<D> + Drop> Core<D, F> {
     /// Of the candidates that the taken labels give those that an entry dominates may be left out: once the others are
     /// merged, the search stands for the outcome of all. It does nothing.
     pub fn dominated_candidates_may_be_left_out(&self)
-        ensures { (all some : List (LabelTold D)) (after : CoreTold D)
+        ensures { (all some : List (LabelView D)) (after : CoreView D)
             → LeavesOutDominated self.now.fronts all some → MergesRound some self.now after
             → FinishesRound all self.now after }
     {
@@ -37,9 +37,9 @@ impl<const D: usize, F: ParetoFront<D> + Drop> Core<D, F> {
     /// up.
     pub fn finish(mut self, deltas: &Deltas<D>) -> Result<Core<D, F>, OutOfMemory>
         requires { AreSomeDeltas self.fronts deltas.now }
-        ensures merged { IfOk result (λ core. (candidates : List (LabelTold D))
+        ensures merged { IfOk result (λ core. (candidates : List (LabelView D))
             → AreDeltas self.fronts candidates deltas.now → MergesRound candidates self core) }
-        ensures finished { IfOk result (λ core. (candidates : List (LabelTold D))
+        ensures finished { IfOk result (λ core. (candidates : List (LabelView D))
             → AreDeltas self.fronts candidates deltas.now → FinishesRound candidates self core) }
     {
         self.fronts.reserve(deltas)?;

@@ -1,6 +1,7 @@
 ghost use Rattle.std.specs.Prelude.{◌≡◌, ◌≤◌, ℕ, length, Contains};
-ghost use Rattle.compact_labels.specs.declared.label.CompactSpot.{CompactSpot};
-ghost use Rattle.event_machine.specs.Machine.{Task, Label, SearchState};
+ghost use Rattle.cost_vector.specs.declared.compact_label.CompactSpot.{CompactSpot};
+ghost use Rattle.event_machine.specs.Machine.{Task, SearchState};
+ghost use Rattle.road_network.specs.Labels.{Label};
 ghost use Rattle.event_machine.specs.Orders.{IsArrival};
 ghost use Rattle.list_laws.specs.Sets.{HasMoreThan};
 ghost use Rattle.node_front.specs.NodeFronts.{front_at};

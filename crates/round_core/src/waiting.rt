@@ -6,8 +6,8 @@ ghost use Rattle.round_core.specs.Bounds.{IsUseless};
 ghost use Rattle.round_core.specs.Waiting.{all_waiting};
 
 use crate::bounds::Bounds;
-use compact_labels::{CompactCost, CompactSpot};
-use cost_vector::OutOfMemory;
+use cost_vector::{CompactCost, CompactSpot};
+use out_of_memory::OutOfMemory;
 use pareto_front::ParetoFront;
 use pareto_queue::{Queue, Steps};
 use std::alloc::Global;

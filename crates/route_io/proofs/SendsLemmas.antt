@@ -4,7 +4,6 @@ use Rattle.std.proofs.Common.{append_assoc, append-nil, arith, length-append}
 use Rattle.std.proofs.lemmas.List.{take-append-drop, take-append-le, nil_from_length}
 use Rattle.std.proofs.Math.Seq.{take-append-add}
 use Rattle.std.specs.Io.KnownBytes.{Appends, Keeps}
-use Rattle.route_io.specs.declared.fault.SinkFault.TheVariants as sink
 use Rattle.route_io.specs.declared.fault.WriteFault.{WriteFault}
 use Rattle.route_io.specs.declared.fault.WriteFault.TheVariants as write
 use Rattle.route_io.specs.Causes.{IsCounted}
@@ -83,18 +82,17 @@ more_sent old mid new text rest after n before piece is_after = record {
 }
 
 -- what a refusal of the rest leaves
-refused : (old mid new : SinkState) (text rest : List ℕ) (fault : WriteFault) → 0 < length rest → SentUpTo old mid text rest
+sent_part-by : (old mid new : SinkState) (text rest : List ℕ) (fault : WriteFault) → 0 < length rest → SentUpTo old mid text rest
     → Keeps mid.sent new.sent → WriteHasCause {T = Unit {0}} mid new (Err fault) → Sends {T = Unit {0}} old new text (Err fault)
-refused old mid new text rest fault some before kept cause =
+sent_part-by old mid new text rest fault some before kept cause =
     let none : Sends {T = Unit {0}} mid new rest (Err fault) = record { bytes = (0, some, Keeps-appends mid.sent new.sent rest kept); cause = cause } in
     rw before.whole (Sends-then old mid new before.front rest (Err fault) before.sent none)
 
-module _ (old mid new : SinkState) (text rest : List ℕ) (some : 0 < length rest) (before : SentUpTo old mid text rest) where
-  pub sent_failed : Writes mid new rest (Err sink.Failed) → Sends {T = Unit {0}} old new text (Err write.Failed)
-  sent_failed refusal = refused old mid new text rest write.Failed some before refusal.bytes refusal.cause
-
-  pub sent_wanted : Writes mid new rest (Err sink.OutOfMemory) → Sends {T = Unit {0}} old new text (Err write.OutOfMemory)
-  sent_wanted refusal = refused old mid new text rest write.OutOfMemory some before refusal.bytes refusal.cause
+pub sent_part : (old mid new : SinkState) (text rest : List ℕ) (fault : WriteFault) → 0 < length rest → SentUpTo old mid text rest
+    → Writes mid new rest (Err fault) → Sends {T = Unit {0}} old new text (Err fault)
+sent_part old mid new text rest write.Failed some before refusal = sent_part-by old mid new text rest write.Failed some before refusal.bytes refusal.cause
+sent_part old mid new text rest write.OutOfMemory some before refusal =
+    sent_part-by old mid new text rest write.OutOfMemory some before refusal.bytes refusal.cause
 
 -- the whole text was sent, where nothing is left of it
 pub sent_whole : (old new : SinkState) (text rest : List ℕ) → length rest ≡ 0 → SentUpTo old new text rest → Sent old new text

@@ -1,7 +1,7 @@
 -- The calls of a form in memory, of which some are to fail.
 use Rattle.std.specs.Prelude.{ℕ, List, Contains, Result, Ok, Err}
-use Rattle.route_io.specs.declared.fault.SinkFault.{SinkFault}
-use Rattle.route_io.specs.declared.fault.SinkFault.TheVariants as sink
+use Rattle.route_io.specs.declared.fault.WriteFault.{WriteFault}
+use Rattle.route_io.specs.declared.fault.WriteFault.TheVariants as write
 use Rattle.route_io.specs.Causes.{count_up}
 
 -- the numbers of the calls that are to fail, how many calls were made, and how many faults there were
@@ -32,7 +32,7 @@ after_call calls (Ok value) = counted calls
 after_call calls (Err fault) = faulted calls
 
 -- after a write with this answer
-abbrev pub after_write : {T : Type 0} → CallList → Result T SinkFault → CallList
+abbrev pub after_write : {T : Type 0} → CallList → Result T WriteFault → CallList
 after_write calls (Ok n) = counted calls
-after_write calls (Err sink.Failed) = faulted calls
-after_write calls (Err sink.OutOfMemory) = counted calls
+after_write calls (Err write.Failed) = faulted calls
+after_write calls (Err write.OutOfMemory) = counted calls

@@ -2,8 +2,6 @@
 use Rattle.std.specs.Prelude.{ℕ, ◌<◌, ◌≤◌, List, Bool, true, false, Option, Result, Ok, Err, IfOk, MatchResult, length}
 use Rattle.std.specs.Prelude.{take}
 use Rattle.std.specs.Io.KnownBytes.{Appends, WriteAppends}
-use Rattle.route_io.specs.declared.fault.SinkFault.{SinkFault}
-use Rattle.route_io.specs.declared.fault.SinkFault.TheVariants as sink
 use Rattle.route_io.specs.declared.fault.WriteFault.{WriteFault}
 use Rattle.route_io.specs.declared.fault.WriteFault.TheVariants as write
 use Rattle.route_io.specs.Causes.{IsCounted}
@@ -22,24 +20,18 @@ pub record WritesTo (old new : SinkState) (failed wanted : Bool) : Type 0 where
   pub faults : IsCounted failed old.faults new.faults
   pub wants : IsCounted wanted old.wants new.wants
 
--- what the answer of a write says of the counts
-abbrev pub SinkHasCause : {T : Type 0} → SinkState → SinkState → Result T SinkFault → Type 0
-SinkHasCause old new (Ok n) = WritesTo old new false false
-SinkHasCause old new (Err sink.Failed) = WritesTo old new true false
-SinkHasCause old new (Err sink.OutOfMemory) = WritesTo old new false true
-
--- the same of a call that makes several writes
+-- what the answer of a call that writes says of the counts
 abbrev pub WriteHasCause : {T : Type 0} → SinkState → SinkState → Result T WriteFault → Type 0
 WriteHasCause old new (Ok n) = WritesTo old new false false
 WriteHasCause old new (Err write.Failed) = WritesTo old new true false
 WriteHasCause old new (Err write.OutOfMemory) = WritesTo old new false true
 
 -- One write: the sink took at least one byte from the front of the piece, or at a fault nothing.
-pub record Writes (old new : SinkState) (piece : List ℕ) (result : Result ℕ SinkFault) : Type 0 where
+pub record Writes (old new : SinkState) (piece : List ℕ) (result : Result ℕ WriteFault) : Type 0 where
   pub some : IfOk result (λ n. 0 < n)
   pub within : IfOk result (λ n. n ≤ length piece)
   pub bytes : WriteAppends old.sent new.sent result piece
-  pub cause : SinkHasCause old new result
+  pub cause : WriteHasCause old new result
 
 -- What is sent grew by the text at Ok, and at a fault by a part of it from the front, short of the whole.
 abbrev pub SendsOrPrefix : {T E : Type 0} → Option (List ℕ) → Option (List ℕ) → List ℕ → Result T E → Type 0

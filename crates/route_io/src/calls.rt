@@ -1,4 +1,5 @@
-ghost use Rattle.std.specs.Prelude.{◌≡◌, ◌≤◌, ◌↔◌, IsErr};
+//! What forms of sources, sinks and the like count.
+ghost use Rattle.std.specs.Prelude.{◌≡◌, ◌≤◌, ◌↔◌, ltb, IsErr};
 ghost use Rattle.route_io.specs.Calls.{IsToFail, after_call, none_made};
 ghost use Rattle.route_io.specs.Causes.{count_up};
 
@@ -7,7 +8,7 @@ use std::marker::Model;
 
 /// The calls of a form in memory: which are to fail, how many were made, and how often it failed.
 #[derive(Drop)]
-pub(crate) struct CallList {
+pub struct CallList {
     fails: Vec<u64>,
     made: u64,
     faults: u64,
@@ -22,7 +23,8 @@ impl Model for CallList {
 }
 
 impl CallList {
-    pub(crate) fn new(fails: Vec<u64>) -> Self
+    /// The calls of these numbers, from 0, are to fail. None was made yet.
+    pub fn new(fails: Vec<u64>) -> Self
         ensures { result ≡ none_made fails.items }
     {
         CallList {
@@ -33,7 +35,7 @@ impl CallList {
     }
 
     /// Counts a call, and fails where its number is listed.
-    pub(crate) fn make(&mut self) -> Result<(), Failed>
+    pub fn make(&mut self) -> Result<(), Failed>
         ensures listed { IsErr result ↔ IsToFail self.old }
         ensures counted { self.new ≡ after_call self.old result }
         ensures never_falls { self.old.faults ≤ self.new.faults }
@@ -48,16 +50,23 @@ impl CallList {
     }
 
     /// Counts a fault of a call that was counted before.
-    pub(crate) fn fail(&mut self)
+    pub fn fail(&mut self)
         ensures counted { self.new ≡ record self.old { faults = count_up self.old.faults } }
         ensures never_falls { self.old.faults ≤ self.new.faults }
     {
         count(&mut self.faults);
     }
+
+    /// There was a fault.
+    pub fn has_failed(&self) -> bool
+        ensures { result ≡ ltb 0 self.now.faults }
+    {
+        0 < self.faults
+    }
 }
 
 /// Counts one more, and stays at the greatest value.
-pub(crate) fn count(counter: &mut u64)
+pub fn count(counter: &mut u64)
     ensures counted { counter.new ≡ count_up counter.old }
     ensures never_falls { counter.old ≤ counter.new }
 {

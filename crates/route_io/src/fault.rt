@@ -5,16 +5,7 @@ use thiserror::Error;
 #[error("the outside failed")]
 pub struct Failed;
 
-/// Why a sink took nothing of a piece.
-#[derive(Clone, Copy, Debug, PartialEq, Eq, Error)]
-pub enum SinkFault {
-    #[error("the sink failed")]
-    Failed,
-    #[error("the sink is out of memory")]
-    OutOfMemory,
-}
-
-/// Why a text was sent in part.
+/// Why a sink took nothing of a piece, and a text was sent in part.
 #[derive(Clone, Copy, Debug, PartialEq, Eq, Error)]
 pub enum WriteFault {
     #[error("the sink failed")]

@@ -8,7 +8,7 @@ ghost use Rattle.route_io.specs.Sinks.{Writes};
 ghost use Rattle.route_io.specs.Sources.{Reads, Selects};
 
 use crate::calls::count;
-use crate::{Failed, Folder, Sink, SinkFault, Source};
+use crate::{Failed, Folder, Sink, Source, WriteFault};
 use std::fs::{self, Files};
 use std::io::{self, Print, Read, Write};
 use std::marker::Model;
@@ -116,9 +116,9 @@ impl<P: Print> HostSink<P> {
 impl<P: Print> Sink for HostSink<P> {
     ghost state = { writer_state None };
 
-    fn write(&mut self, piece: &[u8]) -> Result<usize, SinkFault>
+    fn write(&mut self, piece: &[u8]) -> Result<usize, WriteFault>
         requires { 0 < length piece.now }
-        ensures never_wants { IfErr result (λ fault. fault ≡ SinkFault.Failed) }
+        ensures never_wants { IfErr result (λ fault. fault ≡ WriteFault.Failed) }
         ensures counted { OnErr result (self.new ≡ count_up self.old) }
         ensures writes { Writes
             (writer_state None self.old) (writer_state None self.new) piece.now result }
@@ -128,9 +128,9 @@ impl<P: Print> Sink for HostSink<P> {
 }
 
 /// Writes some of a piece from its front. A write that takes nothing is an error too.
-fn write_some<W: Write>(to: &mut W, faults: &mut u64, piece: &[u8]) -> Result<usize, SinkFault>
+pub fn write_some<W: Write>(to: &mut W, faults: &mut u64, piece: &[u8]) -> Result<usize, WriteFault>
     requires { 0 < length piece.now }
-    ensures never_wants { IfErr result (λ fault. fault ≡ SinkFault.Failed) }
+    ensures never_wants { IfErr result (λ fault. fault ≡ WriteFault.Failed) }
     ensures counted { OnErr result (faults.new ≡ count_up faults.old) }
     ensures writes { Writes (writer_state (W.contents to.old) faults.old)
         (writer_state (W.contents to.new) faults.new) piece.now result }
@@ -139,13 +139,13 @@ fn write_some<W: Write>(to: &mut W, faults: &mut u64, piece: &[u8]) -> Result<us
         Ok(taken) if taken > 0 => Ok(taken),
         _ => {
             count(faults);
-            Err(SinkFault::Failed)
+            Err(WriteFault::Failed)
         }
     }
 }
 
-/// Reads some bytes from the front of what is left.
-fn read_some<R: Read>(from: &mut R, faults: &mut u64, buf: &mut [u8]) -> Result<usize, Failed>
+/// Reads some bytes from the front of what is left. 0 is the end of input.
+pub fn read_some<R: Read>(from: &mut R, faults: &mut u64, buf: &mut [u8]) -> Result<usize, Failed>
     ensures counted { OnErr result (faults.new ≡ count_up faults.old) }
     ensures reads { Reads (reader_state (R.remaining from.old) faults.old)
         (reader_state (R.remaining from.new) faults.new) result buf.new }

@@ -5,7 +5,7 @@
 //! its own. The forms in memory tell their bytes to contracts; those of the host tell nothing.
 #![tactic(auto)]
 
-mod calls;
+pub mod calls;
 mod fault;
 mod folder;
 mod front;
@@ -18,7 +18,7 @@ mod sink;
 mod source;
 pub mod sure;
 
-pub use fault::{Failed, SinkFault, WriteFault};
+pub use fault::{Failed, WriteFault};
 pub use folder::Folder;
 pub use gate::{Gate, OpenGate, Phase};
 pub use link::{Link, MemoryLink, SureLink};

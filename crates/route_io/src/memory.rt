@@ -12,7 +12,7 @@ use crate::calls::CallList;
 pub use crate::shelf::NamedFile;
 use crate::shelf::Shelf;
 use crate::sure::{SureSink, SureSource};
-use crate::{Failed, Folder, Sink, SinkFault, Source};
+use crate::{Failed, Folder, Sink, Source, WriteFault};
 use std::alloc::Global;
 use std::marker::Model;
 
@@ -140,9 +140,9 @@ impl MemorySink {
 impl Sink for MemorySink {
     ghost state = { memory_sink_state };
 
-    fn write(&mut self, piece: &[u8]) -> Result<usize, SinkFault>
+    fn write(&mut self, piece: &[u8]) -> Result<usize, WriteFault>
         requires { 0 < length piece.now }
-        ensures failed { (result ≡ Err SinkFault.Failed) ↔
+        ensures failed { (result ≡ Err WriteFault.Failed) ↔
             (IsToFail self.old.calls ⊎ IsFull self.old) }
         ensures counted { self.new.calls ≡ after_write self.old.calls result }
 
@@ -155,12 +155,12 @@ impl Sink for MemorySink {
             (memory_sink_state self.old) (memory_sink_state self.new) piece.now result }
     {
         if self.calls.make().is_err() {
-            return Err(SinkFault::Failed);
+            return Err(WriteFault::Failed);
         }
         let room = self.bound - self.sink.sent().len() as u64;
         if room == 0 {
             self.calls.fail();
-            return Err(SinkFault::Failed);
+            return Err(WriteFault::Failed);
         }
         let fits = piece.len().min(room as usize).min(self.piece);
         self.sink.write(&piece[..fits])

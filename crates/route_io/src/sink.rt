@@ -1,7 +1,7 @@
 ghost use Rattle.std.specs.Prelude.{◌<◌, length};
 ghost use Rattle.route_io.specs.Sinks.{Sends, SinkState, Writes};
 
-use crate::{SinkFault, WriteFault};
+use crate::WriteFault;
 
 /// What bytes are sent to.
 pub trait Sink {
@@ -9,7 +9,7 @@ pub trait Sink {
     ghost state: { Self → SinkState };
 
     /// Takes at least one byte from the front of the piece, and answers how many. At a fault nothing was sent.
-    fn write(&mut self, piece: &[u8]) -> Result<usize, SinkFault>
+    fn write(&mut self, piece: &[u8]) -> Result<usize, WriteFault>
         requires { 0 < length piece.now }
         ensures { Writes (state self.old) (state self.new) piece.now result };
 }
@@ -20,11 +20,8 @@ pub fn put_all<K: Sink>(sink: &mut K, text: &[u8]) -> Result<(), WriteFault>
 {
     let mut rest = text;
     while !rest.is_empty() {
-        match sink.write(rest) {
-            Ok(taken) => rest = &rest[taken..],
-            Err(SinkFault::Failed) => return Err(WriteFault::Failed),
-            Err(SinkFault::OutOfMemory) => return Err(WriteFault::OutOfMemory),
-        }
+        let taken = sink.write(rest)?;
+        rest = &rest[taken..];
     }
     Ok(())
 }

@@ -9,7 +9,7 @@ ghost use Rattle.route_io.specs.Sources.{Reads, Selects};
 use crate::calls::count;
 use crate::front::copy_front;
 use crate::shelf::{NamedFile, Shelf};
-use crate::{Failed, Folder, Sink, SinkFault, Source};
+use crate::{Failed, Folder, Sink, Source, WriteFault};
 use std::alloc::Global;
 use std::marker::Model;
 
@@ -91,16 +91,16 @@ impl SureSink {
 impl Sink for SureSink {
     ghost state = { sure_sink_state };
 
-    fn write(&mut self, piece: &[u8]) -> Result<usize, SinkFault>
+    fn write(&mut self, piece: &[u8]) -> Result<usize, WriteFault>
         requires { 0 < length piece.now }
-        ensures never_fails { IfErr result (λ fault. fault ≡ SinkFault.OutOfMemory) }
+        ensures never_fails { IfErr result (λ fault. fault ≡ WriteFault.OutOfMemory) }
         ensures whole { IfOk result (λ n. n ≡ length piece.now) }
         ensures writes { Writes
             (sure_sink_state self.old) (sure_sink_state self.new) piece.now result }
     {
         if self.sent.extend_from_slice(piece).is_err() {
             count(&mut self.wants);
-            return Err(SinkFault::OutOfMemory);
+            return Err(WriteFault::OutOfMemory);
         }
         Ok(piece.len())
     }

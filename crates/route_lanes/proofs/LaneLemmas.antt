@@ -24,9 +24,9 @@ serves_whole : {T L : Type 0} (show : L → LinkState) (scene : Scene) (bytes : 
     (record { seen = whole; named = s.party_after.session.named })
     (show s.link).from (show s.link_after).from (show s.link).to (show s.link_after).to s.party_after.end
 serves_whole show scene bytes whole s is begins allowed = record {
-  told = is.told;
+  exchanges = is.exchanges;
   runs = record {
-    run = run_stays scene [] [] s.party_after.session.seen whole is.told is.runs.run (prefix_self []) begins allowed.history;
+    run = run_stays scene [] [] s.party_after.session.seen whole is.exchanges is.runs.run (prefix_self []) begins allowed.history;
     named = is.runs.named;
   };
   each = is.each;
@@ -74,7 +74,7 @@ module _ {T L : Type 0} (show : L → LinkState) (graph : Graph) (o : Origin) (b
       ∷ map (report_of (last_number o (whole_of one'.store))) lanes'
       → All (λ lane. IsPrefix lane.session.seen (whole_of one'.store)) lanes'
       → RunsLanes graph weights first budget bytes (map show links) (map show links') reports
-  runs_lanes weights first first_is base_is is told begins =
+  runs_lanes weights first first_is base_is is exchanges begins =
       let operator = is.served_first in
       let left = operator.left in
       let whole = closed_history left in
@@ -86,7 +86,7 @@ module _ {T L : Type 0} (show : L → LinkState) (graph : Graph) (o : Origin) (b
       let report : LaneReport = record { end = one'.end; last = last; numbers = [] } in
       let lead : Lane = record { before = show is.first; after = show is.first_after; report = report } in
       let seen = subst (λ (h : History). All (λ (x : SessionLane T). IsPrefix x.session.seen h) lanes') closed begins in
-      let reported = subst (λ (h : History). reports ≡ record { end = one'.end; last = last_number o h; numbers = [] } ∷ map (report_of (last_number o h)) lanes') closed told in
+      let reported = subst (λ (h : History). reports ≡ record { end = one'.end; last = last_number o h; numbers = [] } ∷ map (report_of (last_number o h)) lanes') closed exchanges in
       record {
         origin = o;
         first_is = first_is;

@@ -1,7 +1,6 @@
 //! Lanes: an operator publishes epochs while sessions ask of them, each on a thread of its own.
 #![tactic(auto)]
 
-mod court;
 mod lanes;
 mod operator_lane;
 mod report;
@@ -9,6 +8,5 @@ mod run;
 mod service;
 mod session_lane;
 
-pub use court::Court;
 pub use report::LaneReport;
 pub use run::run_lanes;

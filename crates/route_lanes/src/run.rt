@@ -7,19 +7,20 @@ ghost use Rattle.route_lanes.specs.Lanes.{RunsLanes};
 ghost use Rattle.session_core.specs.Answering.{CanSearch, scene_of};
 ghost use Rattle.route_lanes.specs.Served.{report_of, whole_of};
 
-use crate::court::Court;
+use crate::lanes::serve_lanes;
 use crate::operator_lane::{OperatorLane, StoreState};
 use crate::report::LaneReport;
 use crate::session_lane::{SessionLane, learn_all, report_all, session_lanes};
 use arc_graph::Weights;
-use cost_vector::OutOfMemory;
 use epoch_store::{Chronicle, Store, make};
+use out_of_memory::OutOfMemory;
 use route_io::{Gate, Link, Sink, Source};
-use session_core::SessionEnd;
+use session_core::{ServeContext, SessionEnd};
 use std::alloc::Global;
 use std::marker::Brand;
 use std::sync::Wait;
 use std::thread::Threads;
+use std::time::Clock;
 
 /// Serves all links at once, the operator's first and up to 16 sessions', each lane on a thread of its own; where none can
 /// be started the caller's does its work. When the operator's link has ended the store is closed, and each session's lane
@@ -27,36 +28,34 @@ use std::thread::Threads;
 ///
 /// One report a link, in order. It may wait: a publication for readers, and a session for an epoch. Where memory runs out,
 /// links may have been served in part.
-pub fn run_lanes<R: Threads + Wait + Sync, G: Gate, S: Source + Send, K: Sink + Send>(
-    court: &Court<'_, R, G>,
+pub fn run_lanes<R: Threads + Wait + Clock + Sync, G: Gate, S: Source + Send, K: Sink + Send>(
+    context: &ServeContext<'_, R, G>,
     weights: Weights,
     first: u32,
     links: &mut [Link<S, K>],
 ) -> Result<Vec<LaneReport>, OutOfMemory>
-    requires at_least_one { 1 ≤ court.now.crew.now.workers }
-    requires at_most_64 { court.now.crew.now.workers ≤ 64 }
-    requires weights { Match court.now.graph.now weights }
-    requires budget { court.now.budget ≤ max_budget }
+    requires weights { Match context.now.graph.now weights }
+    requires budget { context.now.budget ≤ max_budget }
     requires some_session { 2 ≤ length links.old }
     requires at_most_16_sessions { length links.old ≤ 17 }
-    ensures { IfOk result (λ reports. RunsLanes court.now.graph.now weights first
-        court.now.budget court.now.bytes
+    ensures { IfOk result (λ reports. RunsLanes context.now.graph.now weights first
+        context.now.budget context.now.bytes
         (map (λ l. record { from = S.state l.from; to = K.state l.to }) links.old)
         (map (λ l. record { from = S.state l.from; to = K.state l.to }) links.new)
         reports.items) }
 {
-    run_in_store::<R, G, S, K, Brand>(court, Chronicle::default(), weights, first, links)
+    run_in_store::<R, G, S, K, Brand>(context, Chronicle::default(), weights, first, links)
 }
 
 /// Serves all links over the store of a chronicle.
 fn run_in_store<
-    R: Threads + Wait + Sync,
+    R: Threads + Wait + Clock + Sync,
     G: Gate,
     S: Source + Send,
     K: Sink + Send,
     T: Store + Send + Sync,
 >(
-    court: &Court<'_, R, G>,
+    context: &ServeContext<'_, R, G>,
     chronicle: Chronicle,
     weights: Weights,
     first: u32,
@@ -65,31 +64,30 @@ fn run_in_store<
     requires chronicle { chronicle ≡ T.origin.chronicle }
     requires first { first ≡ T.origin.first }
     requires base { weights ≡ T.origin.base }
-    requires search { CanSearch court.now.crew.now.workers
-        (scene_of court.now.graph.now T.origin court.now.budget) }
+    requires search { CanSearch (scene_of context.now.graph.now T.origin context.now.budget) }
     requires some_session { 2 ≤ length links.old }
     requires at_most_16_sessions { length links.old ≤ 17 }
-    ensures { IfOk result (λ reports. RunsLanes court.now.graph.now weights first
-        court.now.budget court.now.bytes
+    ensures { IfOk result (λ reports. RunsLanes context.now.graph.now weights first
+        context.now.budget context.now.bytes
         (map (λ l. record { from = S.state l.from; to = K.state l.to }) links.old)
         (map (λ l. record { from = S.state l.from; to = K.state l.to }) links.new)
         reports.items) }
 {
-    let reports = Vec::with_capacity(court.alloc, links.len())?;
+    let reports = Vec::with_capacity(context.alloc, links.len())?;
     let sessions = (links.len() - 1) as u32;
-    let (operator, readers) = make::<T>(court.alloc, chronicle, first, weights, sessions)?;
+    let (operator, readers) = make::<T>(context.alloc, chronicle, first, weights, sessions)?;
     let mut operator = OperatorLane {
         store: StoreState::Open(operator),
         end: SessionEnd::Ended,
     };
-    match session_lanes(court.alloc, readers) {
+    match session_lanes(context.alloc, readers) {
         Ok(mut sessions) => {
-            court.serve(&mut operator, &mut sessions, links);
-            report_lanes(court.crew.rt, court.alloc, reports, operator, sessions)
+            serve_lanes(context, &mut operator, &mut sessions, links);
+            report_lanes(context.workers.rt(), context.alloc, reports, operator, sessions)
         }
         Err(_) => {
             let OperatorLane { store, end: _ } = operator;
-            store.close(court.crew.rt).end(court.crew.rt);
+            store.close(context.workers.rt()).end(context.workers.rt());
             Err(OutOfMemory)
         }
     }

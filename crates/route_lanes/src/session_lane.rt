@@ -5,13 +5,14 @@ ghost use Rattle.session_core.specs.Answering.{CanSearch, scene_of};
 ghost use Rattle.route_lanes.specs.Served.{IsFresh, SessionServes, learnt, report_of, state_of};
 
 use crate::report::LaneReport;
-use cost_vector::OutOfMemory;
 use epoch_store::{Ended, EpochReader, Store};
+use out_of_memory::OutOfMemory;
 use route_io::{Gate, Link, Sink, Source};
-use session_core::{Host, Session, SessionEnd};
+use session_core::{ServeContext, Session, SessionEnd};
 use std::alloc::Global;
 use std::sync::Wait;
 use std::thread::Threads;
+use std::time::Clock;
 
 /// A session's lane: how its link ended is `Ended` before it was served.
 #[derive(Drop)]
@@ -22,19 +23,18 @@ pub(crate) struct SessionLane<T: Store> {
 
 impl<T: Store> SessionLane<T> {
     /// Serves a link.
-    pub(crate) fn serve<R: Threads + Wait + Sync, G: Gate, S: Source, K: Sink>(
+    pub(crate) fn serve<R: Threads + Wait + Clock + Sync, G: Gate, S: Source, K: Sink>(
         &mut self,
-        host: &Host<'_, R, G>,
+        context: &ServeContext<'_, R, G>,
         link: &mut Link<S, K>,
     )
         requires fresh { IsFresh self.old.session }
-        requires search { CanSearch host.now.crew.now.workers
-            (scene_of host.now.graph.now T.origin host.now.budget) }
+        requires search { CanSearch (scene_of context.now.graph.now T.origin context.now.budget) }
         ensures { SessionServes (state_of S.state K.state)
-            (scene_of host.now.graph.now T.origin host.now.budget) host.now.bytes
+            (scene_of context.now.graph.now T.origin context.now.budget) context.now.bytes
             self.old link.old self.new link.new }
     {
-        self.end = self.session.serve(host, link);
+        self.end = self.session.serve(context, link);
     }
 
     /// Goes on to the last epoch of a store that is closed.

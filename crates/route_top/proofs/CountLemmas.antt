@@ -18,15 +18,13 @@ use Rattle.road_network.specs.Answers.{AreBestCosts, IsAnswer, IsRelevant, Passe
 use Rattle.road_network.specs.Best.{IsBackwardLeast}
 use Rattle.road_network.specs.Limits.{max_budget}
 use Rattle.road_network.specs.Network.{IsNetwork, Network}
-use Rattle.arc_graph.specs.Graph.{Graph, Weights, network}
-use Rattle.path_readback.specs.Found.{Found, IsFound}
-use Rattle.path_readback.specs.WellFound.{HasAllRelevant, IsWellFound}
+use Rattle.road_network.specs.Found.{Found, IsFound, IsOf, HasAllRelevant}
+use Rattle.road_network.specs.Queries.{IsTooLarge, limit_of, limit_or_none}
+use Rattle.road_network.specs.declared.query.Query.{Query}
+use Rattle.path_readback.specs.WellFound.{IsWellFound}
 use Rattle.path_readback.proofs.WellFoundLaws.{is_within_longest}
-use Rattle.pareto_search.specs.Findings.{IsOf}
 use Rattle.query_reader.specs.declared.pairs.Pair.{Pair}
-use Rattle.route_query.specs.declared.query.Query.{Query as Asked}
 use Rattle.gen_laws.specs.Laws.{IsSmall}
-use Rattle.command_words.specs.declared.Query.{Query}
 use Rattle.route_top.specs.declared.summary.Summary.{Summary}
 use Rattle.route_top.specs.Summary.{AreFew, CountsAnswer, CountsPair, Fits, HasAnswer, HasWhole, PairEnds, SumsUp, all_routes, summary_of, with_pair, with_routes}
 
@@ -64,27 +62,23 @@ module _ (net : Network) (limit : List (Option ℕ)) (f : Found) (budget : ℕ) 
   pub few_costs : ¬ Passes net f.start f.target limit budget → length f.costs ≤ budget
   few_costs within = few_if within (nat_lt budget (length f.costs)) refl
 
--- what was found for a query within its budget is its whole answer
-pub has_whole : (g : Graph) (w : Weights) (query : Query) (f : Found) (asked : Asked) → IsOf g asked f → asked.from.0 ≡ query.from → asked.to.0 ≡ query.to
-    → asked.limit ≡ no_limit g.criteria → asked.budget ≡ query.effort.budget → HasAllRelevant (network g w) asked.limit f
-    → IsWellFound (network g w) asked.limit f → ¬ Passes (network g w) asked.from.0 asked.to.0 asked.limit asked.budget
-    → query.effort.budget ≤ max_budget → HasWhole g w query f
-has_whole g w query f asked of from to limit budget all well within most =
-    let net = network g w in
-    let start : f.start ≡ query.from = of.start ∙ from in
-    let target : f.target ≡ query.to = of.target ∙ to in
-    let here : ¬ Passes net query.from query.to (no_limit g.criteria) query.effort.budget = rw (from, to, limit, budget) at within in
-    let there : ¬ Passes net f.start f.target (no_limit g.criteria) query.effort.budget = rw (start, target) here in
+-- what was found for a query without a limit, within its budget, is its whole answer
+pub has_whole : (net : Network) (query : Query) (f : Found) → IsOf net query f → query.limit ≡ None → HasAllRelevant net (limit_of net.criteria query) f
+    → IsWellFound net (limit_of net.criteria query) f → ¬ IsTooLarge net query → query.budget ≤ max_budget → HasWhole net query f
+has_whole net query f of unlimited all well within most =
+    let none = no_limit net.criteria in
+    let limit : limit_of net.criteria query ≡ none = ap (limit_or_none net.criteria) unlimited in
+    let here : ¬ Passes net query.from query.to none query.budget = rw limit at within in
+    let there : ¬ Passes net f.start f.target none query.budget = rw (of.start, of.target) here in
     record {
       answer = record {
-        start = start;
-        target = target;
+        start = of.start;
+        target = of.target;
         nodes = of.nodes;
         criteria = of.criteria;
         well_found = subst (λ l. IsWellFound net l f) limit well;
       };
-      few = λ found. let few = few_costs net (no_limit g.criteria) f query.effort.budget (subst (λ l. HasAllRelevant net l f) limit all) found there in
-          omega (arith, few, most);
+      few = λ found. let few = few_costs net none f query.budget (subst (λ l. HasAllRelevant net l f) limit all) found there in omega (arith, few, most);
       within = here;
     }
 
@@ -169,11 +163,10 @@ module _ (net : Network) (f : Found) (old : Summary) where
         }
 
 -- all costs of an answer were counted
-pub all_counted : (g : Graph) (w : Weights) (query : Query) (f : Found) (n : ℕ) (old now : Summary) → HasAnswer g w query f → IsFound f
-    → length f.costs ≤ n → HasCounted (network g w) f n old now → CountsAnswer (network g w) query.from query.to old now
-all_counted g w query f n old now has found past so =
-    let net = network g w in
-    let limit = no_limit g.criteria in
+pub all_counted : (net : Network) (query : Query) (f : Found) (n : ℕ) (old now : Summary) → HasAnswer net query f → IsFound f
+    → length f.costs ≤ n → HasCounted net f n old now → CountsAnswer net query.from query.to old now
+all_counted net query f n old now has found past so =
+    let limit = no_limit net.criteria in
     let costs = subst (AreBestCosts net f.start f.target limit) (sym (so.costs ∙ take_all n f.costs past))
     (record { ascending = found.ascending; exact = has.well_found.costs }) in
     let answer : IsAnswer net f.start f.target limit so.routes = record { costs = costs; walks = so.walks } in

@@ -24,7 +24,7 @@ session_at asked (suc n) some within =
 module _ (files : Option FileMap) (name : List ℕ) (left : Option (List ℕ)) where
   -- the script that was opened was read whole
   pub script_is_read : (bytes : Vec ℕ) → Opens files name left → WholeRead left (Ok bytes) → SaysScript files name bytes.items
-  script_is_read bytes opens read = record { short = read.0; told = tells files name left (λ all. all ≡ bytes.items) opens read.1 }
+  script_is_read bytes opens read = record { short = read.0; exchanges = tells files name left (λ all. all ≡ bytes.items) opens read.1 }
 
   -- it wasn't
   pub reading_stops : (why : ScriptFault) → Opens files name left → WholeRead left (Err why) → ScriptStop files name (script_outcome name why)

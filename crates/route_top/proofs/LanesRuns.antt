@@ -13,7 +13,7 @@ use Rattle.route_top.specs.declared.stop.Stop.TheVariants as stop
 use Rattle.route_top.specs.FilesRead.{ReadAs}
 use Rattle.route_top.specs.Lanes.{LanesEnd, LanesReplies, RepliesToScripts, SaysScript, ScriptStop, ScriptsEnd, ScriptsStop, failed, max_script, scripts_read, scripts_stop, starved, too_long}
 use Rattle.route_top.specs.Outcome.{Outcome, done, no_memory, status_of}
-use Rattle.route_top.specs.Output.{Ends, Runs}
+use Rattle.route_top.specs.Output.{Ends, RunsCommand}
 use Rattle.route_top.specs.Stops.{Replies, outcome_of}
 use Rattle.route_top.proofs.FilesReadLemmas.{ends_over}
 use Rattle.route_top.proofs.RunsLemmas.{LeavesOut, nothing_sent, replies_so, runs_then, sent_done, sent_part, starves}
@@ -41,7 +41,7 @@ module _ {L : Type 0} (script_of : L → List ℕ) (files : Option FileMap) wher
 
 script_leaves_out : {files : Option FileMap} {name : List ℕ} {outcome : Outcome} → ScriptStop files name outcome → LeavesOut outcome
 script_leaves_out failed = record { no_fault = refl; no_want = refl }
-script_leaves_out (too_long told) = record { no_fault = refl; no_want = refl }
+script_leaves_out (too_long exchanges) = record { no_fault = refl; no_want = refl }
 script_leaves_out starved = record { no_fault = refl; no_want = refl }
 
 module _ (asked : LanesAsked) (net : Network) (scripts : List (List ℕ)) where
@@ -49,37 +49,37 @@ module _ (asked : LanesAsked) (net : Network) (scripts : List (List ℕ)) where
   pub lanes_starve : (out : SinkState) → Replies (LanesReplies asked net scripts) out out no_memory
   lanes_starve out = starves (LanesReplies asked net scripts) out refl
 
-  module _ (text : List ℕ) (told : RepliesToScripts asked net scripts text) (out replied : SinkState) where
+  module _ (text : List ℕ) (exchanges : RepliesToScripts asked net scripts text) (out replied : SinkState) where
     -- all replies were sent
     pub lanes_replied : Sends {T = Unit {0}} out replied text (Ok tt) → Replies (LanesReplies asked net scripts) out replied done
-    lanes_replied sent = replies_so (LanesReplies asked net scripts) done text out replied done told (sent_done text out replied sent)
+    lanes_replied sent = replies_so (LanesReplies asked net scripts) done text out replied done exchanges (sent_done text out replied sent)
 
     -- a part of them was
     pub lanes_cut : (fault : WriteFault) → Sends {T = Unit {0}} out replied text (Err fault)
         → Replies (LanesReplies asked net scripts) out replied (outcome_of (stop.Out fault))
-    lanes_cut fault sent = replies_so (LanesReplies asked net scripts) done text out replied (outcome_of (stop.Out fault)) told
+    lanes_cut fault sent = replies_so (LanesReplies asked net scripts) done text out replied (outcome_of (stop.Out fault)) exchanges
         (sent_part done text out replied fault sent)
 
 -- the network was read, and the run goes on to the scripts
 module _ (asked : LanesAsked) (folder mid after : SourceState) (net : Network) (read : ReadAs folder.files asked.files net)
     (reads : ReadsFrom folder mid false) where
   goes_on_to_scripts : (out replied : SinkState) (outcome : Outcome)
-      → Runs (ScriptsEnd (LanesReplies asked net) mid.files (scripts_of asked)) mid after out replied outcome
-      → Runs (Ends folder.files (lanes asked)) folder after out replied outcome
+      → RunsCommand (ScriptsEnd (LanesReplies asked net) mid.files (scripts_of asked)) mid after out replied outcome
+      → RunsCommand (Ends folder.files (lanes asked)) folder after out replied outcome
   goes_on_to_scripts out replied outcome runs =
       ends_over (LanesEnd folder.files asked) asked.files folder after net mid out replied outcome read reads
-      (subst (λ files. Runs (ScriptsEnd (LanesReplies asked net) files (scripts_of asked)) mid after out replied outcome) reads.files runs)
+      (subst (λ files. RunsCommand (ScriptsEnd (LanesReplies asked net) files (scripts_of asked)) mid after out replied outcome) reads.files runs)
 
   -- the scripts end the run
   pub ends_at_scripts : {outcome : Outcome} (out : SinkState) → ScriptsStop mid.files (scripts_of asked) outcome → ReadsFrom mid after (status_of outcome == 3)
-      → Runs (Ends folder.files (lanes asked)) folder after out out outcome
+      → RunsCommand (Ends folder.files (lanes asked)) folder after out out outcome
   ends_at_scripts {outcome} out why more = goes_on_to_scripts out out outcome
       (nothing_sent (ScriptsEnd (LanesReplies asked net) mid.files (scripts_of asked)) outcome mid after out (script_leaves_out why.2) (scripts_stop why) more)
 
   -- they were read, and the run only replies
   pub ends_over_scripts : (scripts : List (List ℕ)) (out replied : SinkState) (outcome : Outcome)
       → AllZip (SaysScript mid.files) (scripts_of asked) scripts → ReadsFrom mid after false → Replies (LanesReplies asked net scripts) out replied outcome
-      → Runs (Ends folder.files (lanes asked)) folder after out replied outcome
+      → RunsCommand (Ends folder.files (lanes asked)) folder after out replied outcome
   ends_over_scripts scripts out replied outcome says more replies = goes_on_to_scripts out replied outcome
       (runs_then (LanesReplies asked net scripts) (ScriptsEnd (LanesReplies asked net) mid.files (scripts_of asked))
       (λ o text then. scripts_read scripts says then) mid after after out replied outcome more (replies after))

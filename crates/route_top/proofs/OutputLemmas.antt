@@ -1,34 +1,36 @@
 -- What the program does, by its words.
-use Rattle.std.proofs.Common.{◌≡◌, ℕ, List, [], ◌⊎◌, inl, inr, length, refl, subst, ap, arith}
+use Rattle.std.proofs.Common.{◌≡◌, ℕ, List, [], ◌⊎◌, inl, inr, length, refl, subst, sym, ◌∙◌, ap, arith}
 use Rattle.std.specs.Prelude.{Option, Some, None, MatchOption}
 use Rattle.route_io.specs.Files.{FileMap}
 use Rattle.route_io.specs.Sinks.{SinkState}
 use Rattle.route_io.specs.Sources.{SourceState}
-use Rattle.command_words.specs.Words.{AreWords, Asked, Asks, GenAsked, batch, check, generate, lanes, single}
+use Rattle.command_words.specs.declared.apps.Name.TheVariants.{Lanes}
+use Rattle.command_words.specs.Words.{AreWords, Asked, Asks, GenAsked, IsNamed, batch, check, generate, lanes, single}
+use Rattle.command_words.proofs.StillLemmas.{not_lanes}
 use Rattle.route_top.specs.Batch.{pairs_read, pairs_stop}
 use Rattle.route_top.specs.FilesRead.{at_file, stops, goes_on}
 use Rattle.route_top.specs.Gen.{SendsFile, SendsSummary}
 use Rattle.route_top.specs.Lanes.{scripts_read, scripts_stop}
 use Rattle.route_top.specs.Outcome.{Outcome}
 use Rattle.route_top.specs.Outcome.{done, bad_words, folder_failed, out_failed, bad_file, bad_files, bad_pairs, script_too_long, refused, no_memory, out_wanted, status_of}
-use Rattle.route_top.specs.Output.{Ends, EndsByWords, no_command, starved, asks, EndsOrCut, uncut, failed, wanted, Runs}
+use Rattle.route_top.specs.Output.{AreStillWords, AsksStill, Ends, EndsByWords, no_command, starved, asks, EndsOrCut, uncut, failed, wanted, Output, RunsCommand}
 use Rattle.route_top.proofs.RunsLemmas.{runs_then, stays}
 
 -- the words ask for the command that ran so
-pub runs_asked : (words : List (List ℕ)) (asked : Asked) → Asks words asked → (folder after : SourceState) (out replied : SinkState) (outcome : Outcome)
-    → Runs (Ends folder.files asked) folder after out replied outcome → Runs (EndsByWords words folder.files) folder after out replied outcome
-runs_asked words asked words_ask folder after out replied outcome runs =
-    runs_then (Ends folder.files asked) (EndsByWords words folder.files) (λ o text ends. asks asked words_ask ends) folder folder after out replied outcome
+pub runs_asked : (IsAsked : Asked → Type 0) (asked : Asked) → IsAsked asked → (folder after : SourceState) (out replied : SinkState) (outcome : Outcome)
+    → RunsCommand (Ends folder.files asked) folder after out replied outcome → RunsCommand (EndsByWords IsAsked folder.files) folder after out replied outcome
+runs_asked IsAsked asked is folder after out replied outcome runs =
+    runs_then (Ends folder.files asked) (EndsByWords IsAsked folder.files) (λ o text ends. asks asked is ends) folder folder after out replied outcome
     (stays folder) runs
 
-module _ (words : List (List ℕ)) (files : Option FileMap) (none : ¬ AreWords words) where
+module _ (IsAsked : Asked → Type 0) (files : Option FileMap) (none : ¬ ((asked : Asked) × IsAsked asked)) where
   -- words that ask for nothing end the run
-  whole_of_none : {outcome : Outcome} {text : List ℕ} → EndsByWords words files outcome text → (text ≡ []) × ((status_of outcome ≡ 2) ⊎ (status_of outcome ≡ 9))
+  whole_of_none : {outcome : Outcome} {text : List ℕ} → EndsByWords IsAsked files outcome text → (text ≡ []) × ((status_of outcome ≡ 2) ⊎ (status_of outcome ≡ 9))
   whole_of_none (no_command no_words) = (refl, inl refl)
   whole_of_none starved = (refl, inr refl)
-  whole_of_none (asks asked words_ask ends) = absurd (none (asked, words_ask))
+  whole_of_none (asks asked is ends) = absurd (none (asked, is))
 
-  pub ends_of_none : {outcome : Outcome} {text : List ℕ} → EndsOrCut (EndsByWords words files) outcome text → (status_of outcome ≡ 2) ⊎ (status_of outcome ≡ 9)
+  pub ends_of_none : {outcome : Outcome} {text : List ℕ} → EndsOrCut (EndsByWords IsAsked files) outcome text → (status_of outcome ≡ 2) ⊎ (status_of outcome ≡ 9)
   ends_of_none (uncut whole) = (whole_of_none whole).1
   ends_of_none (failed cut) = let nothing = ap length (whole_of_none cut.ends).0 in absurd (omega (arith, cut.short))
   ends_of_none (wanted cut) = inr refl
@@ -66,11 +68,34 @@ is_bad_words no_memory two = cc
 is_bad_words out_wanted two = cc
 
 -- status 2 comes only where the words ask for nothing
-pub none_of_two : (words : List (List ℕ)) (files : Option FileMap) {outcome : Outcome} {text : List ℕ}
-    → EndsOrCut (EndsByWords words files) outcome text → status_of outcome ≡ 2 → ¬ AreWords words
-none_of_two words files (uncut (no_command none)) two = none
-none_of_two words files (uncut starved) two = cc
-none_of_two words files {outcome} {text} (uncut (asks asked words_ask ends)) two =
+pub none_of_two : (IsAsked : Asked → Type 0) (files : Option FileMap) {outcome : Outcome} {text : List ℕ}
+    → EndsOrCut (EndsByWords IsAsked files) outcome text → status_of outcome ≡ 2 → ¬ ((asked : Asked) × IsAsked asked)
+none_of_two IsAsked files (uncut (no_command none)) two = none
+none_of_two IsAsked files (uncut starved) two = cc
+none_of_two IsAsked files {outcome} {text} (uncut (asks asked is ends)) two =
     absurd (never_bad_words files asked text (subst (λ o. Ends files asked o text) (is_bad_words outcome two) ends))
-none_of_two words files (failed cut) two = cc
-none_of_two words files (wanted cut) two = cc
+none_of_two IsAsked files (failed cut) two = cc
+none_of_two IsAsked files (wanted cut) two = cc
+
+-- what ends a run of words that ask for no command that waits
+module _ (words : List (List ℕ)) (other : ¬ IsNamed words Lanes) where
+  -- they are words as far as they are those of a still command
+  pub no_words : ¬ AreStillWords words → ¬ AreWords words
+  no_words none (asked, a) = none (asked, record { asks = a; still = not_lanes words asked other a })
+
+  pub ends_still : (files : Option FileMap) (outcome : Outcome) (text : List ℕ) → EndsByWords (AsksStill words) files outcome text
+      → EndsByWords (Asks words) files outcome text
+  ends_still files outcome text (no_command none) = no_command (no_words none)
+  ends_still files outcome text starved = starved
+  ends_still files outcome text (asks asked is ends) = asks asked is.asks ends
+
+  -- and so is all that the run does
+  pub still_output : {folder after : SourceState} {out replied err noted : SinkState} {status : ℕ}
+      → Output (AsksStill words) folder after out replied err noted status → Output (Asks words) folder after out replied err noted status
+  still_output {folder} {after} {out} {replied} o = record {
+    outcome = o.outcome;
+    runs = runs_then (EndsByWords (AsksStill words) folder.files) (EndsByWords (Asks words) folder.files) (ends_still folder.files) folder folder after
+        out replied o.outcome (stays folder) o.runs;
+    note = o.note;
+    status_is = o.status_is;
+  }

@@ -1,5 +1,5 @@
 -- The files of a plan, as they are made, read and joined.
-use Rattle.std.proofs.Common.{◌≡◌, ◌≢◌, ◌∙◌, ℕ, zero, suc, ◌+◌, ◌≤◌, List, Err, Some, map, refl, ap, subst, sym, arith}
+use Rattle.std.proofs.Common.{◌≡◌, ◌∙◌, ℕ, zero, suc, ◌+◌, ◌≤◌, List, Err, Some, map, refl, ap, subst, sym, arith}
 use Rattle.std.specs.List.{AllZip, range_with_len}
 use Rattle.std.proofs.lemmas.List.FromFn.{map-range_with_len_more}
 use Rattle.route_io.specs.Forms.{sure_source_state}
@@ -7,17 +7,18 @@ use Rattle.route_io.specs.Sources.{ReadsFrom}
 use Rattle.arc_graph.specs.declared.file.ArcLine.{ArcLine}
 use Rattle.arc_graph.specs.declared.join.JoinFault.{JoinFault}
 use Rattle.arc_graph.specs.declared.join.JoinFault.TheVariants as join
-use Rattle.arc_graph.specs.Agreement.{Agree, HasFault, joined}
+use Rattle.arc_graph.specs.Agreement.{Agree, IsFaultOf, joined}
 use Rattle.road_network.specs.Network.{Network}
-use Rattle.cost_vector.specs.declared.out_of_memory.OutOfMemory.{OutOfMemory}
+use Rattle.out_of_memory.specs.declared.OutOfMemory.{OutOfMemory}
 use Rattle.std.specs.Prelude.{IfOk, Result}
 use Rattle.std.proofs.lemmas.Result.{IfOk-weaker}
 use Rattle.arc_graph.specs.Files.{ArcFile}
 use Rattle.arc_graph.specs.Joiner.{Joiner}
-use Rattle.arc_graph.specs.StandsFor.{StandsFor}
+use Rattle.arc_graph.proofs.FaultLemmas.{none_of_agreeing}
+use Rattle.arc_graph.specs.JoinerHolds.{JoinerHolds}
 use Rattle.gr_reader.specs.declared.fault.FileFault.{FileFault}
 use Rattle.gr_reader.specs.declared.fault.FileFault.TheVariants as file
-use Rattle.gr_reader.specs.declared.fault.FileLimits.{FileLimits}
+use Rattle.line_text.specs.declared.limits.LineLimits.{LineLimits}
 use Rattle.gr_reader.specs.declared.weights.Sizes.{Sizes}
 use Rattle.gr_reader.specs.Files.{IsFile}
 use Rattle.gr_reader.specs.Grammar.{IsGrFile, weights}
@@ -42,7 +43,7 @@ pub leave_room : LeaveRoom reading_limits
 leave_room = record { line = omega arith; file = omega arith }
 
 -- a file has no fault of a line, and bytes in memory can be read
-pub only_want : {P R : Type 0} (rules : Rules P R) (limits : FileLimits) (bytes left : List ℕ) (problem : P) (records : List R) (fault : FileFault)
+pub only_want : {P R : Type 0} (rules : Rules P R) (limits : LineLimits) (bytes left : List ℕ) (problem : P) (records : List R) (fault : FileFault)
     → IsFile rules limits bytes problem records → IsFirstFault rules limits bytes fault
     → ReadsFrom (sure_source_state bytes) (sure_source_state left) (file_failed {T = Unit {0}} (Err fault)) → fault ≡ file.OutOfMemory
 only_want rules limits bytes left problem records (file.Line kind line) is first reads =
@@ -51,10 +52,8 @@ only_want rules limits bytes left problem records file.Read is first reads = abs
 only_want rules limits bytes left problem records file.OutOfMemory is first reads = refl
 
 -- files that agree are joined, unless memory runs out
-pub only_want_in : (files : List ArcFile) (fault : JoinFault) → Agree files → (fault ≢ join.OutOfMemory → HasFault files fault) → fault ≡ join.OutOfMemory
-only_want_in files (join.Sizes f) agree is = absurd (agree.sizes f (is (λ e. cc)).holds)
-only_want_in files (join.Ends a f) agree is = absurd (agree.arcs a (is (λ e. cc)).1.holds)
-only_want_in files (join.ZeroArc a) agree is = absurd (agree.arcs a (is (λ e. cc)).1.holds)
+pub only_want_in : (files : List ArcFile) (fault : JoinFault) → Agree files → IsFaultOf files fault → fault ≡ join.OutOfMemory
+only_want_in files (join.Files way) agree is = absurd (none_of_agreeing files way agree is)
 only_want_in files join.OutOfMemory agree is = refl
 
 -- a text is of one weight file, which is what the joiner has taken
@@ -71,10 +70,10 @@ pub one_list_of_pairs : (bytes : List ℕ) (all other : List Pair) → IsPairs r
 one_list_of_pairs bytes all other is second = ((is_decided pairs reading_limits bytes).one_file _ _ all other is second).1
 
 -- the joiner stands for one file more of a plan
-pub stands_for_more : (plan : GenPlan) (n : ℕ) (before now : Joiner) → StandsFor before (map (file_of plan) (range_with_len 1 n))
-    → TakesWhole before now (file_of plan (n + 1)) → StandsFor now (map (file_of plan) (range_with_len 1 (n + 1)))
+pub stands_for_more : (plan : GenPlan) (n : ℕ) (before now : Joiner) → JoinerHolds before (map (file_of plan) (range_with_len 1 n))
+    → TakesWhole before now (file_of plan (n + 1)) → JoinerHolds now (map (file_of plan) (range_with_len 1 (n + 1)))
 stands_for_more plan n before now stands takes =
-    subst (StandsFor now) (sym (map-range_with_len_more (file_of plan) 1 n (n + 1) (omega arith))) (takes.stands _ stands)
+    subst (JoinerHolds now) (sym (map-range_with_len_more (file_of plan) 1 n (n + 1) (omega arith))) (takes.stands _ stands)
 
 -- the text of a file of weights
 weight_file : (plan : GenPlan) (number : ℕ) → 1 ≤ number → file_text plan number ≡ weight_text plan number
@@ -108,9 +107,9 @@ nodes_of_plan plan net is same = ap (λ (n : Network). n.nodes) same ∙ joined_
 -- the counts are those of a plan
 pub comes_to : (asked : GenAsked) (net : Network) (all : List Pair) (result : Result Summary OutOfMemory) → IsPlan asked.plan → WeightFilesAreRead
     → WeightFilesAgree → PairFilesAreRead → net ≡ joined (files_of asked.plan) → all ≡ pairs_of asked.plan
-    → IfOk result (λ counts. SumsUp net asked.effort.budget all counts) → IfOk result (ComesTo asked)
+    → IfOk result (λ counts. SumsUp net asked.limits.budget all counts) → IfOk result (ComesTo asked)
 comes_to asked net all result is read agree pairs_read same same_pairs sums =
-    IfOk-weaker result (SumsUp net asked.effort.budget all) (ComesTo asked) (λ counts one. record {
+    IfOk-weaker result (SumsUp net asked.limits.budget all) (ComesTo asked) (λ counts one. record {
       net = net;
       pairs = all;
       says = record {

@@ -7,11 +7,11 @@ use Rattle.route_io.specs.declared.fault.WriteFault.TheVariants as write
 use Rattle.route_io.specs.Sinks.{SinkState, Sends}
 use Rattle.route_io.specs.Sources.{SourceState, ReadsFrom}
 use Rattle.route_io.proofs.ReadsLemmas.{ReadsFrom-then}
-use Rattle.query_replies.specs.declared.asked.Reply.{Reply}
-use Rattle.query_replies.specs.declared.asked.Reply.TheVariants.{Answer, Refusal}
+use Rattle.query_replies.specs.declared.reply.Reply.{Reply}
+use Rattle.query_replies.specs.declared.reply.Reply.TheVariants.{Answer, Refusal}
 use Rattle.route_top.specs.declared.stop.Stop.TheVariants as stop
 use Rattle.route_top.specs.Outcome.{Outcome, done, refused, no_memory, status_of, out_has_wanted}
-use Rattle.route_top.specs.Output.{TookNote, Runs, EndsOrCut, uncut, failed, wanted, IsCut}
+use Rattle.route_top.specs.Output.{TookNote, RunsCommand, EndsOrCut, uncut, failed, wanted, IsCut}
 use Rattle.route_top.specs.Stops.{IsReply, Replies, outcome_of, reply_outcome}
 
 -- nothing was sent
@@ -30,7 +30,7 @@ pub record LeavesOut (outcome : Outcome) : Type 0 where
 
 -- a run ends so with nothing sent
 pub nothing_sent : (Ending : Outcome → List ℕ → Type 0) (outcome : Outcome) (folder after : SourceState) (out : SinkState) → LeavesOut outcome
-    → Ending outcome [] → ReadsFrom folder after (status_of outcome == 3) → Runs Ending folder after out out outcome
+    → Ending outcome [] → ReadsFrom folder after (status_of outcome == 3) → RunsCommand Ending folder after out out outcome
 nothing_sent Ending outcome folder after out leaves whole reads = record {
   text = [];
   took = appends_nothing out.sent;
@@ -100,7 +100,7 @@ module _ (Ending Other : Outcome → List ℕ → Type 0) (each : (outcome : Out
 
   -- it goes on where files were read before
   pub runs_then : (folder mid after : SourceState) (out replied : SinkState) (outcome : Outcome) → ReadsFrom folder mid false
-      → Runs Ending mid after out replied outcome → Runs Other folder after out replied outcome
+      → RunsCommand Ending mid after out replied outcome → RunsCommand Other folder after out replied outcome
   runs_then folder mid after out replied outcome read runs = record {
     text = runs.text;
     took = runs.took;

@@ -9,7 +9,7 @@ use Rattle.session_core.specs.declared.end.SessionEnd.{SessionEnd}
 use Rattle.session_core.specs.declared.end.SessionEnd.TheVariants.{Ended, ReadFault, WriteFault, TooLong, OutOfMemory}
 use Rattle.session_core.specs.Lines.{ended_lines}
 use Rattle.session_core.specs.Links.{Serves, TakesLines}
-use Rattle.session_core.specs.Told.{Told, lines_told, text_told}
+use Rattle.session_core.specs.Exchanges.{Exchange, lines_exchanged, text_exchanged}
 use Rattle.std.proofs.lemmas.List.{drop_all, length-map, take_all}
 use Rattle.std.proofs.lemmas.List.Elements.{All-cons, All-head, All-nil, All-tail}
 use Rattle.arc_graph.specs.Graph.{Graph, Match, Weights, network}
@@ -19,7 +19,7 @@ use Rattle.session_core.specs.Operators.{IsOperatorBye, OperatorRun}
 use Rattle.session_core.specs.Sessions.{IsSessionBye, Scene, SessionGoes}
 use Rattle.route_lanes.specs.Lanes.{IsSessionLane, Lane, LaneReport, LinkState, RunsLanes}
 use Rattle.command_words.specs.Words.{LanesAsked}
-use Rattle.route_top.specs.Lanes.{AreLinesOf, IsSessionTold, RepliesToScripts, lanes_reply, max_script}
+use Rattle.route_top.specs.Lanes.{AreLinesOf, IsSessionExchange, RepliesToScripts, lanes_reply, max_script}
 
 -- ---- the lines that an LF ends in the front of a text are the first ones of the text
 
@@ -74,23 +74,23 @@ module _ (IsBye : List ℕ → Type 0) (script rest : List ℕ) (lines : List (L
   ]
 
 -- What a lane that wanted no memory has replied to its script.
-pub record HasReplied {State : Type 0} (Runs : State → List Told → State → Type 0) (IsBye : List ℕ → Type 0) (old new : State)
+pub record HasReplied {State : Type 0} (Progresses : State → List Exchange → State → Type 0) (IsBye : List ℕ → Type 0) (old new : State)
     (script sent : List ℕ) : Type 0 where
-  pub told : List Told
-  pub runs : Runs old told new
-  pub lines : AreLinesOf script IsBye (lines_told told)
-  pub sent_is : sent ≡ text_told told
+  pub exchanges : List Exchange
+  pub runs : Progresses old exchanges new
+  pub lines : AreLinesOf script IsBye (lines_exchanged exchanges)
+  pub sent_is : sent ≡ text_exchanged exchanges
 
-module _ {State : Type 0} (Runs : State → List Told → State → Type 0) (IsBye : List ℕ → Type 0) (old new : State)
+module _ {State : Type 0} (Progresses : State → List Exchange → State → Type 0) (IsBye : List ℕ → Type 0) (old new : State)
     (script rest : List ℕ) (to replied : SureSink) (short : length script ≤ max_script) (unsent : to ≡ record { sent = []; wants = 0 }) where
   pub has_replied : (end : SessionEnd) → end ≢ OutOfMemory
-      → Serves Runs IsBye most_taken old new (sure_source_state script) (sure_source_state rest) (sure_sink_state to) (sure_sink_state replied) end
-      → HasReplied Runs IsBye old new script replied.sent
+      → Serves Progresses IsBye most_taken old new (sure_source_state script) (sure_source_state rest) (sure_sink_state to) (sure_sink_state replied) end
+      → HasReplied Progresses IsBye old new script replied.sent
   has_replied Ended no_want serves = record {
-    told = serves.told;
+    exchanges = serves.exchanges;
     runs = serves.runs;
-    lines = lines_are IsBye script rest (lines_told serves.told) serves.lines;
-    sent_is = serves.sent ∙ ap (λ sink. sink.sent ++ text_told serves.told) unsent;
+    lines = lines_are IsBye script rest (lines_exchanged serves.exchanges) serves.lines;
+    sent_is = serves.sent ∙ ap (λ sink. sink.sent ++ text_exchanged serves.exchanges) unsent;
   }
   has_replied ReadFault no_want serves = absurd (omega (arith, serves.reads.cause.1))
   has_replied WriteFault no_want serves = absurd (omega (arith, serves.writes.faults.1))
@@ -115,61 +115,61 @@ module _ {L : Type 0} (script_of : L → List ℕ) (sink_of : L → SureSink) wh
   state_of link = record { from = sure_source_state (script_of link); to = sure_sink_state (sink_of link) }
 
   -- the links lead from a lane's link before to the one afterwards
-  served_by : {State : Type 0} (Runs : State → List Told → State → Type 0) (IsBye : List ℕ → Type 0) (old new : State) (lane : Lane) (link after : L)
+  served_by : {State : Type 0} (Progresses : State → List Exchange → State → Type 0) (IsBye : List ℕ → Type 0) (old new : State) (lane : Lane) (link after : L)
       → state_of link ≡ lane.before → state_of after ≡ lane.after → length (script_of link) ≤ max_script → sink_of link ≡ unsent_sink
       → lane.report.end ≢ OutOfMemory
-      → Serves Runs IsBye most_taken old new lane.before.from lane.after.from lane.before.to lane.after.to lane.report.end
-      → HasReplied Runs IsBye old new (script_of link) (sink_of after).sent
-  served_by Runs IsBye old new lane link after before_is after_is short unsent no_want serves =
-      let Between : LinkState → LinkState → Type 0 = λ b a. Serves Runs IsBye most_taken old new b.from a.from b.to a.to lane.report.end in
+      → Serves Progresses IsBye most_taken old new lane.before.from lane.after.from lane.before.to lane.after.to lane.report.end
+      → HasReplied Progresses IsBye old new (script_of link) (sink_of after).sent
+  served_by Progresses IsBye old new lane link after before_is after_is short unsent no_want serves =
+      let Between : LinkState → LinkState → Type 0 = λ b a. Serves Progresses IsBye most_taken old new b.from a.from b.to a.to lane.report.end in
       let between : Between (state_of link) (state_of after) =
       subst (λ b. Between b (state_of after)) (sym before_is) (subst (λ a. Between lane.before a) (sym after_is) serves) in
-      has_replied Runs IsBye old new (script_of link) (script_of after) (sink_of link) (sink_of after) short unsent lane.report.end no_want between
+      has_replied Progresses IsBye old new (script_of link) (script_of after) (sink_of link) (sink_of after) short unsent lane.report.end no_want between
 
   -- Sessions have replied to their scripts.
-  pub record SessionsTold (scene : Scene) (whole : History) (scripts sent : List (List ℕ)) : Type 0 where
-    pub told : List (List Told)
-    pub each : AllZip (IsSessionTold scene whole) scripts told
-    pub sent_is : sent ≡ map text_told told
+  pub record SessionsExchange (scene : Scene) (whole : History) (scripts sent : List (List ℕ)) : Type 0 where
+    pub exchanges : List (List Exchange)
+    pub each : AllZip (IsSessionExchange scene whole) scripts exchanges
+    pub sent_is : sent ≡ map text_exchanged exchanges
 
   module _ (scene : Scene) (whole : History) where
-    pub sessions_told : (lanes : List Lane) (olds news : List L) → map state_of olds ≡ map (λ lane. lane.before) lanes
+    pub sessions_exchange : (lanes : List Lane) (olds news : List L) → map state_of olds ≡ map (λ lane. lane.before) lanes
         → map state_of news ≡ map (λ lane. lane.after) lanes → All (λ link. length (script_of link) ≤ max_script) olds
         → All (λ link. sink_of link ≡ unsent_sink) olds → All (λ lane. lane.report.end ≢ OutOfMemory) lanes
         → All (IsSessionLane scene most_taken whole) lanes
-        → SessionsTold scene whole (map script_of olds) (map (λ link. (sink_of link).sent) news)
-    sessions_told [] [] [] e f short unsent no_want each = record { told = []; each = tt; sent_is = refl }
-    sessions_told [] [] (new ∷ news) e f short unsent no_want each = absurd cc
-    sessions_told [] (old ∷ olds) news e f short unsent no_want each = absurd cc
-    sessions_told (lane ∷ lanes) [] news e f short unsent no_want each = absurd cc
-    sessions_told (lane ∷ lanes) (old ∷ olds) [] e f short unsent no_want each = absurd cc
-    sessions_told (lane ∷ lanes) (old ∷ olds) (new ∷ news) e f short unsent no_want each =
+        → SessionsExchange scene whole (map script_of olds) (map (λ link. (sink_of link).sent) news)
+    sessions_exchange [] [] [] e f short unsent no_want each = record { exchanges = []; each = tt; sent_is = refl }
+    sessions_exchange [] [] (new ∷ news) e f short unsent no_want each = absurd cc
+    sessions_exchange [] (old ∷ olds) news e f short unsent no_want each = absurd cc
+    sessions_exchange (lane ∷ lanes) [] news e f short unsent no_want each = absurd cc
+    sessions_exchange (lane ∷ lanes) (old ∷ olds) [] e f short unsent no_want each = absurd cc
+    sessions_exchange (lane ∷ lanes) (old ∷ olds) (new ∷ news) e f short unsent no_want each =
         let is_short : L → Type 0 = λ link. length (script_of link) ≤ max_script in
         let is_unsent : L → Type 0 = λ link. sink_of link ≡ unsent_sink in
         let wants_none : Lane → Type 0 = λ l. l.report.end ≢ OutOfMemory in
         let first = served_by (SessionGoes scene) (IsSessionBye scene) (record { seen = []; named = [] })
         (record { seen = whole; named = lane.report.numbers }) lane old new (cc e) (cc f) (All-head is_short old olds short)
         (All-head is_unsent old olds unsent) (All-head wants_none lane lanes no_want) (All-head (IsSessionLane scene most_taken whole) lane lanes each).serves in
-        let rest = sessions_told lanes olds news (cc e) (cc f) (All-tail is_short old olds short) (All-tail is_unsent old olds unsent)
+        let rest = sessions_exchange lanes olds news (cc e) (cc f) (All-tail is_short old olds short) (All-tail is_unsent old olds unsent)
         (All-tail wants_none lane lanes no_want) (All-tail (IsSessionLane scene most_taken whole) lane lanes each) in
         record {
-          told = first.told ∷ rest.told;
+          exchanges = first.exchanges ∷ rest.exchanges;
           each = (record { run = first.runs.run; lines = first.lines }, rest.each);
-          sent_is = ap (λ sent. sent ∷ map (λ link. (sink_of link).sent) news) first.sent_is ∙ ap (λ sent. text_told first.told ∷ sent) rest.sent_is;
+          sent_is = ap (λ sent. sent ∷ map (λ link. (sink_of link).sent) news) first.sent_is ∙ ap (λ sent. text_exchanged first.exchanges ∷ sent) rest.sent_is;
         }
 
   abbrev weights_by : ℕ → List (Option (List ℕ)) → Weights
   weights_by criteria states = record { criteria = criteria; states = states }
 
   -- all lanes have replied to their scripts
-  pub scripts_told : (asked : LanesAsked) (g : Graph) (w : Weights) → Match g w → (olds news : List L) (reports : List LaneReport)
-      → RunsLanes g w asked.epoch asked.effort.budget most_taken (map state_of olds) (map state_of news) reports
+  pub scripts_exchanged : (asked : LanesAsked) (g : Graph) (w : Weights) → Match g w → (olds news : List L) (reports : List LaneReport)
+      → RunsLanes g w asked.epoch asked.limits.budget most_taken (map state_of olds) (map state_of news) reports
       → All (λ link. length (script_of link) ≤ max_script) olds → All (λ link. sink_of link ≡ unsent_sink) olds
       → All (λ report. report.end ≢ OutOfMemory) reports → (net : Network) → net ≡ network g w
       → RepliesToScripts asked net (map script_of olds) (lanes_reply (map (λ link. (sink_of link).sent) news))
-  scripts_told asked g w matched [] news reports runs short unsent no_want net is = let none = runs.links_before in absurd cc
-  scripts_told asked g w matched (old ∷ olds) [] reports runs short unsent no_want net is = let none = runs.links_after in absurd cc
-  scripts_told asked g w matched (old ∷ olds) (new ∷ news) reports runs short unsent no_want net is =
+  scripts_exchanged asked g w matched [] news reports runs short unsent no_want net is = let none = runs.links_before in absurd cc
+  scripts_exchanged asked g w matched (old ∷ olds) [] reports runs short unsent no_want net is = let none = runs.links_after in absurd cc
+  scripts_exchanged asked g w matched (old ∷ olds) (new ∷ news) reports runs short unsent no_want net is =
       let is_short : L → Type 0 = λ link. length (script_of link) ≤ max_script in
       let is_unsent : L → Type 0 = λ link. sink_of link ≡ unsent_sink in
       let Wantless : LaneReport → Type 0 = λ report. report.end ≢ OutOfMemory in
@@ -179,7 +179,7 @@ module _ {L : Type 0} (script_of : L → List ℕ) (sink_of : L → SureSink) wh
       let first = served_by (OperatorRun runs.origin) (IsOperatorBye runs.origin) (record { published = []; pending = [] }) runs.left runs.operator old new
       (cc (runs.links_before)) (cc (runs.links_after)) (All-head is_short old olds short) (All-head is_unsent old olds unsent)
       (All-head (λ lane. Wantless lane.report) runs.operator runs.sessions none_wants) runs.operator_lane.serves in
-      let rest = sessions_told (record { graph = g; origin = runs.origin; budget = asked.effort.budget }) (closed_history runs.left) runs.sessions olds news
+      let rest = sessions_exchange (record { graph = g; origin = runs.origin; budget = asked.limits.budget }) (closed_history runs.left) runs.sessions olds news
       (cc (runs.links_before)) (cc (runs.links_after)) (All-tail is_short old olds short) (All-tail is_unsent old olds unsent)
       (All-tail (λ lane. Wantless lane.report) runs.operator runs.sessions none_wants) runs.session_lanes in
       rw is (record {
@@ -190,12 +190,12 @@ module _ {L : Type 0} (script_of : L → List ℕ) (sink_of : L → SureSink) wh
         session_scripts = map script_of olds;
         scripts_are = refl;
         left = runs.left;
-        operator = first.told;
-        operator_told = record { run = first.runs; lines = first.lines };
-        sessions = rest.told;
-        sessions_told = rest.each;
+        operator = first.exchanges;
+        operator_exchange = record { run = first.runs; lines = first.lines };
+        sessions = rest.exchanges;
+        sessions_exchange = rest.each;
         text_is = ap lanes_reply (ap (λ sent. sent ∷ map (λ link. (sink_of link).sent) news) first.sent_is
-            ∙ ap (λ sent. text_told first.told ∷ sent) rest.sent_is);
+            ∙ ap (λ sent. text_exchanged first.exchanges ∷ sent) rest.sent_is);
       })
 
   -- a slice that was lent out of a list, and is as long as it, is the list afterwards
@@ -204,14 +204,14 @@ module _ {L : Type 0} (script_of : L → List ℕ) (sink_of : L → SureSink) wh
       ap (λ rest. take n (news ++ rest)) (drop_all (length news) items (omega arith)) ∙ ap (take n) (append-nil news) ∙ take_all n news (omega arith)
 
   -- the same, where the links were lent out of a list, and the reports out of another
-  pub links_told : (asked : LanesAsked) (g : Graph) (w : Weights) → Match g w → (items olds news after : List L) (n : ℕ)
+  pub links_exchanged : (asked : LanesAsked) (g : Graph) (w : Weights) → Match g w → (items olds news after : List L) (n : ℕ)
       (reports kept : List LaneReport) → olds ≡ items → n ≡ length items → after ≡ take n (news ++ drop (length news) items) → kept ≡ reports
-      → RunsLanes g w asked.epoch asked.effort.budget most_taken (map state_of olds) (map state_of news) reports
+      → RunsLanes g w asked.epoch asked.limits.budget most_taken (map state_of olds) (map state_of news) reports
       → All (λ link. length (script_of link) ≤ max_script) items → All (λ link. sink_of link ≡ unsent_sink) items
       → All (λ report. report.end ≢ OutOfMemory) kept
       → RepliesToScripts asked (network g w) (map script_of items) (lanes_reply (map (λ link. (sink_of link).sent) after))
-  links_told asked g w matched items olds news after n reports kept same count back same_reports runs short unsent no_want =
-      let Told : List L → Type 0 = λ links. RepliesToScripts asked (network g w) (map script_of items) (lanes_reply (map (λ link. (sink_of link).sent) links)) in
+  links_exchanged asked g w matched items olds news after n reports kept same count back same_reports runs short unsent no_want =
+      let Exchange : List L → Type 0 = λ links. RepliesToScripts asked (network g w) (map script_of items) (lanes_reply (map (λ link. (sink_of link).sent) links)) in
       let lanes = runs.operator ∷ runs.sessions in
       let long : length news ≡ length items = omega (
         arith,
@@ -223,7 +223,7 @@ module _ {L : Type 0} (script_of : L → List ℕ) (sink_of : L → SureSink) wh
         length-map lanes (λ lane. lane.before),
         length-map lanes (λ lane. lane.after),
       ) in
-      let over = subst (λ links. RunsLanes g w asked.epoch asked.effort.budget most_taken (map state_of links) (map state_of news) reports) same runs in
+      let over = subst (λ links. RunsLanes g w asked.epoch asked.limits.budget most_taken (map state_of links) (map state_of news) reports) same runs in
       let none_wants = subst (All (λ (report : LaneReport). report.end ≢ OutOfMemory)) same_reports no_want in
-      subst Told (sym (back ∙ lent_back n news items count long))
-      (scripts_told asked g w matched items news reports over short unsent none_wants (network g w) refl)
+      subst Exchange (sym (back ∙ lent_back n news items count long))
+      (scripts_exchanged asked g w matched items news reports over short unsent none_wants (network g w) refl)

@@ -1,21 +1,20 @@
 -- What the command `batch` does over a network: it reads a file of pairs, and replies to each of them in order. What is
 -- said of the file's bytes holds where the folder tells its files.
-use Rattle.std.specs.Prelude.{◌≡◌, ℕ, ◌<◌, List, [], Option, length, take}
+use Rattle.std.specs.Prelude.{◌≡◌, ℕ, ◌<◌, List, [], Option, None, length, take}
 use Rattle.std.specs.List.{AllZip, concat}
 use Rattle.route_io.specs.Files.{FileMap}
 use Rattle.road_network.specs.Network.{Network}
 use Rattle.gr_reader.specs.declared.fault.LineKind.{LineKind}
 use Rattle.query_reader.specs.Grammar.{IsPairs, PairFault}
 use Rattle.query_reader.specs.declared.pairs.Pair.{Pair}
-use Rattle.query_replies.specs.declared.asked.Reply.{Reply}
+use Rattle.query_replies.specs.declared.reply.Reply.{Reply}
 use Rattle.query_replies.specs.Queries.{RepliesToQuery}
-use Rattle.command_words.specs.declared.AnswerKind.TheVariants.{Walks}
-use Rattle.command_words.specs.declared.Effort.{Effort}
-use Rattle.command_words.specs.declared.Query.{Query}
+use Rattle.road_network.specs.declared.query.AnswerKind.TheVariants.{Walks}
+use Rattle.road_network.specs.declared.query.Query.{Query}
+use Rattle.command_words.specs.declared.SearchLimits.{SearchLimits}
 use Rattle.command_words.specs.Words.{BatchAsked}
 use Rattle.route_top.specs.FilesRead.{ReadingStop, Tells, reading_limits}
 use Rattle.route_top.specs.Outcome.{Outcome, done, bad_pairs, no_memory}
-use Rattle.route_top.specs.Queries.{asked_for}
 
 -- the file of this name says these pairs
 abbrev pub SaysPairs : Option FileMap → List ℕ → List Pair → Type 0
@@ -39,33 +38,33 @@ pub data PairsEnd (After : List Pair → Outcome → List ℕ → Type 0) (files
   pairs_read : {outcome : Outcome} {text : List ℕ} (pairs : List Pair) → SaysPairs files name pairs
       → After pairs outcome text → PairsEnd After files name outcome text
 
--- the query from one node of a pair to the other
-abbrev pub query_between : Effort → Pair → Query
-query_between effort pair = record { from = pair.from; to = pair.to; effort = effort }
+-- the query from one node of a pair to the other, without a limit
+abbrev pub query_between : SearchLimits → Pair → Query
+query_between limits pair = record { from = pair.from; to = pair.to; limit = None; budget = limits.budget }
 
 -- the reply to a pair is the answer with walks, or a refusal
-abbrev pub RepliesTo : Effort → Network → Pair → List ℕ → Type 0
-RepliesTo effort net pair text =
-    (reply : Reply) × RepliesToQuery net 0 (asked_for Walks (query_between effort pair)) reply text
+abbrev pub RepliesTo : SearchLimits → Network → Pair → List ℕ → Type 0
+RepliesTo limits net pair text =
+    (reply : Reply) × RepliesToQuery net 0 Walks (query_between limits pair) reply text
 
 -- The text is the replies to these pairs, one for each, in order.
-pub record RepliesToEach (effort : Effort) (net : Network) (pairs : List Pair) (text : List ℕ) : Type 0 where
+pub record RepliesToEach (limits : SearchLimits) (net : Network) (pairs : List Pair) (text : List ℕ) : Type 0 where
   pub replies : List (List ℕ)
-  pub each : AllZip (RepliesTo effort net) pairs replies
+  pub each : AllZip (RepliesTo limits net) pairs replies
   pub whole : text ≡ concat replies
 
 -- Memory ran out at a pair, before the first byte of its reply; those before it have theirs.
-pub record StarvesAtPair (effort : Effort) (net : Network) (pairs : List Pair) (text : List ℕ) : Type 0 where
+pub record StarvesAtPair (limits : SearchLimits) (net : Network) (pairs : List Pair) (text : List ℕ) : Type 0 where
   pub before : ℕ
   pub more : before < length pairs
-  pub replied : RepliesToEach effort net (take before pairs) text
+  pub replied : RepliesToEach limits net (take before pairs) text
 
 -- each pair has its reply, unless memory runs out at one of them; a refused pair ends nothing
-abbrev pub PairsReplies : Effort → Network → List Pair → Outcome → List ℕ → Type 0
-PairsReplies effort net pairs done text = RepliesToEach effort net pairs text
-PairsReplies effort net pairs no_memory text = StarvesAtPair effort net pairs text
-PairsReplies effort net pairs outcome text = ⊥
+abbrev pub PairsReplies : SearchLimits → Network → List Pair → Outcome → List ℕ → Type 0
+PairsReplies limits net pairs done text = RepliesToEach limits net pairs text
+PairsReplies limits net pairs no_memory text = StarvesAtPair limits net pairs text
+PairsReplies limits net pairs outcome text = ⊥
 
 -- how a batch ends over a network, and what it sends
 abbrev pub BatchReplies : Option FileMap → BatchAsked → Network → Outcome → List ℕ → Type 0
-BatchReplies files asked net = PairsEnd (PairsReplies asked.effort net) files asked.pairs
+BatchReplies files asked net = PairsEnd (PairsReplies asked.limits net) files asked.pairs

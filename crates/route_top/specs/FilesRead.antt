@@ -4,16 +4,13 @@ use Rattle.std.specs.Prelude.{◌≡◌, ℕ, ◌^◌, List, [], ◌∷◌, ◌+
 use Rattle.std.specs.List.{AllZip}
 use Rattle.route_io.specs.Files.{FileMap}
 use Rattle.road_network.specs.Network.{Network}
-use Rattle.arc_graph.specs.declared.join.JoinFault.{JoinFault}
-use Rattle.arc_graph.specs.declared.join.JoinFault.TheVariants as join
+use Rattle.arc_graph.specs.declared.join.Disagreement.{Disagreement}
 use Rattle.arc_graph.specs.Files.{ArcFile}
 use Rattle.arc_graph.specs.Agreement.{Agree, HasFault, joined}
 use Rattle.line_text.specs.Reading.{max_line}
 use Rattle.gr_reader.specs.Grammar.{IsGr, GrFault}
-use Rattle.gr_reader.specs.declared.fault.FileLimits.{FileLimits}
+use Rattle.line_text.specs.declared.limits.LineLimits.{LineLimits}
 use Rattle.gr_reader.specs.declared.fault.LineKind.{LineKind}
-use Rattle.route_top.specs.declared.stop.Disagreement.{Disagreement}
-use Rattle.route_top.specs.declared.stop.Disagreement.TheVariants.{Sizes, Ends, ZeroArc}
 use Rattle.route_top.specs.Outcome.{Outcome, folder_failed, bad_file, bad_files, no_memory}
 
 -- the most bytes of a file
@@ -21,8 +18,8 @@ abbrev pub max_file_size : ℕ
 max_file_size = 2 ^ 29
 
 -- the limits of each file that is read
-abbrev pub reading_limits : FileLimits
-reading_limits = record { line = max_line; file = max_file_size }
+abbrev pub reading_limits : LineLimits
+reading_limits = record { line = max_line; total = max_file_size }
 
 -- there is a file of this name, and this holds of its bytes
 pub record HasFile (file_of : FileMap) (name : List ℕ) (Holds : List ℕ → Type 0) : Type 0 where
@@ -64,17 +61,11 @@ pub record ComesAfterRead (files : Option FileMap) (names : List (List ℕ)) (na
   pub contents : List ArcFile
   pub read : AllZip (Says files) before contents
 
--- the fault of the joining that it is
-abbrev pub join_fault : Disagreement → JoinFault
-join_fault (Sizes file) = join.Sizes file
-join_fault (Ends arc file) = join.Ends arc file
-join_fault (ZeroArc arc) = join.ZeroArc arc
-
 -- All files were read, but they don't agree.
 pub record Disagree (files : Option FileMap) (names : List (List ℕ)) (way : Disagreement) : Type 0 where
   pub contents : List ArcFile
   pub read : AllZip (Says files) names contents
-  pub fault_is : HasFault contents (join_fault way)
+  pub fault_is : HasFault contents way
 
 -- All files were read, and they say this network together.
 pub record ReadAs (files : Option FileMap) (names : List (List ℕ)) (net : Network) : Type 0 where

@@ -12,7 +12,7 @@ use Rattle.answer_writer.specs.Replies.{and_number, end_line}
 use Rattle.epoch_store.specs.Origin.{Origin}
 use Rattle.session_core.specs.Operators.{IsOperatorBye, OperatorRun}
 use Rattle.session_core.specs.Sessions.{IsSessionBye, Scene, SessionRun}
-use Rattle.session_core.specs.Told.{Told, lines_told, text_told}
+use Rattle.session_core.specs.Exchanges.{Exchange, lines_exchanged, text_exchanged}
 use Rattle.command_words.specs.Words.{LanesAsked, scripts_of}
 use Rattle.route_top.specs.FilesRead.{Tells}
 use Rattle.route_top.specs.Outcome.{Outcome, done, folder_failed, no_memory, script_too_long}
@@ -24,7 +24,7 @@ max_script = 2 ^ 24
 -- The script of this name has these bytes, no more than a script may have.
 pub record SaysScript (files : Option FileMap) (name script : List ℕ) : Type 0 where
   pub short : length script ≤ max_script
-  pub told : Tells files name (λ bytes. bytes ≡ script)
+  pub exchanges : Tells files name (λ bytes. bytes ≡ script)
 
 -- how the reading of the script of this name ends a run
 pub data ScriptStop (files : Option FileMap) (name : List ℕ) : Outcome → Type 0 where
@@ -64,14 +64,14 @@ AreLinesOf script IsBye lines =
     (lines ≡ lines_of script) ⊎ ((bye : List ℕ) × IsBye bye × IsPrefix (lines ++ bye ∷ []) (lines_of script))
 
 -- The lines of the operator's script have these replies, and leave the store so.
-pub record IsOperatorTold (o : Origin) (script : List ℕ) (left : Operator) (told : List Told) : Type 0 where
-  pub run : OperatorRun o (record { published = []; pending = [] }) told left
-  pub lines : AreLinesOf script (IsOperatorBye o) (lines_told told)
+pub record IsOperatorExchange (o : Origin) (script : List ℕ) (left : Operator) (exchanges : List Exchange) : Type 0 where
+  pub run : OperatorRun o (record { published = []; pending = [] }) exchanges left
+  pub lines : AreLinesOf script (IsOperatorBye o) (lines_exchanged exchanges)
 
 -- The lines of a session's script have these replies, over this whole history.
-pub record IsSessionTold (scene : Scene) (whole : History) (script : List ℕ) (told : List Told) : Type 0 where
-  pub run : SessionRun scene [] whole told
-  pub lines : AreLinesOf script (IsSessionBye scene) (lines_told told)
+pub record IsSessionExchange (scene : Scene) (whole : History) (script : List ℕ) (exchanges : List Exchange) : Type 0 where
+  pub run : SessionRun scene [] whole exchanges
+  pub lines : AreLinesOf script (IsSessionBye scene) (lines_exchanged exchanges)
 
 -- the line above a lane's replies: `operator`, or `lane I` above those of session I
 abbrev pub heading : ℕ → List ℕ
@@ -100,12 +100,12 @@ pub record RepliesToScripts (asked : LanesAsked) (net : Network) (scripts : List
   pub session_scripts : List (List ℕ)
   pub scripts_are : scripts ≡ operator_script ∷ session_scripts
   pub left : Operator
-  pub operator : List Told
-  pub operator_told : IsOperatorTold origin operator_script left operator
-  pub sessions : List (List Told)
-  pub sessions_told : AllZip (IsSessionTold (record { graph = graph_of net; origin = origin; budget = asked.effort.budget })
+  pub operator : List Exchange
+  pub operator_exchange : IsOperatorExchange origin operator_script left operator
+  pub sessions : List (List Exchange)
+  pub sessions_exchange : AllZip (IsSessionExchange (record { graph = graph_of net; origin = origin; budget = asked.limits.budget })
       (closed_history left)) session_scripts sessions
-  pub text_is : text ≡ lanes_reply (map text_told (operator ∷ sessions))
+  pub text_is : text ≡ lanes_reply (map text_exchanged (operator ∷ sessions))
 
 -- all scripts have their replies, unless memory runs out in a lane or before
 abbrev pub LanesReplies : LanesAsked → Network → List (List ℕ) → Outcome → List ℕ → Type 0

@@ -2,8 +2,8 @@
 use Rattle.std.specs.Prelude.{ℕ, List, [], ◌++◌, Bool, true, false, codes}
 use Rattle.gr_reader.specs.declared.fault.LineKind.{LineKind}
 use Rattle.gr_reader.specs.Kinds.{kind_number}
-use Rattle.route_top.specs.declared.stop.Disagreement.{Disagreement}
-use Rattle.route_top.specs.declared.stop.Disagreement.TheVariants.{Sizes, Ends, ZeroArc}
+use Rattle.arc_graph.specs.declared.join.Disagreement.{Disagreement}
+use Rattle.arc_graph.specs.declared.join.Disagreement.TheVariants.{Sizes, Ends, ZeroArc}
 use Rattle.answer_writer.specs.Replies.{and_number, end_line}
 
 -- the ways in which a run ends, each with what its note names
@@ -57,8 +57,8 @@ disagreement (Ends arc file) = codes "ends arc" ++ and_number arc ++ codes " fil
 disagreement (ZeroArc arc) = codes "zero arc" ++ and_number arc
 
 -- the place and the kind of a line's fault
-abbrev pub told_line : List ℕ → ℕ → LineKind → List ℕ
-told_line name line kind =
+abbrev pub fault_line : List ℕ → ℕ → LineKind → List ℕ
+fault_line name line kind =
     name ++ codes " line" ++ and_number line ++ codes " kind" ++ and_number (kind_number kind)
 
 -- a note of these words, as a line
@@ -71,9 +71,9 @@ note_of done = []
 note_of bad_words = noted (codes "words")
 note_of (folder_failed name) = noted (codes "folder " ++ name)
 note_of out_failed = noted (codes "out")
-note_of (bad_file name line kind) = noted (codes "file " ++ told_line name line kind)
+note_of (bad_file name line kind) = noted (codes "file " ++ fault_line name line kind)
 note_of (bad_files way) = noted (codes "files " ++ disagreement way)
-note_of (bad_pairs name line kind) = noted (codes "pairs " ++ told_line name line kind)
+note_of (bad_pairs name line kind) = noted (codes "pairs " ++ fault_line name line kind)
 note_of (script_too_long name) = noted (codes "script " ++ name ++ codes " too long")
 note_of refused = []
 note_of no_memory = noted (codes "memory")

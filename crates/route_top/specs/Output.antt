@@ -5,7 +5,7 @@ use Rattle.route_io.specs.Files.{FileMap}
 use Rattle.route_io.specs.Sinks.{SinkState, Sends, WritesTo}
 use Rattle.route_io.specs.Sources.{SourceState, ReadsFrom}
 use Rattle.route_io.specs.declared.fault.WriteFault.{WriteFault}
-use Rattle.command_words.specs.Words.{Asked, Asks, AreWords, batch, check, generate, lanes, names_of, single}
+use Rattle.command_words.specs.Words.{Asked, Asks, IsStill, batch, check, generate, lanes, names_of, single}
 use Rattle.route_top.specs.Batch.{BatchReplies}
 use Rattle.route_top.specs.Check.{CheckReplies}
 use Rattle.route_top.specs.FilesRead.{FilesEnd}
@@ -13,29 +13,38 @@ use Rattle.route_top.specs.Gen.{GenEnds}
 use Rattle.route_top.specs.Lanes.{LanesEnd}
 use Rattle.route_top.specs.Outcome.{Outcome, bad_words, out_failed, no_memory, out_wanted}
 use Rattle.route_top.specs.Outcome.{status_of, note_of, out_has_wanted}
-use Rattle.route_top.specs.Queries.{QueryReplies, asked_for}
+use Rattle.route_top.specs.Queries.{QueryReplies}
 
--- a name is one of those that the words ask for
-abbrev pub IsAskedName : List (List ℕ) → List ℕ → Type 0
-IsAskedName words name = (asked : Asked) × Asks words asked × Contains (names_of asked) name
+-- the words ask for this, and it is a command that waits for nobody
+pub record AsksStill (words : List (List ℕ)) (asked : Asked) : Type 0 where
+  pub asks : Asks words asked
+  pub still : IsStill asked
+
+-- the words are those of a command that waits for nobody
+abbrev pub AreStillWords : List (List ℕ) → Type 0
+AreStillWords words = (asked : Asked) × AsksStill words asked
+
+-- a name is one of those that are asked for
+abbrev pub IsAskedName : (Asked → Type 0) → List ℕ → Type 0
+IsAskedName IsAsked name = (asked : Asked) × IsAsked asked × Contains (names_of asked) name
 
 -- how a run of a command ends, and what it sends to `out`, where nothing cuts that short
 abbrev pub Ends : Option FileMap → Asked → Outcome → List ℕ → Type 0
-Ends files (single asked) = FilesEnd (QueryReplies (asked_for asked.kind asked.query)) files asked.files
+Ends files (single asked) = FilesEnd (QueryReplies asked.kind asked.query) files asked.files
 Ends files (check names) = FilesEnd CheckReplies files names
 Ends files (batch asked) = FilesEnd (BatchReplies files asked) files asked.files
 Ends files (generate asked) = GenEnds asked
 Ends files (lanes asked) = FilesEnd (LanesEnd files asked) files asked.files
 
--- the same of the program, by its words
-pub data EndsByWords (words : List (List ℕ)) (files : Option FileMap) : Outcome → List ℕ → Type 0 where
-  -- the words are no command's words
-  no_command : ¬ AreWords words → EndsByWords words files bad_words []
+-- the same of a run, by what its words ask for
+pub data EndsByWords (IsAsked : Asked → Type 0) (files : Option FileMap) : Outcome → List ℕ → Type 0 where
+  -- the words ask for no command
+  no_command : ¬ ((asked : Asked) × IsAsked asked) → EndsByWords IsAsked files bad_words []
   -- memory ran out while they were read
-  starved : EndsByWords words files no_memory []
+  starved : EndsByWords IsAsked files no_memory []
   -- the words ask for a command, which ends so
-  asks : {outcome : Outcome} {text : List ℕ} (asked : Asked) → Asks words asked → Ends files asked outcome text
-      → EndsByWords words files outcome text
+  asks : {outcome : Outcome} {text : List ℕ} (asked : Asked) → IsAsked asked → Ends files asked outcome text
+      → EndsByWords IsAsked files outcome text
 
 -- A part from the front, short of the whole, of what a run sends that nothing cuts short.
 pub record IsCut (Ending : Outcome → List ℕ → Type 0) (text : List ℕ) : Type 0 where
@@ -56,7 +65,7 @@ pub data EndsOrCut (Ending : Outcome → List ℕ → Type 0) : Outcome → List
   wanted : {text : List ℕ} → IsCut Ending text → EndsOrCut Ending out_wanted text
 
 -- What a run did to the folder and to the sink of replies, all of it by how it ended.
-pub record Runs (Ending : Outcome → List ℕ → Type 0) (folder after : SourceState) (out replied : SinkState)
+pub record RunsCommand (Ending : Outcome → List ℕ → Type 0) (folder after : SourceState) (out replied : SinkState)
     (outcome : Outcome) : Type 0 where
   -- what was sent, where the sink tells it
   pub text : List ℕ
@@ -70,10 +79,10 @@ pub record Runs (Ending : Outcome → List ℕ → Type 0) (folder after : Sourc
 abbrev pub TookNote : SinkState → SinkState → List ℕ → Type 0
 TookNote err noted note = (result : Result (Unit {0}) WriteFault) × Sends err noted note result
 
--- What the program does, all of it by one outcome: what it reads and sends by its words, its note and its status.
-pub record Output (words : List (List ℕ)) (folder after : SourceState) (out replied err noted : SinkState)
+-- What a run does, all of it by one outcome: what it reads and sends by what its words ask for, its note and its status.
+pub record Output (IsAsked : Asked → Type 0) (folder after : SourceState) (out replied err noted : SinkState)
     (status : ℕ) : Type 0 where
   pub outcome : Outcome
-  pub runs : Runs (EndsByWords words folder.files) folder after out replied outcome
+  pub runs : RunsCommand (EndsByWords IsAsked folder.files) folder after out replied outcome
   pub note : TookNote err noted (note_of outcome)
   pub status_is : status ≡ status_of outcome

@@ -5,20 +5,19 @@ use Rattle.arc_graph.specs.declared.join.JoinFault.TheVariants as join
 use Rattle.route_io.specs.Sinks.{SinkState}
 use Rattle.route_io.specs.Sources.{SourceState}
 use Rattle.route_io.specs.declared.fault.WriteFault.TheVariants as write
-use Rattle.query_replies.specs.declared.asked.Reply.{Reply}
-use Rattle.query_replies.specs.declared.asked.Reply.TheVariants.{Answer, Refusal}
+use Rattle.query_replies.specs.declared.reply.Reply.{Reply}
+use Rattle.query_replies.specs.declared.reply.Reply.TheVariants.{Answer, Refusal}
 use Rattle.query_replies.specs.declared.fault.ReplyFault.{ReplyFault}
 use Rattle.query_replies.specs.declared.fault.ReplyFault.TheVariants as reply
 use Rattle.route_top.specs.declared.script.Script.{Script}
 use Rattle.route_top.specs.declared.script.Script.TheVariants.{Operator, Session}
 use Rattle.route_top.specs.declared.script.ScriptFault.{ScriptFault}
 use Rattle.route_top.specs.declared.script.ScriptFault.TheVariants as script
-use Rattle.route_top.specs.declared.stop.Disagreement.TheVariants as files
 use Rattle.route_top.specs.declared.stop.Stop.{Stop}
 use Rattle.route_top.specs.declared.stop.Stop.TheVariants as stop
 use Rattle.route_top.specs.Outcome.{Outcome, done, bad_words, folder_failed, out_failed, bad_file, bad_files}
 use Rattle.route_top.specs.Outcome.{bad_pairs, script_too_long, refused, no_memory, out_wanted}
-use Rattle.route_top.specs.Output.{Runs}
+use Rattle.route_top.specs.Output.{RunsCommand}
 
 -- the name of a script
 abbrev pub script_name : Script → List ℕ
@@ -61,9 +60,7 @@ reply_outcome Refusal = refused
 
 -- why files that give no network end a run
 abbrev pub stop_of : JoinFault → Stop
-stop_of (join.Sizes file) = stop.Files (files.Sizes file)
-stop_of (join.Ends arc file) = stop.Files (files.Ends arc file)
-stop_of (join.ZeroArc arc) = stop.Files (files.ZeroArc arc)
+stop_of (join.Files way) = stop.Files way
 stop_of join.OutOfMemory = stop.OutOfMemory
 
 -- why a reply that wasn't sent whole ends a run
@@ -77,4 +74,4 @@ IsReply end reply outcome text = (outcome ≡ end) × (text ≡ reply)
 
 -- what a call does to the sink of replies that leaves the folder alone
 abbrev pub Replies : (Outcome → List ℕ → Type 0) → SinkState → SinkState → Outcome → Type 0
-Replies Ending out replied outcome = (folder : SourceState) → Runs Ending folder folder out replied outcome
+Replies Ending out replied outcome = (folder : SourceState) → RunsCommand Ending folder folder out replied outcome

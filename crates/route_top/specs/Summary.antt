@@ -7,10 +7,9 @@ use Rattle.road_network.specs.Limits.{max_budget}
 use Rattle.road_network.specs.Network.{Network}
 use Rattle.road_network.specs.Answers.{IsAnswer, Passes, Route}
 use Rattle.arc_graph.specs.Files.{ArcFile}
-use Rattle.arc_graph.specs.Graph.{Graph, Weights, network}
 use Rattle.arc_graph.specs.Agreement.{Agree, joined}
 use Rattle.arc_graph.specs.Joiner.{Joiner}
-use Rattle.path_readback.specs.Found.{Found, IsFound}
+use Rattle.road_network.specs.Found.{Found, IsFound}
 use Rattle.path_readback.specs.WellFound.{IsWellFound}
 use Rattle.gr_reader.specs.Grammar.{IsGrFile}
 use Rattle.gr_reader.specs.Sinks.{JoinerHasTaken}
@@ -18,7 +17,7 @@ use Rattle.query_reader.specs.declared.pairs.Pair.{Pair}
 use Rattle.query_reader.specs.Grammar.{IsPairs}
 use Rattle.graph_gen.specs.declared.GenPlan.{GenPlan}
 use Rattle.graph_gen.specs.Texts.{file_text, pairs_text}
-use Rattle.command_words.specs.declared.Query.{Query}
+use Rattle.road_network.specs.declared.query.Query.{Query}
 use Rattle.command_words.specs.Words.{GenAsked}
 use Rattle.route_top.specs.declared.summary.Summary.{Summary}
 use Rattle.route_top.specs.FilesRead.{reading_limits}
@@ -69,7 +68,7 @@ pub record ComesTo (asked : GenAsked) (counts : Summary) : Type 0 where
   pub net : Network
   pub pairs : List Pair
   pub says : PlanSays asked.plan net pairs
-  pub answers : SumsUp net asked.effort.budget pairs counts
+  pub answers : SumsUp net asked.limits.budget pairs counts
 
 -- The text is the summary of the plan's files.
 pub record IsSummary (asked : GenAsked) (text : List ℕ) : Type 0 where
@@ -108,18 +107,18 @@ abbrev pub pair_of : Query → Pair
 pair_of query = record { from = query.from; to = query.to }
 
 -- What was found is of this query without a limit, and has its whole answer.
-pub record HasAnswer (g : Graph) (w : Weights) (query : Query) (f : Found) : Type 0 where
+pub record HasAnswer (net : Network) (query : Query) (f : Found) : Type 0 where
   pub start : f.start ≡ query.from
   pub target : f.target ≡ query.to
-  pub nodes : f.nodes ≡ g.nodes
-  pub criteria : f.criteria ≡ g.criteria
-  pub well_found : IsWellFound (network g w) (no_limit g.criteria) f
+  pub nodes : f.nodes ≡ net.nodes
+  pub criteria : f.criteria ≡ net.criteria
+  pub well_found : IsWellFound net (no_limit net.criteria) f
 
 -- What was found is the whole answer to a query within its budget, which few costs are.
-pub record HasWhole (g : Graph) (w : Weights) (query : Query) (f : Found) : Type 0 where
-  pub answer : HasAnswer g w query f
+pub record HasWhole (net : Network) (query : Query) (f : Found) : Type 0 where
+  pub answer : HasAnswer net query f
   pub few : IsFound f → length f.costs ≤ max_budget
-  pub within : ¬ Passes (network g w) query.from query.to (no_limit g.criteria) query.effort.budget
+  pub within : ¬ Passes net query.from query.to (no_limit net.criteria) query.budget
 
 -- A pair was counted by its end.
 pub record CountsPair (net : Network) (budget : ℕ) (pair : Pair) (old new : Summary) : Type 0 where

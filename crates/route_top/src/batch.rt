@@ -1,26 +1,28 @@
 //! The command `batch`.
-ghost use Rattle.std.specs.Prelude.{◌≡◌, ◌==◌, ◌≤◌, All};
-ghost use Rattle.arc_graph.specs.Graph.{Match, network};
-ghost use Rattle.command_words.specs.Words.{FilesInRange, IsEffort, batch, batch_asked, names_of};
+ghost use Rattle.std.specs.Prelude.{◌≡◌, ◌==◌, ◌≤◌, ℕ, All};
+ghost use Rattle.road_network.specs.Queries.{IsAsked};
+ghost use Rattle.command_words.specs.Words.{FilesInRange, AreSearchLimits, batch, batch_asked, names_of};
 ghost use Rattle.route_io.specs.Sources.{ReadsFrom};
 ghost use Rattle.route_top.specs.Batch.{PairsReplies, query_between};
 ghost use Rattle.route_top.specs.Outcome.{status_of};
-ghost use Rattle.route_top.specs.Output.{Ends, Runs};
+ghost use Rattle.route_top.specs.Output.{Ends, RunsCommand};
 ghost use Rattle.route_top.specs.ReadResults.{PairsRead};
 ghost use Rattle.route_top.specs.Stops.{Replies, run_outcome};
 
 use crate::network::{LIMITS, read_network};
-use crate::reply::{EPOCH, asked_for};
+use crate::reply::EPOCH;
 use crate::stop::Stop;
-use command_words::{AnswerKind, BatchWords, Effort, Query};
+use arc_graph::Network;
+use command_words::{BatchWords, SearchLimits};
 use gr_reader::FileFault;
 use path_readback::Room;
 use query_reader::{Pair, read_p2p};
 use query_replies::Answerer;
+use road_network::{AnswerKind, Query};
 use route_io::{Folder, Gate, Sink};
 use std::alloc::Global;
 use std::thread::Threads;
-use work_claim::Crew;
+use work_claim::Workers;
 
 /// Answers a query for each pair of the file of pairs over the named files.
 pub(crate) fn run<'a, R: Threads + Sync, G: Gate, F: Folder, K: Sink>(
@@ -33,23 +35,22 @@ pub(crate) fn run<'a, R: Threads + Sync, G: Gate, F: Folder, K: Sink>(
 ) -> Result<(), Stop<'a>>
     requires admitted { All F.admits (names_of (batch (batch_asked asked.now))) }
     requires files { FilesInRange (batch (batch_asked asked.now)) }
-    requires effort { IsEffort asked.now.effort }
-    ensures { Runs (Ends (F.state folder.old).files (batch (batch_asked asked.now)))
+    requires limits { AreSearchLimits asked.now.limits }
+    ensures { RunsCommand (Ends (F.state folder.old).files (batch (batch_asked asked.now)))
         (F.state folder.old) (F.state folder.new) (K.state out.old) (K.state out.new)
         (run_outcome result) }
 {
     let (graph, weights) = read_network(alloc, folder, &asked.files)?;
     let mut room = Room::with(alloc, 0)?;
     let pairs = read_pairs(alloc, folder, asked.pairs)?;
-    let workers = asked.effort.workers;
-    let crew = Crew { rt, workers, gate };
+    let network = Network::new(&graph, &weights);
+    let workers = Workers::new(rt, asked.limits.workers, gate);
     let answerer = Answerer {
-        crew: &crew,
+        workers: &workers,
         alloc,
-        graph: &graph,
-        weights: &weights,
+        network: &network,
     };
-    reply_each(&answerer, asked.effort, &pairs, &mut room, out)
+    reply_each(&answerer, asked.limits, &pairs, &mut room, out)
 }
 
 /// Reads the file of pairs.
@@ -77,31 +78,32 @@ fn read_pairs<'a, F: Folder>(
 /// Sends the reply to each pair in order. A refused pair ends nothing, and the room serves all pairs.
 fn reply_each<'a, R: Threads + Sync, G: Gate, K: Sink>(
     answerer: &Answerer<'_, R, G>,
-    effort: Effort,
+    limits: SearchLimits,
     pairs: &[Pair],
     room: &mut Room,
     out: &mut K,
 ) -> Result<(), Stop<'a>>
-    requires at_least_one { 1 ≤ answerer.now.crew.now.workers }
-    requires at_most_64 { answerer.now.crew.now.workers ≤ 64 }
-    requires matched { Match answerer.now.graph.now answerer.now.weights.now }
-    requires effort { IsEffort effort }
-    ensures { Replies (PairsReplies effort
-        (network answerer.now.graph.now answerer.now.weights.now) pairs.now)
+    requires limits { AreSearchLimits limits }
+    ensures { Replies (PairsReplies limits answerer.now.network.now pairs.now)
         (K.state out.old) (K.state out.new) (run_outcome result) }
 {
     for pair in pairs {
-        let query = query_between(effort, *pair);
-        let asked = asked_for(AnswerKind::Walks, &query);
-        answerer.reply(EPOCH, &asked, room, out)?;
+        let query = query_between(limits, *pair);
+        answerer.reply(EPOCH, AnswerKind::Walks, &query, room, out)?;
     }
     Ok(())
 }
 
-/// The query from one node of a pair to the other.
-pub(crate) fn query_between(effort: Effort, pair: Pair) -> Query
-    ensures { result ≡ query_between effort pair }
+/// The query from one node of a pair to the other, without a limit.
+pub(crate) fn query_between(limits: SearchLimits, pair: Pair) -> Query
+    requires { AreSearchLimits limits }
+    ensures value { result ≡ query_between limits pair }
+    ensures asked { (criteria : ℕ) → IsAsked criteria result }
 {
-    let (from, to) = (pair.from, pair.to);
-    Query { from, to, effort }
+    Query {
+        from: pair.from,
+        to: pair.to,
+        limit: None,
+        budget: limits.budget,
+    }
 }

@@ -2,7 +2,7 @@
 ghost use Rattle.std.specs.Prelude.{◌≡◌, [], length, OnOk, All};
 ghost use Rattle.command_words.specs.Words.{FilesInRange, check, check_asked, names_of};
 ghost use Rattle.route_top.specs.Check.{TellsSizes};
-ghost use Rattle.route_top.specs.Output.{Ends, Runs};
+ghost use Rattle.route_top.specs.Output.{Ends, RunsCommand};
 ghost use Rattle.route_top.specs.Stops.{Replies, run_outcome};
 ghost use Rattle.route_top.specs.Texts.{check_reply};
 
@@ -11,7 +11,7 @@ use crate::reply::{kept, put_sizes, send};
 use crate::stop::Stop;
 use arc_graph::Graph;
 use command_words::CheckWords;
-use cost_vector::OutOfMemory;
+use out_of_memory::OutOfMemory;
 use route_io::sure::SureSink;
 use route_io::{Folder, Sink};
 use std::alloc::Global;
@@ -25,7 +25,7 @@ pub(crate) fn run<'a, F: Folder, K: Sink>(
 ) -> Result<(), Stop<'a>>
     requires admitted { All F.admits (names_of (check (check_asked asked.now))) }
     requires files { FilesInRange (check (check_asked asked.now)) }
-    ensures { Runs (Ends (F.state folder.old).files (check (check_asked asked.now)))
+    ensures { RunsCommand (Ends (F.state folder.old).files (check (check_asked asked.now)))
         (F.state folder.old) (F.state folder.new) (K.state out.old) (K.state out.new)
         (run_outcome result) }
 {

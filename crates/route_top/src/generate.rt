@@ -1,6 +1,6 @@
 //! The command `gen`.
 ghost use Rattle.std.specs.Prelude.{◌≡◌, ◌≤◌, [], IfOk, OnOk};
-ghost use Rattle.command_words.specs.Words.{GenInRange, IsEffort, gen_asked};
+ghost use Rattle.command_words.specs.Words.{GenInRange, AreSearchLimits, gen_asked};
 ghost use Rattle.graph_gen.specs.Plans.{IsPlan};
 ghost use Rattle.route_top.specs.Gen.{GenEnds, SendsFile, SendsSummary};
 ghost use Rattle.route_top.specs.Stops.{Replies, run_outcome};
@@ -12,17 +12,19 @@ use crate::plan::{plan_network, plan_pairs};
 use crate::reply::{kept, send};
 use crate::stop::Stop;
 use crate::summary::{Summary, put_summary};
+use arc_graph::Network;
 use command_words::GenWords;
-use cost_vector::OutOfMemory;
 use gen_laws::{
     networks_are_small, pair_files_are_read, pairs_have_nodes, weight_files_agree,
     weight_files_are_read,
 };
 use graph_gen::{GenPlan, gen_file};
+use out_of_memory::OutOfMemory;
 use route_io::sure::SureSink;
 use route_io::{Gate, Sink};
 use std::alloc::Global;
 use std::thread::Threads;
+use work_claim::Workers;
 
 /// Sends the file that is asked for, or where none is, what all files of the plan come to. It is made in memory first.
 pub(crate) fn run<'a, R: Threads + Sync, G: Gate, K: Sink>(
@@ -33,7 +35,7 @@ pub(crate) fn run<'a, R: Threads + Sync, G: Gate, K: Sink>(
     gate: &G,
 ) -> Result<(), Stop<'a>>
     requires plan { GenInRange (gen_asked asked.now) }
-    requires effort { IsEffort asked.now.effort }
+    requires limits { AreSearchLimits asked.now.limits }
     ensures { Replies (GenEnds (gen_asked asked.now))
         (K.state out.old) (K.state out.new) (run_outcome result) }
 {
@@ -68,7 +70,7 @@ fn send_summary<'a, R: Threads + Sync, G: Gate, K: Sink>(
     gate: &G,
 ) -> Result<(), Stop<'a>>
     requires plan { IsPlan asked.now.plan }
-    requires effort { IsEffort asked.now.effort }
+    requires limits { AreSearchLimits asked.now.limits }
     ensures { Replies (SendsSummary (gen_asked asked.now))
         (K.state out.old) (K.state out.new) (run_outcome result) }
 {
@@ -94,7 +96,7 @@ fn sum_up<R: Threads + Sync, G: Gate>(
     gate: &G,
 ) -> Result<Summary, OutOfMemory>
     requires plan { IsPlan asked.now.plan }
-    requires effort { IsEffort asked.now.effort }
+    requires limits { AreSearchLimits asked.now.limits }
     ensures { IfOk result (ComesTo (gen_asked asked.now)) }
 {
     weight_files_are_read();
@@ -104,12 +106,12 @@ fn sum_up<R: Threads + Sync, G: Gate>(
     pairs_have_nodes();
     let (graph, weights) = plan_network(alloc, &asked.plan)?;
     let pairs = plan_pairs(alloc, &asked.plan)?;
+    let network = Network::new(&graph, &weights);
+    let workers = Workers::new(rt, asked.limits.workers, gate);
     let counter = Counter {
-        rt,
+        workers: &workers,
         alloc,
-        gate,
-        graph: &graph,
-        weights: &weights,
+        network: &network,
     };
-    counter.count_pairs(asked.effort, &pairs)
+    counter.count_pairs(asked.limits, &pairs)
 }

@@ -4,11 +4,11 @@ ghost use Rattle.std.specs.List.{AllZip};
 ghost use Rattle.route_io.specs.Sinks.{Sends};
 ghost use Rattle.route_io.specs.Sources.{ReadsFrom};
 ghost use Rattle.session_core.specs.declared.end.SessionEnd.TheVariants as ended;
-ghost use Rattle.command_words.specs.Words.{FilesInRange, IsEffort, SessionsInRange, lanes};
+ghost use Rattle.command_words.specs.Words.{FilesInRange, AreSearchLimits, SessionsInRange, lanes};
 ghost use Rattle.command_words.specs.Words.{lanes_asked, names_of, scripts_of};
 ghost use Rattle.route_top.specs.Lanes.{SaysScript, ScriptsStop, heading, lanes_reply};
 ghost use Rattle.route_top.specs.Outcome.{status_of};
-ghost use Rattle.route_top.specs.Output.{Ends, Runs};
+ghost use Rattle.route_top.specs.Output.{Ends, RunsCommand};
 ghost use Rattle.route_top.specs.Stops.{outcome_of, run_outcome, script_name};
 
 use crate::network::read_network;
@@ -18,18 +18,19 @@ use answer_writer::{Piece, put_line};
 use command_words::LanesWords;
 use route_io::sure::{SureSink, SureSource};
 use route_io::{Folder, Gate, Link, Sink, SureLink, WriteFault, put_all};
-use route_lanes::{Court, LaneReport, run_lanes};
-use session_core::SessionEnd;
+use route_lanes::{LaneReport, run_lanes};
+use session_core::{ServeContext, SessionEnd};
 use std::alloc::Global;
 use std::sync::Wait;
 use std::thread::Threads;
-use work_claim::Crew;
+use std::time::Clock;
+use work_claim::Workers;
 
 /// The most bytes that are taken from a script's link. No script has as many.
 const MAX_TAKEN: u64 = 1 << 40;
 
 /// Serves the lanes of an operator and of sessions over the named files, and sends their replies lane by lane.
-pub(crate) fn run<'a, R: Threads + Wait + Sync, G: Gate, F: Folder, K: Sink>(
+pub(crate) fn run<'a, R: Threads + Wait + Clock + Sync, G: Gate, F: Folder, K: Sink>(
     rt: &R,
     alloc: Global,
     asked: &LanesWords<'a>,
@@ -39,24 +40,23 @@ pub(crate) fn run<'a, R: Threads + Wait + Sync, G: Gate, F: Folder, K: Sink>(
 ) -> Result<(), Stop<'a>>
     requires admitted { All F.admits (names_of (lanes (lanes_asked asked.now))) }
     requires files { FilesInRange (lanes (lanes_asked asked.now)) }
-    requires effort { IsEffort asked.now.effort }
+    requires limits { AreSearchLimits asked.now.limits }
     requires sessions { SessionsInRange (lanes_asked asked.now) }
-    ensures { Runs (Ends (F.state folder.old).files (lanes (lanes_asked asked.now)))
+    ensures { RunsCommand (Ends (F.state folder.old).files (lanes (lanes_asked asked.now)))
         (F.state folder.old) (F.state folder.new) (K.state out.old) (K.state out.new)
         (run_outcome result) }
 {
     let (graph, weights) = read_network(alloc, folder, &asked.files)?;
     let mut links = read_scripts(alloc, folder, asked)?;
-    let (workers, budget) = (asked.effort.workers, asked.effort.budget);
-    let crew = Crew { rt, workers, gate };
-    let court = Court {
-        crew: &crew,
+    let workers = Workers::new(rt, asked.limits.workers, gate);
+    let context = ServeContext {
+        workers: &workers,
         alloc,
         graph: &graph,
-        budget,
+        budget: asked.limits.budget,
         bytes: MAX_TAKEN,
     };
-    let reports = run_lanes(&court, weights, asked.epoch, &mut links)?;
+    let reports = run_lanes(&context, weights, asked.epoch, &mut links)?;
     if has_starved(&reports) {
         return Err(Stop::OutOfMemory);
     }

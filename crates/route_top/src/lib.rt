@@ -1,13 +1,16 @@
 //! The top call: it does all that the program does, from the words of the command line to the exit status.
 #![tactic(auto)]
 
-ghost use Rattle.std.specs.Prelude.{◌≡◌, ◌==◌, ◌⊎◌, ℕ, List, All};
+ghost use Rattle.std.specs.Prelude.{◌≡◌, ◌==◌, ◌⊎◌, ◌↔◌, ℕ, List, All, IsTrue};
 ghost use Rattle.route_io.specs.Causes.{IsCounted};
 ghost use Rattle.route_io.specs.Sources.{ReadsFrom};
-ghost use Rattle.command_words.specs.Words.{AreWords, EffortInRange, FilesInRange, IsStill, LanesInRange};
+ghost use Rattle.command_words.specs.Words.{AreWords, Asks, LimitsInRange, FilesInRange, IsNamed, IsStill};
 ghost use Rattle.command_words.specs.Words.{PlanInRange};
 ghost use Rattle.command_words.specs.Words.{asked_of, names_of, texts_of};
-ghost use Rattle.route_top.specs.Output.{Ends, IsAskedName, Output, Runs, EndsByWords};
+ghost use Rattle.command_words.specs.declared.apps.Name.TheVariants.{Lanes};
+ghost use Rattle.route_top.specs.Outcome.{note_of, status_of};
+ghost use Rattle.route_top.specs.Output.{AreStillWords, AsksStill, Ends, EndsByWords, IsAskedName, Output};
+ghost use Rattle.route_top.specs.Output.{RunsCommand, TookNote};
 ghost use Rattle.route_top.specs.Stops.{run_outcome};
 
 mod batch;
@@ -31,6 +34,7 @@ pub use status::WANT_OF_MEMORY;
 use std::alloc::Global;
 use std::sync::Wait;
 use std::thread::Threads;
+use std::time::Clock;
 use stop::Stop;
 
 /// The most bytes of a file.
@@ -50,7 +54,7 @@ pub const MAX_FILE_SIZE: u64 = 1 << 29;
 /// | 7 | the file of pairs has a faulty line, or a script is too long |
 /// | 8 | an end of the query is no node, or the query passes its budget; a line on `out` says which |
 /// | 9 | memory ran out |
-pub fn route<R: Threads + Wait + Sync, G: Gate, F: Folder, K: Sink, E: Sink>(
+pub fn route<R: Threads + Wait + Clock + Sync, G: Gate, F: Folder, K: Sink, E: Sink>(
     rt: &R,
     alloc: Global,
     words: &[String],
@@ -59,10 +63,10 @@ pub fn route<R: Threads + Wait + Sync, G: Gate, F: Folder, K: Sink, E: Sink>(
     err: &mut E,
     gate: &G,
 ) -> u8
-    requires { (name : List ℕ) → IsAskedName (texts_of words.now) name → F.admits name }
+    requires { (name : List ℕ) → IsAskedName (Asks (texts_of words.now)) name → F.admits name }
 
     // One outcome says all: what was read and sent, what the folder and the sinks counted, the note and the status.
-    ensures output { Output (texts_of words.now) (F.state folder.old) (F.state folder.new)
+    ensures output { Output (Asks (texts_of words.now)) (F.state folder.old) (F.state folder.new)
         (K.state out.old) (K.state out.new) (E.state err.old) (E.state err.new) result }
 
     // The words alone make status 2, unless memory runs out.
@@ -73,7 +77,47 @@ pub fn route<R: Threads + Wait + Sync, G: Gate, F: Folder, K: Sink, E: Sink>(
     ensures folder { ReadsFrom (F.state folder.old) (F.state folder.new) (result == 3) }
     ensures out { IsCounted (result == 4) (K.state out.old).faults (K.state out.new).faults }
 {
-    match run(rt, alloc, words, folder, out, gate) {
+    if !names_lanes(words) {
+        return run_still(rt, alloc, words, folder, out, err, gate);
+    }
+    end(alloc, run_lanes(rt, alloc, words, folder, out, gate), err)
+}
+
+/// Runs the command that the words ask for, as `route` does, where it is one that waits for nobody: `lanes` is no command
+/// here.
+pub fn run_still<R: Threads + Sync, G: Gate, F: Folder, K: Sink, E: Sink>(
+    rt: &R,
+    alloc: Global,
+    words: &[String],
+    folder: &mut F,
+    out: &mut K,
+    err: &mut E,
+    gate: &G,
+) -> u8
+    requires { (name : List ℕ) → IsAskedName (AsksStill (texts_of words.now)) name → F.admits name }
+
+    // One outcome says all.
+    ensures output { Output (AsksStill (texts_of words.now)) (F.state folder.old) (F.state folder.new)
+        (K.state out.old) (K.state out.new) (E.state err.old) (E.state err.new) result }
+
+    // The words alone make status 2, unless memory runs out.
+    ensures bad_words { result ≡ 2 → ¬ AreStillWords (texts_of words.now) }
+    ensures only_bad_words { ¬ AreStillWords (texts_of words.now) → (result ≡ 2) ⊎ (result ≡ 9) }
+
+    // The folder's failures alone make status 3, and those of `out` status 4.
+    ensures folder { ReadsFrom (F.state folder.old) (F.state folder.new) (result == 3) }
+    ensures out { IsCounted (result == 4) (K.state out.old).faults (K.state out.new).faults }
+{
+    end(alloc, run(rt, alloc, words, folder, out, gate), err)
+}
+
+/// Sends the note of a run that has ended, and answers its status.
+fn end<E: Sink>(alloc: Global, done: Result<(), Stop<'_>>, err: &mut E) -> u8
+    ensures note { TookNote (E.state err.old) (E.state err.new)
+        (note_of (run_outcome done.entry)) }
+    ensures status { result ≡ status_of (run_outcome done.entry) }
+{
+    match done {
         Ok(()) => DONE,
         Err(stop) => {
             let _ = stop.note(alloc, err);
@@ -82,8 +126,21 @@ pub fn route<R: Threads + Wait + Sync, G: Gate, F: Folder, K: Sink, E: Sink>(
     }
 }
 
-/// Runs the command, and says why where it isn't done.
-fn run<'a, R: Threads + Wait + Sync, G: Gate, F: Folder, K: Sink>(
+/// Whether the words name the command that waits.
+fn names_lanes(words: &[String]) -> bool
+    ensures { IsTrue result ↔ IsNamed (texts_of words.now) Lanes }
+{
+    let Some(name) = words.first() else {
+        return false;
+    };
+    match name.as_str() {
+        "lanes" => true,
+        _ => false,
+    }
+}
+
+/// Runs `lanes`, which the words name, and says why where it isn't done.
+fn run_lanes<'a, R: Threads + Wait + Clock + Sync, G: Gate, F: Folder, K: Sink>(
     rt: &R,
     alloc: Global,
     words: &'a [String],
@@ -91,44 +148,58 @@ fn run<'a, R: Threads + Wait + Sync, G: Gate, F: Folder, K: Sink>(
     out: &mut K,
     gate: &G,
 ) -> Result<(), Stop<'a>>
-    requires { (name : List ℕ) → IsAskedName (texts_of words.now) name → F.admits name }
-    ensures { Runs (EndsByWords (texts_of words.entry.now) (F.state folder.old).files)
+    requires named { IsNamed (texts_of words.now) Lanes }
+    requires admitted { (name : List ℕ) → IsAskedName (Asks (texts_of words.now)) name → F.admits name }
+    ensures { RunsCommand (EndsByWords (Asks (texts_of words.entry.now)) (F.state folder.old).files)
         (F.state folder.old) (F.state folder.new) (K.state out.old) (K.state out.new)
         (run_outcome result) }
 {
     match read_words(alloc, words) {
-        Ok(command) => carry_out(rt, alloc, &command, folder, out, gate),
+        Ok(Command::Lanes(asked)) => lanes::run(rt, alloc, &asked, folder, out, gate),
+        Ok(_) => unreachable!(),
         Err(WordsFault::Refused) => Err(Stop::Words),
         Err(WordsFault::OutOfMemory) => Err(Stop::OutOfMemory),
     }
 }
 
-/// Carries out a command that words ask for.
-fn carry_out<'a, R: Threads + Wait + Sync, G: Gate, F: Folder, K: Sink>(
+/// Runs a command that waits for nobody, and says why where it isn't done.
+fn run<'a, R: Threads + Sync, G: Gate, F: Folder, K: Sink>(
     rt: &R,
     alloc: Global,
-    command: &Command<'a>,
+    words: &'a [String],
     folder: &mut F,
     out: &mut K,
     gate: &G,
 ) -> Result<(), Stop<'a>>
-    requires admitted { All F.admits (names_of (asked_of command.now)) }
-    requires files { FilesInRange (asked_of command.now) }
-    requires effort { EffortInRange (asked_of command.now) }
-    requires plan { PlanInRange (asked_of command.now) }
-    requires lanes { LanesInRange (asked_of command.now) }
-    ensures { Runs (Ends (F.state folder.old).files (asked_of command.now))
+    requires { (name : List ℕ) → IsAskedName (AsksStill (texts_of words.now)) name → F.admits name }
+    ensures { RunsCommand (EndsByWords (AsksStill (texts_of words.entry.now)) (F.state folder.old).files)
         (F.state folder.old) (F.state folder.new) (K.state out.old) (K.state out.new)
         (run_outcome result) }
 {
+    match read_words(alloc, words) {
+        Ok(command) => {
+            if !is_still(&command) {
+                return Err(Stop::Words);
+            }
+            carry_out(rt, alloc, &command, folder, out, gate)
+        }
+        Err(WordsFault::Refused) => Err(Stop::Words),
+        Err(WordsFault::OutOfMemory) => Err(Stop::OutOfMemory),
+    }
+}
+
+/// Whether a command waits for nobody.
+fn is_still(command: &Command<'_>) -> bool
+    ensures { IsTrue result ↔ IsStill (asked_of command.now) }
+{
     match command {
-        Command::Lanes(asked) => lanes::run(rt, alloc, asked, folder, out, gate),
-        still => run_still(rt, alloc, still, folder, out, gate),
+        Command::Single(_) | Command::Check(_) | Command::Batch(_) | Command::Gen(_) => true,
+        Command::Lanes(_) => false,
     }
 }
 
 /// Carries out a command that waits for nobody.
-pub(crate) fn run_still<'a, R: Threads + Sync, G: Gate, F: Folder, K: Sink>(
+fn carry_out<'a, R: Threads + Sync, G: Gate, F: Folder, K: Sink>(
     rt: &R,
     alloc: Global,
     command: &Command<'a>,
@@ -139,9 +210,9 @@ pub(crate) fn run_still<'a, R: Threads + Sync, G: Gate, F: Folder, K: Sink>(
     requires still { IsStill (asked_of command.now) }
     requires admitted { All F.admits (names_of (asked_of command.now)) }
     requires files { FilesInRange (asked_of command.now) }
-    requires effort { EffortInRange (asked_of command.now) }
+    requires limits { LimitsInRange (asked_of command.now) }
     requires plan { PlanInRange (asked_of command.now) }
-    ensures { Runs (Ends (F.state folder.old).files (asked_of command.now))
+    ensures { RunsCommand (Ends (F.state folder.old).files (asked_of command.now))
         (F.state folder.old) (F.state folder.new) (K.state out.old) (K.state out.new)
         (run_outcome result) }
 {

@@ -12,15 +12,15 @@ ghost use Rattle.route_top.specs.Stops.{run_outcome};
 use crate::MAX_FILE_SIZE;
 use crate::stop::Stop;
 use arc_graph::{Graph, Joiner, Weights};
-use gr_reader::{FileFault, FileLimits, read_into};
-use line_text::MAX_LINE;
+use gr_reader::{FileFault, read_into};
+use line_text::{LineLimits, MAX_LINE};
 use route_io::Folder;
 use std::alloc::Global;
 
 /// The limits of each file.
-pub(crate) const LIMITS: FileLimits = FileLimits {
+pub(crate) const LIMITS: LineLimits = LineLimits {
     line: MAX_LINE,
-    file: MAX_FILE_SIZE,
+    total: MAX_FILE_SIZE,
 };
 
 /// Reads the named files in order, two to four of them, and joins them. The first fault of a file ends the run.

@@ -10,10 +10,10 @@ ghost use Rattle.route_top.specs.Summary.{TakesWhole};
 
 use crate::network::LIMITS;
 use arc_graph::{Graph, JoinFault, Joiner, Weights};
-use cost_vector::OutOfMemory;
 use gen_laws::{pair_files_are_read, weight_files_agree, weight_files_are_read};
 use gr_reader::{FileFault, read_into};
 use graph_gen::{GenPlan, gen_file};
+use out_of_memory::OutOfMemory;
 use query_reader::{Pair, read_p2p};
 use route_io::sure::SureSource;
 use std::alloc::Global;
@@ -42,9 +42,7 @@ fn want_in(fault: JoinFault) -> OutOfMemory
 {
     match fault {
         JoinFault::OutOfMemory => OutOfMemory,
-        JoinFault::Sizes { .. } | JoinFault::Ends { .. } | JoinFault::ZeroArc { .. } => {
-            unreachable!()
-        }
+        JoinFault::Files(_) => unreachable!(),
     }
 }
 

@@ -1,47 +1,19 @@
 //! The replies of the commands.
-ghost use Rattle.std.specs.Prelude.{◌≢◌, ◌↔◌, ◌≡◌, ℕ, length, IsOk, Ok, Err};
+ghost use Rattle.std.specs.Prelude.{◌≢◌, ◌↔◌, ◌≡◌, length, IsOk, Ok, Err};
 ghost use Rattle.route_io.specs.Sinks.{Sends};
-ghost use Rattle.query_replies.specs.Sending.{IsAsked};
-ghost use Rattle.command_words.specs.Words.{IsEffort};
 ghost use Rattle.route_top.specs.Outcome.{done};
-ghost use Rattle.route_top.specs.Queries.{asked_for, form_of};
 ghost use Rattle.route_top.specs.Stops.{IsReply, Replies, reply_outcome, run_outcome};
 ghost use Rattle.route_top.specs.Texts.{check_reply};
 
 use crate::stop::Stop;
-use answer_writer::{Form, Piece, put_line};
+use answer_writer::{Piece, put_line};
 use arc_graph::Graph;
-use command_words::{AnswerKind, Query};
-use cost_vector::OutOfMemory;
-use query_replies::{Asked, Reply};
+use out_of_memory::OutOfMemory;
+use query_replies::Reply;
 use route_io::{Sink, WriteFault, put_all};
 
 /// The epoch of each reply, since nothing is published.
 pub(crate) const EPOCH: u32 = 0;
-
-/// What the words ask for, as it is replied to.
-pub(crate) fn asked_for(kind: AnswerKind, query: &Query) -> Asked
-    requires { IsEffort query.now.effort }
-    ensures value { result ≡ asked_for kind query.now }
-    ensures asked { (criteria : ℕ) → IsAsked criteria result }
-{
-    Asked {
-        from: query.from,
-        to: query.to,
-        budget: query.effort.budget,
-        form: form_of(kind),
-    }
-}
-
-/// The form of an answer of this kind.
-fn form_of(kind: AnswerKind) -> Form
-    ensures { result ≡ form_of kind }
-{
-    match kind {
-        AnswerKind::Costs => Form::Costs,
-        AnswerKind::Walks => Form::Walks,
-    }
-}
 
 /// How the run of one query ends once the reply was sent.
 pub(crate) fn end_of<'a>(reply: Reply) -> Result<(), Stop<'a>>

@@ -7,7 +7,7 @@ ghost use Rattle.route_top.specs.Scripts.{ScriptRead, WholeRead};
 ghost use Rattle.route_top.specs.Stops.{run_outcome, script_failed, script_name};
 
 use crate::stop::Stop;
-use cost_vector::OutOfMemory;
+use out_of_memory::OutOfMemory;
 use route_io::{Folder, Source};
 use std::alloc::Global;
 

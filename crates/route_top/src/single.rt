@@ -1,23 +1,24 @@
 //! The commands `costs` and `one`.
 ghost use Rattle.std.specs.Prelude.{◌≤◌, All};
-ghost use Rattle.arc_graph.specs.Graph.{Match, network};
-ghost use Rattle.query_replies.specs.Sending.{IsAsked};
-ghost use Rattle.command_words.specs.Words.{FilesInRange, IsEffort, names_of};
+ghost use Rattle.road_network.specs.Queries.{IsAsked};
+ghost use Rattle.command_words.specs.Words.{FilesInRange, SingleInRange, names_of};
 ghost use Rattle.command_words.specs.Words.{single, single_asked};
-ghost use Rattle.route_top.specs.Output.{Ends, Runs};
+ghost use Rattle.route_top.specs.Output.{Ends, RunsCommand};
 ghost use Rattle.route_top.specs.Queries.{QueryReplies};
 ghost use Rattle.route_top.specs.Stops.{Replies, run_outcome};
 
 use crate::network::read_network;
-use crate::reply::{EPOCH, asked_for, end_of};
+use crate::reply::{EPOCH, end_of};
 use crate::stop::Stop;
+use arc_graph::Network;
 use command_words::SingleWords;
 use path_readback::Room;
-use query_replies::{Answerer, Asked};
+use query_replies::Answerer;
+use road_network::{AnswerKind, Query};
 use route_io::{Folder, Gate, Sink};
 use std::alloc::Global;
 use std::thread::Threads;
-use work_claim::Crew;
+use work_claim::Workers;
 
 /// Answers one query over the named files.
 pub(crate) fn run<'a, R: Threads + Sync, G: Gate, F: Folder, K: Sink>(
@@ -30,39 +31,34 @@ pub(crate) fn run<'a, R: Threads + Sync, G: Gate, F: Folder, K: Sink>(
 ) -> Result<(), Stop<'a>>
     requires admitted { All F.admits (names_of (single (single_asked asked.now))) }
     requires files { FilesInRange (single (single_asked asked.now)) }
-    requires effort { IsEffort asked.now.query.effort }
-    ensures { Runs (Ends (F.state folder.old).files (single (single_asked asked.now)))
+    requires limits { SingleInRange (single_asked asked.now) }
+    ensures { RunsCommand (Ends (F.state folder.old).files (single (single_asked asked.now)))
         (F.state folder.old) (F.state folder.new) (K.state out.old) (K.state out.new)
         (run_outcome result) }
 {
     let (graph, weights) = read_network(alloc, folder, &asked.files)?;
-    let workers = asked.query.effort.workers;
-    let crew = Crew { rt, workers, gate };
+    let network = Network::new(&graph, &weights);
+    let workers = Workers::new(rt, asked.workers, gate);
     let answerer = Answerer {
-        crew: &crew,
+        workers: &workers,
         alloc,
-        graph: &graph,
-        weights: &weights,
+        network: &network,
     };
-    let asked = asked_for(asked.kind, &asked.query);
-    reply_once(&answerer, &asked, out)
+    reply_once(&answerer, asked.kind, &asked.query, out)
 }
 
 /// Sends the reply to the only query of a run.
 fn reply_once<'a, R: Threads + Sync, G: Gate, K: Sink>(
     answerer: &Answerer<'_, R, G>,
-    asked: &Asked,
+    kind: AnswerKind,
+    query: &Query,
     out: &mut K,
 ) -> Result<(), Stop<'a>>
-    requires at_least_one { 1 ≤ answerer.now.crew.now.workers }
-    requires at_most_64 { answerer.now.crew.now.workers ≤ 64 }
-    requires matched { Match answerer.now.graph.now answerer.now.weights.now }
-    requires asked { IsAsked answerer.now.graph.now.criteria asked.now }
-    ensures { Replies (QueryReplies asked.now
-        (network answerer.now.graph.now answerer.now.weights.now))
+    requires { IsAsked answerer.now.network.now.criteria query.now }
+    ensures { Replies (QueryReplies kind query.now answerer.now.network.now)
         (K.state out.old) (K.state out.new) (run_outcome result) }
 {
     let mut room = Room::with(answerer.alloc, 0)?;
-    let reply = answerer.reply(EPOCH, asked, &mut room, out)?;
+    let reply = answerer.reply(EPOCH, kind, query, &mut room, out)?;
     end_of(reply)
 }

@@ -2,7 +2,7 @@
 ghost use Rattle.std.specs.Prelude.{◌≡◌, ◌++◌, ℕ, List};
 ghost use Rattle.route_io.specs.Sinks.{Sends};
 ghost use Rattle.answer_writer.specs.Replies.{end_line};
-ghost use Rattle.route_top.specs.Outcome.{bad_files, note_of, status_of, told_line};
+ghost use Rattle.route_top.specs.Outcome.{bad_files, note_of, status_of, fault_line};
 ghost use Rattle.route_top.specs.Stops.{script_name, script_outcome};
 
 use crate::script::{Script, ScriptFault};
@@ -11,25 +11,14 @@ use crate::status::{
     WANT_OF_MEMORY,
 };
 use answer_writer::{Piece, put_line};
-use arc_graph::JoinFault;
-use cost_vector::OutOfMemory;
+use arc_graph::{Disagreement, JoinFault};
 use gr_reader::LineKind;
 use itoa::Buffer;
+use out_of_memory::OutOfMemory;
 use query_replies::ReplyFault;
 use route_io::sure::SureSink;
 use route_io::{Sink, WriteFault, put_all};
 use std::alloc::Global;
-
-/// How files that were all read don't agree. Files and arcs are numbered from 1.
-#[derive(Clone, Copy, Debug)]
-pub(crate) enum Disagreement {
-    /// This file has another number of nodes or arcs than the first.
-    Sizes { file: u32 },
-    /// This arc has other ends in this file than in the first.
-    Ends { arc: u32, file: u32 },
-    /// This arc has only zero weights.
-    ZeroArc { arc: u32 },
-}
 
 /// Why a run isn't done.
 #[derive(Clone, Copy, Debug)]
@@ -47,6 +36,7 @@ pub(crate) enum Stop<'a> {
         line: u64,
         kind: LineKind,
     },
+    /// The files were all read, and don't agree.
     Files(Disagreement),
     /// This file of pairs has a faulty line.
     Pairs {
@@ -193,7 +183,7 @@ fn note_line<'x, E: Sink>(
     kind: LineKind,
 ) -> Result<(), WriteFault>
     ensures { Sends (E.state err.old) (E.state err.new)
-        (head.now ++ told_line name.now line kind ++ end_line) result }
+        (head.now ++ fault_line name.now line kind ++ end_line) result }
 {
     use Piece::{Number, Text};
     put_line(
@@ -289,9 +279,7 @@ impl From<JoinFault> for Stop<'_> {
 
     fn from(fault: JoinFault) -> Self {
         match fault {
-            JoinFault::Sizes { file } => Stop::Files(Disagreement::Sizes { file }),
-            JoinFault::Ends { arc, file } => Stop::Files(Disagreement::Ends { arc, file }),
-            JoinFault::ZeroArc { arc } => Stop::Files(Disagreement::ZeroArc { arc }),
+            JoinFault::Files(way) => Stop::Files(way),
             JoinFault::OutOfMemory => Stop::OutOfMemory,
         }
     }

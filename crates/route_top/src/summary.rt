@@ -2,13 +2,12 @@
 ghost use Rattle.std.specs.Prelude.{◌≡◌, ◌≤◌, ◌<◌, ◌*◌, ◌∷◌, [], None, length, map, sum};
 ghost use Rattle.route_io.specs.Sinks.{Sends};
 ghost use Rattle.road_network.specs.Limits.{max_budget};
-ghost use Rattle.arc_graph.specs.Graph.{Graph, Weights, network};
 ghost use Rattle.graph_gen.specs.Plans.{max_pairs};
 ghost use Rattle.route_top.specs.Summary.{AreFew, Fits, summary_of, with_pair, with_routes};
 ghost use Rattle.route_top.specs.Texts.{gen_reply};
 
 use answer_writer::{Piece, put_line};
-use arc_graph::Graph;
+use arc_graph::Network;
 use cost_vector::{ArcNo, Cost};
 use route_io::{Sink, WriteFault};
 
@@ -33,14 +32,14 @@ pub(crate) struct Summary {
 
 impl Summary {
     /// The counts of a network before any pair.
-    pub(crate) fn of(graph: &Graph) -> Summary
-        ensures none { (w : Weights) → result ≡ summary_of (network graph.now w) [] }
+    pub(crate) fn of(network: &Network<'_>) -> Summary
+        ensures none { result ≡ summary_of network.now [] }
         ensures fits { Fits result }
     {
         Summary {
-            nodes: u64::from(graph.nodes()),
-            arcs: u64::from(graph.arcs()),
-            criteria: graph.criteria() as u64,
+            nodes: u64::from(network.nodes()),
+            arcs: u64::from(network.arcs()),
+            criteria: network.criteria() as u64,
             pairs: 0,
             answered: 0,
             passed: 0,

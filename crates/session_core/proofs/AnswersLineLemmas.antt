@@ -7,9 +7,9 @@ use Rattle.route_io.specs.Sinks.{SinkState, Sends}
 use Rattle.route_io.specs.declared.fault.WriteFault.{WriteFault}
 use Rattle.query_replies.specs.declared.fault.ReplyFault.{ReplyFault}
 use Rattle.query_replies.specs.declared.fault.ReplyFault.TheVariants as fault
-use Rattle.session_core.specs.declared.party.Answered.{Answered}
-use Rattle.session_core.specs.Parties.{AnswersLine, TellsOne}
-use Rattle.session_core.specs.Told.{Told}
+use Rattle.session_core.specs.declared.handler.Answered.{Answered}
+use Rattle.session_core.specs.Handlers.{AnswersLine, TellsOne}
+use Rattle.session_core.specs.Exchanges.{Exchange}
 
 appends_none : (sent : Option (List ℕ)) → Appends sent sent []
 appends_none None = tt
@@ -20,8 +20,8 @@ pub sends_nothing : (to : SinkState) → Sends {T = Unit {0}} to to [] (Ok tt)
 sends_nothing to = record { bytes = appends_none to.sent; cause = record { faults = refl; wants = refl } }
 
 -- a line whose reply was cut is told with the whole reply
-pub answers_cut : (Led : List Told → Type 0) (IsBye : List ℕ → Type 0) (told : List Told) (raw : List ℕ) (to replied : SinkState)
+pub answers_cut : (Led : List Exchange → Type 0) (IsBye : List ℕ → Type 0) (exchanges : List Exchange) (raw : List ℕ) (to replied : SinkState)
     (cut : WriteFault) (result : Result Answered ReplyFault) → IsErrAnd result (λ e. e ≡ fault.Out cut)
-    → TellsOne Led told raw to replied (Err cut) → AnswersLine Led IsBye told raw to replied result
-answers_cut Led IsBye told raw to replied cut (Ok answered) is tells = absurd is
-answers_cut Led IsBye told raw to replied cut (Err e) is tells = rw is tells
+    → TellsOne Led exchanges raw to replied (Err cut) → AnswersLine Led IsBye exchanges raw to replied result
+answers_cut Led IsBye exchanges raw to replied cut (Ok answered) is tells = absurd is
+answers_cut Led IsBye exchanges raw to replied cut (Err e) is tells = rw is tells

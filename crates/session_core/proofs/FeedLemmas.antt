@@ -3,7 +3,7 @@ use Rattle.std.proofs.Common.{◌≡◌, ℕ, ◌+◌, ◌-◌, ◌<◌, ◌≤�
 use Rattle.std.proofs.lemmas.Bool.{cases_lt}
 use Rattle.std.proofs.lemmas.Bool.Decides.{nat_tests}
 use Rattle.std.proofs.lemmas.List.{append-nil, take-append-drop, length-take, length-drop, nil_from_length}
-use Rattle.std.specs.Io.KnownBytes.{Consumes, IsAtEnd, prepend_known}
+use Rattle.std.specs.Io.KnownBytes.{Consumes, prepend_known}
 use Rattle.line_text.specs.Lines.{first_lf, raw_line, after_line, lines_of}
 use Rattle.line_text.specs.Reading.{Lines}
 use Rattle.line_text.specs.Requests.{request_by, first_request, request_of, request_text, PassesPart, TakesFirst, TakesNone}
@@ -55,12 +55,13 @@ first_text old new rest after request line takes =
 -- ---- what is left
 
 -- The source tells what is left, and that stands behind what is held.
-record IsLeft (held rest : List ℕ) (left : Option (List ℕ)) : Type 0 where
-  more : List ℕ
-  is : left ≡ Some more
-  parts : rest ≡ held ++ more
+pub record IsLeft (held rest : List ℕ) (left : Option (List ℕ)) : Type 0 where
+  pub more : List ℕ
+  pub is : left ≡ Some more
+  pub parts : rest ≡ held ++ more
 
-is_left : (held rest : List ℕ) (left : Option (List ℕ)) → prepend_known held left ≡ Some rest → IsLeft held rest left
+-- the source tells where the rest is told
+pub is_left : (held rest : List ℕ) (left : Option (List ℕ)) → prepend_known held left ≡ Some rest → IsLeft held rest left
 is_left held rest None e = absurd cc
 is_left held rest (Some more) e = record { more = more; is = refl; parts = cc }
 
@@ -124,6 +125,7 @@ module _ (total : ℕ) (text : List ℕ) (old : Lines) (left : Option (List ℕ)
           behind = takes.left ∙ ap Some nothing;
           size = omega (arith, length-append passes.passed passes.rest, passes.size, takes.passed, length-raw_line passes.rest);
           are = inr (record {
+            ended = takes.last part;
             nothing = refl;
             within = omega (arith, length-append passes.passed passes.rest, passes.size, line_within, length-raw_line passes.rest);
             all = ended.all passes.rest ∙ ap (λ xs. lines ++ xs) (takes.lines ∙ ap (λ xs. raw ∷ lines_of xs) nothing);
@@ -138,7 +140,7 @@ module _ (total : ℕ) (text : List ℕ) (old : Lines) (left : Option (List ℕ)
     -- the first line of the rest was passed
     pub takes_line : PassesLines total text new after (lines ++ raw ∷ [])
     takes_line =
-        ⊎_elim takes_behind (λ (all : AreAll total passes.passed passes.rest lines). absurd (omega (arith, rest_some, ap length all.nothing))) passes.are
+        ⊎_elim takes_behind (λ (all : AreAll total old passes.passed passes.rest lines). absurd (omega (arith, rest_some, ap length all.nothing))) passes.are
 
   -- ---- the first lines
 
@@ -158,7 +160,7 @@ module _ (total : ℕ) (text : List ℕ) (old : Lines) (left : Option (List ℕ)
         takes = consumes [] old.held left passes.rest refl passes.behind;
         within = omega (arith, length-append passes.passed old.held, passes.size);
         first = ⊎_elim (λ (ended : AreEnded passes.passed lines). inl (ended_lines old.held, sym (ended.ended old.held)))
-            (λ (all : AreAll total passes.passed passes.rest lines).
+            (λ (all : AreAll total old passes.passed passes.rest lines).
             let none = held_none old.held is.more (sym all.nothing ∙ is.parts) in
             let same : passes.passed ++ old.held ≡ passes.passed = ap (λ xs. passes.passed ++ xs) none.0 ∙ append-nil passes.passed in
             inr (record { at_end = rw is.is none.1; within = rw same all.within }, ([], append-nil lines ∙ sym all.all ∙ ap lines_of (sym same))))
@@ -176,7 +178,7 @@ module _ (total : ℕ) (text : List ℕ) (old : Lines) (left : Option (List ℕ)
   all_lines : passes.rest ≡ [] → lines ≡ lines_of passes.passed
   all_lines nothing =
       ⊎_elim (λ (ended : AreEnded passes.passed lines). sym (ap lines_of (sym (append-nil passes.passed)) ∙ ended.all [] ∙ append-nil lines))
-      (λ (all : AreAll total passes.passed passes.rest lines). sym all.all) passes.are
+      (λ (all : AreAll total old passes.passed passes.rest lines). sym all.all) passes.are
 
   -- the input has ended
   pub takes_all : (new : Lines) (after : Option (List ℕ)) → new.held ≡ [] → old.passed < total
@@ -198,7 +200,7 @@ module _ (total : ℕ) (text : List ℕ) (old : Lines) (left : Option (List ℕ)
     pub taken : List ℕ
     pub takes : Consumes (Some text) after taken
     pub size : length taken ≡ new.passed + length new.held
-    pub are : (lines ≡ ended_lines taken) ⊎ (AreAll total passes.passed passes.rest lines × IsAtEnd after × (lines ≡ lines_of taken))
+    pub are : (lines ≡ ended_lines taken) ⊎ AreAll total old passes.passed passes.rest lines
 
   module _ (new : Lines) (after : Option (List ℕ)) (more : old.passed ≤ new.passed) (no_lf : first_lf new.held ≡ length new.held)
       (part : PassesPart old new passes.rest (prepend_known new.held after)) where
@@ -225,21 +227,6 @@ module _ (total : ℕ) (text : List ℕ) (old : Lines) (left : Option (List ℕ)
     behind_ended ended =
         sym (ended.ended (skipped ++ new.held) ∙ ap (λ xs. lines ++ xs) (ended_lines-none (skipped ++ new.held) skipped_no_lf) ∙ append-nil lines)
 
-    behind_all : passes.rest ≡ [] → IsAtEnd after × (lines ≡ lines_of (passes.passed ++ (skipped ++ new.held)))
-    behind_all nothing =
-        let is = is_left new.held (drop size passes.rest) after part.left in
-        let none = held_none new.held is.more (sym (drop_none size) ∙ ap (drop size) (sym nothing) ∙ is.parts) in
-        let same : skipped ++ new.held ≡ [] = nil_from_length (skipped ++ new.held) (omega (
-          arith,
-          length-append skipped new.held,
-          ap length none.0,
-          skipped_size,
-          size_within,
-          first_lf-le passes.rest,
-          ap length nothing,
-        )) in
-        (rw is.is none.1, all_lines nothing ∙ ap lines_of (sym (ap (λ xs. passes.passed ++ xs) same ∙ append-nil passes.passed)))
-
     -- what was passed, the part of a line that was skipped, and what is held behind that
     pub ends_at : EndsAt new after
     ends_at = record {
@@ -247,5 +234,5 @@ module _ (total : ℕ) (text : List ℕ) (old : Lines) (left : Option (List ℕ)
       takes = consumes skipped new.held after (drop size passes.rest) (sym (take-append-drop size passes.rest)) part.left;
       size = taken_size;
       are = ⊎_elim (λ (ended : AreEnded passes.passed lines). inl (behind_ended ended))
-          (λ (all : AreAll total passes.passed passes.rest lines). let both = behind_all all.nothing in inr (all, both.0, both.1)) passes.are;
+          (λ (all : AreAll total old passes.passed passes.rest lines). inr all) passes.are;
     }

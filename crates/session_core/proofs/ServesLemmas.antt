@@ -1,9 +1,9 @@
 -- A link is served line by line.
-use Rattle.std.proofs.Common.{◌≡◌, ℕ, ◌+◌, ◌<◌, ◌≤◌, true, false, List, [], ◌∷◌, ◌++◌, Option, Some, None, IfSome, Result, Ok, Err, length, take, replicate, refl, sym, ap, subst, ◌∙◌, arith, append-nil, length-append, ⊎_elim, inl, inr}
+use Rattle.std.proofs.Common.{◌≡◌, ℕ, ◌+◌, ◌<◌, ◌≤◌, true, false, List, [], ◌∷◌, ◌++◌, Option, Some, None, IfSome, IsSomeAnd, Result, Ok, Err, length, take, replicate, refl, sym, ap, subst, ◌∙◌, arith, append-nil, length-append, ⊎_elim, inl, inr}
 use Rattle.std.proofs.KnownBytes.{Appends-trans, Appends-nil}
 use Rattle.std.proofs.lemmas.Grind.{flat_map-append}
 use Rattle.std.proofs.lemmas.List.{map-append, length-replicate}
-use Rattle.std.specs.Io.KnownBytes.{IsAtEnd, prepend_known}
+use Rattle.std.specs.Io.KnownBytes.{prepend_known}
 use mathlib.Core.List.{IsPrefix}
 use Rattle.route_io.specs.Sinks.{SinkState, Sends}
 use Rattle.route_io.specs.Sources.{SourceState, ReadsFrom}
@@ -18,20 +18,28 @@ use Rattle.line_text.specs.declared.limits.LineFault.{LineFault}
 use Rattle.line_text.specs.declared.limits.LineFault.TheVariants as line
 use Rattle.line_text.specs.declared.limits.Request.{Request}
 use Rattle.line_text.specs.declared.limits.Request.TheVariants.{Whole, Long}
+use Rattle.line_text.proofs.AdvancesLemmas.{rest_told}
 use Rattle.line_text.proofs.LineLemmas.{first_lf-le, length-raw_line}
 use Rattle.epoch_store.proofs.PrefixLemmas.{prefix_trans}
 use Rattle.query_replies.specs.declared.fault.ReplyFault.{ReplyFault}
 use Rattle.query_replies.specs.declared.fault.ReplyFault.TheVariants as reply
 use Rattle.session_core.specs.declared.end.SessionEnd.{SessionEnd}
 use Rattle.session_core.specs.declared.end.SessionEnd.TheVariants.{Ended, ReadFault, WriteFault, TooLong, OutOfMemory}
-use Rattle.session_core.specs.declared.party.Answered.{Answered}
-use Rattle.session_core.specs.declared.party.Answered.TheVariants.{Replied, Bye}
+use Rattle.session_core.specs.declared.handler.Answered.{Answered}
+use Rattle.session_core.specs.declared.handler.Answered.TheVariants.{Replied, Bye}
 use Rattle.session_core.specs.Lines.{IsText, ended_lines, max_request}
 use Rattle.session_core.specs.Links.{AreFirst, Begins, CutsLast, IsAll, SendsReplies, Serves, TakesLines, is_read_fault, is_write_fault}
-use Rattle.session_core.specs.Parties.{AnswersLine, TellsOne}
+use Rattle.session_core.specs.Handlers.{AnswersLine, TellsOne}
 use Rattle.session_core.specs.Serving.{AreAll, PassesLines, Served, ServesOne, end_by_answer, end_by_input}
-use Rattle.session_core.specs.Told.{Told, lines_told, text_told}
-use Rattle.session_core.proofs.FeedLemmas.{answer_past, ends_at, first_text, takes_all, takes_line, takes_up_to}
+use Rattle.session_core.specs.Exchanges.{Exchange, lines_exchanged, text_exchanged}
+use Rattle.session_core.proofs.FeedLemmas.{answer_past, ends_at, first_text, is_left, takes_all, takes_line, takes_up_to}
+
+-- what a source has left stays told
+left_behind : (before after : Option (List ℕ)) (P : List ℕ → List ℕ → Type 0) (left : List ℕ) → before ≡ Some left
+    → IfSome before (λ left. IsSomeAnd after (P left)) → (more : List ℕ) × (after ≡ Some more)
+left_behind None after P left e all = absurd cc
+left_behind (Some left) None P some e all = absurd all
+left_behind (Some left) (Some more) P some e all = (more, refl)
 
 -- each request takes a byte at least
 pub takes_some : (old new : Lines) (request : Request) → RequestCounts old new (Ok (Some request)) → old.passed < new.passed
@@ -40,12 +48,12 @@ takes_some old new Long counts = omega (arith, counts.more)
 
 -- ---- one more line is told
 
-lines_more : (told : List Told) (one : Told) (raw : List ℕ) → one.line ≡ raw → lines_told (told ++ one ∷ []) ≡ lines_told told ++ raw ∷ []
-lines_more told one raw e = map-append (λ t. t.line) told (one ∷ []) ∙ ap (λ line. lines_told told ++ line ∷ []) e
+lines_more : (exchanges : List Exchange) (one : Exchange) (raw : List ℕ) → one.line ≡ raw → lines_exchanged (exchanges ++ one ∷ []) ≡ lines_exchanged exchanges ++ raw ∷ []
+lines_more exchanges one raw e = map-append (λ t. t.line) exchanges (one ∷ []) ∙ ap (λ line. lines_exchanged exchanges ++ line ∷ []) e
 
-text_more : (told : List Told) (one : Told) → text_told (told ++ one ∷ []) ≡ text_told told ++ one.reply
-text_more told one =
-    flat_map-append (λ (t : Told). t.reply) told (one ∷ []) ∙ ap (λ text. text_told told ++ text) (append-nil one.reply)
+text_more : (exchanges : List Exchange) (one : Exchange) → text_exchanged (exchanges ++ one ∷ []) ≡ text_exchanged exchanges ++ one.reply
+text_more exchanges one =
+    flat_map-append (λ (t : Exchange). t.reply) exchanges (one ∷ []) ∙ ap (λ text. text_exchanged exchanges ++ text) (append-nil one.reply)
 
 -- fewer lines are the first ones too
 first_without : (total : ℕ) (taken : List ℕ) (left : Option (List ℕ)) (lines more : List (List ℕ)) → AreFirst total taken left (lines ++ more)
@@ -55,14 +63,15 @@ first_without total taken left lines more first =
     (λ (q : IsAll total taken left × IsPrefix (lines ++ more) (lines_of taken)).
     inr (q.0, prefix_trans lines (lines ++ more) (lines_of taken) (more, refl) q.1)) first
 
-module _ {State : Type 0} (Runs : State → List Told → State → Type 0) (total : ℕ) where
-  served_none : (old : State) (from : SourceState) (to : SinkState) → Runs old [] old
-      → Served Runs total old old from from to to (begun (record { line = max_request; total = total }))
+module _ {State : Type 0} (Progresses : State → List Exchange → State → Type 0) (total : ℕ) where
+  served_none : (old : State) (from : SourceState) (to : SinkState) → Progresses old [] old
+      → Served Progresses total old old from from to to (begun (record { line = max_request; total = total }))
   served_none old from to runs = record {
-    told = [];
+    exchanges = [];
     runs = runs;
     limits = refl;
     keeps_none = refl;
+    knows_end = λ e. absurd cc;
     within = omega arith;
     each = omega arith;
     passes = by from.left;
@@ -82,31 +91,35 @@ module _ {State : Type 0} (Runs : State → List Told → State → Type 0) (tot
 
   -- before the first line
   pub served_begun : (old : State) (from : SourceState) (to : SinkState) (reader : Lines) → reader ≡ begun (record { line = max_request; total = total })
-      → Runs old [] old → Served Runs total old old from from to to reader
+      → Progresses old [] old → Served Progresses total old old from from to to reader
   served_begun old from to reader is runs = rw is (served_none old from to runs)
 
-module _ {State : Type 0} (Runs : State → List Told → State → Type 0) (IsBye : List ℕ → Type 0) (total : ℕ) where
+module _ {State : Type 0} (Progresses : State → List Exchange → State → Type 0) (IsBye : List ℕ → Type 0) (total : ℕ) where
   -- where the lines are first ones of what was taken, and an end says so of those told
-  takes_by : (reader : Lines) (left : Option (List ℕ)) (lines told : List (List ℕ)) (end : SessionEnd) → reader.passed + length reader.held ≤ total
-      → ((taken : List ℕ) → AreFirst total taken left lines → Begins IsBye total taken left end told) → (given : Option (List ℕ))
-      → IfSome given (λ text. PassesLines total text reader left lines) → IfSome given (λ _. TakesLines IsBye total given left end told)
-  takes_by reader left lines told end within begun None passes = tt
-  takes_by reader left lines told end within begun (Some text) passes =
+  takes_by : (reader : Lines) (left : Option (List ℕ)) (lines exchanges : List (List ℕ)) (end : SessionEnd) → reader.passed + length reader.held ≤ total
+      → ((taken : List ℕ) → AreFirst total taken left lines → Begins IsBye total taken left end exchanges) → (given : Option (List ℕ))
+      → IfSome given (λ text. PassesLines total text reader left lines) → IfSome given (λ _. TakesLines IsBye total given left end exchanges)
+  takes_by reader left lines exchanges end within begun None passes = tt
+  takes_by reader left lines exchanges end within begun (Some text) passes =
       let up_to = takes_up_to total text reader left lines passes within in
       record { taken = up_to.taken; takes = up_to.takes; within = up_to.within; begun = begun up_to.taken up_to.first }
 
-  module _ (old mid : State) (from before : SourceState) (to sunk : SinkState) (reader : Lines) (served : Served Runs total old mid from before to sunk reader)
+  module _ (old mid : State) (from before : SourceState) (to sunk : SinkState) (reader : Lines) (served : Served Progresses total old mid from before to sunk reader)
     where
       is_total : reader.limits.total ≡ total
       is_total = ap (λ limits. limits.total) served.limits
 
       module _ (next : Lines) (after : SourceState) where
         -- what the source has left is told, and the request is that of the rest
-        request_told : (result : Result (Option Request) LineFault) → Requests reader next before after result → (text : List ℕ)
-            → (passes : PassesLines total text reader before.left (lines_told served.told))
+        request_exchange : (result : Result (Option Request) LineFault) → Requests reader next before after result → (text : List ℕ)
+            → (passes : PassesLines total text reader before.left (lines_exchanged served.exchanges))
             → TellsRequest reader next passes.rest (prepend_known next.held after.left) result
-        request_told result requests text passes =
-            subst (λ left. IfSome left (λ rest. TellsRequest reader next rest (rest_of next after) result)) passes.behind requests.request
+        request_exchange result requests text passes =
+            let was = is_left reader.held passes.rest before.left passes.behind in
+            let now = left_behind before.left after.left _ was.more was.is requests.loses_none in
+            subst (λ rest. TellsRequest reader next passes.rest rest result) (rest_told next after now.0 (requests.ends.knows_end served.knows_end) now.1)
+            (subst (λ left. IfSome left (λ rest. TellsRequest reader next rest (rest_of next after) result))
+            (rest_told reader before was.more served.knows_end was.is ∙ passes.behind) requests.request)
 
         within_next : (result : Result (Option Request) LineFault) → Requests reader next before after result → next.passed + length next.held ≤ total
         within_next result requests = omega (arith, requests.none_past, served.within, is_total)
@@ -130,75 +143,76 @@ module _ {State : Type 0} (Runs : State → List Told → State → Type 0) (IsB
           -- The line has this text, and it was passed behind the others.
           record IsNext (raw : List ℕ) : Type 0 where
             is : IsText asked next.text raw
-            passes : IfSome from.left (λ text. PassesLines total text next after.left (lines_told served.told ++ raw ∷ []))
+            passes : IfSome from.left (λ text. PassesLines total text next after.left (lines_exchanged served.exchanges ++ raw ∷ []))
 
           is_next : (raw : List ℕ) (left : Option (List ℕ)) → from.left ≡ left → IsText asked next.text raw
-              → IfSome left (λ text. PassesLines total text next after.left (lines_told served.told ++ raw ∷ [])) → IsNext raw
+              → IfSome left (λ text. PassesLines total text next after.left (lines_exchanged served.exchanges ++ raw ∷ [])) → IsNext raw
           is_next raw left e is passes = record {
             is = is;
-            passes = subst (λ given. IfSome given (λ text. PassesLines total text next after.left (lines_told served.told ++ raw ∷ []))) (sym e) passes;
+            passes = subst (λ given. IfSome given (λ text. PassesLines total text next after.left (lines_exchanged served.exchanges ++ raw ∷ []))) (sym e) passes;
           }
 
-          -- what a party does with the line
+          -- what a handler does with the line
           module _ (raw : List ℕ) (line : IsNext raw) (new : State) (replied : SinkState) (source : ReadsFrom before after false) (keeps : next.fault ≡ None)
             where
               within : next.passed + length next.held ≤ total
               within = within_next (Ok (Some asked)) requests
 
               abbrev lines : List (List ℕ)
-              lines = lines_told served.told ++ raw ∷ []
+              lines = lines_exchanged served.exchanges ++ raw ∷ []
 
-              module _ (cut : Result (Unit {0}) Cut) (tells : TellsOne (λ more. Runs old more new) served.told raw sunk replied cut) where
-                abbrev told_one : List Told
-                told_one = served.told ++ tells.one ∷ []
+              module _ (cut : Result (Unit {0}) Cut) (tells : TellsOne (λ more. Progresses old more new) served.exchanges raw sunk replied cut) where
+                abbrev one_exchange : List Exchange
+                one_exchange = served.exchanges ++ tells.one ∷ []
 
-                each_one : length told_one ≤ next.passed
-                each_one = omega (arith, length-append served.told (tells.one ∷ []), served.each, more_passed)
+                each_one : length one_exchange ≤ next.passed
+                each_one = omega (arith, length-append served.exchanges (tells.one ∷ []), served.each, more_passed)
 
-                sent_one : Sends to replied (text_told served.told ++ tells.one.reply) cut
-                sent_one = Sends-then to sunk replied (text_told served.told) tells.one.reply cut served.sent tells.sent
+                sent_one : Sends to replied (text_exchanged served.exchanges ++ tells.one.reply) cut
+                sent_one = Sends-then to sunk replied (text_exchanged served.exchanges) tells.one.reply cut served.sent tells.sent
 
-                passes_one : IfSome from.left (λ text. PassesLines total text next after.left (lines_told told_one))
+                passes_one : IfSome from.left (λ text. PassesLines total text next after.left (lines_exchanged one_exchange))
                 passes_one =
-                    subst (λ told. IfSome from.left (λ text. PassesLines total text next after.left told))
-                    (sym (lines_more served.told tells.one raw tells.line)) line.passes
+                    subst (λ exchanges. IfSome from.left (λ text. PassesLines total text next after.left exchanges))
+                    (sym (lines_more served.exchanges tells.one raw tells.line)) line.passes
 
-                begun_one : (end : SessionEnd) → ((taken : List ℕ) → AreFirst total taken after.left (lines_told told_one)
-                    → Begins IsBye total taken after.left end (lines_told told_one))
-                    → IfSome from.left (λ _. TakesLines IsBye total from.left after.left end (lines_told told_one))
-                begun_one end begun = takes_by next after.left (lines_told told_one) (lines_told told_one) end within begun from.left passes_one
+                begun_one : (end : SessionEnd) → ((taken : List ℕ) → AreFirst total taken after.left (lines_exchanged one_exchange)
+                    → Begins IsBye total taken after.left end (lines_exchanged one_exchange))
+                    → IfSome from.left (λ _. TakesLines IsBye total from.left after.left end (lines_exchanged one_exchange))
+                begun_one end begun = takes_by next after.left (lines_exchanged one_exchange) (lines_exchanged one_exchange) end within begun from.left passes_one
 
               -- the line has its whole reply
-              goes_on : TellsOne (λ more. Runs old more new) served.told raw sunk replied (Ok tt) → Served Runs total old new from after to replied next
+              goes_on : TellsOne (λ more. Progresses old more new) served.exchanges raw sunk replied (Ok tt) → Served Progresses total old new from after to replied next
               goes_on tells = record {
-                told = served.told ++ tells.one ∷ [];
+                exchanges = served.exchanges ++ tells.one ∷ [];
                 runs = tells.led;
                 limits = requests.limits ∙ served.limits;
                 keeps_none = keeps;
+                knows_end = requests.ends.knows_end served.knows_end;
                 within = within;
                 each = each_one (Ok tt) tells;
                 passes = passes_one (Ok tt) tells;
-                sent = rw (text_more served.told tells.one) (sent_one (Ok tt) tells);
+                sent = rw (text_more served.exchanges tells.one) (sent_one (Ok tt) tells);
                 reads = ReadsFrom-then from before after false served.reads source;
               }
 
               -- a fault cut the reply to the line
-              cuts_last : (cut : Cut) (tells : TellsOne (λ more. Runs old more new) served.told raw sunk replied (Err cut))
-                  → CutsLast to replied (told_one (Err cut) tells)
+              cuts_last : (cut : Cut) (tells : TellsOne (λ more. Progresses old more new) served.exchanges raw sunk replied (Err cut))
+                  → CutsLast to replied (one_exchange (Err cut) tells)
               cuts_last cut tells = record {
-                front = served.told;
+                front = served.exchanges;
                 last = tells.one;
                 parts = refl;
                 size = tells.sent.bytes.0;
                 short = tells.sent.bytes.1;
-                sent = Appends-trans to.sent sunk.sent replied.sent (text_told served.told) (take tells.sent.bytes.0 tells.one.reply)
+                sent = Appends-trans to.sent sunk.sent replied.sent (text_exchanged served.exchanges) (take tells.sent.bytes.0 tells.one.reply)
                     served.sent.bytes tells.sent.bytes.2;
               }
 
-              ends_cut : (cut : Cut) → TellsOne (λ more. Runs old more new) served.told raw sunk replied (Err cut)
-                  → ServesOne Runs IsBye total old new from after to replied next (end_by_answer (Err (reply.Out cut)))
+              ends_cut : (cut : Cut) → TellsOne (λ more. Progresses old more new) served.exchanges raw sunk replied (Err cut)
+                  → ServesOne Progresses IsBye total old new from after to replied next (end_by_answer (Err (reply.Out cut)))
               ends_cut write.Failed tells = record {
-                told = told_one (Err write.Failed) tells;
+                exchanges = one_exchange (Err write.Failed) tells;
                 runs = tells.led;
                 each = omega (arith, each_one (Err write.Failed) tells, within);
                 lines = begun_one (Err write.Failed) tells WriteFault (λ taken first. first);
@@ -209,7 +223,7 @@ module _ {State : Type 0} (Runs : State → List Told → State → Type 0) (IsB
                 writes = (sent_one (Err write.Failed) tells).cause;
               }
               ends_cut write.OutOfMemory tells = record {
-                told = told_one (Err write.OutOfMemory) tells;
+                exchanges = one_exchange (Err write.OutOfMemory) tells;
                 runs = tells.led;
                 each = omega (arith, each_one (Err write.OutOfMemory) tells, within);
                 lines = begun_one (Err write.OutOfMemory) tells OutOfMemory (λ taken first. first);
@@ -221,15 +235,15 @@ module _ {State : Type 0} (Runs : State → List Told → State → Type 0) (IsB
               }
 
               -- the line isn't told, and nothing was sent
-              ends_untold : (end : SessionEnd) → ((taken : List ℕ) → AreFirst total taken after.left lines
-                  → Begins IsBye total taken after.left end (lines_told served.told)) → Runs old served.told new → replied ≡ sunk
-                  → is_read_fault end ≡ false → is_write_fault end ≡ false → SendsReplies end false to sunk served.told
-                  → Serves Runs IsBye total old new from after to replied end
-              ends_untold end begun runs same no_read no_write sent = record {
-                told = served.told;
+              ends_silently : (end : SessionEnd) → ((taken : List ℕ) → AreFirst total taken after.left lines
+                  → Begins IsBye total taken after.left end (lines_exchanged served.exchanges)) → Progresses old served.exchanges new → replied ≡ sunk
+                  → is_read_fault end ≡ false → is_write_fault end ≡ false → SendsReplies end false to sunk served.exchanges
+                  → Serves Progresses IsBye total old new from after to replied end
+              ends_silently end begun runs same no_read no_write sent = record {
+                exchanges = served.exchanges;
                 runs = runs;
                 each = omega (arith, served.each, more_passed, within);
-                lines = takes_by next after.left lines (lines_told served.told) end within begun from.left line.passes;
+                lines = takes_by next after.left lines (lines_exchanged served.exchanges) end within begun from.left line.passes;
                 wanted = false;
                 wants = λ e. absurd cc;
                 sent = rw same sent;
@@ -238,43 +252,43 @@ module _ {State : Type 0} (Runs : State → List Told → State → Type 0) (IsB
               }
 
               -- as the line was answered
-              serves_one : (answer : Result Answered ReplyFault) → AnswersLine (λ more. Runs old more new) IsBye served.told raw sunk replied answer
-                  → ServesOne Runs IsBye total old new from after to replied next (end_by_answer answer)
+              serves_one : (answer : Result Answered ReplyFault) → AnswersLine (λ more. Progresses old more new) IsBye served.exchanges raw sunk replied answer
+                  → ServesOne Progresses IsBye total old new from after to replied next (end_by_answer answer)
               serves_one (Ok Replied) answers = goes_on answers
               serves_one (Ok Bye) answers =
-                  ends_untold Ended (λ taken first. inl (record { bye = raw; is_bye = answers.0; first = first })) answers.1 answers.2
+                  ends_silently Ended (λ taken first. inl (record { bye = raw; is_bye = answers.0; first = first })) answers.1 answers.2
                   refl refl served.sent.bytes
               serves_one (Err (reply.Out cut)) answers = ends_cut cut answers
               serves_one (Err reply.OutOfMemory) answers =
-                  ends_untold OutOfMemory (λ taken first. first_without total taken after.left (lines_told served.told) (raw ∷ []) first) answers.0 answers.1
+                  ends_silently OutOfMemory (λ taken first. first_without total taken after.left (lines_exchanged served.exchanges) (raw ∷ []) first) answers.0 answers.1
                   refl refl served.sent.bytes
 
           -- the next line was answered
           pub serves_next : (new : State) (replied : SinkState) (answer : Result Answered ReplyFault) → ReadsFrom before after false → next.fault ≡ None
-              → ((told : List Told) (raw : List ℕ) → IsText asked next.text raw → Runs old told mid
-              → AnswersLine (λ more. Runs old more new) IsBye told raw sunk replied answer)
-              → ServesOne Runs IsBye total old new from after to replied next (end_by_answer answer)
+              → ((exchanges : List Exchange) (raw : List ℕ) → IsText asked next.text raw → Progresses old exchanges mid
+              → AnswersLine (λ more. Progresses old more new) IsBye exchanges raw sunk replied answer)
+              → ServesOne Progresses IsBye total old new from after to replied next (end_by_answer answer)
           serves_next new replied answer source keeps answers = by from.left refl served.passes where
-            by : (left : Option (List ℕ)) → from.left ≡ left → IfSome left (λ text. PassesLines total text reader before.left (lines_told served.told))
-                → ServesOne Runs IsBye total old new from after to replied next (end_by_answer answer)
-            by None told passes =
-                serves_one some_line.0 (is_next some_line.0 None told some_line.1 tt) new replied source keeps answer
-                (answers served.told some_line.0 some_line.1 served.runs)
-            by (Some text) told passes =
-                let takes = request_told (Ok (Some asked)) requests text passes in
-                let is = first_text reader next passes.rest (rest_of next after) asked is_line takes in
-                let line = takes_line total text reader before.left (lines_told served.told) passes next after.left asked is_total takes in
-                serves_one (raw_line passes.rest) (is_next (raw_line passes.rest) (Some text) told is line) new replied source keeps answer
-                (answers served.told (raw_line passes.rest) is served.runs)
+            by : (left : Option (List ℕ)) → from.left ≡ left → IfSome left (λ text. PassesLines total text reader before.left (lines_exchanged served.exchanges))
+                → ServesOne Progresses IsBye total old new from after to replied next (end_by_answer answer)
+            by None exchanges passes =
+                serves_one some_line.0 (is_next some_line.0 None exchanges some_line.1 tt) new replied source keeps answer
+                (answers served.exchanges some_line.0 some_line.1 served.runs)
+            by (Some text) exchanges passes =
+                let takes = request_exchange (Ok (Some asked)) requests text passes in
+                let is = first_text reader next passes.rest (prepend_known next.held after.left) asked is_line takes in
+                let line = takes_line total text reader before.left (lines_exchanged served.exchanges) passes next after.left asked is_total takes in
+                serves_one (raw_line passes.rest) (is_next (raw_line passes.rest) (Some text) exchanges is line) new replied source keeps answer
+                (answers served.exchanges (raw_line passes.rest) is served.runs)
 
         -- ---- there is no next line
 
         -- all that was told stays, and nothing was sent
-        ends_input : (end : SessionEnd) → IfSome from.left (λ _. TakesLines IsBye total from.left after.left end (lines_told served.told))
-            → ReadsFrom before after (is_read_fault end) → is_write_fault end ≡ false → SendsReplies end false to sunk served.told
-            → Serves Runs IsBye total old mid from after to sunk end
+        ends_input : (end : SessionEnd) → IfSome from.left (λ _. TakesLines IsBye total from.left after.left end (lines_exchanged served.exchanges))
+            → ReadsFrom before after (is_read_fault end) → is_write_fault end ≡ false → SendsReplies end false to sunk served.exchanges
+            → Serves Progresses IsBye total old mid from after to sunk end
         ends_input end lines source no_write sent = record {
-          told = served.told;
+          exchanges = served.exchanges;
           runs = served.runs;
           each = omega (arith, served.each, served.within);
           lines = lines;
@@ -286,29 +300,29 @@ module _ {State : Type 0} (Runs : State → List Told → State → Type 0) (IsB
         }
 
         -- the input has ended
-        pub serves_all : Requests reader next before after (Ok None) → ReadsFrom before after false → Serves Runs IsBye total old mid from after to sunk Ended
+        pub serves_all : Requests reader next before after (Ok None) → ReadsFrom before after false → Serves Progresses IsBye total old mid from after to sunk Ended
         serves_all requests source = ends_input Ended (by from.left served.passes) source refl served.sent.bytes where
-          by : (left : Option (List ℕ)) → IfSome left (λ text. PassesLines total text reader before.left (lines_told served.told))
-              → IfSome left (λ _. TakesLines IsBye total left after.left Ended (lines_told served.told))
+          by : (left : Option (List ℕ)) → IfSome left (λ text. PassesLines total text reader before.left (lines_exchanged served.exchanges))
+              → IfSome left (λ _. TakesLines IsBye total left after.left Ended (lines_exchanged served.exchanges))
           by None passes = tt
           by (Some text) passes =
               let within : reader.passed < total =
               omega (arith, requests.counts.within, requests.counts.counts.passed, ap (λ l. l.total) requests.limits, is_total) in
-              let all = takes_all total text reader before.left (lines_told served.told) passes next after.left requests.counts.nothing within
-              (request_told (Ok None) requests text passes) in
+              let all = takes_all total text reader before.left (lines_exchanged served.exchanges) passes next after.left requests.counts.nothing within
+              (request_exchange (Ok None) requests text passes) in
               record { taken = passes.passed; takes = all.takes; within = omega (arith, all.is_all.within); begun = inr (all.is_all, all.all) }
 
         -- a read failed
         serves_failed : Requests reader next before after (Err line.Read) → ReadsFrom before after true
-            → Serves Runs IsBye total old mid from after to sunk ReadFault
+            → Serves Progresses IsBye total old mid from after to sunk ReadFault
         serves_failed requests source = ends_input ReadFault (by from.left served.passes) source refl served.sent.bytes where
-          by : (left : Option (List ℕ)) → IfSome left (λ text. PassesLines total text reader before.left (lines_told served.told))
-              → IfSome left (λ _. TakesLines IsBye total left after.left ReadFault (lines_told served.told))
+          by : (left : Option (List ℕ)) → IfSome left (λ text. PassesLines total text reader before.left (lines_exchanged served.exchanges))
+              → IfSome left (λ _. TakesLines IsBye total left after.left ReadFault (lines_exchanged served.exchanges))
           by None passes = tt
           by (Some text) passes =
               let fails = requests.counts in
-              let at = ends_at total text reader before.left (lines_told served.told) passes next after.left fails.counts.passed fails.part
-              (request_told (Err line.Read) requests text passes) in
+              let at = ends_at total text reader before.left (lines_exchanged served.exchanges) passes next after.left fails.counts.passed fails.part
+              (request_exchange (Err line.Read) requests text passes) in
               let within : length at.taken < total = omega (arith, at.size, fails.within, ap (λ l. l.total) requests.limits, is_total) in
               record {
                 taken = at.taken;
@@ -316,25 +330,25 @@ module _ {State : Type 0} (Runs : State → List Told → State → Type 0) (IsB
                 within = omega arith;
                 begun = (
                   within,
-                  ⊎_elim inl (λ (all : AreAll total passes.passed passes.rest (lines_told served.told) × IsAtEnd after.left
-                      × (lines_told served.told ≡ lines_of at.taken)). inr (all.1, all.2)) at.are,
+                  ⊎_elim (λ ended. ended) (λ (all : AreAll total reader passes.passed passes.rest (lines_exchanged served.exchanges)).
+                      let both : true ≡ false = sym all.ended ∙ requests.ends.fails_before refl in absurd cc) at.are,
                 );
               }
 
         -- as many bytes as the total were taken
         serves_total : Requests reader next before after (Err line.Total) → ReadsFrom before after false
-            → Serves Runs IsBye total old mid from after to sunk TooLong
+            → Serves Progresses IsBye total old mid from after to sunk TooLong
         serves_total requests source = ends_input TooLong (by from.left served.passes) source refl served.sent.bytes where
-          by : (left : Option (List ℕ)) → IfSome left (λ text. PassesLines total text reader before.left (lines_told served.told))
-              → IfSome left (λ _. TakesLines IsBye total left after.left TooLong (lines_told served.told))
+          by : (left : Option (List ℕ)) → IfSome left (λ text. PassesLines total text reader before.left (lines_exchanged served.exchanges))
+              → IfSome left (λ _. TakesLines IsBye total left after.left TooLong (lines_exchanged served.exchanges))
           by None passes = tt
           by (Some text) passes =
               let reaches = requests.counts in
               let within = within_next (Err line.Total) requests in
               let all_taken : total ≤ next.passed + first_lf next.held = omega (arith, reaches.taken, ap (λ l. l.total) requests.limits, is_total) in
-              let told = request_told (Err line.Total) requests text passes in
-              let at = ends_at total text reader before.left (lines_told served.told) passes next after.left reaches.counts.passed
-              (omega (arith, first_lf-le next.held)) told.part in
+              let exchanges = request_exchange (Err line.Total) requests text passes in
+              let at = ends_at total text reader before.left (lines_exchanged served.exchanges) passes next after.left reaches.counts.passed
+              (omega (arith, first_lf-le next.held)) exchanges.part in
               let size : length at.taken ≡ total = omega (arith, at.size, first_lf-le next.held) in
               record {
                 taken = at.taken;
@@ -342,17 +356,16 @@ module _ {State : Type 0} (Runs : State → List Told → State → Type 0) (IsB
                 within = omega arith;
                 begun = (
                   size,
-                  ⊎_elim (λ ended. ended) (λ (all : AreAll total passes.passed passes.rest (lines_told served.told) × IsAtEnd after.left
-                      × (lines_told served.told ≡ lines_of at.taken)).
+                  ⊎_elim (λ ended. ended) (λ (all : AreAll total reader passes.passed passes.rest (lines_exchanged served.exchanges)).
                       absurd (omega (
                         arith,
                         passes.size,
-                        all.0.within,
-                        answer_past reader.limits reader.passed passes.rest line.Total told.answer,
+                        all.within,
+                        answer_past reader.limits reader.passed passes.rest line.Total exchanges.answer,
                         is_total,
                         length-raw_line passes.rest,
                         first_lf-le passes.rest,
-                        ap length all.0.nothing,
+                        ap length all.nothing,
                       ))) at.are,
                 );
               }
@@ -360,7 +373,7 @@ module _ {State : Type 0} (Runs : State → List Told → State → Type 0) (IsB
         -- a fault ended the lines
         pub serves_fault : (fault : LineFault) → Requests reader next before after (Err fault)
             → ReadsFrom before after (line_failed {T = Option Request} None (Err fault))
-            → Serves Runs IsBye total old mid from after to sunk (end_by_input fault)
+            → Serves Progresses IsBye total old mid from after to sunk (end_by_input fault)
         serves_fault line.Read requests source = serves_failed requests source
         serves_fault line.Total requests source = serves_total requests source
         serves_fault line.TooLong requests source = absurd requests.counts

@@ -8,9 +8,9 @@ use Rattle.road_network.specs.Network.{Network}
 use Rattle.arc_graph.specs.Graph.{network}
 use Rattle.arc_graph.specs.History.{History, ends_closed, epoch_after, sets, sets_of, IsHistory}
 use Rattle.arc_graph.proofs.HistoryLemmas.{epoch_earlier, sets_of_both}
-use Rattle.answer_writer.specs.declared.form.Form.{Form}
+use Rattle.road_network.specs.declared.query.AnswerKind.{AnswerKind}
+use Rattle.road_network.specs.declared.query.Query.{Query}
 use Rattle.query_replies.specs.Queries.{RepliesToQuery}
-use Rattle.query_replies.specs.declared.asked.Asked.{Asked}
 use Rattle.epoch_store.specs.Origin.{Origin, arcs_of, criteria_of, last_number}
 use Rattle.epoch_store.proofs.ClosedLemmas.{no_further}
 use Rattle.epoch_store.proofs.PrefixLemmas.{prefix_trans}
@@ -18,7 +18,7 @@ use Rattle.session_requests.specs.declared.line.Line.{Line}
 use Rattle.session_requests.specs.declared.line.Line.TheVariants as line
 use Rattle.session_requests.specs.declared.session.SessionRequest.{SessionRequest}
 use Rattle.session_requests.specs.declared.session.SessionRequest.TheVariants as asks
-use Rattle.session_core.specs.Told.{Told, numbers_told}
+use Rattle.session_core.specs.Exchanges.{Exchange, numbers_named}
 use Rattle.session_core.specs.Sessions.{EndsWait, IsReplied, RepliesAt, RepliesTo, RepliesToLine, Scene, SessionRun, closed_reply, network_at}
 
 -- a longer history has at least as many sets
@@ -38,11 +38,11 @@ network_stays scene h g k begins upto =
     let grown = ap (λ (later : History). epoch_after scene.origin.base later (k - scene.origin.first)) begins.1 in
     ap (network scene.graph) (sym same ∙ grown)
 
-reply_at_stays : (scene : Scene) (h g : History) (k s t : ℕ) (form : Form) (text : List ℕ) → IsPrefix h g → k ≤ last_number scene.origin h
-    → RepliesAt scene h k s t form text → RepliesAt scene g k s t form text
-reply_at_stays scene h g k s t form text begins upto is =
-    let asked : Asked = record { from = s; to = t; budget = scene.budget; form = form } in
-    (is.0, subst (λ (net : Network). RepliesToQuery net k asked is.0 text) (network_stays scene h g k begins upto) is.1)
+reply_at_stays : (scene : Scene) (h g : History) (k : ℕ) (kind : AnswerKind) (s t : ℕ) (limit : Option (List (Option ℕ))) (text : List ℕ)
+    → IsPrefix h g → k ≤ last_number scene.origin h → RepliesAt scene h k kind s t limit text → RepliesAt scene g k kind s t limit text
+reply_at_stays scene h g k kind s t limit text begins upto is =
+    let query : Query = record { from = s; to = t; limit = limit; budget = scene.budget } in
+    (is.0, subst (λ (net : Network). RepliesToQuery net k kind query is.0 text) (network_stays scene h g k begins upto) is.1)
 
 -- a wait that ended closed has seen the whole history
 wait_stays : (scene : Scene) (h g : History) (k e : ℕ) (text : List ℕ) → IsPrefix h g → IsHistory (arcs_of scene.origin) (criteria_of scene.origin) g
@@ -55,9 +55,9 @@ wait_stays scene h g k e text begins allowed (inr ended) =
 
 reply_stays : (scene : Scene) (h g : History) (k : ℕ) (r : SessionRequest) (text : List ℕ) → IsPrefix h g → IsHistory (arcs_of scene.origin) (criteria_of scene.origin) g
     → k ≤ last_number scene.origin h → RepliesTo scene h k r text → RepliesTo scene g k r text
-reply_stays scene h g k (asks.Costs s t) text begins allowed upto is = reply_at_stays scene h g k s t _ text begins upto is
-reply_stays scene h g k (asks.Walks s t) text begins allowed upto is = reply_at_stays scene h g k s t _ text begins upto is
-reply_stays scene h g k (asks.Within s t limit) text begins allowed upto is = reply_at_stays scene h g k s t _ text begins upto is
+reply_stays scene h g k (asks.Costs s t) text begins allowed upto is = reply_at_stays scene h g k _ s t _ text begins upto is
+reply_stays scene h g k (asks.Walks s t) text begins allowed upto is = reply_at_stays scene h g k _ s t _ text begins upto is
+reply_stays scene h g k (asks.Within s t limit) text begins allowed upto is = reply_at_stays scene h g k _ s t _ text begins upto is
 reply_stays scene h g k (asks.Wait e) text begins allowed upto is = wait_stays scene h g k e text begins allowed is
 reply_stays scene h g k asks.Epoch text begins allowed upto is = is
 reply_stays scene h g k asks.Bye text begins allowed upto is = is
@@ -71,28 +71,28 @@ line_stays scene h g (line.Request r) (Some k) text begins allowed upto is = rep
 line_stays scene h g (line.Request r) None text begins allowed upto is = is
 
 -- a reply of a line is as true of a longer history
-told_stays : (scene : Scene) (h g : History) (t : Told) → IsPrefix h g → IsHistory (arcs_of scene.origin) (criteria_of scene.origin) g
+exchange_stays : (scene : Scene) (h g : History) (t : Exchange) → IsPrefix h g → IsHistory (arcs_of scene.origin) (criteria_of scene.origin) g
     → ((k : ℕ) → t.named ≡ Some k → k ≤ last_number scene.origin h) → IsReplied scene h t → IsReplied scene g t
-told_stays scene h g t begins allowed upto is = record {
+exchange_stays scene h g t begins allowed upto is = record {
   what = is.what;
   is = is.is;
   replied = line_stays scene h g is.what t.named t.reply begins allowed upto is.replied;
 }
 
 -- lines with their replies stay a run where less was seen before and more afterwards
-pub run_stays : (scene : Scene) (g0 h0 h1 g1 : History) (told : List Told) → SessionRun scene h0 h1 told → IsPrefix g0 h0 → IsPrefix h1 g1
-    → IsHistory (arcs_of scene.origin) (criteria_of scene.origin) g1 → SessionRun scene g0 g1 told
-run_stays scene g0 h0 h1 g1 told run before after allowed =
+pub run_stays : (scene : Scene) (g0 h0 h1 g1 : History) (exchanges : List Exchange) → SessionRun scene h0 h1 exchanges → IsPrefix g0 h0 → IsPrefix h1 g1
+    → IsHistory (arcs_of scene.origin) (criteria_of scene.origin) g1 → SessionRun scene g0 g1 exchanges
+run_stays scene g0 h0 h1 g1 exchanges run before after allowed =
     let less = last_grows scene.origin g0 h0 before in
     let more = last_grows scene.origin h1 g1 after in record {
       begins = prefix_trans g0 h0 g1 before (prefix_trans h0 h1 g1 run.begins after);
-      each = all_from_in (IsReplied scene g1) told (λ t there.
-          told_stays scene h1 g1 t after allowed
+      each = all_from_in (IsReplied scene g1) exchanges (λ t there.
+          exchange_stays scene h1 g1 t after allowed
           (λ k named.
-          let in_all = in_filter_map (λ (u : Told). u.named) told t k there named in
-          each_in (λ n. n ≤ last_number scene.origin h1) (numbers_told told) run.below k in_all)
-          (each_in (IsReplied scene h1) told run.each t there));
+          let in_all = in_filter_map (λ (u : Exchange). u.named) exchanges t k there named in
+          each_in (λ n. n ≤ last_number scene.origin h1) (numbers_named exchanges) run.below k in_all)
+          (each_in (IsReplied scene h1) exchanges run.each t there));
       ascending = run.ascending;
-      above = All-weaker (λ n. last_number scene.origin h0 ≤ n) (λ n. last_number scene.origin g0 ≤ n) (λ n above. omega arith) (numbers_told told) run.above;
-      below = All-weaker (λ n. n ≤ last_number scene.origin h1) (λ n. n ≤ last_number scene.origin g1) (λ n below. omega arith) (numbers_told told) run.below;
+      above = All-weaker (λ n. last_number scene.origin h0 ≤ n) (λ n. last_number scene.origin g0 ≤ n) (λ n above. omega arith) (numbers_named exchanges) run.above;
+      below = All-weaker (λ n. n ≤ last_number scene.origin h1) (λ n. n ≤ last_number scene.origin g1) (λ n below. omega arith) (numbers_named exchanges) run.below;
     }

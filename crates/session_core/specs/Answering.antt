@@ -11,18 +11,16 @@ use Rattle.query_replies.specs.declared.fault.ReplyFault.TheVariants as fault
 use Rattle.epoch_store.specs.Origin.{Origin, IsPublishedIn, last_number}
 use Rattle.session_requests.specs.declared.session.SessionRequest.{SessionRequest}
 use Rattle.session_requests.specs.declared.session.SessionRequest.TheVariants as asks
-use Rattle.session_core.specs.declared.party.Answered.{Answered}
-use Rattle.session_core.specs.declared.party.Answered.TheVariants.{Replied}
+use Rattle.session_core.specs.declared.handler.Answered.{Answered}
+use Rattle.session_core.specs.declared.handler.Answered.TheVariants.{Replied}
 use Rattle.session_core.specs.Sessions.{RepliesTo, Scene, Session}
 
 -- a scene by its parts
 abbrev pub scene_of : Graph → Origin → ℕ → Scene
 scene_of graph o budget = record { graph = graph; origin = o; budget = budget }
 
--- So many workers can search for every query of a session over this scene.
-pub record CanSearch (workers : ℕ) (scene : Scene) : Type 0 where
-  pub at_least_one : 1 ≤ workers
-  pub at_most_64 : workers ≤ 64
+-- Every query of a session over this scene can be searched.
+pub record CanSearch (scene : Scene) : Type 0 where
   pub weights : Match scene.graph scene.origin.base
   pub budget : scene.budget ≤ max_budget
 

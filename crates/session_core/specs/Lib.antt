@@ -1,9 +1,9 @@
 pub mod Lines
-pub mod Told
+pub mod Exchanges
 pub mod Links
 pub mod Sessions
 pub mod Operators
 pub mod OperatorReplies
-pub mod Parties
+pub mod Handlers
 pub mod Answering
 pub mod Serving

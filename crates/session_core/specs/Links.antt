@@ -8,7 +8,7 @@ use Rattle.line_text.specs.Lines.{lines_of}
 use Rattle.session_core.specs.declared.end.SessionEnd.{SessionEnd}
 use Rattle.session_core.specs.declared.end.SessionEnd.TheVariants.{Ended, ReadFault, WriteFault, TooLong, OutOfMemory}
 use Rattle.session_core.specs.Lines.{ended_lines}
-use Rattle.session_core.specs.Told.{Told, lines_told, text_told}
+use Rattle.session_core.specs.Exchanges.{Exchange, lines_exchanged, text_exchanged}
 
 -- the test that a session ended so
 abbrev pub is_read_fault : SessionEnd → Bool
@@ -39,12 +39,11 @@ pub record EndsByBye (IsBye : List ℕ → Type 0) (total : ℕ) (taken : List �
   pub first : AreFirst total taken left (lines ++ bye ∷ [])
 
 -- which lines were begun, by how the session ended: those of the input, or those that an LF ends in what was taken, or,
--- where a reply was cut or memory ran out, the first ones; where a read failed behind the input, all of them
+-- where a reply was cut or memory ran out, the first ones
 abbrev pub Begins : (List ℕ → Type 0) → ℕ → List ℕ → Option (List ℕ) → SessionEnd → List (List ℕ) → Type 0
 Begins IsBye total taken left Ended lines =
     EndsByBye IsBye total taken left lines ⊎ (IsAll total taken left × (lines ≡ lines_of taken))
-Begins IsBye total taken left ReadFault lines =
-    (length taken < total) × ((lines ≡ ended_lines taken) ⊎ (IsAtEnd left × (lines ≡ lines_of taken)))
+Begins IsBye total taken left ReadFault lines = (length taken < total) × (lines ≡ ended_lines taken)
 Begins IsBye total taken left TooLong lines = (length taken ≡ total) × (lines ≡ ended_lines taken)
 Begins IsBye total taken left WriteFault lines = AreFirst total taken left lines
 Begins IsBye total taken left OutOfMemory lines = AreFirst total taken left lines
@@ -58,35 +57,35 @@ pub record TakesLines (IsBye : List ℕ → Type 0) (total : ℕ) (before after 
   pub begun : Begins IsBye total taken after end lines
 
 -- All replies were sent but for the last one, of which a part from the front was, short of the whole.
-pub record CutsLast (old new : SinkState) (told : List Told) : Type 0 where
-  pub front : List Told
-  pub last : Told
-  pub parts : told ≡ front ++ last ∷ []
+pub record CutsLast (old new : SinkState) (exchanges : List Exchange) : Type 0 where
+  pub front : List Exchange
+  pub last : Exchange
+  pub parts : exchanges ≡ front ++ last ∷ []
   pub size : ℕ
   pub short : size < length last.reply
-  pub sent : Appends old.sent new.sent (text_told front ++ take size last.reply)
+  pub sent : Appends old.sent new.sent (text_exchanged front ++ take size last.reply)
 
 -- what was sent, by how the session ended and whether the sink itself wanted memory
-abbrev pub SendsReplies : SessionEnd → Bool → SinkState → SinkState → List Told → Type 0
-SendsReplies WriteFault wanted old new told = CutsLast old new told
-SendsReplies OutOfMemory true old new told = CutsLast old new told
-SendsReplies end wanted old new told = Appends old.sent new.sent (text_told told)
+abbrev pub SendsReplies : SessionEnd → Bool → SinkState → SinkState → List Exchange → Type 0
+SendsReplies WriteFault wanted old new exchanges = CutsLast old new exchanges
+SendsReplies OutOfMemory true old new exchanges = CutsLast old new exchanges
+SendsReplies end wanted old new exchanges = Appends old.sent new.sent (text_exchanged exchanges)
 
--- Lines that come from a link were replied to on it, one after another, until the session ended so. `Runs` says how lines
+-- Lines that come from a link were replied to on it, one after another, until the session ended so. `Progresses` says how lines
 -- with their replies led on, `IsBye` which line ends a session, and at most `total` bytes were taken.
-pub record Serves {State : Type 0} (Runs : State → List Told → State → Type 0) (IsBye : List ℕ → Type 0) (total : ℕ)
+pub record Serves {State : Type 0} (Progresses : State → List Exchange → State → Type 0) (IsBye : List ℕ → Type 0) (total : ℕ)
     (old new : State) (from after : SourceState) (to replied : SinkState) (end : SessionEnd) : Type 0 where
   -- the lines that were begun, with their replies
-  pub told : List Told
-  pub runs : Runs old told new
+  pub exchanges : List Exchange
+  pub runs : Progresses old exchanges new
   -- each of them took a byte at least
-  pub each : length told ≤ total
+  pub each : length exchanges ≤ total
   -- where the source tells its bytes, they are the lines of those that were taken
-  pub lines : IfSome from.left (λ _. TakesLines IsBye total from.left after.left end (lines_told told))
+  pub lines : IfSome from.left (λ _. TakesLines IsBye total from.left after.left end (lines_exchanged exchanges))
   -- whether the sink itself wanted memory
   pub wanted : Bool
   pub wants : wanted ≡ true → end ≡ OutOfMemory
-  pub sent : SendsReplies end wanted to replied told
+  pub sent : SendsReplies end wanted to replied exchanges
   -- the source's failures alone make a read fault, and those of the sink a write fault
   pub reads : ReadsFrom from after (is_read_fault end)
   pub writes : WritesTo to replied (is_write_fault end) wanted

@@ -9,20 +9,14 @@ use Rattle.session_requests.specs.declared.line.Line.{Line}
 use Rattle.session_requests.specs.declared.line.Line.TheVariants as line
 use Rattle.session_requests.specs.declared.operator.OperatorRequest.{OperatorRequest}
 use Rattle.session_requests.specs.declared.operator.OperatorRequest.TheVariants as asks
-use Rattle.session_core.specs.declared.operator_reply.Heeded.{Heeded}
-use Rattle.session_core.specs.declared.operator_reply.Heeded.TheVariants as heeded
+use Rattle.session_core.specs.declared.operator_reply.Applied.{Applied}
+use Rattle.session_core.specs.declared.operator_reply.Applied.TheVariants as applied
 use Rattle.session_core.specs.declared.operator_reply.OperatorReply.{OperatorReply}
 use Rattle.session_core.specs.declared.operator_reply.OperatorReply.TheVariants.{Done, Epoch, Refused}
 use Rattle.session_core.specs.declared.operator_reply.Refusal.{Refusal}
 use Rattle.session_core.specs.declared.operator_reply.Refusal.TheVariants.{Arc, Full, Last, Line as NoRequest, Zero}
 use Rattle.session_core.specs.Operators.{Obeys, ObeysLine, ok_reply}
 use Rattle.session_core.specs.Sessions.{epoch_reply}
-
--- The store has this number of criteria, and it is one that there may be.
-pub record AreCriteria (o : Origin) (criteria : ℕ) : Type 0 where
-  pub same : criteria ≡ criteria_of o
-  pub two : min_criteria ≤ criteria
-  pub four : criteria ≤ max_criteria
 
 -- a request's weight has a component for each criterion
 abbrev pub WeighsAs : ℕ → Line OperatorRequest → Type 0
@@ -52,7 +46,7 @@ abbrev pub ObeysBy : Origin → OperatorRequest → Operator → OperatorReply �
 ObeysBy o r old reply new = Obeys o r old (reply_text reply) new
 
 -- what a line comes to: a reply, none to a blank one, or the end of the session, which changes nothing
-abbrev pub Heeds : Origin → Line OperatorRequest → Operator → Heeded → Operator → Type 0
-Heeds o what old heeded.Silent new = ObeysLine o what old [] new
-Heeds o what old (heeded.Says reply) new = ObeysLine o what old (reply_text reply) new
-Heeds o what old heeded.Ends new = (what ≡ line.Request asks.Bye) × (new ≡ old)
+abbrev pub Applies : Origin → Line OperatorRequest → Operator → Applied → Operator → Type 0
+Applies o what old applied.Silent new = ObeysLine o what old [] new
+Applies o what old (applied.Says reply) new = ObeysLine o what old (reply_text reply) new
+Applies o what old applied.Ends new = (what ≡ line.Request asks.Bye) × (new ≡ old)

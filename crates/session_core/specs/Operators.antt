@@ -16,7 +16,7 @@ use Rattle.session_requests.specs.declared.operator.OperatorRequest.{OperatorReq
 use Rattle.session_requests.specs.declared.operator.OperatorRequest.TheVariants as asks
 use Rattle.session_core.specs.Lines.{IsLine}
 use Rattle.session_core.specs.Sessions.{epoch_reply, line_refusal}
-use Rattle.session_core.specs.Told.{Told}
+use Rattle.session_core.specs.Exchanges.{Exchange}
 
 -- `ok`: the request was carried out
 abbrev pub ok_reply : List ℕ
@@ -64,7 +64,7 @@ ObeysLine o line.Other old text new = (new ≡ old) × (text ≡ line_refusal)
 ObeysLine o (line.Request r) old text new = Obeys o r old text new
 
 -- A line of the operator has its reply, and its effect.
-pub record IsObeyed (o : Origin) (old : Operator) (t : Told) (new : Operator) : Type 0 where
+pub record IsObeyed (o : Origin) (old : Operator) (t : Exchange) (new : Operator) : Type 0 where
   pub what : Line OperatorRequest
   pub is : IsLine (AsksOfOperator (criteria_of o)) t.line what
   pub obeyed : ObeysLine o what old t.reply new
@@ -75,9 +75,9 @@ abbrev pub IsOperatorBye : Origin → List ℕ → Type 0
 IsOperatorBye o raw = IsLine (AsksOfOperator (criteria_of o)) raw (line.Request asks.Bye)
 
 -- lines of the operator with their replies, one after another, lead from what was published and pending to what is
-pub data OperatorRun (o : Origin) (old : Operator) : List Told → Operator → Type 0 where
+pub data OperatorRun (o : Origin) (old : Operator) : List Exchange → Operator → Type 0 where
   -- there was no line
   begun : OperatorRun o old [] old
   -- one more line
-  then : {told : List Told} {mid new : Operator} (t : Told) → OperatorRun o old told mid → IsObeyed o mid t new
-      → OperatorRun o old (told ++ t ∷ []) new
+  then : {exchanges : List Exchange} {mid new : Operator} (t : Exchange) → OperatorRun o old exchanges mid → IsObeyed o mid t new
+      → OperatorRun o old (exchanges ++ t ∷ []) new

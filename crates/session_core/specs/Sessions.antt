@@ -5,10 +5,10 @@ use Rattle.road_network.specs.Network.{Network}
 use Rattle.arc_graph.specs.Graph.{Graph, network}
 use Rattle.arc_graph.specs.History.{History, ends_closed, epoch_after}
 use Rattle.answer_writer.specs.Replies.{and_number, end_line}
-use Rattle.answer_writer.specs.declared.form.Form.{Form}
-use Rattle.answer_writer.specs.declared.form.Form.TheVariants as form
+use Rattle.road_network.specs.declared.query.AnswerKind.{AnswerKind}
+use Rattle.road_network.specs.declared.query.AnswerKind.TheVariants.{Costs, Walks}
 use Rattle.query_replies.specs.Queries.{RepliesToQuery}
-use Rattle.query_replies.specs.declared.asked.Reply.{Reply}
+use Rattle.query_replies.specs.declared.reply.Reply.{Reply}
 use Rattle.epoch_store.specs.Origin.{Origin, last_number}
 use Rattle.session_requests.specs.Requests.{AsksOfSession}
 use Rattle.session_requests.specs.declared.line.Line.{Line}
@@ -16,7 +16,7 @@ use Rattle.session_requests.specs.declared.line.Line.TheVariants as line
 use Rattle.session_requests.specs.declared.session.SessionRequest.{SessionRequest}
 use Rattle.session_requests.specs.declared.session.SessionRequest.TheVariants as asks
 use Rattle.session_core.specs.Lines.{IsLine}
-use Rattle.session_core.specs.Told.{Told, numbers_told}
+use Rattle.session_core.specs.Exchanges.{Exchange, numbers_named}
 
 -- what a session stands over: the graph, the store whose epochs it asks of, and the budget of each query
 pub record Scene : Type 0 where
@@ -41,10 +41,10 @@ abbrev pub line_refusal : List ℕ
 line_refusal = codes "x line" ++ end_line
 
 -- the reply to a query is its answer or its refusal, at the epoch of number k
-abbrev pub RepliesAt : Scene → History → ℕ → ℕ → ℕ → Form → List ℕ → Type 0
-RepliesAt scene h k s t form text =
-    (reply : Reply) × RepliesToQuery (network_at scene h k) k
-    (record { from = s; to = t; budget = scene.budget; form = form }) reply text
+abbrev pub RepliesAt : Scene → History → ℕ → AnswerKind → ℕ → ℕ → Option (List (Option ℕ)) → List ℕ → Type 0
+RepliesAt scene h k kind s t limit text =
+    (reply : Reply) × RepliesToQuery (network_at scene h k) k kind
+    (record { from = s; to = t; limit = limit; budget = scene.budget }) reply text
 
 -- the reply to a wait for an epoch of at least the number e: there is one, or there never will be, since k is the last
 abbrev pub EndsWait : Scene → History → ℕ → ℕ → List ℕ → Type 0
@@ -54,9 +54,9 @@ EndsWait scene h k e text =
 
 -- the reply to a request, which names the epoch of number k; to the one that ends the session there is none
 abbrev pub RepliesTo : Scene → History → ℕ → SessionRequest → List ℕ → Type 0
-RepliesTo scene h k (asks.Costs s t) text = RepliesAt scene h k s t form.Costs text
-RepliesTo scene h k (asks.Walks s t) text = RepliesAt scene h k s t form.Walks text
-RepliesTo scene h k (asks.Within s t limit) text = RepliesAt scene h k s t (form.Within limit) text
+RepliesTo scene h k (asks.Costs s t) text = RepliesAt scene h k Costs s t None text
+RepliesTo scene h k (asks.Walks s t) text = RepliesAt scene h k Walks s t None text
+RepliesTo scene h k (asks.Within s t limit) text = RepliesAt scene h k Walks s t (Some limit) text
 RepliesTo scene h k (asks.Wait e) text = EndsWait scene h k e text
 RepliesTo scene h k asks.Epoch text = text ≡ epoch_reply k
 RepliesTo scene h k asks.Bye text = ⊥
@@ -69,7 +69,7 @@ RepliesToLine scene h (line.Request r) (Some k) text = RepliesTo scene h k r tex
 RepliesToLine scene h (line.Request r) None text = ⊥
 
 -- A line of a session has its reply.
-pub record IsReplied (scene : Scene) (h : History) (t : Told) : Type 0 where
+pub record IsReplied (scene : Scene) (h : History) (t : Exchange) : Type 0 where
   pub what : Line SessionRequest
   pub is : IsLine (AsksOfSession scene.graph.criteria) t.line what
   pub replied : RepliesToLine scene h what t.named t.reply
@@ -80,12 +80,12 @@ IsSessionBye scene raw = IsLine (AsksOfSession scene.graph.criteria) raw (line.R
 
 -- Lines of a session with their replies, where it had seen the history h0 before and h1 afterwards. Each reply is true of
 -- the epoch that it names; these are published ones, and never go back.
-pub record SessionRun (scene : Scene) (h0 h1 : History) (told : List Told) : Type 0 where
+pub record SessionRun (scene : Scene) (h0 h1 : History) (exchanges : List Exchange) : Type 0 where
   pub begins : IsPrefix h0 h1
-  pub each : All (IsReplied scene h1) told
-  pub ascending : AllPairs ◌≤◌ (numbers_told told)
-  pub above : All (λ k. last_number scene.origin h0 ≤ k) (numbers_told told)
-  pub below : All (λ k. k ≤ last_number scene.origin h1) (numbers_told told)
+  pub each : All (IsReplied scene h1) exchanges
+  pub ascending : AllPairs ◌≤◌ (numbers_named exchanges)
+  pub above : All (λ k. last_number scene.origin h0 ≤ k) (numbers_named exchanges)
+  pub below : All (λ k. k ≤ last_number scene.origin h1) (numbers_named exchanges)
 
 -- a session: the history that it has seen, and the numbers of the epochs that its replies named
 pub record Session : Type 0 where
@@ -93,6 +93,6 @@ pub record Session : Type 0 where
   pub named : List ℕ
 
 -- Lines with their replies lead a session on: the numbers that they name are added to the others.
-pub record SessionGoes (scene : Scene) (old : Session) (told : List Told) (new : Session) : Type 0 where
-  pub run : SessionRun scene old.seen new.seen told
-  pub named : new.named ≡ old.named ++ numbers_told told
+pub record SessionGoes (scene : Scene) (old : Session) (exchanges : List Exchange) (new : Session) : Type 0 where
+  pub run : SessionRun scene old.seen new.seen exchanges
+  pub named : new.named ≡ old.named ++ numbers_named exchanges

@@ -4,23 +4,21 @@
 //! answers one line.
 #![tactic(auto)]
 
-mod desk;
+mod context;
 mod end;
-mod host;
+mod handler;
 mod laws;
 mod look;
 mod obey;
 mod operator;
 mod operator_reply;
-mod party;
 mod reply;
 mod serve;
 mod session;
 mod short;
 
-pub use desk::Desk;
+pub use context::ServeContext;
 pub use end::SessionEnd;
-pub use host::Host;
 pub use laws::session_runs_stay;
 pub use operator::serve_operator;
 pub use session::Session;

@@ -3,28 +3,29 @@ ghost use Rattle.std.specs.Prelude.{◌≡◌, IfOk, OnErr, length};
 ghost use Rattle.epoch_store.specs.Origin.{criteria_of};
 ghost use Rattle.session_requests.specs.Requests.{WeighsEach};
 ghost use Rattle.session_requests.specs.declared.operator.OperatorRequest.TheVariants as asks;
-ghost use Rattle.session_core.specs.OperatorReplies.{Heeds, ObeysBy, WeighsAs};
+ghost use Rattle.session_core.specs.OperatorReplies.{Applies, ObeysBy, WeighsAs};
 
-use crate::operator_reply::{Heeded, OperatorReply, Refusal};
-use cost_vector::{OutOfMemory, Weight};
+use crate::operator_reply::{Applied, OperatorReply, Refusal};
+use cost_vector::Weight;
 use epoch_store::{Operator, PublishFault, SetFault, ShutFault, Store};
+use out_of_memory::OutOfMemory;
 use session_requests::{Line, OperatorRequest};
 use std::sync::Wait;
 
 /// Does what a line says, before its reply is sent. Nothing changes where memory runs out.
-pub(crate) fn heed<T: Store, R: Wait>(
+pub(crate) fn apply<T: Store, R: Wait>(
     rt: &R,
     operator: &mut Operator<T>,
     line: Line<OperatorRequest>,
-) -> Result<Heeded, OutOfMemory>
+) -> Result<Applied, OutOfMemory>
     requires { WeighsAs (criteria_of T.origin) line }
-    ensures heeds { IfOk result (λ h. Heeds T.origin line operator.old h operator.new) }
+    ensures applies { IfOk result (λ h. Applies T.origin line operator.old h operator.new) }
     ensures unchanged { OnErr result (operator.new ≡ operator.old) }
 {
     match line {
-        Line::Blank => Ok(Heeded::Silent),
+        Line::Blank => Ok(Applied::Silent),
         Line::Request(request) => obey(rt, operator, request),
-        Line::Other => Ok(Heeded::Says(OperatorReply::Refused(Refusal::Line))),
+        Line::Other => Ok(Applied::Says(OperatorReply::Refused(Refusal::Line))),
     }
 }
 
@@ -33,9 +34,9 @@ fn obey<T: Store, R: Wait>(
     rt: &R,
     operator: &mut Operator<T>,
     request: OperatorRequest,
-) -> Result<Heeded, OutOfMemory>
+) -> Result<Applied, OutOfMemory>
     requires { WeighsEach (criteria_of T.origin) request }
-    ensures heeds { IfOk result (λ h. Heeds T.origin (Line.Request request)
+    ensures applies { IfOk result (λ h. Applies T.origin (Line.Request request)
         operator.old h operator.new) }
     ensures unchanged { OnErr result (operator.new ≡ operator.old) }
 {
@@ -44,9 +45,9 @@ fn obey<T: Store, R: Wait>(
         OperatorRequest::Shut { arc } => shut(operator, arc)?,
         OperatorRequest::Drop => give_up(operator),
         OperatorRequest::Publish => publish(rt, operator)?,
-        OperatorRequest::Bye => return Ok(Heeded::Ends),
+        OperatorRequest::Bye => return Ok(Applied::Ends),
     };
-    Ok(Heeded::Says(reply))
+    Ok(Applied::Says(reply))
 }
 
 /// Gives an arc weights with the next epoch.

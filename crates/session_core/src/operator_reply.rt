@@ -9,7 +9,7 @@ use route_io::{Sink, WriteFault};
 
 /// What a line of an operator comes to.
 #[derive(Clone, Copy)]
-pub(crate) enum Heeded {
+pub(crate) enum Applied {
     /// It is blank, and gets no reply.
     Silent,
     Says(OperatorReply),

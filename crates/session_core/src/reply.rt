@@ -1,27 +1,28 @@
 //! Replies to requests at the last epoch that was seen.
-ghost use Rattle.std.specs.Prelude.{◌≡◌, ◌≢◌, ◌≤◌, length};
-ghost use Rattle.road_network.specs.Limits.{max_budget};
+ghost use Rattle.std.specs.Prelude.{◌≡◌, ◌≢◌};
+ghost use Rattle.road_network.specs.Queries.{IsAsked};
 ghost use Rattle.arc_graph.specs.Graph.{Match, network};
-ghost use Rattle.answer_writer.specs.Forms.{limit_of};
 ghost use Rattle.epoch_store.specs.Origin.{last_number};
 ghost use Rattle.query_replies.specs.Queries.{RepliesToQuery};
-ghost use Rattle.query_replies.specs.declared.asked.Reply.{Reply};
+ghost use Rattle.query_replies.specs.declared.reply.Reply.{Reply};
 ghost use Rattle.session_requests.specs.Requests.{LimitsEach};
 ghost use Rattle.session_requests.specs.declared.session.SessionRequest.TheVariants as asks;
 ghost use Rattle.session_core.specs.Answering.{CanSearch, MayReply, RepliesOneOf, scene_of};
 ghost use Rattle.session_core.specs.Sessions.{RepliesTo};
 
-use crate::host::Host;
+use crate::context::ServeContext;
 use crate::short::{put_closed, put_epoch};
-use answer_writer::Form;
+use arc_graph::Network;
+use cost_vector::Limit;
 use epoch_store::{EpochReader, Snapshot, Store};
 use path_readback::Room;
-use query_replies::{Answerer, Asked, ReplyFault};
+use query_replies::{Answerer, ReplyFault};
+use road_network::{AnswerKind, Query};
 use route_io::{Gate, Sink};
 use session_requests::SessionRequest;
 use std::thread::Threads;
 
-impl<R: Threads + Sync, G: Gate> Host<'_, R, G> {
+impl<R: Threads + Sync, G: Gate> ServeContext<'_, R, G> {
     /// Sends the reply to a request at the last epoch that was seen.
     pub(crate) fn reply<T: Store, K: Sink>(
         &self,
@@ -30,8 +31,7 @@ impl<R: Threads + Sync, G: Gate> Host<'_, R, G> {
         room: &mut Room,
         out: &mut K,
     ) -> Result<(), ReplyFault>
-        requires search { CanSearch self.now.crew.now.workers
-            (scene_of self.now.graph.now T.origin self.now.budget) }
+        requires search { CanSearch (scene_of self.now.graph.now T.origin self.now.budget) }
         requires limit { LimitsEach self.now.graph.now.criteria request.now }
         requires no_bye { request.now ≢ asks.Bye }
         requires come { MayReply T.origin reader.now request.now }
@@ -42,13 +42,16 @@ impl<R: Threads + Sync, G: Gate> Host<'_, R, G> {
         let last = reader.snapshot();
         match *request {
             SessionRequest::Costs { from, to } => {
-                self.search(last, from, to, Form::Costs, room, out)
+                let query = self.query(from, to, None);
+                self.search(last, AnswerKind::Costs, &query, room, out)
             }
             SessionRequest::Walks { from, to } => {
-                self.search(last, from, to, Form::Walks, room, out)
+                let query = self.query(from, to, None);
+                self.search(last, AnswerKind::Walks, &query, room, out)
             }
             SessionRequest::Within { from, to, limit } => {
-                self.search(last, from, to, Form::Within { limit }, room, out)
+                let query = self.query(from, to, Some(limit));
+                self.search(last, AnswerKind::Walks, &query, room, out)
             }
             SessionRequest::Wait { epoch } => {
                 if last.number < epoch {
@@ -66,40 +69,41 @@ impl<R: Threads + Sync, G: Gate> Host<'_, R, G> {
         }
     }
 
+    /// A query by the budget of each.
+    fn query(&self, from: u32, to: u32, limit: Option<Limit>) -> Query
+        ensures { result ≡ record { from = from; to = to; limit = limit; budget = self.now.budget } }
+    {
+        let budget = self.budget;
+        Query {
+            from,
+            to,
+            limit,
+            budget,
+        }
+    }
+
     /// Sends the reply to a query at an epoch.
     fn search<K: Sink>(
         &self,
         last: &Snapshot,
-        from: u32,
-        to: u32,
-        form: Form,
+        kind: AnswerKind,
+        query: &Query,
         room: &mut Room,
         out: &mut K,
     ) -> Result<(), ReplyFault>
-        requires at_least_one { 1 ≤ self.now.crew.now.workers }
-        requires at_most_64 { self.now.crew.now.workers ≤ 64 }
         requires weights { Match self.now.graph.now last.now.weights }
-        requires limit { length (limit_of self.now.graph.now.criteria form)
-            ≡ self.now.graph.now.criteria }
-        requires budget { self.now.budget ≤ max_budget }
+        requires query { IsAsked self.now.graph.now.criteria query.now }
         ensures { RepliesOneOf (λ text. (reply : Reply)
-            × RepliesToQuery (network self.now.graph.now last.now.weights) last.now.number
-            (record { from = from; to = to; budget = self.now.budget; form = form }) reply text)
-            (K.state out.old) (K.state out.new) result }
+            × RepliesToQuery (network self.now.graph.now last.now.weights) last.now.number kind
+            query.now reply text) (K.state out.old) (K.state out.new) result }
     {
+        let network = Network::new(self.graph, &last.weights);
         let answerer = Answerer {
-            crew: self.crew,
+            workers: self.workers,
             alloc: self.alloc,
-            graph: self.graph,
-            weights: &last.weights,
+            network: &network,
         };
-        let asked = Asked {
-            from,
-            to,
-            budget: self.budget,
-            form,
-        };
-        answerer.reply(last.number, &asked, room, out)?;
+        answerer.reply(last.number, kind, query, room, out)?;
         Ok(())
     }
 }

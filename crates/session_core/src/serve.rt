@@ -1,5 +1,5 @@
 ghost use Rattle.std.specs.Prelude.{◌≡◌, ◌<◌, ℕ, [], None};
-ghost use Rattle.session_core.specs.Parties.{AnswersEach, IsCallableIn};
+ghost use Rattle.session_core.specs.Handlers.{AnswersEach, IsCallableIn};
 ghost use Rattle.line_text.specs.Reading.{begun};
 ghost use Rattle.route_io.specs.Sinks.{SinkState};
 ghost use Rattle.route_io.specs.Sources.{SourceState};
@@ -8,9 +8,9 @@ ghost use Rattle.session_core.specs.Links.{Serves};
 ghost use Rattle.session_core.specs.Serving.{Served, ServesOne, end_by_answer, end_by_input};
 
 use crate::SessionEnd;
-use crate::party::{Answered, Party};
-use cost_vector::OutOfMemory;
+use crate::handler::{Answered, LineHandler};
 use line_text::{LineFault, LineLimits, Lines, Request};
+use out_of_memory::OutOfMemory;
 use query_replies::ReplyFault;
 use route_io::{Link, Sink, Source, WriteFault};
 use std::alloc::Global;
@@ -18,25 +18,25 @@ use std::alloc::Global;
 /// The most bytes of a request before its LF.
 const MAX_REQUEST: u32 = 1024;
 
-/// Has a party answer the lines that come from a link, on it, until one ends the session, the input ends or so many bytes
+/// Has a handler answer the lines that come from a link, on it, until one ends the session, the input ends or so many bytes
 /// were taken. `answer` answers one line by its text, without its LF and one CR; that of a line too long for a request
 /// doesn't count.
-pub(crate) fn serve<C, P, F, S: Source, K: Sink>(
+pub(crate) fn serve<C, H, F, S: Source, K: Sink>(
     alloc: Global,
-    setting: &C,
-    party: &mut P,
+    context: &C,
+    handler: &mut H,
     link: &mut Link<S, K>,
     bytes: u64,
     answer: &F,
 ) -> SessionEnd
 where
-    P: Party<C>,
-    F: Fn(&C, &mut P, Request, &[u8], &mut K) -> Result<Answered, ReplyFault>,
-    requires callable { IsCallableIn P.ready (F.pre answer.now) }
-    requires answers { AnswersEach P.runs P.bye K.state (F.post answer.now) }
-    requires ready { P.ready setting.now }
-    requires begun { P.runs setting.now party.old [] party.old }
-    ensures { Serves (P.runs setting.now) (P.bye setting.now) bytes party.old party.new
+    H: LineHandler<C>,
+    F: Fn(&C, &mut H, Request, &[u8], &mut K) -> Result<Answered, ReplyFault>,
+    requires callable { IsCallableIn H.ready (F.pre answer.now) }
+    requires answers { AnswersEach H.runs H.bye K.state (F.post answer.now) }
+    requires ready { H.ready context.now }
+    requires begun { H.runs context.now handler.old [] handler.old }
+    ensures { Serves (H.runs context.now) (H.bye context.now) bytes handler.old handler.new
         (S.state link.old.from) (S.state link.new.from)
         (K.state link.old.to) (K.state link.new.to) result }
 {
@@ -45,59 +45,59 @@ where
         total: bytes,
     };
     match Lines::new(alloc, limits) {
-        Ok(mut lines) => serve_lines(setting, party, link, &mut lines, answer),
+        Ok(mut lines) => serve_lines(context, handler, link, &mut lines, answer),
         Err(OutOfMemory) => SessionEnd::OutOfMemory,
     }
 }
 
-/// Has a party answer line after line. The next one is read only when the reply to the last one was sent.
-fn serve_lines<C, P, F, S: Source, K: Sink>(
-    setting: &C,
-    party: &mut P,
+/// Has a handler answer line after line. The next one is read only when the reply to the last one was sent.
+fn serve_lines<C, H, F, S: Source, K: Sink>(
+    context: &C,
+    handler: &mut H,
     link: &mut Link<S, K>,
     lines: &mut Lines,
     answer: &F,
 ) -> SessionEnd
 where
-    P: Party<C>,
-    F: Fn(&C, &mut P, Request, &[u8], &mut K) -> Result<Answered, ReplyFault>,
-    requires callable { IsCallableIn P.ready (F.pre answer.now) }
-    requires answers { AnswersEach P.runs P.bye K.state (F.post answer.now) }
-    requires ready { P.ready setting.now }
-    requires begun { P.runs setting.now party.old [] party.old }
+    H: LineHandler<C>,
+    F: Fn(&C, &mut H, Request, &[u8], &mut K) -> Result<Answered, ReplyFault>,
+    requires callable { IsCallableIn H.ready (F.pre answer.now) }
+    requires answers { AnswersEach H.runs H.bye K.state (F.post answer.now) }
+    requires ready { H.ready context.now }
+    requires begun { H.runs context.now handler.old [] handler.old }
     requires lines { lines.old
         ≡ begun (record { line = max_request; total = lines.old.limits.total }) }
-    ensures { Serves (P.runs setting.now) (P.bye setting.now) lines.old.limits.total
-        party.old party.new
+    ensures { Serves (H.runs context.now) (H.bye context.now) lines.old.limits.total
+        handler.old handler.new
         (S.state link.old.from) (S.state link.new.from)
         (K.state link.old.to) (K.state link.new.to) result }
 {
     'lines: loop {
-        if let Some(end) = serve_line(setting, party, link, lines, answer) {
+        if let Some(end) = serve_line(context, handler, link, lines, answer) {
             return end;
         }
     }
 }
 
-/// Has a party answer the next line, and answers how that ends the session, if it does.
-fn serve_line<C, P, F, S: Source, K: Sink>(
-    setting: &C,
-    party: &mut P,
+/// Has a handler answer the next line, and answers how that ends the session, if it does.
+fn serve_line<C, H, F, S: Source, K: Sink>(
+    context: &C,
+    handler: &mut H,
     link: &mut Link<S, K>,
     lines: &mut Lines,
     answer: &F,
 ) -> Option<SessionEnd>
 where
-    P: Party<C>,
-    F: Fn(&C, &mut P, Request, &[u8], &mut K) -> Result<Answered, ReplyFault>,
-    requires callable { IsCallableIn P.ready (F.pre answer.now) }
-    requires answers { AnswersEach P.runs P.bye K.state (F.post answer.now) }
-    requires ready { P.ready setting.now }
+    H: LineHandler<C>,
+    F: Fn(&C, &mut H, Request, &[u8], &mut K) -> Result<Answered, ReplyFault>,
+    requires callable { IsCallableIn H.ready (F.pre answer.now) }
+    requires answers { AnswersEach H.runs H.bye K.state (F.post answer.now) }
+    requires ready { H.ready context.now }
     requires goes_on { lines.old.fault ≡ None }
-    ensures serves { (total : ℕ) (first : P) (from : SourceState) (to : SinkState)
-        → Served (P.runs setting.now) total first party.old
+    ensures serves { (total : ℕ) (first : H) (from : SourceState) (to : SinkState)
+        → Served (H.runs context.now) total first handler.old
         from (S.state link.old.from) to (K.state link.old.to) lines.old
-        → ServesOne (P.runs setting.now) (P.bye setting.now) total first party.new
+        → ServesOne (H.runs context.now) (H.bye context.now) total first handler.new
         from (S.state link.new.from) to (K.state link.new.to) lines.new result }
     ensures takes_some { result ≡ None → lines.old.passed < lines.new.passed }
 {
@@ -106,7 +106,7 @@ where
         Ok(None) => return Some(SessionEnd::Ended),
         Err(fault) => return Some(end_by_input(fault)),
     };
-    end_by_answer(answer(setting, party, kind, lines.text(), &mut link.to))
+    end_by_answer(answer(context, handler, kind, lines.text(), &mut link.to))
 }
 
 /// How a session ends where there is no next line.

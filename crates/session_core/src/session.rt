@@ -11,19 +11,19 @@ ghost use Rattle.session_requests.specs.declared.session.SessionRequest.TheVaria
 ghost use Rattle.session_core.specs.Answering.{answer_by, AnswersRequest, CanSearch, scene_of};
 ghost use Rattle.session_core.specs.Lines.{IsLine, IsText};
 ghost use Rattle.session_core.specs.Links.{Serves};
-ghost use Rattle.session_core.specs.Parties.{AnswersLine};
-ghost use Rattle.session_core.specs.Told.{Told};
+ghost use Rattle.session_core.specs.Handlers.{AnswersLine};
+ghost use Rattle.session_core.specs.Exchanges.{Exchange};
 ghost use Rattle.session_core.specs.Sessions.{IsSessionBye, Session as Kept, SessionGoes};
 
+use crate::context::ServeContext;
 use crate::end::SessionEnd;
-use crate::host::Host;
+use crate::handler::{Answered, LineHandler};
 use crate::look::look_for;
-use crate::party::{Answered, Party};
 use crate::serve::serve;
 use crate::short::refuse_line;
-use cost_vector::OutOfMemory;
 use epoch_store::{Ended, EpochReader, Store};
 use line_text::Request;
+use out_of_memory::OutOfMemory;
 use path_readback::Room;
 use query_replies::ReplyFault;
 use route_io::{Gate, Link, Sink, Source};
@@ -32,6 +32,7 @@ use std::alloc::Global;
 use std::marker::Model;
 use std::sync::Wait;
 use std::thread::Threads;
+use std::time::Clock;
 
 /// A session lane: a reader of the store, and the numbers of the epochs that its replies have named. Links are served one
 /// after another.
@@ -50,16 +51,15 @@ impl<T: Store> Model for Session<T> {
     ghost view = { λ s. record { seen = s.reader; named = s.named.items } };
 }
 
-impl<T: Store, R, G> Party<Host<'_, R, G>> for Session<T> {
+impl<T: Store, R, G> LineHandler<ServeContext<'_, R, G>> for Session<T> {
     ghost use Rattle.session_core.specs.Answering.{CanSearch, scene_of};
     ghost use Rattle.session_core.specs.Sessions.{IsSessionBye, SessionGoes};
 
-    ghost ready = { λ host. CanSearch host.crew.now.workers
-        (scene_of host.graph.now T.origin host.budget) };
+    ghost ready = { λ context. CanSearch (scene_of context.graph.now T.origin context.budget) };
 
-    ghost runs = { λ host. SessionGoes (scene_of host.graph.now T.origin host.budget) };
+    ghost runs = { λ context. SessionGoes (scene_of context.graph.now T.origin context.budget) };
 
-    ghost bye = { λ host. IsSessionBye (scene_of host.graph.now T.origin host.budget) };
+    ghost bye = { λ context. IsSessionBye (scene_of context.graph.now T.origin context.budget) };
 }
 
 /// Reads a line of a session by its text.
@@ -113,84 +113,83 @@ impl<T: Store> Session<T> {
     }
 
     /// Serves a link. The numbers that its replies name are added to those of before.
-    pub fn serve<R: Threads + Wait + Sync, G: Gate, S: Source, K: Sink>(
+    pub fn serve<R: Threads + Wait + Clock + Sync, G: Gate, S: Source, K: Sink>(
         &mut self,
-        host: &Host<'_, R, G>,
+        context: &ServeContext<'_, R, G>,
         link: &mut Link<S, K>,
     ) -> SessionEnd
-        requires at_least_one { 1 ≤ host.now.crew.now.workers }
-        requires at_most_64 { host.now.crew.now.workers ≤ 64 }
-        requires weights { Match host.now.graph.now T.origin.base }
-        requires budget { host.now.budget ≤ max_budget }
+        requires weights { Match context.now.graph.now T.origin.base }
+        requires budget { context.now.budget ≤ max_budget }
         ensures { Serves
             (SessionGoes (record {
-              graph = host.now.graph.now;
+              graph = context.now.graph.now;
               origin = T.origin;
-              budget = host.now.budget;
+              budget = context.now.budget;
             }))
             (IsSessionBye (record {
-              graph = host.now.graph.now;
+              graph = context.now.graph.now;
               origin = T.origin;
-              budget = host.now.budget;
+              budget = context.now.budget;
             }))
-            host.now.bytes self.old self.new
+            context.now.bytes self.old self.new
             (S.state link.old.from) (S.state link.new.from)
             (K.state link.old.to) (K.state link.new.to) result }
     {
-        let answer = |host: &Host<'_, R, G>, session: &mut Self, kind, text: &[u8], to: &mut K|
-            requires { CanSearch host.now.crew.now.workers
-                (scene_of host.now.graph.now T.origin host.now.budget) }
-        { session.answer(host, kind, text, to) };
-        serve(host.alloc, host, self, link, host.bytes, &answer)
+        let answer = |context: &ServeContext<
+            '_,
+            R,
+            G,
+        >, session: &mut Self, kind, text: &[u8], to: &mut K|
+            requires { CanSearch (scene_of context.now.graph.now T.origin context.now.budget) }
+        { session.answer(context, kind, text, to) };
+        serve(context.alloc, context, self, link, context.bytes, &answer)
     }
 
     /// Answers a line by its text, without its LF and one CR; that of a line too long for a request doesn't count. All
     /// memory is taken before the first byte of the reply.
-    fn answer<R: Threads + Wait + Sync, G: Gate, K: Sink>(
+    fn answer<R: Threads + Wait + Clock + Sync, G: Gate, K: Sink>(
         &mut self,
-        host: &Host<'_, R, G>,
+        context: &ServeContext<'_, R, G>,
         kind: Request,
         text: &[u8],
         to: &mut K,
     ) -> Result<Answered, ReplyFault>
-        requires { CanSearch host.now.crew.now.workers
-            (scene_of host.now.graph.now T.origin host.now.budget) }
-        ensures { (first : Kept) (told : List Told) (raw : List ℕ) → IsText kind text.now raw
-            → SessionGoes (scene_of host.now.graph.now T.origin host.now.budget) first told self.old
+        requires { CanSearch (scene_of context.now.graph.now T.origin context.now.budget) }
+        ensures { (first : Kept) (exchanges : List Exchange) (raw : List ℕ) → IsText kind text.now raw
+            → SessionGoes (scene_of context.now.graph.now T.origin context.now.budget) first exchanges self.old
             → AnswersLine
             (λ more. SessionGoes
-            (scene_of host.now.graph.now T.origin host.now.budget) first more self.new)
-            (IsSessionBye (scene_of host.now.graph.now T.origin host.now.budget))
-            told raw (K.state to.old) (K.state to.new) result }
+            (scene_of context.now.graph.now T.origin context.now.budget) first more self.new)
+            (IsSessionBye (scene_of context.now.graph.now T.origin context.now.budget))
+            exchanges raw (K.state to.old) (K.state to.new) result }
     {
-        match read_line(kind, text, host.graph.criteria()) {
+        match read_line(kind, text, context.graph.criteria()) {
             Line::Blank => Ok(Answered::Replied),
             Line::Other => answered(refuse_line(to)),
             Line::Request(SessionRequest::Bye) => Ok(Answered::Bye),
-            Line::Request(request) => answered(self.reply(host, &request, to)),
+            Line::Request(request) => answered(self.reply(context, &request, to)),
         }
     }
 
     /// Looks for a request, replies to it at the last epoch that is seen then, and adds its number. The room for the number
     /// is taken before the look.
-    fn reply<R: Threads + Wait + Sync, G: Gate, K: Sink>(
+    fn reply<R: Threads + Wait + Clock + Sync, G: Gate, K: Sink>(
         &mut self,
-        host: &Host<'_, R, G>,
+        context: &ServeContext<'_, R, G>,
         request: &SessionRequest,
         to: &mut K,
     ) -> Result<(), ReplyFault>
-        requires search { CanSearch host.now.crew.now.workers
-            (scene_of host.now.graph.now T.origin host.now.budget) }
-        requires limit { LimitsEach host.now.graph.now.criteria request.now }
+        requires search { CanSearch (scene_of context.now.graph.now T.origin context.now.budget) }
+        requires limit { LimitsEach context.now.graph.now.criteria request.now }
         requires no_bye { request.now ≢ asks.Bye }
-        ensures { AnswersRequest (scene_of host.now.graph.now T.origin host.now.budget)
+        ensures { AnswersRequest (scene_of context.now.graph.now T.origin context.now.budget)
             request.now self.old self.new (K.state to.old) (K.state to.new) result }
     {
         if self.named.reserve(1).is_err() {
             return Err(ReplyFault::OutOfMemory);
         }
-        let number = look_for(&mut self.reader, host.crew.rt, request)?;
-        let replied = host.reply(&self.reader, request, &mut self.room, to);
+        let number = look_for(&mut self.reader, context.workers.rt(), request)?;
+        let replied = context.reply(&self.reader, request, &mut self.room, to);
         if replied != Err(ReplyFault::OutOfMemory) {
             self.named.push_reserved(number);
         }

@@ -8,7 +8,7 @@ use Rattle.session_requests.specs.declared.session.SessionRequest.TheVariants as
 use Rattle.session_requests.specs.Readings.{each_of, number_of, one_from, pair_of, place_of, session_alone, session_behind, two_from, within_from}
 use Rattle.session_requests.specs.Requests.{AsksOfSession, LimitsEach, session_tokens}
 use Rattle.session_requests.specs.Tokens.{Writes}
-use Rattle.session_requests.specs.Tokens.Token.{Place}
+use Rattle.session_requests.specs.Tokens.Token.{Bound}
 use Rattle.session_requests.proofs.WritesLemmas.{mapped, both, chosen, writes_number, reads_number, writes_place, reads_place}
 use Rattle.session_requests.proofs.WritesLemmas.{writes_one, reads_one, writes_two, reads_two, writes_each, reads_each}
 
@@ -25,7 +25,7 @@ within_asked d (from ∷ to ∷ places) r e =
     (λ parts some.
     let ends = both _ _ parts some in
     let others = both _ _ parts.1 ends.1 in
-    let bounds = writes_each place_of Place writes_place d places parts.1.1 others.1 in
+    let bounds = writes_each place_of Bound writes_place d places parts.1.1 others.1 in
     ((refl, (writes_number from parts.0 ends.0, (writes_number to parts.1.0 others.0, bounds.0))), bounds.1))
 
 alone_asked : (d : ℕ) (word : List ℕ) (fields : List (List ℕ)) (r : SessionRequest) → session_alone word fields ≡ Some r → SessionAsked d (word ∷ fields) r
@@ -59,7 +59,7 @@ session_read d word (from ∷ to ∷ places) (session.Within first second limit)
       asked.0.0,
       reads_number from first asked.0.1.0,
       reads_number to second asked.0.1.1.0,
-      reads_each place_of Place reads_place d places limit asked.0.1.1.1 asked.1,
+      reads_each place_of Bound reads_place d places limit asked.0.1.1.1 asked.1,
     ) refl
 session_read d word (from ∷ []) (session.Within first second limit) asked = absurd asked.0.1.1
 session_read d word [] (session.Within first second limit) asked = absurd asked.0.1

@@ -9,7 +9,7 @@ use Rattle.line_text.specs.declared.numerals.Numeral.{Numeral}
 use Rattle.line_text.specs.declared.numerals.Numeral.TheVariants.{NotDigits, Above, Value}
 use Rattle.session_requests.specs.Readings.{each_of, number_of, one_from, pair_of, place_of, two_from, value_in}
 use Rattle.session_requests.specs.Tokens.{Token, Writes, max_number, max_bound}
-use Rattle.session_requests.specs.Tokens.Token.{Number, Place}
+use Rattle.session_requests.specs.Tokens.Token.{Number, Bound}
 
 -- what is mapped to a value holds of that value
 pub mapped : {A B : Type 0} (f : A → B) (P : B → Type 0) (some : Option A) (b : B) → option_map f some ≡ Some b
@@ -42,11 +42,11 @@ pub writes_number : (field : List ℕ) (n : ℕ) → number_of field ≡ Some n 
 writes_number field n e = value_in-some (numeral_of field max_number) n e
 
 -- a field writes the place that is read of it
-pub writes_place : (field : List ℕ) (place : Option ℕ) → place_of field ≡ Some place → Writes field (Place place)
+pub writes_place : (field : List ℕ) (place : Option ℕ) → place_of field ≡ Some place → Writes field (Bound place)
 writes_place field place e =
-    chosen (Writes field (Place place)) field (codes "-") (Some None) (option_map Some (value_in (numeral_of field max_bound))) place e
-    (λ is same. subst (λ p. Writes field (Place p)) (let none : None ≡ place = cc in none) is)
-    (λ bound. mapped Some (λ p. Writes field (Place p)) (value_in (numeral_of field max_bound)) place bound
+    chosen (Writes field (Bound place)) field (codes "-") (Some None) (option_map Some (value_in (numeral_of field max_bound))) place e
+    (λ is same. subst (λ p. Writes field (Bound p)) (let none : None ≡ place = cc in none) is)
+    (λ bound. mapped Some (λ p. Writes field (Bound p)) (value_in (numeral_of field max_bound)) place bound
     (λ most value. value_in-some (numeral_of field max_bound) most value))
 
 -- the number that a field writes is read of it
@@ -54,7 +54,7 @@ pub reads_number : (field : List ℕ) (n : ℕ) → Writes field (Number n) → 
 reads_number field n writes = rw writes refl
 
 -- the place that a field writes is read of it
-pub reads_place : (field : List ℕ) (place : Option ℕ) → Writes field (Place place) → place_of field ≡ Some place
+pub reads_place : (field : List ℕ) (place : Option ℕ) → Writes field (Bound place) → place_of field ≡ Some place
 reads_place field None writes = rw writes refl
 reads_place field (Some most) writes = by_test (bytes_eq field (codes "-")) refl where
   by_test : (test : Bool) → bytes_eq field (codes "-") ≡ test

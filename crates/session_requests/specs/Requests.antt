@@ -7,13 +7,13 @@ use Rattle.session_requests.specs.declared.operator.OperatorRequest.TheVariants 
 use Rattle.session_requests.specs.declared.session.SessionRequest.{SessionRequest}
 use Rattle.session_requests.specs.declared.session.SessionRequest.TheVariants as session
 use Rattle.session_requests.specs.Tokens.{Token, Writes}
-use Rattle.session_requests.specs.Tokens.Token.{Word, Number, Place}
+use Rattle.session_requests.specs.Tokens.Token.{Word, Number, Bound}
 
 -- what the fields of a session's request write, in this order
 abbrev pub session_tokens : SessionRequest → List Token
 session_tokens (session.Costs from to) = Word (codes "c") ∷ Number from ∷ Number to ∷ []
 session_tokens (session.Walks from to) = Word (codes "q") ∷ Number from ∷ Number to ∷ []
-session_tokens (session.Within from to limit) = Word (codes "l") ∷ Number from ∷ Number to ∷ map Place limit
+session_tokens (session.Within from to limit) = Word (codes "l") ∷ Number from ∷ Number to ∷ map Bound limit
 session_tokens (session.Wait epoch) = Word (codes "w") ∷ Number epoch ∷ []
 session_tokens session.Epoch = Word (codes "e") ∷ []
 session_tokens session.Bye = Word (codes "bye") ∷ []

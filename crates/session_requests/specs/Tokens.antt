@@ -7,7 +7,7 @@ use Rattle.line_text.specs.declared.numerals.Numeral.TheVariants.{Value}
 pub data Token : Type 0 where
   Word : List ℕ → Token
   Number : ℕ → Token
-  Place : Option ℕ → Token
+  Bound : Option ℕ → Token
 
 -- the greatest number of a request
 abbrev pub max_number : ℕ
@@ -21,5 +21,5 @@ max_bound = 2 ^ 64 - 1
 abbrev pub Writes : List ℕ → Token → Type 0
 Writes field (Word word) = field ≡ word
 Writes field (Number n) = numeral_of field max_number ≡ Value n
-Writes field (Place None) = field ≡ codes "-"
-Writes field (Place (Some most)) = numeral_of field max_bound ≡ Value most
+Writes field (Bound None) = field ≡ codes "-"
+Writes field (Bound (Some most)) = numeral_of field max_bound ≡ Value most

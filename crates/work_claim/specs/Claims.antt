@@ -76,12 +76,12 @@ pub record Counter : Type 0 where
   pub workers : ℕ
 
 -- a seat, as its callers see it: of which counter, and what it has drawn
-pub record ClaimSeat : Type 0 where
+pub record WorkerSeat : Type 0 where
   pub table : TableId
   pub draws : Draws
 
 -- A number was drawn. The piece of this number is found, or none where it is past the pieces.
-pub record DrawsNext (pieces : ℕ) (before after : ClaimSeat) (piece : Option ℕ) : Type 0 where
+pub record DrawsNext (pieces : ℕ) (before after : WorkerSeat) (piece : Option ℕ) : Type 0 where
   pub number : ℕ
   pub drawn : after ≡ record before { draws = with_drawn number before.draws }
   pub ahead : length before.draws.numbers ≤ number
@@ -89,7 +89,7 @@ pub record DrawsNext (pieces : ℕ) (before after : ClaimSeat) (piece : Option �
   pub none : IfNone piece (pieces ≤ number)
 
 -- a seat of this counter for so many workers, none of whom has drawn yet
-pub record IsFresh (workers : ℕ) (counter : Counter) (seat : ClaimSeat) : Type 0 where
+pub record IsFresh (workers : ℕ) (counter : Counter) (seat : WorkerSeat) : Type 0 where
   pub some : 1 ≤ workers
   pub seated : seat.table ≡ counter.table
   pub draws : seat.draws ≡ record { numbers = []; workers = workers }

@@ -1,9 +1,9 @@
 -- What comes of numbered pieces of work.
 use Rattle.std.specs.Prelude.{◌≡◌, ℕ, List, Some, Contains, Result, IfOk, length, map, slice_get, All}
 use Rattle.std.specs.Global.{Vec}
-use Rattle.cost_vector.specs.declared.out_of_memory.OutOfMemory.{OutOfMemory}
+use Rattle.out_of_memory.specs.declared.OutOfMemory.{OutOfMemory}
 use Rattle.work_claim.specs.declared.done.Done.{Done}
-use Rattle.work_claim.specs.Claims.{ClaimSeat, Counter, past, pieces_among}
+use Rattle.work_claim.specs.Claims.{WorkerSeat, Counter, past, pieces_among}
 
 module _ {Out : Type 0} where
   -- one result for each piece, in their order, each one that may come of its piece
@@ -27,7 +27,7 @@ module _ {Out : Type 0} where
   -- So many workers have come to their end at this counter: each has drawn one number past the pieces, and what came of the
   -- pieces that they drew is there, unless memory ran out.
   pub record HaveEnded (gives : ℕ → Out → Type 0) (counter : Counter) (workers : ℕ)
-      (seat : ClaimSeat) (done : Result (Vec (Done Out)) OutOfMemory) : Type 0 where
+      (seat : WorkerSeat) (done : Result (Vec (Done Out)) OutOfMemory) : Type 0 where
     pub seated : seat.table ≡ counter.table
     pub all : seat.draws.workers ≡ workers
     pub ended : past counter.pieces seat.draws.numbers ≡ workers

@@ -5,7 +5,7 @@ ghost use Rattle.work_claim.specs.Claims.{DrawsNext, HoldsEachPieceOnce, joined,
 
 use crate::rule::{Claim, Claiming, Draws, Halves, Plan, Together};
 use atomic_table::{Seat, Table};
-use cost_vector::OutOfMemory;
+use out_of_memory::OutOfMemory;
 use std::alloc::Global;
 use std::marker::Model;
 
@@ -37,15 +37,15 @@ impl Model for Counter {
 
 /// A seat at the counter, for one worker or several.
 #[derive(Drop)]
-pub(crate) struct ClaimSeat {
+pub(crate) struct WorkerSeat {
     seat: Seat<(), Draws>,
 }
 
-impl Model for ClaimSeat {
+impl Model for WorkerSeat {
     ghost use Rattle.std.specs.Prelude.{◌≡◌, []};
-    ghost use Rattle.work_claim.specs.Claims.{ClaimSeat};
+    ghost use Rattle.work_claim.specs.Claims.{WorkerSeat};
 
-    ghost Value = { ClaimSeat };
+    ghost Value = { WorkerSeat };
 
     ghost view = { λ s. record { table = s.seat.table_id; draws = s.seat.me.0 } };
 
@@ -58,7 +58,7 @@ impl Counter {
         alloc: Global,
         pieces: usize,
         workers: u32,
-    ) -> Result<(Counter, ClaimSeat), OutOfMemory>
+    ) -> Result<(Counter, WorkerSeat), OutOfMemory>
         requires { pieces < 2 ^ 32 }
         ensures pieces { IfOk result (λ r. r.0.pieces ≡ pieces) }
         ensures workers { IfOk result (λ r. r.0.workers ≡ workers) }
@@ -66,23 +66,24 @@ impl Counter {
             ≡ record { table = r.0.table; draws = record { numbers = []; workers = workers } }) }
     {
         let (table, seat) = Table::of_words(alloc, &[0], &Plan { pieces, workers })?;
-        Ok((Counter { pieces, table }, ClaimSeat { seat }))
+        Ok((Counter { pieces, table }, WorkerSeat { seat }))
     }
 
-    /// Cuts a seat that hasn't drawn yet in two.
-    pub(crate) fn halve(&self, seat: &mut ClaimSeat) -> ClaimSeat
+    /// Cuts a seat of several workers, who haven't drawn yet, in two.
+    pub(crate) fn halve(&self, seat: &mut WorkerSeat) -> WorkerSeat
         requires table { seat.old.table ≡ self.now.table }
+        requires several { 2 ≤ seat.old.draws.workers }
         requires fresh { seat.old.draws.numbers ≡ [] }
         ensures left { seat.new ≡ record seat.old { draws = left_half seat.old.draws } }
         ensures right { result ≡ record seat.old { draws = right_half seat.old.draws } }
     {
-        ClaimSeat {
+        WorkerSeat {
             seat: self.table.shared.split_seat::<Halves>(&mut seat.seat),
         }
     }
 
     /// Draws a number, and answers the piece of this number, or `None` where there is none.
-    pub(crate) fn draw(&self, seat: &mut ClaimSeat) -> Option<usize>
+    pub(crate) fn draw(&self, seat: &mut WorkerSeat) -> Option<usize>
         requires table { seat.old.table ≡ self.now.table }
         requires may { past self.now.pieces seat.old.draws.numbers < seat.old.draws.workers }
         ensures { DrawsNext self.now.pieces seat.old seat.new result }
@@ -96,19 +97,19 @@ impl Counter {
     }
 
     /// Has a seat take in another.
-    pub(crate) fn join(&self, seat: &mut ClaimSeat, other: ClaimSeat)
+    pub(crate) fn join(&self, seat: &mut WorkerSeat, other: WorkerSeat)
         requires table { seat.old.table ≡ self.now.table }
         requires other { other.table ≡ self.now.table }
         ensures { seat.new ≡ record seat.old { draws = joined seat.old.draws other.draws } }
     {
-        let ClaimSeat { seat: other } = other;
+        let WorkerSeat { seat: other } = other;
         self.table
             .shared
             .join_seat::<Together>(&mut seat.seat, other);
     }
 
     /// Closes the counter, where all workers have come together and each has drawn a number past the pieces.
-    pub(crate) fn close(self, seat: ClaimSeat)
+    pub(crate) fn close(self, seat: WorkerSeat)
         requires table { seat.table ≡ self.table }
         requires some { 1 ≤ self.workers }
         requires all { seat.draws.workers ≡ self.workers }
@@ -116,7 +117,7 @@ impl Counter {
         ensures { HoldsEachPieceOnce self.pieces seat.draws.numbers }
     {
         let Counter { pieces: _, table } = self;
-        let ClaimSeat { seat } = seat;
+        let WorkerSeat { seat } = seat;
         table.close_with(seat).free();
     }
 }

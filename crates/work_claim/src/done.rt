@@ -3,7 +3,7 @@ ghost use Rattle.std.specs.Prelude.{◌≡◌, ℕ, ◌++◌, IfOk, IsOkAnd};
 ghost use Rattle.work_claim.specs.Results.{ArePlaced, pieces_of};
 ghost use Rattle.work_claim.specs.Claims.{EachOnce};
 
-use cost_vector::OutOfMemory;
+use out_of_memory::OutOfMemory;
 use std::alloc::Global;
 
 /// What came of a piece.

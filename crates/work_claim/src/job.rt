@@ -1,6 +1,6 @@
 ghost use Rattle.std.specs.Prelude.{ℕ, IfOk};
 
-use cost_vector::OutOfMemory;
+use out_of_memory::OutOfMemory;
 
 /// Work that is cut into numbered pieces, which can be done side by side and in any order.
 pub trait Job: Sync {

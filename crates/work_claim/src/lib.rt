@@ -4,9 +4,11 @@
 mod counter;
 mod done;
 mod job;
+mod job_run;
 mod rule;
 mod run;
-mod shift;
+mod workers;
 
 pub use job::Job;
-pub use run::{Crew, run_pieces};
+pub use run::run_pieces;
+pub use workers::Workers;

@@ -1,47 +1,37 @@
 ghost use Rattle.std.specs.Prelude.{ℕ, ◌^◌, ◌<◌, ◌≤◌, IfOk};
 ghost use Rattle.work_claim.specs.Results.{GivesAll};
 
-use crate::Job;
 use crate::counter::Counter;
 use crate::done::in_order;
-use crate::shift::Shift;
-use cost_vector::OutOfMemory;
+use crate::job_run::JobRun;
+use crate::{Job, Workers};
+use out_of_memory::OutOfMemory;
 use route_io::{Gate, Phase};
 use std::alloc::Global;
 use std::thread::Threads;
 
-/// Who does the pieces: so many workers, on the threads of this runtime, and the gate that they pass before each piece.
-#[derive(Drop)]
-pub struct Crew<'c, R, G> {
-    pub rt: &'c R,
-    pub workers: u32,
-    pub gate: &'c G,
-}
-
 /// Has the workers do all pieces of a job. Each piece is done by whoever draws its number, so which worker does which
 /// piece is open, and so is how many threads there are: where none can be started, who asks for it does the work.
 pub fn run_pieces<J: Job, R: Threads + Sync, G: Gate>(
-    crew: &Crew<'_, R, G>,
+    workers: &Workers<'_, R, G>,
     alloc: Global,
     pieces: usize,
     phase: Phase,
     job: &J,
 ) -> Result<Vec<J::Out>, OutOfMemory>
-    requires at_least_one { 1 ≤ crew.now.workers }
-    requires at_most_64 { crew.now.workers ≤ 64 }
     requires numbered { pieces < 2 ^ 32 }
     requires accepted { (piece : ℕ) → piece < pieces → J.accepts job.now piece }
     ensures { IfOk result (λ outs. GivesAll (J.gives job.now) pieces outs.items) }
 {
-    if crew.workers == 1 || pieces <= 1 {
-        return run_alone(crew, alloc, pieces, phase, job);
+    if workers.count() == 1 || pieces <= 1 {
+        return run_alone(workers, alloc, pieces, phase, job);
     }
-    run_together(crew, alloc, pieces, phase, job)
+    run_together(workers, alloc, pieces, phase, job)
 }
 
 /// Does the pieces one after another.
 fn run_alone<J: Job, R, G: Gate>(
-    crew: &Crew<'_, R, G>,
+    workers: &Workers<'_, R, G>,
     alloc: Global,
     pieces: usize,
     phase: Phase,
@@ -52,7 +42,7 @@ fn run_alone<J: Job, R, G: Gate>(
 {
     let mut outs = Vec::with_capacity(alloc, pieces)?;
     for piece in 0..pieces {
-        crew.gate.pass(phase, piece as u64);
+        workers.gate().pass(phase, piece as u64);
         outs.push(job.run(piece)?)?;
     }
     Ok(outs)
@@ -60,26 +50,25 @@ fn run_alone<J: Job, R, G: Gate>(
 
 /// Has the workers draw the pieces from a counter, and puts in order what comes of them.
 fn run_together<J: Job, R: Threads + Sync, G: Gate>(
-    crew: &Crew<'_, R, G>,
+    workers: &Workers<'_, R, G>,
     alloc: Global,
     pieces: usize,
     phase: Phase,
     job: &J,
 ) -> Result<Vec<J::Out>, OutOfMemory>
-    requires at_least_one { 1 ≤ crew.now.workers }
     requires numbered { pieces < 2 ^ 32 }
     requires accepted { (piece : ℕ) → piece < pieces → J.accepts job.now piece }
     ensures { IfOk result (λ outs. GivesAll (J.gives job.now) pieces outs.items) }
 {
-    let (counter, seat) = Counter::new(alloc, pieces, crew.workers)?;
-    let shift = Shift {
-        crew,
+    let (counter, seat) = Counter::new(alloc, pieces, workers.count())?;
+    let job_run = JobRun {
+        workers,
         alloc,
         phase,
         job,
         counter,
     };
-    let report = shift.run(seat, crew.workers);
-    shift.counter.close(report.seat);
+    let report = job_run.run(seat, workers.count());
+    job_run.counter.close(report.seat);
     in_order(alloc, report.done?)
 }

@@ -1,23 +1,32 @@
-use Rattle.std.proofs.Common.{◌∙◌, refl, sym}
-use Rattle.command_words.specs.Words.{texts_of}
-use Rattle.route_top.specs.Outcome.{done}
-use Rattle.route_top.specs.Stops.{outcome_of}
-use Rattle.route_top.proofs.OutputLemmas.{ends_of_none, none_of_two}
-use Rattle.route_top.proofs.RunsLemmas.{takes_nothing}
+use Rattle.std.proofs.Common.{◌∙◌, rules, sym}
+use Rattle.command_words.specs.Words.{Asks, texts_of}
+use Rattle.route_top.specs.Stops.{run_outcome}
+use Rattle.route_top.proofs.OutputLemmas.{ends_of_none, no_words, none_of_two, still_output}
 use Rattle.route_top.proofs.route.Goals as goal
 
-pub returns-in-Ok-clause-output : goal.returns-in-Ok-clause-output
-returns-in-Ok-clause-output g c = record { outcome = done; runs = c.in-Ok.ensures; note = takes_nothing _; status_is = refl }
+-- words that don't name `lanes`
+pub run_still-requires : goal.run_still-requires
+run_still-requires g c = (search rules, (search rules, λ name asked. c.requires name (asked.0, asked.1.asks, asked.2)))
 
-pub returns-in-Ok-clause-only_bad_words : goal.returns-in-Ok-clause-only_bad_words
-returns-in-Ok-clause-only_bad_words g c = λ none. ends_of_none _ _ none c.in-Ok.ensures.ends
+pub returns-then-not-names_lanes-clause-output : goal.returns-then-not-names_lanes-clause-output
+returns-then-not-names_lanes-clause-output g c =
+    still_output (texts_of c.args.words.now) (λ named. absurd (cc (c.if-not-names_lanes.ensures.1 named))) c.run_still.ensures.output
 
-pub returns-in-Err-clause-output : goal.returns-in-Err-clause-output
-returns-in-Err-clause-output g c =
-    record { outcome = outcome_of c.in-Err.stop; runs = c.in-Err.ensures; note = (c.note.result, c.note.ensures); status_is = c.status.ensures }
+pub returns-then-not-names_lanes-clause-bad_words : goal.returns-then-not-names_lanes-clause-bad_words
+returns-then-not-names_lanes-clause-bad_words g c = λ two.
+    no_words (texts_of c.args.words.now) (λ named. absurd (cc (c.if-not-names_lanes.ensures.1 named))) (c.run_still.ensures.bad_words two)
 
-pub returns-in-Err-clause-bad_words : goal.returns-in-Err-clause-bad_words
-returns-in-Err-clause-bad_words g c = λ two. none_of_two (texts_of c.args.words.now) _ c.in-Err.ensures.ends (sym c.status.ensures ∙ two)
+pub returns-then-not-names_lanes-clause-only_bad_words : goal.returns-then-not-names_lanes-clause-only_bad_words
+returns-then-not-names_lanes-clause-only_bad_words g c = λ none.
+    c.run_still.ensures.only_bad_words (λ still. none (still.0, still.1.asks))
 
-pub returns-in-Err-clause-only_bad_words : goal.returns-in-Err-clause-only_bad_words
-returns-in-Err-clause-only_bad_words g c = λ none. rw c.status.ensures (ends_of_none _ _ none c.in-Err.ensures.ends)
+-- words that name it
+pub returns-clause-output : goal.returns-clause-output
+returns-clause-output g c =
+    record { outcome = run_outcome c.run_lanes.result; runs = c.run_lanes.ensures; note = c.end.ensures.note; status_is = c.end.ensures.status }
+
+pub returns-clause-bad_words : goal.returns-clause-bad_words
+returns-clause-bad_words g c = λ two. none_of_two (Asks (texts_of c.args.words.now)) _ c.run_lanes.ensures.ends (sym c.end.ensures.status ∙ two)
+
+pub returns-clause-only_bad_words : goal.returns-clause-only_bad_words
+returns-clause-only_bad_words g c = λ none. rw c.end.ensures.status (ends_of_none _ _ none c.run_lanes.ensures.ends)

@@ -1,6 +1,6 @@
 use Rattle.std.proofs.Common.{arith, subst, sym, ◌∙◌}
 use Rattle.std.proofs.lemmas.List.{take_all}
-use Rattle.arc_graph.proofs.StandingLemmas.{stands_more}
+use Rattle.arc_graph.proofs.JoinerHoldsLemmas.{stands_more}
 use Rattle.std.specs.Prelude.{All}
 use Rattle.std.proofs.lemmas.List.Elements.{All-get_or}
 use Rattle.arc_graph.specs.declared.file.ArcLine.{ArcLine}

@@ -14,7 +14,7 @@ pub new-requires : goal.new-requires
 new-requires g c =
     let all = c.loop-shown in
     let unread = All-pop Unread all.rest.items c.pop.new.self.items (Some c.in-Some.shown) c.in-Some.ensures.items all.invariant.waiting in
-    rw unread.1 (c.in_ok-reader.field-0.place.me.0.client, refl)
+    rw unread.1 (c.in_ok-epochs.epochs.place.me.0.client, refl)
 
 pub loop-shown-preserved : goal.loop-shown-preserved
 loop-shown-preserved g c =

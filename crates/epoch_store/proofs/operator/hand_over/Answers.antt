@@ -1,6 +1,6 @@
 use Rattle.std.proofs.Common.{List, [], ◌∷◌, ◌++◌, ap, sym, subst, ◌∙◌}
 use Rattle.epoch_store.specs.Published.{Published, Publication}
-use Rattle.epoch_store.specs.Standing.{MayFollow}
+use Rattle.epoch_store.specs.StoreRule.{MayFollow}
 use Rattle.epoch_store.proofs.operator.hand_over.Goals as goal
 
 pub replace_with-requires : goal.replace_with-requires

@@ -1,7 +1,7 @@
 use Rattle.std.proofs.Common.{◌≡◌, fold, ap, sym, subst, ◌∙◌}
 use Rattle.left_right.specs.Register.{TurnsAt}
 use Rattle.epoch_store.specs.Published.{Published, with_publication}
-use Rattle.epoch_store.specs.Standing.{Looks, Stands}
+use Rattle.epoch_store.specs.StoreRule.{Looks, Stands}
 use Rattle.epoch_store.proofs.RuleLemmas.{publishes}
 use Rattle.epoch_store.proofs.operator.show.Goals as goal
 

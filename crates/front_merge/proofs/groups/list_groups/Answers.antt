@@ -1,6 +1,6 @@
 use Rattle.std.proofs.Common.{Bor, List, map, sym, subst, ap, ◌∙◌}
 use Rattle.std.proofs.lemmas.List.{map_push}
-use Rattle.compact_labels.specs.declared.label.CompactLabel.{CompactLabel}
+use Rattle.cost_vector.specs.declared.compact_label.CompactLabel.{CompactLabel}
 use Rattle.front_merge.proofs.GroupLemmas.{IsCutting, cutting_more}
 use Rattle.front_merge.proofs.groups.list_groups.Goals as goal
 

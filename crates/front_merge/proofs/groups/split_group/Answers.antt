@@ -1,5 +1,5 @@
 use Rattle.std.proofs.Common.{List, get_or, sym, ap, subst₂}
-use Rattle.compact_labels.specs.declared.label.CompactLabel.{CompactLabel}
+use Rattle.cost_vector.specs.declared.compact_label.CompactLabel.{CompactLabel}
 use Rattle.front_merge.specs.Groups.{SplitsGroup}
 use Rattle.front_merge.proofs.GroupLemmas.{splits_group}
 use Rattle.front_merge.proofs.groups.split_group.Goals as goal

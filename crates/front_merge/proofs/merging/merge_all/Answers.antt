@@ -3,7 +3,7 @@ use Rattle.std.specs.Prelude.{IsPermutation}
 use Rattle.std.proofs.lemmas.List.{take_at}
 use Rattle.std.proofs.lemmas.List.Sorted.{IsPermutation-sym}
 use Rattle.rayon.proofs.ListFacts.{IfOk-then}
-use Rattle.compact_labels.specs.declared.label.CompactLabel.{CompactLabel}
+use Rattle.cost_vector.specs.declared.compact_label.CompactLabel.{CompactLabel}
 use Rattle.node_front.specs.Deltas.{AreDeltas, no_deltas}
 use Rattle.front_merge.specs.Groups.{AscendByNode}
 use Rattle.front_merge.proofs.MergeLemmas.{can_in_any_order, same_deltas}
@@ -24,18 +24,12 @@ merge_sorted-requires-after_bounds g c κs within =
         (
           omega arith,
           (
-            c.requires.at_least_one,
+            c.requires.criteria,
             (
-              c.requires.at_most_64,
+              subst (λ (ls : List (CompactLabel g.row.D)). AscendByNode ls) (sym is) c.sort_by_node.ensures.ascending,
               (
-                c.requires.criteria,
-                (
-                  subst (λ (ls : List (CompactLabel g.row.D)). AscendByNode ls) (sym is) c.sort_by_node.ensures.ascending,
-                  (
-                    can_in_any_order f old.items c.deref.result.now moved (record { nodes = c.requires.nodes; spares = c.requires.spares }),
-                    subst (AreDeltas f []) (sym empty) c.deltas_grow_node_by_node.ensures.none,
-                  ),
-                ),
+                can_in_any_order f old.items c.deref.result.now moved (record { nodes = c.requires.nodes; spares = c.requires.spares }),
+                subst (AreDeltas f []) (sym empty) c.deltas_grow_node_by_node.ensures.none,
               ),
             ),
           ),

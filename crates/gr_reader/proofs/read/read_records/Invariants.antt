@@ -2,7 +2,6 @@ use Rattle.std.proofs.Common.{false}
 use Rattle.route_io.specs.Sources.{ReadsFrom}
 use Rattle.line_text.specs.Reading.{begun}
 use Rattle.gr_reader.specs.Reader.{TakesBytes}
-use Rattle.gr_reader.specs.Table.{line_limits}
 use Rattle.gr_reader.proofs.HasComeLemmas.{HasCome, records_left}
 use Rattle.gr_reader.proofs.read.read_records.Given as goal
 
@@ -10,7 +9,7 @@ abbrev pub invariant-records : goal.invariant-records
 invariant-records g l = record {
   come : HasCome g.G.Grammar.rules l.fn.limits l.lines (g.S.Source.state l.fn.source) (g.S.Source.state l.source)
       (g.K.RecordSink.has_taken l.fn.sink l.sink);
-  takes : TakesBytes (begun (line_limits l.fn.limits)) l.lines.lines (g.S.Source.state l.fn.source) (g.S.Source.state l.source);
+  takes : TakesBytes (begun l.fn.limits) l.lines.lines (g.S.Source.state l.fn.source) (g.S.Source.state l.source);
   source : ReadsFrom (g.S.Source.state l.fn.source) (g.S.Source.state l.source) false;
 }
 

@@ -9,15 +9,15 @@ returns-in-Err-clause-tells g c =
     let step = advanced c.lines.invariant.goes_on c.in-Err.ensures.advances in
     rw (c.at_line.ensures, c.number.ensures.value)
     (IfSome_through _ _ _ c.lines.invariant.skips step.lines
-    (λ rest more skips told. finds_fault g.G.Grammar.rules c.args.lines.now c.lines.lines c.next_line.new.self rest more _ _ skips step.counts told))
+    (λ rest more skips known. finds_fault g.G.Grammar.rules c.args.lines.now c.lines.lines c.next_line.new.self rest more _ _ skips step.counts known))
 
 pub returns-then-not-is_ignored-clause-tells : goal.returns-then-not-is_ignored-clause-tells
 returns-then-not-is_ignored-clause-tells g c =
     let step = rw c.in-Ok-true.field-0-test at (advanced c.lines.invariant.goes_on c.in-Ok-true.ensures.advances) in
     let says = sym (rw c.text.ensures.value at c.is_ignored.ensures) ∙ c.if-not-is_ignored.true in
     IfSome_through _ _ _ c.lines.invariant.skips step.lines
-    (λ rest more skips told. finds_line g.G.Grammar.rules c.args.lines.now c.lines.lines c.next_line.new.self _ step.limits rest more skips
-    (sym step.counts.number) told says)
+    (λ rest more skips known. finds_line g.G.Grammar.rules c.args.lines.now c.lines.lines c.next_line.new.self _ step.limits rest more skips
+    (sym step.counts.number) known says)
 
 pub lines-preserved : goal.lines-preserved
 lines-preserved g c =
@@ -31,6 +31,6 @@ lines-preserved g c =
           (state c.next_line.new.source) c.lines.invariant.loses_none step.loses_none;
       source = ReadsFrom-then _ _ _ _ c.lines.invariant.source (rw c.lines.invariant.goes_on at c.in-Ok-true.ensures.source);
       skips = IfSome_through _ _ _ c.lines.invariant.skips step.lines
-          (λ rest more skips told. skips_line g.G.Grammar.rules c.args.lines.now c.lines.lines c.next_line.new.self _ step.limits rest more skips
-          (sym step.counts.number) told ignored);
+          (λ rest more skips known. skips_line g.G.Grammar.rules c.args.lines.now c.lines.lines c.next_line.new.self _ step.limits rest more skips
+          (sym step.counts.number) known ignored);
     }

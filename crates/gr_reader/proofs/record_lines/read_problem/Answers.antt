@@ -1,7 +1,7 @@
 use Rattle.std.proofs.Common.{None}
 use Rattle.std.proofs.lemmas.Option.{IfSome_then}
 use Rattle.gr_reader.proofs.MayTellLemmas.{may_tell-form}
-use Rattle.gr_reader.proofs.ToldLemmas.{begin_accepts}
+use Rattle.gr_reader.proofs.KnownLemmas.{begin_accepts}
 use Rattle.gr_reader.proofs.record_lines.read_problem.Goals as goal
 
 pub returns-in-Ok-clause-tells : goal.returns-in-Ok-clause-tells

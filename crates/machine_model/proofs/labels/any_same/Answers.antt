@@ -1,5 +1,5 @@
 use Rattle.std.proofs.Common.{rules}
-use Rattle.event_machine.specs.Machine.{IsSamePair}
+use Rattle.road_network.specs.Labels.{IsSamePair}
 use Rattle.machine_model.specs.Views.{label_of}
 use Rattle.machine_model.proofs.ViewLemmas.{any_through}
 use Rattle.machine_model.proofs.labels.any_same.Goals as goal

@@ -3,7 +3,7 @@ use Rattle.std.specs.Prelude.{All, Contains, IfNone, IfSome}
 use Rattle.std.proofs.lemmas.Option.{IfSome_then}
 use Rattle.std.proofs.lemmas.List.Elements.{All-map}
 use Rattle.list_laws.proofs.Members.{in_map}
-use Rattle.event_machine.specs.Machine.{Label, IsSamePair}
+use Rattle.road_network.specs.Labels.{Label, IsSamePair}
 use Rattle.machine_model.specs.Views.{label_of, labels_of}
 use Rattle.machine_model.proofs.ViewLemmas.{none_then}
 use Rattle.machine_model.proofs.labels.find_same.Goals as goal

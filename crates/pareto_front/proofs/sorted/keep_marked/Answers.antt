@@ -1,7 +1,7 @@
 use Rattle.std.proofs.Common.{◌<◌, length, get_or, arith}
 use Rattle.std.proofs.lemmas.List.{get_or_default}
 use Rattle.pareto_front.proofs.Marks.{keeps_none, keeps_more}
-use Rattle.pareto_front.proofs.Neighbours.{filler}
+use Rattle.pareto_front.proofs.SortedPlaces.{filler}
 use Rattle.pareto_front.proofs.sorted.keep_marked.Goals as goal
 use Rattle.pareto_front.proofs.sorted.keep_marked.Goals.{then-mark, else-mark}
 

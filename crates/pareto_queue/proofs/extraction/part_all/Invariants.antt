@@ -1,6 +1,6 @@
 use Rattle.std.proofs.Common.{List, length}
-use Rattle.compact_labels.specs.declared.cost.CompactCost.{CompactCost}
-use Rattle.compact_labels.specs.declared.label.CompactSpot.{CompactSpot}
+use Rattle.cost_vector.specs.declared.compact_cost.CompactCost.{CompactCost}
+use Rattle.cost_vector.specs.declared.compact_label.CompactSpot.{CompactSpot}
 use Rattle.pareto_queue.specs.Shadows.{Descends, PartsNext}
 use Rattle.pareto_queue.proofs.extraction.part_all.Given as goal
 

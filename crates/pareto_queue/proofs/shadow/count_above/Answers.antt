@@ -1,6 +1,6 @@
 use Rattle.std.proofs.Common.{rules, nat_lt}
 use Rattle.std.proofs.lemmas.List.Sorted.{IsPartitionPoint-from_clause}
-use Rattle.compact_labels.specs.declared.cost.CompactCost.{CompactCost}
+use Rattle.cost_vector.specs.declared.compact_cost.CompactCost.{CompactCost}
 use Rattle.pareto_queue.specs.Shadows.{second_of}
 use Rattle.pareto_queue.proofs.ShadowLemmas.{exceeds_before, exceeding_first}
 use Rattle.pareto_queue.proofs.shadow.count_above.Goals as goal

@@ -1,6 +1,6 @@
 use Rattle.std.proofs.Common.{◌++◌}
 use Rattle.event_machine.proofs.Keeping.{sound_if_reached}
-use Rattle.bulk_rounds.proofs.CompletesLaws.{completes_to_outcome, pieces_complete}
+use Rattle.event_machine.proofs.CompletesLaws.{completes_to_outcome, pieces_complete}
 use Rattle.pareto_search.proofs.pieces.rounds_end_alike_for_all_pieces.Goals as goal
 
 pub returns : goal.returns

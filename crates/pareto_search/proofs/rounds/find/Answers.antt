@@ -8,29 +8,29 @@ use Rattle.pareto_search.proofs.rounds.find.Goals as goal
 
 pub returns-in_err-rounds-clause-rounds : goal.returns-in_err-rounds-clause-rounds
 returns-in_err-rounds-clause-rounds g c =
-    let is = task_is c.args.graph.now c.args.weights.now c.args.query.now c.nodes.ensures.graph c.arcs-2.ensures.states c.requires.weights c.requires.query in
+    let is = task_is c.args.network.now c.args.query.now c.nodes.ensures.network.network c.requires.query in
     counts_some _ _ _ _ _ is (out_of_memory _ c.from_residual.ensures.0 c.from_residual.ensures.1) (λ n all. omega arith)
 
 pub rounds-init : goal.rounds-init
 rounds-init g c =
-    let is = task_is c.args.graph.now c.args.weights.now c.args.query.now c.nodes.ensures.graph c.arcs-2.ensures.states c.requires.weights c.requires.query in
-    record { after = after_none c.args.graph.now c.args.weights.now c.args.query.now _ is c.requires.criteria (IfOk-at_ok _ c.in_ok-rounds.was c.requires.started); counted = omega arith }
+    let is = task_is c.args.network.now c.args.query.now c.nodes.ensures.network.network c.requires.query in
+    record { after = after_none c.args.network.now c.args.query.now _ is c.requires.criteria (IfOk-at_ok _ c.in_ok-rounds.was c.requires.started); counted = omega arith }
 
 pub begin-requires : goal.begin-requires
 begin-requires g c =
-    let four : g.row.D ≤ 4 = omega (arith, c.criteria.ensures.four, c.if-prove-3.false) in
+    let four : g.row.D ≤ 4 = omega (arith, c.criteria.ensures.four, c.if-prove-2.false) in
     (search rules, c.rounds.invariant.after.none_taken)
 
 pub returns-in_err-begin-clause-rounds : goal.returns-in_err-begin-clause-rounds
 returns-in_err-begin-clause-rounds g c =
-    let is = task_is c.args.graph.now c.args.weights.now c.args.query.now c.nodes.ensures.graph c.arcs-2.ensures.states c.requires.weights c.requires.query in
+    let is = task_is c.args.network.now c.args.query.now c.nodes.ensures.network.network c.requires.query in
     let out = out_of_memory _ c.from_residual-in_err-begin.ensures.0 c.from_residual-in_err-begin.ensures.1 in
     counts_some _ _ _ _ _ is out
     (steps_when_beginning _ is _ _ _ c.rounds.invariant.after _ _ _ _ c.begin.ensures.steps c.rounds.invariant.counted)
 
 pub returns-in-Done-clause-found : goal.returns-in-Done-clause-found
 returns-in-Done-clause-found g c =
-    let is = task_is c.args.graph.now c.args.weights.now c.args.query.now c.nodes.ensures.graph c.arcs-2.ensures.states c.requires.weights c.requires.query in
+    let is = task_is c.args.network.now c.args.query.now c.nodes.ensures.network.network c.requires.query in
     let ended = rw c.in-Done.is at c.in_ok-begin.ensures.begun in
     let done = is_other _ _ Done Taken c.in_ok-begin.was c.in-Done.is done_not_taken in
     has_found _ is _ _ _ c.rounds.invariant.after _ _ c.begin.ensures.same_search ended (c.begin.ensures.only_drops done) c.into_found.ensures.start
@@ -38,7 +38,7 @@ returns-in-Done-clause-found g c =
 
 pub returns-in-Done-clause-rounds : goal.returns-in-Done-clause-rounds
 returns-in-Done-clause-rounds g c =
-    let is = task_is c.args.graph.now c.args.weights.now c.args.query.now c.nodes.ensures.graph c.arcs-2.ensures.states c.requires.weights c.requires.query in
+    let is = task_is c.args.network.now c.args.query.now c.nodes.ensures.network.network c.requires.query in
     let ended = rw c.in-Done.is at c.in_ok-begin.ensures.begun in
     let done = rw c.in-Done.is at c.in_ok-begin.was in
     let stands : c.begin.new.steps ≡ c.rounds.steps = c.begin.ensures.steps.uncounted done in
@@ -46,13 +46,13 @@ returns-in-Done-clause-rounds g c =
 
 pub returns-in-Budget-clause-budget : goal.returns-in-Budget-clause-budget
 returns-in-Budget-clause-budget g c =
-    let is = task_is c.args.graph.now c.args.weights.now c.args.query.now c.nodes.ensures.graph c.arcs-2.ensures.states c.requires.weights c.requires.query in
+    let is = task_is c.args.network.now c.args.query.now c.nodes.ensures.network.network c.requires.query in
     let passes = rw c.in-Budget.is at c.in_ok-begin.ensures.begun in
     λ _. passes_budget _ is _ _ _ c.rounds.invariant.after passes
 
 pub returns-in-Budget-clause-rounds : goal.returns-in-Budget-clause-rounds
 returns-in-Budget-clause-rounds g c =
-    let is = task_is c.args.graph.now c.args.weights.now c.args.query.now c.nodes.ensures.graph c.arcs-2.ensures.states c.requires.weights c.requires.query in
+    let is = task_is c.args.network.now c.args.query.now c.nodes.ensures.network.network c.requires.query in
     let passes = rw c.in-Budget.is at c.in_ok-begin.ensures.begun in
     let over = rw c.in-Budget.is at c.in_ok-begin.was in
     let rose : c.begin.new.steps ≡ c.rounds.steps + 1 = c.begin.ensures.steps.counted Budget over budget_not_done in
@@ -60,28 +60,15 @@ returns-in-Budget-clause-rounds g c =
 
 pub finish-requires-after_bounds : goal.finish-requires-after_bounds
 finish-requires-after_bounds g c κs within =
-    let four : g.row.D ≤ 4 = omega (arith, c.criteria.ensures.four, c.if-prove-3.false) in (
-      first_of (omega (arith, four), search rules),
-      (
-        c.requires.at_least_one,
-        (
-          c.requires.at_most_64,
-          (
-            c.requires.weights,
-            (
-              c.requires.criteria,
-              (let is = task_is c.args.graph.now c.args.weights.now c.args.query.now c.nodes.ensures.graph c.arcs-2.ensures.states c.requires.weights c.requires.query in
-                  let begun = rw c.in-Taken.is at c.in_ok-begin.ensures.begun in
-                  is_open _ is _ _ _ c.rounds.invariant.after _ c.begin.ensures.same_search begun c.requires.query.budget),
-            ),
-          ),
-        ),
-      ),
-    )
+    let four : g.row.D ≤ 4 = omega (arith, c.criteria.ensures.four, c.if-prove-2.false) in
+    let is = task_is c.args.network.now c.args.query.now c.nodes.ensures.network.network c.requires.query in
+    let begun = rw c.in-Taken.is at c.in_ok-begin.ensures.begun in
+    let still_open = is_open _ is _ _ _ c.rounds.invariant.after _ c.begin.ensures.same_search begun c.requires.query.budget in
+    (first_of (omega (arith, four), search rules), (c.requires.criteria, still_open))
 
 pub into_found-requires : goal.into_found-requires
 into_found-requires g c =
-    let four : g.row.D ≤ 4 = omega (arith, c.criteria.ensures.four, c.if-prove-3.false) in (
+    let four : g.row.D ≤ 4 = omega (arith, c.criteria.ensures.four, c.if-prove-2.false) in (
       search rules,
       (
         search rules,
@@ -94,7 +81,7 @@ into_found-requires g c =
 
 pub returns-in_err-rounds-in-Taken-clause-rounds : goal.returns-in_err-rounds-in-Taken-clause-rounds
 returns-in_err-rounds-in-Taken-clause-rounds g c =
-    let is = task_is c.args.graph.now c.args.weights.now c.args.query.now c.nodes.ensures.graph c.arcs-2.ensures.states c.requires.weights c.requires.query in
+    let is = task_is c.args.network.now c.args.query.now c.nodes.ensures.network.network c.requires.query in
     let begun = rw c.in-Taken.is at c.in_ok-begin.ensures.begun in
     let out = out_of_memory _ c.from_residual-in_err-rounds-in-Taken.ensures.0 c.from_residual-in_err-rounds-in-Taken.ensures.1 in
     counts_some _ _ _ _ _ is out
@@ -102,7 +89,7 @@ returns-in_err-rounds-in-Taken-clause-rounds g c =
 
 pub rounds-preserved : goal.rounds-preserved
 rounds-preserved g c =
-    let is = task_is c.args.graph.now c.args.weights.now c.args.query.now c.nodes.ensures.graph c.arcs-2.ensures.states c.requires.weights c.requires.query in
+    let is = task_is c.args.network.now c.args.query.now c.nodes.ensures.network.network c.requires.query in
     let begun = rw c.in-Taken.is at c.in_ok-begin.ensures.begun in
     let taken = rw c.in-Taken.is at c.in_ok-begin.was in
     let rose : c.begin.new.steps ≡ c.rounds.steps + 1 = c.begin.ensures.steps.counted Taken taken taken_not_done in
@@ -113,5 +100,5 @@ rounds-preserved g c =
 
 pub unreachable-requires : goal.unreachable-requires
 unreachable-requires g c =
-    let is = task_is c.args.graph.now c.args.weights.now c.args.query.now c.nodes.ensures.graph c.arcs-2.ensures.states c.requires.weights c.requires.query in
+    let is = task_is c.args.network.now c.args.query.now c.nodes.ensures.network.network c.requires.query in
     no_round_more _ is _ _ _ c.rounds.invariant.after (omega arith)

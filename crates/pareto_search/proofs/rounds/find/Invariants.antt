@@ -6,6 +6,6 @@ use Rattle.pareto_search.proofs.rounds.find.Given as goal
 -- so many rounds were made as steps were counted
 abbrev pub invariant-rounds : goal.invariant-rounds
 invariant-rounds g l = record {
-  after : IsAfter (task_of l.graph l.weights l.query) l.query.budget l.counter l.rounds.core;
+  after : IsAfter (task_of l.network l.query) l.query.budget l.counter l.rounds.core;
   counted : l.steps ≡ l.fn.steps + l.counter;
 }

@@ -6,11 +6,9 @@ use Rattle.path_readback.proofs.readback.walk.Goals as goal
 pub arcs-init : goal.arcs-init
 arcs-init g c = (
   rw (c.target-node.ensures, c.clear.ensures.none)
-      (reading_begins c.args.graph.now c.args.weights.now (g.F.Found.state c.args.found.now) c.args.i c.clear.new.self.holds c.cost-cost.result
+      (reading_begins c.args.network.now (g.F.Found.state c.args.found.now) c.args.i c.clear.new.self.holds c.cost-cost.result
       (record {
-        graph = c.nodes.ensures.graph;
-        weights = c.arcs-3.ensures.states;
-        matched = c.requires.weights;
+        network = c.nodes.ensures.network.network;
         found = c.cost-cost.ensures.found;
         nodes = c.requires.nodes;
         limit = c.requires.well_found.0;
@@ -21,33 +19,32 @@ arcs-init g c = (
 
 pub last_arc-requires : goal.last_arc-requires
 last_arc-requires g c =
-    cost_counts c.args.graph.now c.args.weights.now (g.F.Found.state c.args.found.now) c.args.i c.clear.new.self.holds c.arcs.node.0 c.arcs.cost c.arcs.room.arcs c.arcs.invariant.0
-    ∙ c.requires.weights.criteria ∙ sym c.requires.criteria
+    cost_counts c.args.network.now (g.F.Found.state c.args.found.now) c.args.i c.clear.new.self.holds c.arcs.node.0 c.arcs.cost c.arcs.room.arcs c.arcs.invariant.0
+    ∙ sym c.requires.criteria
 
 pub push-requires : goal.push-requires
 push-requires g c =
-    let room = is_room c.args.graph.now c.args.weights.now (g.F.Found.state c.args.found.now) c.args.i c.clear.new.self.holds c.arcs.node.0 c.arcs.cost c.arcs.room.arcs c.arcs.invariant.0
+    let room = is_room c.args.network.now (g.F.Found.state c.args.found.now) c.args.i c.clear.new.self.holds c.arcs.node.0 c.arcs.cost c.arcs.room.arcs c.arcs.invariant.0
     c.in-Some.arc c.in-Some.ensures.some.0 c.in-Some.ensures.some.1 in
     omega (arith, room, c.arcs.invariant.1)
 
 pub tail-node-requires-clause-there : goal.tail-node-requires-clause-there
 tail-node-requires-clause-there g c =
-    arc_is_there c.args.graph.now c.args.weights.now (g.F.Found.state c.args.found.now) c.args.i c.clear.new.self.holds c.arcs.node.0 c.arcs.cost c.arcs.room.arcs c.arcs.invariant.0
+    arc_is_there c.args.network.now (g.F.Found.state c.args.found.now) c.args.i c.clear.new.self.holds c.arcs.node.0 c.arcs.cost c.arcs.room.arcs c.arcs.invariant.0
     c.in-Some.arc c.in-Some.ensures.some.0 c.in-Some.ensures.some.1
 
 pub without_arc-cost-requires-clause-there : goal.without_arc-cost-requires-clause-there
 without_arc-cost-requires-clause-there g c =
-    let there = arc_is_there c.args.graph.now c.args.weights.now (g.F.Found.state c.args.found.now) c.args.i c.clear.new.self.holds c.arcs.node.0 c.arcs.cost c.arcs.room.arcs c.arcs.invariant.0
-    c.in-Some.arc c.in-Some.ensures.some.0 c.in-Some.ensures.some.1 in
-    omega (arith, there, c.requires.weights.arcs)
+    arc_is_there c.args.network.now (g.F.Found.state c.args.found.now) c.args.i c.clear.new.self.holds c.arcs.node.0 c.arcs.cost c.arcs.room.arcs c.arcs.invariant.0
+    c.in-Some.arc c.in-Some.ensures.some.0 c.in-Some.ensures.some.1
 
 pub without_arc-cost-requires-clause-criteria : goal.without_arc-cost-requires-clause-criteria
 without_arc-cost-requires-clause-criteria g c =
-    cost_counts c.args.graph.now c.args.weights.now (g.F.Found.state c.args.found.now) c.args.i c.clear.new.self.holds c.arcs.node.0 c.arcs.cost c.arcs.room.arcs c.arcs.invariant.0
+    cost_counts c.args.network.now (g.F.Found.state c.args.found.now) c.args.i c.clear.new.self.holds c.arcs.node.0 c.arcs.cost c.arcs.room.arcs c.arcs.invariant.0
 
 pub arcs-smaller : goal.arcs-smaller
 arcs-smaller g c =
-    let room = is_room c.args.graph.now c.args.weights.now (g.F.Found.state c.args.found.now) c.args.i c.clear.new.self.holds c.arcs.node.0 c.arcs.cost c.arcs.room.arcs c.arcs.invariant.0
+    let room = is_room c.args.network.now (g.F.Found.state c.args.found.now) c.args.i c.clear.new.self.holds c.arcs.node.0 c.arcs.cost c.arcs.room.arcs c.arcs.invariant.0
     c.in-Some.arc c.in-Some.ensures.some.0 c.in-Some.ensures.some.1 in
     let longer : length c.push.new.self.arcs ≡ length c.arcs.room.arcs + 1 = ap length c.push.ensures.arcs ∙ length-append c.arcs.room.arcs (c.in-Some.arc ∷ []) in
     omega (arith, room, longer)
@@ -55,14 +52,14 @@ arcs-smaller g c =
 pub arcs-preserved : goal.arcs-preserved
 arcs-preserved g c = (
   rw (c.tail-node.ensures, c.push.ensures.arcs)
-      (reading_goes_on c.args.graph.now c.args.weights.now (g.F.Found.state c.args.found.now) c.args.i c.clear.new.self.holds c.arcs.node.0 c.arcs.cost c.arcs.room.arcs c.arcs.invariant.0
+      (reading_goes_on c.args.network.now (g.F.Found.state c.args.found.now) c.args.i c.clear.new.self.holds c.arcs.node.0 c.arcs.cost c.arcs.room.arcs c.arcs.invariant.0
       c.in-Some.arc c.in-Some.ensures.some.0 c.in-Some.ensures.some.1 c.without_arc-cost.result c.without_arc-cost.ensures),
   omega (arith, c.arcs.invariant.1, c.push.ensures.room),
 )
 
 pub returns-clause-least : goal.returns-clause-least
 returns-clause-least g c = rw (c.reverse.ensures.arcs)
-    (reading_ends c.args.graph.now c.args.weights.now (g.F.Found.state c.args.found.now) c.args.i c.clear.new.self.holds c.arcs.node.0 c.arcs.cost c.arcs.room.arcs c.arcs.invariant.0
+    (reading_ends c.args.network.now (g.F.Found.state c.args.found.now) c.args.i c.clear.new.self.holds c.arcs.node.0 c.arcs.cost c.arcs.room.arcs c.arcs.invariant.0
     (λ arc there. c.last_arc.ensures.none arc c.in_default.is there))
 
 pub returns-clause-room : goal.returns-clause-room

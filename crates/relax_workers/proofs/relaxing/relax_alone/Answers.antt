@@ -7,4 +7,4 @@ pub loop-piece-preserved : goal.loop-piece-preserved
 loop-piece-preserved g c =
     let job = c.args.job.now in
     rw c.in_ok-append_piece.ensures
-    (next_piece (onward_from job.graph.now job.weights.now) job.taken.now c.loop-piece.piece piece_size c.loop-piece.candidates.items c.loop-piece.invariant)
+    (next_piece (onward_from job.network.now) job.taken.now c.loop-piece.piece piece_size c.loop-piece.candidates.items c.loop-piece.invariant)

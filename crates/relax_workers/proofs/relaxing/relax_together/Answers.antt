@@ -15,4 +15,4 @@ loop-list-preserved g c =
     let read = slice_get_read lists (length lists) piece list refl c.loop-list-test.true c.list-item.is in
     let given = c.in_ok-lists.ensures.each piece list (subst (λ ls. slice_get ls piece ≡ Some list) c.deref-list-items.ensures.value read) in
     rw (c.in_ok-extend_from_slice.ensures.items, c.deref.ensures.value, given)
-    (next_piece (onward_from job.graph.now job.weights.now) job.taken.now piece piece_size c.loop-list.candidates.items c.loop-list.invariant)
+    (next_piece (onward_from job.network.now) job.taken.now piece piece_size c.loop-list.candidates.items c.loop-list.invariant)

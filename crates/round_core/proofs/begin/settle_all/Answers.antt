@@ -1,5 +1,5 @@
 use Rattle.std.proofs.Common.{rules, ◌≤◌, arith, refl, sym, subst}
-use Rattle.compact_labels.specs.declared.label.CompactSpot.{CompactSpot}
+use Rattle.cost_vector.specs.declared.compact_label.CompactSpot.{CompactSpot}
 use Rattle.node_front.specs.NodeFronts.{front_at}
 use Rattle.node_front.proofs.RoundLemmas.{next_taken}
 use Rattle.round_core.specs.Unsettled.{HasUnsettled}

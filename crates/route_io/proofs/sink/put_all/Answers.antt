@@ -1,16 +1,16 @@
 use Rattle.std.proofs.Common.{rules}
+use Rattle.std.proofs.lemmas.Result.{err_from_is_err_and}
 use Rattle.std.proofs.lemmas.Slice.{between_to_end}
-use Rattle.route_io.proofs.SendsLemmas.{more_sent, sent_failed, sent_wanted, sent_whole}
+use Rattle.route_io.proofs.SendsLemmas.{more_sent, sent_part, sent_whole}
 use Rattle.route_io.proofs.sink.put_all.Goals as goal
 
 pub loop-rest-preserved : goal.loop-rest-preserved
-loop-rest-preserved g c = more_sent _ _ _ _ _ _ _ c.loop-rest.invariant c.in-Ok.ensures (search (rules, between_to_end))
+loop-rest-preserved g c = more_sent _ _ _ _ _ _ _ c.loop-rest.invariant c.in_ok-taken.ensures (search (rules, between_to_end))
 
-pub returns-in-Err-Failed : goal.returns-in-Err-Failed
-returns-in-Err-Failed g c = sent_failed _ _ _ _ _ (search rules) c.loop-rest.invariant (rw c.in-Err-Failed.field-0-is at c.in-Err-Failed.ensures)
-
-pub returns-in-Err-OutOfMemory : goal.returns-in-Err-OutOfMemory
-returns-in-Err-OutOfMemory g c = sent_wanted _ _ _ _ _ (search rules) c.loop-rest.invariant (rw c.in-Err-OutOfMemory.field-0-is at c.in-Err-OutOfMemory.ensures)
+pub returns-in_err-taken : goal.returns-in_err-taken
+returns-in_err-taken g c =
+    let p = err_from_is_err_and c.from_residual.result c.from_residual.ensures.1 in
+    rw (p.1, p.2) (sent_part _ _ _ _ _ _ (search rules) c.loop-rest.invariant c.in_err-taken.ensures)
 
 pub returns : goal.returns
 returns g c = sent_whole _ _ _ _ (search rules) c.loop-rest.invariant

@@ -8,13 +8,12 @@ use Rattle.route_lanes.proofs.lanes.serve_lanes.Goals as goal
 pub returns : goal.returns
 returns g c =
     let all = c.serve_all.ensures in
-    let desk = c.args.desk.now in
-    let host = c.args.host.now in
+    let context = c.args.context.now in
     let link = Link g.row.S.Denot g.row.K.Denot in
     let first : OperatorLane g.row.T.Denot → link → OperatorLane g.row.T.Denot → link → Type 0 =
-    OperatorServes (state_of g.S.Source.state g.K.Sink.state) g.T.Store.origin desk.bytes in
+    OperatorServes (state_of g.S.Source.state g.K.Sink.state) g.T.Store.origin context.bytes in
     let rest : SessionLane g.row.T.Denot → link → SessionLane g.row.T.Denot → link → Type 0 =
-    SessionServes (state_of g.S.Source.state g.K.Sink.state) (record { graph = host.graph.now; origin = g.T.Store.origin; budget = host.budget }) host.bytes in
+    SessionServes (state_of g.S.Source.state g.K.Sink.state) (record { graph = context.graph.now; origin = g.T.Store.origin; budget = context.budget }) context.bytes in
     first_and_all_as _ first _ rest
     (leaves_as _ _ first (λ a b d e said. said))
     (leaves_as _ _ rest (λ a b d e said. said)) all

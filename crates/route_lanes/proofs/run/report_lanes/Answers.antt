@@ -26,8 +26,8 @@ returns-clause-reports g c =
     let first : LaneReport = record { end = end; last = last; numbers = [] } in
     let same = ap (map (report_of last)) back ∙ reports_of_learnt last whole before in
     IfOk-weaker c.report_all.result _ _
-    (λ all told. subst (λ (n : ℕ). all.items ≡ record { end = end; last = n; numbers = [] } ∷ map (report_of n) before) number
-    (told ∙ ap (λ (rs : List LaneReport). first ∷ rs) same))
+    (λ all exchanges. subst (λ (n : ℕ). all.items ≡ record { end = end; last = n; numbers = [] } ∷ map (report_of n) before) number
+    (exchanges ∙ ap (λ (rs : List LaneReport). first ∷ rs) same))
     c.report_all.ensures
 
 pub returns-clause-begins : goal.returns-clause-begins
@@ -35,4 +35,4 @@ returns-clause-begins g c =
     let seen : History → List (SessionLane g.row.T.Denot) → Type 0 = λ h lanes. All (λ (lane : SessionLane g.row.T.Denot). IsPrefix lane.session.seen h) lanes in
     let learned = subst (seen c.close-ended.result) c.deref_mut.ensures.value c.in_ok-learnt.ensures.begins in
     let begins = subst (λ (h : History). seen h c.args.sessions.items) c.close-ended.ensures learned in
-    IfOk-weaker c.report_all.result _ _ (λ all told. begins) c.report_all.ensures
+    IfOk-weaker c.report_all.result _ _ (λ all exchanges. begins) c.report_all.ensures

@@ -14,14 +14,14 @@ use Rattle.route_lanes.proofs.run.run_in_store.Goals as goal
 pub returns-in-Ok : goal.returns-in-Ok
 returns-in-Ok g c =
     let o = g.T.Store.origin in
-    let court = c.args.court.now in
+    let context = c.args.context.now in
     let show : Link g.row.S.Denot g.row.K.Denot → LinkState = state_of g.S.Source.state g.K.Sink.state in
-    let scene : Scene = record { graph = court.graph.now; origin = o; budget = court.budget } in
-    let one = c.serve.new.operator in
-    let lanes = c.serve.new.sessions in
+    let scene : Scene = record { graph = context.graph.now; origin = o; budget = context.budget } in
+    let one = c.serve_lanes.new.operator in
+    let lanes = c.serve_lanes.new.sessions in
     let before = c.in-Ok.sessions.items in
-    let all = c.serve.ensures in
-    let serves : SessionLane g.row.T.Denot → _ → SessionLane g.row.T.Denot → _ → Type 0 = SessionServes show scene court.bytes in
+    let all = c.serve_lanes.ensures in
+    let serves : SessionLane g.row.T.Denot → _ → SessionLane g.row.T.Denot → _ → Type 0 = SessionServes show scene context.bytes in
     let count = as_many_parties serves all.served ∙ c.deref_mut.ensures.len in
     let back = written_back lanes before c.in-Ok.sessions.len count in
     let whole = whole_of one.store in
@@ -29,9 +29,9 @@ returns-in-Ok g c =
     let seen : List (SessionLane g.row.T.Denot) → Type 0 = λ xs. All (λ (x : SessionLane g.row.T.Denot). IsPrefix x.session.seen whole) xs in
     let first : LaneReport = record { end = one.end; last = last; numbers = [] } in
     ok_with c.report_lanes.result _ _
-    (λ reports told begins.
-    runs_lanes show court.graph.now o court.budget court.bytes _ one _ lanes _ _ reports.items c.args.weights c.args.first
+    (λ reports exchanges begins.
+    runs_lanes show context.graph.now o context.budget context.bytes _ one _ lanes _ _ reports.items c.args.weights c.args.first
     (sym c.requires.first) (sym c.requires.base) all
-    (told ∙ ap (λ (xs : List (SessionLane g.row.T.Denot)). first ∷ map (report_of last) xs) back)
+    (exchanges ∙ ap (λ (xs : List (SessionLane g.row.T.Denot)). first ∷ map (report_of last) xs) back)
     (subst seen back begins))
     c.report_lanes.ensures.reports c.report_lanes.ensures.begins

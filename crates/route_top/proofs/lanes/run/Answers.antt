@@ -8,7 +8,7 @@ use Rattle.route_top.specs.Lanes.{LanesEnd}
 use Rattle.route_top.proofs.FilesReadLemmas.{ends_at_files}
 use Rattle.route_top.proofs.LaneScripts.{count_scripts}
 use Rattle.route_top.proofs.LanesRuns.{all_short, count_links, ends_at_scripts, ends_over_scripts, lanes_cut, lanes_replied, lanes_starve, of_scripts}
-use Rattle.route_top.proofs.ServedScripts.{links_told}
+use Rattle.route_top.proofs.ServedScripts.{links_exchanged}
 use Rattle.route_top.proofs.lanes.run.Goals as goal
 
 -- a link in memory that never fails
@@ -64,11 +64,11 @@ returns-in_err-put_lanes g c =
     let read = rw c.deref.ensures.value at c.in_ok-graph.ensures.read in
     let short = all_short {L = SureLink} (λ l. l.from) (g.F.Source.state c.read_network.new.folder).files (scripts_of asked) c.in_ok-links.links.items
     c.in_ok-links.ensures.read in
-    let told = links_told {L = SureLink} (λ l. l.from) (λ l. l.to) asked _ _ c.in_ok-graph.ensures.matched c.in_ok-links.links.items _ _ _ _ _ _
+    let exchanges = links_exchanged {L = SureLink} (λ l. l.from) (λ l. l.to) asked _ _ c.in_ok-graph.ensures.matched c.in_ok-links.links.items _ _ _ _ _ _
     c.deref_mut.ensures.value c.in_ok-links.links.ok.0 c.deref-3.ensures.value c.deref-2.ensures.value c.in_ok-reports.ensures short
     c.in_ok-links.ensures.unsent (c.if-has_starved.ensures refl) in
     rw (p.1, p.2) (ends_over_scripts asked _ _ _ _ read c.in_ok-graph.ensures.folder _ _ _ _ c.in_ok-links.ensures.read c.in_ok-links.ensures.folder
-    (lanes_cut asked _ _ _ told _ _ _ c.in_err-put_lanes.ensures))
+    (lanes_cut asked _ _ _ exchanges _ _ _ c.in_err-put_lanes.ensures))
 
 pub returns : goal.returns
 returns g c =
@@ -76,8 +76,8 @@ returns g c =
     let read = rw c.deref.ensures.value at c.in_ok-graph.ensures.read in
     let short = all_short {L = SureLink} (λ l. l.from) (g.F.Source.state c.read_network.new.folder).files (scripts_of asked) c.in_ok-links.links.items
     c.in_ok-links.ensures.read in
-    let told = links_told {L = SureLink} (λ l. l.from) (λ l. l.to) asked _ _ c.in_ok-graph.ensures.matched c.in_ok-links.links.items _ _ _ _ _ _
+    let exchanges = links_exchanged {L = SureLink} (λ l. l.from) (λ l. l.to) asked _ _ c.in_ok-graph.ensures.matched c.in_ok-links.links.items _ _ _ _ _ _
     c.deref_mut.ensures.value c.in_ok-links.links.ok.0 c.deref-3.ensures.value c.deref-2.ensures.value c.in_ok-reports.ensures short
     c.in_ok-links.ensures.unsent (c.if-has_starved.ensures refl) in
     ends_over_scripts asked _ _ _ _ read c.in_ok-graph.ensures.folder _ _ _ _ c.in_ok-links.ensures.read c.in_ok-links.ensures.folder
-    (lanes_replied asked _ _ _ told _ _ c.in_ok-put_lanes.ensures)
+    (lanes_replied asked _ _ _ exchanges _ _ c.in_ok-put_lanes.ensures)

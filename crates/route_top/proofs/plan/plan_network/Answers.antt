@@ -1,7 +1,7 @@
 use Rattle.std.proofs.Common.{◌≡◌, ◌∙◌, ℕ, arith, map, subst, sym}
 use Rattle.std.specs.List.{range_with_len}
 use Rattle.arc_graph.specs.Joiner.{Joiner}
-use Rattle.arc_graph.specs.StandsFor.{StandsFor}
+use Rattle.arc_graph.specs.JoinerHolds.{JoinerHolds}
 use Rattle.graph_gen.specs.declared.GenPlan.{GenPlan}
 use Rattle.gen_laws.specs.Laws.{file_of, files_of}
 use Rattle.route_top.proofs.PlanLemmas.{only_want_in, stands_for_more}
@@ -16,9 +16,9 @@ loop-before-preserved c = record {
 }
 
 -- the joiner stands for all files
-all_stand : (plan : GenPlan) (n : ℕ) (joiner : Joiner) → n ≡ plan.criteria → StandsFor joiner (map (file_of plan) (range_with_len 1 n))
-    → StandsFor joiner (files_of plan)
-all_stand plan n joiner all stands = subst (λ k. StandsFor joiner (map (file_of plan) (range_with_len 1 k))) all stands
+all_stand : (plan : GenPlan) (n : ℕ) (joiner : Joiner) → n ≡ plan.criteria → JoinerHolds joiner (map (file_of plan) (range_with_len 1 n))
+    → JoinerHolds joiner (files_of plan)
+all_stand plan n joiner all stands = subst (λ k. JoinerHolds joiner (map (file_of plan) (range_with_len 1 k))) all stands
 
 pub want_in-requires : goal.want_in-requires
 want_in-requires c =

@@ -1,6 +1,6 @@
 use Rattle.std.proofs.Common.{◌≡◌, map}
 use Rattle.std.specs.List.{range_with_len}
-use Rattle.arc_graph.specs.StandsFor.{StandsFor}
+use Rattle.arc_graph.specs.JoinerHolds.{JoinerHolds}
 use Rattle.gen_laws.specs.Laws.{file_of}
 use Rattle.route_top.proofs.plan.plan_network.Given as goal
 
@@ -9,5 +9,5 @@ abbrev pub invariant-loop-before : goal.invariant-loop-before
 invariant-loop-before l = record {
   begun : l.joiner.begun ≡ l.before;
   whole : l.joiner.come ≡ l.joiner.due_arcs;
-  stands : StandsFor l.joiner (map (file_of l.plan) (range_with_len 1 l.before));
+  stands : JoinerHolds l.joiner (map (file_of l.plan) (range_with_len 1 l.before));
 }

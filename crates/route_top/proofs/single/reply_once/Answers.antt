@@ -1,6 +1,5 @@
 use Rattle.std.proofs.Common.{refl}
 use Rattle.std.proofs.lemmas.Result.{err_from_is_err_and}
-use Rattle.arc_graph.specs.Graph.{network}
 use Rattle.route_top.specs.Queries.{QueryReplies}
 use Rattle.route_top.proofs.QueryLemmas.{replied_in_part, replied_whole}
 use Rattle.route_top.proofs.RunsLemmas.{starves}
@@ -9,16 +8,16 @@ use Rattle.route_top.proofs.single.reply_once.Goals as goal
 pub returns-in_err-room : goal.returns-in_err-room
 returns-in_err-room g c =
     let p = err_from_is_err_and c.from_residual.result c.from_residual.ensures.1 in
-    let net = network c.args.answerer.now.graph.now c.args.answerer.now.weights.now in
-    rw (p.1, p.2) (starves (QueryReplies c.args.asked.now net) _ refl)
+    let net = c.args.answerer.now.network.now in
+    rw (p.1, p.2) (starves (QueryReplies c.args.kind c.args.query.now net) _ refl)
 
 pub returns-in_err-reply : goal.returns-in_err-reply
 returns-in_err-reply g c =
     let p = err_from_is_err_and c.from_residual-in_err-reply.result c.from_residual-in_err-reply.ensures.1 in
-    let net = network c.args.answerer.now.graph.now c.args.answerer.now.weights.now in
-    rw (p.1, p.2) (replied_in_part c.args.asked.now net _ _ _ c.in_err-reply.ensures)
+    let net = c.args.answerer.now.network.now in
+    rw (p.1, p.2) (replied_in_part c.args.kind c.args.query.now net _ _ _ c.in_err-reply.ensures)
 
 pub returns : goal.returns
 returns g c =
-    let net = network c.args.answerer.now.graph.now c.args.answerer.now.weights.now in
-    rw c.end_of.ensures (replied_whole c.args.asked.now net _ _ _ c.in_ok-reply.ensures)
+    let net = c.args.answerer.now.network.now in
+    rw c.end_of.ensures (replied_whole c.args.kind c.args.query.now net _ _ _ c.in_ok-reply.ensures)

@@ -1,15 +1,20 @@
+use Rattle.std.proofs.Common.{rules}
 use Rattle.std.proofs.lemmas.Result.{err_from_is_err_and}
-use Rattle.route_top.specs.Queries.{QueryReplies, asked_for}
+use Rattle.route_top.specs.Queries.{QueryReplies}
 use Rattle.route_top.proofs.FilesReadLemmas.{ends_at_files, ends_over}
+use Rattle.route_top.proofs.QueryLemmas.{asked_unlimited}
 use Rattle.route_top.proofs.single.run.Goals as goal
 
 pub returns-in_err-graph : goal.returns-in_err-graph
 returns-in_err-graph g c =
     let p = err_from_is_err_and c.from_residual.result c.from_residual.ensures.1 in
     let stop = rw c.deref.ensures.value at c.in_err-graph.ensures.read in
-    rw (p.1, p.2) (ends_at_files (QueryReplies (asked_for c.args.asked.now.kind c.args.asked.now.query)) _ _ _ _ stop c.in_err-graph.ensures.folder)
+    rw (p.1, p.2) (ends_at_files (QueryReplies c.args.asked.now.kind c.args.asked.now.query) _ _ _ _ stop c.in_err-graph.ensures.folder)
+
+pub reply_once-requires : goal.reply_once-requires
+reply_once-requires g c = (search rules, (search rules, asked_unlimited _ c.args.asked.now.query c.requires.limits.unlimited c.requires.limits.limits.budget))
 
 pub returns : goal.returns
 returns g c =
     let read = rw c.deref.ensures.value at c.in_ok-graph.ensures.read in
-    ends_over (QueryReplies (asked_for c.args.asked.now.kind c.args.asked.now.query)) _ _ _ _ _ _ _ _ read c.in_ok-graph.ensures.folder (rw c.asked_for-asked.ensures.value at c.reply_once.ensures _)
+    ends_over (QueryReplies c.args.asked.now.kind c.args.asked.now.query) _ _ _ _ _ _ _ _ read c.in_ok-graph.ensures.folder (rw c.new-network.ensures at c.reply_once.ensures _)

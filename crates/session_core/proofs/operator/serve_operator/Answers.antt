@@ -5,4 +5,4 @@ pub serve-end-requires-clause-begun : goal.serve-end-requires-clause-begun
 serve-end-requires-clause-begun g c = begun
 
 pub returns : goal.returns
-returns g c = (c.serve-end.new.party, c.drop_pending.ensures, c.serve-end.ensures)
+returns g c = (c.serve-end.new.handler, c.drop_pending.ensures, c.serve-end.ensures)

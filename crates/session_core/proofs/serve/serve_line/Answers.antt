@@ -36,7 +36,7 @@ returns-clause-serves g c total first from to served =
     let source = source_of c.args.lines.now _ _ (Ok (Some c.in-Ok-Some.kind)) c.requires.goes_on call.source in
     let sunk = g.K.Sink.state c.answer.new.arg6 in
     rw c.end_by_answer.ensures (serves_next _ _ _ _ _ _ _ _ _ _ served _ _ _ requests c.answer.new.arg3 sunk c.answer.result source call.keeps_fault
-    (λ told raw is runs. c.requires.answers _ _ _ _ _ _ _ _ c.answer.ensures first told raw (rw c.text.ensures.value is) runs))
+    (λ exchanges raw is runs. c.requires.answers _ _ _ _ _ _ _ _ c.answer.ensures first exchanges raw (rw c.text.ensures.value is) runs))
 
 pub returns-clause-takes_some : goal.returns-clause-takes_some
 returns-clause-takes_some g c is_none =

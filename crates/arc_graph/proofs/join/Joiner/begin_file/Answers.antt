@@ -1,5 +1,5 @@
 use Rattle.std.proofs.Common.{arith}
-use Rattle.arc_graph.proofs.StandingLemmas.{begin_first, begin_later}
+use Rattle.arc_graph.proofs.JoinerHoldsLemmas.{begin_first, begin_later}
 use Rattle.arc_graph.proofs.join.Joiner.begin_file.Goals as goal
 use Rattle.arc_graph.proofs.join.Joiner.begin_file.Goals.{then-self-eq0+in_ok-reserve+in_ok-reserve-2, else-self-eq0}
 

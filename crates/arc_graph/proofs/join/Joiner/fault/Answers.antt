@@ -1,4 +1,4 @@
-use Rattle.arc_graph.proofs.StandingLemmas.{size_whole}
+use Rattle.arc_graph.proofs.JoinerHoldsLemmas.{size_whole}
 use Rattle.arc_graph.proofs.FaultLemmas.{fault_is_least}
 use Rattle.arc_graph.proofs.join.Joiner.fault.Goals as goal
 

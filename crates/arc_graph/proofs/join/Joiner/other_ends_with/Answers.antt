@@ -2,7 +2,7 @@ use Rattle.std.proofs.Common.{refl, sym, ◌∙◌}
 use Rattle.std.proofs.lemmas.Bool.Decides.{not_from_Decides}
 use Rattle.arc_graph.proofs.EndsLemmas.{ends_decide}
 use Rattle.arc_graph.proofs.OtherEndsLemmas.{pair_without, pair_earlier}
-use Rattle.arc_graph.proofs.StandingLemmas.{adds_here}
+use Rattle.arc_graph.proofs.JoinerHoldsLemmas.{adds_here}
 use Rattle.arc_graph.proofs.join.Joiner.other_ends_with.Goals as goal
 
 pub returns-then-eq : goal.returns-then-eq

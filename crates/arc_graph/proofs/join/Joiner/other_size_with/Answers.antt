@@ -1,5 +1,5 @@
 use Rattle.list_laws.proofs.Least.{least_without, least_or}
-use Rattle.arc_graph.proofs.StandingLemmas.{adds_file}
+use Rattle.arc_graph.proofs.JoinerHoldsLemmas.{adds_file}
 use Rattle.arc_graph.proofs.join.Joiner.other_size_with.Goals as goal
 
 pub returns-then-is_size : goal.returns-then-is_size

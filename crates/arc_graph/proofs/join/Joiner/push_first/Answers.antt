@@ -1,5 +1,5 @@
 use Rattle.std.proofs.lemmas.List.{map_push}
-use Rattle.arc_graph.proofs.StandingLemmas.{arc_first}
+use Rattle.arc_graph.proofs.JoinerHoldsLemmas.{arc_first}
 use Rattle.arc_graph.proofs.join.Joiner.push_first.Goals as goal
 
 pub returns-clause-files : goal.returns-clause-files

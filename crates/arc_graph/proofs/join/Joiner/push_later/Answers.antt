@@ -2,7 +2,7 @@ use Rattle.std.proofs.Common.{◌<◌, length, map, arith}
 use Rattle.std.proofs.lemmas.List.{length-map}
 use Rattle.arc_graph.specs.Layout.{pair_of}
 use Rattle.arc_graph.proofs.JoinerLemmas.{joining_after_arc, joining_after_weight}
-use Rattle.arc_graph.proofs.StandingLemmas.{arc_within, arc_past}
+use Rattle.arc_graph.proofs.JoinerHoldsLemmas.{arc_within, arc_past}
 use Rattle.arc_graph.proofs.join.Joiner.push_later.Goals as goal
 use Rattle.arc_graph.proofs.join.Joiner.push_later.Goals.{then-place-len, else-place-len}
 

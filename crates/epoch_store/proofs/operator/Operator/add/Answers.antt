@@ -18,4 +18,5 @@ invariant_of-self-2 g c =
       keeps.2,
       keeps.3,
       keeps.4,
+      keeps.5,
     )

@@ -1,7 +1,7 @@
 use Rattle.std.proofs.Common.{◌≡◌, ◌<◌, List, [], ◌∷◌, ◌++◌, refl, arith}
 use Rattle.std.proofs.lemmas.Bool.Decides.{nat_tests}
 use Rattle.arc_graph.specs.declared.change.Change.{Change}
-use Rattle.arc_graph.specs.History.{max_epoch}
+use Rattle.road_network.specs.Limits.{max_epoch}
 use Rattle.arc_graph.specs.History.HistoryEntry.{Changes}
 use Rattle.epoch_store.specs.Published.{of_sets}
 use Rattle.epoch_store.proofs.OperatorLemmas.{of_sets_with, next_operator, next_number, next_follows}
@@ -35,6 +35,7 @@ invariant_of-self-2 g c =
       next_number o css cs own.number keeps.0 keeps.2,
       shown,
       c.hand_over.ensures.idle,
+      keeps.5,
     )
 
 pub returns-clause-number : goal.returns-clause-number

@@ -1,4 +1,4 @@
-use Rattle.epoch_store.specs.Standing.{IsBrought}
+use Rattle.epoch_store.specs.StoreRule.{IsBrought}
 use Rattle.epoch_store.proofs.reader.Shown.take_over.Given as goal
 
 -- the pages so far are those of the epoch that was found, and the others are as they were

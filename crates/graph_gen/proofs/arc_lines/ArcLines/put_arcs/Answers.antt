@@ -1,13 +1,13 @@
 use Rattle.std.proofs.Common.{◌≡◌, ℕ, List, Option, ap}
 use Rattle.std.proofs.lemmas.Result.{on_ok_weaker}
-use Rattle.graph_gen.specs.declared.grid.Place.{Place}
+use Rattle.graph_gen.specs.declared.grid.GridCell.{GridCell}
 use Rattle.graph_gen.specs.Grids.{arc_to}
 use Rattle.graph_gen.specs.Writing.{ArcLines}
 use Rattle.graph_gen.proofs.WritingLemmas.{puts_then}
 use Rattle.graph_gen.proofs.arc_lines.ArcLines.put_arcs.Goals as goal
 
 -- the arc from a place to another, in grids of different sides
-abbrev to : Place → Option Place → ℕ → List (ℕ × ℕ)
+abbrev to : GridCell → Option GridCell → ℕ → List (ℕ × ℕ)
 to place head side = arc_to side place head
 
 pub returns : goal.returns

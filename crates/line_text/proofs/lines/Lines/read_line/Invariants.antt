@@ -1,4 +1,4 @@
-use Rattle.std.proofs.Common.{◌≤◌, ◌+◌, ◌-◌, false, length}
+use Rattle.std.proofs.Common.{◌≡◌, ◌≤◌, ◌+◌, ◌-◌, false, length, IsTrue}
 use Rattle.route_io.specs.Sources.{ReadsFrom}
 use Rattle.line_text.specs.Lines.{first_lf}
 use Rattle.line_text.specs.Reading.{max_line}
@@ -9,6 +9,7 @@ abbrev pub invariant-loop-fault : goal.invariant-loop-fault
 invariant-loop-fault g l = record {
   holds : Holds l.fn.self l.self (g.S.Source.state l.fn.source) (g.S.Source.state l.source);
   none : l.searched ≤ first_lf l.self.held;
+  at_end : IsTrue l.fn.self.ended → l.source ≡ l.fn.source;
   source : ReadsFrom (g.S.Source.state l.fn.source) (g.S.Source.state l.source) false;
 }
 

@@ -1,11 +1,15 @@
-use Rattle.std.proofs.Common.{◌≡◌, ap, ◌∙◌, arith}
-use Rattle.std.proofs.lemmas.List.{with_items_is}
+use Rattle.std.proofs.Common.{◌≡◌, sym, ap, ◌∙◌}
 use Rattle.line_text.specs.Pieces.{part_of}
+use Rattle.line_text.proofs.RefillsLemmas.{refills_by, refills_none}
 use Rattle.line_text.proofs.lines.Lines.read_more.Goals as goal
+
+pub returns-then-self-clause-reads : goal.returns-then-self-clause-reads
+returns-then-self-clause-reads g c =
+    refills_none c.args.self.now _ (sym (ap (λ lines. lines.ended) c.self.view_is) ∙ c.if-self.true)
 
 pub returns-clause-reads : goal.returns-clause-reads
 returns-clause-reads g c =
-    let was : part_of c.as_mut_slice.result.now c.self.inside.held ≡ c.args.self.now.held =
-    ap (λ bytes. part_of bytes c.self.inside.held) c.as_mut_slice.ensures.value ∙ ap (λ lines. lines.held) c.self.view_is in
-    let now = with_items_is c.self.inside.buffer c.fill.new.buffer (omega (arith, c.as_mut_slice.ensures.len)) in
-    rw (now, ← was) c.fill.ensures.reads
+    let held : part_of c.self-2.inside.buffer.items c.self-2.inside.held ≡ c.read_once-answer.new.self.held =
+    ap (λ lines. lines.held) c.self-2.view_is in
+    refills_by _ _ _ _ _ (sym (ap (λ lines. lines.ended) c.self.view_is) ∙ c.if-self.false) c.is_end-self-inside.ensures
+    (rw held c.read_once-answer.ensures.reads)

@@ -1,6 +1,6 @@
 use Rattle.std.proofs.Common.{◌∙◌, Ok, ap, arith}
 use Rattle.route_io.proofs.ReadsLemmas.{ReadsFrom-then}
-use Rattle.line_text.proofs.RequestLemmas.{requests_whole, requests_fault, requests_last, requests_failed, cuts_more, searched_none}
+use Rattle.line_text.proofs.RequestLemmas.{requests_whole, requests_fault, requests_last, requests_failed, cuts_more, searched_none, skipped_ended}
 use Rattle.line_text.proofs.lines.Lines.read_request.Goals as goal
 
 pub returns-in-Ok-Some-clause-requests : goal.returns-in-Ok-Some-clause-requests
@@ -21,6 +21,8 @@ loop-request-preserved g c =
           c.skip_long-cut.ensures.skipped c.refill_within.ensures.stays c.refill_within.ensures.none_past c.refill_within.ensures.reads);
       counted = λ long. rw c.refill_within.ensures.stays (c.skip_long-cut.ensures.counted long);
       held_first = λ held. absurd (omega (arith, (c.loop-request.invariant.held_first held).0, part));
+      at_end = λ end. (c.refill_within.ensures.at_end (skipped_ended _ _ _ _ _ _ _ _ _ _ _ c.loop-request.invariant.cuts lacks c.skip_long-cut.ensures.long
+          c.skip_long-cut.ensures.skipped c.refill_within.ensures.stays c.refill_within.ensures.none_past c.refill_within.ensures.reads end)).0 ∙ c.loop-request.invariant.at_end end;
       source = ReadsFrom-then _ _ _ _ c.loop-request.invariant.source c.in-Ok-true.ensures.reads.source;
     }
 

@@ -1,4 +1,4 @@
-use Rattle.std.proofs.Common.{◌≡◌, ◌<◌, ◌≤◌, ◌+◌, ◌-◌, true, false, length}
+use Rattle.std.proofs.Common.{◌≡◌, ◌<◌, ◌≤◌, ◌+◌, ◌-◌, true, false, length, IsTrue}
 use Rattle.route_io.specs.Sources.{ReadsFrom}
 use Rattle.line_text.specs.Lines.{first_lf}
 use Rattle.line_text.specs.Requests.{HoldsLine}
@@ -11,6 +11,7 @@ invariant-loop-request g l = record {
   none : l.searched ≤ first_lf l.self.held;
   counted : l.cut ≡ true → l.self.number < l.self.passed;
   held_first : HoldsLine l.fn.self → HoldsLine l.self × (l.source ≡ l.fn.source);
+  at_end : IsTrue l.fn.self.ended → l.source ≡ l.fn.source;
   source : ReadsFrom (g.S.Source.state l.fn.source) (g.S.Source.state l.source) false;
 }
 

@@ -1,6 +1,6 @@
 use Rattle.std.proofs.Common.{rules, ◌≡◌}
 use Rattle.cost_vector.specs.Costs.{Dominates}
-use Rattle.event_machine.specs.Machine.{Label}
+use Rattle.road_network.specs.Labels.{Label}
 use Rattle.machine_model.specs.Views.{label_of}
 use Rattle.machine_model.proofs.ViewLemmas.{any_through}
 use Rattle.machine_model.proofs.state.State.is_beaten_at_target.Goals as goal

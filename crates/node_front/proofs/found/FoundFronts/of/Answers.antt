@@ -1,6 +1,6 @@
 use Rattle.std.proofs.Common.{◌≤◌, map, subst, arith}
 use Rattle.std.proofs.lemmas.List.{length-map}
-use Rattle.pareto_front.specs.Calls.{told_entry}
+use Rattle.pareto_front.specs.Calls.{entry_view}
 use Rattle.node_front.proofs.FoundLemmas.{settled_in_fronts, is_found, counted_all}
 use Rattle.road_network.specs.Limits.{max_nodes}
 use Rattle.node_front.proofs.found.FoundFronts.of.Goals as goal
@@ -16,9 +16,9 @@ invariant_of-result g c =
       found = is_found g.row.D c.args.start.0 c.args.target.0 before after list taken.elsewhere taken.taken taken.settled c.settled_len.ensures.fronts few
           c.requires.start c.requires.target;
       taken = taken.taken;
-      counted = counted_all g.row.D c.args.start.0 c.args.target.0 (map (told_entry {D = g.row.D}) list) after taken.taken c.settled_len.result
+      counted = counted_all g.row.D c.args.start.0 c.args.target.0 (map (entry_view {D = g.row.D}) list) after taken.taken c.settled_len.result
           c.saturating_add-labels.result c.settled_len.ensures.count
-          (omega (arith, c.saturating_add-labels.ensures, c.len.ensures, length-map list (told_entry {D = g.row.D})));
+          (omega (arith, c.saturating_add-labels.ensures, c.len.ensures, length-map list (entry_view {D = g.row.D})));
     }
 
 pub returns-clause-settled : goal.returns-clause-settled

@@ -2,9 +2,9 @@ use Rattle.std.proofs.Common.{◌≡◌, ◌≤◌, length, take, arith, sym, �
 use Rattle.std.specs.Cmp.Lexicographic.{bytes_decides}
 use Rattle.std.proofs.lemmas.Bool.{false≢true}
 use Rattle.std.proofs.lemmas.List.{length-take}
-use Rattle.pareto_front.specs.Calls.{told_entry}
+use Rattle.pareto_front.specs.Calls.{entry_view}
 use Rattle.pareto_front.specs.Sorted.{first, IsUpTo}
-use Rattle.pareto_front.proofs.Neighbours.{IsNearest, nearest_read, is_front, uncovered_at_front, uncovered_by_nearest, nearest_at_most, nearest_in}
+use Rattle.pareto_front.proofs.SortedPlaces.{IsNearest, nearest_read, is_front, uncovered_at_front, uncovered_by_nearest, nearest_at_most, nearest_in}
 use Rattle.pareto_front.proofs.sorted.SortedFrontParetoFront2.compare.Goals as goal
 use Rattle.pareto_front.proofs.sorted.SortedFrontParetoFront2.compare.Goals.{After-up_to-reach, In-Some}
 
@@ -42,7 +42,7 @@ returns-in-Some-3 c =
     rw (← c.self.view_is) (record {
       front = is_front c.self.invariant;
       standing = record {
-        by = told_entry c.in-Some.nearest.now;
+        by = entry_view c.in-Some.nearest.now;
         contains = nearest_in c.self.invariant nearest;
         dominates = record {
           at_most = nearest_at_most c.self.invariant c.args.cost.now.0 (omega arith) c.up_to-reach.result (cut path.After-up_to-reach)

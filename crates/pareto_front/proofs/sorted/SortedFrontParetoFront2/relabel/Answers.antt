@@ -1,7 +1,7 @@
 use Rattle.std.proofs.Common.{◌≡◌, arith, ap, sym, ◌∙◌}
 use Rattle.pareto_front.specs.declared.front.FrontEntry.{FrontEntry}
-use Rattle.pareto_front.proofs.Neighbours.{IsAt, is_at, read_at}
-use Rattle.pareto_front.proofs.Changes.{sorted_relabelled, relabels}
+use Rattle.pareto_front.proofs.SortedPlaces.{IsAt, is_at, read_at}
+use Rattle.pareto_front.proofs.SortedChanges.{sorted_relabelled, relabels}
 use Rattle.pareto_front.proofs.sorted.SortedFrontParetoFront2.relabel.Goals as goal
 use Rattle.pareto_front.proofs.sorted.SortedFrontParetoFront2.relabel.Goals.{After-before-at, After-index_mut}
 

@@ -1,8 +1,8 @@
 use Rattle.std.proofs.Common.{◌≡◌, false, get_or, refl, arith, ◌∙◌}
 use Rattle.std.proofs.Math.Facts.{Fits-of_lt}
-use Rattle.pareto_front.proofs.Neighbours.{IsAt, entry_at, is_at, mark_at}
+use Rattle.pareto_front.proofs.SortedPlaces.{IsAt, entry_at, is_at, mark_at}
 use Rattle.pareto_front.proofs.Marks.{length-marked_le}
-use Rattle.pareto_front.proofs.Changes.{sorted_settled, settles, settles_nothing}
+use Rattle.pareto_front.proofs.SortedChanges.{sorted_settled, settles, settles_nothing}
 use Rattle.pareto_front.proofs.sorted.SortedFrontParetoFront2.settle.Goals as goal
 use Rattle.pareto_front.proofs.sorted.SortedFrontParetoFront2.settle.Goals.{After-before-at, After-index, Joined-not-index, then-not-index, else-not-index}
 

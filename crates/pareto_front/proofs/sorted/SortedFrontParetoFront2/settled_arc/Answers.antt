@@ -5,11 +5,11 @@ use Rattle.std.proofs.lemmas.Bool.{false≢true}
 use Rattle.cost_vector.specs.Costs.{AtMost}
 use Rattle.cost_vector.proofs.Vectors.{AtMost-refl}
 use Rattle.pareto_front.specs.declared.front.FrontEntry.{FrontEntry}
-use Rattle.pareto_front.specs.Calls.{told_entry}
+use Rattle.pareto_front.specs.Calls.{entry_view}
 use Rattle.pareto_front.specs.Fronts.{Entry}
 use Rattle.pareto_front.specs.Sorted.{first, front_of, IsBefore}
-use Rattle.pareto_front.proofs.Neighbours.{in_settled, is_front, mark_at, read_at, settled_at}
-use Rattle.pareto_front.proofs.ToldLaws.{arc_of_same}
+use Rattle.pareto_front.proofs.SortedPlaces.{in_settled, is_front, mark_at, read_at, settled_at}
+use Rattle.pareto_front.proofs.EntryViewLaws.{arc_of_same}
 use Rattle.pareto_front.proofs.sorted.SortedFrontParetoFront2.settled_arc.Goals as goal
 use Rattle.pareto_front.proofs.sorted.SortedFrontParetoFront2.settled_arc.Goals.{else-at-len-via-then-at-len+then-index+else-eq, else-at-len-via-then-at-len+else-index, else-at-len-via-else-at-len}
 
@@ -26,7 +26,7 @@ returns-then-eq c =
     let taken = read_at list i x within c.index-then-eq.ensures in
     let mark = mark_at c.self.inside.marks.items i c.index.result.now (omega arith) c.index.ensures ∙ c.if-index.true in
     let same = ap (λ (e : FrontEntry 2). e.cost.0) (sym taken ∙ read) ∙ (bytes_decides _ _).0 (sym c.if-eq.ensures) in
-    let there = subst (λ (e : FrontEntry 2). Contains (front_of list c.self.inside.marks.items).settled (told_entry e)) taken
+    let there = subst (λ (e : FrontEntry 2). Contains (front_of list c.self.inside.marks.items).settled (entry_view e)) taken
     (in_settled c.self.invariant i within mark) in
     rw (← c.self.view_is) (arc_of_same (is_front c.self.invariant) x there (subst (AtMost x.cost.0) same (AtMost-refl x.cost.0)) same)
 

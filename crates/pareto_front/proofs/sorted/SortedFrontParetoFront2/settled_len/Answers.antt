@@ -1,4 +1,4 @@
-use Rattle.pareto_front.proofs.Neighbours.{is_front}
+use Rattle.pareto_front.proofs.SortedPlaces.{is_front}
 use Rattle.pareto_front.proofs.sorted.SortedFrontParetoFront2.settled_len.Goals as goal
 
 pub returns-clause-front : goal.returns-clause-front

@@ -1,7 +1,7 @@
 use Rattle.std.proofs.Common.{rules, ◌++◌, sym, subst}
 use Rattle.pareto_queue.specs.Queues.{TakesUndominated, without}
 use Rattle.pareto_queue.proofs.QueueLemmas.{ascending_by_sort, takes_alike}
-use Rattle.pareto_queue.proofs.WithoutLemmas.{renewed_in_order, unstruck}
+use Rattle.pareto_queue.proofs.WithoutLemmas.{renewed_in_order, unpurged}
 use Rattle.pareto_queue.proofs.queue.Queue.renew.Goals as goal
 
 pub part_renewed-requires : goal.part_renewed-requires
@@ -28,7 +28,7 @@ returns-clause-taken g c =
     let taken = c.part_renewed.new.taken.items in
     let rest = c.part_renewed.new.rest.items in
     rw (c.swap.ensures.x_after, ← c.self.view_is)
-    (subst (λ zs. TakesUndominated all taken zs) (sym (unstruck rest _ c.clear.ensures.items))
+    (subst (λ zs. TakesUndominated all taken zs) (sym (unpurged rest _ c.clear.ensures.items))
     (takes_alike (without spots c.list_sorted.new.list.items ++ c.list_sorted-2.new.list.items) all taken rest rest
     (renewed_in_order spots c.self.inside.gone.items c.list_sorted.new.list.items (rw c.deref.ensures.value at c.in_ok-list_sorted.ensures.same)
     c.args.fresh.now c.list_sorted-2.new.list.items c.in_ok-list_sorted-2.ensures.same) (λ x. (λ h. h, λ h. h))

@@ -6,5 +6,5 @@ use Rattle.plain_search.proofs.search.Search.add_all.Given as goal
 abbrev pub invariant-loop-label : goal.invariant-loop-label
 invariant-loop-label l = record {
   permanent : l.self.permanent.items ≡ l.fn.self.permanent.items;
-  adds : Adds l.query.to.0 l.query.limit l.fn.self.permanent.items l.fn.self.waiting.items (map spot_of (take l.label-index l.labels)) l.self.waiting.items;
+  adds : Adds l.goal.node.0 l.goal.limit l.fn.self.permanent.items l.fn.self.waiting.items (map spot_of (take l.label-index l.labels)) l.self.waiting.items;
 }

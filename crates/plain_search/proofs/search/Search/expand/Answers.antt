@@ -5,16 +5,16 @@ use Rattle.plain_search.proofs.search.Search.expand.Goals as goal
 pub relax-requires : goal.relax-requires
 relax-requires c =
     let r = c.requires in
-    let asks = relaxes _ _ _ r.posed _ _ _ r.search r.least r.room in
-    record { node = asks.node; weights = r.posed.matched; criteria = asks.criteria; fits = asks.fits }
+    let asks = relaxes _ _ r.posed _ _ _ r.search r.least r.room in
+    record { node = asks.node; criteria = asks.criteria; fits = asks.fits }
 
 pub add_all-requires : goal.add_all-requires
 add_all-requires c =
-    let r = c.requires in rw (c.deref.ensures.value, c.in_ok-labels.ensures) (lengths_of_labels _ _ _ r.posed _ _ _ r.search r.least)
+    let r = c.requires in rw (c.of-goal.ensures.limit, c.deref.ensures.value, c.in_ok-labels.ensures) (lengths_of_labels _ _ r.posed _ _ _ r.search r.least)
 
 pub returns-clause-search : goal.returns-clause-search
 returns-clause-search c =
     let r = c.requires in
     on_ok_weaker c.add_all.result (λ adds. rw (c.add_all.ensures.permanent, c.in_ok-settle.ensures.permanent)
-    (search_goes_on _ _ _ r.posed _ _ _ r.search r.least _ _ c.in_ok-settle.ensures.waiting
-    (rw (c.in_ok-settle.ensures.permanent, c.deref.ensures.value, c.in_ok-labels.ensures) at adds))) c.add_all.ensures.waiting
+    (search_goes_on _ _ r.posed _ _ _ r.search r.least _ _ (rw c.of-goal.ensures.node at c.in_ok-settle.ensures.waiting)
+    (rw (c.of-goal.ensures.node, c.of-goal.ensures.limit, c.in_ok-settle.ensures.permanent, c.deref.ensures.value, c.in_ok-labels.ensures) at adds))) c.add_all.ensures.waiting

@@ -5,6 +5,6 @@ use Rattle.plain_search.proofs.search.Search.run.Given as goal
 -- each step makes one spot permanent
 abbrev pub invariant-loop : goal.invariant-loop
 invariant-loop l = record {
-  search : IsSearch (task_of l.graph l.weights l.query) l.self.permanent.items l.self.waiting.items;
+  search : IsSearch (task_of l.network l.query) l.self.permanent.items l.self.waiting.items;
   steps : length l.self.permanent.items ≡ l.counter;
 }

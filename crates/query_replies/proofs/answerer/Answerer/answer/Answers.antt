@@ -1,6 +1,6 @@
 use Rattle.std.proofs.Common.{refl}
 use Rattle.std.proofs.lemmas.Result.{err_from_is_err_and}
-use Rattle.query_replies.specs.declared.asked.Reply.TheVariants.{Answer}
+use Rattle.query_replies.specs.declared.reply.Reply.TheVariants.{Answer}
 use Rattle.query_replies.proofs.answerer.Answerer.answer.Goals as goal
 
 pub returns-in_err-put_answer : goal.returns-in_err-put_answer

@@ -1,5 +1,5 @@
 use Rattle.std.proofs.Common.{List, arith}
-use Rattle.compact_labels.specs.declared.label.CompactLabel.{CompactLabel}
+use Rattle.cost_vector.specs.declared.compact_label.CompactLabel.{CompactLabel}
 use Rattle.node_front.specs.Deltas.{AreDeltas}
 use Rattle.node_front.proofs.RoundLemmas.{deltas_of_same}
 use Rattle.round_core.specs.Waiting.{all_waiting}

@@ -2,7 +2,7 @@ use Rattle.std.proofs.Common.{sym, refl, subst, subst₂, ◌∙◌, arith}
 use Rattle.std.specs.Prelude.{Contains}
 use Rattle.list_laws.proofs.Members.{all_from_in, in_none}
 use Rattle.list_laws.proofs.SetLaws.{none_of_empty}
-use Rattle.compact_labels.specs.declared.label.CompactSpot.{CompactSpot}
+use Rattle.cost_vector.specs.declared.compact_label.CompactSpot.{CompactSpot}
 use Rattle.cost_vector.specs.Costs.{Dominates}
 use Rattle.road_network.specs.Network.{IsNode}
 use Rattle.pareto_front.specs.Fronts.{Entry, Front, IsCovered, entries}

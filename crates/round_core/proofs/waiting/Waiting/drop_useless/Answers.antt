@@ -1,10 +1,10 @@
 use Rattle.std.proofs.Common.{IsTrue, ◌↔◌, rules, subst, ap, ◌≢◌, ◌∙◌}
-use Rattle.compact_labels.specs.declared.label.CompactSpot.{CompactSpot}
+use Rattle.cost_vector.specs.declared.compact_label.CompactSpot.{CompactSpot}
 use Rattle.pareto_queue.specs.Queues.{LosesWhere}
 use Rattle.pareto_queue.proofs.RetainedLemmas.{pairs_by_retain}
 use Rattle.round_core.specs.Bounds.{IsUseless}
 use Rattle.round_core.specs.Waiting.{Waiting}
-use Rattle.round_core.proofs.WaitingLemmas.{left_by_retain, once_left, told_useless, useless_by_news}
+use Rattle.round_core.proofs.WaitingLemmas.{left_by_retain, once_left, decidable_useless, useless_by_news}
 use Rattle.round_core.proofs.waiting.Waiting.drop_useless.Goals as goal
 
 queued_left : (g : _) (c : goal.After-retain g) → LosesWhere (λ x. IsUseless c.args.bounds.now x.cost.0) c.args.self.now.queued c.drop_dominated.new.self.queued
@@ -15,7 +15,7 @@ queued_left g c =
 
 fresh_left : (g : _) (c : goal.After-retain g) → LosesWhere (λ x. IsUseless c.args.bounds.now x.cost.0) c.self.inside.fresh.items c.retain.new.self.items
 fresh_left g c = left_by_retain _ _ _ _ c.retain.ensures.filtered (λ x. IsUseless c.args.bounds.now x.cost.0)
-    (λ x. told_useless c.args.bounds.now x.cost.0) (λ x b f r.
+    (λ x. decidable_useless c.args.bounds.now x.cost.0) (λ x b f r.
     (subst (λ (y : CompactSpot g.row.D). IsTrue b ↔ (¬ IsUseless c.args.bounds.now y.cost.0)) r.shows r.called.met.1, search rules))
 
 pub invariant_of-self : goal.invariant_of-self

@@ -1,6 +1,6 @@
 use Rattle.std.proofs.Common.{rules, IsTrue, ◌↔◌, ◌≢◌}
 use Rattle.std.specs.Prelude.{Contains}
-use Rattle.list_laws.proofs.OnceLaws.{told_in}
+use Rattle.list_laws.proofs.OnceLaws.{decidable_in}
 use Rattle.list_laws.proofs.Retained.{without_by_retain}
 use Rattle.pareto_queue.specs.Queues.{AreSorted, LosesWhere}
 use Rattle.pareto_queue.proofs.OrderLemmas.{cases_spot, sorted_from_cmp}
@@ -16,8 +16,8 @@ fresh_left g c =
     (rw c.in_ok-extend_from_slice.ensures.items at c.sort_unstable.ensures.permutation) in
     loses_by_without (Contains c.args.spots.now) _ _
     (without_by_retain _ _ _ _ _ (λ x b f r. (
-      fails_by_test_of (Contains c.args.spots.now x) (Contains c.sort_unstable.new.self.items x) (told_in cases_spot c.args.spots.now x) (same x) b
-          (let told : AreSorted c.sort_unstable.new.self.items → (IsTrue b ↔ (¬ Contains c.sort_unstable.new.self.items x)) = search rules in told sorted),
+      fails_by_test_of (Contains c.args.spots.now x) (Contains c.sort_unstable.new.self.items x) (decidable_in cases_spot c.args.spots.now x) (same x) b
+          (let decision : AreSorted c.sort_unstable.new.self.items → (IsTrue b ↔ (¬ Contains c.sort_unstable.new.self.items x)) = search rules in decision sorted),
       search rules,
     )) c.retain.ensures.filtered)
 

@@ -1,14 +1,13 @@
-use Rattle.arc_graph.specs.Graph.{network}
 use Rattle.route_top.specs.Summary.{pair_of}
 use Rattle.route_top.proofs.CountLemmas.{counts_answered, fits_answered}
 use Rattle.route_top.proofs.counting.Counter.count_answer.Goals as goal
 
 pub returns-clause-counts : goal.returns-clause-counts
 returns-clause-counts g c =
-    counts_answered (network c.args.self.now.graph.now c.args.self.now.weights.now) c.args.query.now.effort.budget (pair_of c.args.query.now)
+    counts_answered c.args.self.now.network.now c.args.query.now.budget (pair_of c.args.query.now)
     c.args.counts.now c.count_routes.new.counts c.requires.answer.within c.in_ok-count_routes.ensures.counts
 
 pub returns-clause-fits : goal.returns-clause-fits
 returns-clause-fits g c =
-    fits_answered (network c.args.self.now.graph.now c.args.self.now.weights.now) c.args.query.now.from c.args.query.now.to c.args.counts.now
+    fits_answered c.args.self.now.network.now c.args.query.now.from c.args.query.now.to c.args.counts.now
     c.count_routes.new.counts c.requires.fits c.in_ok-count_routes.ensures.counts c.in_ok-count_routes.ensures.costs c.in_ok-count_routes.ensures.sums

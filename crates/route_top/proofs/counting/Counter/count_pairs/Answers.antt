@@ -1,8 +1,7 @@
 use Rattle.std.proofs.Common.{ap, arith, subst, sym}
-use Rattle.arc_graph.specs.Graph.{network}
 use Rattle.gen_laws.specs.Laws.{HasNodes}
 use Rattle.query_reader.specs.declared.pairs.Pair.{Pair}
-use Rattle.command_words.specs.declared.Query.{Query}
+use Rattle.road_network.specs.declared.query.Query.{Query}
 use Rattle.route_top.specs.declared.summary.Summary.{Summary}
 use Rattle.route_top.specs.Summary.{CountsPair, pair_of}
 use Rattle.route_top.proofs.CountLemmas.{all_summed, none_summed, one_more_summed, one_pair_more}
@@ -14,31 +13,31 @@ blank = record { from = 0; to = 0 }
 
 pub loop-pair-init : goal.loop-pair-init
 loop-pair-init g c =
-    let none = c.of-counts.ensures.none c.args.self.now.weights.now in
+    let none = c.of-counts.ensures.none in
     record {
       come = ap (λ (s : Summary). s.pairs) none;
       fits = c.of-counts.ensures.fits;
-      sums = none_summed (network c.args.self.now.graph.now c.args.self.now.weights.now) c.args.effort.budget c.args.pairs.now c.of-counts.result none;
+      sums = none_summed c.args.self.now.network.now c.args.limits.budget c.args.pairs.now c.of-counts.result none;
     }
 
 pub count_pair-requires-clause-nodes : goal.count_pair-requires-clause-nodes
 count_pair-requires-clause-nodes g c κs within =
-    subst (λ (q : Query). HasNodes c.args.self.now.graph.now.nodes (pair_of q)) (sym c.query_between-query.ensures)
+    subst (λ (q : Query). HasNodes c.args.self.now.network.now.nodes (pair_of q)) (sym c.query_between-query.ensures.value)
     (c.requires.nodes c.loop-pair.pair-index blank c.loop-pair-test.true)
 
 pub loop-pair-preserved : goal.loop-pair-preserved
 loop-pair-preserved g c =
-    let net = network c.args.self.now.graph.now c.args.self.now.weights.now in
-    let counts = subst (λ (q : Query). CountsPair net q.effort.budget (pair_of q) c.loop-pair.counts c.count_pair.new.counts) c.query_between-query.ensures
+    let net = c.args.self.now.network.now in
+    let counts = subst (λ (q : Query). CountsPair net q.budget (pair_of q) c.loop-pair.counts c.count_pair.new.counts) c.query_between-query.ensures.value
     c.in_ok-count_pair.ensures.counts in
     record {
       come = omega (arith, one_pair_more net _ _ c.loop-pair.counts c.count_pair.new.counts counts, c.loop-pair.invariant.come);
       fits = c.in_ok-count_pair.ensures.fits;
-      sums = one_more_summed net c.args.effort.budget c.args.pairs.now c.loop-pair.pair-index blank c.loop-pair.counts c.count_pair.new.counts
+      sums = one_more_summed net c.args.limits.budget c.args.pairs.now c.loop-pair.pair-index blank c.loop-pair.counts c.count_pair.new.counts
           c.loop-pair-test.true c.loop-pair.invariant.sums counts;
     }
 
 pub returns : goal.returns
 returns g c =
-    all_summed (network c.args.self.now.graph.now c.args.self.now.weights.now) c.args.effort.budget c.args.pairs.now c.loop-pair.pair-index c.loop-pair.counts
+    all_summed c.args.self.now.network.now c.args.limits.budget c.args.pairs.now c.loop-pair.pair-index c.loop-pair.counts
     (omega arith) c.loop-pair.invariant.sums

@@ -1,5 +1,4 @@
 use Rattle.std.proofs.Common.{◌≡◌, take}
-use Rattle.arc_graph.specs.Graph.{network}
 use Rattle.route_top.specs.Summary.{Fits, SumsUp}
 use Rattle.route_top.proofs.counting.Counter.count_pairs.Given as goal
 
@@ -8,5 +7,5 @@ abbrev pub invariant-loop-pair : goal.invariant-loop-pair
 invariant-loop-pair g l = record {
   come : l.counts.pairs ≡ l.pair-index;
   fits : Fits l.counts;
-  sums : SumsUp (network l.self.graph.now l.self.weights.now) l.effort.budget (take l.pair-index l.pairs) l.counts;
+  sums : SumsUp l.self.network.now l.limits.budget (take l.pair-index l.pairs) l.counts;
 }

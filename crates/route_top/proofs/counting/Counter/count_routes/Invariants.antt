@@ -1,6 +1,5 @@
 use Rattle.std.proofs.Common.{◌≤◌}
-use Rattle.arc_graph.specs.Graph.{network}
-use Rattle.path_readback.specs.Found.{longest_in}
+use Rattle.road_network.specs.Found.{longest_in}
 use Rattle.route_top.proofs.CountLemmas.{HasCounted}
 use Rattle.route_top.proofs.counting.Counter.count_routes.Given as goal
 
@@ -8,5 +7,5 @@ use Rattle.route_top.proofs.counting.Counter.count_routes.Given as goal
 abbrev pub invariant-loop-i : goal.invariant-loop-i
 invariant-loop-i g l = record {
   room : longest_in (g.F.Found.state l.found) ≤ l.room.holds;
-  counted : HasCounted (network l.self.graph.now l.self.weights.now) (g.F.Found.state l.found) l.i l.fn.counts l.counts;
+  counted : HasCounted l.self.network.now (g.F.Found.state l.found) l.i l.fn.counts l.counts;
 }

@@ -1,3 +1,0 @@
-pub mod CompletesLaws
-pub mod BegunLaws
-pub mod RoundLaws

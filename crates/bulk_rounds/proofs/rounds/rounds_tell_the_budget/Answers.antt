@@ -1,5 +1,0 @@
-use Rattle.bulk_rounds.proofs.RoundLaws.{passes_where_more, within_where_none_stays}
-use Rattle.bulk_rounds.proofs.rounds.rounds_tell_the_budget.Goals as goal
-
-pub returns : goal.returns
-returns c = search (passes_where_more, within_where_none_stays)

@@ -1,0 +1,18 @@
+use std::alloc::AllocError;
+use std::process::Abort;
+
+mod costs;
+mod lines;
+mod numerals;
+mod outside;
+
+/// The text is the one that is wanted.
+fn assert_text(rt: &impl Abort, got: Result<String, AllocError>, wanted: &str) {
+    match got {
+        Ok(got) => assert!(rt;
+            got.as_str() == wanted,
+            "{got:?} where {wanted:?} is wanted"
+        ),
+        Err(_) => panic!(rt; "no memory is left"),
+    }
+}

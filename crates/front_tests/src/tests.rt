@@ -1,0 +1,3 @@
+mod fronts;
+mod queue;
+mod workers;

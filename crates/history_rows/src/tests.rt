@@ -1,4 +1,0 @@
-mod histories;
-mod lanes;
-mod replay;
-mod replies;

@@ -1,2 +1,0 @@
-mod lanes;
-mod turns;

@@ -1,0 +1,4 @@
+pub mod Doors
+pub mod Forms
+pub mod Links
+pub mod Towns

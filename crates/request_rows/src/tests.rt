@@ -1,2 +1,0 @@
-mod operator;
-mod session;

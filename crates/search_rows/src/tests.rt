@@ -1,3 +1,0 @@
-mod cases;
-mod joining;
-mod searching;

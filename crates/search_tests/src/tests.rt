@@ -1,0 +1,5 @@
+mod answers;
+mod drawn;
+mod machine;
+mod networks;
+mod plain;

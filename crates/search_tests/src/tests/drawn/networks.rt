@@ -1,0 +1,95 @@
+ghost use Rattle.std.specs.Prelude.{IfOk};
+ghost use Rattle.arc_graph.specs.Graph.{Match};
+
+use crate::tests::networks::join;
+use arc_graph::{Graph, Weights};
+use std::alloc::{AllocError, Global};
+use std::process::Abort;
+use std::test::Fail;
+
+/// Numbers that look drawn, and are the same in each run.
+#[derive(Drop)]
+pub(super) struct Draws {
+    state: u64,
+}
+
+impl Draws {
+    pub(super) fn new(seed: u64) -> Draws {
+        Draws {
+            state: seed.wrapping_mul(0x9E37_79B9_7F4A_7C15),
+        }
+    }
+
+    /// A number below `bound`, or 0 where that is 0.
+    pub(super) fn below(&mut self, bound: u32) -> u32 {
+        self.state = self
+            .state
+            .wrapping_mul(6_364_136_223_846_793_005)
+            .wrapping_add(1_442_695_040_888_963_407);
+        let drawn = (self.state >> 33) as u32;
+        if bound == 0 { 0 } else { drawn % bound }
+    }
+}
+
+/// An arc with its tail, its head and the weights of four criteria, of which those in use aren't all 0.
+pub(super) type DrawnArc = [u32; 6];
+
+/// A network of few nodes with loops, parallel arcs, equal weights and zeros, and the limit of a query from node 1 to the
+/// last one.
+#[derive(Drop)]
+pub(super) struct Drawn {
+    pub name: u64,
+    pub nodes: u32,
+    pub arcs: Vec<DrawnArc>,
+    pub limit: Vec<Option<u64>>,
+}
+
+/// The arc, with a weight that isn't 0 under one of the criteria in use.
+fn draw_arc(draws: &mut Draws, nodes: u32, criteria: u32, most: u32) -> DrawnArc {
+    let mut arc = [0; 6];
+    arc[0] = draws.below(nodes).saturating_add(1);
+    arc[1] = draws.below(nodes).saturating_add(1);
+    arc[2] = draws.below(most);
+    arc[3] = draws.below(most);
+    if criteria >= 3 {
+        arc[4] = draws.below(most);
+    }
+    if criteria >= 4 {
+        arc[5] = draws.below(most);
+    }
+    if arc[2] == 0 && arc[3] == 0 {
+        arc[2] = 1;
+    }
+    arc
+}
+
+pub(super) fn draw(alloc: Global, name: u64) -> Result<Drawn, AllocError> {
+    let mut draws = Draws::new(name);
+    let criteria = draws.below(3).saturating_add(2);
+    let nodes = draws.below(5).saturating_add(2);
+    let most = draws.below(5).saturating_add(2);
+    let mut arcs = Vec::new(alloc);
+    for _ in 0..draws.below(14).saturating_add(1) {
+        arcs.push(draw_arc(&mut draws, nodes, criteria, most))?;
+    }
+    let is_limited = draws.below(3) == 0;
+    let mut limit = Vec::new(alloc);
+    for _ in 0..criteria {
+        let place = u64::from(draws.below(12));
+        let is_free = !is_limited || draws.below(3) == 0;
+        limit.push(if is_free { None } else { Some(place) })?;
+    }
+    Ok(Drawn {
+        name,
+        nodes,
+        arcs,
+        limit,
+    })
+}
+
+pub(super) fn graph(rt: &impl Abort, alloc: Global, drawn: &Drawn) -> Result<(Graph, Weights), Fail>
+    ensures { IfOk result (λ r. Match r.0 r.1) }
+{
+    let criteria = drawn.limit.len();
+    Ok(join(rt, alloc, drawn.nodes, &drawn.arcs, criteria)?)
+}

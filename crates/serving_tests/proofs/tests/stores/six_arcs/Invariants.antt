@@ -1,0 +1,18 @@
+use Rattle.std.proofs.Common.{◌≡◌}
+use Rattle.serving_tests.proofs.tests.stores.six_arcs.Given as goal
+
+-- so many arcs of the file have come
+abbrev pub invariant-loop-arc : goal.invariant-loop-arc
+invariant-loop-arc l = record {
+  begun : l.joiner.begun ≡ l.initial.joiner.begun;
+  nodes : l.joiner.due_nodes ≡ 4;
+  due : l.joiner.due_arcs ≡ 6;
+  come : l.joiner.come ≡ l.arc;
+}
+
+-- so many files have come, each whole
+abbrev pub invariant-loop-file : goal.invariant-loop-file
+invariant-loop-file l = record {
+  begun : l.joiner.begun ≡ l.file;
+  whole : l.joiner.come ≡ l.joiner.due_arcs;
+}

@@ -1,0 +1,4 @@
+mod drawing;
+mod lanes;
+mod replay;
+mod replies;

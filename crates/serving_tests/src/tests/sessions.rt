@@ -1,0 +1,3 @@
+mod links;
+mod operator;
+mod session;

@@ -1,0 +1,415 @@
+ghost use Rattle.std.specs.Prelude.{◌≡◌};
+ghost use Rattle.arc_graph.specs.Graph.{Match};
+
+use super::links::{Feed, LongLine, in_pieces, link_of, text_of, whole};
+use crate::tests::stores::six_arcs;
+use arc_graph::{Graph, Weights};
+use epoch_store::{Chronicle, EpochReader, Operator, Store, make};
+use road_network::MAX_BUDGET;
+use route_io::memory::{MemorySink, MemorySource};
+use route_io::{Failed, Link, MemoryLink, OpenGate, Sink, Source};
+use session_core::{ServeContext, Session, SessionEnd};
+use std::alloc::Global;
+use std::marker::Brand;
+use std::process::Abort;
+use std::sync::Wait;
+use std::test::Fail;
+use std::thread::Threads;
+use std::time::Clock;
+use work_claim::Workers;
+
+/// What becomes of the store before the link is served.
+#[derive(Clone, Copy, PartialEq)]
+enum Before {
+    Stays,
+    Closes,
+    Ends,
+}
+
+/// What becomes of a link of a session over a store of six arcs and two criteria, whose first epoch has the number 0.
+#[derive(Clone, Copy)]
+struct Row<'r> {
+    budget: u32,
+    /// The most bytes that are taken.
+    bytes: u64,
+    /// The read before which an epoch is published, from 0.
+    publishes_at: u32,
+    /// What becomes of the store before.
+    before: Before,
+    replies: &'r str,
+    end: SessionEnd,
+    /// The numbers of the epochs that the replies name.
+    numbers: &'r [u32],
+}
+
+/// Nothing is published, and the link ends as the input does, or by `bye`.
+fn ended<'r>(replies: &'r str, numbers: &'r [u32]) -> Row<'r> {
+    Row {
+        budget: 10_000_000,
+        bytes: u64::MAX,
+        publishes_at: u32::MAX,
+        before: Before::Stays,
+        replies,
+        end: SessionEnd::Ended,
+        numbers,
+    }
+}
+
+/// The reply to `q 1 4`.
+const WALKS: &str = "r 0 1 4 2\np 2 8 2 1 3\np 4 2 2 2 4\n";
+
+/// The budget of each query, what is sent, what is replied, and the numbers that are named.
+type Ended = (u32, &'static str, &'static str, &'static [u32]);
+
+const ENDED: &[Ended] = &[
+    (4, "", "", &[]),
+    (
+        5,
+        "q 5 1\nq 1\n\nhello\n \tq  1\t4 \n",
+        "x 0 5 1 node\nx line\nx line\nr 0 1 4 2\np 2 8 2 1 3\np 4 2 2 2 4\n",
+        &[0, 0],
+    ),
+    (
+        5,
+        "c 1 4\nc 4 1\nq 4 4\nc 1 0",
+        "r 0 1 4 2\nv 2 8\nv 4 2\nr 0 4 1 0\nr 0 4 4 1\np 0 0 0\nx 0 1 0 node\n",
+        &[0, 0, 0, 0],
+    ),
+    (4, "c 1 4\n", "x 0 1 4 budget\n", &[0]),
+    (
+        5,
+        "l 1 4 3 -\nl 1 4 3 3\nl 1 4 - -\nl 1 4 3\nl 5 1 - -\n",
+        "l 0 1 4 3 - 1\np 2 8 2 1 3\nl 0 1 4 3 3 0\nl 0 1 4 - - 2\np 2 8 2 1 3\np 4 2 2 2 4\nx line\nx 0 5 1 node\n",
+        &[0, 0, 0, 0],
+    ),
+    (
+        5,
+        "l 1 4 2 -\nl 1 4 1 -\n",
+        "l 0 1 4 2 - 1\np 2 8 2 1 3\nl 0 1 4 1 - 0\n",
+        &[0, 0],
+    ),
+    (
+        4,
+        "q 1 4\nl 1 4 3 -\n",
+        "x 0 1 4 budget\nl 0 1 4 3 - 1\np 2 8 2 1 3\n",
+        &[0, 0],
+    ),
+    (3, "l 1 4 3 -\n", "x 0 1 4 budget\n", &[0]),
+    (4, "e\nbye\ne\nhello", "k 0\n", &[0]),
+    (4, "e\nbye", "k 0\n", &[0]),
+    (4, "e\nw 0", "k 0\nk 0\n", &[0, 0]),
+    (4, "e\r\n\r\n\r\r\nbye\r\ne\r\n", "k 0\nx line\n", &[0]),
+    (
+        4,
+        "e 1\nw\nw 4294967296\nw 0 0\nbye now\npublish\ns 1 1 1",
+        "x line\nx line\nx line\nx line\nx line\nx line\nx line\n",
+        &[],
+    ),
+    (4, "\n \t\r\n\n", "", &[]),
+];
+
+fn ended_rows() -> &'static [Ended] {
+    ENDED
+}
+
+/// Each row, also where its bytes come and go one by one.
+fn serve_ended<R: Threads + Wait + Clock + Sync + Abort>(
+    rt: &R,
+    alloc: Global,
+    rows: &[Ended],
+) -> Result<(), Fail> {
+    for &(budget, text, replies, numbers) in rows {
+        let row = Row {
+            budget,
+            ..ended(replies, numbers)
+        };
+        serve_row(rt, alloc, &whole(text), &row)?;
+        serve_row(rt, alloc, &in_pieces(text, 1, 1), &row)?;
+    }
+    Ok(())
+}
+
+#[test]
+fn each_line_has_its_reply(rt: HostRuntime) -> Result<(), Fail> {
+    serve_ended(&rt, rt.alloc(), ended_rows())
+}
+
+const LONG: &[LongLine] = &[
+    ("e", b' ', 1024, "\n"),
+    ("e", b' ', 1023, "\r\n"),
+    ("e", b' ', 1024, "\r\n"),
+    ("e", b'e', 1025, "\n"),
+    ("e", b' ', 1025, ""),
+];
+
+fn serve_long<R: Threads + Wait + Clock + Sync + Abort>(rt: &R, alloc: Global) -> Result<(), Fail> {
+    let text = text_of(alloc, LONG)?;
+    let feed = Feed {
+        text: &text,
+        ..whole("")
+    };
+    let row = ended("k 0\nk 0\nx line\nx line\nx line\n", &[0, 0]);
+    serve_row(rt, alloc, &feed, &row)
+}
+
+#[test]
+fn a_line_has_at_most_1024_bytes(rt: HostRuntime) -> Result<(), Fail> {
+    serve_long(&rt, rt.alloc())
+}
+
+/// The most bytes that are taken of three lines, what is replied, the numbers that are named, and how the link ends.
+const TAKEN: &[(u64, &str, &[u32], SessionEnd)] = &[
+    (7, "k 0\nk 0\nk 0\n", &[0, 0, 0], SessionEnd::Ended),
+    (6, "k 0\nk 0\nk 0\n", &[0, 0, 0], SessionEnd::TooLong),
+    (5, "k 0\nk 0\n", &[0, 0], SessionEnd::TooLong),
+    (4, "k 0\nk 0\n", &[0, 0], SessionEnd::TooLong),
+    (0, "", &[], SessionEnd::TooLong),
+];
+
+fn serve_taken<R: Threads + Wait + Clock + Sync + Abort>(
+    rt: &R,
+    alloc: Global,
+) -> Result<(), Fail> {
+    for &(bytes, replies, numbers, end) in TAKEN {
+        let row = Row {
+            bytes,
+            end,
+            ..ended(replies, numbers)
+        };
+        serve_row(rt, alloc, &whole("e\ne\ne\n"), &row)?;
+    }
+    Ok(())
+}
+
+#[test]
+fn so_many_bytes_are_taken(rt: HostRuntime) -> Result<(), Fail> {
+    serve_taken(&rt, rt.alloc())
+}
+
+/// The read that fails, what is replied, the numbers that are named, and how the link ends.
+const FAILED_READS: &[(u64, &str, &[u32], SessionEnd)] = &[
+    (0, "", &[], SessionEnd::ReadFault),
+    (1, "", &[], SessionEnd::ReadFault),
+    (2, "k 0\n", &[0], SessionEnd::ReadFault),
+    (3, "k 0\n", &[0], SessionEnd::ReadFault),
+    (4, "k 0\nk 0\n", &[0, 0], SessionEnd::ReadFault),
+    (5, "k 0\nk 0\n", &[0, 0], SessionEnd::Ended),
+];
+
+fn serve_failed_reads<R: Threads + Wait + Clock + Sync + Abort>(
+    rt: &R,
+    alloc: Global,
+) -> Result<(), Fail> {
+    for &(read, replies, numbers, end) in FAILED_READS {
+        let feed = Feed {
+            fails: &[read],
+            ..in_pieces("e\ne\n", 1, usize::MAX)
+        };
+        let row = Row {
+            end,
+            ..ended(replies, numbers)
+        };
+        serve_row(rt, alloc, &feed, &row)?;
+    }
+    Ok(())
+}
+
+/// Each line whose LF was taken before has its reply.
+#[test]
+fn a_failed_read_ends_a_link(rt: HostRuntime) -> Result<(), Fail> {
+    serve_failed_reads(&rt, rt.alloc())
+}
+
+/// A sink that takes so many bytes has the front of the reply, and its number is named.
+fn serve_room<R: Threads + Wait + Clock + Sync + Abort>(
+    rt: &R,
+    alloc: Global,
+    room: usize,
+) -> Result<(), Fail> {
+    let feed = Feed {
+        room: room as u64,
+        ..whole("q 1 4\n")
+    };
+    let end = if room < 34 {
+        SessionEnd::WriteFault
+    } else {
+        SessionEnd::Ended
+    };
+    let row = Row {
+        end,
+        ..ended(WALKS.get(..room).unwrap_or(WALKS), &[0])
+    };
+    serve_row(rt, alloc, &feed, &row)
+}
+
+fn serve_rooms<R: Threads + Wait + Clock + Sync + Abort>(
+    rt: &R,
+    alloc: Global,
+) -> Result<(), Fail> {
+    for room in 0..35 {
+        serve_room(rt, alloc, room)?;
+    }
+    Ok(())
+}
+
+#[test]
+fn a_failed_write_ends_a_link(rt: HostRuntime) -> Result<(), Fail> {
+    serve_rooms(&rt, rt.alloc())
+}
+
+#[test]
+fn a_closed_store_ends_a_wait(rt: HostRuntime) -> Result<(), Fail> {
+    let row = Row {
+        before: Before::Closes,
+        ..ended("k 0\nx 0 closed\nr 0 1 2 1\nv 1 4\nk 0\n", &[0, 0, 0, 0])
+    };
+    serve_row(&rt, rt.alloc(), &whole("w 0\nw 9\nc 1 2\ne\n"), &row)
+}
+
+/// Looks are refused where the store has ended, so no reply is begun.
+#[test]
+fn a_refused_look_ends_a_link(rt: HostRuntime) -> Result<(), Fail> {
+    let row = Row {
+        before: Before::Ends,
+        end: SessionEnd::OutOfMemory,
+        ..ended("x line\n", &[])
+    };
+    serve_row(&rt, rt.alloc(), &whole("hello\ne\ne\n"), &row)
+}
+
+/// An epoch that is published before a line comes is seen by it.
+#[test]
+fn each_line_has_a_look_of_its_own(rt: HostRuntime) -> Result<(), Fail> {
+    let row = Row {
+        publishes_at: 1,
+        ..ended("k 0\nk 1\n", &[0, 1])
+    };
+    serve_row(&rt, rt.alloc(), &in_pieces("e\ne\n", 2, usize::MAX), &row)
+}
+
+/// Serves the link over a store of its own.
+fn serve_row<R: Threads + Wait + Clock + Sync + Abort>(
+    rt: &R,
+    alloc: Global,
+    feed: &Feed<'_>,
+    row: &Row<'_>,
+) -> Result<(), Fail> {
+    let link = link_of(alloc, feed)?;
+    let (graph, weights) = six_arcs(alloc)?;
+    serve_store::<Brand, R>(rt, alloc, Chronicle::default(), weights, &graph, link, row)
+}
+
+fn serve_store<S: Store, R: Threads + Wait + Clock + Sync + Abort>(
+    rt: &R,
+    alloc: Global,
+    chronicle: Chronicle,
+    weights: Weights,
+    graph: &Graph,
+    link: MemoryLink,
+    row: &Row<'_>,
+) -> Result<(), Fail>
+    requires chronicle { chronicle ≡ S.origin.chronicle }
+    requires first { S.origin.first ≡ 0 }
+    requires weights { weights ≡ S.origin.base }
+    requires matched { Match graph.now S.origin.base }
+{
+    let (operator, readers) = make::<S>(alloc, chronicle, 0, weights, 1)?;
+    if row.before == Before::Closes {
+        let ended = operator.close(rt);
+        let mut link = link;
+        let outcome = serve(rt, alloc, graph, readers, &mut link, row);
+        ended.end(rt);
+        return outcome;
+    }
+    if row.before == Before::Ends {
+        operator.close(rt).end(rt);
+        let mut link = link;
+        return serve(rt, alloc, graph, readers, &mut link, row);
+    }
+    let publishing = Publishing {
+        rt,
+        operator,
+        reads: row.publishes_at,
+        from: link.from,
+    };
+    let mut link = Link {
+        from: publishing,
+        to: link.to,
+    };
+    let outcome = serve(rt, alloc, graph, readers, &mut link, row);
+    let Link { from, to: _to } = link;
+    from.into_operator().close(rt).end(rt);
+    outcome
+}
+
+/// Serves the link, and compares what becomes of it.
+fn serve<S: Store, R: Threads + Wait + Clock + Sync + Abort, F: Source>(
+    rt: &R,
+    alloc: Global,
+    graph: &Graph,
+    readers: Vec<EpochReader<S>>,
+    link: &mut Link<F, MemorySink>,
+    row: &Row<'_>,
+) -> Result<(), Fail>
+    requires matched { Match graph.now S.origin.base }
+{
+    let mut readers = readers;
+    let reader = readers.pop().ok_or("a reader")?;
+    let mut session = Session::new(alloc, reader)?;
+    assert!(rt; row.budget <= MAX_BUDGET);
+    let context = ServeContext {
+        workers: &Workers::new(rt, 1, &OpenGate),
+        alloc,
+        graph,
+        budget: row.budget,
+        bytes: row.bytes,
+    };
+    let end = session.serve(&context, link);
+    assert!(rt;
+        link.to.sent() == row.replies.as_bytes(),
+        "{:?} is replied",
+        row.replies
+    );
+    assert!(rt; end == row.end, "the end behind {:?}", row.replies);
+    assert!(rt;
+        session.numbers() == row.numbers,
+        "the numbers behind {:?}",
+        row.replies
+    );
+    Ok(())
+}
+
+/// A source that publishes an epoch before one of its reads.
+struct Publishing<'p, S: Store, R> {
+    rt: &'p R,
+    operator: Operator<S>,
+    /// How many reads come before.
+    reads: u32,
+    from: MemorySource,
+}
+
+impl<S: Store, R> Publishing<'_, S, R> {
+    fn into_operator(self) -> Operator<S> {
+        let Publishing {
+            rt: _rt,
+            operator,
+            reads: _reads,
+            from: _from,
+        } = self;
+        operator
+    }
+}
+
+impl<S: Store, R: Wait> Source for Publishing<'_, S, R> {
+    ghost use Rattle.route_io.specs.Forms.{memory_source_state};
+
+    ghost state = { λ s. memory_source_state s.from };
+
+    fn read(&mut self, buf: &mut [u8]) -> Result<usize, Failed> {
+        if self.reads == 0 {
+            let _number = self.operator.publish(self.rt).ok();
+        }
+        self.reads = self.reads.wrapping_sub(1);
+        self.from.read(buf)
+    }
+}

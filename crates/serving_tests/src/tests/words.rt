@@ -1,0 +1,324 @@
+use command_words::{BatchWords, Command, GenWords, SingleWords, WordsFault, read_words};
+use road_network::AnswerKind;
+use std::alloc::{AllocError, Global};
+use std::process::Abort;
+
+/// The first word, if there is one, and those of the line behind it.
+fn words_of(alloc: Global, first: &str, line: &str) -> Result<Vec<String>, AllocError> {
+    let mut words = Vec::new(alloc);
+    if first != "" {
+        words.push(String::from_str(alloc, first)?)?;
+    }
+    for word in line.split(' ') {
+        words.push(String::from_str(alloc, word)?)?;
+    }
+    Ok(words)
+}
+
+/// What the words ask for, as text.
+fn read(alloc: Global, first: &str, line: &str) -> Result<String, AllocError> {
+    let words = words_of(alloc, first, line)?;
+    match read_words(alloc, &words) {
+        Ok(command) => shown(alloc, &command),
+        Err(fault) => format!(in alloc; "{fault}"),
+    }
+}
+
+fn shown(alloc: Global, command: &Command) -> Result<String, AllocError> {
+    match command {
+        Command::Single(asked) => shown_single(alloc, asked),
+        Command::Check(check) => listed(alloc, "check", &[], &check.files),
+        Command::Batch(asked) => shown_batch(alloc, asked),
+        Command::Gen(asked) => shown_gen(alloc, asked),
+        Command::Lanes(asked) => String::from_str(alloc, asked.sessions),
+    }
+}
+
+/// A name, and behind it numbers and the names of files.
+fn listed(
+    alloc: Global,
+    name: &str,
+    numbers: &[u32],
+    files: &[&str],
+) -> Result<String, AllocError> {
+    let mut text = String::from_str(alloc, name)?;
+    for number in numbers {
+        write!(text, " {number}")?;
+    }
+    for file in files {
+        write!(text, " {file:?}")?;
+    }
+    Ok(text)
+}
+
+fn shown_single(alloc: Global, asked: &SingleWords) -> Result<String, AllocError> {
+    let name = match asked.kind {
+        AnswerKind::Costs => "costs",
+        AnswerKind::Walks => "walks",
+    };
+    let query = asked.query;
+    let numbers = [query.from, query.to, query.budget, asked.workers];
+    listed(alloc, name, &numbers, &asked.files)
+}
+
+/// The name of the file of pairs stands last.
+fn shown_batch(alloc: Global, asked: &BatchWords) -> Result<String, AllocError> {
+    let numbers = [asked.limits.budget, asked.limits.workers];
+    let mut text = listed(alloc, "batch", &numbers, &asked.files)?;
+    let pairs = asked.pairs;
+    write!(text, " of {pairs:?}")?;
+    Ok(text)
+}
+
+/// The number of the file stands behind the plan.
+fn shown_gen(alloc: Global, asked: &GenWords) -> Result<String, AllocError> {
+    let (plan, limits) = (asked.plan, asked.limits);
+    let (start, side, criteria, pairs) = (plan.start, plan.side, plan.criteria, plan.pairs);
+    let (budget, workers) = (limits.budget, limits.workers);
+    match asked.file {
+        Some(file) => {
+            let numbers = [start, side, criteria, pairs, file, budget, workers];
+            listed(alloc, "file", &numbers, &[])
+        }
+        None => {
+            let numbers = [start, side, criteria, pairs, budget, workers];
+            listed(alloc, "all", &numbers, &[])
+        }
+    }
+}
+
+/// Whether a text begins with a name and goes on with what stands beside it.
+fn is_joined(got: Result<String, AllocError>, name: &str, rest: &str) -> bool {
+    match got {
+        Ok(got) => got.strip_prefix(name) == Some(rest),
+        Err(_) => false,
+    }
+}
+
+/// The words of each row, behind the first one, ask for what stands beside them, behind a name.
+fn assert_rows(rt: &impl Abort, alloc: Global, first: &str, name: &str, rows: &[(&str, &str)]) {
+    for (line, asked) in rows {
+        assert!(rt;
+            is_joined(read(alloc, first, line), name, asked),
+            "{first} {line}"
+        );
+    }
+}
+
+/// The words of each line, behind the first one, are those of no command.
+fn assert_refused(rt: &impl Abort, alloc: Global, first: &str, lines: &[&str]) {
+    for line in lines {
+        assert!(rt;
+            is_joined(read(alloc, first, line), "", REFUSED),
+            "{first} {line}"
+        );
+    }
+}
+
+/// Words behind `costs` and `one`, and what they ask for: the ends, the budget, the workers and the files.
+const ASKED_SINGLE: &[(&str, &str)] = &[
+    (
+        "--from 1 --to 4 A.gr B.gr",
+        r#"1 4 10000000 1 "A.gr" "B.gr""#,
+    ),
+    (
+        "--to=4 --from=01 A.gr B.gr",
+        r#"1 4 10000000 1 "A.gr" "B.gr""#,
+    ),
+    (
+        "A --budget 7 B --to 4 C --from 1 D",
+        r#"1 4 7 1 "A" "B" "C" "D""#,
+    ),
+    (
+        "--from 1 --to 4 -- -x.gr --",
+        r#"1 4 10000000 1 "-x.gr" "--""#,
+    ),
+    ("--from 1 --to 4 - ", r#"1 4 10000000 1 "-" """#),
+    (
+        "--from 4294967295 --to 0 --budget 50000000 A B",
+        r#"4294967295 0 50000000 1 "A" "B""#,
+    ),
+    (
+        "--workers 64 A B --from 1 --to 1 --budget 1",
+        r#"1 1 1 64 "A" "B""#,
+    ),
+];
+
+#[test]
+fn reads_the_words_of_one_query(rt: HostRuntime) {
+    assert_rows(&rt, rt.alloc(), "costs", "costs ", ASKED_SINGLE);
+    assert_rows(&rt, rt.alloc(), "one", "walks ", ASKED_SINGLE);
+}
+
+/// Words, and what they ask for.
+const ASKED_CHECK: &[(&str, &str)] = &[
+    ("check A.gr B.gr", r#"check "A.gr" "B.gr""#),
+    ("check A B C", r#"check "A" "B" "C""#),
+    ("check A B C D", r#"check "A" "B" "C" "D""#),
+    ("check -- -x.gr y.gr", r#"check "-x.gr" "y.gr""#),
+];
+
+#[test]
+fn reads_the_words_of_check(rt: HostRuntime) {
+    assert_rows(&rt, rt.alloc(), "", "", ASKED_CHECK);
+}
+
+/// Words behind `batch`, and what they ask for: the budget, the workers, the files and the file of pairs.
+const ASKED_BATCH: &[(&str, &str)] = &[
+    (
+        "--pairs P A.gr B.gr",
+        r#"batch 10000000 1 "A.gr" "B.gr" of "P""#,
+    ),
+    (
+        "A B --workers=3 C --budget=4 --pairs=17 D",
+        r#"batch 4 3 "A" "B" "C" "D" of "17""#,
+    ),
+    ("--pairs= -- A -B", r#"batch 10000000 1 "A" "-B" of """#),
+];
+
+#[test]
+fn reads_the_words_of_batch(rt: HostRuntime) {
+    assert_rows(&rt, rt.alloc(), "batch", "", ASKED_BATCH);
+}
+
+/// Words behind `gen`, and what they ask for: start, side, criteria, pairs, the file where it is one, budget and workers.
+const ASKED_GEN: &[(&str, &str)] = &[
+    (
+        "--start 1 --side 2 --criteria 2 --pairs 1 --file 0",
+        "file 1 2 2 1 0 10000000 1",
+    ),
+    (
+        "--file=4 --pairs=500 --criteria=4 --side=1000 --start=4294967295",
+        "file 4294967295 1000 4 500 4 10000000 1",
+    ),
+    (
+        "--start 0 --side 2 --criteria 3 --pairs 1 --file 03 --workers 64 --budget 50000000",
+        "file 0 2 3 1 3 50000000 64",
+    ),
+    (
+        "--start 0 --side 2 --criteria 3 --pairs 1 --file 3 --workers 1 --budget 1",
+        "file 0 2 3 1 3 1 1",
+    ),
+    (
+        "--start 1 --side 2 --criteria 2 --pairs 1",
+        "all 1 2 2 1 10000000 1",
+    ),
+    (
+        "--pairs 500 --criteria 4 --side 1000 --start 0 --workers 8 --budget 7",
+        "all 0 1000 4 500 7 8",
+    ),
+];
+
+#[test]
+fn reads_the_words_of_gen(rt: HostRuntime) {
+    assert_rows(&rt, rt.alloc(), "gen", "", ASKED_GEN);
+}
+
+/// Words of `lanes`, and with what the names of the sessions' scripts begin, if they are words of it.
+const LANES: &[(&str, &str)] = &[
+    ("lanes --operator op --sessions day A B", "day"),
+    ("lanes A --lanes=16 --sessions= B --operator=op C", ""),
+    ("lanes --operator op --sessions day --lanes 17 A B", REFUSED),
+    ("lanes --operator op --sessions day --links 1 A B", REFUSED),
+    ("lanes --operator op A B", REFUSED),
+];
+
+#[test]
+fn reads_the_words_of_lanes(rt: HostRuntime) {
+    assert_rows(&rt, rt.alloc(), "", "", LANES);
+}
+
+/// Words behind `gen` that are those of no command.
+const OTHER_GEN: &[&str] = &[
+    "--start 1 --side 2 --criteria 2 --pairs 1 --file",
+    "--start 1 --side 2 --criteria 2 --pairs 1 --file 3",
+    "--start 1 --side 2 --criteria 4 --pairs 1 --file 5",
+    "--start 1 --side 2 --criteria 2 --pairs 1 --file 0 A.gr",
+    "--start 1 --side 2 --criteria 2 --pairs 1 --file 0 --file 0",
+    "--start 1 --side 2 --criteria 2 --pairs 1 --file +0",
+    "--start 1 --side 2 --criteria 2 --pairs P --file 0",
+    "--start 4294967296 --side 2 --criteria 2 --pairs 1 --file 0",
+    "--start 1 --side 1 --criteria 2 --pairs 1 --file 0",
+    "--start 1 --side 1001 --criteria 2 --pairs 1 --file 0",
+    "--start 1 --side 2 --criteria 1 --pairs 1 --file 0",
+    "--start 1 --side 2 --criteria 5 --pairs 1 --file 0",
+    "--start 1 --side 2 --criteria 2 --pairs 0 --file 0",
+    "--start 1 --side 2 --criteria 2 --pairs 501 --file 0",
+    "--start 1 --side 2 --criteria 2 --pairs 1 --file 0 --budget 0",
+    "--start 1 --side 2 --criteria 2 --pairs 1 --file 0 --budget 50000001",
+    "--start 1 --side 2 --criteria 2 --pairs 1 --file 0 --workers 0",
+    "--start 1 --side 2 --criteria 2 --pairs 1 --file 0 --workers 65",
+    "--start 1 --side 2 --criteria 2 --file 0",
+    "--start 1 --side 2 --pairs 1 --file 0",
+    "--start 1 --criteria 2 --pairs 1 --file 0",
+    "--side 2 --criteria 2 --pairs 1 --file 0",
+];
+
+/// Words behind `costs` and `one` that are those of no command.
+const OTHER_SINGLE: &[&str] = &[
+    "--from 1 A B",
+    "--from 1 --to 4 A",
+    "--from 1 --to 4 A B C D E",
+    "--from +1 --to 4 A B",
+    "--from 4294967296 --to 4 A B",
+    "--from 1 --to 4 --budget 0 A B",
+    "--from 1 --to 4 --budget 50000001 A B",
+    "--from 1 --to 4 --budget= A B",
+    "--from 1 --from 1 --to 4 A B",
+    "--fro 1 --to 4 A B",
+    "--from 1 --to 4 -x A B",
+    "--from -1 --to 4 A B",
+    "--from 1 --to 4 --help A B",
+    "--from 1 --to 4 --workers 0 A B",
+    "--from 1 --to 4 --workers 65 A B",
+    "--from 1 --to 4 --pairs P A B",
+];
+
+/// Words that are those of no command.
+const OTHERS: &[&str] = &[
+    "check",
+    "check A.gr",
+    "check A B C D E",
+    "check --from 1 A B",
+    "check --help A B",
+    "Check A B",
+    "path A.gr B.gr",
+    "check --workers 2 A B",
+    "Costs --from 1 --to 4 A B",
+    "batch A B",
+    "batch --pairs P A",
+    "batch --pairs P A B C D E",
+    "batch --pairs P --pairs Q A B",
+    "batch --pairs P --from 1 A B",
+    "batch --pairs P --workers 65 A B",
+    "batch --pairs P --budget 0 A B",
+    "batch --pairs -x A B",
+    "",
+];
+
+const REFUSED: &str = "the words are those of no command";
+
+#[test]
+fn refuses_other_words_of_one_query(rt: HostRuntime) {
+    assert_refused(&rt, rt.alloc(), "costs", OTHER_SINGLE);
+    assert_refused(&rt, rt.alloc(), "one", OTHER_SINGLE);
+}
+
+#[test]
+fn refuses_other_words_of_gen(rt: HostRuntime) {
+    assert_refused(&rt, rt.alloc(), "gen", OTHER_GEN);
+}
+
+#[test]
+fn refuses_other_words(rt: HostRuntime) {
+    assert_refused(&rt, rt.alloc(), "", OTHERS);
+}
+
+#[test]
+fn refuses_no_words(rt: HostRuntime) {
+    let refused = match read_words(rt.alloc(), &[]) {
+        Ok(_) => false,
+        Err(fault) => fault == WordsFault::Refused,
+    };
+    assert!(rt; refused, "no words are those of no command");
+}

@@ -1,3 +1,0 @@
-mod operator;
-mod session;
-mod stores;

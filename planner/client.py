@@ -1,0 +1,46 @@
+#!/usr/bin/python3
+"""The client as a module, and as a command that asks a running server.
+
+    from client import Program, Session, Operator
+    with Session("127.0.0.1", 7001) as session:
+        print(session.query(1, 4, limits=(None, 7)))
+
+The code stands in saminoha_planner/client.py, which can be copied alone.
+"""
+
+from __future__ import annotations
+
+import argparse
+import json
+import sys
+from dataclasses import asdict
+
+from saminoha_planner.client import *  # noqa: F401,F403
+from saminoha_planner.client import Session, parse_address
+from saminoha_planner.command import run
+
+
+def main() -> None:
+    parser = argparse.ArgumentParser(
+        description="Asks a running `route serve` one query, and prints the answer as JSON."
+    )
+    parser.add_argument(
+        "address", type=parse_address, metavar="HOST:PORT", help="where sessions are served"
+    )
+    parser.add_argument("source", type=int, metavar="FROM", help="a node")
+    parser.add_argument("target", type=int, metavar="TO", help="a node")
+    parser.add_argument(
+        "limits", nargs="*", metavar="LIMIT", help="a bound for each criterion, or - for none"
+    )
+    parser.add_argument(
+        "--timeout", type=float, default=60.0, metavar="SECONDS", help="how long to wait (60)"
+    )
+    words = parser.parse_args()
+    limits = [None if bound == "-" else int(bound) for bound in words.limits] or None
+    with Session(*words.address, timeout=words.timeout) as session:
+        json.dump(asdict(session.query(words.source, words.target, limits)), sys.stdout)
+        print()
+
+
+if __name__ == "__main__":
+    run(main)

@@ -1,0 +1,3 @@
+"""What the planner's tools share: the program's client, networks on disk, the choice of few
+alternatives, pictures.
+"""

@@ -1,0 +1,77 @@
+"""The criteria that roads can be weighed by: what a weight counts, and how it is told to people."""
+
+from __future__ import annotations
+
+import re
+from collections.abc import Sequence
+from dataclasses import dataclass, replace
+
+from .command import Fault
+
+
+@dataclass(frozen=True)
+class Criterion:
+    name: str
+    unit: str  # what a weight of 1 is
+    label: str  # as an axis has it
+    shown_unit: str
+    scale: float  # weights to one shown unit
+    digits: int = 1
+    plain: float = 1.0  # weights to a metre, a second, or what is counted
+
+    def value(self, weight: float) -> float:
+        return weight / self.scale
+
+    def text(self, weight: float) -> str:
+        number = f"{self.value(weight):.{self.digits}f}"
+        return f"{number} {self.shown_unit}".rstrip()
+
+    def texts(self, weights: Sequence[int]) -> list[str]:
+        """Of several weights, with as many digits as tell them apart, up to two more than usual."""
+        for digits in range(self.digits, self.digits + 3):
+            texts = [replace(self, digits=digits).text(weight) for weight in weights]
+            if len(set(texts)) == len(set(weights)):
+                break
+        return texts
+
+    def weight(self, text: str) -> int:
+        """The weight that a text like 1800, 30min, 25km or 2.50 means; a bare number is metres,
+        seconds, or what is counted.
+        """
+        found = re.fullmatch(r"(\d+(?:\.\d+)?) ?([a-z]*)", text)
+        units = {"": self.plain} | SUFFIXES.get(self.shown_unit, {})
+        if not found or found[2] not in units:
+            known = ", ".join(unit for unit in units if unit)
+            raise Fault(
+                f"{text!r} is no limit on {self.name}: it takes a number"
+                + (f" with {known}" if known else "")
+            )
+        return round(float(found[1]) * units[found[2]])
+
+
+SUFFIXES = {
+    "km": {"m": 1.0, "km": 1000.0},
+    "m": {"m": 1.0},
+    "min": {"s": 10.0, "min": 600.0, "h": 36000.0},
+}
+CRITERIA = {
+    criterion.name: criterion
+    for criterion in (
+        Criterion("distance", "metre", "distance", "km", 1000.0),
+        Criterion("time", "tenth of a second", "time", "min", 600.0, plain=10.0),
+        Criterion("houses", "metre with houses within 35 m", "along houses", "km", 1000.0),
+        Criterion("junctions", "junction", "junctions", "", 1.0, 0),
+        Criterion("climb", "metre of climb", "climb", "m", 1.0, 0),
+        Criterion("toll", "hundredth of the currency", "toll", "", 100.0, 2, 100.0),
+    )
+}
+
+
+def parse_criteria(text: str) -> list[Criterion]:
+    names = text.split(",")
+    unknown = [name for name in names if name not in CRITERIA]
+    if unknown:
+        raise Fault(f"there is no criterion {unknown[0]!r}; there are {', '.join(CRITERIA)}")
+    if not 2 <= len(names) <= 4 or len(set(names)) < len(names):
+        raise Fault("a network has two to four criteria, each once")
+    return [CRITERIA[name] for name in names]

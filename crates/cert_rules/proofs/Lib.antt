@@ -1,0 +1,3 @@
+pub mod ListedLaws
+pub mod SoundLaws
+pub mod CompleteLaws

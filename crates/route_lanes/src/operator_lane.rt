@@ -36,7 +36,11 @@ impl<T: Store> OperatorLane<T> {
             self.old link.old self.new link.new }
     {
         self.end = serve_open(context, &mut self.store, link);
-        replace_with(&mut self.store, context.workers.rt(), close_in_place::<T, R>);
+        replace_with(
+            &mut self.store,
+            context.workers.rt(),
+            close_in_place::<T, R>,
+        );
     }
 }
 

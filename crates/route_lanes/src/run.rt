@@ -83,7 +83,13 @@ fn run_in_store<
     match session_lanes(context.alloc, readers) {
         Ok(mut sessions) => {
             serve_lanes(context, &mut operator, &mut sessions, links);
-            report_lanes(context.workers.rt(), context.alloc, reports, operator, sessions)
+            report_lanes(
+                context.workers.rt(),
+                context.alloc,
+                reports,
+                operator,
+                sessions,
+            )
         }
         Err(_) => {
             let OperatorLane { store, end: _ } = operator;

@@ -1,0 +1,84 @@
+ghost use Rattle.std.specs.Prelude.{refl};
+
+use crate::StoredCost;
+use cost_vector::CompactCost;
+use std::cmp::Ordering;
+use std::marker::Model;
+
+/// A cost in 32 bits a component, each below 2^31. A contract sees the list of its components.
+#[derive(Clone, Copy, Debug, PartialEq, Eq, PartialOrd, Ord)]
+pub struct NarrowCost<const D: usize> {
+    parts: [u32; D],
+}
+
+impl<const D: usize> Model for NarrowCost<D> {
+    ghost use Rattle.std.specs.Prelude.{ℕ, ◌^◌, List};
+    ghost use Rattle.stored_cost.specs.Stored.{IsStored};
+
+    ghost Value = { List ℕ };
+
+    ghost view = { λ c. c.parts };
+
+    ghost invariant = { λ c. IsStored D (2 ^ 31) c.parts };
+
+    ghost inverse = { λ xs. record { parts = xs } };
+}
+
+impl<const D: usize> StoredCost<D> for NarrowCost<D> {
+    type Part = u32;
+
+    ghost components = { λ c. c };
+
+    fn fits(numbers: &[u64]) -> bool {
+        numbers.iter().all(|number| *number < 1 << 31)
+    }
+
+    fn of(numbers: &[u64]) -> NarrowCost<D> {
+        let mut parts = [0; D];
+        for (i, part) in parts.iter_mut().enumerate() {
+            *part = numbers[i] as u32;
+        }
+        NarrowCost { parts }
+    }
+
+    fn to_compact(&self) -> CompactCost<D> {
+        let mut components = [0; D];
+        for (i, component) in components.iter_mut().enumerate() {
+            *component = u64::from(self.parts[i]);
+        }
+        CompactCost(components)
+    }
+
+    fn part(&self, i: usize) -> u32 {
+        self.parts[i]
+    }
+
+    fn compare(&self, other: &NarrowCost<D>) -> Ordering {
+        self.parts.cmp(&other.parts)
+    }
+
+    fn at_most(&self, other: &NarrowCost<D>) -> bool {
+        // All are compared: where the first greater one stands can't be foreseen.
+        let mut none_greater = true;
+        for (i, part) in self.parts.iter().enumerate() {
+            none_greater &= *part <= other.parts[i];
+        }
+        none_greater
+    }
+
+    fn dominates(&self, other: &NarrowCost<D>) -> bool {
+        self.at_most(other) && self != other
+    }
+
+    fn meet(&self, other: &NarrowCost<D>) -> NarrowCost<D> {
+        let mut parts = self.parts;
+        for (i, part) in parts.iter_mut().enumerate() {
+            *part = (*part).min(other.parts[i]);
+        }
+        NarrowCost { parts }
+    }
+
+    ghost orders = { λ a b. refl };
+
+    ghost same = { λ a b e. e };
+}

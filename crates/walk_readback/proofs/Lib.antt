@@ -1,0 +1,4 @@
+pub mod GoingBackLaws
+pub mod WellFoundLaws
+pub mod IntoLemmas
+pub mod ReadbackLemmas

@@ -1,0 +1,4 @@
+pub mod Into
+pub mod Found
+pub mod GoingBack
+pub mod Room

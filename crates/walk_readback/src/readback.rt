@@ -1,0 +1,106 @@
+ghost use Rattle.std.specs.Prelude.{◌≡◌, ℕ, ◌<◌, ◌≤◌, List, Option, Some, length, map, slice_get, IfSome, ◌↔◌};
+ghost use Rattle.std.specs.Option.{option_map};
+ghost use Rattle.list_laws.specs.Least.{IsLeastIfAny};
+ghost use Rattle.arc_graph.specs.Graph.{head_of};
+ghost use Rattle.road_network.specs.Network.{IsNode};
+ghost use Rattle.road_network.specs.Best.{IsBackwardLeast};
+ghost use Rattle.walk_readback.specs.Into.{in_arcs};
+ghost use Rattle.walk_readback.specs.Found.{IsWellFound, longest_in};
+ghost use Rattle.walk_readback.specs.GoingBack.{LeavesCovered};
+
+use crate::{ArcsInto, FoundCosts, Room};
+use arc_graph::Network;
+use cost_vector::{ArcNo, Cost, NodeNo};
+
+/// An arc by which a walk is read back, and what the walk costs without it.
+#[derive(Clone, Copy)]
+struct Step {
+    arc: ArcNo,
+    before: Cost,
+}
+
+/// Leaves in the room the backward-least walk of the cost at the place `i`, from 0.
+///
+/// It goes back from the target, each time by the least arc whose tail has a settled cost that fits.
+pub fn walk<F: FoundCosts>(
+    network: &Network<'_>,
+    into: &ArcsInto,
+    found: &F,
+    i: usize,
+    room: &mut Room,
+)
+    requires there { i < length (F.state found.now).costs }
+    requires nodes { (F.state found.now).nodes ≡ network.now.nodes }
+    requires criteria { (F.state found.now).criteria ≡ network.now.criteria }
+    requires into { into.now ≡ in_arcs network.now.nodes network.now.ends }
+    requires well_found { (limit : List (Option ℕ))
+        × IsWellFound network.now limit (F.state found.now) }
+    requires room { longest_in (F.state found.now) ≤ room.old.holds }
+    ensures least { IfSome (slice_get (F.state found.now).costs i) (λ c.
+        IsBackwardLeast network.now (F.state found.now).start
+        (F.state found.now).target c (map (λ a. a.0) room.new.arcs)) }
+    ensures room { room.old.holds ≤ room.new.holds }
+{
+    prove!(network.nodes() >= 1);
+    room.clear();
+    let mut node = found.target();
+    let mut cost = found.cost(i);
+    'arcs: while let Some(step) = step_back(network, into, found, node, &cost) {
+        room.push(step.arc);
+        node = network.tail(step.arc);
+        cost = step.before;
+    }
+    room.reverse();
+}
+
+/// The least arc into a node whose tail has a settled cost at most what the arc leaves of this cost.
+fn step_back<F: FoundCosts>(
+    network: &Network<'_>,
+    into: &ArcsInto,
+    found: &F,
+    node: NodeNo,
+    cost: &Cost,
+) -> Option<Step>
+    requires node { IsNode network.now.nodes node.0 }
+    requires count { length cost.now ≡ network.now.criteria }
+    requires nodes { (F.state found.now).nodes ≡ network.now.nodes }
+    requires criteria { (F.state found.now).criteria ≡ network.now.criteria }
+    requires into { into.now ≡ in_arcs network.now.nodes network.now.ends }
+    ensures least { IsLeastIfAny
+        (λ k. (b : List ℕ) × LeavesCovered network.now (F.state found.now) node.0 cost.now k b)
+        (option_map (λ s. s.arc.0) result) }
+    ensures before { IfSome result (λ s.
+        LeavesCovered network.now (F.state found.now) node.0 cost.now s.arc.0 s.before) }
+{
+    let arcs = into.of(node);
+    for &arc in arcs {
+        if let Some(before) = cost_before(network, found, arc, cost) {
+            return Some(Step { arc, before });
+        }
+    }
+    None
+}
+
+/// What an arc leaves of the cost of a walk that ends by it, if a settled cost of its tail is at most that.
+fn cost_before<F: FoundCosts>(
+    network: &Network<'_>,
+    found: &F,
+    arc: ArcNo,
+    cost: &Cost,
+) -> Option<Cost>
+    requires counted { 1 ≤ arc.0 }
+    requires there { arc.0 ≤ length network.now.ends }
+    requires count { length cost.now ≡ network.now.criteria }
+    requires nodes { (F.state found.now).nodes ≡ network.now.nodes }
+    requires criteria { (F.state found.now).criteria ≡ network.now.criteria }
+    ensures { (b : List ℕ) → (result ≡ Some b) ↔ LeavesCovered network.now (F.state found.now)
+        (head_of network.now.ends arc) cost.now arc.0 b }
+{
+    prove!(network.nodes() >= 1);
+    let by = network.weight(arc)?;
+    let before = cost.minus(&by)?;
+    if !found.covers(network.tail(arc), &before) {
+        return None;
+    }
+    Some(before)
+}

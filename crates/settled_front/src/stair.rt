@@ -1,0 +1,88 @@
+ghost use Rattle.std.specs.Prelude.{◌≡◌, nat_le, length, map, slice_index};
+ghost use Rattle.settled_front.specs.Staircase.{IsStaircase, IsUpTo, first};
+
+use crate::front::{NarrowFront, SettledFront};
+use cost_vector::CompactCost;
+use out_of_memory::OutOfMemory;
+use std::alloc::Global;
+use std::marker::Model;
+use stored_cost::{NarrowCost, Part, StoredCost, WideCost};
+
+/// The settled costs of a node under 2 criteria, in ascending order of their first components, so that the second ones
+/// descend: of those whose first component is small enough the last one decides.
+#[derive(Drop)]
+pub struct StairFront<C: StoredCost<2>> {
+    costs: Vec<C>,
+}
+
+impl<C: StoredCost<2>> Model for StairFront<C> {
+    ghost use Rattle.std.specs.Prelude.{ℕ, List, map};
+    ghost use Rattle.settled_front.specs.Staircase.{IsStaircase};
+
+    ghost Value = { List (List ℕ) };
+
+    ghost view = { λ f. map C.components f.costs.items };
+
+    ghost invariant = { λ f. IsStaircase (map C.components f.costs.items) };
+}
+
+impl<C: StoredCost<2>> SettledFront<2> for StairFront<C> {
+    type Cost = C;
+
+    ghost costs = { λ f. f };
+
+    fn new(alloc: Global) -> StairFront<C> {
+        StairFront {
+            costs: Vec::new(alloc),
+        }
+    }
+
+    fn len(&self) -> usize {
+        self.costs.len()
+    }
+
+    fn covers(&self, cost: &C) -> bool {
+        let place = up_to(&self.costs, cost);
+        place > 0 && self.costs[place - 1].at_most(cost)
+    }
+
+    fn push(&mut self, cost: &C) -> Result<(), OutOfMemory> {
+        let place = up_to(&self.costs, cost);
+        self.costs.insert(place, *cost)?;
+        Ok(())
+    }
+
+    fn to_costs(&self, alloc: Global) -> Result<Vec<CompactCost<2>>, OutOfMemory> {
+        let mut list = Vec::new(alloc);
+        for cost in &self.costs {
+            list.push(cost.to_compact())?;
+        }
+        Ok(list)
+    }
+}
+
+/// How many costs have a first component that isn't greater.
+fn up_to<C: StoredCost<2>>(costs: &[C], cost: &C) -> usize
+    requires { IsStaircase (map C.components costs.now) }
+    ensures long { length (C.components cost.now) ≡ 2 }
+    ensures cut { IsUpTo (map C.components costs.now) (first (C.components cost.now)) result }
+{
+    let first = cost.part(0).to_number();
+    costs.partition_point(
+        |e| -> bool
+            ensures { result ≡ nat_le (slice_index (C.components e.now) 0) first }
+        { e.part(0).to_number() <= first },
+    )
+}
+
+impl NarrowFront<2> for StairFront<NarrowCost<2>> {
+    type Wide = StairFront<WideCost<2>>;
+
+    fn widen(&self, alloc: Global) -> Result<StairFront<WideCost<2>>, OutOfMemory> {
+        let mut costs = Vec::new(alloc);
+        for cost in &self.costs {
+            costs.push(WideCost::of(&cost.to_compact().0))?;
+        }
+        Ok(StairFront { costs })
+    }
+}

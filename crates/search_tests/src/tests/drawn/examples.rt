@@ -1,3 +1,5 @@
+ghost use Rattle.road_network.specs.Queries.{IsQuery};
+
 use super::networks::{Drawn, DrawnArc, graph};
 use answer_writer::put_answer;
 use arc_graph::Network;
@@ -163,15 +165,8 @@ fn compare<R: Threads + Sync + Abort>(
     let name = example.name;
     let (graph, weights) = graph(rt, alloc, &drawn(alloc, example)?)?;
     let network = Network::new(&graph, &weights);
-    assert!(rt; network.criteria() == 2 && 1 <= count && count <= 64);
-    assert!(rt; network.has_node(example.from) && network.has_node(example.to));
-    assert!(rt; 1 <= example.relevant && example.relevant <= MAX_BUDGET);
-    let query = Query {
-        from: example.from,
-        to: example.to,
-        limit: None,
-        budget: example.relevant,
-    };
+    assert!(rt; 1 <= example.relevant && 1 <= count && count <= 64);
+    let query = query_of(rt, example, &network, example.relevant);
     let counts = no_pieces();
     let workers = Workers::new(rt, count, &counts);
     let found = search(&workers, alloc, &network, &query)?;
@@ -193,15 +188,24 @@ fn compare<R: Threads + Sync + Abort>(
     );
     let is_sent = sent.is_ok() && text.sent() == example.reply.as_bytes();
     assert!(rt; is_sent, "{name}: the reply");
-    let less = Query {
-        from: example.from,
-        to: example.to,
-        limit: None,
-        budget: example.relevant - 1,
-    };
+    let less = query_of(rt, example, &network, example.relevant - 1);
     let refused = search(&workers, alloc, &network, &less).err();
     assert!(rt; refused == Some(SearchFault::Budget), "{name}: refusal");
     Ok(())
+}
+
+/// The query of an example.
+fn query_of(rt: &impl Abort, example: &Example, network: &Network<'_>, budget: u32) -> Query
+    ensures { IsQuery network.now result }
+{
+    assert!(rt; network.criteria() == 2 && budget <= MAX_BUDGET);
+    assert!(rt; network.has_node(example.from) && network.has_node(example.to));
+    Query {
+        from: example.from,
+        to: example.to,
+        limit: None,
+        budget,
+    }
 }
 
 fn examples() -> &'static [Example] {

@@ -1,3 +1,6 @@
+ghost use Rattle.std.specs.Prelude.{◌≡◌};
+ghost use Rattle.road_network.specs.Queries.{IsQuery};
+
 use super::networks::{Drawn, draw, graph};
 use super::walks::{Sums, Walk, Wanted, enumerate, wanted_reply};
 use answer_writer::put_answer;
@@ -29,17 +32,8 @@ fn compare<R: Threads + Sync + Abort>(
 ) -> Result<(), Fail> {
     let (graph, weights) = graph(rt, alloc, drawn)?;
     let network = Network::new(&graph, &weights);
-    let limit = drawn.limit.as_slice();
-    assert!(rt; 2 <= limit.len() && limit.len() <= 4 && limit.len() == network.criteria());
-    assert!(rt; network.has_node(1) && network.has_node(drawn.nodes));
-    assert!(rt; 1 <= wanted.relevant && wanted.relevant <= MAX_BUDGET);
-    assert!(rt; 1 <= count && count <= 64);
-    let query = Query {
-        from: 1,
-        to: drawn.nodes,
-        limit: Some(Limit::of_places(limit)),
-        budget: wanted.relevant,
-    };
+    assert!(rt; 1 <= wanted.relevant && 1 <= count && count <= 64);
+    let query = query_of(rt, drawn, &network, wanted.relevant);
     let workers = Workers::new(rt, count, &OpenGate);
     let found = search(&workers, alloc, &network, &query)?;
     let mut room = Room::with(alloc, found.longest())?;
@@ -48,12 +42,7 @@ fn compare<R: Threads + Sync + Abort>(
     let sent = put_answer(&mut text, 0, kind, &query, &network, &found, &mut room);
     let reply = wanted_reply(alloc, drawn, wanted)?;
     let is_sent = sent.is_ok() && text.sent() == reply.as_bytes();
-    let less = Query {
-        from: 1,
-        to: drawn.nodes,
-        limit: Some(Limit::of_places(limit)),
-        budget: wanted.relevant - 1,
-    };
+    let less = query_of(rt, drawn, &network, wanted.relevant - 1);
     let refused = search(&workers, alloc, &network, &less).err();
     let is_refused = refused == Some(SearchFault::Budget);
     assert_both(rt, is_sent, is_refused, drawn.name, count);
@@ -65,6 +54,23 @@ fn assert_both(rt: &impl Abort, is_sent: bool, is_refused: bool, name: u64, coun
     assert!(rt; is_refused, "{name}: the refusal by {count} workers");
 }
 
+/// The query of a drawn network: from its first node to its last.
+fn query_of(rt: &impl Abort, drawn: &Drawn, network: &Network<'_>, budget: u32) -> Query
+    ensures query { IsQuery network.now result }
+    ensures budget { result.budget ≡ budget }
+{
+    let limit = drawn.limit.as_slice();
+    assert!(rt; 2 <= limit.len() && limit.len() <= 4 && limit.len() == network.criteria());
+    assert!(rt; network.has_node(1) && network.has_node(drawn.nodes));
+    assert!(rt; budget <= MAX_BUDGET);
+    Query {
+        from: 1,
+        to: drawn.nodes,
+        limit: Some(Limit::of_places(limit)),
+        budget,
+    }
+}
+
 /// What the plain search answers.
 fn search_plainly(
     rt: &impl Abort,
@@ -74,16 +80,7 @@ fn search_plainly(
 ) -> Result<Result<Vec<Cost>, SearchFault>, Fail> {
     let (graph, weights) = graph(rt, alloc, drawn)?;
     let network = Network::new(&graph, &weights);
-    let limit = drawn.limit.as_slice();
-    assert!(rt; 2 <= limit.len() && limit.len() <= 4 && limit.len() == network.criteria());
-    assert!(rt; network.has_node(1) && network.has_node(drawn.nodes));
-    assert!(rt; budget <= MAX_BUDGET);
-    let query = Query {
-        from: 1,
-        to: drawn.nodes,
-        limit: Some(Limit::of_places(limit)),
-        budget,
-    };
+    let query = query_of(rt, drawn, &network, budget);
     Ok(plain_search(alloc, &network, &query))
 }
 

@@ -1,0 +1,43 @@
+ghost use Rattle.std.specs.Prelude.{◌≡◌, ◌≢◌, ℕ, List, Contains};
+ghost use Rattle.bulk_rounds.specs.Cores.{Core, IsSpent, Item, Spot};
+ghost use Rattle.bulk_rounds.specs.Kept.{IsFrom, SparesSettled};
+ghost use Rattle.bulk_rounds.specs.Standing.{IsAt, as_spot};
+ghost use Rattle.cost_vector.specs.Costs.{AtMost};
+ghost use Rattle.event_machine.specs.Machine.{Task, SearchState};
+ghost use Rattle.event_machine.specs.Orders.{IsArrival};
+ghost use Rattle.list_laws.specs.Sets.{HasMoreThan};
+ghost use Rattle.road_network.specs.Answers.{IsRelevant};
+ghost use Rattle.road_network.specs.Labels.{Label};
+ghost use Rattle.road_network.specs.Network.{AreSmall, IsNode};
+ghost use Rattle.road_network.specs.Walks.{IsSumOf};
+
+/// What arrives in a round is of a node, and dominates no settled cost there.
+pub fn arrivals_spare_settled()
+    ensures node { (task : Task) (core : Core) (s : SearchState) (x : Label)
+        → IsAt task core s → IsArrival task.network s x → IsNode core.nodes x.node }
+    ensures spares { (task : Task) (core : Core) (s : SearchState) (x : Label)
+        → IsAt task core s → IsArrival task.network s x → SparesSettled core (as_spot x) }
+{}
+
+/// With weights of 32 bits, no component of a cost that was taken is greater than as many weights as labels are settled
+/// can make it.
+pub fn taken_labels_have_small_costs()
+    ensures { (task : Task) (core : Core) (s : SearchState) (x : Spot) (n : ℕ)
+        → IsAt task core s → AreSmall task.network.states → ¬ HasMoreThan n s.settled
+        → Contains core.taken x → IsSumOf n x.cost }
+{}
+
+/// A spot that was taken is of a node, and a relevant pair.
+pub fn taken_labels_are_relevant()
+    ensures node { (task : Task) (core : Core) (s : SearchState) (x : Spot)
+        → IsAt task core s → Contains core.taken x → IsNode core.nodes x.node }
+    ensures relevant { (task : Task) (core : Core) (s : SearchState) (x : Spot)
+        → IsAt task core s → Contains core.taken x
+        → IsRelevant task.network task.start task.target task.limit x.node x.cost }
+{}
+
+/// What an item gives to the node from which it came is spent, since no cost falls along an arc.
+pub fn ways_back_are_spent()
+    ensures { (core : Core) (i : Item) (c : List ℕ) → IsFrom core i → i.from ≢ 0
+        → AtMost i.spot.cost c → IsSpent core (record { cost = c; node = i.from }) }
+{}

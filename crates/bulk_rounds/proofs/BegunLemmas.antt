@@ -2,11 +2,10 @@
 use Rattle.std.proofs.Common.{◌≡◌, ◌⊎◌, ◌↔◌, ℕ, List, [], ◌++◌, map, inl, inr, refl, sym, ap, subst, ◌∙◌, arith, Contains}
 use Rattle.cost_vector.specs.Costs.{AtMost}
 use Rattle.cost_vector.proofs.Vectors.{AtMost-refl}
-use Rattle.list_laws.proofs.Members.{in_none}
-use Rattle.list_laws.proofs.OnceLaws.{alike_back, alike_through, decidable_in, empty_if_none, list_all}
+use Rattle.list_laws.proofs.OnceLaws.{alike_through, decidable_in, empty_if_none, list_all}
 use Rattle.list_laws.proofs.SetLaws.{none_of_empty, same_by_permutation}
-use Rattle.event_machine.specs.Machine.{Task, SearchState, HasSettled, LeadsOn, settled, dropped, waiting}
-use Rattle.road_network.specs.Labels.{Label, IsSamePair}
+use Rattle.event_machine.specs.Machine.{Task, SearchState, HasSettled, LeadsOn, settled, waiting}
+use Rattle.road_network.specs.Labels.{Label}
 use Rattle.event_machine.specs.Events.{Event, drop, take, IsReached, MayDrop, Runs}
 use Rattle.event_machine.specs.Rounds.{IsBetweenRounds, NoneStays}
 use Rattle.event_machine.specs.Orders.{DropsAll, IsBegun, IsNext, Stays}
@@ -16,9 +15,9 @@ use Rattle.event_machine.specs.Machine.{start_state}
 use Rattle.event_machine.proofs.BegunLaws.{all_drops, begins_is_begun, decidable_may_drop, left_waiting}
 use Rattle.bulk_rounds.specs.Begins.{FindsNone, LosesSpent, SomeOpen, TakesNext}
 use Rattle.bulk_rounds.specs.Cores.{Core, IsBarred, IsCoveredIn, IsSettledIn, IsSpent, SameSearch, Spot, Waits, costs_at}
-use Rattle.bulk_rounds.specs.Standing.{HasWaitingBelow, IsAt, IsSearchOf, StandsFor, as_spot}
-use Rattle.bulk_rounds.specs.Taking.{IsNextIn, IsOpenIn}
-use Rattle.bulk_rounds.proofs.SpentLemmas.{barred_below, barred_on, cases_spot, covered_below, decidable_spent, spent_on, spot_by_parts}
+use Rattle.bulk_rounds.specs.Standing.{HasWaitingBelow, IsAt, IsSearchOf, as_spot}
+use Rattle.bulk_rounds.specs.Taking.{IsOpenIn}
+use Rattle.bulk_rounds.proofs.SpentLemmas.{barred_below, barred_on, cases_spot, decidable_spent, spent_on, spot_by_parts}
 use Rattle.bulk_rounds.proofs.OpenLemmas.{drop_barred, next_spot, next_told, open_if_stays, settled_not_waiting, sound, stays_below_open, waiting_uncovered}
 
 -- what events lead to from a state that is reached is reached
@@ -254,7 +253,7 @@ module _ (task : Task) (before after : Core) (s next : SearchState) (none : befo
           let node = ap (λ (z : Spot). z.node) same in
           let has : HasSettled s y.node y.cost = record { label = p.0; settled = old; node = sym node; cost = sym (ap (λ (z : Spot). z.cost) same) } in
           absurd (waiting_uncovered task before s at y is.stays.waits
-              (record { by = y.cost; settled = (at.stands.settled y.node y.cost).1 has; at_most = AtMost-refl y.cost }))
+          (record { by = y.cost; settled = (at.stands.settled y.node y.cost).1 has; at_most = AtMost-refl y.cost }))
     ]
 
   -- the core stands for the state to which they lead

@@ -10,7 +10,6 @@ use Rattle.list_laws.proofs.SetLaws.{more_by_list}
 use Rattle.cost_vector.proofs.Vectors.{AtMost-refl}
 use Rattle.event_machine.specs.Machine.{Task, SearchState, HasSettled}
 use Rattle.road_network.specs.Labels.{Label, IsSamePair}
-use Rattle.event_machine.specs.Events.{IsReached}
 use Rattle.event_machine.specs.Orders.{IsBegun, IsNext}
 use Rattle.event_machine.proofs.Sound.{cases_label}
 use Rattle.event_machine.proofs.Keeping.{settled_once}

@@ -1,5 +1,5 @@
 -- What follows for the spots of a core from the state for which it stands; the start of each search, and what is found at its end.
-use Rattle.std.proofs.Common.{◌≡◌, ◌≢◌, ◌⊎◌, ◌↔◌, ℕ, List, [], ◌∷◌, Option, replicate, inl, inr, refl, sym, ap, subst, ◌∙◌, Contains}
+use Rattle.std.proofs.Common.{◌≡◌, ◌≢◌, ◌↔◌, ℕ, List, [], Option, replicate, inl, inr, refl, sym, ap, subst, ◌∙◌, Contains}
 use Rattle.cost_vector.specs.Costs.{AtMost, Dominates}
 use Rattle.cost_vector.proofs.Vectors.{AtMost-Dominates, AtMost-refl, AtMost-trans}
 use Rattle.list_laws.specs.Sets.{HasMoreThan}

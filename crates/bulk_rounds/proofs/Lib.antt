@@ -5,3 +5,4 @@ pub mod BudgetLemmas
 pub mod MetLemmas
 pub mod FinishedLemmas
 pub mod FoundLemmas
+pub mod KeptLemmas

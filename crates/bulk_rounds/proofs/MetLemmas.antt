@@ -1,5 +1,5 @@
 -- What a round's second half keeps of the state at which it starts: its settled labels, and an entry below all that was there or arrives.
-use Rattle.std.proofs.Common.{◌≡◌, ◌⊎◌, ◌↔◌, ℕ, List, [], ◌++◌, map, inl, inr, refl, ◌∙◌, Contains}
+use Rattle.std.proofs.Common.{◌⊎◌, ◌↔◌, ℕ, List, ◌++◌, map, inl, inr, ◌∙◌, Contains}
 use Rattle.list_laws.proofs.SetLaws.{none_of_empty}
 use Rattle.event_machine.specs.Machine.{Task, IsTask, SearchState, HasSettled, IsEntry, settled}
 use Rattle.road_network.specs.Labels.{Label}
@@ -35,9 +35,10 @@ module _ (task : Task) (is : IsTask task) (s : SearchState) (sound : IsSound tas
   module _ (end : SearchState) (outcome : IsOutcome task.network s end) where
     some_run : (events : List Event) × Runs task s events end
     some_run =
-        let f = (finishes_is_outcome task is s sound end).1 outcome in
-        (map relaxing f.relaxes ++ map (λ x. merge x) f.merges,
-        runs_on task s f.relaxed end (map relaxing f.relaxes) (map (λ x. merge x) f.merges) f.relaxing_all f.merging_all)
+        let f = (finishes_is_outcome task is s sound end).1 outcome in (
+          map relaxing f.relaxes ++ map (λ x. merge x) f.merges,
+          runs_on task s f.relaxed end (map relaxing f.relaxes) (map (λ x. merge x) f.merges) f.relaxing_all f.merging_all,
+        )
 
     at_end : KeepsMet task s end
     at_end = let (events, run) = some_run in kept_by_run events end run

@@ -1,5 +1,5 @@
 -- What is open and what is next, told by the spots of a core and by the labels of the machine.
-use Rattle.std.proofs.Common.{◌≡◌, ◌⊎◌, ◌↔◌, ℕ, List, inl, inr, refl, sym, ap, subst, ◌∙◌, arith, Contains}
+use Rattle.std.proofs.Common.{◌≡◌, ◌↔◌, inl, inr, refl, subst, Contains}
 use Rattle.cost_vector.specs.Costs.{AtMost, Dominates}
 use Rattle.cost_vector.proofs.Vectors.{AtMost-Dominates, cases_same}
 use Rattle.event_machine.specs.Machine.{Task, SearchState, settled, waiting}

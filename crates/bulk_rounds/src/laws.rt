@@ -1,7 +1,9 @@
-ghost use Rattle.std.specs.Prelude.{◌≡◌, ◌≢◌, ℕ, List, Contains};
-ghost use Rattle.bulk_rounds.specs.Cores.{Core, IsSpent, Item, Spot};
+ghost use Rattle.std.specs.Prelude.{◌≡◌, ◌≢◌, ◌+◌, ℕ, List, length, Contains};
+ghost use Rattle.bulk_rounds.specs.Begins.{TakesNext};
+ghost use Rattle.bulk_rounds.specs.Cores.{Core, IsSettledIn, IsSpent, Item, Spot, Waits};
 ghost use Rattle.bulk_rounds.specs.Kept.{IsFrom, SparesSettled};
 ghost use Rattle.bulk_rounds.specs.Standing.{IsAt, as_spot};
+ghost use Rattle.bulk_rounds.specs.Taking.{CountsSettled, IsNextIn};
 ghost use Rattle.cost_vector.specs.Costs.{AtMost};
 ghost use Rattle.event_machine.specs.Machine.{Task, SearchState};
 ghost use Rattle.event_machine.specs.Orders.{IsArrival};
@@ -40,4 +42,16 @@ pub fn taken_labels_are_relevant()
 pub fn ways_back_are_spent()
     ensures { (core : Core) (i : Item) (c : List ℕ) → IsFrom core i → i.from ≢ 0
         → AtMost i.spot.cost c → IsSpent core (record { cost = c; node = i.from }) }
+{}
+
+/// To settle the next spots of a core that is no run of the machine, too, keeps what a front asks: none of them is settled, of two
+/// of a node neither cost is at most the other, and what waits dominates no settled cost of its node. Each counts once.
+pub fn taken_spots_are_spared()
+    ensures unsettled { (core : Core) (x : Spot) → IsNextIn core x → ¬ IsSettledIn core x }
+    ensures apart { (core : Core) (x y : Spot) → IsNextIn core x → IsNextIn core y
+        → AtMost x.cost y.cost → x.cost ≡ y.cost }
+    ensures spares { (before after : Core) (x : Spot) → TakesNext before after → Waits before x
+        → SparesSettled before x → SparesSettled after x }
+    ensures counts { (before after : Core) (count : ℕ) → TakesNext before after
+        → CountsSettled before count → CountsSettled after (count + length after.taken) }
 {}

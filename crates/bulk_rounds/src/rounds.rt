@@ -1,6 +1,6 @@
 ghost use Rattle.std.specs.Prelude.{◌≡◌, ◌↔◌, ◌⊎◌, ℕ, List, [], Option, Contains};
 ghost use Rattle.bulk_rounds.specs.Begins.{FindsNone, LosesSpent, SomeOpen, TakesNext, WouldPass};
-ghost use Rattle.bulk_rounds.specs.Cores.{Core, IsBarred, IsCoveredIn, IsNewSearch, IsSettledIn, Item, SameSearch, Spot, costs_at};
+ghost use Rattle.bulk_rounds.specs.Cores.{Core, IsBarred, IsNewSearch, IsSettledIn, Item, SameSearch, Spot, costs_at};
 ghost use Rattle.bulk_rounds.specs.Finishes.{FinishesRound, PutsAll};
 ghost use Rattle.bulk_rounds.specs.Standing.{IsAt, IsSearchOf, as_spot};
 ghost use Rattle.bulk_rounds.specs.Taking.{IsNextIn, IsOpenIn};
@@ -19,8 +19,8 @@ pub fn new_searches_stand_for_the_start()
         → IsAt task core (start_state task) }
 {}
 
-/// What is barred, open and next among the spots of a core is so among the labels of the machine, although spots may be
-/// stale: above each open spot lies none that is next, unless a label that stays has this spot.
+/// What is barred, open and next among the spots of a core is so among the labels of the machine, although spots may be stale:
+/// the spot of a label that stays is open, below each open spot stays a label, and the next spots are those of the next labels.
 pub fn next_spots_are_next_labels()
     ensures barred { (task : Task) (core : Core) (s : SearchState) (c : List ℕ) → IsAt task core s
         → (IsBarred core c ↔ ((¬ Within task.limit c) ⊎ IsBeatenAtTarget task s c)) }
@@ -76,5 +76,5 @@ pub fn ended_searches_have_all()
     ensures { (task : Task) (core : Core) (s : SearchState) (v : ℕ) (c : List ℕ)
         → IsAt task core s → core.taken ≡ [] → ((x : Spot) → ¬ IsOpenIn core x)
         → (Contains (costs_at core v) c
-            ↔ IsRelevant task.network core.start core.target core.limit v c) }
+        ↔ IsRelevant task.network core.start core.target core.limit v c) }
 {}

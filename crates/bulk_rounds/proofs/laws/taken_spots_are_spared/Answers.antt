@@ -1,0 +1,10 @@
+use Rattle.bulk_rounds.proofs.KeptLemmas.{counts_after, next_apart, next_unsettled, spares_after}
+use Rattle.bulk_rounds.proofs.laws.taken_spots_are_spared.Goals as goal
+
+pub returns : goal.returns
+returns c = record {
+  unsettled = next_unsettled;
+  apart = next_apart;
+  spares = λ before after x takes. spares_after before after takes x;
+  counts = λ before after count takes. counts_after before after takes count;
+}

@@ -1,0 +1,4 @@
+pub mod OrderLemmas
+pub mod PassingLemmas
+pub mod ShadowLemmas
+pub mod TakingLemmas

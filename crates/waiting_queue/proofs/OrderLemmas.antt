@@ -1,0 +1,196 @@
+-- The order of spots, and lists in this order.
+use Rattle.std.proofs.Common.{◌≡◌, ℕ, length-take-le, ◌+◌, ◌<◌, ◌≤◌, Bool, true, false, List, take, drop, get_or, length, length-take, length-drop, ◌⊎◌, ◌↔◌, inl, inr, refl, sym, ap, ap₂, subst, ◌∙◌, arith, Less, Equal, Greater}
+use Rattle.std.specs.declared.cmp.Ordering.{Ordering}
+use Rattle.std.specs.Ordering.{nat_cmp, ordering_then, ordering_reverse, is_lt, is_eq}
+use Rattle.std.specs.Cmp.{IsTotalOrder, nat_cmp_total}
+use Rattle.std.specs.Cmp.Lexicographic.{nat_list_cmp_total}
+use Rattle.std.specs.Prelude.{All, IsTrue}
+use Rattle.std.specs.List.Sorted.{IsSorted}
+use Rattle.std.proofs.Math.Nat.{add-zero}
+use Rattle.std.proofs.lemmas.Bool.{false≢true, cases_lt}
+use Rattle.std.proofs.lemmas.List.{take-take, get_or-take, get_or-drop, get_or_default}
+use Rattle.std.proofs.lemmas.List.Sorted.{sorted_far, ranks_by}
+use Rattle.std.proofs.lemmas.Bool.Decides.{nat_tests}
+use Rattle.std.proofs.lemmas.Cmp.{tied_itself, then_total, on_total}
+use Rattle.cost_vector.specs.Costs.{LexLess, lex_cmp}
+use Rattle.cost_vector.proofs.Vectors.{same_from_lex_cmp}
+use Rattle.waiting_queue.specs.declared.item.Item.{Item}
+use Rattle.waiting_queue.specs.Passing.{IsSplit}
+use Rattle.waiting_queue.specs.Shadows.{SplitsAt}
+use Rattle.waiting_queue.specs.Taking.{AreSorted}
+use Rattle.waiting_queue.specs.Waiting.{Spot, SpotLess, spot_cmp, spot_in}
+
+-- ---- spots
+
+pub spot_cmp_total : IsTotalOrder spot_cmp
+spot_cmp_total = then_total (on_total (λ (s : Spot). s.cost) nat_list_cmp_total) (on_total (λ (s : Spot). s.node) nat_cmp_total)
+
+pub SpotLess-irrefl : (a : Spot) → ¬ SpotLess a a
+SpotLess-irrefl a less = let e : Less ≡ Equal = sym less ∙ tied_itself spot_cmp_total a in absurd (cc)
+
+pub SpotLess-trans : (a b c : Spot) → SpotLess a b → SpotLess b c → SpotLess a c
+SpotLess-trans a b c = spot_cmp_total.trans a b c
+
+above_from_cmp : (a b : Spot) → spot_cmp a b ≡ Greater → SpotLess b a
+above_from_cmp a b h = spot_cmp_total.antisymm b a ∙ ap ordering_reverse h
+
+-- spots that tie are one
+pub same_from_cmp : (a b : Spot) → spot_cmp a b ≡ Equal → a ≡ b
+same_from_cmp a b h = by (lex_cmp a.cost b.cost) refl h
+  where
+    nat_same : (x y : ℕ) → nat_cmp x y ≡ Equal → x ≡ y
+    nat_same x y e = grind (arith, nat_tests)
+
+    by : (o : Ordering) → lex_cmp a.cost b.cost ≡ o → ordering_then o (nat_cmp a.node b.node) ≡ Equal → a ≡ b
+    by Less e k = absurd (cc)
+    by Greater e k = absurd (cc)
+    by Equal e k =
+        let made : List ℕ → ℕ → Spot = λ v n. record { cost = v; node = n } in
+        ap₂ made (same_from_lex_cmp a.cost b.cost e) (nat_same a.node b.node k)
+
+-- what comes before s comes before what doesn't
+pub less_unless : (x y s : Spot) → SpotLess x s → ¬ SpotLess y s → SpotLess x y
+less_unless x y s less not_less = by (spot_cmp x y) refl
+  where
+    by : (o : Ordering) → spot_cmp x y ≡ o → SpotLess x y
+    by Less e = e
+    by Equal e = absurd (not_less (subst (λ z. SpotLess z s) (same_from_cmp x y e) less))
+    by Greater e = absurd (not_less (SpotLess-trans y x s (above_from_cmp x y e) less))
+
+-- what doesn't come before another comes after it, or is the same
+pub after_or_same : (a b : Spot) → ¬ SpotLess b a → SpotLess a b ⊎ (a ≡ b)
+after_or_same a b not_less = by (spot_cmp a b) refl
+  where
+    by : (o : Ordering) → spot_cmp a b ≡ o → SpotLess a b ⊎ (a ≡ b)
+    by Less e = inl e
+    by Equal e = inr (same_from_cmp a b e)
+    by Greater e = absurd (not_less (above_from_cmp a b e))
+
+-- then its cost isn't less
+pub not_lex_less : (a b : Spot) → ¬ SpotLess b a → ¬ LexLess b.cost a.cost
+not_lex_less a b not_less less = not_less (ap (λ o. ordering_then o (nat_cmp b.node a.node)) less)
+
+less_from_lt : (o : Ordering) → is_lt o ≡ true → o ≡ Less
+less_from_lt Less e = refl
+less_from_lt Equal e = absurd (false≢true e)
+less_from_lt Greater e = absurd (false≢true e)
+
+-- what a test says
+pub less_by_test : (a b : Spot) (test : Bool) → test ≡ is_lt (spot_cmp a b) → IsTrue test ↔ SpotLess a b
+less_by_test a b test is = (λ yes. less_from_lt (spot_cmp a b) (sym is ∙ yes), λ less. is ∙ ap is_lt less)
+
+pub same_by_test : (a b : Spot) (test : Bool) → a.node ≡ b.node → test ≡ is_eq (lex_cmp a.cost b.cost) → IsTrue test ↔ (a ≡ b)
+same_by_test a b test node is = (
+  λ yes. ap₂ made (same_from_lex_cmp a.cost b.cost (equal_from_eq (lex_cmp a.cost b.cost) (sym is ∙ yes))) node,
+  λ same. is ∙ ap is_eq (subst (λ (z : Spot). lex_cmp a.cost z.cost ≡ Equal) same (tied_itself nat_list_cmp_total a.cost)),
+)
+  where
+    made : List ℕ → ℕ → Spot
+    made v n = record { cost = v; node = n }
+
+    equal_from_eq : (o : Ordering) → is_eq o ≡ true → o ≡ Equal
+    equal_from_eq Equal e = refl
+    equal_from_eq Less e = absurd (false≢true e)
+    equal_from_eq Greater e = absurd (false≢true e)
+
+-- ---- items
+
+module _ {C : Type 0} (components : C → List ℕ) where
+  -- by the spot, and then by where it came from
+  abbrev item_cmp : Item C → Item C → Ordering
+  item_cmp a b = ordering_then (lex_cmp (components a.cost) (components b.cost)) (ordering_then (nat_cmp a.node.0 b.node.0) (nat_cmp a.from.0 b.from.0))
+
+  item_cmp_total : IsTotalOrder item_cmp
+  item_cmp_total = then_total (on_total (λ (i : Item C). components i.cost) nat_list_cmp_total)
+      (then_total (on_total (λ (i : Item C). i.node.0) nat_cmp_total) (on_total (λ (i : Item C). i.from.0) nat_cmp_total))
+
+  less_too : (o p q : Ordering) → ordering_then o p ≡ Less → ordering_then o (ordering_then p q) ≡ Less
+  less_too Less p q e = refl
+  less_too Equal Less q e = refl
+  less_too Equal Equal q e = absurd (cc)
+  less_too Equal Greater q e = absurd (cc)
+  less_too Greater p q e = absurd (cc)
+
+  -- sorted, by what comparing items tells
+  pub sorted_from_cmp : (cmp : C → C → Ordering) → ((a b : C) → cmp a b ≡ lex_cmp (components a) (components b)) → (xs : List (Item C))
+      → IsSorted (λ (a b : Item C). ordering_then (cmp a.cost b.cost) (ordering_then (nat_cmp a.node.0 b.node.0) (nat_cmp a.from.0 b.from.0))) xs
+      → AreSorted (spot_in components) xs
+  sorted_from_cmp cmp orders xs sorted = λ i j d before within less.
+      let far = sorted_far (λ x y. is_lt (item_cmp x y)) (ranks_by item_cmp_total (λ (x : Item C). x)) xs alike i j d (omega arith) within in
+      let b = get_or xs j d in
+      let a = get_or xs i d in
+      false≢true (sym far ∙ ap is_lt (less_too (lex_cmp (components b.cost) (components a.cost)) (nat_cmp b.node.0 a.node.0) (nat_cmp b.from.0 a.from.0) less))
+    where
+      alike : IsSorted item_cmp xs
+      alike = λ k d low high.
+          let b = get_or xs (k + 1) d in
+          let a = get_or xs k d in
+          subst (λ o. is_lt (ordering_then o (ordering_then (nat_cmp b.node.0 a.node.0) (nat_cmp b.from.0 a.from.0))) ≡ false)
+          (orders b.cost a.cost) (sorted k d low high)
+
+-- ---- a place found by halving, where those that P holds of come first
+
+module _ {X : Type 0} (P Q : X → Type 0) (xs : List X) where
+  -- P holds up to a place of which it holds
+  pub holds_before : (m : ℕ) (d : X) → m < length xs → ((i j : ℕ) → i ≤ j → j < length xs → P (get_or xs j d) → P (get_or xs i d)) → P (get_or xs m d)
+      → All P (take (m + 1) xs)
+  holds_before m d within first holds = λ k e inside.
+      let below : k < m + 1 = omega (arith, length-take (m + 1) xs, inside) in
+      let short : k < length xs = omega (arith, below, within) in
+      subst P (get_or_default xs k d e short ∙ sym (get_or-take (m + 1) xs k e below)) (first k m (omega arith) within holds)
+
+  -- and Q from one on of which that holds
+  pub holds_from : (m : ℕ) (d : X) → m < length xs → ((i j : ℕ) → i ≤ j → j < length xs → Q (get_or xs i d) → Q (get_or xs j d)) → Q (get_or xs m d)
+      → All Q (drop m xs)
+  holds_from m d within last holds = λ k e inside.
+      let short : m + k < length xs = omega (arith, length-drop m xs, inside) in
+      subst Q (get_or_default xs (m + k) d e short ∙ sym (get_or-drop m xs k e)) (last m (m + k) (omega arith) short holds)
+
+  -- the search has ended
+  pub splits_at : (i j : ℕ) → j ≤ i → i ≤ j → i ≤ length xs → All P (take i xs) → All Q (drop j xs) → SplitsAt P Q xs i
+  splits_at i j low high within before after =
+      let same : j ≡ i = omega arith in record { within = within; before = before; after = subst (λ n. All Q (drop n xs)) same after }
+
+-- what holds of the first i and of the next
+pub all_more : {X : Type 0} (P : X → Type 0) (xs : List X) (i : ℕ) (x : X) → i < length xs → x ≡ get_or xs i x → All P (take i xs) → P x
+    → All P (take (i + 1) xs)
+all_more P xs i x within at all holds = λ k e inside.
+    let below : k < i + 1 = omega (arith, length-take (i + 1) xs, inside) in
+    subst P (sym (get_or-take (i + 1) xs k e below)) (elim (cases_lt k i) [
+      | inl earlier ↦ subst P (get_or-take i xs k e earlier) (all k e (omega (arith, length-take i xs, earlier, within)))
+      | inr last ↦ let same : i ≡ k = omega arith in subst (λ j. P (get_or xs j e)) same (subst P (at ∙ get_or_default xs i x e within) holds)
+    ])
+
+module _ {C : Type 0} (components : C → List ℕ) (xs : List (Item C)) (sorted : AreSorted (spot_in components) xs) (s : Spot) where
+  -- what comes before s stands before what doesn't
+  pub lesser_first : (i j : ℕ) (d : Item C) → i ≤ j → j < length xs → SpotLess (spot_in components (get_or xs j d)) s
+      → SpotLess (spot_in components (get_or xs i d)) s
+  lesser_first i j d up within less =
+      let x = spot_in components (get_or xs i d) in
+      let y = spot_in components (get_or xs j d) in
+      elim (cases_lt i j) [
+        | inl before ↦ elim (after_or_same x y (sorted i j d before within)) [
+          | inl earlier ↦ SpotLess-trans x y s earlier less
+          | inr same ↦ subst (λ z. SpotLess z s) (sym same) less
+        ]
+        | inr same ↦ let e : j ≡ i = omega arith in subst (λ k. SpotLess (spot_in components (get_or xs k d)) s) e less
+      ]
+
+  -- where the first items split before their end, all do
+  pub split_by_near : (n i : ℕ) → IsSplit (spot_in components) (take n xs) s i → i < length (take n xs) → IsSplit (spot_in components) xs s i
+  split_by_near n i near inside = record {
+    within = omega (arith, inside, length-take-le n xs, length-take n xs);
+    before = subst (All (λ x. SpotLess (spot_in components x) s)) (take-take i n xs (omega (arith, inside, length-take n xs))) near.before;
+    after = λ k d short less.
+        let within_too : i + k < length xs = omega (arith, short, length-drop i xs) in
+        first_not_less d (lesser_first i (i + k) d (omega arith) within_too (subst (λ y. SpotLess (spot_in components y) s) (get_or-drop i xs k d) less));
+  }
+    where
+      in_near : i < n
+      in_near = omega (arith, inside, length-take n xs)
+
+      first_not_less : (d : Item C) → ¬ SpotLess (spot_in components (get_or xs i d)) s
+      first_not_less d less =
+          near.after 0 d (omega (arith, inside, length-drop i (take n xs)))
+          (subst (λ y. SpotLess (spot_in components y) s)
+          (sym (get_or-drop i (take n xs) 0 d ∙ ap (λ j. get_or (take n xs) j d) (add-zero i) ∙ get_or-take n xs i d in_near)) less)

@@ -1,0 +1,214 @@
+-- What is taken of a sorted list, as one more of its members is seen.
+use Rattle.std.proofs.Common.{◌≡◌, ℕ, List, [], ◌∷◌, ◌++◌, ◌⊎◌, ◌↔◌, inl, inr, map, refl, sym, subst, ◌∙◌}
+use Rattle.std.specs.Prelude.{Contains, IsPermutation}
+use Rattle.std.proofs.lemmas.List.{map-append}
+use Rattle.cost_vector.specs.Costs.{Dominates}
+use Rattle.cost_vector.proofs.Vectors.{Dominates-irrefl, Dominates-trans, LexLess_from_Dominates}
+use Rattle.list_laws.proofs.Members.{cases_push, in_first, in_map, in_none, of_map}
+use Rattle.list_laws.proofs.OnceLaws.{in_append}
+use Rattle.list_laws.proofs.Pairs.{pairs_map, pairs_none, pairs_push}
+use Rattle.list_laws.proofs.SetLaws.{same_by_permutation}
+use Rattle.list_laws.specs.Sets.{SameMembers}
+use Rattle.waiting_queue.specs.Taking.{HasSpot, IsDominatedIn, IsUndominatedBy, TakesOpen}
+use Rattle.waiting_queue.specs.Waiting.{Spot, SpotLess}
+use Rattle.waiting_queue.proofs.OrderLemmas.{not_lex_less}
+
+-- one element more at the end
+pub in_push : {X : Type 0} (xs : List X) (y x : X) → Contains xs x → Contains (xs ++ y ∷ []) x
+in_push xs y x h = (in_append xs (y ∷ []) x).1 (inl h)
+
+pub last_in : {X : Type 0} (xs : List X) (y : X) → Contains (xs ++ y ∷ []) y
+last_in xs y = (in_append xs (y ∷ []) y).1 (inr (in_first y []))
+
+module _ {X : Type 0} (spot : X → Spot) (Open : Spot → Type 0) where
+  -- nothing was seen
+  pub takes_none : TakesOpen spot Open [] [] []
+  takes_none = record {
+    taken = λ s. (λ h. absurd (in_none h.0 h.1), λ h. absurd (in_none h.0.0 h.0.1));
+    among = λ x h. h;
+    ascending = pairs_none (λ a b. SpotLess (spot a) (spot b));
+    stays = λ x h. absurd (in_none x h);
+    leaves = λ x h. absurd (in_none x h);
+  }
+
+  -- s is seen, which comes before none that was seen
+  module _ (seen took left : List X) (is : TakesOpen spot Open seen took left) (s : X)
+      (behind : (x : X) → Contains seen x → ¬ SpotLess (spot s) (spot x)) where
+    cases_has : (t : Spot) → HasSpot spot (seen ++ s ∷ []) t → HasSpot spot seen t ⊎ (t ≡ spot s)
+    cases_has t h = elim (cases_push seen s h.0 h.1) [
+      | inl old ↦ inl (h.0, old, h.2)
+      | inr last ↦ inr (sym h.2 ∙ subst (λ y. spot h.0 ≡ spot y) last refl)
+    ]
+
+    -- its cost dominates none of those
+    not_below : (t : Spot) → HasSpot spot seen t → ¬ Dominates (spot s).cost t.cost
+    not_below t h below =
+        not_lex_less (spot h.0) (spot s) (behind h.0 h.1) (LexLess_from_Dominates (spot s).cost (spot h.0).cost
+        (subst (λ (y : Spot). Dominates (spot s).cost y.cost) (sym h.2) below))
+
+    more_undominated : (t : Spot) → HasSpot spot seen t → IsUndominatedBy spot Open seen t.cost → IsUndominatedBy spot Open (seen ++ s ∷ []) t.cost
+    more_undominated t h free z there held below = elim (cases_push seen s z there) [
+      | inl old ↦ free z old held below
+      | inr last ↦ not_below t h (subst (λ y. Dominates (spot y).cost t.cost) last below)
+    ]
+
+    less_undominated : (t : Spot) → IsUndominatedBy spot Open (seen ++ s ∷ []) t.cost → IsUndominatedBy spot Open seen t.cost
+    less_undominated t free z there = free z (in_push seen s z there)
+
+    -- what was taken is taken still
+    still_taken : (t : Spot) → HasSpot spot took t → HasSpot spot (seen ++ s ∷ []) t × Open t × IsUndominatedBy spot Open (seen ++ s ∷ []) t.cost
+    still_taken t h = let was = (is.taken t).0 h in ((was.0.0, in_push seen s was.0.0 was.0.1, was.0.2), was.1, more_undominated t was.0 was.2)
+
+    -- it isn't taken: it isn't held, dominated or there already
+    same_taken : (Open (spot s) → IsUndominatedBy spot Open (seen ++ s ∷ []) (spot s).cost → HasSpot spot took (spot s))
+        → (t : Spot) → HasSpot spot took t ↔ (HasSpot spot (seen ++ s ∷ []) t × Open t × IsUndominatedBy spot Open (seen ++ s ∷ []) t.cost)
+    same_taken unless t = (
+      still_taken t,
+      λ h. elim (cases_has t h.0) [
+        | inl old ↦ (is.taken t).1 (old, h.1, less_undominated t h.2)
+        | inr same ↦ subst (HasSpot spot took) (sym same)
+            (unless (subst Open same h.1) (subst (λ (y : Spot). IsUndominatedBy spot Open (seen ++ s ∷ []) y.cost) same h.2))
+      ],
+    )
+
+    -- it is dominated by what was taken, and stays
+    pub takes_skip : IsDominatedIn spot took (spot s).cost → TakesOpen spot Open (seen ++ s ∷ []) took (left ++ s ∷ [])
+    takes_skip by = record {
+      taken = same_taken (λ held free.
+          let was = (is.taken (spot by.0)).0 (by.0, by.1, refl) in absurd (free by.0 (in_push seen s by.0 (is.among by.0 by.1)) was.1 by.2));
+      among = λ x h. in_push seen s x (is.among x h);
+      ascending = is.ascending;
+      stays = λ x h. elim (cases_push left s x h) [
+        | inl old ↦ let was = is.stays x old in (in_push seen s x was.0, was.1)
+        | inr last ↦ subst (λ y. Contains (seen ++ s ∷ []) y × IsDominatedIn spot took (spot y).cost) (sym last) (last_in seen s, by)
+      ];
+      leaves = λ x h. elim (cases_push seen s x h) [
+        | inl old ↦ elim (is.leaves x old) [ inl there ↦ inl (in_push left s x there) | inr gone ↦ inr gone ]
+        | inr last ↦ inl (subst (Contains (left ++ s ∷ [])) (sym last) (last_in left s))
+      ];
+    }
+
+    -- it leaves
+    pub takes_not : HasSpot spot took (spot s) ⊎ (¬ Open (spot s)) → TakesOpen spot Open (seen ++ s ∷ []) took left
+    takes_not why = record {
+      taken = same_taken (λ held free. elim why [ inl there ↦ there | inr closed ↦ absurd (closed held) ]);
+      among = λ x h. in_push seen s x (is.among x h);
+      ascending = is.ascending;
+      stays = λ x h. let was = is.stays x h in (in_push seen s x was.0, was.1);
+      leaves = λ x h. elim (cases_push seen s x h) [
+        | inl old ↦ is.leaves x old
+        | inr last ↦ inr (subst (λ y. HasSpot spot took (spot y) ⊎ (¬ Open (spot y))) (sym last) why)
+      ];
+    }
+
+    -- it is taken
+    pub takes_more : Open (spot s) → ¬ IsDominatedIn spot took (spot s).cost → ((x : X) → Contains took x → SpotLess (spot x) (spot s))
+        → TakesOpen spot Open (seen ++ s ∷ []) (took ++ s ∷ []) left
+    takes_more held free before = record {
+      taken = λ t. (
+        λ h. elim (cases_push took s h.0 h.1) [
+          | inl old ↦ still_taken t (h.0, old, h.2)
+          | inr last ↦ subst (λ y. HasSpot spot (seen ++ s ∷ []) y × Open y × IsUndominatedBy spot Open (seen ++ s ∷ []) y.cost)
+              (subst (λ y. spot y ≡ t) last h.2) ((s, last_in seen s, refl), held, undominated)
+        ],
+        λ h. elim (cases_has t h.0) [
+          | inl old ↦ let was = (is.taken t).1 (old, h.1, less_undominated t h.2) in (was.0, in_push took s was.0 was.1, was.2)
+          | inr same ↦ (s, last_in took s, sym same)
+        ],
+      );
+      among = λ x h. elim (cases_push took s x h) [
+        | inl old ↦ in_push seen s x (is.among x old)
+        | inr last ↦ subst (Contains (seen ++ s ∷ [])) (sym last) (last_in seen s)
+      ];
+      ascending = pairs_push (λ a b. SpotLess (spot a) (spot b)) took s is.ascending before;
+      stays = λ x h. let was = is.stays x h in (in_push seen s x was.0, (was.1.0, in_push took s was.1.0 was.1.1, was.1.2));
+      leaves = λ x h. elim (cases_push seen s x h) [
+        | inl old ↦ elim (is.leaves x old) [
+          | inl there ↦ inl there
+          | inr (inl gone) ↦ inr (inl (gone.0, in_push took s gone.0 gone.1, gone.2))
+          | inr (inr closed) ↦ inr (inr closed)
+        ]
+        | inr last ↦ inr (inl (s, last_in took s, subst (λ y. spot s ≡ spot y) (sym last) refl))
+      ];
+    }
+      where
+        undominated : IsUndominatedBy spot Open (seen ++ s ∷ []) (spot s).cost
+        undominated z there z_open below = elim (cases_push seen s z there) [
+          | inr last ↦ Dominates-irrefl (spot s).cost (subst (λ y. Dominates (spot y).cost (spot s).cost) last below)
+          | inl old ↦ elim (is.leaves z old) [
+            | inl stays ↦ let by = (is.stays z stays).1 in free (by.0, by.1, Dominates-trans (spot by.0).cost (spot z).cost (spot s).cost by.2 below)
+            | inr (inl gone) ↦ free (gone.0, gone.1, subst (λ (y : Spot). Dominates y.cost (spot s).cost) (sym gone.2) below)
+            | inr (inr closed) ↦ closed z_open
+          ]
+        ]
+
+-- only the members of what was there count
+pub takes_alike : {X : Type 0} (spot : X → Spot) (Open : Spot → Type 0) (xs ys took left : List X) → SameMembers xs ys
+    → TakesOpen spot Open xs took left → TakesOpen spot Open ys took left
+takes_alike {X} spot Open xs ys took left same is = record {
+  taken = λ s. (
+    λ h. let was = (is.taken s).0 h in ((was.0.0, (same was.0.0).0 was.0.1, was.0.2), was.1, λ z there. was.2 z ((same z).1 there)),
+    λ h. (is.taken s).1 ((h.0.0, (same h.0.0).1 h.0.1, h.0.2), h.1, λ z there. h.2 z ((same z).0 there)),
+  );
+  among = λ x h. (same x).0 (is.among x h);
+  ascending = is.ascending;
+  stays = λ x h. let was = is.stays x h in ((same x).0 was.0, was.1);
+  leaves = λ x h. is.leaves x ((same x).1 h);
+}
+
+-- what is said of members holds of what they tell
+module _ {X Y : Type 0} (spot : Y → Spot) (tell : X → Y) (Open : Spot → Type 0) where
+  has_told : (xs : List X) (s : Spot) → HasSpot (λ x. spot (tell x)) xs s ↔ HasSpot spot (map tell xs) s
+  has_told xs s = (
+    λ h. (tell h.0, in_map tell xs h.0 h.1, h.2),
+    λ h. let from = of_map tell xs h.0 h.1 in (from.0, from.1, subst (λ y. spot y ≡ s) from.2 h.2),
+  )
+
+  undominated_told : (xs : List X) (c : List ℕ) → IsUndominatedBy (λ x. spot (tell x)) Open xs c ↔ IsUndominatedBy spot Open (map tell xs) c
+  undominated_told xs c = (
+    λ free z there held below.
+        let from = of_map tell xs z there in
+        free from.0 from.1 (subst (λ y. Open (spot y)) from.2 held) (subst (λ y. Dominates (spot y).cost c) from.2 below),
+    λ free z there. free (tell z) (in_map tell xs z there),
+  )
+
+  pub takes_told : (before took after : List X) → TakesOpen (λ x. spot (tell x)) Open before took after
+      → TakesOpen spot Open (map tell before) (map tell took) (map tell after)
+  takes_told before took after is = record {
+    taken = λ s. (
+      λ h. let was = (is.taken s).0 ((has_told took s).1 h) in ((has_told before s).0 was.0, was.1, (undominated_told before s.cost).0 was.2),
+      λ h. (has_told took s).0 ((is.taken s).1 ((has_told before s).1 h.0, h.1, (undominated_told before s.cost).1 h.2)),
+    );
+    among = λ y h. let from = of_map tell took y h in subst (Contains (map tell before)) (sym from.2) (in_map tell before from.0 (is.among from.0 from.1));
+    ascending = pairs_map (λ a b. SpotLess (spot (tell a)) (spot (tell b))) (λ a b. SpotLess (spot a) (spot b)) tell (λ x z h. h) took is.ascending;
+    stays = λ y h.
+        let from = of_map tell after y h in
+        let was = is.stays from.0 from.1 in
+        subst (λ z. Contains (map tell before) z × IsDominatedIn spot (map tell took) (spot z).cost) (sym from.2)
+        (in_map tell before from.0 was.0, (tell was.1.0, in_map tell took was.1.0 was.1.1, was.1.2));
+    leaves = λ y h.
+        let from = of_map tell before y h in
+        subst (λ z. Contains (map tell after) z ⊎ (HasSpot spot (map tell took) (spot z) ⊎ (¬ Open (spot z)))) (sym from.2)
+        (elim (is.leaves from.0 from.1) [
+          | inl there ↦ inl (in_map tell after from.0 there)
+          | inr (inl gone) ↦ inr (inl ((has_told took (spot (tell from.0))).0 gone))
+          | inr (inr closed) ↦ inr (inr closed)
+        ]);
+  }
+
+  -- those that come are told in any order
+  pub takes_let_in : (items given order took after : List X) → IsPermutation given order → TakesOpen (λ x. spot (tell x)) Open (items ++ order) took after
+      → TakesOpen spot Open (map tell items ++ map tell given) (map tell took) (map tell after)
+  takes_let_in items given order took after moved is =
+      subst (λ ys. TakesOpen spot Open ys (map tell took) (map tell after)) (map-append tell items given)
+      (takes_told (items ++ given) took after (takes_alike (λ x. spot (tell x)) Open (items ++ order) (items ++ given) took after
+      (λ x. (
+        λ h. (in_append items given x).1 (elim ((in_append items order x).0 h) [
+          | inl old ↦ inl old
+          | inr new ↦ inr ((same_by_permutation given order moved x).0 new)
+        ]),
+        λ h. (in_append items order x).1 (elim ((in_append items given x).0 h) [
+          | inl old ↦ inl old
+          | inr new ↦ inr ((same_by_permutation given order moved x).1 new)
+        ]),
+      )) is))

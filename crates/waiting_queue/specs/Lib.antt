@@ -1,0 +1,4 @@
+pub mod Passing
+pub mod Shadows
+pub mod Taking
+pub mod Waiting

@@ -1,0 +1,16 @@
+//! What waits in a bulk-synchronous Pareto search (Sanders and Mandow 2013): nodes reached at costs, of which a call gives
+//! out at once all that are open and whose cost no open one dominates.
+#![tactic(auto)]
+
+mod item;
+mod look;
+mod order;
+mod passing;
+mod queue;
+mod shadow;
+mod steps;
+
+pub use item::Item;
+pub use look::Look;
+pub use queue::Queue;
+pub use steps::Steps;

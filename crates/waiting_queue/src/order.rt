@@ -1,0 +1,85 @@
+ghost use Rattle.std.specs.Prelude.{◌≡◌, ◌+◌, ◌<◌, ◌↔◌, IfOk, IsPermutation, IsTrue, length};
+ghost use Rattle.waiting_queue.specs.Passing.{EndsAt, IsSplit};
+ghost use Rattle.waiting_queue.specs.Taking.{AreSorted};
+ghost use Rattle.waiting_queue.specs.Waiting.{SpotLess, spot_in};
+
+use crate::Item;
+use out_of_memory::OutOfMemory;
+use stored_cost::StoredCost;
+
+/// So many items are searched before all are.
+const NEAR: usize = 64;
+
+/// Whether both have one cost and one node.
+pub(crate) fn is_same_spot<const D: usize, C: StoredCost<D>>(a: &Item<C>, b: &Item<C>) -> bool
+    ensures { IsTrue result ↔ (spot_in C.components a.now ≡ spot_in C.components b.now) }
+{
+    a.node == b.node && a.cost.compare(&b.cost).is_eq()
+}
+
+/// Whether the one's spot comes before the other's.
+fn is_before<const D: usize, C: StoredCost<D>>(a: &Item<C>, b: &Item<C>) -> bool
+    ensures { IsTrue result ↔ SpotLess (spot_in C.components a.now) (spot_in C.components b.now) }
+{
+    a.cost.compare(&b.cost).then(a.node.cmp(&b.node)).is_lt()
+}
+
+/// Whether the last of the items has the spot of this one.
+pub(crate) fn is_last<const D: usize, C: StoredCost<D>>(items: &[Item<C>], item: &Item<C>) -> bool
+    ensures { IsTrue result ↔ EndsAt (spot_in C.components) items.now
+        (spot_in C.components item.now) }
+{
+    match items.last() {
+        Some(last) => is_same_spot(last, item),
+        None => false,
+    }
+}
+
+/// How many of the items come before this one. It is found sooner where they are few.
+pub(crate) fn count_before<const D: usize, C: StoredCost<D>>(
+    items: &[Item<C>],
+    item: &Item<C>,
+) -> usize
+    requires { AreSorted (spot_in C.components) items.now }
+    ensures { IsSplit (spot_in C.components) items.now (spot_in C.components item.now) result }
+{
+    let (near, _) = items.split_at(items.len().min(NEAR));
+    let count = search_before(near, item);
+    if count < near.len() {
+        count
+    } else {
+        search_before(items, item)
+    }
+}
+
+/// How many of the items come before this one.
+fn search_before<const D: usize, C: StoredCost<D>>(items: &[Item<C>], item: &Item<C>) -> usize
+    requires { AreSorted (spot_in C.components) items.now }
+    ensures { IsSplit (spot_in C.components) items.now (spot_in C.components item.now) result }
+{
+    let mut low = 0;
+    let mut high = items.len();
+    while low < high {
+        let middle = low + (high - low) / 2;
+        if is_before(&items[middle], item) {
+            low = middle + 1;
+        } else {
+            high = middle;
+        }
+    }
+    low
+}
+
+/// Lists the items in order. What the list held before is gone.
+pub(crate) fn list_sorted<const D: usize, C: StoredCost<D>>(
+    items: &[Item<C>],
+    list: &mut Vec<Item<C>>,
+) -> Result<(), OutOfMemory>
+    ensures same { IfOk result (λ _. IsPermutation items.now list.new.items) }
+    ensures sorted { IfOk result (λ _. AreSorted (spot_in C.components) list.new.items) }
+{
+    list.clear();
+    list.extend_from_slice(items)?;
+    list.sort_unstable();
+    Ok(())
+}

@@ -1,0 +1,164 @@
+ghost use Rattle.std.specs.Prelude.{◌≡◌, ◌+◌, ◌<◌, ◌≤◌, ◌↔◌, nat_lt, Contains, IfNone, IfOk, IfSome, IsTrue};
+ghost use Rattle.cost_vector.specs.Costs.{AtMost, Dominates};
+ghost use Rattle.list_laws.specs.Without.{IsWithout};
+ghost use Rattle.waiting_queue.specs.Shadows.{Descends, ExceedsBefore, IsDominatedBy, IsRun, Joins, grounded, second_of};
+ghost use Rattle.waiting_queue.specs.Waiting.{AreCriteria};
+
+use crate::Item;
+use out_of_memory::OutOfMemory;
+use stored_cost::{Part, StoredCost};
+
+/// So few costs are gone through faster than searched.
+const FEW: usize = 8;
+
+/// A cost of the list that dominates this one.
+fn find_dominating<'a, const D: usize, C: StoredCost<D>>(by: &'a [C], cost: &C) -> Option<&'a C>
+    ensures listed { IfSome result (λ c. Contains by.now c.now) }
+    ensures dominates { IfSome result (λ c.
+        Dominates (C.components c.now) (C.components cost.now)) }
+    ensures none { IfNone result (¬ IsDominatedBy C.components by.now (C.components cost.now)) }
+{
+    for other in by {
+        if other.dominates(cost) {
+            return Some(other);
+        }
+    }
+    None
+}
+
+/// The second component.
+fn second<const D: usize, C: StoredCost<D>>(cost: &C) -> u64
+    requires { AreCriteria D }
+    ensures { result ≡ second_of (C.components cost.now) }
+{
+    cost.part(1).to_number()
+}
+
+/// How many costs of the shadow exceed this one in the second component.
+fn count_above<const D: usize, C: StoredCost<D>>(shadow: &[C], cost: &C) -> usize
+    requires criteria { AreCriteria D }
+    requires descends { Descends C.components shadow.now }
+    ensures { ExceedsBefore C.components shadow.now (C.components cost.now) result }
+{
+    let bound = second(cost);
+    let mut low = 0;
+    let mut high = shadow.len();
+    while low < high {
+        let middle = low + (high - low) / 2;
+        if bound < second(&shadow[middle]) {
+            low = middle + 1;
+        } else {
+            high = middle;
+        }
+    }
+    low
+}
+
+/// A cost of the shadow that dominates this one. It is kept out of its caller: there the comparisons of costs would become
+/// branches, which can't be foreseen.
+#[inline(never)]
+fn search_shadowing<'a, const D: usize, C: StoredCost<D>>(
+    shadow: &'a [C],
+    cost: &C,
+) -> Option<&'a C>
+    requires criteria { AreCriteria D }
+    requires descends { Descends C.components shadow.now }
+    ensures listed { IfSome result (λ c. Contains shadow.now c.now) }
+    ensures dominates { IfSome result (λ c.
+        Dominates (C.components c.now) (C.components cost.now)) }
+    ensures none { IfNone result (¬ IsDominatedBy C.components shadow.now
+        (C.components cost.now)) }
+{
+    find_dominating(&shadow[count_above(shadow, cost)..], cost)
+}
+
+/// A cost of the shadow that dominates this one. The last that dominated one is tried first: mostly it dominates the next too.
+#[inline(always)]
+fn find_shadowing<'a, const D: usize, C: StoredCost<D>>(
+    shadow: &'a [C],
+    last: &'a C,
+    cost: &C,
+) -> Option<&'a C>
+    requires criteria { AreCriteria D }
+    requires descends { Descends C.components shadow.now }
+    requires last { Contains shadow.now last.now }
+    ensures listed { IfSome result (λ c. Contains shadow.now c.now) }
+    ensures dominates { IfSome result (λ c.
+        Dominates (C.components c.now) (C.components cost.now)) }
+    ensures none { IfNone result (¬ IsDominatedBy C.components shadow.now
+        (C.components cost.now)) }
+{
+    if last.dominates(cost) {
+        return Some(last);
+    }
+    if shadow.len() < FEW {
+        return find_dominating(shadow, cost);
+    }
+    search_shadowing(shadow, cost)
+}
+
+/// How many of the items the shadow dominates, up to the first that it doesn't.
+pub(crate) fn count_shadowed<const D: usize, C: StoredCost<D>>(
+    shadow: &[C],
+    items: &[Item<C>],
+) -> usize
+    requires criteria { AreCriteria D }
+    requires descends { Descends C.components shadow.now }
+    ensures { IsRun C.components shadow.now items.now result }
+{
+    let Some(mut last) = shadow.first() else {
+        return 0;
+    };
+    for (count, item) in items.iter().enumerate() {
+        let Some(found) = find_shadowing(shadow, last, &item.cost) else {
+            return count;
+        };
+        last = found;
+    }
+    items.len()
+}
+
+/// The cost with zero as its first component.
+fn floor<const D: usize, C: StoredCost<D>>(cost: &C) -> C
+    requires { AreCriteria D }
+    ensures { C.components result ≡ grounded (C.components cost.now) }
+{
+    let mut low = cost.to_compact();
+    low.0[0] = 0;
+    C::of(&low.0)
+}
+
+/// Takes out the costs that this one is at most.
+fn uncover<const D: usize, C: StoredCost<D>>(shadow: &mut Vec<C>, low: &C)
+    requires { Descends C.components shadow.old.items }
+    ensures descends { Descends C.components shadow.new.items }
+    ensures without { IsWithout (λ x. AtMost (C.components low.now) (C.components x))
+        shadow.old.items shadow.new.items }
+{
+    let mut i = 0;
+    while i < shadow.len() {
+        if low.at_most(&shadow[i]) {
+            shadow.remove(i);
+        } else {
+            i += 1;
+        }
+    }
+}
+
+/// A taken cost joins the shadow. Those leave that it covers. As part of its caller this would be slower.
+#[inline(never)]
+pub(crate) fn cast<const D: usize, C: StoredCost<D>>(
+    shadow: &mut Vec<C>,
+    cost: &C,
+) -> Result<(), OutOfMemory>
+    requires criteria { AreCriteria D }
+    requires descends { Descends C.components shadow.old.items }
+    ensures joins { IfOk result (λ _. Joins C.components shadow.old.items cost.now
+        shadow.new.items) }
+    ensures descends { IfOk result (λ _. Descends C.components shadow.new.items) }
+{
+    uncover(shadow, &floor(cost));
+    let place = count_above(shadow, cost);
+    shadow.insert(place, *cost)?;
+    Ok(())
+}

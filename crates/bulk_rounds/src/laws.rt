@@ -1,7 +1,8 @@
-ghost use Rattle.std.specs.Prelude.{◌≡◌, ◌≢◌, ◌+◌, ℕ, List, length, Contains};
+ghost use Rattle.std.specs.Prelude.{◌≡◌, ◌≢◌, ◌+◌, ◌⊎◌, ℕ, List, length, Contains};
 ghost use Rattle.bulk_rounds.specs.Begins.{TakesNext};
 ghost use Rattle.bulk_rounds.specs.Cores.{Core, IsSettledIn, IsSpent, Item, Spot, Waits};
-ghost use Rattle.bulk_rounds.specs.Kept.{IsFrom, SparesSettled};
+ghost use Rattle.bulk_rounds.specs.Finishes.{PutsAll};
+ghost use Rattle.bulk_rounds.specs.Kept.{IsFrom, IsKept, IsKeptItem, SparesSettled};
 ghost use Rattle.bulk_rounds.specs.Standing.{IsAt, as_spot};
 ghost use Rattle.bulk_rounds.specs.Taking.{CountsSettled, IsNextIn};
 ghost use Rattle.cost_vector.specs.Costs.{AtMost};
@@ -44,14 +45,24 @@ pub fn ways_back_are_spent()
         → AtMost i.spot.cost c → IsSpent core (record { cost = c; node = i.from }) }
 {}
 
-/// To settle the next spots of a core that is no run of the machine, too, keeps what a front asks: none of them is settled, of two
-/// of a node neither cost is at most the other, and what waits dominates no settled cost of its node. Each counts once.
+/// To settle the next spots keeps what a front asks, also of a core that is no run of the machine: none of them is settled, of two
+/// of a node neither cost is at most the other, and what waits dominates no settled cost of its node. So what a core keeps
+/// stays so, and as many are settled more as were taken.
 pub fn taken_spots_are_spared()
     ensures unsettled { (core : Core) (x : Spot) → IsNextIn core x → ¬ IsSettledIn core x }
     ensures apart { (core : Core) (x y : Spot) → IsNextIn core x → IsNextIn core y
         → AtMost x.cost y.cost → x.cost ≡ y.cost }
     ensures spares { (before after : Core) (x : Spot) → TakesNext before after → Waits before x
         → SparesSettled before x → SparesSettled after x }
-    ensures counts { (before after : Core) (count : ℕ) → TakesNext before after
-        → CountsSettled before count → CountsSettled after (count + length after.taken) }
+    ensures one_count { (core : Core) (m n : ℕ) → CountsSettled core m → CountsSettled core n → m ≡ n }
+    ensures kept { (before after : Core) (count : ℕ) → TakesNext before after
+        → IsKept before count → IsKept after (count + length after.taken) }
+{}
+
+/// To put candidates into the queue that are as items have to be keeps what a core keeps.
+pub fn put_items_are_kept()
+    ensures { (candidates : List Item) (before after : Core) (count : ℕ)
+        → PutsAll candidates before after
+        → ((i : Item) → Contains after.queue i → Contains before.queue i ⊎ IsKeptItem before i)
+        → IsKept before count → IsKept after count }
 {}

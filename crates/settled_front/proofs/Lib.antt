@@ -1,2 +1,3 @@
 pub mod Stairs
 pub mod Views
+pub mod Lanes

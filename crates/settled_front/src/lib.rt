@@ -2,8 +2,14 @@
 //! blocks for three and four, each at either width.
 #![tactic(auto)]
 
+mod block;
 mod front;
+mod narrow_block;
 mod stair;
+mod wide_block;
 
+pub use block::CostBlock;
 pub use front::{NarrowFront, SettledFront};
+pub use narrow_block::NarrowBlock;
 pub use stair::StairFront;
+pub use wide_block::WideBlock;

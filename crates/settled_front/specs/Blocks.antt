@@ -1,0 +1,54 @@
+-- How the front of a node under 3 or 4 criteria is laid out.
+use Rattle.std.specs.Prelude.{◌≡◌, ℕ, ◌<◌, ◌↔◌, ◌⊎◌, List, [], length, map, slice_index_or, All}
+use Rattle.std.specs.Int.{bit_at}
+use Rattle.std.specs.List.{range_with_len}
+
+-- how many costs a block has
+abbrev pub block_size : ℕ
+block_size = 16
+
+-- a number of a row
+abbrev pub in_row : List (List ℕ) → ℕ → ℕ → ℕ
+in_row rows k lane = slice_index_or (slice_index_or rows k []) lane 0
+
+-- the cost that has one component in each row
+abbrev pub lane_cost : ℕ → List (List ℕ) → ℕ → List ℕ
+lane_cost d rows lane = map (λ k. in_row rows k lane) (range_with_len 0 d)
+
+-- the costs whose components stand in these rows
+abbrev pub lane_costs : ℕ → List (List ℕ) → List (List ℕ)
+lane_costs d rows = map (lane_cost d rows) (range_with_len 0 block_size)
+
+-- d rows of a block, whose numbers are below the bound
+pub record IsBlock (d bound : ℕ) (rows : List (List ℕ)) : Type 0 where
+  pub long : length rows ≡ d
+  pub full : All (λ row. length row ≡ block_size) rows
+  pub fits : All (All (λ x. x < bound)) rows
+
+-- the highest bit of the number is set
+abbrev pub IsMarked : ℕ → ℕ → Type 0
+IsMarked bit n = bit_at n bit ≡ 1
+
+-- marked is what was, and where the component is less than the row's
+abbrev pub MarksRow : ℕ → List ℕ → ℕ → List ℕ → List ℕ → Type 0
+MarksRow bit before component row after = (lane : ℕ) → lane < block_size
+    → IsMarked bit (slice_index_or after lane 0) ↔ (IsMarked bit (slice_index_or before lane 0) ⊎ (component < slice_index_or row lane 0))
+
+-- some place isn't marked
+pub record HasUnmarked (bit : ℕ) (marks : List ℕ) : Type 0 where
+  pub place : ℕ
+  pub within : place < block_size
+  pub unmarked : ¬ IsMarked bit (slice_index_or marks place 0)
+
+-- of the first n rows one has a greater component in this place than the cost
+pub record Exceeds (rows : List (List ℕ)) (cost : List ℕ) (n lane : ℕ) : Type 0 where
+  pub row : ℕ
+  pub before : row < n
+  pub less : slice_index_or cost row 0 < in_row rows row lane
+
+-- the row has the component at k of each of the costs, which have d components
+pub record IsRowOf (d bound : ℕ) (costs : List (List ℕ)) (k : ℕ) (row : List ℕ) : Type 0 where
+  pub full : length row ≡ block_size
+  pub fits : All (λ x. x < bound) row
+  pub long : All (λ c. length c ≡ d) costs
+  pub value : (lane : ℕ) → lane < block_size → slice_index_or row lane 0 ≡ slice_index_or (slice_index_or costs lane []) k 0

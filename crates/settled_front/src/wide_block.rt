@@ -1,0 +1,94 @@
+ghost use Rattle.std.specs.Prelude.{◌≡◌, ◌^◌, ◌<◌, ◌↔◌, length, All, IsTrue};
+ghost use Rattle.settled_front.specs.Blocks.{HasUnmarked, IsRowOf, MarksRow, block_size};
+
+use crate::block::{BLOCK, CostBlock};
+use std::marker::Model;
+use stored_cost::{Part, StoredCost, WideCost};
+
+/// Sixteen costs in 64 bits a component, laid out in one row for each component.
+#[derive(Drop)]
+pub struct WideBlock<const D: usize> {
+    rows: [[u64; BLOCK]; D],
+}
+
+impl<const D: usize> Model for WideBlock<D> {
+    ghost use Rattle.std.specs.Prelude.{ℕ, ◌^◌, List};
+    ghost use Rattle.settled_front.specs.Blocks.{IsBlock, lane_costs};
+
+    ghost Value = { List (List ℕ) };
+
+    ghost view = { λ b. lane_costs D b.rows };
+
+    ghost invariant = { λ b. IsBlock D (2 ^ 63) b.rows };
+}
+
+impl<const D: usize> CostBlock<D> for WideBlock<D> {
+    type Cost = WideCost<D>;
+
+    ghost costs = { λ b. b };
+
+    fn blank() -> WideBlock<D> {
+        WideBlock {
+            rows: [[0; BLOCK]; D],
+        }
+    }
+
+    fn fill(&mut self, from: &[WideCost<D>]) {
+        for k in 0..D {
+            self.rows[k] = row_of(from, k);
+        }
+    }
+
+    fn covers(&self, cost: &WideCost<D>) -> bool {
+        // Whoever reads the components knows how many they are.
+        let _ = cost.to_compact();
+        let mut over = [0; BLOCK];
+        for (k, row) in self.rows.iter().enumerate() {
+            mark_row(&mut over, cost.part(k), row);
+        }
+        has_unmarked(&over)
+    }
+
+    fn cost(&self, place: usize) -> WideCost<D> {
+        let mut numbers = [0; D];
+        for (k, number) in numbers.iter_mut().enumerate() {
+            *number = self.rows[k][place].to_number();
+        }
+        WideCost::of(&numbers)
+    }
+}
+
+/// One component of each of the costs.
+fn row_of<const D: usize>(from: &[WideCost<D>], k: usize) -> [u64; BLOCK]
+    requires place { k < D }
+    requires full { length from.now ≡ block_size }
+    ensures { IsRowOf D (2 ^ 63) from.now k result }
+{
+    let mut row = [0; BLOCK];
+    for (lane, part) in row.iter_mut().enumerate() {
+        *part = from[lane].part(k);
+    }
+    row
+}
+
+/// Marks also where the component is less than that of the row.
+fn mark_row(over: &mut [u64; BLOCK], component: u64, row: &[u64; BLOCK])
+    requires component_fits { component < 2 ^ 63 }
+    requires row_fits { All (λ x. x < 2 ^ 63) row.now }
+    ensures { MarksRow 63 over.old component row.now over.new }
+{
+    for lane in 0..BLOCK {
+        over[lane] = over[lane].mark_less(component, row[lane]);
+    }
+}
+
+/// Whether some place isn't marked.
+fn has_unmarked(over: &[u64; BLOCK]) -> bool
+    ensures { IsTrue result ↔ HasUnmarked 63 over.now }
+{
+    let mut any = false;
+    for mark in over {
+        any |= !mark.has_mark();
+    }
+    any
+}

@@ -9,7 +9,7 @@ use Rattle.list_laws.proofs.OnceLaws.{in_append}
 use Rattle.list_laws.proofs.Pairs.{pairs_map, pairs_none, pairs_push}
 use Rattle.list_laws.proofs.SetLaws.{same_by_permutation}
 use Rattle.list_laws.specs.Sets.{SameMembers}
-use Rattle.waiting_queue.specs.Taking.{HasSpot, IsDominatedIn, IsUndominatedBy, TakesOpen}
+use Rattle.waiting_queue.specs.Taking.{HasSpot, IsDominatedIn, IsUndominatedBy, SetsApart, TakesOpen}
 use Rattle.waiting_queue.specs.Waiting.{Spot, SpotLess}
 use Rattle.waiting_queue.proofs.OrderLemmas.{not_lex_less}
 
@@ -83,8 +83,8 @@ module _ {X : Type 0} (spot : X → Spot) (Open : Spot → Type 0) where
         | inr last ↦ subst (λ y. Contains (seen ++ s ∷ []) y × IsDominatedIn spot took (spot y).cost) (sym last) (last_in seen s, by)
       ];
       leaves = λ x h. elim (cases_push seen s x h) [
-        | inl old ↦ elim (is.leaves x old) [ inl there ↦ inl (in_push left s x there) | inr gone ↦ inr gone ]
-        | inr last ↦ inl (subst (Contains (left ++ s ∷ [])) (sym last) (last_in left s))
+        | inl old ↦ elim (is.leaves x old) [ inl there ↦ inl (there.0, in_push left s there.0 there.1, there.2) | inr gone ↦ inr gone ]
+        | inr last ↦ inl (s, last_in left s, subst (λ y. spot s ≡ spot y) (sym last) refl)
       ];
     }
 
@@ -136,7 +136,10 @@ module _ {X : Type 0} (spot : X → Spot) (Open : Spot → Type 0) where
         undominated z there z_open below = elim (cases_push seen s z there) [
           | inr last ↦ Dominates-irrefl (spot s).cost (subst (λ y. Dominates (spot y).cost (spot s).cost) last below)
           | inl old ↦ elim (is.leaves z old) [
-            | inl stays ↦ let by = (is.stays z stays).1 in free (by.0, by.1, Dominates-trans (spot by.0).cost (spot z).cost (spot s).cost by.2 below)
+            | inl there ↦
+                let by = (is.stays there.0 there.1).1 in
+                let above = subst (λ (y : Spot). Dominates (spot by.0).cost y.cost) there.2 by.2 in
+                free (by.0, by.1, Dominates-trans (spot by.0).cost (spot z).cost (spot s).cost above below)
             | inr (inl gone) ↦ free (gone.0, gone.1, subst (λ (y : Spot). Dominates y.cost (spot s).cost) (sym gone.2) below)
             | inr (inr closed) ↦ closed z_open
           ]
@@ -155,6 +158,107 @@ takes_alike {X} spot Open xs ys took left same is = record {
   stays = λ x h. let was = is.stays x h in ((same x).0 was.0, was.1);
   leaves = λ x h. is.leaves x ((same x).1 h);
 }
+
+-- ---- parts of a list
+
+module _ {X : Type 0} (spot : X → Spot) (Open : Spot → Type 0) where
+  -- what is taken of a part is set apart
+  pub apart_if_taken : (before took after : List X) → TakesOpen spot Open before took after → SetsApart spot Open before took after
+  apart_if_taken before took after is = record {
+    held = λ x h. (is.among x h, ((is.taken (spot x)).0 (x, h, refl)).1);
+    stays = is.stays;
+    leaves = is.leaves;
+  }
+
+  -- two parts
+  pub apart_both : (before apart after before_too apart_too after_too : List X) → SetsApart spot Open before apart after
+      → SetsApart spot Open before_too apart_too after_too → SetsApart spot Open (before ++ before_too) (apart ++ apart_too) (after ++ after_too)
+  apart_both before apart after before_too apart_too after_too one two = record {
+    held = λ x h. elim ((in_append apart apart_too x).0 h) [
+      | inl first ↦ let was = one.held x first in ((in_append before before_too x).1 (inl was.0), was.1)
+      | inr second ↦ let was = two.held x second in ((in_append before before_too x).1 (inr was.0), was.1)
+    ];
+    stays = λ x h. elim ((in_append after after_too x).0 h) [
+      | inl first ↦
+          let was = one.stays x first in
+          ((in_append before before_too x).1 (inl was.0), (was.1.0, (in_append apart apart_too was.1.0).1 (inl was.1.1), was.1.2))
+      | inr second ↦
+          let was = two.stays x second in
+          ((in_append before before_too x).1 (inr was.0), (was.1.0, (in_append apart apart_too was.1.0).1 (inr was.1.1), was.1.2))
+    ];
+    leaves = λ x h. elim ((in_append before before_too x).0 h) [
+      | inl first ↦ elim (one.leaves x first) [
+        | inl there ↦ inl (there.0, (in_append after after_too there.0).1 (inl there.1), there.2)
+        | inr (inl gone) ↦ inr (inl (gone.0, (in_append apart apart_too gone.0).1 (inl gone.1), gone.2))
+        | inr (inr closed) ↦ inr (inr closed)
+      ]
+      | inr second ↦ elim (two.leaves x second) [
+        | inl there ↦ inl (there.0, (in_append after after_too there.0).1 (inr there.1), there.2)
+        | inr (inl gone) ↦ inr (inl (gone.0, (in_append apart apart_too gone.0).1 (inr gone.1), gone.2))
+        | inr (inr closed) ↦ inr (inr closed)
+      ]
+    ];
+  }
+
+  -- What was set apart is passed once more, with all of it open: what is taken then is what one pass over all takes, and what that
+  -- pass leaves goes back.
+  module _ (before apart after took rest : List X) (is : SetsApart spot Open before apart after)
+      (once : TakesOpen spot (λ _. Unit {0}) apart took rest) where
+    -- what an open spot dominates, one that was set apart does
+    apart_below : (c : List ℕ) → IsUndominatedBy spot (λ _. Unit {0}) apart c → IsUndominatedBy spot Open before c
+    apart_below c free z there held below = elim (is.leaves z there) [
+      | inl stays ↦
+          let by = (is.stays stays.0 stays.1).1 in
+          let above = subst (λ (y : Spot). Dominates (spot by.0).cost y.cost) stays.2 by.2 in
+          free by.0 by.1 tt (Dominates-trans (spot by.0).cost (spot z).cost c above below)
+      | inr (inl gone) ↦ free gone.0 gone.1 tt (subst (λ (y : Spot). Dominates y.cost c) (sym gone.2) below)
+      | inr (inr closed) ↦ closed held
+    ]
+
+    -- what one that was set apart dominates, one that is taken does
+    taken_below : (c : List ℕ) → IsDominatedIn spot apart c → IsDominatedIn spot took c
+    taken_below c by = elim (once.leaves by.0 by.1) [
+      | inl there ↦
+          let less = (once.stays there.0 there.1).1 in
+          let above = subst (λ (y : Spot). Dominates (spot less.0).cost y.cost) there.2 less.2 in
+          (less.0, less.1, Dominates-trans (spot less.0).cost (spot by.0).cost c above by.2)
+      | inr (inl gone) ↦ (gone.0, gone.1, subst (λ (y : Spot). Dominates y.cost c) (sym gone.2) by.2)
+      | inr (inr closed) ↦ absurd (closed tt)
+    ]
+
+    pub parts_take : TakesOpen spot Open before took (after ++ rest)
+    parts_take = record {
+      taken = λ s. (
+        λ h.
+            let was = (once.taken s).0 h in
+            let from = is.held was.0.0 was.0.1 in
+            ((was.0.0, from.0, was.0.2), subst Open was.0.2 from.1, apart_below s.cost was.2),
+        λ h. elim (is.leaves h.0.0 h.0.1) [
+          | inl stays ↦
+              let by = (is.stays stays.0 stays.1).1 in
+              let from = is.held by.0 by.1 in
+              let above = subst (λ (y : Spot). Dominates (spot by.0).cost y.cost) (stays.2 ∙ h.0.2) by.2 in
+              absurd (h.2 by.0 from.0 from.1 above)
+          | inr (inl gone) ↦ (once.taken s).1 ((gone.0, gone.1, gone.2 ∙ h.0.2), tt, λ z there held. let from = is.held z there in h.2 z from.0 from.1)
+          | inr (inr closed) ↦ absurd (closed (subst Open (sym h.0.2) h.1))
+        ],
+      );
+      among = λ x h. (is.held x (once.among x h)).0;
+      ascending = once.ascending;
+      stays = λ x h. elim ((in_append after rest x).0 h) [
+        | inl stays ↦ let was = is.stays x stays in (was.0, taken_below (spot x).cost was.1)
+        | inr back ↦ let was = once.stays x back in ((is.held x was.0).0, was.1)
+      ];
+      leaves = λ x h. elim (is.leaves x h) [
+        | inl there ↦ inl (there.0, (in_append after rest there.0).1 (inl there.1), there.2)
+        | inr (inl gone) ↦ elim (once.leaves gone.0 gone.1) [
+          | inl back ↦ inl (back.0, (in_append after rest back.0).1 (inr back.1), back.2 ∙ gone.2)
+          | inr (inl taken) ↦ inr (inl (taken.0, taken.1, taken.2 ∙ gone.2))
+          | inr (inr closed) ↦ absurd (closed tt)
+        ]
+        | inr (inr closed) ↦ inr (inr closed)
+      ];
+    }
 
 -- what is said of members holds of what they tell
 module _ {X Y : Type 0} (spot : Y → Spot) (tell : X → Y) (Open : Spot → Type 0) where
@@ -188,9 +292,9 @@ module _ {X Y : Type 0} (spot : Y → Spot) (tell : X → Y) (Open : Spot → Ty
         (in_map tell before from.0 was.0, (tell was.1.0, in_map tell took was.1.0 was.1.1, was.1.2));
     leaves = λ y h.
         let from = of_map tell before y h in
-        subst (λ z. Contains (map tell after) z ⊎ (HasSpot spot (map tell took) (spot z) ⊎ (¬ Open (spot z)))) (sym from.2)
+        subst (λ z. HasSpot spot (map tell after) (spot z) ⊎ (HasSpot spot (map tell took) (spot z) ⊎ (¬ Open (spot z)))) (sym from.2)
         (elim (is.leaves from.0 from.1) [
-          | inl there ↦ inl (in_map tell after from.0 there)
+          | inl there ↦ inl ((has_told after (spot (tell from.0))).0 there)
           | inr (inl gone) ↦ inr (inl ((has_told took (spot (tell from.0))).0 gone))
           | inr (inr closed) ↦ inr (inr closed)
         ]);

@@ -29,7 +29,14 @@ module _ {X : Type 0} (spot : X → Spot) where
     pub among : (x : X) → Contains took x → Contains before x
     pub ascending : AllPairs (λ a b. SpotLess (spot a) (spot b)) took
     pub stays : (x : X) → Contains after x → Contains before x × IsDominatedIn took (spot x).cost
-    pub leaves : (x : X) → Contains before x → Contains after x ⊎ (HasSpot took (spot x) ⊎ (¬ Open (spot x)))
+    pub leaves : (x : X) → Contains before x → HasSpot after (spot x) ⊎ (HasSpot took (spot x) ⊎ (¬ Open (spot x)))
+
+  -- Some open spots are set apart, as each part of the list sets apart those that it takes. What stays is dominated by one of them,
+  -- and what leaves was set apart or isn't open.
+  pub record SetsApart (Open : Spot → Type 0) (before apart after : List X) : Type 0 where
+    pub held : (x : X) → Contains apart x → Contains before x × Open (spot x)
+    pub stays : (x : X) → Contains after x → Contains before x × IsDominatedIn apart (spot x).cost
+    pub leaves : (x : X) → Contains before x → HasSpot after (spot x) ⊎ (HasSpot apart (spot x) ⊎ (¬ Open (spot x)))
 
 -- a step is counted where something was taken
 abbrev pub Counts : {X : Type 0} → List X → ℕ → ℕ → Type 0

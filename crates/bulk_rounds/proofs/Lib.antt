@@ -6,3 +6,4 @@ pub mod MetLemmas
 pub mod FinishedLemmas
 pub mod FoundLemmas
 pub mod KeptLemmas
+pub mod PassedLemmas

@@ -2,11 +2,12 @@
 use Rattle.std.proofs.Common.{◌≡◌, ◌≢◌, ◌⊎◌, ◌↔◌, ℕ, List, get_or, inl, inr, refl, sym, ap, subst, ◌∙◌, arith, AllPairs, Contains}
 use Rattle.std.proofs.lemmas.Bool.{cases_eq}
 use Rattle.cost_vector.specs.Costs.{AtMost, Dominates, Within}
-use Rattle.cost_vector.proofs.Vectors.{AtMost-trans, Dominates-AtMost, LexLess-irrefl, Within-AtMost, cases_AtMost, cases_Dominates, cases_Within, cases_same}
+use Rattle.cost_vector.proofs.Vectors.{AtMost-trans, Dominates-AtMost, Within-AtMost, cases_AtMost, cases_Dominates, cases_Within, cases_same}
 use Rattle.list_laws.proofs.OnceLaws.{IsDecidable, decidable_as, decidable_both, decidable_either, decidable_member, decidable_not}
 use Rattle.event_machine.specs.Machine.{Task, SearchState, HasSettled, IsBeatenAtTarget}
 use Rattle.event_machine.proofs.Sound.{HasSettledBelow}
 use Rattle.bulk_rounds.specs.Cores.{Core, IsBarred, IsBeatenIn, IsCoveredIn, IsSettledIn, IsSpent, SameSearch, Spot, SpotLess, costs_at}
+use Rattle.waiting_queue.proofs.OrderLemmas.{SpotLess-irrefl}
 use Rattle.bulk_rounds.specs.Standing.{IsSearchOf}
 
 -- ---- spots
@@ -18,10 +19,6 @@ spot_by_parts x y node cost = grind arith
 pub cases_spot : (x y : Spot) → IsDecidable (x ≡ y)
 cases_spot x y = decidable_as (λ h. spot_by_parts x y h.0 h.1) (λ e. (ap (λ (z : Spot). z.node) e, ap (λ (z : Spot). z.cost) e))
     (decidable_both (cases_eq x.node y.node) (cases_same x.cost y.cost))
-
-SpotLess-irrefl : (a : Spot) → ¬ SpotLess a a
-SpotLess-irrefl a (inl less) = LexLess-irrefl a.cost less
-SpotLess-irrefl a (inr tie) = omega (arith, tie.1)
 
 -- spots that ascend are different ones
 pub ascending_once : (xs : List Spot) → AllPairs SpotLess xs → AllPairs ◌≢◌ xs

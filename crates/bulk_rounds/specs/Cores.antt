@@ -1,21 +1,13 @@
 -- A search by bulk rounds as contracts see it: its settled costs, and what waits.
 -- Source: P. Sanders and L. Mandow, "Parallel label-setting multi-objective shortest path search", IPDPS 2013.
-use Rattle.std.specs.Prelude.{◌≡◌, ℕ, ◌<◌, ◌⊎◌, ◌↔◌, List, [], Option, replicate, slice_index_or, Contains}
-use Rattle.cost_vector.specs.Costs.{AtMost, Dominates, LexLess, Within}
+use Rattle.std.specs.Prelude.{◌≡◌, ℕ, ◌⊎◌, ◌↔◌, List, [], Option, replicate, slice_index_or, Contains}
+use Rattle.cost_vector.specs.Costs.{AtMost, Dominates, Within}
+use Rattle.waiting_queue.specs.Waiting.{Waiting}
+pub use Rattle.waiting_queue.specs.Waiting.{Spot, SpotLess}
 
--- a node, reached at a cost
-pub record Spot : Type 0 where
-  pub cost : List ℕ
-  pub node : ℕ
-
--- by cost, and then by node
-abbrev pub SpotLess : Spot → Spot → Type 0
-SpotLess a b = LexLess a.cost b.cost ⊎ ((a.cost ≡ b.cost) × (a.node < b.node))
-
--- a spot, and the node from which it was reached, or 0 where none is told
-pub record Item : Type 0 where
-  pub spot : Spot
-  pub from : ℕ
+-- what waits: a spot, and the node from which it was reached, or 0 where none is told
+abbrev pub Item : Type 0
+Item = Waiting
 
 -- x is the spot of one of the items
 abbrev pub HasSpot : List Item → Spot → Type 0

@@ -1,10 +1,10 @@
-ghost use Rattle.std.specs.Prelude.{◌≡◌, ◌≢◌, ◌+◌, ◌⊎◌, ℕ, List, length, Contains};
-ghost use Rattle.bulk_rounds.specs.Begins.{TakesNext};
-ghost use Rattle.bulk_rounds.specs.Cores.{Core, IsSettledIn, IsSpent, Item, Spot, Waits};
+ghost use Rattle.std.specs.Prelude.{◌≡◌, ◌≢◌, ◌+◌, ◌⊎◌, ◌↔◌, ℕ, List, length, map, Contains};
+ghost use Rattle.bulk_rounds.specs.Begins.{LosesSpent, TakesNext};
+ghost use Rattle.bulk_rounds.specs.Cores.{Core, IsSettledIn, IsSpent, Item, SameSearch, Spot, Waits};
 ghost use Rattle.bulk_rounds.specs.Finishes.{PutsAll};
 ghost use Rattle.bulk_rounds.specs.Kept.{IsFrom, IsKept, IsKeptItem, SparesSettled};
 ghost use Rattle.bulk_rounds.specs.Standing.{IsAt, as_spot};
-ghost use Rattle.bulk_rounds.specs.Taking.{CountsSettled, IsNextIn};
+ghost use Rattle.bulk_rounds.specs.Taking.{CountsSettled, IsNextIn, ListsNext};
 ghost use Rattle.cost_vector.specs.Costs.{AtMost};
 ghost use Rattle.event_machine.specs.Machine.{Task, SearchState};
 ghost use Rattle.event_machine.specs.Orders.{IsArrival};
@@ -13,6 +13,8 @@ ghost use Rattle.road_network.specs.Answers.{IsRelevant};
 ghost use Rattle.road_network.specs.Labels.{Label};
 ghost use Rattle.road_network.specs.Network.{AreSmall, IsNode};
 ghost use Rattle.road_network.specs.Walks.{IsSumOf};
+ghost use Rattle.waiting_queue.specs.Taking.{TakesOpen};
+ghost use Rattle.waiting_queue.specs.Waiting.{spot_of};
 
 /// What arrives in a round is of a node, and dominates no settled cost there.
 pub fn arrivals_spare_settled()
@@ -65,4 +67,15 @@ pub fn put_items_are_kept()
         → PutsAll candidates before after
         → ((i : Item) → Contains after.queue i → Contains before.queue i ⊎ IsKeptItem before i)
         → IsKept before count → IsKept after count }
+{}
+
+/// A queue that is told which spots are spent takes exactly the next ones, and once these are settled, what has left is spent.
+pub fn passes_take_the_next_spots()
+    ensures next { (before : Core) (took after : List Item)
+        → TakesOpen spot_of (λ x. ¬ IsSpent before x) before.queue took after
+        → ListsNext before (map spot_of took) }
+    ensures loses_spent { (before after : Core) (took : List Item)
+        → TakesOpen spot_of (λ x. ¬ IsSpent before x) before.queue took after.queue → SameSearch before after
+        → ((x : Spot) → IsSettledIn after x ↔ (IsSettledIn before x ⊎ Contains (map spot_of took) x))
+        → LosesSpent before after }
 {}

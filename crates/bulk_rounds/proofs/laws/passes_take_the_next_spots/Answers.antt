@@ -1,0 +1,9 @@
+use Rattle.std.proofs.Common.{refl}
+use Rattle.bulk_rounds.proofs.PassedLemmas.{lists_next, loses_spent}
+use Rattle.bulk_rounds.proofs.laws.passes_take_the_next_spots.Goals as goal
+
+pub returns : goal.returns
+returns c = record {
+  next = lists_next;
+  loses_spent = λ before after took takes search settled. loses_spent before took after.queue takes after search refl settled;
+}

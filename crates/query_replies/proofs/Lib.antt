@@ -1,2 +1,1 @@
 pub mod ReplyLemmas
-mod MakingLemmas

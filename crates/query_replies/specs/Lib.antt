@@ -1,3 +1,2 @@
 pub mod Queries
 pub mod Sending
-pub mod Making

@@ -3,10 +3,8 @@
 
 mod answerer;
 mod fault;
-mod made;
 mod reply;
 
 pub use answerer::Answerer;
 pub use fault::ReplyFault;
-pub use made::MadeReply;
 pub use reply::Reply;

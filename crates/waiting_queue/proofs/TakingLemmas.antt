@@ -9,7 +9,7 @@ use Rattle.list_laws.proofs.OnceLaws.{in_append}
 use Rattle.list_laws.proofs.Pairs.{pairs_map, pairs_none, pairs_push}
 use Rattle.list_laws.proofs.SetLaws.{same_by_permutation}
 use Rattle.list_laws.specs.Sets.{SameMembers}
-use Rattle.waiting_queue.specs.Taking.{HasSpot, IsDominatedIn, IsUndominatedBy, SetsApart, TakesOpen}
+use Rattle.waiting_queue.specs.Taking.{HasSpot, IsDominatedIn, IsUndominatedBy, SetsApart, TakesOpen, TakesOpenSpots}
 use Rattle.waiting_queue.specs.Waiting.{Spot, SpotLess}
 use Rattle.waiting_queue.proofs.OrderLemmas.{not_lex_less}
 
@@ -83,8 +83,8 @@ module _ {X : Type 0} (spot : X → Spot) (Open : Spot → Type 0) where
         | inr last ↦ subst (λ y. Contains (seen ++ s ∷ []) y × IsDominatedIn spot took (spot y).cost) (sym last) (last_in seen s, by)
       ];
       leaves = λ x h. elim (cases_push seen s x h) [
-        | inl old ↦ elim (is.leaves x old) [ inl there ↦ inl (there.0, in_push left s there.0 there.1, there.2) | inr gone ↦ inr gone ]
-        | inr last ↦ inl (s, last_in left s, subst (λ y. spot s ≡ spot y) (sym last) refl)
+        | inl old ↦ elim (is.leaves x old) [ inl there ↦ inl (in_push left s x there) | inr gone ↦ inr gone ]
+        | inr last ↦ inl (subst (Contains (left ++ s ∷ [])) (sym last) (last_in left s))
       ];
     }
 
@@ -136,10 +136,7 @@ module _ {X : Type 0} (spot : X → Spot) (Open : Spot → Type 0) where
         undominated z there z_open below = elim (cases_push seen s z there) [
           | inr last ↦ Dominates-irrefl (spot s).cost (subst (λ y. Dominates (spot y).cost (spot s).cost) last below)
           | inl old ↦ elim (is.leaves z old) [
-            | inl there ↦
-                let by = (is.stays there.0 there.1).1 in
-                let above = subst (λ (y : Spot). Dominates (spot by.0).cost y.cost) there.2 by.2 in
-                free (by.0, by.1, Dominates-trans (spot by.0).cost (spot z).cost (spot s).cost above below)
+            | inl stays ↦ let by = (is.stays z stays).1 in free (by.0, by.1, Dominates-trans (spot by.0).cost (spot z).cost (spot s).cost by.2 below)
             | inr (inl gone) ↦ free (gone.0, gone.1, subst (λ (y : Spot). Dominates y.cost (spot s).cost) (sym gone.2) below)
             | inr (inr closed) ↦ closed z_open
           ]
@@ -167,7 +164,7 @@ module _ {X : Type 0} (spot : X → Spot) (Open : Spot → Type 0) where
   apart_if_taken before took after is = record {
     held = λ x h. (is.among x h, ((is.taken (spot x)).0 (x, h, refl)).1);
     stays = is.stays;
-    leaves = is.leaves;
+    leaves = λ x h. elim (is.leaves x h) [ inl there ↦ inl (x, there, refl) | inr gone ↦ inr gone ];
   }
 
   -- two parts
@@ -218,15 +215,12 @@ module _ {X : Type 0} (spot : X → Spot) (Open : Spot → Type 0) where
     -- what one that was set apart dominates, one that is taken does
     taken_below : (c : List ℕ) → IsDominatedIn spot apart c → IsDominatedIn spot took c
     taken_below c by = elim (once.leaves by.0 by.1) [
-      | inl there ↦
-          let less = (once.stays there.0 there.1).1 in
-          let above = subst (λ (y : Spot). Dominates (spot less.0).cost y.cost) there.2 less.2 in
-          (less.0, less.1, Dominates-trans (spot less.0).cost (spot by.0).cost c above by.2)
+      | inl there ↦ let less = (once.stays by.0 there).1 in (less.0, less.1, Dominates-trans (spot less.0).cost (spot by.0).cost c less.2 by.2)
       | inr (inl gone) ↦ (gone.0, gone.1, subst (λ (y : Spot). Dominates y.cost c) (sym gone.2) by.2)
       | inr (inr closed) ↦ absurd (closed tt)
     ]
 
-    pub parts_take : TakesOpen spot Open before took (after ++ rest)
+    pub parts_take : TakesOpenSpots spot Open before took (after ++ rest)
     parts_take = record {
       taken = λ s. (
         λ h.
@@ -252,7 +246,7 @@ module _ {X : Type 0} (spot : X → Spot) (Open : Spot → Type 0) where
       leaves = λ x h. elim (is.leaves x h) [
         | inl there ↦ inl (there.0, (in_append after rest there.0).1 (inl there.1), there.2)
         | inr (inl gone) ↦ elim (once.leaves gone.0 gone.1) [
-          | inl back ↦ inl (back.0, (in_append after rest back.0).1 (inr back.1), back.2 ∙ gone.2)
+          | inl back ↦ inl (gone.0, (in_append after rest gone.0).1 (inr back), gone.2)
           | inr (inl taken) ↦ inr (inl (taken.0, taken.1, taken.2 ∙ gone.2))
           | inr (inr closed) ↦ absurd (closed tt)
         ]
@@ -292,9 +286,9 @@ module _ {X Y : Type 0} (spot : Y → Spot) (tell : X → Y) (Open : Spot → Ty
         (in_map tell before from.0 was.0, (tell was.1.0, in_map tell took was.1.0 was.1.1, was.1.2));
     leaves = λ y h.
         let from = of_map tell before y h in
-        subst (λ z. HasSpot spot (map tell after) (spot z) ⊎ (HasSpot spot (map tell took) (spot z) ⊎ (¬ Open (spot z)))) (sym from.2)
+        subst (λ z. Contains (map tell after) z ⊎ (HasSpot spot (map tell took) (spot z) ⊎ (¬ Open (spot z)))) (sym from.2)
         (elim (is.leaves from.0 from.1) [
-          | inl there ↦ inl ((has_told after (spot (tell from.0))).0 there)
+          | inl there ↦ inl (in_map tell after from.0 there)
           | inr (inl gone) ↦ inr (inl ((has_told took (spot (tell from.0))).0 gone))
           | inr (inr closed) ↦ inr (inr closed)
         ]);

@@ -29,6 +29,14 @@ module _ {X : Type 0} (spot : X → Spot) where
     pub among : (x : X) → Contains took x → Contains before x
     pub ascending : AllPairs (λ a b. SpotLess (spot a) (spot b)) took
     pub stays : (x : X) → Contains after x → Contains before x × IsDominatedIn took (spot x).cost
+    pub leaves : (x : X) → Contains before x → Contains after x ⊎ (HasSpot took (spot x) ⊎ (¬ Open (spot x)))
+
+  -- The same of spots: a member may also leave whose spot is still there.
+  pub record TakesOpenSpots (Open : Spot → Type 0) (before took after : List X) : Type 0 where
+    pub taken : (s : Spot) → HasSpot took s ↔ (HasSpot before s × Open s × IsUndominatedBy Open before s.cost)
+    pub among : (x : X) → Contains took x → Contains before x
+    pub ascending : AllPairs (λ a b. SpotLess (spot a) (spot b)) took
+    pub stays : (x : X) → Contains after x → Contains before x × IsDominatedIn took (spot x).cost
     pub leaves : (x : X) → Contains before x → HasSpot after (spot x) ⊎ (HasSpot took (spot x) ⊎ (¬ Open (spot x)))
 
   -- Some open spots are set apart, as each part of the list sets apart those that it takes. What stays is dominated by one of them,

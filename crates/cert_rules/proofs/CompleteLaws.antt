@@ -54,14 +54,14 @@ module _ (net : Network) (is : IsNetwork net) (cert : Certificate) (lists : List
   relevant_label l there = (lists.relevant l.node l.cost).0 (record { arc = l.arc; listed = there })
 
   -- and a best cost that none of the target's dominates is listed
-  listed_if_free : (v : ℕ) (c : List ℕ) → IsBest net s v c → ((b : List ℕ) → IsBest net s t b → ¬ Dominates b c) → IsListed cert v c
+  listed_if_free : (v : ℕ) (c : List ℕ) → IsBest net s v c → ((b : List ℕ) → IsBest net s t b → ¬ Dominates b c) → IsListed cert.labels v c
   listed_if_free v c best free = (lists.relevant v c).1 (record {
     best = best;
     within = Within-no_limit net.criteria c (length_of_walk net is best.reached.0 s v c best.reached.1);
     undominated = free;
   })
 
-  best_listed : (c : List ℕ) → IsBest net s t c → IsListed cert t c
+  best_listed : (c : List ℕ) → IsBest net s t c → IsListed cert.labels t c
   best_listed c best = listed_if_free t c best (λ b other. best.nondominated other.reached.0 b other.reached.1)
 
   -- ---- no rule fails at a label

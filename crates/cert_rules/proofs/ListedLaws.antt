@@ -25,36 +25,36 @@ a_label v c a = record { node = v; cost = c; arc = a }
 pub one_label : (v w : ℕ) (b c : List ℕ) (a k : ℕ) → v ≡ w → b ≡ c → a ≡ k → a_label v b a ≡ a_label w c k
 one_label v w b c a k e f g = cc
 
-module _ (cert : Certificate) where
+module _ (labels : List Label) where
   -- a listed label lists its cost
-  pub listed_label : (l : Label) → Contains cert.labels l → IsListed cert l.node l.cost
+  pub listed_label : (l : Label) → Contains labels l → IsListed labels l.node l.cost
   listed_label l there = record { arc = l.arc; listed = there }
 
   -- whether a cost is listed, and whether some listed cost is at most or dominates another
-  pub cases_listed : (v : ℕ) (c : List ℕ) → IsListed cert v c ⊎ (¬ IsListed cert v c)
+  pub cases_listed : (v : ℕ) (c : List ℕ) → IsListed labels v c ⊎ (¬ IsListed labels v c)
   cases_listed v c =
-      elim (decidable_some (λ (l : Label). (l.node ≡ v) × (l.cost ≡ c)) (λ l. decidable_both (cases_eq l.node v) (cases_same l.cost c)) cert.labels) [
-        | inl found ↦ inl (subst (IsListed cert v) found.2.1 (subst (λ u. IsListed cert u found.0.cost) found.2.0 (listed_label found.0 found.1)))
+      elim (decidable_some (λ (l : Label). (l.node ≡ v) × (l.cost ≡ c)) (λ l. decidable_both (cases_eq l.node v) (cases_same l.cost c)) labels) [
+        | inl found ↦ inl (subst (IsListed labels v) found.2.1 (subst (λ u. IsListed labels u found.0.cost) found.2.0 (listed_label found.0 found.1)))
         | inr none ↦ inr (λ listed. none (record { node = v; cost = c; arc = listed.arc }) listed.listed (refl, refl))
       ]
 
-  pub cases_covered : (v : ℕ) (c : List ℕ) → IsCovered cert v c ⊎ (¬ IsCovered cert v c)
+  pub cases_covered : (v : ℕ) (c : List ℕ) → IsCovered labels v c ⊎ (¬ IsCovered labels v c)
   cases_covered v c =
-      elim (decidable_some (λ (l : Label). (l.node ≡ v) × AtMost l.cost c) (λ l. decidable_both (cases_eq l.node v) (cases_AtMost l.cost c)) cert.labels) [
+      elim (decidable_some (λ (l : Label). (l.node ≡ v) × AtMost l.cost c) (λ l. decidable_both (cases_eq l.node v) (cases_AtMost l.cost c)) labels) [
         | inl found ↦ inl (record {
           cost = found.0.cost;
-          listed = subst (λ u. IsListed cert u found.0.cost) found.2.0 (listed_label found.0 found.1);
+          listed = subst (λ u. IsListed labels u found.0.cost) found.2.0 (listed_label found.0 found.1);
           at_most = found.2.1;
         })
         | inr none ↦ inr (λ covered. none (record { node = v; cost = covered.cost; arc = covered.listed.arc }) covered.listed.listed (refl, covered.at_most))
       ]
 
-  pub cases_beaten : (v : ℕ) (c : List ℕ) → IsBeaten cert v c ⊎ (¬ IsBeaten cert v c)
+  pub cases_beaten : (v : ℕ) (c : List ℕ) → IsBeaten labels v c ⊎ (¬ IsBeaten labels v c)
   cases_beaten v c =
-      elim (decidable_some (λ (l : Label). (l.node ≡ v) × Dominates l.cost c) (λ l. decidable_both (cases_eq l.node v) (cases_Dominates l.cost c)) cert.labels) [
+      elim (decidable_some (λ (l : Label). (l.node ≡ v) × Dominates l.cost c) (λ l. decidable_both (cases_eq l.node v) (cases_Dominates l.cost c)) labels) [
         | inl found ↦ inl (record {
           cost = found.0.cost;
-          listed = subst (λ u. IsListed cert u found.0.cost) found.2.0 (listed_label found.0 found.1);
+          listed = subst (λ u. IsListed labels u found.0.cost) found.2.0 (listed_label found.0 found.1);
           better = found.2.1;
         })
         | inr none ↦ inr (λ beaten. none (record { node = v; cost = beaten.cost; arc = beaten.listed.arc }) beaten.listed.listed (refl, beaten.better))
@@ -88,16 +88,16 @@ cases_leads net k v = by_place (slice_get net.ends (k - 1)) refl (slice_get net.
 
 module _ (net : Network) (is : IsNetwork net) (cert : Certificate) (good : IsCertificate net cert) where
   -- a listed cost has a component for each criterion
-  pub length_of_listed : (v : ℕ) (c : List ℕ) → IsListed cert v c → length c ≡ net.criteria
+  pub length_of_listed : (v : ℕ) (c : List ℕ) → IsListed cert.labels v c → length c ≡ net.criteria
   length_of_listed v c listed = (each_in (IsLine net) cert.labels good.lines (record { node = v; cost = c; arc = listed.arc }) listed.listed).cost
 
   -- whether an arc comes from a listed cost
-  pub cases_ends : (k v : ℕ) (c : List ℕ) → length c ≡ net.criteria → EndsBy net k v (IsListed cert) c ⊎ (¬ EndsBy net k v (IsListed cert) c)
+  pub cases_ends : (k v : ℕ) (c : List ℕ) → length c ≡ net.criteria → EndsBy net k v (IsListed cert.labels) c ⊎ (¬ EndsBy net k v (IsListed cert.labels) c)
   cases_ends k v c long = elim (cases_leads net k v) [
     | inr elsewhere ↦ inr (λ ends. elsewhere (record { from = ends.at; by = ends.by; leads = ends.leads }))
     | inl to ↦ elim (cases_AtMost to.by c) [
       | inr above ↦ inr (λ ends. above (fits to ends))
-      | inl within ↦ elim (cases_listed cert to.from (less c to.by)) [
+      | inl within ↦ elim (cases_listed cert.labels to.from (less c to.by)) [
         | inl listed ↦ inl (record {
           at = to.from;
           by = to.by;
@@ -110,24 +110,24 @@ module _ (net : Network) (is : IsNetwork net) (cert : Certificate) (good : IsCer
       ]
     ]
   ] where
-    alike : (to : LeadsTo net k v) (ends : EndsBy net k v (IsListed cert) c) → (to.from ≡ ends.at) × (to.by ≡ ends.by)
+    alike : (to : LeadsTo net k v) (ends : EndsBy net k v (IsListed cert.labels) c) → (to.from ≡ ends.at) × (to.by ≡ ends.by)
     alike to ends = let same = leads_alike net k to.from v ends.at v to.by ends.by to.leads ends.leads in (same.0, same.1)
 
-    whole : (ends : EndsBy net k v (IsListed cert) c) → length ends.before ≡ length ends.by
+    whole : (ends : EndsBy net k v (IsListed cert.labels) c) → length ends.before ≡ length ends.by
     whole ends = length_of_listed ends.at ends.before ends.walk ∙ sym (leads_by_vector net is k ends.at v ends.by ends.leads).whole
 
-    fits : (to : LeadsTo net k v) → EndsBy net k v (IsListed cert) c → AtMost to.by c
+    fits : (to : LeadsTo net k v) → EndsBy net k v (IsListed cert.labels) c → AtMost to.by c
     fits to ends =
         subst (λ w. AtMost w c) (sym (alike to ends).1) (subst (AtMost ends.by) (sym ends.cost) (AtMost-plus_other ends.before ends.by (whole ends)))
 
-    before_is : (to : LeadsTo net k v) → EndsBy net k v (IsListed cert) c → AtMost to.by c → IsListed cert to.from (less c to.by)
+    before_is : (to : LeadsTo net k v) → EndsBy net k v (IsListed cert.labels) c → AtMost to.by c → IsListed cert.labels to.from (less c to.by)
     before_is to ends within =
         let same = alike to ends in
         let vector = leads_by_vector net is k to.from v to.by to.leads in
         let rest = (left net is k to.from v to.by c to.leads long within).0 ∙ sym vector.whole in
         let total : plus ends.before to.by ≡ plus (less c to.by) to.by = ap (plus ends.before) same.1 ∙ sym ends.cost ∙ sym (plus-minus c to.by within) in
         let one = plus_cancel ends.before (less c to.by) to.by (whole ends ∙ ap length (sym same.1)) rest total in
-        subst (IsListed cert to.from) one (subst (λ u. IsListed cert u ends.before) (sym same.0) ends.walk)
+        subst (IsListed cert.labels to.from) one (subst (λ u. IsListed cert.labels u ends.before) (sym same.0) ends.walk)
 
 -- ---- what it is that no rule fails
 
@@ -155,18 +155,18 @@ module _ (net : Network) (cert : Certificate) (none : HasNoFailure net cert) whe
 
   -- each other label comes of a listed one by its arc
   pub comes_by : (is : IsNetwork net) → IsCertificate net cert → (l : Label) → Contains cert.labels l → l.arc ≢ 0
-      → EndsBy net l.arc l.node (IsListed cert) l.cost
-  comes_by is good l there some = elim (cases_ends net is cert good l.arc l.node l.cost (length_of_listed net is cert good l.node l.cost (listed_label cert l there))) [
+      → EndsBy net l.arc l.node (IsListed cert.labels) l.cost
+  comes_by is good l there some = elim (cases_ends net is cert good l.arc l.node l.cost (length_of_listed net is cert good l.node l.cost (listed_label cert.labels l there))) [
     | inl comes ↦ comes
     | inr other ↦ absurd (none_at Arrival l there (some, other))
   ]
 
   -- where an arc leads on, a listed cost is at most the sum, or one of the target dominates it
   pub leads_to_listed : (l : Label) → Contains cert.labels l → (k v : ℕ) (w : List ℕ) → Leads net k l.node w v
-      → IsCovered cert v (plus l.cost w) ⊎ IsBeaten cert cert.target (plus l.cost w)
-  leads_to_listed l there k v w arc = elim (cases_covered cert v (plus l.cost w)) [
+      → IsCovered cert.labels v (plus l.cost w) ⊎ IsBeaten cert.labels cert.target (plus l.cost w)
+  leads_to_listed l there k v w arc = elim (cases_covered cert.labels v (plus l.cost w)) [
     | inl covered ↦ inl covered
-    | inr bare ↦ elim (cases_beaten cert cert.target (plus l.cost w)) [
+    | inr bare ↦ elim (cases_beaten cert.labels cert.target (plus l.cost w)) [
       | inl beaten ↦ inr beaten
       | inr free ↦ absurd (none_at Departure l there (record { arc = k; at = v; by = w; leads = arc; holds = (bare, free) }))
     ]

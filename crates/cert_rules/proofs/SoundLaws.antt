@@ -61,14 +61,14 @@ module _ (net : Network) (is : IsNetwork net) (cert : Certificate) (good : IsCer
   chain l there = chain_below (suc (sum l.cost)) l (omega arith) there
 
   -- each listed cost is a walk's
-  walked : (v : ℕ) (c : List ℕ) → IsListed cert v c → (p : List ℕ) × IsWalk net cert.start p v c
+  walked : (v : ℕ) (c : List ℕ) → IsListed cert.labels v c → (p : List ℕ) × IsWalk net cert.start p v c
   walked v c listed = let l : Label = record { node = v; cost = c; arc = listed.arc } in walk_of_chain l (chain l listed.listed)
 
   -- each cost of a walk is at least a listed cost of its end, or a listed cost of the target dominates it
-  frontier : (q : List ℕ) (v : ℕ) (c : List ℕ) → Arrives net cert.start q v c → IsCovered cert v c ⊎ IsBeaten cert cert.target c
+  frontier : (q : List ℕ) (v : ℕ) (c : List ℕ) → Arrives net cert.start q v c → IsCovered cert.labels v c ⊎ IsBeaten cert.labels cert.target c
   frontier [] v c walk = inl (record {
     cost = zeros;
-    listed = subst (λ u. IsListed cert u zeros) walk.1 (record { arc = 0; listed = start_listed net cert none });
+    listed = subst (λ u. IsListed cert.labels u zeros) walk.1 (record { arc = 0; listed = start_listed net cert none });
     at_most = subst (AtMost zeros) (sym walk.2) (AtMost-refl zeros);
   })
   frontier (k ∷ before) v c walk =
@@ -93,22 +93,22 @@ module _ (net : Network) (is : IsNetwork net) (cert : Certificate) (good : IsCer
 
   -- a best cost that no walk's cost at the target dominates is listed
   listed_if_best : (v : ℕ) (c : List ℕ) → IsBest net cert.start v c
-      → ((p b : List ℕ) → IsWalk net cert.start p cert.target b → ¬ Dominates b c) → IsListed cert v c
+      → ((p b : List ℕ) → IsWalk net cert.start p cert.target b → ¬ Dominates b c) → IsListed cert.labels v c
   listed_if_best v c best free =
       elim (frontier (reverse best.reached.0) v c (arrives_by_walk net is best.reached.0 cert.start v c best.reached.1)) [
         | inr beaten ↦ let walk = walked cert.target beaten.cost beaten.listed in absurd (free walk.0 beaten.cost walk.1 beaten.better)
         | inl covered ↦ elim (cases_same covered.cost c) [
-          | inl same ↦ subst (IsListed cert v) same covered.listed
+          | inl same ↦ subst (IsListed cert.labels v) same covered.listed
           | inr other ↦
               let walk = walked v covered.cost covered.listed in
               absurd (best.nondominated walk.0 covered.cost walk.1 (record { at_most = covered.at_most; differs = other }))
         ]
       ]
 
-  best_is_listed : (c : List ℕ) → IsBest net cert.start cert.target c → IsListed cert cert.target c
+  best_is_listed : (c : List ℕ) → IsBest net cert.start cert.target c → IsListed cert.labels cert.target c
   best_is_listed c best = listed_if_best cert.target c best best.nondominated
 
-  listed_is_best : (c : List ℕ) → IsListed cert cert.target c → IsBest net cert.start cert.target c
+  listed_is_best : (c : List ℕ) → IsListed cert.labels cert.target c → IsBest net cert.start cert.target c
   listed_is_best c listed = record {
     reached = walked cert.target c listed;
     nondominated = λ p b walk better.
@@ -130,7 +130,7 @@ module _ (net : Network) (is : IsNetwork net) (cert : Certificate) (good : IsCer
     pub best : IsBest net cert.start cert.target goal
     pub front : IsWalk net cert.start p v b
 
-  listed_on_the_way : (p : List ℕ) (v : ℕ) (b : List ℕ) → IsOnTheWay p v b → IsListed cert v b
+  listed_on_the_way : (p : List ℕ) (v : ℕ) (b : List ℕ) → IsOnTheWay p v b → IsListed cert.labels v b
   listed_on_the_way p v b way =
       let parts = parts_of_walk net is p way.rest cert.start cert.target way.goal way.whole in
       let end = one_end net p cert.start parts.at v parts.so_far b parts.first way.front in

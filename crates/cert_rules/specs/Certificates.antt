@@ -38,20 +38,20 @@ pub record IsCertificate (net : Network) (cert : Certificate) : Type 0 where
   pub count : length cert.labels ≤ max_labels
 
 -- a label with this node and this cost is listed
-pub record IsListed (cert : Certificate) (v : ℕ) (c : List ℕ) : Type 0 where
+pub record IsListed (labels : List Label) (v : ℕ) (c : List ℕ) : Type 0 where
   pub arc : ℕ
-  pub listed : Contains cert.labels (record { node = v; cost = c; arc = arc })
+  pub listed : Contains labels (record { node = v; cost = c; arc = arc })
 
 -- a listed cost of v is at most c
-pub record IsCovered (cert : Certificate) (v : ℕ) (c : List ℕ) : Type 0 where
+pub record IsCovered (labels : List Label) (v : ℕ) (c : List ℕ) : Type 0 where
   pub cost : List ℕ
-  pub listed : IsListed cert v cost
+  pub listed : IsListed labels v cost
   pub at_most : AtMost cost c
 
 -- a listed cost of v dominates c
-pub record IsBeaten (cert : Certificate) (v : ℕ) (c : List ℕ) : Type 0 where
+pub record IsBeaten (labels : List Label) (v : ℕ) (c : List ℕ) : Type 0 where
   pub cost : List ℕ
-  pub listed : IsListed cert v cost
+  pub listed : IsListed labels v cost
   pub better : Dominates cost c
 
 -- the label of the start at cost zero, which has no arc

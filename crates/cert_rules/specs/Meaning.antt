@@ -17,8 +17,8 @@ pub record IsListedLeast (net : Network) (cert : Certificate) (v : ℕ) (c : Lis
 -- The listed costs of the target are exactly its best costs, each listed cost is a walk's, and wherever a walk of a best
 -- cost of the target comes through, that is listed, with its least arc.
 pub record ShowsAnswer (net : Network) (cert : Certificate) : Type 0 where
-  pub costs : (c : List ℕ) → IsListed cert cert.target c ↔ IsBest net cert.start cert.target c
-  pub walked : (v : ℕ) (c : List ℕ) → IsListed cert v c → (p : List ℕ) × IsWalk net cert.start p v c
+  pub costs : (c : List ℕ) → IsListed cert.labels cert.target c ↔ IsBest net cert.start cert.target c
+  pub walked : (v : ℕ) (c : List ℕ) → IsListed cert.labels v c → (p : List ℕ) × IsWalk net cert.start p v c
   pub on_the_way : (p q : List ℕ) (v : ℕ) (b c : List ℕ) → IsWalk net cert.start (p ++ q) cert.target c
       → IsBest net cert.start cert.target c → IsWalk net cert.start p v b → IsListedLeast net cert v b
 
@@ -26,5 +26,5 @@ pub record ShowsAnswer (net : Network) (cert : Certificate) : Type 0 where
 -- backward-least walk.
 pub record ListsRelevant (net : Network) (cert : Certificate) : Type 0 where
   pub relevant : (v : ℕ) (c : List ℕ)
-      → IsListed cert v c ↔ IsRelevant net cert.start cert.target (no_limit net.criteria) v c
+      → IsListed cert.labels v c ↔ IsRelevant net cert.start cert.target (no_limit net.criteria) v c
   pub least : (l : Label) → Contains cert.labels l → HasLeastArc net cert.start l

@@ -26,10 +26,10 @@ pub record ForSomeArc (net : Network) (l : Label) (P : ℕ → ℕ → List ℕ 
   pub holds : P arc at (plus l.cost by)
 
 -- this cost is listed at the node with an arc greater than k
-pub record IsListedAbove (cert : Certificate) (k v : ℕ) (c : List ℕ) : Type 0 where
+pub record IsListedAbove (labels : List Label) (k v : ℕ) (c : List ℕ) : Type 0 where
   pub arc : ℕ
   pub greater : k < arc
-  pub listed : Contains cert.labels (record { node = v; cost = c; arc = arc })
+  pub listed : Contains labels (record { node = v; cost = c; arc = arc })
 
 -- The rule fails at a listed label:
 -- start: its arc is 0, and it isn't the start at cost zero;
@@ -41,11 +41,11 @@ pub record IsListedAbove (cert : Certificate) (k v : ℕ) (c : List ℕ) : Type 
 -- undominated: a listed cost of its node dominates its cost.
 abbrev pub FailsAt : Network → Certificate → Rule → Label → Type 0
 FailsAt net cert Start l = (l.arc ≡ 0) × (l ≢ start_label net cert)
-FailsAt net cert Arrival l = (l.arc ≢ 0) × ¬ EndsBy net l.arc l.node (IsListed cert) l.cost
+FailsAt net cert Arrival l = (l.arc ≢ 0) × ¬ EndsBy net l.arc l.node (IsListed cert.labels) l.cost
 FailsAt net cert Departure l =
-    ForSomeArc net l (λ k v c. (¬ IsCovered cert v c) × (¬ IsBeaten cert cert.target c))
-FailsAt net cert LeastArc l = ForSomeArc net l (IsListedAbove cert)
-FailsAt net cert Undominated l = IsBeaten cert l.node l.cost
+    ForSomeArc net l (λ k v c. (¬ IsCovered cert.labels v c) × (¬ IsBeaten cert.labels cert.target c))
+FailsAt net cert LeastArc l = ForSomeArc net l (IsListedAbove cert.labels)
+FailsAt net cert Undominated l = IsBeaten cert.labels l.node l.cost
 
 -- The rule fails at the label of this number; for the list as a whole, the first one where the start at cost zero isn't
 -- listed with arc 0.

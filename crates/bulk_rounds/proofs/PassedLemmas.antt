@@ -43,7 +43,7 @@ module _ (before : Core) (took after : List Item) (takes : TakesOpen spot_of (λ
   loses_spent later same_search same settled = record {
     was = λ i there. (takes.stays i (rw same at there)).0;
     gone = λ x (i, i_in, is). elim (takes.leaves i i_in) [
-      | inl (j, j_in, j_same) ↦ inl (j, rw same j_in, j_same ∙ is)
+      | inl stays ↦ inl (i, rw same stays, is)
       | inr (inl (j, j_in, j_same)) ↦
           let there = subst (Contains (map spot_of took)) (j_same ∙ is) (in_map spot_of took j j_in) in
           inr (inl (record { by = x.cost; settled = (settled x).1 (inr there); at_most = AtMost-refl x.cost }))

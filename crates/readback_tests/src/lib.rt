@@ -4,3 +4,6 @@
 mod each_node;
 
 pub use each_node::{BestOfEach, find};
+
+#[cfg(test)]
+mod tests;

@@ -1,0 +1,41 @@
+-- The settled costs of all nodes, and how they are kept.
+use Rattle.std.specs.Prelude.{◌≡◌, ◌≢◌, ℕ, ◌+◌, ◌<◌, ◌≤◌, List, [], length, map, slice_index, slice_index_or, All, Contains}
+use Rattle.cost_vector.specs.Costs.{min_criteria, max_criteria}
+use Rattle.road_network.specs.Limits.{max_nodes}
+
+-- How many nodes there are; and for each number up to it, from 0, a list of costs, of which membership alone counts. Number 0
+-- is no node, and its list is empty.
+pub record Fronts : Type 0 where
+  pub nodes : ℕ
+  pub costs : List (List (List ℕ))
+
+-- the settled costs of the node v
+abbrev pub costs_at : Fronts → ℕ → List (List ℕ)
+costs_at f v = slice_index_or f.costs v []
+
+-- but for the node v all has stayed
+pub record SameElsewhere (v : ℕ) (before after : Fronts) : Type 0 where
+  pub nodes : after.nodes ≡ before.nodes
+  pub others : (w : ℕ) → w ≢ v → costs_at after w ≡ costs_at before w
+
+-- ---- how they are kept: of each node the place of its list among those that were begun, or 0
+
+-- the costs of each number
+abbrev pub costs_by : List ℕ → List (List (List ℕ)) → List (List (List ℕ))
+costs_by places begun = map (λ k. slice_index_or begun k []) places
+
+-- The first list is that of all nodes that have no settled cost, and is empty. Each other one is a single node's.
+pub record IsPlaced (places : List ℕ) (begun : List (List (List ℕ))) : Type 0 where
+  pub some : 0 < length places
+  pub few : length places ≤ max_nodes + 1
+  pub no_node : slice_index places 0 ≡ 0
+  pub within : All (λ k. k < length begun) places
+  pub own : (v w : ℕ) → slice_index places v ≡ slice_index places w → slice_index places v ≢ 0 → v ≡ w
+  pub used : (k : ℕ) → 0 < k → k < length begun → Contains places k
+  pub first : slice_index_or begun 0 [] ≡ []
+
+-- the same, in 2 to 4 criteria
+pub record IsKept (d : ℕ) (places : List ℕ) (begun : List (List (List ℕ))) : Type 0 where
+  pub two : min_criteria ≤ d
+  pub four : d ≤ max_criteria
+  pub placed : IsPlaced places begun

@@ -1,0 +1,132 @@
+ghost use Rattle.std.specs.Prelude.{◌≡◌, ◌≢◌, ℕ, ◌+◌, ◌<◌, ◌≤◌, ◌↔◌, [], ◌∷◌, length, map, slice_index, All, IfOk, IsPermutation, IsTrue, OnErr};
+ghost use Rattle.cost_vector.specs.Costs.{Dominates, max_criteria, min_criteria};
+ghost use Rattle.road_network.specs.Limits.{max_nodes};
+ghost use Rattle.road_network.specs.Network.{IsNode};
+ghost use Rattle.settled_front.specs.Fronts.{IsCovered, ListsCosts};
+ghost use Rattle.settled_fronts.specs.NodeFronts.{IsKept, SameElsewhere, costs_at, costs_by};
+
+use cost_vector::{CompactCost, NodeNo};
+use out_of_memory::OutOfMemory;
+use settled_front::SettledFront;
+use std::alloc::Global;
+use std::marker::Model;
+
+/// The settled costs of all nodes. Of a node that has none, one number is kept.
+#[derive(Drop)]
+pub struct Fronts<const D: usize, F: SettledFront<D>> {
+    /// The place of each node's front; 0 where the node has no settled cost.
+    places: Vec<u32>,
+    /// A front without costs, and then those of the nodes that have settled ones.
+    fronts: Vec<F>,
+    alloc: Global,
+}
+
+impl<const D: usize, F: SettledFront<D>> Model for Fronts<D, F> {
+    ghost use Rattle.std.specs.Prelude.{◌-◌, length, map};
+    ghost use Rattle.settled_fronts.specs.NodeFronts.{Fronts, IsKept, costs_by};
+
+    ghost Value = { Fronts };
+
+    ghost view = { λ f. record {
+      nodes = length f.places.items - 1;
+      costs = costs_by f.places.items (map F.costs f.fronts.items);
+    } };
+
+    ghost invariant = { λ f. IsKept D f.places.items (map F.costs f.fronts.items) };
+}
+
+impl<const D: usize, F: SettledFront<D>> Fronts<D, F> {
+    /// The fronts of so many nodes, all without costs.
+    pub fn new(alloc: Global, nodes: u32) -> Result<Fronts<D, F>, OutOfMemory>
+        requires two { min_criteria ≤ D }
+        requires four { D ≤ max_criteria }
+        requires nodes { nodes ≤ max_nodes }
+        ensures nodes { IfOk result (λ f. f.nodes ≡ nodes) }
+        ensures none { IfOk result (λ f. (v : ℕ) → costs_at f v ≡ []) }
+    {
+        let places = vec![in alloc; 0u32; nodes as usize + 1]?;
+        let mut fronts = Vec::new(alloc);
+        fronts.push(F::new(alloc))?;
+        Ok(Fronts {
+            places,
+            fronts,
+            alloc,
+        })
+    }
+
+    /// How many nodes there are.
+    pub fn nodes(&self) -> u32
+        ensures { result ≡ self.now.nodes }
+    {
+        (self.places.len() - 1) as u32
+    }
+
+    /// The front of a node.
+    pub fn front(&self, node: NodeNo) -> &F
+        requires { IsNode self.now.nodes node.0 }
+        ensures { F.costs result.now ≡ costs_at self.now node.0 }
+    {
+        &self.fronts[self.places[node.0 as usize] as usize]
+    }
+
+    /// Whether some settled cost of the node is at most this one. What is no node has none.
+    pub fn covers(&self, node: NodeNo, cost: &F::Cost) -> bool
+        ensures { IsTrue result ↔ IsCovered (costs_at self.now node.0) (F.Cost.components cost.now) }
+    {
+        if node.0 as usize >= self.places.len() {
+            return false;
+        }
+        self.fronts[self.places[node.0 as usize] as usize].covers(cost)
+    }
+
+    /// Settles a cost that none of its node is at most, and that dominates none there.
+    pub fn push(&mut self, node: NodeNo, cost: &F::Cost) -> Result<(), OutOfMemory>
+        requires node { IsNode self.old.nodes node.0 }
+        requires uncovered { ¬ IsCovered (costs_at self.old node.0) (F.Cost.components cost.now) }
+        requires spares { All (λ c. ¬ Dominates (F.Cost.components cost.now) c)
+            (costs_at self.old node.0) }
+        ensures elsewhere { SameElsewhere node.0 self.old self.new }
+        ensures pushed { IfOk result (λ _. IsPermutation
+            (F.Cost.components cost.now ∷ costs_at self.old node.0) (costs_at self.new node.0)) }
+        ensures same { OnErr result (costs_at self.new node.0 ≡ costs_at self.old node.0) }
+    {
+        let place = reach::<D, F>(&mut self.places, &mut self.fronts, self.alloc, node)?;
+        self.fronts[place].push(cost)
+    }
+
+    /// The settled costs of a node, in ascending lexicographic order.
+    pub fn costs_of(&self, alloc: Global, node: NodeNo) -> Result<Vec<CompactCost<D>>, OutOfMemory>
+        requires { IsNode self.now.nodes node.0 }
+        ensures { IfOk result (λ list.
+            ListsCosts (costs_at self.now node.0) (map (λ c. c.0) list.items)) }
+    {
+        let _kept = &self.places;
+        self.front(node).to_costs(alloc)
+    }
+}
+
+/// The place of a node's front; where it has none, one without costs is begun.
+fn reach<const D: usize, F: SettledFront<D>>(
+    places: &mut Vec<u32>,
+    fronts: &mut Vec<F>,
+    alloc: Global,
+    node: NodeNo,
+) -> Result<usize, OutOfMemory>
+    requires kept { IsKept D places.old.items (map F.costs fronts.old.items) }
+    requires node { 0 < node.0 }
+    requires within { node.0 < length places.old.items }
+    ensures kept { IsKept D places.new.items (map F.costs fronts.new.items) }
+    ensures same { costs_by places.new.items (map F.costs fronts.new.items)
+        ≡ costs_by places.old.items (map F.costs fronts.old.items) }
+    ensures place { IfOk result (λ k. k ≡ slice_index places.new.items node.0) }
+    ensures reached { IfOk result (λ k. k ≢ 0) }
+{
+    let place = places[node.0 as usize];
+    if place != 0 {
+        return Ok(place as usize);
+    }
+    let next = fronts.len();
+    fronts.push(F::new(alloc))?;
+    places[node.0 as usize] = next as u32;
+    Ok(next)
+}

@@ -1,0 +1,6 @@
+//! The settled costs of all nodes that a search reaches, over any layout of the front of a node.
+#![tactic(auto)]
+
+mod fronts;
+
+pub use fronts::Fronts;

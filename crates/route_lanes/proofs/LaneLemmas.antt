@@ -7,17 +7,19 @@ use Rattle.arc_graph.specs.History.{History, closed_history}
 use Rattle.epoch_store.specs.Origin.{Origin, IsPublishedIn, last_number}
 use Rattle.epoch_store.proofs.OperatorLemmas.{closed_last}
 use Rattle.epoch_store.proofs.PrefixLemmas.{prefix_self}
+use Rattle.link_doors.specs.Links.{LinkState}
+use Rattle.session_core.specs.declared.end.SessionEnd.{SessionEnd}
 use Rattle.session_core.specs.Links.{Serves}
 use Rattle.session_core.specs.Sessions.{IsSessionBye, Scene, SessionGoes}
 use Rattle.session_core.proofs.StayLemmas.{run_stays}
-use Rattle.route_lanes.specs.Lanes.{IsSessionLane, Lane, LaneReport, LinkState, RunsLanes}
+use Rattle.route_lanes.specs.Lanes.{IsSessionLane, Lane, LaneReport, RunsLanes}
 use Rattle.route_lanes.specs.Served.{OperatorServes, SessionServes, report_of, whole_of}
 use Rattle.route_lanes.specs.Services.{FirstAndAllServe, Service}
 use Rattle.route_lanes.specs.declared.operator_lane.OperatorLane.{OperatorLane}
 use Rattle.route_lanes.specs.declared.session_lane.SessionLane.{SessionLane}
 
 -- what a session served over what it had seen, it served over the whole history
-serves_whole : {T L : Type 0} (show : L → LinkState) (scene : Scene) (bytes : ℕ) (whole : History) (s : Service (SessionLane T) L)
+serves_whole : {T L : Type 0} (show : L → LinkState) (scene : Scene) (bytes : ℕ) (whole : History) (s : Service (SessionLane T SessionEnd) L)
     → SessionServes show scene bytes s.party s.link s.party_after s.link_after → IsPrefix s.party_after.session.seen whole
     → IsPublishedIn scene.origin whole
     → Serves (SessionGoes scene) (IsSessionBye scene) bytes (record { seen = []; named = [] })
@@ -39,20 +41,20 @@ serves_whole show scene bytes whole s is begins allowed = record {
 }
 
 -- a session's lane, where the last epoch has this number
-abbrev lane_of : {T L : Type 0} → (L → LinkState) → ℕ → Service (SessionLane T) L → Lane
+abbrev lane_of : {T L : Type 0} → (L → LinkState) → ℕ → Service (SessionLane T SessionEnd) L → Lane
 lane_of show last s = record { before = show s.link; after = show s.link_after; report = report_of last s.party_after }
 
 -- the lanes of sessions
 session_lanes : {T L : Type 0} (show : L → LinkState) (scene : Scene) (bytes : ℕ) (whole : History) → IsPublishedIn scene.origin whole
-    → (services : List (Service (SessionLane T) L))
+    → (services : List (Service (SessionLane T SessionEnd) L))
     → All (λ s. SessionServes show scene bytes s.party s.link s.party_after s.link_after) services
     → All (λ lane. IsPrefix lane.session.seen whole) (map (λ s. s.party_after) services)
     → All (IsSessionLane scene bytes whole) (map (lane_of show (last_number scene.origin whole)) services)
 session_lanes show scene bytes whole allowed [] served begins = All-nil (IsSessionLane scene bytes whole)
 session_lanes {T} {L} show scene bytes whole allowed (s ∷ services) served begins =
-    let serves : Service (SessionLane T) L → Type 0 = λ x. SessionServes show scene bytes x.party x.link x.party_after x.link_after in
-    let seen : SessionLane T → Type 0 = λ lane. IsPrefix lane.session.seen whole in
-    let after = map (λ (x : Service (SessionLane T) L). x.party_after) services in
+    let serves : Service (SessionLane T SessionEnd) L → Type 0 = λ x. SessionServes show scene bytes x.party x.link x.party_after x.link_after in
+    let seen : SessionLane T SessionEnd → Type 0 = λ lane. IsPrefix lane.session.seen whole in
+    let after = map (λ (x : Service (SessionLane T SessionEnd) L). x.party_after) services in
     let one = serves_whole show scene bytes whole s (All-head serves s services served) (All-head seen s.party_after after begins) allowed in
     let lane = lane_of show (last_number scene.origin whole) in
     All-cons (IsSessionLane scene bytes whole) (lane s) (map lane services) (record { serves = one; last = refl })
@@ -65,8 +67,8 @@ maps_agree f g h k same [] = refl
 maps_agree f g h k same (x ∷ xs) = ap₂ ◌∷◌ (same x) (maps_agree f g h k same xs)
 
 -- all lanes, where the operator left this
-module _ {T L : Type 0} (show : L → LinkState) (graph : Graph) (o : Origin) (budget bytes : ℕ) (one one' : OperatorLane T)
-    (lanes lanes' : List (SessionLane T)) (links links' : List L) (reports : List LaneReport) where
+module _ {T L : Type 0} (show : L → LinkState) (graph : Graph) (o : Origin) (budget bytes : ℕ) (one one' : OperatorLane T SessionEnd)
+    (lanes lanes' : List (SessionLane T SessionEnd)) (links links' : List L) (reports : List LaneReport) where
   pub runs_lanes : (weights : Weights) (first : ℕ) → o.first ≡ first → o.base ≡ weights
       → FirstAndAllServe (OperatorServes show o bytes) (SessionServes show (record { graph = graph; origin = o; budget = budget }) bytes)
       one lanes links one' lanes' links'
@@ -85,7 +87,7 @@ module _ {T L : Type 0} (show : L → LinkState) (graph : Graph) (o : Origin) (b
       let lane = lane_of show last in
       let report : LaneReport = record { end = one'.end; last = last; numbers = [] } in
       let lead : Lane = record { before = show is.first; after = show is.first_after; report = report } in
-      let seen = subst (λ (h : History). All (λ (x : SessionLane T). IsPrefix x.session.seen h) lanes') closed begins in
+      let seen = subst (λ (h : History). All (λ (x : SessionLane T SessionEnd). IsPrefix x.session.seen h) lanes') closed begins in
       let reported = subst (λ (h : History). reports ≡ record { end = one'.end; last = last_number o h; numbers = [] } ∷ map (report_of (last_number o h)) lanes') closed exchanges in
       record {
         origin = o;
@@ -102,5 +104,5 @@ module _ {T L : Type 0} (show : L → LinkState) (graph : Graph) (o : Origin) (b
         left = left;
         operator_lane = record { serves = operator.serves; last = closed_last o left.published; unnamed = refl };
         session_lanes = session_lanes show scene bytes whole operator.published services is.served.each
-            (subst (λ (xs : List (SessionLane T)). All (λ (x : SessionLane T). IsPrefix x.session.seen whole) xs) is.served.parties_became seen);
+            (subst (λ (xs : List (SessionLane T SessionEnd)). All (λ (x : SessionLane T SessionEnd). IsPrefix x.session.seen whole) xs) is.served.parties_became seen);
       }

@@ -3,3 +3,6 @@ pub mod LearnLemmas
 pub mod SaidLemmas
 pub mod LaneLemmas
 pub mod ReportLemmas
+pub mod VisitLemmas
+pub mod ServingLemmas
+pub mod DoorLaneLemmas

@@ -1,10 +1,9 @@
 -- What becomes of lanes that run beside each other over one store: an operator's, and those of sessions.
 use Rattle.std.specs.Prelude.{◌≡◌, ℕ, List, [], ◌∷◌, map, All}
-use Rattle.route_io.specs.Sinks.{SinkState}
-use Rattle.route_io.specs.Sources.{SourceState}
 use Rattle.arc_graph.specs.Graph.{Graph, Weights}
 use Rattle.arc_graph.specs.History.{History, Operator, closed_history}
 use Rattle.epoch_store.specs.Origin.{Origin, last_number}
+use Rattle.link_doors.specs.Links.{LinkState}
 use Rattle.session_core.specs.declared.end.SessionEnd.{SessionEnd}
 use Rattle.session_core.specs.Links.{Serves}
 use Rattle.session_core.specs.Operators.{IsOperatorBye, OperatorRun}
@@ -15,11 +14,6 @@ pub record LaneReport : Type 0 where
   pub end : SessionEnd
   pub last : ℕ
   pub numbers : List ℕ
-
--- what a link shows: its source and its sink
-pub record LinkState : Type 0 where
-  pub from : SourceState
-  pub to : SinkState
 
 -- a lane: its link before and afterwards, and what is reported of it
 pub record Lane : Type 0 where

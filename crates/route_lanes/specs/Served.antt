@@ -1,23 +1,17 @@
 -- What becomes of a lane when it serves its link.
 use Rattle.std.specs.Prelude.{◌≡◌, ℕ, []}
-use Rattle.route_io.specs.declared.link.Link.{Link}
-use Rattle.route_io.specs.Sinks.{SinkState}
-use Rattle.route_io.specs.Sources.{SourceState}
 use Rattle.arc_graph.specs.History.{History, Operator, closed_history, with_none_pending}
 use Rattle.epoch_store.specs.Origin.{Origin, IsOperatorIn, IsPublishedIn}
 use Rattle.session_core.specs.declared.end.SessionEnd.{SessionEnd}
 use Rattle.session_core.specs.Links.{Serves}
 use Rattle.session_core.specs.Operators.{IsOperatorBye, OperatorRun}
 use Rattle.session_core.specs.Sessions.{IsSessionBye, Scene, Session, SessionGoes}
-use Rattle.route_lanes.specs.Lanes.{LaneReport, LinkState}
+use Rattle.link_doors.specs.Links.{LinkState}
+use Rattle.route_lanes.specs.Lanes.{LaneReport}
 use Rattle.route_lanes.specs.declared.operator_lane.OperatorLane.{OperatorLane}
 use Rattle.route_lanes.specs.declared.operator_lane.StoreState.{StoreState}
 use Rattle.route_lanes.specs.declared.operator_lane.StoreState.TheVariants.{Open, Closed}
 use Rattle.route_lanes.specs.declared.session_lane.SessionLane.{SessionLane}
-
--- what a link shows, by what its source and its sink do
-abbrev pub state_of : {S K : Type 0} → (S → SourceState) → (K → SinkState) → Link S K → LinkState
-state_of from_state to_state link = record { from = from_state link.from; to = to_state link.to }
 
 -- The store is open, and nothing was published or is pending.
 abbrev pub IsNew : {T : Type 0} → StoreState T → Type 0
@@ -43,8 +37,8 @@ pub record ServesOpen {T : Type 0} (o : Origin) (bytes : ℕ) (before after : Li
   pub operator : IsOperatorIn o (with_none_pending left)
 
 -- The operator's lane served a link, where links show this, and its store is closed.
-pub record OperatorServes {T L : Type 0} (show : L → LinkState) (o : Origin) (bytes : ℕ) (lane : OperatorLane T) (link : L)
-    (lane_after : OperatorLane T) (link_after : L) : Type 0 where
+pub record OperatorServes {T L : Type 0} (show : L → LinkState) (o : Origin) (bytes : ℕ) (lane : OperatorLane T SessionEnd)
+    (link : L) (lane_after : OperatorLane T SessionEnd) (link_after : L) : Type 0 where
   pub left : Operator
   pub serves : ServesOperator o bytes (show link) (show link_after) lane_after.end left
   pub closed : lane_after.store ≡ Closed (closed_history left)
@@ -55,15 +49,16 @@ abbrev pub IsFresh : Session → Type 0
 IsFresh session = session ≡ record { seen = []; named = [] }
 
 -- A session's lane served a link, where links show this, from nothing seen on.
-abbrev pub SessionServes : {T L : Type 0} → (L → LinkState) → Scene → ℕ → SessionLane T → L → SessionLane T → L → Type 0
+abbrev pub SessionServes : {T L : Type 0} → (L → LinkState) → Scene → ℕ → SessionLane T SessionEnd → L
+    → SessionLane T SessionEnd → L → Type 0
 SessionServes show scene bytes lane link lane_after link_after =
     Serves (SessionGoes scene) (IsSessionBye scene) bytes (record { seen = []; named = [] }) lane_after.session
     (show link).from (show link_after).from (show link).to (show link_after).to lane_after.end
 
 -- the lane, once its session has learnt the whole history
-abbrev pub learnt : {T : Type 0} → History → SessionLane T → SessionLane T
+abbrev pub learnt : {T E : Type 0} → History → SessionLane T E → SessionLane T E
 learnt whole lane = record lane { session = record { seen = whole; named = lane.session.named } }
 
 -- what is reported of a session's lane, where the last epoch has this number
-abbrev pub report_of : {T : Type 0} → ℕ → SessionLane T → LaneReport
+abbrev pub report_of : {T : Type 0} → ℕ → SessionLane T SessionEnd → LaneReport
 report_of last lane = record { end = lane.end; last = last; numbers = lane.session.named }

@@ -1,7 +1,8 @@
 ghost use Rattle.std.specs.Prelude.{◌≡◌, ◌+◌, ◌≤◌, All, length};
 ghost use Rattle.arc_graph.specs.Graph.{Match};
 ghost use Rattle.session_core.specs.Answering.{CanSearch, scene_of};
-ghost use Rattle.route_lanes.specs.Served.{IsFresh, IsNew, OperatorServes, SessionServes, state_of};
+ghost use Rattle.route_lanes.specs.Served.{IsFresh, IsNew, OperatorServes, SessionServes};
+ghost use Rattle.link_doors.specs.Links.{state_of};
 ghost use Rattle.route_lanes.specs.Services.{FirstAndAllServe};
 
 use crate::operator_lane::OperatorLane;
@@ -9,13 +10,13 @@ use crate::service::serve_all;
 use crate::session_lane::SessionLane;
 use epoch_store::Store;
 use route_io::{Gate, Link, Sink, Source};
-use session_core::ServeContext;
+use session_core::{ServeContext, SessionEnd};
 use std::sync::Wait;
 use std::thread::Threads;
 use std::time::Clock;
 
 /// Has all lanes serve their links at once, the operator's the first.
-pub(crate) fn serve_lanes<
+pub(crate) fn serve_links<
     R: Threads + Wait + Clock + Sync,
     G: Gate,
     S: Source + Send,
@@ -23,8 +24,8 @@ pub(crate) fn serve_lanes<
     T: Store + Send + Sync,
 >(
     context: &ServeContext<'_, R, G>,
-    operator: &mut OperatorLane<T>,
-    sessions: &mut [SessionLane<T>],
+    operator: &mut OperatorLane<T, SessionEnd>,
+    sessions: &mut [SessionLane<T, SessionEnd>],
     links: &mut [Link<S, K>],
 )
     requires search { CanSearch (scene_of context.now.graph.now T.origin context.now.budget) }
@@ -40,13 +41,13 @@ pub(crate) fn serve_lanes<
 {
     serve_all(
         context.workers.rt(),
-        &|lane: &mut OperatorLane<T>, link: &mut Link<S, K>|
+        &|lane: &mut OperatorLane<T, SessionEnd>, link: &mut Link<S, K>|
             requires { IsNew lane.now.store × Match context.now.graph.now T.origin.base }
             ensures { OperatorServes (state_of S.state K.state) T.origin context.entry.now.bytes
                 lane.entry.now link.entry.now lane.exit.now link.exit.now }
         { lane.serve(context, link) },
         operator,
-        &|lane: &mut SessionLane<T>, link: &mut Link<S, K>|
+        &|lane: &mut SessionLane<T, SessionEnd>, link: &mut Link<S, K>|
             requires { IsFresh lane.now.session × CanSearch
                 (scene_of context.now.graph.now T.origin context.now.budget) }
             ensures { SessionServes (state_of S.state K.state)

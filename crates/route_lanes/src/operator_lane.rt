@@ -1,7 +1,8 @@
 //! The operator's lane.
 ghost use Rattle.std.specs.Prelude.{◌≡◌};
 ghost use Rattle.arc_graph.specs.Graph.{Match};
-ghost use Rattle.route_lanes.specs.Served.{IsNew, OperatorServes, ServesOpen, state_of, whole_of};
+ghost use Rattle.route_lanes.specs.Served.{IsNew, OperatorServes, ServesOpen, whole_of};
+ghost use Rattle.link_doors.specs.Links.{state_of};
 
 use core::mem::replace_with;
 use epoch_store::{Ended, Operator, Store};
@@ -17,13 +18,13 @@ pub(crate) enum StoreState<T: Store> {
     Closed(Ended<T>),
 }
 
-/// The operator's lane: its store, and how its link ended, `Ended` before it was served.
-pub(crate) struct OperatorLane<T: Store> {
+/// The operator's lane: its store, and what became of its link or its door.
+pub(crate) struct OperatorLane<T: Store, E> {
     pub store: StoreState<T>,
-    pub end: SessionEnd,
+    pub end: E,
 }
 
-impl<T: Store> OperatorLane<T> {
+impl<T: Store> OperatorLane<T, SessionEnd> {
     /// Serves a link, and closes the store.
     pub(crate) fn serve<R: Wait, G, S: Source, K: Sink>(
         &mut self,
@@ -66,7 +67,7 @@ fn serve_open<T: Store, R: Wait, G, S: Source, K: Sink>(
 }
 
 /// Closes a store that may be open, and keeps it.
-fn close_in_place<T: Store, R: Wait>(store: StoreState<T>, rt: &R) -> (StoreState<T>, ())
+pub(crate) fn close_in_place<T: Store, R: Wait>(store: StoreState<T>, rt: &R) -> (StoreState<T>, ())
     ensures { result.0 ≡ StoreState.Closed (whole_of store) }
 {
     (StoreState::Closed(store.close(rt)), ())

@@ -7,7 +7,7 @@ ghost use Rattle.route_lanes.specs.Lanes.{RunsLanes};
 ghost use Rattle.session_core.specs.Answering.{CanSearch, scene_of};
 ghost use Rattle.route_lanes.specs.Served.{report_of, whole_of};
 
-use crate::lanes::serve_lanes;
+use crate::lanes::serve_links;
 use crate::operator_lane::{OperatorLane, StoreState};
 use crate::report::LaneReport;
 use crate::session_lane::{SessionLane, learn_all, report_all, session_lanes};
@@ -80,9 +80,9 @@ fn run_in_store<
         store: StoreState::Open(operator),
         end: SessionEnd::Ended,
     };
-    match session_lanes(context.alloc, readers) {
+    match session_lanes(context.alloc, readers, SessionEnd::Ended) {
         Ok(mut sessions) => {
-            serve_lanes(context, &mut operator, &mut sessions, links);
+            serve_links(context, &mut operator, &mut sessions, links);
             report_lanes(
                 context.workers.rt(),
                 context.alloc,
@@ -104,8 +104,8 @@ fn report_lanes<R: Wait, T: Store>(
     rt: &R,
     alloc: Global,
     reports: Vec<LaneReport>,
-    operator: OperatorLane<T>,
-    mut sessions: Vec<SessionLane<T>>,
+    operator: OperatorLane<T, SessionEnd>,
+    mut sessions: Vec<SessionLane<T, SessionEnd>>,
 ) -> Result<Vec<LaneReport>, OutOfMemory>
     requires { reports.items ≡ [] }
     ensures reports { IfOk result (λ all. all.items

@@ -2,7 +2,8 @@
 ghost use Rattle.std.specs.Prelude.{◌≡◌, [], ◌∷◌, All, IfOk, OnOk, map, vec_len};
 ghost use mathlib.Core.List.{IsPrefix};
 ghost use Rattle.session_core.specs.Answering.{CanSearch, scene_of};
-ghost use Rattle.route_lanes.specs.Served.{IsFresh, SessionServes, learnt, report_of, state_of};
+ghost use Rattle.route_lanes.specs.Served.{IsFresh, SessionServes, learnt, report_of};
+ghost use Rattle.link_doors.specs.Links.{state_of};
 
 use crate::report::LaneReport;
 use epoch_store::{Ended, EpochReader, Store};
@@ -14,14 +15,14 @@ use std::sync::Wait;
 use std::thread::Threads;
 use std::time::Clock;
 
-/// A session's lane: how its link ended is `Ended` before it was served.
+/// A session's lane, and what became of its link or its door.
 #[derive(Drop)]
-pub(crate) struct SessionLane<T: Store> {
+pub(crate) struct SessionLane<T: Store, E> {
     pub session: Session<T>,
-    pub end: SessionEnd,
+    pub end: E,
 }
 
-impl<T: Store> SessionLane<T> {
+impl<T: Store> SessionLane<T, SessionEnd> {
     /// Serves a link.
     pub(crate) fn serve<R: Threads + Wait + Clock + Sync, G: Gate, S: Source, K: Sink>(
         &mut self,
@@ -37,14 +38,6 @@ impl<T: Store> SessionLane<T> {
         self.end = self.session.serve(context, link);
     }
 
-    /// Goes on to the last epoch of a store that is closed.
-    fn learn(&mut self, ended: &Ended<T>) -> Result<(), OutOfMemory>
-        ensures learnt { OnOk result (self.new ≡ learnt ended.now self.old) }
-        ensures begins { OnOk result (IsPrefix self.old.session.seen ended.now) }
-    {
-        self.session.learn(ended)
-    }
-
     /// What is reported of the lane, where the last epoch has this number.
     fn report(self, last: u32) -> LaneReport
         ensures { result ≡ report_of last self }
@@ -55,11 +48,22 @@ impl<T: Store> SessionLane<T> {
     }
 }
 
-/// A lane for each reader.
-pub(crate) fn session_lanes<T: Store>(
+impl<T: Store, E> SessionLane<T, E> {
+    /// Goes on to the last epoch of a store that is closed.
+    fn learn(&mut self, ended: &Ended<T>) -> Result<(), OutOfMemory>
+        ensures learnt { OnOk result (self.new ≡ learnt ended.now self.old) }
+        ensures begins { OnOk result (IsPrefix self.old.session.seen ended.now) }
+    {
+        self.session.learn(ended)
+    }
+}
+
+/// A lane for each reader, with this end before anything was served.
+pub(crate) fn session_lanes<T: Store, E: Copy>(
     alloc: Global,
     readers: Vec<EpochReader<T>>,
-) -> Result<Vec<SessionLane<T>>, OutOfMemory>
+    end: E,
+) -> Result<Vec<SessionLane<T, E>>, OutOfMemory>
     requires unread { All (λ h. h ≡ []) readers.items }
     ensures count { IfOk result (λ lanes. vec_len lanes ≡ vec_len readers) }
     ensures fresh { IfOk result (λ lanes. All (λ lane. IsFresh lane.session) lanes.items) }
@@ -69,15 +73,15 @@ pub(crate) fn session_lanes<T: Store>(
     while let Some(reader) = rest.pop() {
         lanes.push(SessionLane {
             session: Session::new(alloc, reader)?,
-            end: SessionEnd::Ended,
+            end,
         })?;
     }
     Ok(lanes)
 }
 
 /// Goes on to the last epoch of a store that is closed, in each lane.
-pub(crate) fn learn_all<T: Store>(
-    lanes: &mut [SessionLane<T>],
+pub(crate) fn learn_all<T: Store, E>(
+    lanes: &mut [SessionLane<T, E>],
     ended: &Ended<T>,
 ) -> Result<(), OutOfMemory>
     ensures learnt { OnOk result (lanes.new ≡ map (learnt ended.now) lanes.old) }
@@ -96,7 +100,7 @@ pub(crate) fn report_all<T: Store>(
     alloc: Global,
     mut reports: Vec<LaneReport>,
     operator: SessionEnd,
-    lanes: Vec<SessionLane<T>>,
+    lanes: Vec<SessionLane<T, SessionEnd>>,
     last: u32,
 ) -> Result<Vec<LaneReport>, OutOfMemory>
     requires { reports.items ≡ [] }

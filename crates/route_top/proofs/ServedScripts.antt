@@ -17,7 +17,8 @@ use Rattle.arc_graph.specs.History.{History, closed_history}
 use Rattle.road_network.specs.Network.{Network}
 use Rattle.session_core.specs.Operators.{IsOperatorBye, OperatorRun}
 use Rattle.session_core.specs.Sessions.{IsSessionBye, Scene, SessionGoes}
-use Rattle.route_lanes.specs.Lanes.{IsSessionLane, Lane, LaneReport, LinkState, RunsLanes}
+use Rattle.link_doors.specs.Links.{LinkState}
+use Rattle.route_lanes.specs.Lanes.{IsSessionLane, Lane, LaneReport, RunsLanes}
 use Rattle.command_words.specs.Words.{LanesAsked}
 use Rattle.route_top.specs.Lanes.{AreLinesOf, IsSessionExchange, RepliesToScripts, lanes_reply, max_script}
 

@@ -4,6 +4,7 @@ use Rattle.std.proofs.lemmas.Result.{IfOk-weaker}
 use mathlib.Core.List.{IsPrefix}
 use Rattle.arc_graph.specs.History.{History}
 use Rattle.epoch_store.specs.Origin.{last_number}
+use Rattle.session_core.specs.declared.end.SessionEnd.{SessionEnd}
 use Rattle.route_lanes.specs.Lanes.{LaneReport}
 use Rattle.route_lanes.specs.Served.{learnt, report_of, whole_of}
 use Rattle.route_lanes.specs.declared.session_lane.SessionLane.{SessionLane}
@@ -18,7 +19,7 @@ returns-clause-reports g c =
     let whole = c.close-ended.result in
     let last = c.end-last.result in
     let end = c.args.operator.end in
-    let change : SessionLane g.row.T.Denot → SessionLane g.row.T.Denot = learnt whole in
+    let change : SessionLane g.row.T.Denot SessionEnd → SessionLane g.row.T.Denot SessionEnd = learnt whole in
     let learned : after ≡ map change before = c.in_ok-learnt.ensures.learnt ∙ ap (map change) c.deref_mut.ensures.value in
     let count = ap length learned ∙ length-map before change ∙ (sym (ap length c.deref_mut.ensures.value) ∙ c.deref_mut.ensures.len) in
     let back = written_back after before c.args.sessions.len count ∙ learned in
@@ -32,7 +33,7 @@ returns-clause-reports g c =
 
 pub returns-clause-begins : goal.returns-clause-begins
 returns-clause-begins g c =
-    let seen : History → List (SessionLane g.row.T.Denot) → Type 0 = λ h lanes. All (λ (lane : SessionLane g.row.T.Denot). IsPrefix lane.session.seen h) lanes in
+    let seen : History → List (SessionLane g.row.T.Denot SessionEnd) → Type 0 = λ h lanes. All (λ (lane : SessionLane g.row.T.Denot SessionEnd). IsPrefix lane.session.seen h) lanes in
     let learned = subst (seen c.close-ended.result) c.deref_mut.ensures.value c.in_ok-learnt.ensures.begins in
     let begins = subst (λ (h : History). seen h c.args.sessions.items) c.close-ended.ensures learned in
     IfOk-weaker c.report_all.result _ _ (λ all exchanges. begins) c.report_all.ensures

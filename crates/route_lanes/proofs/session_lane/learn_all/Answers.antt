@@ -14,9 +14,9 @@ loop-k-preserved g c =
     let loop = c.loop-k in
     let lane = c.index-lanes-k.result in
     let before = c.args.lanes.now in
-    let begins : SessionLane g.row.T.Denot → Type 0 = λ one. IsPrefix one.session.seen whole in
+    let begins : SessionLane g.row.T.Denot g.row.E.Denot → Type 0 = λ one. IsPrefix one.session.seen whole in
     let within : loop.k < length before = omega arith in
-    let change : SessionLane g.row.T.Denot → SessionLane g.row.T.Denot = learnt whole in
+    let change : SessionLane g.row.T.Denot g.row.E.Denot → SessionLane g.row.T.Denot g.row.E.Denot = learnt whole in
     let as_before = not_yet change before loop.lanes loop.k lane within loop.invariant.learnt in
     let written = c.in_ok-learn.ensures.learnt ∙ ap change (sym c.index-lanes-k.is) in record {
       learnt = ap (set loop.lanes loop.k) written ∙ map_over_more change before loop.lanes loop.k lane within loop.invariant.learnt c.index-lanes-k.is;
@@ -25,7 +25,7 @@ loop-k-preserved g c =
 
 pub returns-clause-begins : goal.returns-clause-begins
 returns-clause-begins g c =
-    let begins : SessionLane g.row.T.Denot → Type 0 = λ one. IsPrefix one.session.seen c.args.ended.now in
+    let begins : SessionLane g.row.T.Denot g.row.E.Denot → Type 0 = λ one. IsPrefix one.session.seen c.args.ended.now in
     let before = c.args.lanes.now in
     let whole = take_all c.loop-k.k before (omega arith) in
-    subst (λ (lanes : List (SessionLane g.row.T.Denot)). All begins lanes) whole c.loop-k.invariant.begins
+    subst (λ (lanes : List (SessionLane g.row.T.Denot g.row.E.Denot)). All begins lanes) whole c.loop-k.invariant.begins

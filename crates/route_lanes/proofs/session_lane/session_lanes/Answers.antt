@@ -9,7 +9,7 @@ pub loop-reader-preserved : goal.loop-reader-preserved
 loop-reader-preserved g c =
     let all = c.loop-reader in
     let waiting : History → Type 0 = λ h. h ≡ [] in
-    let seated : SessionLane g.row.T.Denot → Type 0 = λ lane. IsFresh lane.session in
+    let seated : SessionLane g.row.T.Denot g.row.E.Denot → Type 0 = λ lane. IsFresh lane.session in
     let parts = All-pop waiting all.rest.items c.pop.new.self.items (Some c.in-Some.reader) c.in-Some.ensures.items all.invariant.waiting in
     let fresh : IsFresh c.in_ok-new.field-0 = c.in_ok-new.ensures ∙ ap (λ (h : History). record { seen = h; named = [] }) parts.1 in
     record {

@@ -5,7 +5,7 @@ use Rattle.epoch_store.specs.Origin.{arcs_of, criteria_of}
 use Rattle.route_lanes.specs.declared.operator_lane.StoreState.{StoreState}
 use Rattle.route_lanes.specs.declared.operator_lane.StoreState.TheVariants.{Closed}
 use Rattle.route_lanes.specs.Served.{whole_of}
-use Rattle.route_lanes.proofs.operator_lane.OperatorLane.serve.Goals as goal
+use Rattle.route_lanes.proofs.operator_lane.OperatorLane+T+SessionEnd.serve.Goals as goal
 
 pub returns : goal.returns
 returns g c =

@@ -1,0 +1,125 @@
+-- Links of a door that are served one after another.
+use Rattle.std.proofs.Common.{◌≡◌, ℕ, ◌+◌, Bool, true, false, List, [], ◌∷◌, ◌++◌, Option, Some, None, length, map, append-nil, append_assoc, refl, ap, ap₂, sym, ◌≤◌, ◌∙◌, arith}
+use Rattle.std.specs.Prelude.{min, cond, option_map}
+use mir.Val.{bool_byte}
+use Rattle.std.specs.List.{count_by, sum_by}
+use Rattle.std.proofs.lemmas.List.{length-append, map-append}
+use Rattle.std.proofs.lemmas.List.Sums.{sum_by-append, sum_by-cons}
+use Rattle.route_io.specs.Causes.{max_count}
+use Rattle.link_doors.specs.Doors.{DoorState, and_link, given_one, returned_one}
+use Rattle.link_doors.specs.Links.{LinkState}
+use Rattle.route_lanes.specs.declared.serve.Served.{Served}
+use Rattle.route_lanes.specs.declared.visits.DoorTally.{DoorTally}
+use Rattle.route_lanes.specs.DoorsServed.{sum_of}
+use Rattle.session_core.specs.declared.end.SessionEnd.{SessionEnd}
+use Rattle.route_lanes.specs.Visits.{ServedSoFar, ServesLink, Visit, after_visits, is_starved, starved_of, then}
+
+-- a test as a number
+pub bit_is : (b : Bool) → bool_byte b ≡ cond b 1 0
+bit_is true = refl
+bit_is false = refl
+
+-- how many of two lists one behind the other pass
+pub count_both : {X : Type 0} (p : X → Bool) (xs ys : List X) → count_by p (xs ++ ys) ≡ count_by p xs + count_by p ys
+count_both p xs ys = sum_by-append (λ x. cond (p x) 1 0) xs ys
+
+-- how many of the first and the others pass
+pub count_first : {X : Type 0} (p : X → Bool) (x : X) (xs : List X) → count_by p (x ∷ xs) ≡ cond (p x) 1 0 + count_by p xs
+count_first p x xs = sum_by-cons (λ y. cond (p y) 1 0) x xs
+
+-- one more link is known
+known_more : (f : Visit → LinkState) (known : Option (List LinkState)) (visits : List Visit) (visit : Visit)
+    → and_link (option_map (λ k. k ++ map f visits) known) (f visit) ≡ option_map (λ k. k ++ map f (visits ++ visit ∷ [])) known
+known_more f None visits visit = refl
+known_more f (Some k) visits visit =
+    ap Some (append_assoc k (map f visits) (f visit ∷ []) ∙ ap (λ more. k ++ more) (sym (map-append f visits (visit ∷ []))))
+
+-- none is
+known_still : (f : Visit → LinkState) (known : Option (List LinkState)) → option_map (λ k. k ++ map f []) known ≡ known
+known_still f None = refl
+known_still f (Some k) = ap Some (append-nil k)
+
+-- a door with these counts and links
+abbrev door_with : DoorState → ℕ → ℕ → ℕ → Option (List LinkState) → Option (List LinkState) → DoorState
+door_with door faults given returned gave took = record door { faults = faults; given = given; returned = returned; gave = gave; took = took }
+
+-- the door after one more link
+pub one_more_visit : (door : DoorState) (visits : List Visit) (visit : Visit) (faults : ℕ)
+    → returned_one (given_one (after_visits door visits faults) visit.before) visit.after ≡ after_visits door (visits ++ visit ∷ []) faults
+one_more_visit door visits visit faults =
+    let count = length-append visits (visit ∷ []) in
+    let given : door.given + length visits + 1 ≡ door.given + length (visits ++ visit ∷ []) = omega (arith, count) in
+    let returned : door.returned + length visits + 1 ≡ door.returned + length (visits ++ visit ∷ []) = omega (arith, count) in
+    let gave = known_more (λ v. v.before) door.gave visits visit in
+    let took = known_more (λ v. v.after) door.took visits visit in
+    let e : door_with door faults (door.given + length visits + 1) (door.returned + length visits + 1)
+    (and_link (option_map (λ k. k ++ map (λ (v : Visit). v.before) visits) door.gave) visit.before)
+    (and_link (option_map (λ k. k ++ map (λ (v : Visit). v.after) visits) door.took) visit.after)
+    ≡ door_with door faults (door.given + length (visits ++ visit ∷ [])) (door.returned + length (visits ++ visit ∷ []))
+    (option_map (λ k. k ++ map (λ (v : Visit). v.before) (visits ++ visit ∷ [])) door.gave)
+    (option_map (λ k. k ++ map (λ (v : Visit). v.after) (visits ++ visit ∷ [])) door.took) = cc (given, returned, gave, took) in e
+
+-- the door before its first link
+pub before_visits : (door : DoorState) → door ≡ after_visits door [] door.faults
+before_visits door =
+    let given : door.given ≡ door.given + 0 = omega arith in
+    let returned : door.returned ≡ door.returned + 0 = omega arith in
+    let gave = known_still (λ v. v.before) door.gave in
+    let took = known_still (λ v. v.after) door.took in
+    let e : door_with door door.faults door.given door.returned door.gave door.took
+    ≡ door_with door door.faults (door.given + 0) (door.returned + 0)
+    (option_map (λ k. k ++ map (λ (v : Visit). v.before) []) door.gave) (option_map (λ k. k ++ map (λ (v : Visit). v.after) []) door.took)
+    = cc (given, returned, gave, took) in e
+
+-- the same links with another count of faults
+pub with_faults : (door now : DoorState) (visits : List Visit) (n faults : ℕ) → now ≡ after_visits door visits n
+    → record now { faults = faults } ≡ after_visits door visits faults
+with_faults door now visits n faults is = ap (λ (d : DoorState). record d { faults = faults }) is
+
+-- how many links ended for want of memory, with one more
+pub one_more_starved : (visits : List Visit) (visit : Visit) (n : ℕ) → n ≡ starved_of visits
+    → min (n + bool_byte (is_starved visit.end)) max_count ≡ starved_of (visits ++ visit ∷ [])
+one_more_starved visits visit n is =
+    let bit = bit_is (is_starved visit.end) in
+    let both = count_both (λ (v : Visit). is_starved v.end) visits (visit ∷ []) in
+    let one = count_first (λ (v : Visit). is_starved v.end) visit [] in
+    let none : count_by (λ (v : Visit). is_starved v.end) [] ≡ 0 = refl in
+    omega (arith, is, bit, both, one, none)
+
+-- what became of the first door
+pub first_sum : (tally : DoorTally) → tally.starved ≤ max_count → record { failed = bool_byte tally.failed; starved = tally.starved } ≡ sum_of (tally ∷ [])
+first_sum tally within =
+    let served : ℕ → ℕ → Served = λ f s. record { failed = f; starved = s } in
+    let failed = count_first (λ (t : DoorTally). t.failed) tally [] in
+    let none : count_by (λ (t : DoorTally). t.failed) [] ≡ 0 = refl in
+    let starved = sum_by-cons (λ (t : DoorTally). t.starved) tally [] in
+    let no_more : sum_by (λ (t : DoorTally). t.starved) [] ≡ 0 = refl in
+    ap₂ served (omega (arith, bit_is tally.failed, failed, none)) (omega (arith, within, starved, no_more))
+
+-- what became of one door more
+pub sum_more : (tallies : List DoorTally) (tally : DoorTally) → record {
+  failed = (sum_of tallies).failed + bool_byte tally.failed;
+  starved = min ((sum_of tallies).starved + tally.starved) max_count;
+} ≡ sum_of (tallies ++ tally ∷ [])
+sum_more tallies tally =
+    let served : ℕ → ℕ → Served = λ f s. record { failed = f; starved = s } in
+    let failed = count_both (λ (t : DoorTally). t.failed) tallies (tally ∷ []) in
+    let one = count_first (λ (t : DoorTally). t.failed) tally [] in
+    let none : count_by (λ (t : DoorTally). t.failed) [] ≡ 0 = refl in
+    let starved = sum_by-append (λ (t : DoorTally). t.starved) tallies (tally ∷ []) in
+    let more = sum_by-cons (λ (t : DoorTally). t.starved) tally [] in
+    let no_more : sum_by (λ (t : DoorTally). t.starved) [] ≡ 0 = refl in
+    ap₂ served (omega (arith, bit_is tally.failed, failed, one, none)) (omega (arith, starved, more, no_more))
+
+-- one link more was served and given back
+pub so_far_more : {P : Type 0} (Visits : P → LinkState → LinkState → SessionEnd → P → Type 0) (first mid last : P) (before old new : DoorState)
+    (count more : ℕ) (end : SessionEnd) → ServedSoFar Visits first mid before old count → ServesLink Visits mid last old new end
+    → more ≡ min (count + bool_byte (is_starved end)) max_count → ServedSoFar Visits first last before new more
+so_far_more Visits first mid last before old new count more end so_far one counted =
+    let visit : Visit = record { before = one.before; after = one.left; end = end } in
+    let given = ap (λ (d : DoorState). returned_one (given_one d one.before) one.left) so_far.back in record {
+      visits = so_far.visits ++ visit ∷ [];
+      led = then visit so_far.led one.visits;
+      back = one.back ∙ given ∙ one_more_visit before so_far.visits visit before.faults;
+      starved = counted ∙ one_more_starved so_far.visits visit count so_far.starved;
+    }

@@ -1,0 +1,65 @@
+use Rattle.std.proofs.Common.{◌⊎◌, length, Some, None, sym, ap, subst₂, ◌∙◌, arith}
+use Rattle.cost_vector.proofs.Vectors.{length-plus}
+use Rattle.cert_rules.specs.Certificates.{IsBeaten}
+use Rattle.front_cert.specs.Listing.{line_of}
+use Rattle.front_cert.proofs.ArcLemmas.{of_out_arcs}
+use Rattle.front_cert.proofs.RuleLemmas.{Finds, sum_fits, tells_later, tells_listed, tells_beaten, tells_astray}
+use Rattle.front_cert.proofs.listing.Listing.arc_fault.Goals as goal
+
+pub weight-requires-clause-counted : goal.weight-requires-clause-counted
+weight-requires-clause-counted c = (of_out_arcs c.args.network.now c.args.label.now.node.0 c.args.arc c.requires.leads).0
+
+pub weight-requires-clause-there : goal.weight-requires-clause-there
+weight-requires-clause-there c = (of_out_arcs c.args.network.now c.args.label.now.node.0 c.args.arc c.requires.leads).1
+
+pub plus-sum-requires-clause-no_wrap : goal.plus-sum-requires-clause-no_wrap
+plus-sum-requires-clause-no_wrap c = sum_fits c.args.label.now.cost c.in_ok-weight.weight c.requires.line.small c.in_ok-weight.ensures.small
+
+pub head-head-requires-clause-counted : goal.head-head-requires-clause-counted
+head-head-requires-clause-counted c = (of_out_arcs c.args.network.now c.args.label.now.node.0 c.args.arc c.requires.leads).0
+
+pub head-head-requires-clause-there : goal.head-head-requires-clause-there
+head-head-requires-clause-there c = (of_out_arcs c.args.network.now c.args.label.now.node.0 c.args.arc c.requires.leads).1
+
+pub is_useless-requires : goal.is_useless-requires
+is_useless-requires c =
+    ap length c.plus-sum.ensures
+    ∙ length-plus c.args.label.now.cost c.in_ok-weight.weight (c.requires.line.cost ∙ sym c.in_ok-weight.ensures.vector.whole)
+    ∙ c.requires.line.cost ∙ sym c.requires.of.criteria
+
+pub returns-in-Some : goal.returns-in-Some
+returns-in-Some c =
+    let out = of_out_arcs c.args.network.now c.args.label.now.node.0 c.args.arc c.requires.leads in
+    let labels = c.args.self.now.cert.labels in
+    tells_later c.args.network.now c.args.self.now.cert (line_of c.args.label.now) c.args.arc c.in_ok-weight.weight out.0 out.1 out.2
+    (sym c.weight.ensures.state ∙ c.in_ok-weight.was) c.in-Some.listed
+    (subst₂ (λ v s. Finds labels v s (Some c.in-Some.listed)) c.head-head.ensures c.plus-sum.ensures c.in-Some.ensures) c.if-listed-arc.true
+
+pub returns-in-Some-2 : goal.returns-in-Some-2
+returns-in-Some-2 c =
+    let out = of_out_arcs c.args.network.now c.args.label.now.node.0 c.args.arc c.requires.leads in
+    let labels = c.args.self.now.cert.labels in
+    tells_listed c.args.network.now c.args.self.now.cert (line_of c.args.label.now) c.args.arc c.in_ok-weight.weight out.0 out.1 out.2
+    (sym c.weight.ensures.state ∙ c.in_ok-weight.was) c.in-Some.listed
+    (subst₂ (λ v s. Finds labels v s (Some c.in-Some.listed)) c.head-head.ensures c.plus-sum.ensures c.in-Some.ensures) (λ above. omega (arith, above, c.if-listed-arc.false))
+
+pub returns-in-None : goal.returns-in-None
+returns-in-None c =
+    let out = of_out_arcs c.args.network.now c.args.label.now.node.0 c.args.arc c.requires.leads in
+    let labels = c.args.self.now.cert.labels in
+    tells_beaten c.args.network.now c.args.self.now.cert (line_of c.args.label.now) c.args.arc c.in_ok-weight.weight out.0 out.1 out.2
+    (sym c.weight.ensures.state ∙ c.in_ok-weight.was)
+    (subst₂ (λ v s. Finds labels v s None) c.head-head.ensures c.plus-sum.ensures c.in-None.ensures)
+    (subst₂ (λ v s. IsBeaten labels v s ⊎ IsBeaten labels c.args.self.now.cert.target s) c.head-head.ensures c.plus-sum.ensures (c.is_useless.ensures.0 c.if-is_useless.true))
+
+pub returns-in-None-2 : goal.returns-in-None-2
+returns-in-None-2 c =
+    let out = of_out_arcs c.args.network.now c.args.label.now.node.0 c.args.arc c.requires.leads in
+    let labels = c.args.self.now.cert.labels in
+    tells_astray c.args.network.now c.args.self.now.cert (line_of c.args.label.now) c.args.arc c.in_ok-weight.weight out.0 out.1 out.2
+    (sym c.weight.ensures.state ∙ c.in_ok-weight.was)
+    (subst₂ (λ v s. Finds labels v s None) c.head-head.ensures c.plus-sum.ensures c.in-None.ensures)
+    (λ beaten.
+    let back = subst₂ (λ v s. IsBeaten labels v s ⊎ IsBeaten labels c.args.self.now.cert.target s) (sym c.head-head.ensures) (sym c.plus-sum.ensures) beaten in
+    let holds = c.is_useless.ensures.1 back in
+    absurd cc)

@@ -1,0 +1,5 @@
+pub mod Listing
+pub mod Lookup
+pub mod Text
+pub mod Checks
+pub mod Reads

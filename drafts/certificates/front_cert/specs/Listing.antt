@@ -1,0 +1,52 @@
+-- A certificate in memory.
+use Rattle.std.specs.Prelude.{◌≡◌, ◌≤◌, ℕ, List, length, map, filter, ◌==◌, All, AllPairs}
+use Rattle.cost_vector.specs.Costs.{min_criteria, max_criteria}
+use Rattle.cost_vector.specs.declared.label.Label.{Label as StoredLabel}
+use Rattle.road_network.specs.Found.{Found}
+use Rattle.road_network.specs.Labels.{Label}
+use Rattle.road_network.specs.Limits.{max_nodes}
+use Rattle.road_network.specs.Network.{Network, IsNode}
+use Rattle.cert_rules.specs.Certificates.{Certificate, IsBefore}
+
+-- a label as it is kept
+abbrev pub line_of : StoredLabel → Label
+line_of l = record { node = l.node.0; cost = l.cost; arc = l.arc.0 }
+
+-- a certificate, and the size of the network that it is of
+pub record Listing : Type 0 where
+  pub nodes : ℕ
+  pub criteria : ℕ
+  pub cert : Certificate
+
+-- the listed costs of the target
+abbrev pub target_costs : Certificate → List (List ℕ)
+target_costs cert = map (λ l. l.cost) (filter (λ l. l.node == cert.target) cert.labels)
+
+-- what is listed, as what was found
+abbrev pub found_of : Listing → Found
+found_of l = record {
+  nodes = l.nodes;
+  criteria = l.criteria;
+  start = l.cert.start;
+  target = l.cert.target;
+  settled = l.cert.labels;
+  costs = target_costs l.cert;
+}
+
+-- the size is that of the network
+pub record IsListingOf (net : Network) (l : Listing) : Type 0 where
+  pub nodes : l.nodes ≡ net.nodes
+  pub criteria : l.criteria ≡ net.criteria
+
+-- what every listing keeps
+pub record IsKept (l : Listing) : Type 0 where
+  pub two : min_criteria ≤ l.criteria
+  pub four : l.criteria ≤ max_criteria
+  pub few : l.nodes ≤ max_nodes
+  pub start : IsNode l.nodes l.cert.start
+  pub target : IsNode l.nodes l.cert.target
+
+-- the labels ascend, and each has a cost in so many criteria
+pub record AreKept (criteria : ℕ) (labels : List StoredLabel) : Type 0 where
+  pub whole : All (λ l. length l.cost ≡ criteria) labels
+  pub ascending : AllPairs (λ x y. IsBefore (line_of x) (line_of y)) labels

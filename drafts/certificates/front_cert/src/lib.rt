@@ -1,0 +1,19 @@
+//! Certificates as texts: a reader that tells the first faulty line, a checker that tells the first rule that fails, and a
+//! writer.
+//!
+//! A certificate is checked against a network without a search. What it means that no rule fails is said in `cert_rules`.
+#![tactic(auto)]
+
+mod check;
+mod draft;
+mod fault;
+mod listing;
+mod lookup;
+mod offsets;
+mod reader;
+mod rules;
+
+pub use check::check_cert;
+pub use draft::MAX_LABELS;
+pub use fault::CertFault;
+pub use listing::Listing;

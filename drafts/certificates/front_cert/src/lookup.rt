@@ -1,0 +1,106 @@
+//! Where a node and a cost stand among labels that ascend.
+ghost use Rattle.std.specs.Prelude.{◌≡◌, ◌≤◌, ◌↔◌, ◌-◌, ℕ, Some, length, map, take, drop, All, AllPairs, Contains, IsTrue};
+ghost use Rattle.cert_rules.specs.Certificates.{IsBeaten};
+ghost use Rattle.front_cert.specs.Listing.{line_of};
+ghost use Rattle.front_cert.specs.Lookup.{AreOffsets, IsPlace, IsSpan, Precedes, is_before};
+
+use cost_vector::{ArcNo, Cost, Label, NodeNo};
+
+/// How many labels stand before each of this node and this cost, as is found among those of the node alone.
+pub(crate) fn place_by(labels: &[Label], offsets: &[usize], node: NodeNo, cost: &Cost) -> usize
+    requires ascending { AllPairs Precedes labels.now }
+    requires offsets { AreOffsets labels.now offsets.now }
+    ensures within { result ≤ length labels.now }
+    ensures place { IsPlace labels.now node.0 cost.now result }
+{
+    let (first, end) = span_of(labels, offsets, node);
+    first + place_of(span(labels, first, end), node, cost)
+}
+
+/// From where to where the labels of a node stand; all labels for a number that has no offset.
+fn span_of(labels: &[Label], offsets: &[usize], node: NodeNo) -> (usize, usize)
+    requires { AreOffsets labels.now offsets.now }
+    ensures { IsSpan labels.now node.0 result.0 result.1 }
+{
+    let v = node.0 as usize;
+    if v == 0 || v >= offsets.len() {
+        return (0, labels.len());
+    }
+    (offsets[v - 1], offsets[v])
+}
+
+/// The labels from one place to another.
+fn span(labels: &[Label], first: usize, end: usize) -> &[Label]
+    requires order { first ≤ end }
+    requires within { end ≤ length labels.now }
+    ensures { result.now ≡ take (end - first) (drop first labels.now) }
+{
+    let left = &labels[first..];
+    &left[..end - first]
+}
+
+/// How many labels stand before each of this node and this cost.
+fn place_of(labels: &[Label], node: NodeNo, cost: &Cost) -> usize
+    requires { AllPairs Precedes labels.now }
+    ensures within { result ≤ length labels.now }
+    ensures place { IsPlace labels.now node.0 cost.now result }
+{
+    labels.partition_point(
+        |label| -> bool
+            ensures { result ≡ is_before node.0 cost.entry.now label.now }
+        { is_before(label, node, cost) },
+    )
+}
+
+/// Whether a label stands before each of this node and this cost.
+pub(crate) fn is_before(label: &Label, node: NodeNo, cost: &Cost) -> bool
+    ensures { result ≡ is_before node.0 cost.now label.now }
+{
+    label.node.0 < node.0 || (label.node.0 == node.0 && label.cost.lex_cmp(cost).is_lt())
+}
+
+/// The arc of the label of this node and this cost, which would stand at this place.
+pub(crate) fn arc_at(labels: &[Label], place: usize, node: NodeNo, cost: &Cost) -> Option<ArcNo>
+    requires ascending { AllPairs Precedes labels.now }
+    requires within { place ≤ length labels.now }
+    requires place { IsPlace labels.now node.0 cost.now place }
+    ensures { (arc : ArcNo) → (result ≡ Some arc) ↔ Contains (map line_of labels.now)
+        (record { node = node.0; cost = cost.now; arc = arc.0 }) }
+{
+    if place == labels.len() {
+        return None;
+    }
+    if is_of(&labels[place], node, cost) {
+        Some(labels[place].arc)
+    } else {
+        None
+    }
+}
+
+/// Whether a label is of this node and this cost.
+fn is_of(label: &Label, node: NodeNo, cost: &Cost) -> bool
+    ensures { IsTrue result ↔ ((label.now.node.0 ≡ node.0) × (label.now.cost ≡ cost.now)) }
+{
+    label.node == node && label.cost == *cost
+}
+
+/// Whether a cost of the node dominates this one, which would stand at this place: what dominates stands before it.
+pub(crate) fn is_beaten_at(labels: &[Label], place: usize, node: NodeNo, cost: &Cost) -> bool
+    requires ascending { AllPairs Precedes labels.now }
+    requires within { place ≤ length labels.now }
+    requires place { IsPlace labels.now node.0 cost.now place }
+    requires whole { All (λ l. length l.cost ≡ length cost.now) labels.now }
+    ensures { IsTrue result ↔ IsBeaten (map line_of labels.now) node.0 cost.now }
+{
+    let mut left = place;
+    'labels: while left > 0 {
+        left -= 1;
+        if labels[left].node != node {
+            return false;
+        }
+        if labels[left].cost.at_most(cost) {
+            return true;
+        }
+    }
+    false
+}

@@ -1,0 +1,178 @@
+//! Which rule fails at a label.
+ghost use Rattle.std.specs.Prelude.{◌≡◌, ◌≢◌, ◌⊎◌, ◌<◌, ◌≤◌, ◌↔◌, ◌+◌, ℕ, Some, None, length, Contains, IsTrue, IfSome, slice_get};
+ghost use Rattle.road_network.specs.Network.{Network as NetworkState};
+ghost use Rattle.road_network.specs.Walks.{EndsBy};
+ghost use Rattle.arc_graph.specs.Graph.{IsRoadNetwork, out_arcs_of};
+ghost use Rattle.cert_rules.specs.Certificates.{IsBeaten, IsCertificate, IsLine, IsListed, start_label};
+ghost use Rattle.cert_rules.specs.Rules.{FailsAt, Fails};
+ghost use Rattle.front_cert.specs.Listing.{Listing, IsListingOf, line_of};
+ghost use Rattle.front_cert.specs.Checks.{ForArc, TellsArc, TellsArcs, TellsFirst, TellsLeast};
+
+use crate::Listing;
+use arc_graph::Network;
+use cert_rules::Rule;
+use cost_vector::{ArcNo, Cost, Label, NodeNo};
+
+impl Listing {
+    /// The first label at which a rule fails, numbered from 1, and the least such rule; the number is 0 where the list as a
+    /// whole has no start.
+    pub(crate) fn first_failure(&self, network: &Network<'_>) -> Option<(Rule, u32)>
+        requires network { IsRoadNetwork network.now }
+        requires of { IsListingOf network.now self.now }
+        requires certificate { IsCertificate network.now self.now.cert }
+        ensures { TellsFirst network.now self.now.cert result }
+    {
+        if !self.lists_start() {
+            return Some((Rule::Start, 0));
+        }
+        for i in 0..self.len() {
+            if let Some(rule) = self.failing_rule(network, &self.label(i)) {
+                return Some((rule, i as u32 + 1));
+            }
+        }
+        None
+    }
+
+    /// Whether the start at cost zero is listed without an arc.
+    fn lists_start(&self) -> bool
+        ensures { (net : NetworkState) → IsListingOf net self.now
+            → (IsTrue result ↔ Contains self.now.cert.labels (start_label net self.now.cert)) }
+    {
+        let zero = Cost::zero(self.criteria);
+        match self.find(self.start, &zero) {
+            Some(arc) => arc.0 == 0,
+            None => false,
+        }
+    }
+
+    /// The least rule that fails at a label.
+    fn failing_rule(&self, network: &Network<'_>, label: &Label) -> Option<Rule>
+        requires network { IsRoadNetwork network.now }
+        requires of { IsListingOf network.now self.now }
+        requires certificate { IsCertificate network.now self.now.cert }
+        requires line { IsLine network.now (line_of label.now) }
+        ensures { TellsLeast network.now self.now.cert (line_of label.now) result }
+    {
+        if let Some(rule) = self.arrival_fault(network, label) {
+            return Some(rule);
+        }
+        if let Some(rule) = self.departure_fault(network, label) {
+            return Some(rule);
+        }
+        if self.is_beaten(label.node, &label.cost) {
+            return Some(Rule::Undominated);
+        }
+        None
+    }
+
+    /// Which of the first two rules fails at a label.
+    fn arrival_fault(&self, network: &Network<'_>, label: &Label) -> Option<Rule>
+        requires network { IsRoadNetwork network.now }
+        requires of { IsListingOf network.now self.now }
+        requires certificate { IsCertificate network.now self.now.cert }
+        requires line { IsLine network.now (line_of label.now) }
+        ensures start { (result ≡ Some Rule.Start)
+            ↔ FailsAt network.now self.now.cert Rule.Start (line_of label.now) }
+        ensures arrival { (result ≡ Some Rule.Arrival)
+            ↔ FailsAt network.now self.now.cert Rule.Arrival (line_of label.now) }
+        ensures only { IfSome result (λ rule. (rule ≡ Rule.Start) ⊎ (rule ≡ Rule.Arrival)) }
+    {
+        if label.arc.0 == 0 {
+            if self.is_start(label) {
+                return None;
+            }
+            return Some(Rule::Start);
+        }
+        if self.comes_by_arc(network, label) {
+            None
+        } else {
+            Some(Rule::Arrival)
+        }
+    }
+
+    /// Whether a label is of the start at cost zero.
+    fn is_start(&self, label: &Label) -> bool
+        ensures { (net : NetworkState) → IsListingOf net self.now → label.now.arc.0 ≡ 0
+            → (IsTrue result ↔ (line_of label.now ≡ start_label net self.now.cert)) }
+    {
+        label.node == self.start && label.cost == Cost::zero(self.criteria)
+    }
+
+    /// Whether a label comes of a listed one by its arc.
+    fn comes_by_arc(&self, network: &Network<'_>, label: &Label) -> bool
+        requires network { IsRoadNetwork network.now }
+        requires of { IsListingOf network.now self.now }
+        requires certificate { IsCertificate network.now self.now.cert }
+        requires line { IsLine network.now (line_of label.now) }
+        requires some { 1 ≤ label.now.arc.0 }
+        ensures { IsTrue result ↔ EndsBy network.now label.now.arc.0 label.now.node.0
+            (IsListed self.now.cert.labels) label.now.cost }
+    {
+        if network.head(label.arc) != label.node {
+            return false;
+        }
+        let Some(weight) = network.weight(label.arc) else {
+            return false;
+        };
+        match label.cost.minus(&weight) {
+            Some(before) => self.find(network.tail(label.arc), &before).is_some(),
+            None => false,
+        }
+    }
+
+    /// Which of the third and the fourth rule fails at a label, the third first.
+    fn departure_fault(&self, network: &Network<'_>, label: &Label) -> Option<Rule>
+        requires network { IsRoadNetwork network.now }
+        requires of { IsListingOf network.now self.now }
+        requires certificate { IsCertificate network.now self.now.cert }
+        requires line { IsLine network.now (line_of label.now) }
+        ensures { TellsArcs network.now self.now.cert (line_of label.now) result }
+    {
+        let mut later = false;
+        let arcs = network.out_arcs(label.node);
+        for &arc in arcs {
+            let fault = self.arc_fault(network, label, arc);
+            if is_departure(fault) {
+                return fault;
+            }
+            later |= fault.is_some();
+        }
+        if later { Some(Rule::LeastArc) } else { None }
+    }
+
+    /// Which of them fails at a label over one arc that leads on from it.
+    fn arc_fault(&self, network: &Network<'_>, label: &Label, arc: ArcNo) -> Option<Rule>
+        requires network { IsRoadNetwork network.now }
+        requires of { IsListingOf network.now self.now }
+        requires certificate { IsCertificate network.now self.now.cert }
+        requires line { IsLine network.now (line_of label.now) }
+        requires leads { Contains (out_arcs_of network.now.ends label.now.node.0) arc }
+        ensures { TellsArc network.now self.now.cert (line_of label.now) arc.0 result }
+    {
+        let weight = network.weight(arc)?;
+        let sum = label.cost.plus(&weight);
+        let head = network.head(arc);
+        match self.find(head, &sum) {
+            Some(listed) if listed.0 > arc.0 => Some(Rule::LeastArc),
+            Some(_) => None,
+            None if self.is_useless(head, &sum) => None,
+            None => Some(Rule::Departure),
+        }
+    }
+
+    /// Whether a listed cost of the node or of the target dominates this one.
+    fn is_useless(&self, node: NodeNo, cost: &Cost) -> bool
+        requires { length cost.now ≡ self.now.criteria }
+        ensures { IsTrue result ↔ (IsBeaten self.now.cert.labels node.0 cost.now
+            ⊎ IsBeaten self.now.cert.labels self.now.cert.target cost.now) }
+    {
+        self.is_beaten(node, cost) || self.is_beaten(self.target, cost)
+    }
+}
+
+/// Whether the third rule fails.
+fn is_departure(fault: Option<Rule>) -> bool
+    ensures { IsTrue result ↔ (fault ≡ Some Rule.Departure) }
+{
+    matches!(fault, Some(Rule::Departure))
+}

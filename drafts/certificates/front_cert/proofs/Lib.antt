@@ -1,7 +1,0 @@
-pub mod LookupLemmas
-pub mod OffsetLemmas
-pub mod SeenLemmas
-pub mod ArcLemmas
-pub mod RuleLemmas
-pub mod DraftLemmas
-pub mod ReadLemmas

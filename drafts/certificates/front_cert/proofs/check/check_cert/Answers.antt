@@ -1,8 +1,0 @@
-use Rattle.cert_rules.proofs.SoundLaws.{shows_answer}
-use Rattle.front_cert.proofs.check.check_cert.Goals as goal
-
-pub returns-in-None-clause-shows : goal.returns-in-None-clause-shows
-returns-in-None-clause-shows g c =
-    let cert = c.in_ok-listing.listing.cert in
-    shows_answer c.args.network.now c.nodes.ensures.network.network cert c.in_ok-listing.ensures.certificate
-    (rw c.in-None.is at c.first_failure.ensures)

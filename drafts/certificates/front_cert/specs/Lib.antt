@@ -1,5 +1,0 @@
-pub mod Listing
-pub mod Lookup
-pub mod Text
-pub mod Checks
-pub mod Reads

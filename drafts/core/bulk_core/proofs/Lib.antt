@@ -1,3 +1,0 @@
-pub mod LimitLemmas
-pub mod BeatenLemmas
-pub mod OpenLemmas

@@ -67,14 +67,14 @@ module _ (before after : Core) (search : SameSearch before after) (kept : (x : S
 -- ---- where the settled costs are those of a state
 
 module _ (task : Task) (core : Core) (s : SearchState) (search : IsSearchOf task core)
-    (told : (v : ℕ) (c : List ℕ) → Contains (costs_at core v) c ↔ HasSettled s v c) where
+    (settles : (v : ℕ) (c : List ℕ) → Contains (costs_at core v) c ↔ HasSettled s v c) where
   -- a cost is barred where the machine finds it useless
   pub barred_told : (c : List ℕ) → IsBarred core c ↔ ((¬ Within task.limit c) ⊎ IsBeatenAtTarget task s c)
   barred_told c = (
     elim [
       | inl beyond ↦ inl (rw search.limit beyond)
       | inr h ↦
-          let l = (told core.target h.by).0 h.settled in
+          let l = (settles core.target h.by).0 h.settled in
           inr (record {
             by = l.label;
             settled = l.settled;
@@ -86,7 +86,7 @@ module _ (task : Task) (core : Core) (s : SearchState) (search : IsSearchOf task
       | inl beyond ↦ inl (rw search.limit at beyond)
       | inr h ↦
           let has : HasSettled s core.target h.by.cost = record { label = h.by; settled = h.settled; node = h.node ∙ search.target; cost = refl } in
-          inr (record { by = h.by.cost; settled = (told core.target h.by.cost).1 has; dominates = h.dominates })
+          inr (record { by = h.by.cost; settled = (settles core.target h.by.cost).1 has; dominates = h.dominates })
     ],
   )
 
@@ -94,9 +94,9 @@ module _ (task : Task) (core : Core) (s : SearchState) (search : IsSearchOf task
   pub covered_told : (x : Spot) → IsCoveredIn core x ↔ HasSettledBelow s x.node x.cost
   covered_told x = (
     λ h.
-        let l = (told x.node h.by).0 h.settled in
+        let l = (settles x.node h.by).0 h.settled in
         record { label = l.label; settled = l.settled; node = l.node; at_most = subst (λ b. AtMost b x.cost) (sym l.cost) h.at_most },
     λ h.
         let has : HasSettled s x.node h.label.cost = record { label = h.label; settled = h.settled; node = h.node; cost = refl } in
-        record { by = h.label.cost; settled = (told x.node h.label.cost).1 has; at_most = h.at_most },
+        record { by = h.label.cost; settled = (settles x.node h.label.cost).1 has; at_most = h.at_most },
   )

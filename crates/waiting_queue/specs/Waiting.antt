@@ -39,5 +39,5 @@ module _ {C : Type 0} (components : C → List ℕ) where
   spot_in i = record { cost = components i.cost; node = i.node.0 }
 
   -- what an item says
-  abbrev pub told : Item C → Waiting
-  told i = record { spot = spot_in i; from = i.from.0 }
+  abbrev pub as_waiting : Item C → Waiting
+  as_waiting i = record { spot = spot_in i; from = i.from.0 }

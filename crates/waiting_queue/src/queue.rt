@@ -1,6 +1,6 @@
 ghost use Rattle.std.specs.Prelude.{◌≡◌, ◌≢◌, ◌+◌, ◌<◌, ◌≤◌, ◌↔◌, [], ◌++◌, IfOk, IsTrue, OnErr, map};
 ghost use Rattle.waiting_queue.specs.Taking.{Counts, TakesOpen};
-ghost use Rattle.waiting_queue.specs.Waiting.{AreCriteria, spot_of, told};
+ghost use Rattle.waiting_queue.specs.Waiting.{AreCriteria, spot_of, as_waiting};
 
 use crate::order::list_sorted;
 use crate::passing::pass_anew;
@@ -28,11 +28,11 @@ pub struct Queue<const D: usize, C: StoredCost<D>> {
 impl<const D: usize, C: StoredCost<D>> Model for Queue<D, C> {
     ghost use Rattle.std.specs.Prelude.{List, ◌≤◌, map};
     ghost use Rattle.waiting_queue.specs.Taking.{AreSorted};
-    ghost use Rattle.waiting_queue.specs.Waiting.{AreCriteria, Waiting, spot_in, told};
+    ghost use Rattle.waiting_queue.specs.Waiting.{AreCriteria, Waiting, spot_in, as_waiting};
 
     ghost Value = { List Waiting };
 
-    ghost view = { λ q. map (told C.components) q.items.items };
+    ghost view = { λ q. map (as_waiting C.components) q.items.items };
 
     ghost invariant = { λ q. (AreCriteria D)
         × AreSorted (spot_in C.components) q.items.items };
@@ -68,8 +68,8 @@ impl<const D: usize, C: StoredCost<D>> Queue<D, C> {
         steps: &mut Steps<L>,
     ) -> Result<(), OutOfMemory>
         ensures taken { IfOk result (λ _. TakesOpen spot_of (K.IsOpen look.now)
-            (self.old ++ map (told C.components) fresh.now)
-            (map (told C.components) taken.new.items) self.new) }
+            (self.old ++ map (as_waiting C.components) fresh.now)
+            (map (as_waiting C.components) taken.new.items) self.new) }
         ensures step { IfOk result (λ _. Counts taken.new.items steps.old steps.new) }
         ensures same { OnErr result (self.new ≡ self.old) }
         ensures uncounted { OnErr result (steps.new ≡ steps.old) }

@@ -4,6 +4,6 @@ use Rattle.readback_tests.proofs.each_node.BestOfEachFoundCosts.covers.Goals as 
 
 pub returns : goal.returns
 returns c =
-    let told = below_told c.self.inside.spots.items c.args.self.now (sym (ap (λ f. f.settled) c.self.view_is)) c.args.node.0 c.args.cost.now in
+    let below = below_told c.self.inside.spots.items c.args.self.now (sym (ap (λ f. f.settled) c.self.view_is)) c.args.node.0 c.args.cost.now in
     let any = rw c.deref.ensures.value at c.any_below.ensures in
-    (λ yes. told.0 (any.0 yes), λ covered. any.1 (told.1 covered))
+    (λ yes. below.0 (any.0 yes), λ covered. any.1 (below.1 covered))

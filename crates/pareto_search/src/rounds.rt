@@ -84,7 +84,7 @@ impl<const D: usize, F: ParetoFront<D> + Drop + Sync> Rounds<D, F> {
         taken_labels_have_small_costs();
         settled_labels_come_by_arcs();
         let taken = self.core.taken_labels();
-        let workers = &workers.for_round(taken.len());
+        let workers = &workers.for_labels(taken.len());
         relax_onward(workers, alloc, network, taken, &mut self.candidates)?;
         arrivals_spare_settled();
         self.core.dominated_candidates_may_be_left_out();

@@ -42,11 +42,28 @@ impl<R: Threads + Sync, G: Gate> Answerer<'_, R, G> {
         ensures { Replied (RepliesToQuery self.now.network.now epoch kind query.now)
             (K.state out.old) (K.state out.new) result }
     {
+        self.reply_by(self.workers, epoch, kind, query, room, out)
+    }
+
+    /// Sends the reply to a query whose search these workers share.
+    pub(crate) fn reply_by<K: Sink>(
+        &self,
+        workers: &Workers<'_, R, G>,
+        epoch: u32,
+        kind: AnswerKind,
+        query: &Query,
+        room: &mut Room,
+        out: &mut K,
+    ) -> Result<Reply, ReplyFault>
+        requires { IsAsked self.now.network.now.criteria query.now }
+        ensures { Replied (RepliesToQuery self.now.network.now epoch kind query.now)
+            (K.state out.old) (K.state out.new) result }
+    {
         if !self.network.has_node(query.from) || !self.network.has_node(query.to) {
             return refuse(out, epoch, query, " node");
         }
         prove!(self.network.nodes() >= 1);
-        match search(self.workers, self.alloc, self.network, query) {
+        match search(workers, self.alloc, self.network, query) {
             Ok(found) => self.answer(epoch, kind, query, &found, room, out),
             Err(SearchFault::Budget) => refuse(out, epoch, query, " budget"),
             Err(SearchFault::OutOfMemory) => Err(ReplyFault::OutOfMemory),

@@ -3,8 +3,10 @@
 
 mod answerer;
 mod fault;
+mod made;
 mod reply;
 
 pub use answerer::Answerer;
 pub use fault::ReplyFault;
+pub use made::MadeReply;
 pub use reply::Reply;

@@ -1,6 +1,7 @@
 //! Numbered pieces of work, which several workers draw from one counter and do side by side.
 #![tactic(auto)]
 
+mod calls;
 mod counter;
 mod done;
 mod job;
@@ -9,6 +10,7 @@ mod rule;
 mod run;
 mod workers;
 
+pub use calls::Calls;
 pub use job::Job;
 pub use run::run_pieces;
 pub use workers::Workers;

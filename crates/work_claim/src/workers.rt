@@ -1,4 +1,5 @@
-ghost use Rattle.std.specs.Prelude.{◌≡◌, ◌≤◌, ◌⊎◌};
+ghost use Rattle.std.specs.Prelude.{◌≡◌, ◌≤◌, ◌/◌, if◌then◌else◌};
+ghost use Rattle.std.specs.Bool.{nat_le};
 
 use route_io::Gate;
 use std::marker::Model;
@@ -56,6 +57,13 @@ impl<'w, R, G> Workers<'w, R, G> {
         self.gate
     }
 
+    /// One of them.
+    pub fn alone(&self) -> Workers<'w, R, G>
+        ensures { result ≡ record self.now { count = 1 } }
+    {
+        Workers { count: 1, ..*self }
+    }
+
     /// The same workers, who pass another gate.
     pub fn with_gate<H>(&self, gate: &'w H) -> Workers<'w, R, H>
         ensures { result ≡ record { rt = self.now.rt; count = self.now.count; gate = gate.now } }
@@ -69,12 +77,17 @@ impl<'w, R, G> Workers<'w, R, G> {
 }
 
 impl<'w, R, G: Gate> Workers<'w, R, G> {
-    /// Those who share a round in which so many labels were taken: all of them where there is enough for each, else one.
-    pub fn for_round(&self, labels: usize) -> Workers<'w, R, G>
-        ensures { (result ≡ self.now) ⊎ (result ≡ record self.now { count = 1 }) }
+    /// Those who share work on so many labels: all of them where each has as many as the gate asks for, else one, since
+    /// starting threads would take longer than they save.
+    pub fn for_labels(&self, labels: usize) -> Workers<'w, R, G>
+        ensures { result ≡ record self.now {
+          count = if nat_le G.SHARED_FROM (labels / self.now.count) then self.now.count else 1;
+        } }
     {
-        let enough = labels / self.count as usize >= G::SHARED_FROM;
-        let count = if enough { self.count } else { 1 };
-        Workers { count, ..*self }
+        if labels / self.count as usize >= G::SHARED_FROM {
+            Workers { ..*self }
+        } else {
+            self.alone()
+        }
     }
 }

@@ -109,8 +109,11 @@ impl Meeting {
 impl Gate for Meeting {
     const SHARED_FROM: usize = 0;
 
+    ghost SHARED_FROM = { 0 };
+
     fn pass(&self, phase: Phase, piece: u64) {
         match phase {
+            Phase::Query => {}
             Phase::Relax => {
                 self.relaxed.fetch_add(1, Ordering::SeqCst);
             }

@@ -28,6 +28,8 @@ impl Counting {
 impl Gate for Counting {
     const SHARED_FROM: usize = 0;
 
+    ghost SHARED_FROM = { 0 };
+
     fn pass(&self, _phase: Phase, piece: u64) {
         self.passed.fetch_add(1, Ordering::SeqCst);
         self.sum.fetch_add(piece, Ordering::SeqCst);

@@ -37,6 +37,8 @@ const TURNS: u32 = 1_000_000;
 impl Gate for Meeting {
     const SHARED_FROM: usize = 0;
 
+    ghost SHARED_FROM = { 0 };
+
     fn pass(&self, _phase: Phase, piece: u64) {
         let (own, other) = match piece {
             0 => (&self.even_came, &self.odd_came),

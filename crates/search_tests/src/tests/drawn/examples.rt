@@ -138,8 +138,11 @@ struct Counts {
 impl Gate for Counts {
     const SHARED_FROM: usize = 0;
 
+    ghost SHARED_FROM = { 0 };
+
     fn pass(&self, phase: Phase, _piece: u64) {
         let count = match phase {
+            Phase::Query => return,
             Phase::Relax => &self.relaxes,
             Phase::Merge => &self.merges,
         };

@@ -13,8 +13,7 @@ use Rattle.road_network.specs.Answers.{IsAnswer, Route}
 use Rattle.road_network.proofs.AnswerLaws.{one_list}
 use Rattle.road_network.proofs.BackwardLaws.{one_backward_least}
 use Rattle.list_laws.proofs.Members.{all_got}
-use Rattle.road_network.specs.Found.{Found, IsFound, IsOf}
-use Rattle.path_readback.specs.WellFound.{IsWellFound}
+use Rattle.walk_readback.specs.Found.{FoundCosts, IsFound, IsOf, IsWellFound}
 use Rattle.road_network.specs.declared.query.AnswerKind.{AnswerKind}
 use Rattle.road_network.specs.declared.query.Query.{Query}
 use Rattle.answer_writer.specs.Replies.{and_arc, and_number, cost_line, first_line, line_of, reply_of, walk_line}
@@ -43,7 +42,7 @@ lines_of_costs : (routes : List Route) → flat_map (λ r. cost_line r.cost) rou
 lines_of_costs [] = refl
 lines_of_costs (r ∷ rest) = ap (λ t. cost_line r.cost ++ t) (lines_of_costs rest)
 
-module _ (net : Network) (limit : List (Option ℕ)) (f : Found) (found : IsFound f) (well : IsWellFound net limit f) (routes : List Route)
+module _ (net : Network) (limit : List (Option ℕ)) (f : FoundCosts) (found : IsFound f) (well : IsWellFound net limit f) (routes : List Route)
     (answer : IsAnswer net f.start f.target limit routes) where
   -- the costs that were found are the answer's
   pub same_costs : map (λ r. r.cost) routes ≡ f.costs
@@ -92,7 +91,7 @@ module _ (net : Network) (limit : List (Option ℕ)) (f : Found) (found : IsFoun
         old mid new before between held fault (subst (λ t. Sends {T = Unit {0}} mid new (between ++ t) (Err fault)) text line)
 
 -- the reply of an answer to which what was found is well found, put on an empty page
-pub reply_in_parts : (net : Network) (f : Found) (kind : AnswerKind) (epoch : ℕ) (query : Query) (page : List ℕ) → page ≡ [] → IsFound f
+pub reply_in_parts : (net : Network) (f : FoundCosts) (kind : AnswerKind) (epoch : ℕ) (query : Query) (page : List ℕ) → page ≡ [] → IsFound f
     → (limit : List (Option ℕ)) → IsWellFound net limit f → (routes : List Route) → IsAnswer net f.start f.target limit routes
     → page ++ (first_line epoch query (length f.costs) ++ flat_map (line_of kind) routes) ≡ reply_of kind epoch query routes
 reply_in_parts net f kind epoch query page empty found limit well routes answer =
@@ -100,7 +99,7 @@ reply_in_parts net f kind epoch query page empty found limit well routes answer 
     ∙ ap (λ n. first_line epoch query n ++ flat_map (line_of kind) routes) (sym (same_count net limit f found well routes answer))
 
 -- an answer between the ends of a query is one between those of what was found for it
-pub answer_of_found : (net : Network) (query : Query) (f : Found) (limit : List (Option ℕ)) (routes : List Route) → IsOf net query f
+pub answer_of_found : (net : Network) (query : Query) (f : FoundCosts) (limit : List (Option ℕ)) (routes : List Route) → IsOf net query f
     → IsAnswer net query.from query.to limit routes → IsAnswer net f.start f.target limit routes
 answer_of_found net query f limit routes of answer =
     subst (λ s. IsAnswer net s f.target limit routes) (sym of.start) (subst (λ t. IsAnswer net query.from t limit routes) (sym of.target) answer)

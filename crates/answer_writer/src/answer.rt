@@ -2,9 +2,8 @@
 ghost use Rattle.std.specs.Prelude.{◌≡◌, ◌≤◌, ℕ, List, Option, length, map};
 ghost use Rattle.std.specs.List.{flat_map};
 ghost use Rattle.road_network.specs.Answers.{IsAnswer, Route};
-ghost use Rattle.road_network.specs.Found.{IsFound, IsOf, longest_in};
+ghost use Rattle.walk_readback.specs.Found.{IsFound, IsOf, IsWellFound, longest_in};
 ghost use Rattle.road_network.specs.Queries.{limit_of};
-ghost use Rattle.path_readback.specs.WellFound.{IsWellFound};
 ghost use Rattle.route_io.specs.Sinks.{Sends};
 ghost use Rattle.answer_writer.specs.Replies.{first_line, line_of, reply_of};
 ghost use Rattle.answer_writer.specs.Pages.{Gathers};
@@ -15,14 +14,14 @@ use crate::page::Page;
 use crate::piece::Piece;
 use arc_graph::Network;
 use cost_vector::{ArcNo, Cost};
-use path_readback::{Room, walk};
-use road_network::{AnswerKind, Found, Query};
+use road_network::{AnswerKind, Query};
 use route_io::{Sink, WriteFault};
+use walk_readback::{FoundCosts, Room, walk};
 
 /// Sends the reply of an answer at an epoch, or a part of it from the front and answers the sink's fault.
 ///
 /// The room has to hold the longest walk; so nothing but a fault of the sink cuts a reply.
-pub fn put_answer<K: Sink, F: Found>(
+pub fn put_answer<K: Sink, F: FoundCosts>(
     sink: &mut K,
     epoch: u32,
     kind: AnswerKind,
@@ -92,7 +91,7 @@ impl Page {
     }
 
     /// Puts the lines that come after it.
-    fn put_lines<K: Sink, F: Found>(
+    fn put_lines<K: Sink, F: FoundCosts>(
         &mut self,
         sink: &mut K,
         kind: AnswerKind,
@@ -119,7 +118,11 @@ impl Page {
     }
 
     /// Puts the line of each cost.
-    fn put_costs<K: Sink, F: Found>(&mut self, sink: &mut K, found: &F) -> Result<(), WriteFault>
+    fn put_costs<K: Sink, F: FoundCosts>(
+        &mut self,
+        sink: &mut K,
+        found: &F,
+    ) -> Result<(), WriteFault>
         ensures { Gathers (K.state sink.old) (K.state sink.new) self.old self.new
             (flat_map cost_line (F.state found.now).costs) result }
     {
@@ -141,7 +144,7 @@ impl Page {
     }
 
     /// Puts the line of each cost with its walk.
-    fn put_walks<K: Sink, F: Found>(
+    fn put_walks<K: Sink, F: FoundCosts>(
         &mut self,
         sink: &mut K,
         network: &Network<'_>,

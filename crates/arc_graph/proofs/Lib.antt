@@ -11,6 +11,7 @@ pub mod JoinedLemmas
 pub mod ChainLemmas
 pub mod LayoutLemmas
 pub mod NumbersLemmas
+pub mod InArcsLemmas
 pub mod RelaxLaws
 pub mod PageLemmas
 pub mod HistoryLemmas

@@ -1,12 +1,15 @@
 -- The numbers of the arcs with a tail.
 use Rattle.std.proofs.Common.{◌≡◌, ℕ, zero, suc, ◌+◌, ◌<◌, ◌≤◌, length, get_or, true, false, cond, List, [], ◌∷◌, Option, Some, None, sym, ap, subst, ◌∙◌}
 use Rattle.std.proofs.Common.{inl, inr, eq-eqb, arith}
-use Rattle.std.specs.Prelude.{nat_eq, slice_get, All, Contains}
+use Rattle.std.specs.Prelude.{nat_eq, slice_get, All, AllPairs, Contains}
 use Rattle.std.proofs.lemmas.Bool.{cases_Bool, eqb-true}
+use Rattle.std.proofs.lemmas.List.Elements.{All-weaker}
+use Rattle.std.proofs.lemmas.List.Kept.{AllPairs-cons}
 use Rattle.std.proofs.lemmas.Option.{slice_get_within}
 use Rattle.cost_vector.specs.declared.label.ArcNo.{ArcNo}
 use Rattle.arc_graph.specs.Graph.{numbers_from}
 use Rattle.list_laws.proofs.Members.{in_none, in_front, in_rest, cases_in, all_from_in}
+use Rattle.list_laws.proofs.Pairs.{pairs_none}
 
 -- an arc with this tail has its number there
 pub in_numbers : (k : ℕ) (es : List (ℕ × ℕ)) (tail i head : ℕ) → slice_get es i ≡ Some (tail, head) → Contains (numbers_from k es tail) (record { 0 = k + i })
@@ -62,3 +65,13 @@ number_within ends tail arcs i a all within is =
     let at = of_numbers 1 ends tail a (subst (λ ns. Contains ns a) all (i, within, sym is)) in
     let inside = slice_get_within ends at.place (tail, at.head) at.ends in
     (omega (arith, at.number), omega (arith, at.number, inside))
+
+-- they ascend
+pub numbers_ascend : (k : ℕ) (es : List (ℕ × ℕ)) (v : ℕ) → AllPairs (λ a b. a.0 < b.0) (numbers_from k es v)
+numbers_ascend k [] v = pairs_none (λ (a b : ArcNo). a.0 < b.0)
+numbers_ascend k (e ∷ es) v =
+    let rest = numbers_ascend (k + 1) es v in
+    let above : All (λ (a : ArcNo). k < a.0) (numbers_from (k + 1) es v) =
+    All-weaker (λ (a : ArcNo). k + 1 ≤ a.0) (λ a. k < a.0) (λ a h. omega (arith, h)) (numbers_from (k + 1) es v) (numbers_above (k + 1) es v) in
+    elim (nat_eq e.0 v) as (λ t. AllPairs (λ a b. a.0 < b.0) (cond t (record { 0 = k } ∷ numbers_from (k + 1) es v) (numbers_from (k + 1) es v)))
+    [ true ↦ AllPairs-cons (λ a b. a.0 < b.0) (record { 0 = k }) (numbers_from (k + 1) es v) above rest | false ↦ rest ]

@@ -1,5 +1,5 @@
 -- A network in two parts, the graph and the states of its arcs, and what relaxing a label gives.
-use Rattle.std.specs.Prelude.{◌≡◌, ℕ, ◌+◌, ◌-◌, ◌^◌, ◌<◌, ◌≤◌, ◌==◌, List, [], ◌∷◌, Option, IfSome, length, All}
+use Rattle.std.specs.Prelude.{◌≡◌, ℕ, ◌+◌, ◌-◌, ◌^◌, ◌<◌, ◌≤◌, ◌==◌, List, [], ◌∷◌, Option, IfSome, length, map, All}
 use Rattle.std.specs.Prelude.{slice_get, if◌then◌else◌}
 use Rattle.std.specs.List.{filter_map}
 use Rattle.std.specs.Option.{option_map, option_map_or, option_and_then}
@@ -67,6 +67,14 @@ numbers_from k (e ∷ es) tail =
 -- the arcs that lead from a node, ascending
 abbrev pub out_arcs_of : List (ℕ × ℕ) → ℕ → List ArcNo
 out_arcs_of ends tail = numbers_from 1 ends tail
+
+-- the arcs, each turned round
+abbrev pub turned : List (ℕ × ℕ) → List (ℕ × ℕ)
+turned ends = map (λ e. (e.1, e.0)) ends
+
+-- the arcs that lead to a node, ascending
+abbrev pub in_arcs_of : List (ℕ × ℕ) → ℕ → List ArcNo
+in_arcs_of ends head = numbers_from 1 (turned ends) head
 
 -- the tail of an arc, counted from 1
 abbrev pub tail_of : List (ℕ × ℕ) → ArcNo → ℕ

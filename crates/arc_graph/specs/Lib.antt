@@ -1,6 +1,7 @@
 pub mod Files
 pub mod Agreement
 pub mod Graph
+pub mod Sizes
 pub mod Layout
 pub mod Stored
 pub mod Joiner

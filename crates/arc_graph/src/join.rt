@@ -6,6 +6,7 @@ ghost use Rattle.arc_graph.specs.Graph.{Match, network};
 ghost use Rattle.arc_graph.specs.Files.{ArcFile, empty_file, size_of, with_arc};
 ghost use Rattle.arc_graph.specs.Agreement.{Agree, AgreeInSize, HasFault, IsFaultOf, joined};
 ghost use Rattle.arc_graph.specs.Agreement.{IsOtherSize, IsZeroArc, DiffersInEnds};
+ghost use Rattle.arc_graph.specs.Sizes.{sizes_of};
 ghost use Rattle.arc_graph.specs.JoinerHolds.{JoinerHolds};
 ghost use Rattle.arc_graph.specs.Joiner.{BeginsFile, KeepsFile};
 ghost use Rattle.arc_graph.specs.Faults.{AreLeastIfAny, IsEarlier, arc_fault_of};
@@ -50,6 +51,14 @@ impl From<OutOfMemory> for JoinFault {
     fn from(_: OutOfMemory) -> JoinFault {
         JoinFault::OutOfMemory
     }
+}
+
+/// How many nodes, arcs and criteria a network has.
+#[derive(Clone, Copy, Debug, PartialEq, Eq)]
+pub struct NetworkSizes {
+    pub nodes: u32,
+    pub arcs: u32,
+    pub criteria: usize,
 }
 
 /// An arc whose ends differ in a file from those in the first.
@@ -260,6 +269,29 @@ impl Joiner {
             Some(way) => Err(JoinFault::Files(way)),
             None => self.joined(),
         }
+    }
+
+    /// The sizes of the joined network, or the fault. Nothing is laid out for them.
+    pub fn sizes(self) -> Result<NetworkSizes, JoinFault>
+        requires two { min_criteria ≤ self.begun }
+        requires whole { self.come ≡ self.due_arcs }
+
+        // The files agree, and the sizes are those of their network, or the fault is theirs.
+        ensures agree { (files : List ArcFile) → JoinerHolds self files
+            → IfOk result (λ _. Agree files) }
+        ensures sizes { (files : List ArcFile) → JoinerHolds self files
+            → IfOk result (λ s. s ≡ sizes_of (joined files)) }
+        ensures fault { (files : List ArcFile) → JoinerHolds self files
+            → IfErr result (IsFaultOf files) }
+    {
+        if let Some(way) = self.fault() {
+            return Err(JoinFault::Files(way));
+        }
+        Ok(NetworkSizes {
+            nodes: self.nodes,
+            arcs: self.ends.len() as u32,
+            criteria: self.begun as usize,
+        })
     }
 
     /// The fault that is told, if there is one: another size first, then the least arc that can't be joined.

@@ -7,6 +7,7 @@ mod graph;
 mod histories;
 mod join;
 mod laws;
+mod layout;
 mod network;
 mod relaxing;
 mod weights;
@@ -19,7 +20,7 @@ pub use histories::{
     histories_have_well_formed_parts, operators_keep_their_limits, pages_change_by_sets_alone,
     pages_have_all_arcs,
 };
-pub use join::{Disagreement, JoinFault, Joiner, join_files};
+pub use join::{Disagreement, JoinFault, Joiner, NetworkSizes, join_files};
 pub use laws::{
     files_have_one_fault_at_most, matching_parts_are_a_network, relaxing_follows_arcs,
     sums_leave_room_to_relax,

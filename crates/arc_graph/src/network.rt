@@ -1,7 +1,7 @@
 ghost use Rattle.std.specs.Prelude.{◌≡◌, ◌<◌, ◌≤◌, ◌^◌, length, IfSome, All, IsTrue, ◌↔◌};
 ghost use Rattle.cost_vector.specs.Costs.{max_criteria, min_criteria};
 ghost use Rattle.road_network.specs.Network.{IsNode, IsVector};
-ghost use Rattle.arc_graph.specs.Graph.{IsRoadNetwork, Match, arc_state, head_of, network, out_arcs_of, tail_of};
+ghost use Rattle.arc_graph.specs.Graph.{IsRoadNetwork, Match, arc_state, head_of, in_arcs_of, network, out_arcs_of, tail_of};
 
 use crate::{Graph, Weights};
 use cost_vector::{ArcNo, NodeNo, Weight};
@@ -91,6 +91,14 @@ impl<'n> Network<'n> {
         ensures { result.now ≡ out_arcs_of self.now.ends v.0 }
     {
         self.graph.out_arcs(v)
+    }
+
+    /// The arcs that lead to a node, shut ones too, in ascending order.
+    pub fn in_arcs(&self, v: NodeNo) -> &'n [ArcNo]
+        requires { IsNode self.now.nodes v.0 }
+        ensures { result.now ≡ in_arcs_of self.now.ends v.0 }
+    {
+        self.graph.in_arcs(v)
     }
 
     /// The vector of an arc, or `None` where the arc is shut.

@@ -1,17 +1,16 @@
 -- How a round begins: what a core changes at its spots are the drops and takes of the machine.
-use Rattle.std.proofs.Common.{◌≡◌, ◌⊎◌, ◌↔◌, ℕ, List, [], ◌++◌, map, inl, inr, refl, sym, ap, subst, ◌∙◌, arith, Contains}
+use Rattle.std.proofs.Common.{◌≡◌, ◌⊎◌, ◌↔◌, ℕ, List, [], map, inl, inr, refl, sym, ap, subst, ◌∙◌, arith, Contains}
 use Rattle.cost_vector.specs.Costs.{AtMost}
 use Rattle.cost_vector.proofs.Vectors.{AtMost-refl}
 use Rattle.list_laws.proofs.OnceLaws.{alike_through, decidable_in, empty_if_none, list_all}
 use Rattle.list_laws.proofs.SetLaws.{none_of_empty, same_by_permutation}
 use Rattle.event_machine.specs.Machine.{Task, SearchState, HasSettled, LeadsOn, settled, waiting}
 use Rattle.road_network.specs.Labels.{Label}
-use Rattle.event_machine.specs.Events.{Event, drop, take, IsReached, MayDrop, Runs}
+use Rattle.event_machine.specs.Events.{drop, take, IsReached, MayDrop}
 use Rattle.event_machine.specs.Rounds.{IsBetweenRounds, NoneStays}
 use Rattle.event_machine.specs.Orders.{DropsAll, IsBegun, IsNext, Stays}
 use Rattle.event_machine.proofs.Sound.{cases_label}
-use Rattle.event_machine.proofs.Running.{runs_on}
-use Rattle.event_machine.specs.Machine.{start_state}
+use Rattle.event_machine.proofs.Running.{reached_by_run}
 use Rattle.event_machine.proofs.BegunLaws.{all_drops, begins_is_begun, decidable_may_drop, left_waiting}
 use Rattle.bulk_rounds.specs.Begins.{FindsNone, LosesSpent, SomeOpen, TakesNext}
 use Rattle.bulk_rounds.specs.Cores.{Core, IsBarred, IsCoveredIn, IsSettledIn, IsSpent, SameSearch, Spot, Waits, costs_at}
@@ -19,13 +18,6 @@ use Rattle.bulk_rounds.specs.Standing.{HasWaitingBelow, IsAt, IsSearchOf, as_spo
 use Rattle.bulk_rounds.specs.Taking.{IsOpenIn}
 use Rattle.bulk_rounds.proofs.SpentLemmas.{barred_below, barred_on, cases_spot, decidable_spent, spent_on, spot_by_parts}
 use Rattle.bulk_rounds.proofs.OpenLemmas.{drop_barred, next_spot, next_told, open_if_stays, settled_not_waiting, sound, stays_below_open, waiting_uncovered}
-
--- what events lead to from a state that is reached is reached
-pub reached_on : (task : Task) (s next : SearchState) (events : List Event) → IsReached task s → Runs task s events next → IsReached task next
-reached_on task s next events reached run = record {
-  events = reached.events ++ events;
-  run = runs_on task (start_state task) s next reached.events events reached.run run;
-}
 
 -- a core of the same search searches for the same tasks
 pub same_task : (task : Task) (before after : Core) → SameSearch before after → IsSearchOf task before → IsSearchOf task after
@@ -94,7 +86,7 @@ module _ (task : Task) (core : Core) (s : SearchState) (at : IsAt task core s) w
     reached_by_drops : IsReached task left
     reached_by_drops =
         let (drops, each) = list_all cases_label (MayDrop task s) (decidable_may_drop task s) s.waiting (λ l may. may.waits) in
-        reached_on task s left (map (λ l. drop l) drops) at.reached (((all_drops task s (sound task core s at) drops each).1 left).1 all)
+        reached_by_run task s left (map (λ l. drop l) drops) at.reached (((all_drops task s (sound task core s at) drops each).1 left).1 all)
 
     waiting_below_left : (x : Spot) → HasWaitingBelow s x → IsSpent core x ⊎ HasWaitingBelow left x
     waiting_below_left x below = elim (decidable_may_drop task s below.label) [
@@ -151,7 +143,7 @@ module _ (task : Task) (core : Core) (s : SearchState) (at : IsAt task core s) w
       pub reached_by_begins : IsReached task next
       reached_by_begins =
           let h = (begins_is_begun task at.search.is_task s (sound task core s at) between next).1 begun in
-          reached_on task h.left next (map (λ l. take l) h.takes) (reached_on task s h.left (map (λ l. drop l) h.drops) at.reached h.dropping) h.taking
+          reached_by_run task h.left next (map (λ l. take l) h.takes) (reached_by_run task s h.left (map (λ l. drop l) h.drops) at.reached h.dropping) h.taking
 
 -- ---- the takes
 

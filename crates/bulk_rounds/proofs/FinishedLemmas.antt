@@ -15,7 +15,7 @@ use Rattle.bulk_rounds.specs.Finishes.{AreArrivals, FinishesRound, PutsAll}
 use Rattle.bulk_rounds.proofs.SpentLemmas.{barred_below, barred_on, barred_told, covered_told, spent_on, spot_by_parts}
 use Rattle.bulk_rounds.proofs.OpenLemmas.{sound}
 use Rattle.bulk_rounds.proofs.BegunLemmas.{same_task}
-use Rattle.bulk_rounds.proofs.MetLemmas.{end_is_reached, end_is_sound, met_at_end, settled_stay}
+use Rattle.event_machine.proofs.MetLemmas.{end_is_reached, end_is_sound, met_at_end, settled_stay}
 
 module _ (task : Task) (candidates : List Item) (before after : Core) (s end : SearchState) (puts : PutsAll candidates before after)
     (at : IsAt task before s) (arrivals : AreArrivals task.network s candidates) (outcome : IsOutcome task.network s end) where
@@ -120,4 +120,17 @@ finishes_round candidates before after puts = record {
   each_order = λ task s end events at arrivals completes run.
       let outcome = (completes_to_outcome task at.search.is_task s (sound task before s at) events completes end).0 run in
       finish_stands task candidates before after s end puts at arrivals outcome;
+}
+
+-- where those candidates were put of which each other one is spent, all were
+pub puts_with_spent : (given all : List Item) (before after : Core) → ((x : Spot) → HasSpot given x → HasSpot all x)
+    → ((x : Spot) → HasSpot all x → HasSpot given x ⊎ IsSpent before x) → PutsAll given before after → PutsAll all before after
+puts_with_spent given all before after among rest puts = record {
+  same_search = puts.same_search;
+  settled = puts.settled;
+  none_taken = puts.none_taken;
+  put = puts.put;
+  queue = puts.queue;
+  among = λ x there. among x (puts.among x there);
+  rest = λ x there. elim (rest x there) [ inl is_given ↦ puts.rest x is_given | inr spent ↦ inl spent ];
 }

@@ -2,7 +2,6 @@ pub mod SpentLemmas
 pub mod OpenLemmas
 pub mod BegunLemmas
 pub mod BudgetLemmas
-pub mod MetLemmas
 pub mod FinishedLemmas
 pub mod FoundLemmas
 pub mod KeptLemmas

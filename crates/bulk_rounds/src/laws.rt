@@ -1,6 +1,6 @@
 ghost use Rattle.std.specs.Prelude.{◌≡◌, ◌≢◌, ◌+◌, ◌⊎◌, ◌↔◌, ℕ, List, length, map, Contains};
 ghost use Rattle.bulk_rounds.specs.Begins.{LosesSpent, TakesNext};
-ghost use Rattle.bulk_rounds.specs.Cores.{Core, IsSettledIn, IsSpent, Item, SameSearch, Spot, Waits};
+ghost use Rattle.bulk_rounds.specs.Cores.{Core, HasSpot, IsSettledIn, IsSpent, Item, SameSearch, Spot, Waits};
 ghost use Rattle.bulk_rounds.specs.Finishes.{PutsAll};
 ghost use Rattle.bulk_rounds.specs.Kept.{IsFrom, IsKept, IsKeptItem, SparesSettled};
 ghost use Rattle.bulk_rounds.specs.Standing.{IsAt, as_spot};
@@ -67,6 +67,14 @@ pub fn put_items_are_kept()
         → PutsAll candidates before after
         → ((i : Item) → Contains after.queue i → Contains before.queue i ⊎ IsKeptItem before i)
         → IsKept before count → IsKept after count }
+{}
+
+/// Where all candidates were put but some that are spent, all were.
+pub fn spent_candidates_may_be_left_out()
+    ensures { (given all : List Item) (before after : Core)
+        → ((x : Spot) → HasSpot given x → HasSpot all x)
+        → ((x : Spot) → HasSpot all x → HasSpot given x ⊎ IsSpent before x)
+        → PutsAll given before after → PutsAll all before after }
 {}
 
 /// A queue that is told which spots are spent takes exactly the next ones, and once these are settled, what has left is spent.

@@ -13,8 +13,8 @@ mod rounds;
 pub use begin::Begun;
 pub use laws::{
     arrivals_spare_settled, passes_take_the_next_spots, put_items_are_kept,
-    taken_labels_are_relevant, taken_labels_have_small_costs, taken_spots_are_spared,
-    ways_back_are_spent,
+    spent_candidates_may_be_left_out, taken_labels_are_relevant, taken_labels_have_small_costs,
+    taken_spots_are_spared, ways_back_are_spent,
 };
 pub use rounds::{
     ended_searches_have_all, new_searches_stand_for_the_start, next_spots_are_next_labels,

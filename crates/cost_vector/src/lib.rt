@@ -6,14 +6,12 @@
 #![tactic(auto)]
 
 mod compact_cost;
-mod compact_label;
 mod cost;
 mod label;
 mod limit;
 mod weight;
 
 pub use compact_cost::CompactCost;
-pub use compact_label::{CompactLabel, CompactSpot};
 pub use cost::Cost;
 pub use label::{ArcNo, Label, NodeNo, Spot};
 pub use limit::Limit;

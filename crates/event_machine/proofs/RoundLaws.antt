@@ -19,7 +19,7 @@ use Rattle.event_machine.specs.Events.{Event, drop, take, merge, IsSame, MayDrop
 use Rattle.event_machine.specs.Rounds.{IsBetweenRounds, Begins, Finishes, Round, CountedRound, GoRounds, NoneStays, Rounds, relaxing}
 use Rattle.event_machine.specs.Orders.{Stays, IsNext, IsBegun, IsOutcome}
 use Rattle.event_machine.proofs.Sound.{IsSound, cases_label, same_pair, grown_from_settled, all_settled}
-use Rattle.event_machine.proofs.Running.{same_itself, same_back, same_through, drop_alike, runs_on, runs_from_same, along_run}
+use Rattle.event_machine.proofs.Running.{along_run, drop_alike, reached_by_run, runs_from_same, runs_on, same_back, same_itself, same_through}
 use Rattle.event_machine.proofs.Keeping.{changes_of, sound_after, same_is_sound, sound_if_reached, settled_once}
 use Rattle.event_machine.proofs.BegunLaws.{decidable_may_drop, decidable_stays, decidable_better, all_drops, left_waiting, some_begun, begins_is_begun, one_begun}
 use Rattle.event_machine.proofs.CompletesLaws.{some_outcome, finishes_is_outcome, one_outcome}
@@ -45,7 +45,7 @@ module _ (task : Task) (is : IsTask task) where
 
   -- what it leads to is reached, and keeps what is settled
   reached_on : (s t : SearchState) → IsReached task s → LeadsTo s t → IsReached task t
-  reached_on s t reached leads = grind (arith, runs_on)
+  reached_on s t reached leads = reached_by_run task s t leads.0 reached leads.1
 
   kept_on : (s t : SearchState) (l : Label) → IsReached task s → LeadsTo s t → Contains s.settled l → Contains t.settled l
   kept_on s t l reached (events, run) there = (along_run task (λ _ m. IsSound task m × Contains m.settled l)

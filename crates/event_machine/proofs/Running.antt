@@ -2,9 +2,9 @@
 use Rattle.std.proofs.Common.{ℕ, ◌⊎◌, List, [], ◌∷◌, ◌++◌, ◌↔◌, arith, Contains}
 use Rattle.std.proofs.lemmas.List.Sorted.{IsPermutation-refl, IsPermutation-sym, IsPermutation-trans}
 use Rattle.cost_vector.specs.Costs.{Within}
-use Rattle.event_machine.specs.Machine.{Task, SearchState, settled, waiting, IsBeatenAtTarget}
+use Rattle.event_machine.specs.Machine.{Task, SearchState, settled, start_state, waiting, IsBeatenAtTarget}
 use Rattle.road_network.specs.Labels.{Label}
-use Rattle.event_machine.specs.Events.{Event, IsSame, MayDrop, Happens, Runs}
+use Rattle.event_machine.specs.Events.{Event, IsReached, IsSame, MayDrop, Happens, Runs}
 
 -- ---- same states
 
@@ -55,6 +55,13 @@ module _ (task : Task) where
   runs_on a b c [] more run next = runs_from_same a b c more run next
   runs_on a b c (event ∷ rest) more run next =
       record { from = run.from; same = run.same; next = run.next; step = run.step; rest = runs_on run.next b c rest more run.rest next }
+
+  -- what events lead to from a state that is reached is reached
+  pub reached_by_run : (s next : SearchState) (events : List Event) → IsReached task s → Runs task s events next → IsReached task next
+  reached_by_run s next events reached run = record {
+    events = reached.events ++ events;
+    run = runs_on (start_state task) s next reached.events events reached.run run;
+  }
 
   -- a run of two lists of events is a run of the first, and then of the second
   pub runs_apart : (a c : SearchState) (events more : List Event) → Runs task a (events ++ more) c

@@ -1,8 +1,7 @@
 -- A certificate in memory.
-use Rattle.std.specs.Prelude.{◌≡◌, ◌≤◌, ℕ, List, length, map, filter, ◌==◌, All, AllPairs}
+use Rattle.std.specs.Prelude.{◌≡◌, ◌≤◌, ℕ, List, length, All, AllPairs}
 use Rattle.cost_vector.specs.Costs.{min_criteria, max_criteria}
 use Rattle.cost_vector.specs.declared.label.Label.{Label as StoredLabel}
-use Rattle.road_network.specs.Found.{Found}
 use Rattle.road_network.specs.Labels.{Label}
 use Rattle.road_network.specs.Limits.{max_nodes}
 use Rattle.road_network.specs.Network.{Network, IsNode}
@@ -17,21 +16,6 @@ pub record Listing : Type 0 where
   pub nodes : ℕ
   pub criteria : ℕ
   pub cert : Certificate
-
--- the listed costs of the target
-abbrev pub target_costs : Certificate → List (List ℕ)
-target_costs cert = map (λ l. l.cost) (filter (λ l. l.node == cert.target) cert.labels)
-
--- what is listed, as what was found
-abbrev pub found_of : Listing → Found
-found_of l = record {
-  nodes = l.nodes;
-  criteria = l.criteria;
-  start = l.cert.start;
-  target = l.cert.target;
-  settled = l.cert.labels;
-  costs = target_costs l.cert;
-}
 
 -- the size is that of the network
 pub record IsListingOf (net : Network) (l : Listing) : Type 0 where

@@ -1,1 +1,1 @@
-mod WatchedLemmas
+mod SettleLemmas

@@ -1,3 +1,4 @@
+mod drawing;
 mod fronts;
 mod queue;
 mod workers;

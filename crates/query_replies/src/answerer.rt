@@ -1,8 +1,7 @@
 ghost use Rattle.std.specs.Prelude.{◌≡◌, ◌≤◌, ℕ, List, length};
 ghost use Rattle.road_network.specs.Answers.{IsAnswer, Route};
-ghost use Rattle.road_network.specs.Found.{IsOf};
+ghost use Rattle.walk_readback.specs.Found.{IsOf, IsWellFound};
 ghost use Rattle.road_network.specs.Queries.{IsAsked, limit_of};
-ghost use Rattle.path_readback.specs.WellFound.{IsWellFound};
 ghost use Rattle.answer_writer.specs.Replies.{refusal, reply_of};
 ghost use Rattle.query_replies.specs.Queries.{RepliesToQuery};
 ghost use Rattle.query_replies.specs.Sending.{IsReplyOf, Replied};
@@ -11,12 +10,12 @@ ghost use Rattle.query_replies.specs.declared.reply.Reply.TheVariants.{Answer, R
 use crate::{Reply, ReplyFault};
 use answer_writer::{put_answer, put_refusal};
 use arc_graph::Network;
-use pareto_search::search;
-use path_readback::Room;
-use road_network::{AnswerKind, Found, Query, SearchFault};
+use bulk_search::find;
+use road_network::{AnswerKind, Query, SearchFault};
 use route_io::{Gate, Sink};
 use std::alloc::Global;
 use std::thread::Threads;
+use walk_readback::{FoundCosts, Room};
 use work_claim::Workers;
 
 /// Who replies to queries over one network, with workers who share each search.
@@ -63,7 +62,7 @@ impl<R: Threads + Sync, G: Gate> Answerer<'_, R, G> {
             return refuse(out, epoch, query, " node");
         }
         prove!(self.network.nodes() >= 1);
-        match search(workers, self.alloc, self.network, query) {
+        match find(workers, self.alloc, self.network, query) {
             Ok(found) => self.answer(epoch, kind, query, &found, room, out),
             Err(SearchFault::Budget) => refuse(out, epoch, query, " budget"),
             Err(SearchFault::OutOfMemory) => Err(ReplyFault::OutOfMemory),
@@ -71,7 +70,7 @@ impl<R: Threads + Sync, G: Gate> Answerer<'_, R, G> {
     }
 
     /// Sends the answer that was found. Room for its walks is taken before the first byte.
-    fn answer<F: Found, K: Sink>(
+    fn answer<F: FoundCosts, K: Sink>(
         &self,
         epoch: u32,
         kind: AnswerKind,

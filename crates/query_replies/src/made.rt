@@ -7,11 +7,11 @@ ghost use Rattle.query_replies.specs.Sending.{IsReplyOf, Replied};
 
 use crate::{Answerer, Reply, ReplyFault};
 use out_of_memory::OutOfMemory;
-use path_readback::Room;
 use road_network::{AnswerKind, Query};
 use route_io::sure::SureSink;
 use route_io::{Gate, Phase, Sink, put_all};
 use std::thread::Threads;
+use walk_readback::Room;
 use work_claim::{Calls, run_pieces};
 
 /// A reply that was made in memory: what it is, and its text.

@@ -4,5 +4,4 @@ pub mod Walks
 pub mod Best
 pub mod Answers
 pub mod Labels
-pub mod Found
 pub mod Queries

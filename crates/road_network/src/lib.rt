@@ -2,16 +2,13 @@
 //! are its answer.
 //!
 //! `specs/` has all that a reader has to believe about answers. The functions here do nothing: their contracts are laws of
-//! these definitions. `Found` is what any search has found. No graph in memory, no file and no way of searching is known
-//! here.
+//! these definitions. No graph in memory, no file and no way of searching is known here.
 #![tactic(auto)]
 
-mod found;
 mod laws;
 mod limits;
 mod query;
 
-pub use found::Found;
 pub use laws::{
     arcs_add_to_costs, backward_least_walks_grow_by_arcs, best_costs_are_one_list,
     best_costs_exist, best_costs_lie_below_all, relevant_pairs_are_counted,

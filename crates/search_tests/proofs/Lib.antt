@@ -1,1 +1,2 @@
-mod KnownLabelsLemmas
+mod KnownCostsLemmas
+mod EachNodeLemmas

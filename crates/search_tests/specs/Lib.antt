@@ -1,1 +1,2 @@
-pub mod KnownLabels
+pub mod KnownCosts
+pub mod EachNode

@@ -3,3 +3,4 @@ mod drawn;
 mod machine;
 mod networks;
 mod plain;
+mod readback;

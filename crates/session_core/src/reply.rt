@@ -15,12 +15,12 @@ use crate::short::{put_closed, put_epoch};
 use arc_graph::Network;
 use cost_vector::Limit;
 use epoch_store::{EpochReader, Snapshot, Store};
-use path_readback::Room;
 use query_replies::{Answerer, ReplyFault};
 use road_network::{AnswerKind, Query};
 use route_io::{Gate, Sink};
 use session_requests::SessionRequest;
 use std::thread::Threads;
+use walk_readback::Room;
 
 impl<R: Threads + Sync, G: Gate> ServeContext<'_, R, G> {
     /// Sends the reply to a request at the last epoch that was seen.

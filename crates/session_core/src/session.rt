@@ -24,7 +24,6 @@ use crate::short::refuse_line;
 use epoch_store::{Ended, EpochReader, Store};
 use line_text::Request;
 use out_of_memory::OutOfMemory;
-use path_readback::Room;
 use query_replies::ReplyFault;
 use route_io::{Gate, Link, Sink, Source};
 use session_requests::{Line, SessionRequest, read_session_request};
@@ -33,6 +32,7 @@ use std::marker::Model;
 use std::sync::Wait;
 use std::thread::Threads;
 use std::time::Clock;
+use walk_readback::Room;
 
 /// A session lane: a reader of the store, and the numbers of the epochs that its replies have named. Links are served one
 /// after another.

@@ -1,9 +1,9 @@
 -- Blocks of costs, compared side by side.
-use Rattle.std.proofs.Common.{◌≡◌, ◌↔◌, ◌⊎◌, ℕ, ◌+◌, ◌<◌, ◌≤◌, List, [], length, get_or, inl, inr, sym, subst, ◌∙◌, arith}
+use Rattle.std.proofs.Common.{◌≡◌, ◌↔◌, ◌⊎◌, ℕ, ◌+◌, ◌<◌, ◌≤◌, List, [], length, get_or, replicate, inl, inr, sym, ap, subst, ◌∙◌, arith}
 use Rattle.std.specs.List.{range_with_len}
 use Rattle.std.proofs.lemmas.Bool.{cases_lt}
 use Rattle.std.proofs.lemmas.Grind.{same_number_lists}
-use Rattle.std.proofs.lemmas.List.{length-map, get_or_default, same_lists}
+use Rattle.std.proofs.lemmas.List.{ext_get_or, get_or-replicate, get_or_default, length-map, length-replicate, same_lists}
 use Rattle.std.proofs.lemmas.List.FromFn.{length-range_with_len, get_or-map-range_with_len}
 use Rattle.std.proofs.lemmas.List.Elements.{AllZip-get_or, Contains-get_or}
 use Rattle.cost_vector.specs.Costs.{AtMost}
@@ -113,3 +113,30 @@ lane_read d rows numbers lane within long each =
     let low : k < d = omega (arith, there, long) in
     each k low ∙ sym (get_or-map-range_with_len (λ j. in_row rows j lane) 0 d k k 0 low (omega arith)))
     ∙ sym (get_or-map-range_with_len (lane_cost d rows) 0 block_size lane lane [] within (omega arith))
+
+-- rows of zeros are costs of standing still
+pub blank_lanes : (d : ℕ) → lane_costs d (replicate d (replicate block_size 0)) ≡ replicate block_size (replicate d 0)
+blank_lanes d = ext_get_or [] (lane_costs d rows) (replicate block_size (replicate d 0)) (lanes ∙ sym as_many) (λ lane within.
+    let inside : lane < block_size = omega (arith, within, lanes) in
+    get_or-map-range_with_len (lane_cost d rows) 0 block_size lane lane [] inside (omega arith) ∙ still lane inside
+    ∙ sym (get_or-replicate {A = List ℕ} block_size lane (replicate d 0) [] inside))
+  where
+    rows : List (List ℕ)
+    rows = replicate d (replicate block_size 0)
+
+    as_many : length (replicate {A = List ℕ} block_size (replicate d 0)) ≡ block_size
+    as_many = length-replicate {A = List ℕ} block_size (replicate d 0)
+
+    lanes : length (lane_costs d rows) ≡ block_size
+    lanes = length-map (range_with_len 0 block_size) (lane_cost d rows) ∙ length-range_with_len 0 block_size
+
+    lane_long : (lane : ℕ) → length (lane_cost d rows lane) ≡ d
+    lane_long lane = length-map (range_with_len 0 d) (λ k. in_row rows k lane) ∙ length-range_with_len 0 d
+
+    still : (lane : ℕ) → lane < block_size → lane_cost d rows lane ≡ replicate d 0
+    still lane inside = same_number_lists (lane_cost d rows lane) (replicate d 0) (lane_long lane ∙ sym (length-replicate {A = ℕ} d 0)) (λ k there.
+        let low : k < d = omega (arith, there, lane_long lane) in
+        get_or-map-range_with_len (λ j. in_row rows j lane) 0 d k k 0 low (omega arith)
+        ∙ ap (λ row. get_or row lane 0) (get_or-replicate {A = List ℕ} d k (replicate block_size 0) [] low)
+        ∙ get_or-replicate {A = ℕ} block_size lane 0 0 inside
+        ∙ sym (get_or-replicate {A = ℕ} d k 0 0 low))

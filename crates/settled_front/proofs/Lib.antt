@@ -1,3 +1,6 @@
 pub mod Stairs
 pub mod Views
 pub mod Lanes
+pub mod Covers
+pub mod Cornering
+pub mod Listing

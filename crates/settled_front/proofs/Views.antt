@@ -1,9 +1,9 @@
--- Lists of stored costs, and the lists of costs that they are seen as.
+-- Lists of what is stored, and the lists that they are seen as.
 use Rattle.std.proofs.Common.{◌≡◌, ℕ, ◌<◌, List, ◌∷◌, ◌++◌, length, get_or, map, take, drop, [], sym, ap, ◌∙◌}
 use Rattle.std.specs.List.{insert}
 use Rattle.std.proofs.lemmas.List.{drop-map, get_or-map, map-append, take-map}
 
-module _ {X : Type 0} (f : X → List ℕ) (xs : List X) where
+module _ {X Y : Type 0} (f : X → List Y) (xs : List X) where
   -- what was read at a place
   pub read_at : (k : ℕ) (x : X) → k < length xs → x ≡ get_or xs k x → get_or (map f xs) k [] ≡ f x
   read_at k x within is = get_or-map f xs k x [] within ∙ ap f (sym is)

@@ -1,3 +1,4 @@
 pub mod Fronts
 pub mod Staircase
 pub mod Blocks
+pub mod Corners

@@ -1,4 +1,4 @@
-ghost use Rattle.std.specs.Prelude.{◌≡◌, ℕ, ◌<◌, ◌≤◌, ◌↔◌, List, [], length, map, slice_index_or, IsTrue};
+ghost use Rattle.std.specs.Prelude.{◌≡◌, ℕ, ◌<◌, ◌≤◌, ◌↔◌, List, [], length, map, replicate, slice_index_or, IsTrue};
 ghost use Rattle.cost_vector.specs.Costs.{min_criteria};
 ghost use Rattle.settled_front.specs.Blocks.{block_size};
 ghost use Rattle.settled_front.specs.Fronts.{IsCovered};
@@ -17,7 +17,8 @@ pub trait CostBlock<const D: usize>: Drop {
     ghost costs: { Self → List (List ℕ) };
 
     /// A block that holds the cost of standing still sixteen times.
-    fn blank() -> Self;
+    fn blank() -> Self
+        ensures { costs result ≡ replicate block_size (replicate D 0) };
 
     /// Holds these costs from now on.
     fn fill(&mut self, from: &[Self::Cost])

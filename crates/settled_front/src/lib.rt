@@ -3,12 +3,16 @@
 #![tactic(auto)]
 
 mod block;
+mod blocks;
+mod cornered;
 mod front;
 mod narrow_block;
+mod sorting;
 mod stair;
 mod wide_block;
 
 pub use block::CostBlock;
+pub use blocks::BlockFront;
 pub use front::{NarrowFront, SettledFront};
 pub use narrow_block::NarrowBlock;
 pub use stair::StairFront;

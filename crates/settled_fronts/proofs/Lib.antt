@@ -1,1 +1,3 @@
+pub mod StoredLemmas
 pub mod PlacedLemmas
+pub mod PairLemmas

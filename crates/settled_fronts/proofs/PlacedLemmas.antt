@@ -4,11 +4,12 @@ use Rattle.std.specs.Prelude.{All, Contains}
 use Rattle.std.specs.List.{range_with_len}
 use Rattle.std.proofs.lemmas.Bool.{cases_lt}
 use Rattle.std.proofs.lemmas.List.{length-map, map_push, map-set, length-set, length_push, get_or-map, get_or-set_same, get_or-set_other, get_or-replicate, length-replicate, get_or_past, get_or_push, get_or_append_left, get_or_default, ext_get_or}
-use Rattle.std.proofs.lemmas.List.Elements.{All-weaker, All-set}
+use Rattle.std.proofs.lemmas.List.Elements.{All-weaker, All-push, All-set}
 use Rattle.std.proofs.lemmas.List.FromFn.{length-range_with_len}
 use Rattle.list_laws.proofs.Pairs.{pigeonhole}
 use Rattle.list_laws.proofs.OnceLaws.{range_once}
-use Rattle.settled_fronts.specs.NodeFronts.{Fronts, SameElsewhere, costs_at, costs_by, IsPlaced, IsKept}
+use Rattle.settled_fronts.specs.NodeFronts.{Fronts, AreFronts, AreStored, SameElsewhere, costs_at, costs_by, IsPlaced, IsKept}
+use Rattle.settled_fronts.proofs.StoredLemmas.{none_stored}
 
 -- the costs of a front
 abbrev Costs : Type 0
@@ -69,8 +70,8 @@ module _ (places : List ℕ) (begun : List Costs) (placed : IsPlaced places begu
 -- ---- an empty list is begun
 
 -- x is kept last, at the place n, for the node v, which had no place
-pub record Begins {X : Type 0} (d : ℕ) (costs : X → Costs) (places : List ℕ) (xs ys : List X) (x : X) (v n : ℕ) : Type 0 where
-  pub kept : IsKept d places (map costs xs)
+pub record Begins {X : Type 0} (d bound : ℕ) (costs : X → Costs) (places : List ℕ) (xs ys : List X) (x : X) (v n : ℕ) : Type 0 where
+  pub kept : IsKept d bound places (map costs xs)
   pub node : 0 < v
   pub within : v < length places
   pub unreached : get_or places v 0 ≡ 0
@@ -79,12 +80,12 @@ pub record Begins {X : Type 0} (d : ℕ) (costs : X → Costs) (places : List �
   pub last : n ≡ length xs
 
 -- as its parts say
-pub begins_at : {X : Type 0} {d : ℕ} {costs : X → Costs} {places : List ℕ} {xs ys : List X} {x : X} {v n : ℕ} → IsKept d places (map costs xs) → 0 < v
-    → v < length places → get_or places v 0 ≡ 0 → costs x ≡ [] → ys ≡ xs ++ x ∷ [] → n ≡ length xs → Begins d costs places xs ys x v n
+pub begins_at : {X : Type 0} {d bound : ℕ} {costs : X → Costs} {places : List ℕ} {xs ys : List X} {x : X} {v n : ℕ} → IsKept d bound places (map costs xs) → 0 < v
+    → v < length places → get_or places v 0 ≡ 0 → costs x ≡ [] → ys ≡ xs ++ x ∷ [] → n ≡ length xs → Begins d bound costs places xs ys x v n
 begins_at kept node within unreached empty pushed last =
     record { kept = kept; node = node; within = within; unreached = unreached; empty = empty; pushed = pushed; last = last }
 
-module _ {X : Type 0} {d : ℕ} {costs : X → Costs} {places : List ℕ} {xs ys : List X} {x : X} {v n : ℕ} (begins : Begins d costs places xs ys x v n) where
+module _ {X : Type 0} {d bound : ℕ} {costs : X → Costs} {places : List ℕ} {xs ys : List X} {x : X} {v n : ℕ} (begins : Begins d bound costs places xs ys x v n) where
   abbrev placed : IsPlaced places (map costs xs)
   placed = begins.kept.placed
 
@@ -139,7 +140,7 @@ module _ {X : Type 0} {d : ℕ} {costs : X → Costs} {places : List ℕ} {xs ys
   ]
 
   -- all is kept
-  pub kept_more : IsKept d (set places v n) (map costs ys)
+  pub kept_more : IsKept d bound (set places v n) (map costs ys)
   kept_more = record {
     two = begins.kept.two;
     four = begins.kept.four;
@@ -154,6 +155,7 @@ module _ {X : Type 0} {d : ℕ} {costs : X → Costs} {places : List ℕ} {xs ys
       used = used_more;
       first = first_more;
     };
+    stored = rw costs_more (All-push (AreStored bound) (map costs xs) (costs x) begins.kept.stored (rw begins.empty (none_stored bound)));
   }
 
   -- the costs have stayed
@@ -190,9 +192,27 @@ module _ {X : Type 0} (costs : X → Costs) (places : List ℕ) (xs : List X) (p
       let begun : k < length xs = omega (arith, at, place_begun places (map costs xs) placed v, length-map xs costs) in
       costs_of places (map costs xs) placed v ∙ ap (λ j. get_or (map costs xs) j []) (sym at) ∙ get_or-map costs xs k x [] begun ∙ ap costs (sym read)
 
+-- the same costs at the same places are kept as the same
+pub same_kept : {X Y : Type 0} (costs : X → Costs) (others : Y → Costs) (places before : List ℕ) (xs : List X) (ys : List Y) → places ≡ before
+    → map costs xs ≡ map others ys → fronts_kept costs places xs ≡ fronts_kept others before ys
+same_kept costs others places before xs ys same begun =
+    let f : List ℕ → List Costs → Fronts = λ ps fs. record { nodes = length ps - 1; costs = costs_by ps fs } in
+    ap (λ ps. f ps (map costs xs)) same ∙ ap (f before) begun
+
+-- what is kept so has each cost once at its node, with room for it
+pub are_fronts : {X : Type 0} {d bound : ℕ} (costs : X → Costs) (places : List ℕ) (xs : List X) → IsKept d bound places (map costs xs)
+    → AreFronts d bound (fronts_kept costs places xs)
+are_fronts costs places xs kept = record {
+  two = kept.two;
+  four = kept.four;
+  nodes = omega (arith, kept.placed.few);
+  stored = λ v. subst (AreStored _) (sym (costs_of places (map costs xs) kept.placed v))
+      (kept.stored (get_or places v 0) [] (place_begun places (map costs xs) kept.placed v));
+}
+
 -- x is kept of the node v, at the place k
-pub record IsAt {X : Type 0} (d : ℕ) (costs : X → Costs) (places : List ℕ) (xs : List X) (before : Fronts) (v k : ℕ) (x : X) : Type 0 where
-  pub kept : IsKept d places (map costs xs)
+pub record IsAt {X : Type 0} (d bound : ℕ) (costs : X → Costs) (places : List ℕ) (xs : List X) (before : Fronts) (v k : ℕ) (x : X) : Type 0 where
+  pub kept : IsKept d bound places (map costs xs)
   pub nodes : length places - 1 ≡ before.nodes
   pub costs_are : costs_by places (map costs xs) ≡ before.costs
   pub place : k ≡ get_or places v 0
@@ -205,9 +225,9 @@ same_count places others begun more same =
     sym (length-map places (λ k. get_or begun k [])) ∙ ap length same ∙ length-map others (λ k. get_or more k [])
 
 -- a node was reached, where the costs have stayed
-pub at_reached : {X : Type 0} {d : ℕ} {costs : X → Costs} {places : List ℕ} {xs : List X} {before : Fronts} {v k : ℕ} {x : X}
-    → (others : List ℕ) (ys : List X) → IsKept d places (map costs xs) → costs_by places (map costs xs) ≡ costs_by others (map costs ys)
-    → fronts_kept costs others ys ≡ before → k ≡ get_or places v 0 → k ≢ 0 → x ≡ get_or xs k x → IsAt d costs places xs before v k x
+pub at_reached : {X : Type 0} {d bound : ℕ} {costs : X → Costs} {places : List ℕ} {xs : List X} {before : Fronts} {v k : ℕ} {x : X}
+    → (others : List ℕ) (ys : List X) → IsKept d bound places (map costs xs) → costs_by places (map costs xs) ≡ costs_by others (map costs ys)
+    → fronts_kept costs others ys ≡ before → k ≡ get_or places v 0 → k ≢ 0 → x ≡ get_or xs k x → IsAt d bound costs places xs before v k x
 at_reached {costs} {places} {xs} others ys kept same view at some read = record {
   kept = kept;
   nodes = ap (λ n. n - 1) (same_count places others (map costs xs) (map costs ys) same) ∙ ap (λ (f : Fronts). f.nodes) view;
@@ -217,8 +237,8 @@ at_reached {costs} {places} {xs} others ys kept same view at some read = record 
   read = read;
 }
 
-module _ {X : Type 0} {d : ℕ} {costs : X → Costs} {places : List ℕ} {xs : List X} {before : Fronts} {v k : ℕ} {x : X}
-    (here : IsAt d costs places xs before v k x) where
+module _ {X : Type 0} {d bound : ℕ} {costs : X → Costs} {places : List ℕ} {xs : List X} {before : Fronts} {v k : ℕ} {x : X}
+    (here : IsAt d bound costs places xs before v k x) where
   begun : k < length xs
   begun = omega (arith, here.place, place_begun places (map costs xs) here.kept.placed v, length-map xs costs)
 
@@ -232,6 +252,12 @@ module _ {X : Type 0} {d : ℕ} {costs : X → Costs} {places : List ℕ} {xs : 
   other_place : (w : ℕ) → w ≢ v → get_or places w 0 ≢ k
   other_place w other e = other (here.kept.placed.own w v (e ∙ here.place) (λ zero. here.reached (sym e ∙ zero)))
 
+  -- its costs are stored
+  pub stored_here : AreStored bound (costs x)
+  stored_here = subst (AreStored bound) (sym at_place) (here.kept.stored k [] (omega (arith, begun, length-map xs costs))) where
+    at_place : costs x ≡ get_or (map costs xs) k []
+    at_place = sym (get_or-map costs xs k x [] begun ∙ ap costs (sym here.read))
+
   -- y comes in its place
   module _ (y : X) where
     costs_set : map costs (set xs k y) ≡ set (map costs xs) k (costs y)
@@ -241,8 +267,8 @@ module _ {X : Type 0} {d : ℕ} {costs : X → Costs} {places : List ℕ} {xs : 
     first_after = rw costs_set (get_or-set_other (map costs xs) k 0 (costs y) [] (λ e. here.reached (sym e)) ∙ here.kept.placed.first)
 
     -- all is kept
-    pub kept_after : IsKept d places (map costs (set xs k y))
-    kept_after =
+    pub kept_after : AreStored bound (costs y) → IsKept d bound places (map costs (set xs k y))
+    kept_after fits =
         let placed = here.kept.placed in
         let long : length (map costs (set xs k y)) ≡ length (map costs xs) =
         omega (arith, length-map (set xs k y) costs, length-map xs costs, length-set xs k y) in record {
@@ -257,6 +283,7 @@ module _ {X : Type 0} {d : ℕ} {costs : X → Costs} {places : List ℕ} {xs : 
             used = λ j positive below. placed.used j positive (omega (arith, below, long));
             first = first_after;
           };
+          stored = rw costs_set (All-set (AreStored bound) (map costs xs) k (costs y) fits here.kept.stored);
         }
 
     -- the costs of the node are y's

@@ -1,5 +1,5 @@
 -- The settled costs of all nodes, and how they are kept.
-use Rattle.std.specs.Prelude.{◌≡◌, ◌≢◌, ℕ, ◌+◌, ◌<◌, ◌≤◌, List, [], length, map, slice_index, slice_index_or, All, Contains}
+use Rattle.std.specs.Prelude.{◌≡◌, ◌≢◌, ℕ, ◌+◌, ◌<◌, ◌≤◌, List, [], ◌∷◌, ◌++◌, length, map, slice_index, slice_index_or, All, AllPairs, Contains}
 use Rattle.cost_vector.specs.Costs.{min_criteria, max_criteria}
 use Rattle.road_network.specs.Limits.{max_nodes}
 
@@ -13,10 +13,31 @@ pub record Fronts : Type 0 where
 abbrev pub costs_at : Fronts → ℕ → List (List ℕ)
 costs_at f v = slice_index_or f.costs v []
 
+-- the pairs of a node and a cost, of the nodes from n on, whose settled costs these are
+abbrev pub pairs_from : ℕ → List (List (List ℕ)) → List (ℕ × List ℕ)
+pairs_from n [] = []
+pairs_from n (costs ∷ others) = map (λ c. (n, c)) costs ++ pairs_from (n + 1) others
+
+-- all settled pairs
+abbrev pub settled_pairs : Fronts → List (ℕ × List ℕ)
+settled_pairs f = pairs_from 0 f.costs
+
 -- but for the node v all has stayed
 pub record SameElsewhere (v : ℕ) (before after : Fronts) : Type 0 where
   pub nodes : after.nodes ≡ before.nodes
   pub others : (w : ℕ) → w ≢ v → costs_at after w ≡ costs_at before w
+
+-- each cost stands there once, and its components are below the bound
+pub record AreStored (bound : ℕ) (costs : List (List ℕ)) : Type 0 where
+  pub once : AllPairs ◌≢◌ costs
+  pub fits : All (All (λ x. x < bound)) costs
+
+-- Costs of 2 to 4 criteria are kept, of no more nodes than there can be, with room for components below the bound.
+pub record AreFronts (d bound : ℕ) (f : Fronts) : Type 0 where
+  pub two : min_criteria ≤ d
+  pub four : d ≤ max_criteria
+  pub nodes : f.nodes ≤ max_nodes
+  pub stored : (v : ℕ) → AreStored bound (costs_at f v)
 
 -- ---- how they are kept: of each node the place of its list among those that were begun, or 0
 
@@ -34,8 +55,9 @@ pub record IsPlaced (places : List ℕ) (begun : List (List (List ℕ))) : Type 
   pub used : (k : ℕ) → 0 < k → k < length begun → Contains places k
   pub first : slice_index_or begun 0 [] ≡ []
 
--- the same, in 2 to 4 criteria
-pub record IsKept (d : ℕ) (places : List ℕ) (begun : List (List (List ℕ))) : Type 0 where
+-- the same, in 2 to 4 criteria, with room for components below the bound
+pub record IsKept (d bound : ℕ) (places : List ℕ) (begun : List (List (List ℕ))) : Type 0 where
   pub two : min_criteria ≤ d
   pub four : d ≤ max_criteria
   pub placed : IsPlaced places begun
+  pub stored : All (AreStored bound) begun

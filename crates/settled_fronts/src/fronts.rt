@@ -1,15 +1,16 @@
-ghost use Rattle.std.specs.Prelude.{◌≡◌, ◌≢◌, ℕ, ◌+◌, ◌<◌, ◌≤◌, ◌↔◌, [], ◌∷◌, length, map, slice_index, All, IfOk, IsPermutation, IsTrue, OnErr};
+ghost use Rattle.std.specs.Prelude.{◌≡◌, ◌≢◌, ℕ, ◌+◌, ◌-◌, ◌^◌, ◌<◌, ◌≤◌, ◌↔◌, [], ◌∷◌, length, map, min, slice_index, All, IfOk, IsPermutation, IsTrue, OnErr};
 ghost use Rattle.cost_vector.specs.Costs.{Dominates, max_criteria, min_criteria};
 ghost use Rattle.road_network.specs.Limits.{max_nodes};
 ghost use Rattle.road_network.specs.Network.{IsNode};
 ghost use Rattle.settled_front.specs.Fronts.{IsCovered, ListsCosts};
-ghost use Rattle.settled_fronts.specs.NodeFronts.{IsKept, SameElsewhere, costs_at, costs_by};
+ghost use Rattle.settled_fronts.specs.NodeFronts.{AreFronts, IsKept, SameElsewhere, costs_at, costs_by, settled_pairs};
 
 use cost_vector::{CompactCost, NodeNo};
 use out_of_memory::OutOfMemory;
-use settled_front::SettledFront;
+use settled_front::{NarrowFront, SettledFront};
 use std::alloc::Global;
 use std::marker::Model;
+use stored_cost::StoredCost;
 
 /// The settled costs of all nodes. Of a node that has none, one number is kept.
 #[derive(Drop)]
@@ -32,7 +33,7 @@ impl<const D: usize, F: SettledFront<D>> Model for Fronts<D, F> {
       costs = costs_by f.places.items (map F.costs f.fronts.items);
     } };
 
-    ghost invariant = { λ f. IsKept D f.places.items (map F.costs f.fronts.items) };
+    ghost invariant = { λ f. IsKept D F.Cost.Part.bound f.places.items (map F.costs f.fronts.items) };
 }
 
 impl<const D: usize, F: SettledFront<D>> Fronts<D, F> {
@@ -59,6 +60,24 @@ impl<const D: usize, F: SettledFront<D>> Fronts<D, F> {
         ensures { result ≡ self.now.nodes }
     {
         (self.places.len() - 1) as u32
+    }
+
+    /// How many costs are settled, as far as a number of 64 bits can tell.
+    pub fn len(&self) -> usize
+        ensures { result ≡ min (length (settled_pairs self.now)) (2 ^ 64 - 1) }
+    {
+        let mut count: usize = 0;
+        for front in &self.fronts {
+            count = count.saturating_add(front.len());
+        }
+        count
+    }
+
+    /// Each settled cost stands once at its node, and there is room for it at this width.
+    pub fn costs_are_stored(&self)
+        ensures { AreFronts D F.Cost.Part.bound self.now }
+    {
+        let _kept = &self.places;
     }
 
     /// The front of a node.
@@ -91,6 +110,7 @@ impl<const D: usize, F: SettledFront<D>> Fronts<D, F> {
         ensures same { OnErr result (costs_at self.new node.0 ≡ costs_at self.old node.0) }
     {
         let place = reach::<D, F>(&mut self.places, &mut self.fronts, self.alloc, node)?;
+        let _read = cost.to_compact(); // a proof knows what there is room for of what is read
         self.fronts[place].push(cost)
     }
 
@@ -105,6 +125,34 @@ impl<const D: usize, F: SettledFront<D>> Fronts<D, F> {
     }
 }
 
+impl<const D: usize, F: NarrowFront<D>> Fronts<D, F> {
+    /// The same costs, with room for greater ones.
+    pub fn widen(&self, alloc: Global) -> Result<Fronts<D, F::Wide>, OutOfMemory>
+        requires { F.Cost.Part.bound ≤ F.Wide.Cost.Part.bound }
+        ensures { IfOk result (λ wide. wide ≡ self.now) }
+    {
+        Ok(Fronts {
+            places: self.places.clone()?,
+            fronts: widen_all(alloc, &self.fronts)?,
+            alloc,
+        })
+    }
+}
+
+/// The same fronts, with room for greater costs.
+fn widen_all<const D: usize, F: NarrowFront<D>>(
+    alloc: Global,
+    fronts: &[F],
+) -> Result<Vec<F::Wide>, OutOfMemory>
+    ensures { IfOk result (λ wide. map F.Wide.costs wide.items ≡ map F.costs fronts.now) }
+{
+    let mut wide = Vec::new(alloc);
+    for front in fronts {
+        wide.push(front.widen(alloc)?)?;
+    }
+    Ok(wide)
+}
+
 /// The place of a node's front; where it has none, one without costs is begun.
 fn reach<const D: usize, F: SettledFront<D>>(
     places: &mut Vec<u32>,
@@ -112,10 +160,10 @@ fn reach<const D: usize, F: SettledFront<D>>(
     alloc: Global,
     node: NodeNo,
 ) -> Result<usize, OutOfMemory>
-    requires kept { IsKept D places.old.items (map F.costs fronts.old.items) }
+    requires kept { IsKept D F.Cost.Part.bound places.old.items (map F.costs fronts.old.items) }
     requires node { 0 < node.0 }
     requires within { node.0 < length places.old.items }
-    ensures kept { IsKept D places.new.items (map F.costs fronts.new.items) }
+    ensures kept { IsKept D F.Cost.Part.bound places.new.items (map F.costs fronts.new.items) }
     ensures same { costs_by places.new.items (map F.costs fronts.new.items)
         ≡ costs_by places.old.items (map F.costs fronts.old.items) }
     ensures place { IfOk result (λ k. k ≡ slice_index places.new.items node.0) }

@@ -1,8 +1,8 @@
-ghost use Rattle.std.specs.Prelude.{◌≡◌, ℕ, ◌<◌, ◌↔◌, List, length, slice_index, All, IsTrue};
-ghost use Rattle.cost_vector.specs.Costs.{AtMost, Dominates, lex_cmp};
+ghost use Rattle.std.specs.Prelude.{◌≡◌, ℕ, ◌<◌, ◌↔◌, List, length, slice_index, All, IfSome, IsSome, IsTrue};
+ghost use Rattle.cost_vector.specs.Costs.{AtMost, Dominates, lex_cmp, plus};
 
 use crate::Part;
-use cost_vector::CompactCost;
+use cost_vector::{CompactCost, Weight};
 use std::cmp::Ordering;
 use std::fmt::Debug;
 
@@ -37,6 +37,13 @@ pub trait StoredCost<const D: usize>: Copy + Drop + Debug + Ord {
         ensures value { Self.Part.value result ≡ slice_index (components self.now) i }
         ensures long { length (components self.now) ≡ D }
         ensures fits { All (λ x. x < Self.Part.bound) (components self.now) };
+
+    /// The sum, component by component, where there is room for it at this width.
+    fn plus(&self, by: &Weight) -> Option<Self>
+        requires { length by.now ≡ D }
+        ensures sum { IfSome result (λ c. components c ≡ plus (components self.now) by.now) }
+        ensures fits { IsSome result
+            ↔ All (λ x. x < Self.Part.bound) (plus (components self.now) by.now) };
 
     /// Compares the first components that differ.
     fn compare(&self, other: &Self) -> Ordering

@@ -1,7 +1,7 @@
 ghost use Rattle.std.specs.Prelude.{refl};
 
 use crate::StoredCost;
-use cost_vector::CompactCost;
+use cost_vector::{CompactCost, Weight};
 use std::cmp::Ordering;
 use std::marker::Model;
 
@@ -51,6 +51,16 @@ impl<const D: usize> StoredCost<D> for NarrowCost<D> {
 
     fn part(&self, i: usize) -> u32 {
         self.parts[i]
+    }
+
+    fn plus(&self, by: &Weight) -> Option<NarrowCost<D>> {
+        prove!(by.count() == D);
+        let sum = self.to_compact().plus(by);
+        if NarrowCost::<D>::fits(&sum.0) {
+            Some(NarrowCost::of(&sum.0))
+        } else {
+            None
+        }
     }
 
     fn compare(&self, other: &NarrowCost<D>) -> Ordering {

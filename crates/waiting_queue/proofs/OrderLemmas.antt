@@ -1,19 +1,20 @@
 -- The order of spots, and lists in this order.
-use Rattle.std.proofs.Common.{◌≡◌, ℕ, length-take-le, ◌+◌, ◌<◌, ◌≤◌, Bool, true, false, List, take, drop, get_or, length, length-take, length-drop, ◌⊎◌, ◌↔◌, inl, inr, refl, sym, ap, ap₂, subst, ◌∙◌, arith, Less, Equal, Greater}
+use Rattle.std.proofs.Common.{◌≡◌, ℕ, length-take-le, ◌+◌, ◌<◌, ◌≤◌, Bool, true, false, List, take, drop, get_or, length, map, length-take, length-drop, ◌⊎◌, ◌↔◌, inl, inr, refl, sym, ap, ap₂, subst, ◌∙◌, arith, Less, Equal, Greater}
 use Rattle.std.specs.declared.cmp.Ordering.{Ordering}
 use Rattle.std.specs.Ordering.{nat_cmp, ordering_then, ordering_reverse, is_lt, is_eq}
 use Rattle.std.specs.Cmp.{IsTotalOrder, nat_cmp_total}
 use Rattle.std.specs.Cmp.Lexicographic.{nat_list_cmp_total}
-use Rattle.std.specs.Prelude.{All, IsTrue}
+use Rattle.std.specs.Prelude.{All, AllPairs, IsTrue}
 use Rattle.std.specs.List.Sorted.{IsSorted}
 use Rattle.std.proofs.Math.Nat.{add-zero}
 use Rattle.std.proofs.lemmas.Bool.{false≢true, cases_lt}
-use Rattle.std.proofs.lemmas.List.{take-take, get_or-take, get_or-drop, get_or_default}
+use Rattle.std.proofs.lemmas.List.{take-take, get_or-map, get_or-take, get_or-drop, get_or_default, length-map}
 use Rattle.std.proofs.lemmas.List.Sorted.{sorted_far, ranks_by}
 use Rattle.std.proofs.lemmas.Bool.Decides.{nat_tests}
 use Rattle.std.proofs.lemmas.Cmp.{tied_itself, then_total, on_total}
 use Rattle.cost_vector.specs.Costs.{LexLess, lex_cmp}
 use Rattle.cost_vector.proofs.Vectors.{same_from_lex_cmp}
+use Rattle.list_laws.proofs.Pairs.{pairs_map}
 use Rattle.waiting_queue.specs.declared.item.Item.{Item}
 use Rattle.waiting_queue.specs.Passing.{IsSplit}
 use Rattle.waiting_queue.specs.Shadows.{SplitsAt}
@@ -194,3 +195,12 @@ module _ {C : Type 0} (components : C → List ℕ) (xs : List (Item C)) (sorted
           near.after 0 d (omega (arith, inside, length-drop i (take n xs)))
           (subst (λ y. SpotLess (spot_in components y) s)
           (sym (get_or-drop i (take n xs) 0 d ∙ ap (λ j. get_or (take n xs) j d) (add-zero i) ∙ get_or-take n xs i d in_near)) less)
+
+-- where two lists are seen as the same ones, what holds of any two of the one holds of any two of the other
+pub pairs_as : {X Y Z : Type 0} (f : X → Z) (g : Y → Z) (R : Z → Z → Type 0) (xs : List X) (ys : List Y) → map g ys ≡ map f xs
+    → AllPairs (λ a b. R (f a) (f b)) xs → AllPairs (λ a b. R (g a) (g b)) ys
+pairs_as f g R xs ys same pairs = λ i j d before within.
+    let there = subst (AllPairs R) (sym same) (pairs_map (λ a b. R (f a) (f b)) R f (λ a b h. h) xs pairs) in
+    let read : (k : ℕ) → k < length ys → get_or (map g ys) k (g d) ≡ g (get_or ys k d) = λ k below. get_or-map g ys k d (g d) below in
+    subst (λ z. R z (g (get_or ys j d))) (read i (omega (arith, before, within)))
+    (subst (R (get_or (map g ys) i (g d))) (read j within) (there i j (g d) before (omega (arith, within, length-map ys g))))

@@ -9,8 +9,10 @@ mod passing;
 mod queue;
 mod shadow;
 mod steps;
+mod widen;
 
 pub use item::Item;
 pub use look::Look;
 pub use queue::Queue;
 pub use steps::Steps;
+pub use widen::widen_items;

@@ -4,13 +4,13 @@ ghost use Rattle.waiting_queue.specs.Waiting.{AreCriteria, spot_of, as_waiting};
 
 use crate::order::list_sorted;
 use crate::passing::pass_anew;
-use crate::{Item, Look, Steps};
+use crate::{Item, Look, Steps, widen_items};
 use out_of_memory::OutOfMemory;
 use std::alloc::Global;
 use std::marker::Model;
 use std::mem;
 use std::sync::ledger::Ledger;
-use stored_cost::{NarrowCost, StoredCost, WideCost};
+use stored_cost::StoredCost;
 
 /// What waits. Some of it may be stale, barred or there more than once.
 ///
@@ -89,46 +89,17 @@ impl<const D: usize, C: StoredCost<D>> Queue<D, C> {
         }
         Ok(())
     }
-}
 
-impl<const D: usize> Queue<D, NarrowCost<D>> {
     /// The same queue, with room for greater costs.
-    pub fn widen(&self, alloc: Global) -> Result<Queue<D, WideCost<D>>, OutOfMemory>
+    pub fn widen<W: StoredCost<D>>(&self, alloc: Global) -> Result<Queue<D, W>, OutOfMemory>
+        requires { C.Part.bound ≤ W.Part.bound }
         ensures { IfOk result (λ wide. wide ≡ self.now) }
     {
         Ok(Queue {
-            items: widen_all(alloc, &self.items)?,
+            items: widen_items(alloc, &self.items)?,
             rest: Vec::new(alloc),
             order: Vec::new(alloc),
             shadow: Vec::new(alloc),
         })
-    }
-}
-
-/// The same items, with room for greater costs.
-fn widen_all<const D: usize>(
-    alloc: Global,
-    items: &[Item<NarrowCost<D>>],
-) -> Result<Vec<Item<WideCost<D>>>, OutOfMemory>
-    requires { AreCriteria D }
-    ensures { IfOk result (λ wide. wide.items ≡ items.now) }
-{
-    let mut wide = Vec::new(alloc);
-    for item in items {
-        wide.push(widened(item))?;
-    }
-    Ok(wide)
-}
-
-/// The same item, with room for a greater cost.
-fn widened<const D: usize>(item: &Item<NarrowCost<D>>) -> Item<WideCost<D>>
-    requires { AreCriteria D }
-    ensures { result ≡ item.now }
-{
-    let cost = item.cost.to_compact();
-    Item {
-        cost: WideCost::of(&cost.0),
-        node: item.node,
-        from: item.from,
     }
 }

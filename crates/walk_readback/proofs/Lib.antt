@@ -1,4 +1,3 @@
 pub mod GoingBackLaws
 pub mod WellFoundLaws
-pub mod IntoLemmas
 pub mod ReadbackLemmas

@@ -8,8 +8,10 @@ use Rattle.std.proofs.lemmas.Option.{slice_get_within, slice_get-get_or, get_or_
 use Rattle.list_laws.specs.Least.{IsLeastWith, IsLeastIfAny}
 use Rattle.cost_vector.specs.declared.label.ArcNo.{ArcNo}
 use Rattle.cost_vector.specs.Costs.{AtMost, plus}
-use Rattle.cost_vector.proofs.Vectors.{AtMost-plus_other, plus_cancel}
-use Rattle.arc_graph.specs.Graph.{arc_state, head_of, tail_of}
+use Rattle.cost_vector.proofs.Vectors.{AtMost-plus_other, AtMost-plus_self, AtMost-refl, AtMost-trans, plus_cancel}
+use Rattle.arc_graph.specs.Graph.{arc_state, head_of, in_arcs_of, tail_of}
+use Rattle.arc_graph.proofs.NumbersLemmas.{numbers_ascend}
+use Rattle.arc_graph.proofs.InArcsLemmas.{each_is_there}
 use Rattle.road_network.specs.Network.{Network, IsNetwork, IsNode, Leads}
 use Rattle.road_network.specs.Walks.{IsWalk}
 use Rattle.road_network.specs.Best.{IsBackwardLeast}
@@ -17,14 +19,22 @@ use Rattle.road_network.proofs.WalkLaws.{ends_by_last, leads_by_vector, length_o
 use Rattle.road_network.proofs.Reached.{leads_alike}
 use Rattle.road_network.proofs.BackwardLaws.{has_backward_least, front_is_backward_least}
 use Rattle.list_laws.proofs.Members.{all_got}
-use Rattle.walk_readback.specs.Found.{FoundCosts, IsCovered, IsOnTheWay, IsWellFound, longest_in}
+use Rattle.walk_readback.specs.Found.{FoundCosts, IsBelowSettled, IsCovered, IsOnTheWay, IsWellFound, longest_in}
 use Rattle.walk_readback.specs.GoingBack.{LeavesCovered, last_of}
-use Rattle.walk_readback.specs.Into.{in_arcs_of}
-use Rattle.walk_readback.proofs.IntoLemmas.{each_is_there, numbers_ascend}
 use Rattle.walk_readback.proofs.GoingBackLaws.{empty_without_last, front_of_last, last_is_told}
 use Rattle.walk_readback.proofs.WellFoundLaws.{is_within_longest, way_closed}
 
 -- ---- one arc
+
+-- what is left of a cost below a settled one is below it
+pub left_below_settled : (f : FoundCosts) (cost before by : List ℕ) → IsBelowSettled f cost → length before ≡ length by → plus before by ≡ cost
+    → IsBelowSettled f before
+left_below_settled f cost before by below count sum = record {
+  node = below.node;
+  cost = below.cost;
+  settled = below.settled;
+  at_most = AtMost-trans before cost below.cost (subst (AtMost before) sum (AtMost-plus_self before by count)) below.at_most;
+}
 
 module _ (net : Network) (f : FoundCosts) (cost : List ℕ) (arc : ArcNo) where
   -- an arc that leaves a covered cost is passable, and its vector fits
@@ -217,6 +227,10 @@ module _ (net : Network) (f : FoundCosts) (i holds : ℕ) where
 
     pub comes_to_node : IsNode net.nodes node
     comes_to_node = node_of_walk net is_net r.part.front f.start node cost r.part.least.walk
+
+    -- it is settled there
+    pub below_settled : IsBelowSettled f cost
+    below_settled = record { node = node; cost = cost; settled = r.well.on_the_way node cost on_way; at_most = AtMost-refl cost }
 
     -- the least arc that leaves a covered cost is the last of the front
     last_is_least : (o : Option ℕ) → IsLeastIfAny (λ k. (b : List ℕ) × LeavesCovered net f node cost k b) o → last_of r.part.front ≡ o

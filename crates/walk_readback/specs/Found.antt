@@ -35,6 +35,13 @@ pub record IsCovered (f : FoundCosts) (v : ℕ) (c : List ℕ) : Type 0 where
   pub settled : HasSettled f v cost
   pub at_most : AtMost cost c
 
+-- some settled cost is at least c
+pub record IsBelowSettled (f : FoundCosts) (c : List ℕ) : Type 0 where
+  pub node : ℕ
+  pub cost : List ℕ
+  pub settled : HasSettled f node cost
+  pub at_most : AtMost c cost
+
 -- No pair is settled twice, and the costs are the settled ones of the target, in strictly ascending lexicographic order.
 pub record IsFound (f : FoundCosts) : Type 0 where
   pub two : min_criteria ≤ f.criteria

@@ -1,4 +1,3 @@
-pub mod Into
 pub mod Found
 pub mod GoingBack
 pub mod Room

@@ -6,13 +6,11 @@
 #![tactic(auto)]
 
 mod found;
-mod into;
 mod laws;
 mod readback;
 mod room;
 
 pub use found::FoundCosts;
-pub use into::ArcsInto;
 pub use laws::{
     found_with_all_relevant_is_well_found, least_arcs_back_are_last_arcs,
     least_relevant_arcs_back_are_last_arcs,

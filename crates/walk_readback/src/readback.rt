@@ -4,11 +4,10 @@ ghost use Rattle.list_laws.specs.Least.{IsLeastIfAny};
 ghost use Rattle.arc_graph.specs.Graph.{head_of};
 ghost use Rattle.road_network.specs.Network.{IsNode};
 ghost use Rattle.road_network.specs.Best.{IsBackwardLeast};
-ghost use Rattle.walk_readback.specs.Into.{in_arcs};
-ghost use Rattle.walk_readback.specs.Found.{IsWellFound, longest_in};
+ghost use Rattle.walk_readback.specs.Found.{IsBelowSettled, IsWellFound, longest_in};
 ghost use Rattle.walk_readback.specs.GoingBack.{LeavesCovered};
 
-use crate::{ArcsInto, FoundCosts, Room};
+use crate::{FoundCosts, Room};
 use arc_graph::Network;
 use cost_vector::{ArcNo, Cost, NodeNo};
 
@@ -22,17 +21,10 @@ struct Step {
 /// Leaves in the room the backward-least walk of the cost at the place `i`, from 0.
 ///
 /// It goes back from the target, each time by the least arc whose tail has a settled cost that fits.
-pub fn walk<F: FoundCosts>(
-    network: &Network<'_>,
-    into: &ArcsInto,
-    found: &F,
-    i: usize,
-    room: &mut Room,
-)
+pub fn walk<F: FoundCosts>(network: &Network<'_>, found: &F, i: usize, room: &mut Room)
     requires there { i < length (F.state found.now).costs }
     requires nodes { (F.state found.now).nodes ≡ network.now.nodes }
     requires criteria { (F.state found.now).criteria ≡ network.now.criteria }
-    requires into { into.now ≡ in_arcs network.now.nodes network.now.ends }
     requires well_found { (limit : List (Option ℕ))
         × IsWellFound network.now limit (F.state found.now) }
     requires room { longest_in (F.state found.now) ≤ room.old.holds }
@@ -45,7 +37,7 @@ pub fn walk<F: FoundCosts>(
     room.clear();
     let mut node = found.target();
     let mut cost = found.cost(i);
-    'arcs: while let Some(step) = step_back(network, into, found, node, &cost) {
+    'arcs: while let Some(step) = step_back(network, found, node, &cost) {
         room.push(step.arc);
         node = network.tail(step.arc);
         cost = step.before;
@@ -56,23 +48,22 @@ pub fn walk<F: FoundCosts>(
 /// The least arc into a node whose tail has a settled cost at most what the arc leaves of this cost.
 fn step_back<F: FoundCosts>(
     network: &Network<'_>,
-    into: &ArcsInto,
     found: &F,
     node: NodeNo,
     cost: &Cost,
 ) -> Option<Step>
     requires node { IsNode network.now.nodes node.0 }
     requires count { length cost.now ≡ network.now.criteria }
+    requires below { IsBelowSettled (F.state found.now) cost.now }
     requires nodes { (F.state found.now).nodes ≡ network.now.nodes }
     requires criteria { (F.state found.now).criteria ≡ network.now.criteria }
-    requires into { into.now ≡ in_arcs network.now.nodes network.now.ends }
     ensures least { IsLeastIfAny
         (λ k. (b : List ℕ) × LeavesCovered network.now (F.state found.now) node.0 cost.now k b)
         (option_map (λ s. s.arc.0) result) }
     ensures before { IfSome result (λ s.
         LeavesCovered network.now (F.state found.now) node.0 cost.now s.arc.0 s.before) }
 {
-    let arcs = into.of(node);
+    let arcs = network.in_arcs(node);
     for &arc in arcs {
         if let Some(before) = cost_before(network, found, arc, cost) {
             return Some(Step { arc, before });
@@ -91,6 +82,7 @@ fn cost_before<F: FoundCosts>(
     requires counted { 1 ≤ arc.0 }
     requires there { arc.0 ≤ length network.now.ends }
     requires count { length cost.now ≡ network.now.criteria }
+    requires below { IsBelowSettled (F.state found.now) cost.now }
     requires nodes { (F.state found.now).nodes ≡ network.now.nodes }
     requires criteria { (F.state found.now).criteria ≡ network.now.criteria }
     ensures { (b : List ℕ) → (result ≡ Some b) ↔ LeavesCovered network.now (F.state found.now)

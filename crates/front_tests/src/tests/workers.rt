@@ -1,5 +1,4 @@
 mod counting;
 mod meeting;
-mod onward;
 mod order;
 mod relaxing;

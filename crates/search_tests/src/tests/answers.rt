@@ -8,13 +8,13 @@ use answer_writer::{Piece, put_answer, put_line, put_refusal};
 use arc_graph::{Graph, JoinFault, Network, Weights};
 use cost_vector::{Limit, NodeNo};
 use out_of_memory::OutOfMemory;
-use path_readback::Room;
 use road_network::{AnswerKind, Query};
 use route_io::memory::MemorySink;
 use route_io::{Sink, WriteFault};
-use standing::KnownLabels;
+use standing::KnownCosts;
 use std::alloc::{AllocError, Global};
 use std::process::Abort;
+use walk_readback::Room;
 
 mod standing;
 
@@ -48,7 +48,7 @@ fn stand<K: Sink>(
     requires node { IsNode network.now.nodes 4 }
     requires limit { length (limit_or_none 2 form.now.1) ≡ 2 }
 {
-    let found = KnownLabels {
+    let found = KnownCosts {
         nodes: network.nodes(),
         criteria: network.criteria(),
         node: NodeNo(4),

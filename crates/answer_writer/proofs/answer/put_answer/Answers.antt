@@ -11,7 +11,7 @@ use Rattle.answer_writer.proofs.answer.put_answer.Goals as goal
 pub returns-in_err-put_first_line : goal.returns-in_err-put_first_line
 returns-in_err-put_first_line g c = λ routes answer.
     let p = err_from_is_err_and c.from_residual.result c.from_residual.ensures.1 in
-    let found = g.F.Found.state c.args.found.now in
+    let found = g.F.FoundCosts.state c.args.found.now in
     let limit = limit_of c.args.network.now.criteria c.args.query.now in
     let its = answer_of_found c.args.network.now c.args.query.now found limit routes c.requires.of_query answer in
     let whole = reply_in_parts c.args.network.now found c.args.kind c.args.epoch c.args.query.now c.new-page.result c.new-page.ensures c.count-count.ensures.found
@@ -23,7 +23,7 @@ returns-in_err-put_first_line g c = λ routes answer.
 pub returns-in_err-put_lines : goal.returns-in_err-put_lines
 returns-in_err-put_lines g c = λ routes answer.
     let p = err_from_is_err_and c.from_residual-in_err-put_lines.result c.from_residual-in_err-put_lines.ensures.1 in
-    let found = g.F.Found.state c.args.found.now in
+    let found = g.F.FoundCosts.state c.args.found.now in
     let limit = limit_of c.args.network.now.criteria c.args.query.now in
     let its = answer_of_found c.args.network.now c.args.query.now found limit routes c.requires.of_query answer in
     let whole = reply_in_parts c.args.network.now found c.args.kind c.args.epoch c.args.query.now c.new-page.result c.new-page.ensures c.count-count.ensures.found
@@ -34,7 +34,7 @@ returns-in_err-put_lines g c = λ routes answer.
 
 pub returns : goal.returns
 returns g c = λ routes answer.
-    let found = g.F.Found.state c.args.found.now in
+    let found = g.F.FoundCosts.state c.args.found.now in
     let limit = limit_of c.args.network.now.criteria c.args.query.now in
     let its = answer_of_found c.args.network.now c.args.query.now found limit routes c.requires.of_query answer in
     let whole = reply_in_parts c.args.network.now found c.args.kind c.args.epoch c.args.query.now c.new-page.result c.new-page.ensures c.count-count.ensures.found

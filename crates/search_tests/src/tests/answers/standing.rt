@@ -1,18 +1,18 @@
-ghost use Rattle.search_tests.specs.KnownLabels.{IsPlace, standing};
+ghost use Rattle.search_tests.specs.KnownCosts.{IsPlace, standing};
 
-use cost_vector::{ArcNo, Cost, NodeNo};
-use road_network::Found;
+use cost_vector::{Cost, NodeNo};
+use walk_readback::FoundCosts;
 
 /// What is found where the target is the start.
 #[derive(Drop)]
-pub(super) struct KnownLabels {
+pub(super) struct KnownCosts {
     pub nodes: u32,
     pub criteria: usize,
     pub node: NodeNo,
     ghost place: { IsPlace nodes criteria node.0 },
 }
 
-impl Found for KnownLabels {
+impl FoundCosts for KnownCosts {
     ghost state = { λ f. standing f.nodes f.criteria f.node.0 };
 
     fn start(&self) -> NodeNo {
@@ -31,12 +31,8 @@ impl Found for KnownLabels {
         Cost::zero(self.criteria)
     }
 
-    fn arc(&self, node: NodeNo, cost: &Cost) -> Option<ArcNo> {
-        if node == self.node && *cost == Cost::zero(self.criteria) {
-            Some(ArcNo(0))
-        } else {
-            None
-        }
+    fn covers(&self, node: NodeNo, _cost: &Cost) -> bool {
+        node == self.node
     }
 
     fn longest(&self) -> u32 {

@@ -3,9 +3,8 @@ ghost use Rattle.road_network.specs.Queries.{IsQuery};
 use super::networks::{Drawn, DrawnArc, graph};
 use answer_writer::put_answer;
 use arc_graph::Network;
-use pareto_search::search;
-use path_readback::Room;
-use road_network::{AnswerKind, Found, MAX_BUDGET, Query, SearchFault};
+use bulk_search::find;
+use road_network::{AnswerKind, MAX_BUDGET, Query, SearchFault};
 use route_io::sure::SureSink;
 use route_io::{Gate, Phase};
 use std::alloc::Global;
@@ -13,6 +12,7 @@ use std::process::Abort;
 use std::sync::atomic::{AtomicU64, Ordering};
 use std::test::Fail;
 use std::thread::Threads;
+use walk_readback::{FoundCosts, Room};
 use work_claim::Workers;
 
 /// A graph, a query, its reply with walks, how many relevant pairs it has, and how many pieces its rounds relax and merge, worked
@@ -172,7 +172,7 @@ fn compare<R: Threads + Sync + Abort>(
     let query = query_of(rt, example, &network, example.relevant);
     let counts = no_pieces();
     let workers = Workers::new(rt, count, &counts);
-    let found = search(&workers, alloc, &network, &query)?;
+    let found = find(&workers, alloc, &network, &query)?;
     let pieces = (
         counts.relaxes.load(Ordering::SeqCst),
         counts.merges.load(Ordering::SeqCst),
@@ -192,7 +192,7 @@ fn compare<R: Threads + Sync + Abort>(
     let is_sent = sent.is_ok() && text.sent() == example.reply.as_bytes();
     assert!(rt; is_sent, "{name}: the reply");
     let less = query_of(rt, example, &network, example.relevant - 1);
-    let refused = search(&workers, alloc, &network, &less).err();
+    let refused = find(&workers, alloc, &network, &less).err();
     assert!(rt; refused == Some(SearchFault::Budget), "{name}: refusal");
     Ok(())
 }

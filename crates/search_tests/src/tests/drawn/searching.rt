@@ -5,17 +5,17 @@ use super::networks::{Drawn, draw, graph};
 use super::walks::{Sums, Walk, Wanted, enumerate, wanted_reply};
 use answer_writer::put_answer;
 use arc_graph::Network;
+use bulk_search::find;
 use cost_vector::{Cost, Limit};
-use pareto_search::search;
-use path_readback::Room;
 use plain_search::plain_search;
-use road_network::{AnswerKind, Found, MAX_BUDGET, Query, SearchFault};
+use road_network::{AnswerKind, MAX_BUDGET, Query, SearchFault};
 use route_io::OpenGate;
 use route_io::sure::SureSink;
 use std::alloc::Global;
 use std::process::Abort;
 use std::test::Fail;
 use std::thread::Threads;
+use walk_readback::{FoundCosts, Room};
 use work_claim::Workers;
 
 /// How many networks are drawn.
@@ -35,7 +35,7 @@ fn compare<R: Threads + Sync + Abort>(
     assert!(rt; 1 <= wanted.relevant && 1 <= count && count <= 64);
     let query = query_of(rt, drawn, &network, wanted.relevant);
     let workers = Workers::new(rt, count, &OpenGate);
-    let found = search(&workers, alloc, &network, &query)?;
+    let found = find(&workers, alloc, &network, &query)?;
     let mut room = Room::with(alloc, found.longest())?;
     let mut text = SureSink::new(alloc);
     let kind = AnswerKind::Walks;
@@ -43,7 +43,7 @@ fn compare<R: Threads + Sync + Abort>(
     let reply = wanted_reply(alloc, drawn, wanted)?;
     let is_sent = sent.is_ok() && text.sent() == reply.as_bytes();
     let less = query_of(rt, drawn, &network, wanted.relevant - 1);
-    let refused = search(&workers, alloc, &network, &less).err();
+    let refused = find(&workers, alloc, &network, &less).err();
     let is_refused = refused == Some(SearchFault::Budget);
     assert_both(rt, is_sent, is_refused, drawn.name, count);
     Ok(())

@@ -2,7 +2,7 @@ use Rattle.std.proofs.Common.{◌≡◌, Some, None, refl, sym, ap, subst, ◌�
 use Rattle.std.proofs.lemmas.Option.{same_Some}
 use Rattle.arc_graph.specs.Graph.{head_of}
 use Rattle.walk_readback.specs.GoingBack.{LeavesCovered}
-use Rattle.walk_readback.proofs.ReadbackLemmas.{fits_of_leaves, tail_is_node, leaves_by_minus, left_is_before, tail_is_covered}
+use Rattle.walk_readback.proofs.ReadbackLemmas.{fits_of_leaves, tail_is_node, left_below_settled, leaves_by_minus, left_is_before, tail_is_covered}
 use Rattle.walk_readback.proofs.readback.cost_before.Goals as goal
 
 pub returns-in_err-before : goal.returns-in_err-before
@@ -17,6 +17,12 @@ pub covers-requires-clause-node : goal.covers-requires-clause-node
 covers-requires-clause-node g c =
     rw (c.tail.ensures, c.requires.nodes)
     (tail_is_node c.args.network.now (g.F.FoundCosts.state c.args.found.now) c.args.cost.now c.args.arc c.requires.counted c.requires.there c.nodes.ensures.network.network)
+
+pub covers-requires-clause-below : goal.covers-requires-clause-below
+covers-requires-clause-below g c =
+    let count = c.requires.count ∙ sym c.in_ok-by.ensures.vector.whole in
+    left_below_settled (g.F.FoundCosts.state c.args.found.now) c.args.cost.now c.in_ok-before.before _ c.requires.below
+    (c.in_ok-before.ensures.same_count ∙ count) c.in_ok-before.ensures.difference
 
 pub returns-then-not-covers : goal.returns-then-not-covers
 returns-then-not-covers g c = λ b. (

@@ -1,7 +1,7 @@
 use Rattle.std.proofs.Common.{◌≡◌, ◌+◌, [], ◌∷◌, length, ap, ◌∙◌, arith}
 use Rattle.std.specs.Option.{option_map}
 use Rattle.std.proofs.lemmas.List.{length-append}
-use Rattle.walk_readback.proofs.ReadbackLemmas.{reading_begins, reading_goes_on, reading_ends, arc_is_there, is_room, cost_counts, comes_to_node}
+use Rattle.walk_readback.proofs.ReadbackLemmas.{reading_begins, reading_goes_on, reading_ends, arc_is_there, is_room, below_settled, cost_counts, comes_to_node}
 use Rattle.walk_readback.proofs.readback.walk.Goals as goal
 
 pub arcs-init : goal.arcs-init
@@ -20,6 +20,10 @@ step_back-requires-clause-node g c =
 pub step_back-requires-clause-count : goal.step_back-requires-clause-count
 step_back-requires-clause-count g c =
     cost_counts c.args.network.now (g.F.FoundCosts.state c.args.found.now) c.args.i c.clear.new.self.holds c.arcs.node.0 c.arcs.cost c.arcs.room.arcs c.arcs.invariant.0
+
+pub step_back-requires-clause-below : goal.step_back-requires-clause-below
+step_back-requires-clause-below g c =
+    below_settled c.args.network.now (g.F.FoundCosts.state c.args.found.now) c.args.i c.clear.new.self.holds c.arcs.node.0 c.arcs.cost c.arcs.room.arcs c.arcs.invariant.0
 
 pub push-requires : goal.push-requires
 push-requires g c =

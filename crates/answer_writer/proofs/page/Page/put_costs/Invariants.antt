@@ -4,4 +4,4 @@ use Rattle.answer_writer.proofs.page.Page.put_costs.Given as goal
 
 -- the first ones were gathered
 abbrev pub invariant-loop-i : goal.invariant-loop-i
-invariant-loop-i g l = HoldsFirst cost_line (g.F.Found.state l.found).costs (g.K.Sink.state l.fn.sink) (g.K.Sink.state l.sink) l.fn.self l.i l.self
+invariant-loop-i g l = HoldsFirst cost_line (g.F.FoundCosts.state l.found).costs (g.K.Sink.state l.fn.sink) (g.K.Sink.state l.sink) l.fn.self l.i l.self

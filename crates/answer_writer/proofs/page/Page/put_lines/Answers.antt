@@ -3,7 +3,7 @@ use Rattle.answer_writer.proofs.page.Page.put_lines.Goals as goal
 
 pub returns-in-Costs : goal.returns-in-Costs
 returns-in-Costs g c = λ limit routes well answer.
-    let lines = same_lines c.args.network.now limit (g.F.Found.state c.args.found.now) c.requires.found well routes answer in
+    let lines = same_lines c.args.network.now limit (g.F.FoundCosts.state c.args.found.now) c.requires.found well routes answer in
     rw (c.in-Costs.is, lines) c.put_costs.ensures
 
 pub returns-in-Walks : goal.returns-in-Walks

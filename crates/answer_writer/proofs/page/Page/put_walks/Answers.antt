@@ -9,7 +9,7 @@ pub loop-i-preserved : goal.loop-i-preserved
 loop-i-preserved g c = (
   omega (arith, c.loop-i.invariant.0, c.walk.ensures.room),
   λ limit routes well answer.
-      one_route_more c.args.network.now limit (g.F.Found.state c.args.found.now) c.cost-cost.ensures.found well routes answer
+      one_route_more c.args.network.now limit (g.F.FoundCosts.state c.args.found.now) c.cost-cost.ensures.found well routes answer
       c.loop-i.i c.cost-cost.result c.arcs.result.now c.walk.new.room.arcs c.arcs.ensures c.cost-cost.ensures.value c.walk.ensures.least
       _ _ _ c.args.self.now c.loop-i.self (c.loop-i.invariant.1 limit routes well answer) c.put_walk.new.self c.in_ok-put_walk.ensures,
 )
@@ -17,12 +17,12 @@ loop-i-preserved g c = (
 pub returns-in_err-put_walk : goal.returns-in_err-put_walk
 returns-in_err-put_walk g c = λ limit routes well answer.
     let p = err_from_is_err_and c.from_residual.result c.from_residual.ensures.1 in
-    rw (p.1, p.2) (route_cut c.args.network.now limit (g.F.Found.state c.args.found.now) c.cost-cost.ensures.found well routes answer
+    rw (p.1, p.2) (route_cut c.args.network.now limit (g.F.FoundCosts.state c.args.found.now) c.cost-cost.ensures.found well routes answer
     c.loop-i.i c.cost-cost.result c.arcs.result.now c.walk.new.room.arcs c.arcs.ensures c.cost-cost.ensures.value c.walk.ensures.least
     _ _ _ c.args.self.now c.loop-i.self (c.loop-i.invariant.1 limit routes well answer) _ c.in_err-put_walk.ensures)
 
 pub returns : goal.returns
 returns g c = λ limit routes well answer.
-    let count = same_count c.args.network.now limit (g.F.Found.state c.args.found.now) c.count-i-end.ensures.found well routes answer in
+    let count = same_count c.args.network.now limit (g.F.FoundCosts.state c.args.found.now) c.count-i-end.ensures.found well routes answer in
     all_held walk_line routes _ _ c.args.self.now c.loop-i.i c.loop-i.self
     (omega (arith, c.loop-i-test.false, c.count-i-end.ensures.value, count)) (c.loop-i.invariant.1 limit routes well answer)

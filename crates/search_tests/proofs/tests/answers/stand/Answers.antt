@@ -1,6 +1,6 @@
 use Rattle.std.proofs.Common.{◌≡◌, length, sym, subst}
 use Rattle.road_network.specs.Queries.{limit_or_none}
-use Rattle.search_tests.proofs.KnownLabelsLemmas.{stands_well}
+use Rattle.search_tests.proofs.KnownCostsLemmas.{stands_well}
 use Rattle.search_tests.proofs.tests.answers.stand.Goals as goal
 
 pub put_answer-requires-clause-well_found : goal.put_answer-requires-clause-well_found

@@ -1,0 +1,10 @@
+pub mod ListLemmas
+pub mod LimitLemmas
+pub mod DominatingLemmas
+pub mod OpenLemmas
+pub mod StartLemmas
+pub mod SettlingLemmas
+pub mod KeptLemmas
+pub mod BeginLemmas
+pub mod FinishLemmas
+pub mod WidenLemmas

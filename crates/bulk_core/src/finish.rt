@@ -1,0 +1,28 @@
+ghost use Rattle.std.specs.Prelude.{map, All, IfOk};
+ghost use Rattle.bulk_rounds.specs.Cores.{SameSearch};
+ghost use Rattle.bulk_rounds.specs.Finishes.{FinishesRound, PutsAll};
+ghost use Rattle.bulk_rounds.specs.Kept.{IsKeptItem};
+ghost use Rattle.waiting_queue.specs.Waiting.{as_waiting};
+
+use crate::Core;
+use crate::settled::list_open;
+use out_of_memory::OutOfMemory;
+use settled_front::SettledFront;
+use waiting_queue::Item;
+
+impl<const D: usize, F: SettledFront<D>> Core<D, F> {
+    /// Ends the round with what its spots give along their arcs. What is spent is left out; nothing is compared with what
+    /// waits.
+    pub fn finish(&mut self, candidates: &[Item<F::Cost>]) -> Result<(), OutOfMemory>
+        requires { All (IsKeptItem self.old) (map (as_waiting F.Cost.components) candidates.now) }
+        ensures same_search { SameSearch self.old self.new }
+        ensures put { IfOk result (λ _.
+            PutsAll (map (as_waiting F.Cost.components) candidates.now) self.old self.new) }
+        ensures finished { IfOk result (λ _.
+            FinishesRound (map (as_waiting F.Cost.components) candidates.now) self.old self.new) }
+    {
+        list_open(&self.settled, candidates, &mut self.fresh)?;
+        self.taken.clear();
+        Ok(())
+    }
+}

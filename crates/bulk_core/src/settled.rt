@@ -1,0 +1,233 @@
+ghost use Rattle.std.specs.Prelude.{◌≡◌, ℕ, ◌+◌, ◌-◌, ◌^◌, ◌<◌, ◌≤◌, ◌↔◌, List, Option, [], ◌∷◌, length, map, All, IfOk, IsPermutation, IsTrue, OnErr};
+ghost use Rattle.bulk_core.specs.Settled.{Appends, AppendsOpen, CanSettle, IsBarredBy, HasDominating, HasDominatingAt, IsGreatestWithin, IsSpentBy, SameBounds, SettlesFirst};
+ghost use Rattle.cost_vector.specs.Costs.{Dominates, Within, max_criteria, min_criteria};
+ghost use Rattle.road_network.specs.Limits.{max_budget, max_nodes};
+ghost use Rattle.road_network.specs.Network.{IsNode};
+ghost use Rattle.settled_front.specs.Fronts.{IsCovered};
+ghost use Rattle.settled_fronts.specs.NodeFronts.{costs_at, SameElsewhere};
+ghost use Rattle.waiting_queue.specs.Waiting.{AreCriteria, spot_in};
+
+use cost_vector::{CompactCost, Limit, NodeNo};
+use out_of_memory::OutOfMemory;
+use settled_front::{NarrowFront, SettledFront};
+use settled_fronts::Fronts;
+use std::alloc::Global;
+use std::marker::Model;
+use stored_cost::StoredCost;
+use waiting_queue::{Item, Look};
+
+/// The settled costs of all nodes, the target and the limit: they tell which spots are spent.
+///
+/// Of it whoever relaxes arcs asks only `is_open`; while a round is open it doesn't change.
+#[derive(Drop)]
+pub struct Settled<const D: usize, F: SettledFront<D>> {
+    target: NodeNo,
+    limit: Limit,
+    /// The greatest cost within the limit that has 64 bits in each component.
+    most: CompactCost<D>,
+    fronts: Fronts<D, F>,
+}
+
+impl<const D: usize, F: SettledFront<D>> Model for Settled<D, F> {
+    ghost use Rattle.bulk_core.specs.Settled.{AreBounds, Settled};
+
+    ghost Value = { Settled };
+
+    ghost view = { λ s. record {
+      target = s.target.0;
+      limit = s.limit;
+      fronts = s.fronts;
+    } };
+
+    ghost invariant = { λ s. AreBounds D s.target.0 s.limit s.most.0 s.fronts };
+}
+
+impl<const D: usize, F: SettledFront<D>> Settled<D, F> {
+    /// Nothing is settled yet.
+    pub(crate) fn new(
+        alloc: Global,
+        nodes: u32,
+        target: NodeNo,
+        limit: &Limit,
+    ) -> Result<Settled<D, F>, OutOfMemory>
+        requires two { min_criteria ≤ D }
+        requires four { D ≤ max_criteria }
+        requires nodes { nodes ≤ max_nodes }
+        requires target { IsNode nodes target.0 }
+        requires limit { length limit.now ≡ D }
+        ensures target { IfOk result (λ s. s.target ≡ target.0) }
+        ensures limit { IfOk result (λ s. s.limit ≡ limit.now) }
+        ensures nodes { IfOk result (λ s. s.fronts.nodes ≡ nodes) }
+        ensures none { IfOk result (λ s. (v : ℕ) → costs_at s.fronts v ≡ []) }
+    {
+        Ok(Settled {
+            target,
+            limit: *limit,
+            most: greatest_within(limit),
+            fronts: Fronts::new(alloc, nodes)?,
+        })
+    }
+
+    /// Whether a cost is beyond the limit, or dominated by a settled cost of the target.
+    pub(crate) fn bars(&self, cost: &F::Cost) -> bool
+        ensures { IsTrue result ↔ IsBarredBy self.now (F.Cost.components cost.now) }
+    {
+        !is_within(&self.most, &cost.to_compact())
+            || has_dominating::<D, F>(self.fronts.front(self.target), cost)
+    }
+
+    /// Settles a cost of a node.
+    pub(crate) fn push(&mut self, node: NodeNo, cost: &F::Cost) -> Result<(), OutOfMemory>
+        requires node { IsNode self.old.fronts.nodes node.0 }
+        requires uncovered { ¬ IsCovered (costs_at self.old.fronts node.0)
+            (F.Cost.components cost.now) }
+        requires spares { All (λ c. ¬ Dominates (F.Cost.components cost.now) c)
+            (costs_at self.old.fronts node.0) }
+        ensures bounds { SameBounds self.old self.new }
+        ensures elsewhere { SameElsewhere node.0 self.old.fronts self.new.fronts }
+        ensures pushed { IfOk result (λ _. IsPermutation
+            (F.Cost.components cost.now ∷ costs_at self.old.fronts node.0)
+            (costs_at self.new.fronts node.0)) }
+        ensures same { OnErr result
+            (costs_at self.new.fronts node.0 ≡ costs_at self.old.fronts node.0) }
+    {
+        self.fronts.push(node, cost)
+    }
+
+    /// All that is settled.
+    pub(crate) fn into_fronts(self) -> Fronts<D, F>
+        ensures { result ≡ self.fronts }
+    {
+        self.fronts
+    }
+}
+
+impl<const D: usize, F: NarrowFront<D>> Settled<D, F> {
+    /// The same, with room for greater costs.
+    pub(crate) fn widen(&self, alloc: Global) -> Result<Settled<D, F::Wide>, OutOfMemory>
+        requires { F.Cost.Part.bound ≤ F.Wide.Cost.Part.bound }
+        ensures { IfOk result (λ wide. wide ≡ self.now) }
+    {
+        Ok(Settled {
+            target: self.target,
+            limit: self.limit,
+            most: self.most,
+            fronts: self.fronts.widen(alloc)?,
+        })
+    }
+}
+
+impl<const D: usize, F: SettledFront<D>> Look<D, F::Cost> for Settled<D, F> {
+    ghost IsOpen = { λ s x. ¬ IsSpentBy s x };
+
+    fn is_open(&self, item: &Item<F::Cost>) -> bool {
+        !self.fronts.covers(item.node, &item.cost) && !self.bars(&item.cost)
+    }
+}
+
+/// Settles these spots one after another, and counts them.
+pub(crate) fn settle_all<const D: usize, F: SettledFront<D>>(
+    settled: &mut Settled<D, F>,
+    count: &mut usize,
+    items: &[Item<F::Cost>],
+) -> Result<(), OutOfMemory>
+    requires apart { CanSettle settled.old (map (spot_in F.Cost.components) items.now) }
+    requires few { count.old + length items.now ≤ max_budget }
+    ensures some { SettlesFirst settled.old settled.new
+        (map (spot_in F.Cost.components) items.now) (count.new - count.old) }
+    ensures counted { count.old ≤ count.new }
+    ensures within { count.new ≤ count.old + length items.now }
+    ensures all { IfOk result (λ _. count.new ≡ count.old + length items.now) }
+{
+    for item in items {
+        settled.push(item.node, &item.cost)?;
+        *count += 1;
+    }
+    Ok(())
+}
+
+/// Lists those of the candidates that are open behind what is there.
+pub(crate) fn list_open<const D: usize, F: SettledFront<D>>(
+    settled: &Settled<D, F>,
+    candidates: &[Item<F::Cost>],
+    list: &mut Vec<Item<F::Cost>>,
+) -> Result<(), OutOfMemory>
+    ensures some { Appends candidates.now list.old.items list.new.items }
+    ensures all { IfOk result (λ _. AppendsOpen
+        (λ i. ¬ IsSpentBy settled.now (spot_in F.Cost.components i))
+        candidates.now list.old.items list.new.items) }
+{
+    for item in candidates {
+        if settled.is_open(item) {
+            list.push(*item)?;
+        }
+    }
+    Ok(())
+}
+
+/// Whether some cost of the front dominates this one: where it does, it is at most the cost that is by one less in some
+/// component.
+fn has_dominating<const D: usize, F: SettledFront<D>>(front: &F, cost: &F::Cost) -> bool
+    requires { AreCriteria D }
+    ensures { IsTrue result ↔ HasDominating (F.costs front.now) (F.Cost.components cost.now) }
+{
+    if !front.covers(cost) {
+        return false;
+    }
+    for k in 0..D {
+        if covers_less::<D, F>(front, cost, k) {
+            return true;
+        }
+    }
+    false
+}
+
+/// Whether some cost of the front is at most this one, and less in the component at `k`.
+fn covers_less<const D: usize, F: SettledFront<D>>(front: &F, cost: &F::Cost, k: usize) -> bool
+    requires criteria { AreCriteria D }
+    requires place { k < D }
+    ensures long { length (F.Cost.components cost.now) ≡ D }
+    ensures test { IsTrue result ↔ HasDominatingAt (F.costs front.now) (F.Cost.components cost.now) k }
+{
+    let mut numbers = cost.to_compact().0;
+    if numbers[k] == 0 {
+        return false;
+    }
+    numbers[k] -= 1;
+    front.covers(&F::Cost::of(&numbers))
+}
+
+/// Whether the cost is within the limit of this greatest cost.
+fn is_within<const D: usize>(most: &CompactCost<D>, cost: &CompactCost<D>) -> bool
+    ensures { (limit : List (Option ℕ)) → IsGreatestWithin limit most.now.0
+        → IsTrue result ↔ Within limit cost.now.0 }
+{
+    // Whoever reads the components knows how many they are.
+    let _ = most.0.iter();
+    let _ = cost.0.iter();
+    let mut none_greater = true;
+    for (i, component) in cost.0.iter().enumerate() {
+        none_greater &= is_at_most(*component, most.0[i]);
+    }
+    none_greater
+}
+
+/// Whether a component, which has 64 bits, isn't greater.
+fn is_at_most(component: u64, most: u64) -> bool
+    ensures test { IsTrue result ↔ (component ≤ most) }
+    ensures fits { component < 2 ^ 64 }
+{
+    component <= most
+}
+
+/// The limit as a cost: where it has no bound, the component is as great as can be.
+fn greatest_within<const D: usize>(limit: &Limit) -> CompactCost<D>
+    requires { length limit.now ≡ D }
+    ensures { IsGreatestWithin limit.now result.0 }
+{
+    let mut most = [u64::MAX; D];
+    for (i, component) in most.iter_mut().enumerate() {
+        *component = limit.place(i).unwrap_or(u64::MAX);
+    }
+    CompactCost(most)
+}

@@ -1,0 +1,5 @@
+pub mod TaskLemmas
+pub mod RunLemmas
+pub mod LoopLemmas
+pub mod OnwardLemmas
+pub mod FindsLemmas

@@ -1,0 +1,5 @@
+pub mod Findings
+pub mod Answers
+pub mod Counting
+pub mod Rounds
+pub mod Widths

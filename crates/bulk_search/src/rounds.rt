@@ -1,0 +1,270 @@
+ghost use Rattle.std.specs.Prelude.{◌≡◌, ◌^◌, ◌<◌, [], map, Err, IfOk};
+ghost use Rattle.bulk_rounds.specs.Begins.{BeginsAs, CountsRound};
+ghost use Rattle.bulk_rounds.specs.Cores.{IsNewSearch};
+ghost use Rattle.bulk_rounds.specs.Standing.{IsSearchOf};
+ghost use Rattle.found_fronts.specs.FoundAtWidth.{found_of as found_at_width};
+ghost use Rattle.road_network.specs.Queries.{IsQuery, limit_of};
+ghost use Rattle.round_work.specs.declared.fault.RelaxFault.TheVariants as fault;
+ghost use Rattle.waiting_queue.specs.Waiting.{as_waiting};
+ghost use Rattle.bulk_search.specs.Counting.{task_of};
+ghost use Rattle.bulk_search.specs.Rounds.{EndsOver, FindsAll, IsOpen, KeepsEnough};
+ghost use Rattle.bulk_search.specs.Widths.{core_of};
+
+use arc_graph::Network;
+use bulk_core::Core;
+use bulk_rounds::Begun;
+use cost_vector::NodeNo;
+use found_fronts::{FoundAtWidth, FoundFronts};
+use out_of_memory::OutOfMemory;
+use road_network::Query;
+use round_work::{Marks, RelaxFault, merge, relax};
+use route_io::Gate;
+use settled_front::{NarrowFront, SettledFront};
+use std::alloc::Global;
+use std::sync::ledger::Ledger;
+use std::thread::Threads;
+use stored_cost::{NarrowCost, StoredCost, WideCost};
+use waiting_queue::{Item, Look, Steps};
+use work_claim::Workers;
+
+/// A search by rounds at one width, and room for what each of them gives.
+#[derive(Drop)]
+pub(crate) struct WidthRounds<const D: usize, F: SettledFront<D>> {
+    pub(crate) core: Core<D, F>,
+    candidates: Vec<Item<F::Cost>>,
+    marks: Marks,
+}
+
+impl<const D: usize, F: SettledFront<D>> WidthRounds<D, F> {
+    /// A search in which no round was made.
+    fn new(
+        alloc: Global,
+        network: &Network<'_>,
+        query: &Query,
+    ) -> Result<WidthRounds<D, F>, OutOfMemory>
+        requires query { IsQuery network.now query.now }
+        requires criteria { network.now.criteria ≡ D }
+        requires room { 0 < F.Cost.Part.bound }
+        ensures { IfOk result (λ rounds. IsNewSearch network.now.nodes D query.now.from query.now.to
+            (limit_of network.now.criteria query.now) query.now.budget rounds.core) }
+    {
+        let (nodes, criteria) = (network.nodes(), network.criteria());
+        prove!(criteria == D);
+        let core = Core::new(
+            alloc,
+            nodes,
+            NodeNo(query.from),
+            NodeNo(query.to),
+            &query.limit_in(criteria),
+            query.budget,
+        )?;
+        Ok(WidthRounds {
+            core,
+            candidates: Vec::new(alloc),
+            marks: Marks::new(alloc, nodes)?,
+        })
+    }
+}
+
+impl<const D: usize, F: SettledFront<D> + Sync> WidthRounds<D, F>
+where
+    F::Cost: Send + Sync,
+    <F::Cost as StoredCost<D>>::Part: Send + Sync,
+{
+    /// Ends the open round: relaxes the arcs of what it has taken, but for those that lead straight back, and puts what they
+    /// give into the queue. Where a cost has no room at this width, all is as it was.
+    fn finish<R: Threads + Sync, G: Gate>(
+        &mut self,
+        workers: &Workers<'_, R, G>,
+        alloc: Global,
+        network: &Network<'_>,
+    ) -> Result<(), RelaxFault>
+        requires criteria { network.now.criteria ≡ D }
+        requires is_open { IsOpen network.now self.old.core }
+        ensures ended { IfOk result (λ _. EndsOver network.now self.old.core self.new.core) }
+        ensures same { result ≡ Err fault.TooWide → self.new.core ≡ self.old.core }
+        ensures narrow { result ≡ Err fault.TooWide → F.Cost.Part.bound < 2 ^ 63 }
+    {
+        prove!(network.nodes() >= 1);
+        prove!(network.criteria() == D);
+        let taken = self.core.taken();
+        let workers = &workers.for_labels(taken.len());
+        relax(workers, alloc, network, taken, &mut self.candidates)?;
+        let settled = self.core.settled();
+        keep_survivors(
+            workers,
+            alloc,
+            settled,
+            &mut self.marks,
+            &mut self.candidates,
+        )?;
+        self.core.finish(&self.candidates)?;
+        Ok(())
+    }
+}
+
+impl<const D: usize, F: NarrowFront<D> + SettledFront<D, Cost = NarrowCost<D>>> WidthRounds<D, F>
+where
+    F::Cost: StoredCost<D, Part = u32>,
+    F::Wide: SettledFront<D, Cost = WideCost<D>>,
+    <F::Wide as SettledFront<D>>::Cost: StoredCost<D, Part = u64>,
+{
+    /// The same search, with room for greater costs.
+    fn widen(self, alloc: Global) -> Result<WidthRounds<D, F::Wide>, OutOfMemory>
+        ensures { IfOk result (λ wide. wide.core ≡ self.core) }
+    {
+        let core = self.core.widen(alloc)?;
+        Ok(WidthRounds {
+            core,
+            candidates: Vec::new(alloc),
+            marks: self.marks,
+        })
+    }
+}
+
+/// A search by rounds, with costs in 32 bits a component as long as there is room.
+#[derive(Drop)]
+pub(crate) enum Rounds<const D: usize, F: NarrowFront<D>> {
+    Narrow(WidthRounds<D, F>),
+    Wide(WidthRounds<D, F::Wide>),
+}
+
+impl<const D: usize, F: NarrowFront<D> + SettledFront<D, Cost = NarrowCost<D>>> Rounds<D, F>
+where
+    F::Cost: StoredCost<D, Part = u32>,
+{
+    /// A search in which no round was made.
+    pub(crate) fn new(
+        alloc: Global,
+        network: &Network<'_>,
+        query: &Query,
+    ) -> Result<Rounds<D, F>, OutOfMemory>
+        requires query { IsQuery network.now query.now }
+        requires criteria { network.now.criteria ≡ D }
+        ensures { IfOk result (λ rounds. IsNewSearch network.now.nodes D query.now.from query.now.to
+            (limit_of network.now.criteria query.now) query.now.budget (core_of rounds)) }
+    {
+        let rounds = WidthRounds::new(alloc, network, query)?;
+        Ok(Rounds::Narrow(rounds))
+    }
+
+    /// Begins a round.
+    pub(crate) fn begin<L: Ledger>(&mut self, steps: &mut Steps<L>) -> Result<Begun, OutOfMemory>
+        requires { (core_of self.old).taken ≡ [] }
+        ensures begun { IfOk result (BeginsAs (core_of self.old) (core_of self.new)) }
+        ensures steps { CountsRound (core_of self.old) result steps.old steps.new }
+    {
+        match self {
+            Rounds::Narrow(rounds) => rounds.core.begin(steps),
+            Rounds::Wide(rounds) => rounds.core.begin(steps),
+        }
+    }
+
+    /// What was found, once no spot is open any more.
+    pub(crate) fn into_found(
+        self,
+        alloc: Global,
+        network: &Network<'_>,
+        query: &Query,
+    ) -> Result<FoundAtWidth<D, F>, OutOfMemory>
+        requires search { IsSearchOf (task_of network.now query.now) (core_of self) }
+        requires none_waits { (core_of self).queue ≡ [] }
+        requires none_taken { (core_of self).taken ≡ [] }
+        ensures all { IfOk result (λ f. FindsAll (core_of self) (found_at_width f)) }
+        ensures criteria { IfOk result (λ f. (found_at_width f).criteria ≡ D) }
+    {
+        let (start, target) = (NodeNo(query.from), NodeNo(query.to));
+        match self {
+            Rounds::Narrow(rounds) => {
+                let fronts = rounds.core.into_found();
+                let found = FoundFronts::new(alloc, fronts, start, target)?;
+                Ok(FoundAtWidth::Narrow(found))
+            }
+            Rounds::Wide(rounds) => {
+                let fronts = rounds.core.into_found();
+                let found = FoundFronts::new(alloc, fronts, start, target)?;
+                Ok(FoundAtWidth::Wide(found))
+            }
+        }
+    }
+}
+
+impl<const D: usize, F: NarrowFront<D> + SettledFront<D, Cost = NarrowCost<D>> + Sync> Rounds<D, F>
+where
+    F::Cost: StoredCost<D, Part = u32> + Send + Sync,
+    F::Wide: SettledFront<D, Cost = WideCost<D>> + Sync,
+    <F::Wide as SettledFront<D>>::Cost: StoredCost<D, Part = u64> + Send + Sync,
+{
+    /// Ends the open round, with wider costs where there is no room for what it gives.
+    pub(crate) fn finish<R: Threads + Sync, G: Gate>(
+        self,
+        workers: &Workers<'_, R, G>,
+        alloc: Global,
+        network: &Network<'_>,
+    ) -> Result<Rounds<D, F>, OutOfMemory>
+        requires criteria { network.now.criteria ≡ D }
+        requires is_open { IsOpen network.now (core_of self) }
+        ensures { IfOk result (λ after. EndsOver network.now (core_of self) (core_of after)) }
+    {
+        prove!(network.criteria() == D);
+        match self {
+            Rounds::Narrow(mut rounds) => match rounds.finish(workers, alloc, network) {
+                Ok(()) => Ok(Rounds::Narrow(rounds)),
+                Err(RelaxFault::TooWide) => {
+                    finish_wide(rounds.widen(alloc)?, workers, alloc, network)
+                }
+                Err(RelaxFault::OutOfMemory) => Err(OutOfMemory),
+            },
+            Rounds::Wide(rounds) => finish_wide(rounds, workers, alloc, network),
+        }
+    }
+}
+
+/// Ends the open round where costs have 64 bits a component: there is room for all of them.
+fn finish_wide<const D: usize, F: NarrowFront<D>, R: Threads + Sync, G: Gate>(
+    mut rounds: WidthRounds<D, F::Wide>,
+    workers: &Workers<'_, R, G>,
+    alloc: Global,
+    network: &Network<'_>,
+) -> Result<Rounds<D, F>, OutOfMemory>
+where
+    F::Wide: SettledFront<D, Cost = WideCost<D>> + Sync,
+    <F::Wide as SettledFront<D>>::Cost: StoredCost<D, Part = u64> + Send + Sync,
+    requires criteria { network.now.criteria ≡ D }
+    requires is_open { IsOpen network.now rounds.core }
+    ensures { IfOk result (λ after. EndsOver network.now rounds.core (core_of after)) }
+{
+    match rounds.finish(workers, alloc, network) {
+        Ok(()) => Ok(Rounds::Wide(rounds)),
+        Err(RelaxFault::OutOfMemory) => Err(OutOfMemory),
+        Err(RelaxFault::TooWide) => unreachable!(),
+    }
+}
+
+/// Where several work, they leave out what isn't open and what other open candidates of its node dominate. One alone leaves all,
+/// and passes the same pieces.
+fn keep_survivors<
+    const D: usize,
+    C: StoredCost<D> + Send + Sync,
+    K: Look<D, C> + Sync,
+    R: Threads + Sync,
+    G: Gate,
+>(
+    workers: &Workers<'_, R, G>,
+    alloc: Global,
+    look: &K,
+    marks: &mut Marks,
+    candidates: &mut Vec<Item<C>>,
+) -> Result<(), OutOfMemory>
+where
+    C::Part: Send + Sync,
+    ensures { IfOk result (λ _. KeepsEnough (K.IsOpen look.now)
+        (map (as_waiting C.components) candidates.old.items)
+        (map (as_waiting C.components) candidates.new.items)) }
+{
+    if workers.count() == 1 {
+        marks.pass_nodes(workers, candidates);
+        return Ok(());
+    }
+    merge(workers, alloc, look, candidates)
+}

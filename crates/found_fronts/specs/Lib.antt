@@ -1,0 +1,2 @@
+pub mod FoundFronts
+pub mod FoundAtWidth

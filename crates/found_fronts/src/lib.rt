@@ -1,0 +1,8 @@
+//! What a search has found, in the fronts of all nodes: its costs, and what a walk is read back from.
+#![tactic(auto)]
+
+mod found;
+mod width;
+
+pub use found::FoundFronts;
+pub use width::FoundAtWidth;

@@ -1,9 +1,0 @@
-use Rattle.std.proofs.Common.{length, map}
-use Rattle.front_merge.proofs.GroupLemmas.{IsCutting}
-use Rattle.front_merge.proofs.groups.list_groups.Given as goal
-
-abbrev pub invariant-loop-rest : goal.invariant-loop-rest
-invariant-loop-rest g l = IsCutting l.candidates (map (λ group. group.now) l.groups.items) l.rest
-
-abbrev pub decreases-loop-rest : goal.decreases-loop-rest
-decreases-loop-rest g l = length l.rest

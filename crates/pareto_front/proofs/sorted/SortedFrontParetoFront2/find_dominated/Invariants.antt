@@ -1,6 +1,0 @@
-use Rattle.pareto_front.specs.Calls.{GrowsBy}
-use Rattle.pareto_front.proofs.GrowsLaws.{DominatedBefore}
-use Rattle.pareto_front.proofs.sorted.SortedFrontParetoFront2.find_dominated.Given as goal
-
-abbrev pub invariant-loop-entry : goal.invariant-loop-entry
-invariant-loop-entry l = GrowsBy l.by.node.0 (DominatedBefore l.by.cost.0 l.entry-items l.entry-index) l.fn.found.items l.found.items

@@ -1,9 +1,0 @@
-pub mod ExtractionLemmas
-pub mod ListLemmas
-pub mod OrderLemmas
-pub mod PartingLemmas
-pub mod PassingLemmas
-pub mod QueueLemmas
-pub mod RetainedLemmas
-pub mod ShadowLemmas
-pub mod WithoutLemmas

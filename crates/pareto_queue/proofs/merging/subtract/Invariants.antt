@@ -1,8 +1,0 @@
-use Rattle.std.proofs.Common.{drop, take}
-use Rattle.std.specs.Prelude.{Contains}
-use Rattle.pareto_queue.proofs.PassingLemmas.{IsUnderWay}
-use Rattle.pareto_queue.proofs.merging.subtract.Given as goal
-
-abbrev pub invariant-loop-spot : goal.invariant-loop-spot
-invariant-loop-spot g l =
-    IsUnderWay (λ x. Contains l.spots x × (¬ Contains (take l.spot-index l.gone) x)) l.rest.items l.left (drop l.spot-index l.gone)

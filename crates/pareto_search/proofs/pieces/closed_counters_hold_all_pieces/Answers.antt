@@ -1,4 +1,0 @@
-use Rattle.pareto_search.proofs.pieces.closed_counters_hold_all_pieces.Goals as goal
-
-pub returns : goal.returns
-returns c = λ pieces numbers events once done. record { drawn = once; done = done }

@@ -1,2 +1,0 @@
-pub mod WellFoundLaws
-pub mod ReadbackLemmas

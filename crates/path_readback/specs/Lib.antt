@@ -1,2 +1,0 @@
-pub mod WellFound
-pub mod Room

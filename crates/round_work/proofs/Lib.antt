@@ -1,0 +1,5 @@
+pub mod GroupLemmas
+pub mod OnwardLemmas
+pub mod OpenLemmas
+pub mod RunLemmas
+pub mod SurvivorLemmas

@@ -1,0 +1,4 @@
+pub mod Groups
+pub mod Onward
+pub mod Pieces
+pub mod Survivors

@@ -1,0 +1,97 @@
+ghost use Rattle.std.specs.Prelude.{◌≡◌, ◌^◌, ◌<◌, length, map, All, Err, IfOk};
+ghost use Rattle.road_network.specs.Network.{IsNode};
+ghost use Rattle.waiting_queue.specs.Waiting.{as_waiting};
+ghost use Rattle.round_work.specs.Onward.{HaveRoom, IsTooWide, onward_of};
+ghost use Rattle.round_work.specs.Pieces.{Appends, AreReady, onward_in};
+ghost use Rattle.round_work.specs.declared.fault.RelaxFault.TheVariants as fault;
+
+use crate::RelaxFault;
+use crate::pieces::TakenItems;
+use arc_graph::Network;
+use route_io::{Gate, Phase};
+use std::alloc::Global;
+use std::thread::Threads;
+use stored_cost::StoredCost;
+use waiting_queue::Item;
+use work_claim::{Workers, run_pieces};
+
+/// The candidates that the taken items give, in the order of the items, for every number of workers: for each arc that leads
+/// from an item's node, isn't shut and doesn't lead straight back, in ascending order, the arc's head at the item's cost with
+/// the arc's vector added. What the list held before is gone; it keeps its memory. Each run of 64 items is a piece of work.
+pub fn relax<const D: usize, C: StoredCost<D> + Send + Sync, R: Threads + Sync, G: Gate>(
+    workers: &Workers<'_, R, G>,
+    alloc: Global,
+    network: &Network<'_>,
+    taken: &[Item<C>],
+    candidates: &mut Vec<Item<C>>,
+) -> Result<(), RelaxFault>
+where
+    C::Part: Send + Sync,
+    requires criteria { network.now.criteria ≡ D }
+    requires few { length taken.now < 2 ^ 32 }
+    requires nodes { All (λ i. IsNode network.now.nodes i.node.0) taken.now }
+    ensures candidates { IfOk result (λ _. map (as_waiting C.components) candidates.new.items
+        ≡ onward_of network.now (map (as_waiting C.components) taken.now)) }
+    ensures room { IfOk result (λ _. HaveRoom C.Part.bound
+        (onward_of network.now (map (as_waiting C.components) taken.now))) }
+    ensures too_wide { result ≡ Err fault.TooWide → IsTooWide C.Part.bound
+        (onward_of network.now (map (as_waiting C.components) taken.now)) }
+{
+    candidates.clear();
+    let items = TakenItems {
+        alloc,
+        network,
+        taken,
+    };
+    if workers.count() == 1 {
+        return relax_alone(workers, &items, candidates);
+    }
+    relax_together(workers, alloc, &items, candidates)
+}
+
+/// Appends the candidates piece by piece.
+fn relax_alone<const D: usize, C: StoredCost<D>, R, G: Gate>(
+    workers: &Workers<'_, R, G>,
+    items: &TakenItems<'_, D, C>,
+    candidates: &mut Vec<Item<C>>,
+) -> Result<(), RelaxFault>
+    requires ready { AreReady D items.now.network.now items.now.taken.now }
+    ensures appends { IfOk result (λ _. Appends C.components C.Part.bound
+        (onward_in C.components items.now.network.now items.now.taken.now)
+        candidates.old.items candidates.new.items) }
+    ensures too_wide { result ≡ Err fault.TooWide → IsTooWide C.Part.bound
+        (onward_in C.components items.now.network.now items.now.taken.now) }
+{
+    for piece in 0..items.pieces() {
+        workers.gate().pass(Phase::Relax, piece as u64);
+        items.append_piece(piece, candidates)?;
+    }
+    Ok(())
+}
+
+/// Has the workers relax the pieces, and appends what comes of them.
+fn relax_together<const D: usize, C: StoredCost<D> + Send + Sync, R: Threads + Sync, G: Gate>(
+    workers: &Workers<'_, R, G>,
+    alloc: Global,
+    items: &TakenItems<'_, D, C>,
+    candidates: &mut Vec<Item<C>>,
+) -> Result<(), RelaxFault>
+where
+    C::Part: Send + Sync,
+    requires few { length items.now.taken.now < 2 ^ 32 }
+    requires ready { AreReady D items.now.network.now items.now.taken.now }
+    ensures appends { IfOk result (λ _. Appends C.components C.Part.bound
+        (onward_in C.components items.now.network.now items.now.taken.now)
+        candidates.old.items candidates.new.items) }
+    ensures too_wide { result ≡ Err fault.TooWide → IsTooWide C.Part.bound
+        (onward_in C.components items.now.network.now items.now.taken.now) }
+{
+    let lists = run_pieces(workers, alloc, items.pieces(), Phase::Relax, items)?;
+    for list in &lists {
+        let Some(list) = list else {
+            return Err(RelaxFault::TooWide);
+        };
+        candidates.extend_from_slice(list)?;
+    }
+    Ok(())
+}

@@ -4,8 +4,8 @@ use Rattle.std.specs.Prelude.{codes, if◌then◌else◌, option_and_then}
 use Rattle.std.specs.Str.{bytes_eq}
 use Rattle.clap.specs.Words.{App, Row, Text, fault_of, first_of, is_simple_and_free, matches_of}
 use Rattle.command_words.specs.Apps.{app_for, word_of}
-use Rattle.command_words.specs.Words.{AreWords, Asked, Asks, AsksAs, AsksBatch, AsksLimits, AsksGen, AsksLanes, AsksPlan, AsksQuery, AsksSingle, BatchAsked, GenAsked, LanesAsked}
-use Rattle.command_words.specs.Words.{IsGiven, IsGivenIf, IsGivenOr, IsNamed, NamesFiles, SingleAsked, batch, check, generate, lanes, single}
+use Rattle.command_words.specs.Words.{AreWords, Asked, Asks, AsksAs, AsksBatch, AsksLimits, AsksGen, AsksLanes, AsksPlan, AsksQuery, AsksServe, AsksSingle, BatchAsked, GenAsked, LanesAsked}
+use Rattle.command_words.specs.Words.{IsGiven, IsGivenIf, IsGivenOr, IsNamed, NamesFiles, ServeAsked, SingleAsked, batch, check, generate, lanes, serve, single}
 use Rattle.graph_gen.specs.declared.GenPlan.{GenPlan}
 use Rattle.line_text.specs.declared.numerals.Numeral.TheVariants.{Value}
 use Rattle.command_words.specs.declared.apps.Name.{Name}
@@ -13,7 +13,7 @@ use Rattle.road_network.specs.declared.query.AnswerKind.{AnswerKind}
 use Rattle.road_network.specs.declared.query.AnswerKind.TheVariants.{Costs, Walks}
 use Rattle.command_words.specs.declared.SearchLimits.{SearchLimits}
 use Rattle.road_network.specs.declared.query.Query.{Query}
-use Rattle.command_words.specs.declared.apps.Name.TheVariants.{Batch, Check, Gen, Lanes, Single}
+use Rattle.command_words.specs.declared.apps.Name.TheVariants.{Batch, Check, Gen, Lanes, Serve, Single}
 
 -- each command's arguments are of the kind whose matches are a function of the words
 pub apps_simple : (name : Name) → is_simple_and_free (app_for name) ≡ true
@@ -23,6 +23,7 @@ apps_simple Check = refl
 apps_simple Batch = refl
 apps_simple Gen = refl
 apps_simple Lanes = refl
+apps_simple Serve = refl
 
 -- ---- the words name one command at most
 
@@ -35,6 +36,7 @@ name_for word =
     else if bytes_eq word (codes "batch") then Some Batch
     else if bytes_eq word (codes "gen") then Some Gen
     else if bytes_eq word (codes "lanes") then Some Lanes
+    else if bytes_eq word (codes "serve") then Some Serve
     else None
 
 named_back : (name : Name) → name_for (word_of name) ≡ Some name
@@ -44,6 +46,7 @@ named_back Check = refl
 named_back Batch = refl
 named_back Gen = refl
 named_back Lanes = refl
+named_back Serve = refl
 
 same_name : (words : List Text) (m n : Name) → IsNamed words m → IsNamed words n → m ≡ n
 same_name words m n a b =
@@ -171,28 +174,51 @@ same_lanes rows a b x y =
     λ o s l k n f. record { operator = o; stem = s; count = l; epoch = k; limits = n; files = f } in
     let e : asked a.operator a.stem a.count a.epoch a.limits a.files ≡ asked b.operator b.stem b.count b.epoch b.limits b.files = cc in e
 
+same_serve : (rows : List Row) (a b : ServeAsked) → AsksServe rows a → AsksServe rows b → a ≡ b
+same_serve rows a b x y =
+    let listen : Some a.listen ≡ Some b.listen = sym x.listen ∙ y.listen in
+    let operator : Some a.operator ≡ Some b.operator = sym x.operator ∙ y.operator in
+    let lanes = same_number_or _ _ _ a.lanes b.lanes _ x.lanes y.lanes in
+    let links = same_number_or _ _ _ a.links b.links _ x.links y.links in
+    let epoch = same_number_or _ _ _ a.epoch b.epoch _ x.epoch y.epoch in
+    let limits = same_limits rows a.limits b.limits x.limits y.limits in
+    let files = same_files rows a.files b.files x.files y.files in
+    let asked : Text → Text → ℕ → ℕ → ℕ → SearchLimits → List Text → ServeAsked =
+    λ s o l m k n f. record { listen = s; operator = o; lanes = l; links = m; epoch = k; limits = n; files = f } in
+    let e : asked a.listen a.operator a.lanes a.links a.epoch a.limits a.files ≡ asked b.listen b.operator b.lanes b.links b.epoch b.limits b.files = cc in e
+
 -- ---- a command's values are of its own kind
 
-single_alone : (kind : AnswerKind) (rows : List Row) (asked : Asked) → AsksAs (Single kind) rows asked
+-- values of `costs` and `one` are of its own kind
+pub single_alone : (kind : AnswerKind) (rows : List Row) (asked : Asked) → AsksAs (Single kind) rows asked
     → (c : SingleAsked) × (single c ≡ asked) × (c.kind ≡ kind) × AsksSingle rows c
 single_alone kind rows (single c) values = (c, refl, values.0, values.1)
 single_alone kind rows _ values = absurd values
 
-check_alone : (rows : List Row) (asked : Asked) → AsksAs Check rows asked → (files : List Text) × (check files ≡ asked) × NamesFiles rows files
+-- values of `check` are of its own kind
+pub check_alone : (rows : List Row) (asked : Asked) → AsksAs Check rows asked → (files : List Text) × (check files ≡ asked) × NamesFiles rows files
 check_alone rows (check files) values = (files, refl, values)
 check_alone rows _ values = absurd values
 
-batch_alone : (rows : List Row) (asked : Asked) → AsksAs Batch rows asked → (b : BatchAsked) × (batch b ≡ asked) × AsksBatch rows b
+-- values of `batch` are of its own kind
+pub batch_alone : (rows : List Row) (asked : Asked) → AsksAs Batch rows asked → (b : BatchAsked) × (batch b ≡ asked) × AsksBatch rows b
 batch_alone rows (batch b) values = (b, refl, values)
 batch_alone rows _ values = absurd values
 
-gen_alone : (rows : List Row) (asked : Asked) → AsksAs Gen rows asked → (g : GenAsked) × (generate g ≡ asked) × AsksGen rows g
+-- values of `gen` are of its own kind
+pub gen_alone : (rows : List Row) (asked : Asked) → AsksAs Gen rows asked → (g : GenAsked) × (generate g ≡ asked) × AsksGen rows g
 gen_alone rows (generate g) values = (g, refl, values)
 gen_alone rows _ values = absurd values
 
-lanes_alone : (rows : List Row) (asked : Asked) → AsksAs Lanes rows asked → (l : LanesAsked) × (lanes l ≡ asked) × AsksLanes rows l
+-- values of `lanes` are of its own kind
+pub lanes_alone : (rows : List Row) (asked : Asked) → AsksAs Lanes rows asked → (l : LanesAsked) × (lanes l ≡ asked) × AsksLanes rows l
 lanes_alone rows (lanes l) values = (l, refl, values)
 lanes_alone rows _ values = absurd values
+
+-- values of `serve` are of its own kind
+pub serve_alone : (rows : List Row) (asked : Asked) → AsksAs Serve rows asked → (s : ServeAsked) × (serve s ≡ asked) × AsksServe rows s
+serve_alone rows (serve s) values = (s, refl, values)
+serve_alone rows _ values = absurd values
 
 same_values : (name : Name) (rows : List Row) (a b : Asked) → AsksAs name rows a → AsksAs name rows b → a ≡ b
 same_values (Single kind) rows a b x y =
@@ -215,6 +241,10 @@ same_values Lanes rows a b x y =
     let (l, is_a, values) = lanes_alone rows a x in
     let (m, is_b, others) = lanes_alone rows b y in
     sym is_a ∙ ap lanes (same_lanes rows l m values others) ∙ is_b
+same_values Serve rows a b x y =
+    let (s, is_a, values) = serve_alone rows a x in
+    let (t, is_b, others) = serve_alone rows b y in
+    sym is_a ∙ ap serve (same_serve rows s t values others) ∙ is_b
 
 pub asks_one : (words : List Text) (a b : Asked) → Asks words a → Asks words b → a ≡ b
 asks_one words a b x y =

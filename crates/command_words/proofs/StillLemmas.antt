@@ -1,34 +1,47 @@
 -- Which words ask for a command that waits.
-use Rattle.std.proofs.Common.{ℕ, List}
+use Rattle.std.proofs.Common.{ℕ, List, inl, inr}
 use Rattle.clap.specs.Words.{Row}
 use Rattle.command_words.specs.declared.apps.Name.{Name}
-use Rattle.command_words.specs.declared.apps.Name.TheVariants.{Batch, Check, Gen, Lanes, Single}
-use Rattle.command_words.specs.Words.{Asked, Asks, AsksAs, IsNamed, IsStill, LanesAsked, batch, check, generate, lanes, single}
+use Rattle.command_words.specs.declared.apps.Name.TheVariants.{Batch, Check, Gen, Lanes, Serve, Single}
+use Rattle.command_words.specs.Words.{Asked, Asks, AsksAs, IsNamed, IsStill, LanesAsked, NamesWaiting, ServeAsked, batch, check, generate, lanes, serve, single}
 use Rattle.command_words.proofs.AskLemmas.{under_name}
 
-waits : (rows : List Row) (asked : Asked) → AsksAs Lanes rows asked → ¬ IsStill asked
-waits rows (single asked) values = absurd values
-waits rows (check asked) values = absurd values
-waits rows (batch asked) values = absurd values
-waits rows (generate asked) values = absurd values
-waits rows (lanes asked) values = λ still. still
+lanes_wait : (rows : List Row) (asked : Asked) → AsksAs Lanes rows asked → ¬ IsStill asked
+lanes_wait rows (lanes asked) values = λ still. still
+lanes_wait rows _ values = absurd values
 
--- words that name `lanes` ask for no command that waits for nobody
-pub named_lanes : (words : List (List ℕ)) (asked : Asked) → IsNamed words Lanes → Asks words asked → ¬ IsStill asked
-named_lanes words asked named a = waits _ asked (under_name words Lanes asked named a).1
+serving_waits : (rows : List Row) (asked : Asked) → AsksAs Serve rows asked → ¬ IsStill asked
+serving_waits rows (serve asked) values = λ still. still
+serving_waits rows _ values = absurd values
 
-named_by : (words : List (List ℕ)) (rows : List Row) (name : Name) (asked : LanesAsked) → IsNamed words name → AsksAs name rows (lanes asked)
-    → IsNamed words Lanes
-named_by words rows (Single kind) asked named values = absurd values
-named_by words rows Check asked named values = absurd values
-named_by words rows Batch asked named values = absurd values
-named_by words rows Gen asked named values = absurd values
-named_by words rows Lanes asked named values = named
+-- words that name a command that waits ask for none that waits for nobody
+pub named_waiting : (words : List (List ℕ)) (asked : Asked) → NamesWaiting words → Asks words asked → ¬ IsStill asked
+named_waiting words asked (inl named) a = lanes_wait _ asked (under_name words Lanes asked named a).1
+named_waiting words asked (inr named) a = serving_waits _ asked (under_name words Serve asked named a).1
 
--- words that don't name it ask for no command that waits
-pub not_lanes : (words : List (List ℕ)) (asked : Asked) → ¬ IsNamed words Lanes → Asks words asked → IsStill asked
-not_lanes words (single asked) other a = tt
-not_lanes words (check asked) other a = tt
-not_lanes words (batch asked) other a = tt
-not_lanes words (generate asked) other a = tt
-not_lanes words (lanes asked) other a = absurd (other (named_by words _ a.name asked a.named a.values))
+named_by_lanes : (words : List (List ℕ)) (rows : List Row) (name : Name) (asked : LanesAsked) → IsNamed words name
+    → AsksAs name rows (lanes asked) → IsNamed words Lanes
+named_by_lanes words rows Lanes asked named values = named
+named_by_lanes words rows (Single kind) asked named values = absurd values
+named_by_lanes words rows Check asked named values = absurd values
+named_by_lanes words rows Batch asked named values = absurd values
+named_by_lanes words rows Gen asked named values = absurd values
+named_by_lanes words rows Serve asked named values = absurd values
+
+named_by_serving : (words : List (List ℕ)) (rows : List Row) (name : Name) (asked : ServeAsked) → IsNamed words name
+    → AsksAs name rows (serve asked) → IsNamed words Serve
+named_by_serving words rows Serve asked named values = named
+named_by_serving words rows (Single kind) asked named values = absurd values
+named_by_serving words rows Check asked named values = absurd values
+named_by_serving words rows Batch asked named values = absurd values
+named_by_serving words rows Gen asked named values = absurd values
+named_by_serving words rows Lanes asked named values = absurd values
+
+-- words that name none ask for no command that waits
+pub named_still : (words : List (List ℕ)) (asked : Asked) → (¬ NamesWaiting words) → Asks words asked → IsStill asked
+named_still words (single asked) other a = tt
+named_still words (check asked) other a = tt
+named_still words (batch asked) other a = tt
+named_still words (generate asked) other a = tt
+named_still words (lanes asked) other a = absurd (other (inl (named_by_lanes words _ a.name asked a.named a.values)))
+named_still words (serve asked) other a = absurd (other (inr (named_by_serving words _ a.name asked a.named a.values)))

@@ -4,7 +4,7 @@ use Rattle.clap.specs.Words.{App, Rule, Text, new_app, new_rule, with_rule}
 use Rattle.clap.specs.declared.builder.action.ArgAction.TheVariants.{Append, Set}
 use Rattle.road_network.specs.declared.query.AnswerKind.TheVariants.{Costs, Walks}
 use Rattle.command_words.specs.declared.apps.Name.{Name}
-use Rattle.command_words.specs.declared.apps.Name.TheVariants.{Batch, Check, Gen, Lanes, Single}
+use Rattle.command_words.specs.declared.apps.Name.TheVariants.{Batch, Check, Gen, Lanes, Serve, Single}
 
 -- the word that names a command
 abbrev pub word_of : Name → Text
@@ -14,6 +14,7 @@ word_of Check = codes "check"
 word_of Batch = codes "batch"
 word_of Gen = codes "gen"
 word_of Lanes = codes "lanes"
+word_of Serve = codes "serve"
 
 -- an option with one value, `--name value` or `--name=value`, given at most once
 abbrev pub option_rule : Text → Bool → Rule
@@ -71,6 +72,17 @@ scripts_app = with_rule (with_rule (with_rule (with_rule (bare_app (word_of Lane
 abbrev pub lanes_app : App
 lanes_app = with_rule (with_limits scripts_app) files_rule
 
+-- the addresses, the lanes and the store of a server:
+-- `serve --listen ADDRESS --operator ADDRESS [--lanes N] [--links N] [--epoch N]`
+abbrev pub town_app : App
+town_app = with_rule (with_rule (with_rule (with_rule (with_rule (bare_app (word_of Serve))
+    (option_rule (codes "listen") true)) (option_rule (codes "operator") true))
+    (option_rule (codes "lanes") false)) (option_rule (codes "links") false)) (option_rule (codes "epoch") false)
+
+-- and then `[--budget B] [--workers W] FILES`
+abbrev pub serve_app : App
+serve_app = with_rule (with_limits town_app) files_rule
+
 -- the arguments of a command
 abbrev pub app_for : Name → App
 app_for (Single kind) = single_app (word_of (Single kind))
@@ -78,3 +90,4 @@ app_for Check = check_app
 app_for Batch = batch_app
 app_for Gen = gen_app
 app_for Lanes = lanes_app
+app_for Serve = serve_app

@@ -30,6 +30,14 @@ default_lanes = 1
 abbrev pub max_lanes : ℕ
 max_lanes = 16
 
+-- the most links of each lane of a server
+abbrev pub max_links : ℕ
+max_links = 1000000000
+
+-- the links of each lane where none are given
+abbrev pub default_links : ℕ
+default_links = 1000000000
+
 -- the number of the first epoch where none is given
 abbrev pub default_epoch : ℕ
 default_epoch = 0

@@ -1,5 +1,5 @@
 -- What the words of a command line ask for.
-use Rattle.std.specs.Prelude.{◌≡◌, ◌≤◌, ◌++◌, ◌∷◌, ℕ, List, [], Option, Some, None, IfSome, codes, decimal, length, map}
+use Rattle.std.specs.Prelude.{◌≡◌, ◌≤◌, ◌⊎◌, ◌++◌, ◌∷◌, ℕ, List, [], Option, Some, None, IfSome, codes, decimal, length, map}
 use Rattle.std.specs.Prelude.{slice_get, String}
 use Rattle.std.specs.List.{range_with_len}
 use Rattle.std.specs.String.{string_bytes}
@@ -13,9 +13,10 @@ use Rattle.command_words.specs.declared.Command.TheVariants as command
 use Rattle.command_words.specs.declared.SearchLimits.{SearchLimits}
 use Rattle.command_words.specs.declared.GenWords.{GenWords}
 use Rattle.command_words.specs.declared.LanesWords.{LanesWords}
+use Rattle.command_words.specs.declared.ServeWords.{ServeWords}
 use Rattle.command_words.specs.declared.SingleWords.{SingleWords}
 use Rattle.command_words.specs.declared.apps.Name.{Name}
-use Rattle.command_words.specs.declared.apps.Name.TheVariants.{Batch, Check, Gen, Lanes, Single}
+use Rattle.command_words.specs.declared.apps.Name.TheVariants.{Batch, Check, Gen, Lanes, Serve, Single}
 use Rattle.line_text.specs.declared.numerals.Numeral.TheVariants.{Value}
 use Rattle.graph_gen.specs.declared.GenPlan.{GenPlan}
 use Rattle.graph_gen.specs.Plans.{IsPlan, max_pairs, max_side, min_pairs, min_side}
@@ -23,7 +24,7 @@ use Rattle.road_network.specs.Limits.{max_budget, max_epoch}
 use Rattle.road_network.specs.declared.query.AnswerKind.{AnswerKind}
 use Rattle.road_network.specs.declared.query.Query.{Query}
 use Rattle.command_words.specs.Ranges.{default_budget, default_workers, max_node, max_start, max_workers, min_files, max_files}
-use Rattle.command_words.specs.Ranges.{default_epoch, default_lanes, max_lanes}
+use Rattle.command_words.specs.Ranges.{default_epoch, default_lanes, default_links, max_lanes, max_links}
 
 -- ---- what a command may be asked for
 
@@ -56,6 +57,17 @@ pub record LanesAsked : Type 0 where
   pub limits : SearchLimits
   pub files : List Text
 
+-- a server at two addresses, one for sessions and one for their operator, over the network of the files: so many lanes of
+-- sessions, so many links at most of each lane, and the number of the first epoch
+pub record ServeAsked : Type 0 where
+  pub listen : Text
+  pub operator : Text
+  pub lanes : ℕ
+  pub links : ℕ
+  pub epoch : ℕ
+  pub limits : SearchLimits
+  pub files : List Text
+
 -- one command and its values; `check` has the names of its files alone
 pub data Asked : Type 0 where
   single : SingleAsked → Asked
@@ -63,6 +75,7 @@ pub data Asked : Type 0 where
   batch : BatchAsked → Asked
   generate : GenAsked → Asked
   lanes : LanesAsked → Asked
+  serve : ServeAsked → Asked
 
 -- the name of a session's script: the stem and the session's number
 abbrev pub session_name : Text → ℕ → Text
@@ -79,6 +92,7 @@ names_of (check files) = files
 names_of (batch asked) = asked.files ++ asked.pairs ∷ []
 names_of (generate asked) = []
 names_of (lanes asked) = asked.files ++ scripts_of asked
+names_of (serve asked) = asked.files
 
 -- as many weight files as a network may have criteria
 pub record CountInRange (files : List Text) : Type 0 where
@@ -92,6 +106,7 @@ FilesInRange (check files) = CountInRange files
 FilesInRange (batch asked) = CountInRange asked.files
 FilesInRange (generate asked) = Unit {0}
 FilesInRange (lanes asked) = CountInRange asked.files
+FilesInRange (serve asked) = CountInRange asked.files
 
 -- a budget and a number of workers are within their ranges
 pub record AreSearchLimits (limits : SearchLimits) : Type 0 where
@@ -116,6 +131,7 @@ LimitsInRange (check files) = Unit {0}
 LimitsInRange (batch asked) = AreSearchLimits asked.limits
 LimitsInRange (generate asked) = AreSearchLimits asked.limits
 LimitsInRange (lanes asked) = AreSearchLimits asked.limits
+LimitsInRange (serve asked) = AreSearchLimits asked.limits
 
 -- The plan is one, and the file that is asked for is one of its files.
 pub record GenInRange (asked : GenAsked) : Type 0 where
@@ -129,11 +145,12 @@ PlanInRange (check files) = Unit {0}
 PlanInRange (batch asked) = Unit {0}
 PlanInRange (generate asked) = GenInRange asked
 PlanInRange (lanes asked) = Unit {0}
+PlanInRange (serve asked) = Unit {0}
 
 -- there are as many sessions as there may be lanes
-pub record SessionsInRange (asked : LanesAsked) : Type 0 where
-  pub some : 1 ≤ asked.count
-  pub not_more : asked.count ≤ max_lanes
+pub record AreLanes (count : ℕ) : Type 0 where
+  pub some : 1 ≤ count
+  pub not_more : count ≤ max_lanes
 
 -- a command that has lanes has as many
 abbrev pub LanesInRange : Asked → Type 0
@@ -141,7 +158,8 @@ LanesInRange (single asked) = Unit {0}
 LanesInRange (check files) = Unit {0}
 LanesInRange (batch asked) = Unit {0}
 LanesInRange (generate asked) = Unit {0}
-LanesInRange (lanes asked) = SessionsInRange asked
+LanesInRange (lanes asked) = AreLanes asked.count
+LanesInRange (serve asked) = AreLanes asked.lanes
 
 -- the command waits for nobody
 abbrev pub IsStill : Asked → Type 0
@@ -150,6 +168,7 @@ IsStill (check files) = Unit {0}
 IsStill (batch asked) = Unit {0}
 IsStill (generate asked) = Unit {0}
 IsStill (lanes asked) = ⊥
+IsStill (serve asked) = ⊥
 
 -- ---- the values that the words give, by rows that name the arguments
 
@@ -235,6 +254,16 @@ pub record AsksLanes (rows : List Row) (asked : LanesAsked) : Type 0 where
   pub limits : AsksLimits rows asked.limits
   pub files : NamesFiles rows asked.files
 
+-- the values are those of `serve`
+pub record AsksServe (rows : List Row) (asked : ServeAsked) : Type 0 where
+  pub listen : first_of (codes "listen") rows ≡ Some asked.listen
+  pub operator : first_of (codes "operator") rows ≡ Some asked.operator
+  pub lanes : IsGivenOr default_lanes 1 max_lanes (first_of (codes "lanes") rows) asked.lanes
+  pub links : IsGivenOr default_links 1 max_links (first_of (codes "links") rows) asked.links
+  pub epoch : IsGivenOr default_epoch 0 max_epoch (first_of (codes "epoch") rows) asked.epoch
+  pub limits : AsksLimits rows asked.limits
+  pub files : NamesFiles rows asked.files
+
 -- the values are those of the command
 abbrev pub AsksAs : Name → List Row → Asked → Type 0
 AsksAs (Single kind) rows (single asked) = (asked.kind ≡ kind) × AsksSingle rows asked
@@ -242,6 +271,7 @@ AsksAs Check rows (check files) = NamesFiles rows files
 AsksAs Batch rows (batch asked) = AsksBatch rows asked
 AsksAs Gen rows (generate asked) = AsksGen rows asked
 AsksAs Lanes rows (lanes asked) = AsksLanes rows asked
+AsksAs Serve rows (serve asked) = AsksServe rows asked
 AsksAs _ rows _ = ⊥
 
 -- ---- the words
@@ -253,6 +283,10 @@ texts_of = map string_bytes
 -- the first word names the command
 abbrev pub IsNamed : List Text → Name → Type 0
 IsNamed words name = slice_get words 0 ≡ Some (word_of name)
+
+-- the first word names a command that waits for others
+abbrev pub NamesWaiting : List Text → Type 0
+NamesWaiting words = IsNamed words Lanes ⊎ IsNamed words Serve
 
 -- the words ask for this: they name a command, its arguments take them, and the values fit
 pub record Asks (words : List Text) (asked : Asked) : Type 0 where
@@ -294,6 +328,18 @@ lanes_asked l = record {
   files = map (λ s. s.now) l.files.items;
 }
 
+-- the words of `serve`, as what they ask for
+abbrev pub serve_asked : ServeWords → ServeAsked
+serve_asked s = record {
+  listen = s.listen.now;
+  operator = s.operator.now;
+  lanes = s.lanes;
+  links = s.links;
+  epoch = s.epoch;
+  limits = s.limits;
+  files = map (λ s. s.now) s.files.items;
+}
+
 -- a command, as what it asks for
 abbrev pub asked_of : Command → Asked
 asked_of (command.Single c) = single (single_asked c)
@@ -301,3 +347,4 @@ asked_of (command.Check c) = check (check_asked c)
 asked_of (command.Batch b) = batch (batch_asked b)
 asked_of (command.Gen g) = generate (gen_asked g)
 asked_of (command.Lanes l) = lanes (lanes_asked l)
+asked_of (command.Serve s) = serve (serve_asked s)

@@ -2,7 +2,7 @@
 ghost use Rattle.std.specs.Prelude.{◌≡◌, IfOk};
 ghost use Rattle.clap.specs.Words.{app_of, with_rule};
 ghost use Rattle.command_words.specs.Apps.{bare_app, batch_app, check_app, files_rule};
-ghost use Rattle.command_words.specs.Apps.{gen_app, lanes_app, option_rule, scripts_app, single_app, with_limits};
+ghost use Rattle.command_words.specs.Apps.{gen_app, lanes_app, option_rule, scripts_app, serve_app, single_app, town_app, with_limits};
 
 use clap::{Arg, ArgAction, Command};
 use road_network::AnswerKind;
@@ -16,6 +16,7 @@ pub enum Name {
     Batch,
     Gen,
     Lanes,
+    Serve,
 }
 
 impl Name {
@@ -32,6 +33,7 @@ impl Name {
             Name::Batch => batch(alloc),
             Name::Gen => generate(alloc),
             Name::Lanes => lanes(alloc),
+            Name::Serve => serve(alloc),
         }
     }
 }
@@ -87,6 +89,24 @@ fn scripts<'a>(alloc: Global) -> Result<Command<'a>, AllocError>
     let command = with_option(alloc, command, "operator", true)?;
     let command = with_option(alloc, command, "sessions", true)?;
     let command = with_option(alloc, command, "lanes", false)?;
+    with_option(alloc, command, "epoch", false)
+}
+
+fn serve<'a>(alloc: Global) -> Result<Command<'a>, AllocError>
+    ensures { IfOk result (λ c. app_of c ≡ serve_app) }
+{
+    let command = with_limits(alloc, town(alloc)?)?;
+    with_files(alloc, command)
+}
+
+fn town<'a>(alloc: Global) -> Result<Command<'a>, AllocError>
+    ensures { IfOk result (λ c. app_of c ≡ town_app) }
+{
+    let command = bare(alloc, "serve");
+    let command = with_option(alloc, command, "listen", true)?;
+    let command = with_option(alloc, command, "operator", true)?;
+    let command = with_option(alloc, command, "lanes", false)?;
+    let command = with_option(alloc, command, "links", false)?;
     with_option(alloc, command, "epoch", false)
 }
 

@@ -34,6 +34,10 @@ pub const MAX_WORKERS: u32 = 64;
 pub const DEFAULT_LANES: u32 = 1;
 /// The most lanes of sessions.
 pub const MAX_LANES: u32 = 16;
+/// The links of each lane of a server where none are given.
+pub const DEFAULT_LINKS: u32 = 1_000_000_000;
+/// The most links of each lane of a server.
+pub const MAX_LINKS: u32 = 1_000_000_000;
 /// The number of the first epoch where none is given, which is that of the files' weights.
 pub const DEFAULT_EPOCH: u32 = 0;
 /// The fewest weight files, of which each is one criterion.
@@ -101,6 +105,24 @@ pub struct LanesWords<'a> {
     pub files: Vec<&'a str>,
 }
 
+/// The words of `serve`.
+#[derive(Debug, Drop)]
+pub struct ServeWords<'a> {
+    /// The address of sessions.
+    pub listen: &'a str,
+    /// The address of their operator.
+    pub operator: &'a str,
+    /// How many lanes of sessions there are.
+    pub lanes: u32,
+    /// The most links of each lane.
+    pub links: u32,
+    /// The number of the epoch of the files' weights.
+    pub epoch: u32,
+    /// How each query is searched.
+    pub limits: SearchLimits,
+    pub files: Vec<&'a str>,
+}
+
 /// What the words of a command line ask for.
 #[derive(Debug, Drop)]
 pub enum Command<'a> {
@@ -114,6 +136,8 @@ pub enum Command<'a> {
     Gen(GenWords),
     /// Sessions that ask beside each other while an operator publishes epochs.
     Lanes(LanesWords<'a>),
+    /// Sessions and their operator, over links that come in.
+    Serve(ServeWords<'a>),
 }
 
 /// Why no command was read.
@@ -182,6 +206,7 @@ fn name_of(words: &[String]) -> Option<Name>
         "batch" => Some(Name::Batch),
         "gen" => Some(Name::Gen),
         "lanes" => Some(Name::Lanes),
+        "serve" => Some(Name::Serve),
         _ => None,
     }
 }

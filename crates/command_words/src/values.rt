@@ -1,16 +1,18 @@
 //! Reads the values that the words give to a command's arguments.
 ghost use Rattle.std.specs.Prelude.{◌≡◌, IfOk, IfNone, IfSome, codes, map, option_map};
 ghost use Rattle.clap.specs.Words.{all_of, first_of, found_of, rows_of};
-ghost use Rattle.command_words.specs.Words.{AsksAs, AsksBatch, AsksBudget, AsksLimits, AsksGen, AsksLanes, AsksPlan, AsksWorkers};
-ghost use Rattle.command_words.specs.Words.{AsksQuery, AsksSingle, NamesFiles};
-ghost use Rattle.command_words.specs.Words.{asked_of, batch_asked, gen_asked, lanes_asked, single_asked};
+ghost use Rattle.command_words.specs.Words.{AsksAs, AsksBatch, AsksBudget, AsksLimits, AsksGen, AsksLanes, AsksPlan, AsksServe, AsksWorkers};
+ghost use Rattle.road_network.specs.Limits.{max_epoch};
+ghost use Rattle.command_words.specs.Ranges.{default_epoch, default_lanes, max_lanes};
+ghost use Rattle.command_words.specs.Words.{AsksQuery, AsksSingle, IsGivenOr, NamesFiles};
+ghost use Rattle.command_words.specs.Words.{asked_of, batch_asked, gen_asked, lanes_asked, serve_asked, single_asked};
 
 use crate::apps::Name;
 use crate::numbers::{number_if, number_or, required_number, value};
 use crate::{
-    BatchWords, CheckWords, Command, DEFAULT_BUDGET, DEFAULT_EPOCH, DEFAULT_LANES, DEFAULT_WORKERS,
-    GenWords, LanesWords, MAX_FILES, MAX_LANES, MAX_NODE, MAX_START, MAX_WORKERS, MIN_FILES,
-    SearchLimits, SingleWords, WordsFault,
+    BatchWords, CheckWords, Command, DEFAULT_BUDGET, DEFAULT_EPOCH, DEFAULT_LANES, DEFAULT_LINKS,
+    DEFAULT_WORKERS, GenWords, LanesWords, MAX_FILES, MAX_LANES, MAX_LINKS, MAX_NODE, MAX_START,
+    MAX_WORKERS, MIN_FILES, SearchLimits, ServeWords, SingleWords, WordsFault,
 };
 use clap::ArgMatches;
 use graph_gen::{GenPlan, MAX_PAIRS, MAX_SIDE, MIN_PAIRS, MIN_SIDE};
@@ -35,6 +37,7 @@ pub(crate) fn read<'a>(
         Name::Batch => Ok(Command::Batch(read_batch(alloc, matches)?)),
         Name::Gen => Ok(Command::Gen(read_gen(matches).ok_or(WordsFault::Refused)?)),
         Name::Lanes => Ok(Command::Lanes(read_lanes(alloc, matches)?)),
+        Name::Serve => Ok(Command::Serve(read_serve(alloc, matches)?)),
     }
 }
 
@@ -122,12 +125,8 @@ fn read_lanes<'a>(alloc: Global, matches: &ArgMatches<'a>) -> Result<LanesWords<
 {
     let operator = value(matches, "operator").ok_or(WordsFault::Refused)?;
     let sessions = value(matches, "sessions").ok_or(WordsFault::Refused)?;
-    let lanes = number_or(DEFAULT_LANES, matches, "lanes", 1, MAX_LANES).ok_or(
-        WordsFault::Refused,
-    )?;
-    let epoch = number_or(DEFAULT_EPOCH, matches, "epoch", 0, MAX_EPOCH).ok_or(
-        WordsFault::Refused,
-    )?;
+    let lanes = read_count(matches).ok_or(WordsFault::Refused)?;
+    let epoch = read_epoch(matches).ok_or(WordsFault::Refused)?;
     let limits = read_limits(matches).ok_or(WordsFault::Refused)?;
     let files = read_files(alloc, matches)?;
     Ok(LanesWords {
@@ -138,6 +137,51 @@ fn read_lanes<'a>(alloc: Global, matches: &ArgMatches<'a>) -> Result<LanesWords<
         limits,
         files,
     })
+}
+
+fn read_serve<'a>(alloc: Global, matches: &ArgMatches<'a>) -> Result<ServeWords<'a>, WordsFault>
+    ensures asked { IfOk result (λ s. AsksServe (rows_of (found_of matches.now)) (serve_asked s)) }
+    ensures refused { result ≡ Err WordsFault.Refused
+        → (asked : _) → ¬ AsksServe (rows_of (found_of matches.now)) asked }
+{
+    let listen = value(matches, "listen").ok_or(WordsFault::Refused)?;
+    let operator = value(matches, "operator").ok_or(WordsFault::Refused)?;
+    let lanes = read_count(matches).ok_or(WordsFault::Refused)?;
+    let links = number_or(DEFAULT_LINKS, matches, "links", 1, MAX_LINKS).ok_or(
+        WordsFault::Refused,
+    )?;
+    let epoch = read_epoch(matches).ok_or(WordsFault::Refused)?;
+    let limits = read_limits(matches).ok_or(WordsFault::Refused)?;
+    let files = read_files(alloc, matches)?;
+    Ok(ServeWords {
+        listen,
+        operator,
+        lanes,
+        links,
+        epoch,
+        limits,
+        files,
+    })
+}
+
+/// How many lanes of sessions there are.
+fn read_count(matches: &ArgMatches) -> Option<u32>
+    ensures asked { IfSome result (IsGivenOr default_lanes 1 max_lanes
+        (first_of (codes "lanes") (rows_of (found_of matches.now)))) }
+    ensures refused { IfNone result ((n : _) → ¬ IsGivenOr default_lanes 1 max_lanes
+        (first_of (codes "lanes") (rows_of (found_of matches.now))) n) }
+{
+    number_or(DEFAULT_LANES, matches, "lanes", 1, MAX_LANES)
+}
+
+/// The number of the first epoch.
+fn read_epoch(matches: &ArgMatches) -> Option<u32>
+    ensures asked { IfSome result (IsGivenOr default_epoch 0 max_epoch
+        (first_of (codes "epoch") (rows_of (found_of matches.now)))) }
+    ensures refused { IfNone result ((n : _) → ¬ IsGivenOr default_epoch 0 max_epoch
+        (first_of (codes "epoch") (rows_of (found_of matches.now))) n) }
+{
+    number_or(DEFAULT_EPOCH, matches, "epoch", 0, MAX_EPOCH)
 }
 
 fn read_gen(matches: &ArgMatches) -> Option<GenWords>

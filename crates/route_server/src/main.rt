@@ -3,6 +3,7 @@
 
 ghost use Rattle.std.specs.Prelude.{◌≡◌};
 
+use link_doors::HostTown;
 use route_io::host::{HostFolder, HostSink};
 use route_io::{OpenGate, Sink, put_all};
 use route_top::{WANT_OF_MEMORY, route};
@@ -16,12 +17,31 @@ fn main(rt: HostRuntime) -> ExitCode {
     let mut out = HostSink::new(rt.stdout());
     let mut err = HostSink::new(rt.stderr());
     let mut folder = HostFolder::new(&rt);
+    let mut town = HostTown::new(alloc, &rt);
     let gate = OpenGate;
     let status = match words {
-        Ok(words) => route(&rt, alloc, &words, &mut folder, &mut out, &mut err, &gate),
+        Ok(words) => route(
+            &rt,
+            alloc,
+            &words,
+            &mut folder,
+            &mut out,
+            &mut err,
+            &mut town,
+            &gate,
+        ),
         Err(fault) if fault.kind() == io::ErrorKind::OutOfMemory => want_memory(&mut err),
         // An argument isn't text: the words are those of no command, as no words are.
-        Err(_) => route(&rt, alloc, &[], &mut folder, &mut out, &mut err, &gate),
+        Err(_) => route(
+            &rt,
+            alloc,
+            &[],
+            &mut folder,
+            &mut out,
+            &mut err,
+            &mut town,
+            &gate,
+        ),
     };
     ExitCode::from(status)
 }

@@ -1,3 +1,4 @@
+use link_doors::MemoryTown;
 use route_io::memory::{MemoryFolder, MemorySink, NamedFile};
 use route_io::{Gate, OpenGate};
 use route_top::{route, run_still};
@@ -12,6 +13,7 @@ mod generated;
 mod lanes;
 mod readers;
 mod rows;
+mod serving;
 mod walks;
 mod workers;
 
@@ -90,7 +92,8 @@ impl Outside {
         let words = words_of(alloc, words)?;
         let (folder, out, err) = (&mut self.folder, &mut self.out, &mut self.err);
         Ok(if is_of_lanes {
-            route(rt, alloc, &words, folder, out, err, gate)
+            let mut town = MemoryTown::new(alloc, Vec::new(alloc), Vec::new(alloc));
+            route(rt, alloc, &words, folder, out, err, &mut town, gate)
         } else {
             run_still(rt, alloc, &words, folder, out, err, gate)
         })

@@ -18,11 +18,10 @@ use Rattle.road_network.specs.Answers.{AreBestCosts, IsAnswer, IsRelevant, Passe
 use Rattle.road_network.specs.Best.{IsBackwardLeast}
 use Rattle.road_network.specs.Limits.{max_budget}
 use Rattle.road_network.specs.Network.{IsNetwork, Network}
-use Rattle.road_network.specs.Found.{Found, IsFound, IsOf, HasAllRelevant}
+use Rattle.walk_readback.specs.Found.{FoundCosts, HasAllRelevant, IsFound, IsOf, IsWellFound}
 use Rattle.road_network.specs.Queries.{IsTooLarge, limit_of, limit_or_none}
 use Rattle.road_network.specs.declared.query.Query.{Query}
-use Rattle.path_readback.specs.WellFound.{IsWellFound}
-use Rattle.path_readback.proofs.WellFoundLaws.{is_within_longest}
+use Rattle.walk_readback.proofs.WellFoundLaws.{is_within_longest}
 use Rattle.query_reader.specs.declared.pairs.Pair.{Pair}
 use Rattle.gen_laws.specs.Laws.{IsSmall}
 use Rattle.route_top.specs.declared.summary.Summary.{Summary}
@@ -39,7 +38,7 @@ sum_of_part xs i = sum_by-take-le (λ n. n) xs i
 -- ---- the costs of an answer
 
 -- a query within its budget has few costs
-module _ (net : Network) (limit : List (Option ℕ)) (f : Found) (budget : ℕ) (all : HasAllRelevant net limit f) (found : IsFound f) where
+module _ (net : Network) (limit : List (Option ℕ)) (f : FoundCosts) (budget : ℕ) (all : HasAllRelevant net limit f) (found : IsFound f) where
   -- more costs than the budget are more relevant pairs
   passes_by : budget < length f.costs → Passes net f.start f.target limit budget
   passes_by more =
@@ -63,7 +62,7 @@ module _ (net : Network) (limit : List (Option ℕ)) (f : Found) (budget : ℕ) 
   few_costs within = few_if within (nat_lt budget (length f.costs)) refl
 
 -- what was found for a query without a limit, within its budget, is its whole answer
-pub has_whole : (net : Network) (query : Query) (f : Found) → IsOf net query f → query.limit ≡ None → HasAllRelevant net (limit_of net.criteria query) f
+pub has_whole : (net : Network) (query : Query) (f : FoundCosts) → IsOf net query f → query.limit ≡ None → HasAllRelevant net (limit_of net.criteria query) f
     → IsWellFound net (limit_of net.criteria query) f → ¬ IsTooLarge net query → query.budget ≤ max_budget → HasWhole net query f
 has_whole net query f of unlimited all well within most =
     let none = no_limit net.criteria in
@@ -83,7 +82,7 @@ has_whole net query f of unlimited all well within most =
     }
 
 -- The first so many costs were counted, with their walks.
-pub record HasCounted (net : Network) (f : Found) (n : ℕ) (old now : Summary) : Type 0 where
+pub record HasCounted (net : Network) (f : FoundCosts) (n : ℕ) (old now : Summary) : Type 0 where
   pub routes : List Route
   pub costs : map (λ r. r.cost) routes ≡ take n f.costs
   pub walks : All (λ r. IsBackwardLeast net f.start f.target r.cost r.arcs) routes
@@ -113,7 +112,7 @@ more_routes s routes r =
     same_sums s _ _ _ _ _ _ (omega (arith, length-append routes (r ∷ []))) (omega (arith, sum_by-append (λ (q : Route). length q.arcs) routes (r ∷ [])))
     (omega (arith, sum_by-append (λ (q : Route). sum q.cost) routes (r ∷ [])))
 
-module _ (net : Network) (f : Found) (old : Summary) where
+module _ (net : Network) (f : FoundCosts) (old : Summary) where
   -- none was counted yet
   pub none_counted : AreFew old → HasCounted net f 0 old old
   none_counted few = record {
@@ -141,7 +140,7 @@ module _ (net : Network) (f : Found) (old : Summary) where
         → (length p ≤ 1000000) × (sum c ≤ 400000000)
     short_walk limit is found small nodes well =
         let there = subst (Contains f.costs) (get_or_from_slice_get f.costs i c c at) (Contains-get_or f.costs i c (slice_get_within f.costs i c at)) in
-        let long = is_within_longest net limit f is found well c p there least.walk nodes in
+        let long = is_within_longest net is limit f well c p there least.walk nodes in
         let few : length p ≤ 1000000 = omega (arith, long, nodes, small.nodes) in
         let cost = small.costs f.start f.target p c least.walk in
         (few, omega (arith, few, cost))
@@ -163,7 +162,7 @@ module _ (net : Network) (f : Found) (old : Summary) where
         }
 
 -- all costs of an answer were counted
-pub all_counted : (net : Network) (query : Query) (f : Found) (n : ℕ) (old now : Summary) → HasAnswer net query f → IsFound f
+pub all_counted : (net : Network) (query : Query) (f : FoundCosts) (n : ℕ) (old now : Summary) → HasAnswer net query f → IsFound f
     → length f.costs ≤ n → HasCounted net f n old now → CountsAnswer net query.from query.to old now
 all_counted net query f n old now has found past so =
     let limit = no_limit net.criteria in

@@ -21,7 +21,7 @@ use Rattle.route_top.specs.FilesRead.{Tells, Says, FileStop, ReadingStop, FilesS
 use Rattle.route_top.specs.FilesRead.{reading_limits, failed, faulty, starved, at_file, disagree, unjoined, stops, goes_on}
 use Rattle.route_top.specs.Outcome.{Outcome, status_of}
 use Rattle.route_top.specs.Output.{RunsCommand}
-use Rattle.route_top.specs.ReadResults.{TakesNamed}
+use Rattle.route_top.specs.ReadResults.{HasRead, TakesNamed}
 use Rattle.route_top.specs.Stops.{outcome_of, stop_of}
 use Rattle.route_top.proofs.RunsLemmas.{LeavesOut, nothing_sent, runs_then}
 
@@ -37,12 +37,6 @@ pub takes_named : (files : Option FileMap) (name : List ℕ) (left : Option (Lis
     → TakesFile reading_limits left (JoinerHasTaken before now) → TakesNamed files name before now
 takes_named files name left before now opens takes =
     record { contents = takes.file; says = tells files name left _ opens takes.is_gr; taken = takes.taken }
-
--- The joiner stands for the files of these names.
-pub record HasRead (files : Option FileMap) (names : List (List ℕ)) (joiner : Joiner) : Type 0 where
-  pub contents : List ArcFile
-  pub read : AllZip (Says files) names contents
-  pub stands : JoinerHolds joiner contents
 
 module _ {N : Type 0} (text : N → List ℕ) (items : List N) (i : ℕ) (d : N) (within : i < length items) where
   within_texts : i < length (map text items)

@@ -5,8 +5,10 @@ pub mod LanesSent
 pub mod LaneScripts
 pub mod FilesReadLemmas
 pub mod BatchLemmas
+mod AheadLemmas
 pub mod OutputLemmas
 pub mod PlanLemmas
 pub mod CountLemmas
 mod ServedScripts
 mod LanesRuns
+pub mod ServeLemmas

@@ -1,18 +1,17 @@
 -- What the program does, by its words.
-use Rattle.std.proofs.Common.{◌≡◌, ℕ, List, [], ◌⊎◌, inl, inr, length, refl, subst, sym, ◌∙◌, ap, arith}
+use Rattle.std.proofs.Common.{◌≡◌, ◌≢◌, ℕ, List, [], ◌⊎◌, inl, inr, length, refl, subst, ap, arith}
 use Rattle.std.specs.Prelude.{Option, Some, None, MatchOption}
 use Rattle.route_io.specs.Files.{FileMap}
 use Rattle.route_io.specs.Sinks.{SinkState}
 use Rattle.route_io.specs.Sources.{SourceState}
-use Rattle.command_words.specs.declared.apps.Name.TheVariants.{Lanes}
-use Rattle.command_words.specs.Words.{AreWords, Asked, Asks, GenAsked, IsNamed, batch, check, generate, lanes, single}
-use Rattle.command_words.proofs.StillLemmas.{not_lanes}
+use Rattle.command_words.specs.Words.{AreWords, Asked, Asks, GenAsked, LanesAsked, NamesWaiting, ServeAsked, batch, check, generate, lanes, serve, single}
+use Rattle.command_words.proofs.StillLemmas.{named_still}
 use Rattle.route_top.specs.Batch.{pairs_read, pairs_stop}
 use Rattle.route_top.specs.FilesRead.{at_file, stops, goes_on}
 use Rattle.route_top.specs.Gen.{SendsFile, SendsSummary}
 use Rattle.route_top.specs.Lanes.{scripts_read, scripts_stop}
 use Rattle.route_top.specs.Outcome.{Outcome}
-use Rattle.route_top.specs.Outcome.{done, bad_words, folder_failed, out_failed, bad_file, bad_files, bad_pairs, script_too_long, refused, no_memory, out_wanted, status_of}
+use Rattle.route_top.specs.Outcome.{done, bad_words, folder_failed, out_failed, bad_file, bad_files, bad_pairs, script_too_long, refused, no_memory, out_wanted, status_of, town_failed}
 use Rattle.route_top.specs.Output.{AreStillWords, AsksStill, Ends, EndsByWords, no_command, starved, asks, EndsOrCut, uncut, failed, wanted, Output, RunsCommand}
 use Rattle.route_top.proofs.RunsLemmas.{runs_then, stays}
 
@@ -53,6 +52,8 @@ never_bad_words files (generate asked) text ends = never_bad_gen asked text aske
 never_bad_words files (lanes asked) text (stops (at_file name comes stop)) = elim stop [ ]
 never_bad_words files (lanes asked) text (goes_on net read (scripts_stop why)) = elim why.2 [ ]
 never_bad_words files (lanes asked) text (goes_on net read (scripts_read scripts says replies)) = replies
+never_bad_words files (serve asked) text (stops (at_file name comes stop)) = elim stop [ ]
+never_bad_words files (serve asked) text (goes_on net read replies) = replies
 
 is_bad_words : (outcome : Outcome) → status_of outcome ≡ 2 → outcome ≡ bad_words
 is_bad_words bad_words two = refl
@@ -66,6 +67,7 @@ is_bad_words (script_too_long name) two = cc
 is_bad_words refused two = cc
 is_bad_words no_memory two = cc
 is_bad_words out_wanted two = cc
+is_bad_words town_failed two = cc
 
 -- status 2 comes only where the words ask for nothing
 pub none_of_two : (IsAsked : Asked → Type 0) (files : Option FileMap) {outcome : Outcome} {text : List ℕ}
@@ -77,11 +79,63 @@ none_of_two IsAsked files {outcome} {text} (uncut (asks asked is ends)) two =
 none_of_two IsAsked files (failed cut) two = cc
 none_of_two IsAsked files (wanted cut) two = cc
 
+never_town_by : (asked : GenAsked) (text : List ℕ) (file : Option ℕ)
+    → ¬ MatchOption file (SendsSummary asked town_failed text) (λ number. SendsFile asked.plan number town_failed text)
+never_town_by asked text (Some number) ends = ends
+never_town_by asked text None ends = ends
+
+-- no command but `serve` ends by the town
+never_town : (files : Option FileMap) (asked : Asked) (text : List ℕ) → ((s : ServeAsked) → asked ≢ serve s) → ¬ Ends files asked town_failed text
+never_town files (single asked) text other (stops (at_file name comes stop)) = elim stop [ ]
+never_town files (single asked) text other (goes_on net read replies) = replies
+never_town files (check names) text other (stops (at_file name comes stop)) = elim stop [ ]
+never_town files (check names) text other (goes_on net read replies) = replies
+never_town files (batch asked) text other (stops (at_file name comes stop)) = elim stop [ ]
+never_town files (batch asked) text other (goes_on net read (pairs_stop stop)) = elim stop [ ]
+never_town files (batch asked) text other (goes_on net read (pairs_read pairs says replies)) = replies
+never_town files (generate asked) text other ends = never_town_by asked text asked.file ends
+never_town files (lanes asked) text other (stops (at_file name comes stop)) = elim stop [ ]
+never_town files (lanes asked) text other (goes_on net read (scripts_stop why)) = elim why.2 [ ]
+never_town files (lanes asked) text other (goes_on net read (scripts_read scripts says replies)) = replies
+never_town files (serve asked) text other ends = absurd (other asked refl)
+
+is_town_failed : (outcome : Outcome) → status_of outcome ≡ 10 → outcome ≡ town_failed
+is_town_failed town_failed ten = refl
+is_town_failed done ten = cc
+is_town_failed bad_words ten = cc
+is_town_failed (folder_failed name) ten = cc
+is_town_failed out_failed ten = cc
+is_town_failed (bad_file name line kind) ten = cc
+is_town_failed (bad_files way) ten = cc
+is_town_failed (bad_pairs name line kind) ten = cc
+is_town_failed (script_too_long name) ten = cc
+is_town_failed refused ten = cc
+is_town_failed no_memory ten = cc
+is_town_failed out_wanted ten = cc
+
+-- a run ends with status 10 only where its words ask for `serve`
+pub never_ten : (IsAsked : Asked → Type 0) (files : Option FileMap) {outcome : Outcome} {text : List ℕ}
+    → EndsOrCut (EndsByWords IsAsked files) outcome text → ((s : ServeAsked) → ¬ IsAsked (serve s)) → status_of outcome ≢ 10
+never_ten IsAsked files (uncut (no_command none)) other = λ ten. cc
+never_ten IsAsked files (uncut starved) other = λ ten. cc
+never_ten IsAsked files {outcome} {text} (uncut (asks asked is ends)) other = λ ten.
+    never_town files asked text (λ s same. other s (subst IsAsked same is)) (subst (λ o. Ends files asked o text) (is_town_failed outcome ten) ends)
+never_ten IsAsked files (failed cut) other = λ ten. cc
+never_ten IsAsked files (wanted cut) other = λ ten. cc
+
+-- nor does a run of `lanes`
+pub never_ten_of_lanes : (files : Option FileMap) (l : LanesAsked) {outcome : Outcome} {text : List ℕ} → EndsOrCut (Ends files (lanes l)) outcome text
+    → status_of outcome ≢ 10
+never_ten_of_lanes files l {outcome} {text} (uncut ends) = λ ten.
+    never_town files (lanes l) text (λ s same. cc) (subst (λ o. Ends files (lanes l) o text) (is_town_failed outcome ten) ends)
+never_ten_of_lanes files l (failed cut) = λ ten. cc
+never_ten_of_lanes files l (wanted cut) = λ ten. cc
+
 -- what ends a run of words that ask for no command that waits
-module _ (words : List (List ℕ)) (other : ¬ IsNamed words Lanes) where
+module _ (words : List (List ℕ)) (other : ¬ NamesWaiting words) where
   -- they are words as far as they are those of a still command
   pub no_words : ¬ AreStillWords words → ¬ AreWords words
-  no_words none (asked, a) = none (asked, record { asks = a; still = not_lanes words asked other a })
+  no_words none (asked, a) = none (asked, record { asks = a; still = named_still words asked other a })
 
   pub ends_still : (files : Option FileMap) (outcome : Outcome) (text : List ℕ) → EndsByWords (AsksStill words) files outcome text
       → EndsByWords (Asks words) files outcome text

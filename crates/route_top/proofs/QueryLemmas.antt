@@ -1,7 +1,6 @@
 -- The runs of single queries.
 use Rattle.std.proofs.Common.{◌≡◌, ◌≤◌, ℕ, List, None, Ok, Err, length, refl, subst, sym}
 use Rattle.std.proofs.lemmas.List.{length-replicate}
-use Rattle.cost_vector.specs.Costs.{no_limit}
 use Rattle.road_network.specs.Limits.{max_budget}
 use Rattle.road_network.specs.Queries.{IsAsked, limit_or_none}
 use Rattle.road_network.specs.Network.{Network}

@@ -4,9 +4,11 @@ pub mod FilesRead
 pub mod Queries
 pub mod Check
 pub mod Batch
+pub mod Ahead
 pub mod Summary
 pub mod Gen
 pub mod Lanes
+pub mod Serve
 pub mod Output
 pub mod Stops
 pub mod Scripts

@@ -24,6 +24,8 @@ pub data Outcome : Type 0 where
   bad_pairs : List ℕ → ℕ → LineKind → Outcome
   -- this script has more bytes than a script may have
   script_too_long : List ℕ → Outcome
+  -- the town failed, or one of its doors
+  town_failed : Outcome
   -- the query was refused by a reply of its own
   refused : Outcome
   -- memory ran out
@@ -42,6 +44,7 @@ status_of (bad_files way) = 6
 status_of (bad_pairs name line kind) = 7
 status_of (script_too_long name) = 7
 status_of refused = 8
+status_of town_failed = 10
 status_of no_memory = 9
 status_of out_wanted = 9
 
@@ -76,5 +79,6 @@ note_of (bad_files way) = noted (codes "files " ++ disagreement way)
 note_of (bad_pairs name line kind) = noted (codes "pairs " ++ fault_line name line kind)
 note_of (script_too_long name) = noted (codes "script " ++ name ++ codes " too long")
 note_of refused = []
+note_of town_failed = noted (codes "town")
 note_of no_memory = noted (codes "memory")
 note_of out_wanted = noted (codes "memory")

@@ -5,7 +5,7 @@ use Rattle.route_io.specs.Files.{FileMap}
 use Rattle.route_io.specs.Sinks.{SinkState, Sends, WritesTo}
 use Rattle.route_io.specs.Sources.{SourceState, ReadsFrom}
 use Rattle.route_io.specs.declared.fault.WriteFault.{WriteFault}
-use Rattle.command_words.specs.Words.{Asked, Asks, IsStill, batch, check, generate, lanes, names_of, single}
+use Rattle.command_words.specs.Words.{Asked, Asks, IsStill, batch, check, generate, lanes, names_of, serve, single}
 use Rattle.route_top.specs.Batch.{BatchReplies}
 use Rattle.route_top.specs.Check.{CheckReplies}
 use Rattle.route_top.specs.FilesRead.{FilesEnd}
@@ -14,6 +14,7 @@ use Rattle.route_top.specs.Lanes.{LanesEnd}
 use Rattle.route_top.specs.Outcome.{Outcome, bad_words, out_failed, no_memory, out_wanted}
 use Rattle.route_top.specs.Outcome.{status_of, note_of, out_has_wanted}
 use Rattle.route_top.specs.Queries.{QueryReplies}
+use Rattle.route_top.specs.Serve.{ServeReplies}
 
 -- the words ask for this, and it is a command that waits for nobody
 pub record AsksStill (words : List (List ℕ)) (asked : Asked) : Type 0 where
@@ -35,6 +36,7 @@ Ends files (check names) = FilesEnd CheckReplies files names
 Ends files (batch asked) = FilesEnd (BatchReplies files asked) files asked.files
 Ends files (generate asked) = GenEnds asked
 Ends files (lanes asked) = FilesEnd (LanesEnd files asked) files asked.files
+Ends files (serve asked) = FilesEnd (λ net. ServeReplies asked) files asked.files
 
 -- the same of a run, by what its words ask for
 pub data EndsByWords (IsAsked : Asked → Type 0) (files : Option FileMap) : Outcome → List ℕ → Type 0 where

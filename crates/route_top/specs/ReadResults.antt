@@ -1,18 +1,39 @@
 -- What the calls that read the named files answer.
-use Rattle.std.specs.Prelude.{ℕ, List, Option, Result, Ok, Err, length}
+use Rattle.std.specs.Prelude.{◌≡◌, ℕ, List, Option, Result, Ok, Err, length}
+use Rattle.std.specs.List.{AllZip}
 use Rattle.std.specs.Global.{Vec}
 use Rattle.route_io.specs.Files.{FileMap}
 use Rattle.arc_graph.specs.declared.graph.Graph.{Graph}
 use Rattle.arc_graph.specs.declared.weights.Weights.{Weights}
 use Rattle.arc_graph.specs.Files.{ArcFile}
 use Rattle.arc_graph.specs.Graph.{network}
+use Rattle.arc_graph.specs.declared.join.NetworkSizes.{NetworkSizes}
 use Rattle.arc_graph.specs.Joiner.{Joiner}
+use Rattle.arc_graph.specs.JoinerHolds.{JoinerHolds}
+use Rattle.arc_graph.specs.Sizes.{sizes_of}
+use Rattle.road_network.specs.Network.{Network}
 use Rattle.gr_reader.specs.Sinks.{JoinerHasTaken}
 use Rattle.query_reader.specs.declared.pairs.Pair.{Pair}
 use Rattle.route_top.specs.declared.stop.Stop.{Stop}
 use Rattle.route_top.specs.Batch.{PairsStop, SaysPairs}
 use Rattle.route_top.specs.FilesRead.{Says, ReadAs, FileStop, FilesStop}
 use Rattle.route_top.specs.Stops.{outcome_of}
+
+-- The joiner stands for the files of these names.
+pub record HasRead (files : Option FileMap) (names : List (List ℕ)) (joiner : Joiner) : Type 0 where
+  pub contents : List ArcFile
+  pub read : AllZip (Says files) names contents
+  pub stands : JoinerHolds joiner contents
+
+-- all files were read, and the joiner stands for them, or why not
+abbrev pub FilesAreRead : Option FileMap → List (List ℕ) → Result Joiner Stop → Type 0
+FilesAreRead files names (Ok joiner) = HasRead files names joiner
+FilesAreRead files names (Err stop) = FilesStop files names (outcome_of stop)
+
+-- the sizes of the network that the files say, or why they say none
+abbrev pub SizesRead : Option FileMap → List (List ℕ) → Result NetworkSizes Stop → Type 0
+SizesRead files names (Ok sizes) = (net : Network) × ReadAs files names net × (sizes ≡ sizes_of net)
+SizesRead files names (Err stop) = FilesStop files names (outcome_of stop)
 
 -- the network that the files say, or why they say none
 abbrev pub NetworkRead : Option FileMap → List (List ℕ) → Result (Graph × Weights) Stop → Type 0

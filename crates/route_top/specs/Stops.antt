@@ -2,6 +2,8 @@
 use Rattle.std.specs.Prelude.{◌≡◌, ◌++◌, ℕ, List, Bool, true, false, Result, Ok, Err, decimal}
 use Rattle.arc_graph.specs.declared.join.JoinFault.{JoinFault}
 use Rattle.arc_graph.specs.declared.join.JoinFault.TheVariants as join
+use Rattle.link_doors.specs.declared.town.TownFault.{TownFault}
+use Rattle.link_doors.specs.declared.town.TownFault.TheVariants as town
 use Rattle.route_io.specs.Sinks.{SinkState}
 use Rattle.route_io.specs.Sources.{SourceState}
 use Rattle.route_io.specs.declared.fault.WriteFault.TheVariants as write
@@ -16,7 +18,7 @@ use Rattle.route_top.specs.declared.script.ScriptFault.TheVariants as script
 use Rattle.route_top.specs.declared.stop.Stop.{Stop}
 use Rattle.route_top.specs.declared.stop.Stop.TheVariants as stop
 use Rattle.route_top.specs.Outcome.{Outcome, done, bad_words, folder_failed, out_failed, bad_file, bad_files}
-use Rattle.route_top.specs.Outcome.{bad_pairs, script_too_long, refused, no_memory, out_wanted}
+use Rattle.route_top.specs.Outcome.{bad_pairs, script_too_long, town_failed, refused, no_memory, out_wanted}
 use Rattle.route_top.specs.Output.{RunsCommand}
 
 -- the name of a script
@@ -46,6 +48,7 @@ outcome_of (stop.Files way) = bad_files way
 outcome_of (stop.Pairs name line kind) = bad_pairs name.now line kind
 outcome_of (stop.Script one fault) = script_outcome (script_name one) fault
 outcome_of stop.Refused = refused
+outcome_of stop.Town = town_failed
 outcome_of stop.OutOfMemory = no_memory
 
 -- how a run ended
@@ -62,6 +65,11 @@ reply_outcome Refusal = refused
 abbrev pub stop_of : JoinFault → Stop
 stop_of (join.Files way) = stop.Files way
 stop_of join.OutOfMemory = stop.OutOfMemory
+
+-- why a town that doesn't listen ends a run
+abbrev pub stop_of_town : TownFault → Stop
+stop_of_town town.Failed = stop.Town
+stop_of_town town.OutOfMemory = stop.OutOfMemory
 
 -- why a reply that wasn't sent whole ends a run
 abbrev pub stop_at : ReplyFault → Stop

@@ -9,8 +9,7 @@ use Rattle.road_network.specs.Answers.{IsAnswer, Passes, Route}
 use Rattle.arc_graph.specs.Files.{ArcFile}
 use Rattle.arc_graph.specs.Agreement.{Agree, joined}
 use Rattle.arc_graph.specs.Joiner.{Joiner}
-use Rattle.road_network.specs.Found.{Found, IsFound}
-use Rattle.path_readback.specs.WellFound.{IsWellFound}
+use Rattle.walk_readback.specs.Found.{FoundCosts, IsFound, IsWellFound}
 use Rattle.gr_reader.specs.Grammar.{IsGrFile}
 use Rattle.gr_reader.specs.Sinks.{JoinerHasTaken}
 use Rattle.query_reader.specs.declared.pairs.Pair.{Pair}
@@ -107,7 +106,7 @@ abbrev pub pair_of : Query → Pair
 pair_of query = record { from = query.from; to = query.to }
 
 -- What was found is of this query without a limit, and has its whole answer.
-pub record HasAnswer (net : Network) (query : Query) (f : Found) : Type 0 where
+pub record HasAnswer (net : Network) (query : Query) (f : FoundCosts) : Type 0 where
   pub start : f.start ≡ query.from
   pub target : f.target ≡ query.to
   pub nodes : f.nodes ≡ net.nodes
@@ -115,7 +114,7 @@ pub record HasAnswer (net : Network) (query : Query) (f : Found) : Type 0 where
   pub well_found : IsWellFound net (no_limit net.criteria) f
 
 -- What was found is the whole answer to a query within its budget, which few costs are.
-pub record HasWhole (net : Network) (query : Query) (f : Found) : Type 0 where
+pub record HasWhole (net : Network) (query : Query) (f : FoundCosts) : Type 0 where
   pub answer : HasAnswer net query f
   pub few : IsFound f → length f.costs ≤ max_budget
   pub within : ¬ Passes net query.from query.to (no_limit net.criteria) query.budget

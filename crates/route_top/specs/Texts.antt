@@ -1,4 +1,4 @@
--- The lines that `check` and `gen` write. The replies to queries are those of `answer_writer`.
+-- The lines that `check`, `serve` and `gen` write. The replies to queries are those of `answer_writer`.
 use Rattle.std.specs.Prelude.{ℕ, List, ◌++◌, codes}
 use Rattle.answer_writer.specs.Replies.{and_number, end_line}
 use Rattle.route_top.specs.declared.summary.Summary.{Summary}
@@ -6,6 +6,10 @@ use Rattle.route_top.specs.declared.summary.Summary.{Summary}
 -- `ok N M D`: the files say a network of N nodes, M arcs and D criteria
 abbrev pub check_reply : ℕ → ℕ → ℕ → List ℕ
 check_reply nodes arcs criteria = codes "ok" ++ and_number nodes ++ and_number arcs ++ and_number criteria ++ end_line
+
+-- `ready L`: links may come in, for L lanes of sessions
+abbrev pub ready_reply : ℕ → List ℕ
+ready_reply lanes = codes "ready" ++ and_number lanes ++ end_line
 
 -- `gen N M D P ANSWERED PASSED VECTORS ARCS TOTAL`: what all files of a plan come to
 abbrev pub gen_reply : Summary → List ℕ

@@ -1,15 +1,15 @@
 //! The command `check`.
-ghost use Rattle.std.specs.Prelude.{◌≡◌, [], length, OnOk, All};
+ghost use Rattle.std.specs.Prelude.{◌≡◌, [], OnOk, All};
 ghost use Rattle.command_words.specs.Words.{FilesInRange, check, check_asked, names_of};
 ghost use Rattle.route_top.specs.Check.{TellsSizes};
 ghost use Rattle.route_top.specs.Output.{Ends, RunsCommand};
 ghost use Rattle.route_top.specs.Stops.{Replies, run_outcome};
 ghost use Rattle.route_top.specs.Texts.{check_reply};
 
-use crate::network::read_network;
+use crate::network::read_sizes;
 use crate::reply::{kept, put_sizes, send};
 use crate::stop::Stop;
-use arc_graph::Graph;
+use arc_graph::NetworkSizes;
 use command_words::CheckWords;
 use out_of_memory::OutOfMemory;
 use route_io::sure::SureSink;
@@ -29,25 +29,24 @@ pub(crate) fn run<'a, F: Folder, K: Sink>(
         (F.state folder.old) (F.state folder.new) (K.state out.old) (K.state out.new)
         (run_outcome result) }
 {
-    let (graph, _) = read_network(alloc, folder, &asked.files)?;
-    reply(alloc, &graph, out)
+    let sizes = read_sizes(alloc, folder, &asked.files)?;
+    reply(alloc, sizes, out)
 }
 
 /// Tells the sizes of a network.
-fn reply<'a, K: Sink>(alloc: Global, graph: &Graph, out: &mut K) -> Result<(), Stop<'a>>
-    ensures { Replies (TellsSizes graph.now.nodes (length graph.now.ends) graph.now.criteria)
+fn reply<'a, K: Sink>(alloc: Global, sizes: NetworkSizes, out: &mut K) -> Result<(), Stop<'a>>
+    ensures { Replies (TellsSizes sizes.nodes sizes.arcs sizes.criteria)
         (K.state out.old) (K.state out.new) (run_outcome result) }
 {
     let mut text = SureSink::new(alloc);
-    put_reply(graph, &mut text)?;
+    put_reply(sizes, &mut text)?;
     send(out, text.sent())
 }
 
 /// Writes the sizes of a network.
-fn put_reply(graph: &Graph, text: &mut SureSink) -> Result<(), OutOfMemory>
+fn put_reply(sizes: NetworkSizes, text: &mut SureSink) -> Result<(), OutOfMemory>
     requires { text.old.sent ≡ [] }
-    ensures { OnOk result (text.new.sent
-        ≡ check_reply graph.now.nodes (length graph.now.ends) graph.now.criteria) }
+    ensures { OnOk result (text.new.sent ≡ check_reply sizes.nodes sizes.arcs sizes.criteria) }
 {
-    kept(put_sizes(text, graph))
+    kept(put_sizes(text, sizes))
 }

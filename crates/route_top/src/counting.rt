@@ -2,7 +2,7 @@
 ghost use Rattle.std.specs.Prelude.{◌≡◌, ◌+◌, ◌≤◌, ◌<◌, None, IfOk, OnOk, All, length};
 ghost use Rattle.road_network.specs.Limits.{max_budget};
 ghost use Rattle.road_network.specs.Queries.{IsAsked};
-ghost use Rattle.road_network.specs.Found.{IsFound};
+ghost use Rattle.walk_readback.specs.Found.{IsFound};
 ghost use Rattle.graph_gen.specs.Plans.{max_pairs};
 ghost use Rattle.gen_laws.specs.Laws.{HasNodes, IsSmall};
 ghost use Rattle.command_words.specs.Words.{AreSearchLimits};
@@ -12,15 +12,15 @@ ghost use Rattle.route_top.specs.Summary.{HasAnswer, HasWhole, SumsUp, pair_of};
 use crate::batch::query_between;
 use crate::summary::Summary;
 use arc_graph::Network;
+use bulk_search::find;
 use command_words::SearchLimits;
 use out_of_memory::OutOfMemory;
-use pareto_search::search;
-use path_readback::{Room, walk};
 use query_reader::Pair;
-use road_network::{Found, Query, SearchFault};
+use road_network::{Query, SearchFault};
 use route_io::Gate;
 use std::alloc::Global;
 use std::thread::Threads;
+use walk_readback::{FoundCosts, Room, walk};
 use work_claim::Workers;
 
 /// Who counts what the answers to queries over one network come to.
@@ -71,7 +71,7 @@ impl<R: Threads + Sync, G: Gate> Counter<'_, R, G> {
             query.now.budget (pair_of query.now) counts.old counts.new) }
         ensures fits { OnOk result (Fits counts.new) }
     {
-        match search(self.workers, self.alloc, self.network, query) {
+        match find(self.workers, self.alloc, self.network, query) {
             Ok(found) => self.count_answer(query, &found, room, counts),
             Err(SearchFault::Budget) => {
                 counts.count_passed();
@@ -82,7 +82,7 @@ impl<R: Threads + Sync, G: Gate> Counter<'_, R, G> {
     }
 
     /// Counts an answered query.
-    fn count_answer<F: Found>(
+    fn count_answer<F: FoundCosts>(
         &self,
         query: &Query,
         found: &F,
@@ -104,7 +104,7 @@ impl<R: Threads + Sync, G: Gate> Counter<'_, R, G> {
     }
 
     /// Counts the costs of an answer, with the arcs of their walks.
-    fn count_routes<F: Found>(
+    fn count_routes<F: FoundCosts>(
         &self,
         query: &Query,
         found: &F,

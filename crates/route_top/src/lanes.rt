@@ -4,7 +4,7 @@ ghost use Rattle.std.specs.List.{AllZip};
 ghost use Rattle.route_io.specs.Sinks.{Sends};
 ghost use Rattle.route_io.specs.Sources.{ReadsFrom};
 ghost use Rattle.session_core.specs.declared.end.SessionEnd.TheVariants as ended;
-ghost use Rattle.command_words.specs.Words.{FilesInRange, AreSearchLimits, SessionsInRange, lanes};
+ghost use Rattle.command_words.specs.Words.{FilesInRange, AreLanes, AreSearchLimits, lanes};
 ghost use Rattle.command_words.specs.Words.{lanes_asked, names_of, scripts_of};
 ghost use Rattle.route_top.specs.Lanes.{SaysScript, ScriptsStop, heading, lanes_reply};
 ghost use Rattle.route_top.specs.Outcome.{status_of};
@@ -26,8 +26,8 @@ use std::thread::Threads;
 use std::time::Clock;
 use work_claim::Workers;
 
-/// The most bytes that are taken from a script's link. No script has as many.
-const MAX_TAKEN: u64 = 1 << 40;
+/// The most bytes that are taken from a link. No script has as many.
+pub(crate) const MAX_TAKEN: u64 = 1 << 40;
 
 /// Serves the lanes of an operator and of sessions over the named files, and sends their replies lane by lane.
 pub(crate) fn run<'a, R: Threads + Wait + Clock + Sync, G: Gate, F: Folder, K: Sink>(
@@ -41,7 +41,7 @@ pub(crate) fn run<'a, R: Threads + Wait + Clock + Sync, G: Gate, F: Folder, K: S
     requires admitted { All F.admits (names_of (lanes (lanes_asked asked.now))) }
     requires files { FilesInRange (lanes (lanes_asked asked.now)) }
     requires limits { AreSearchLimits asked.now.limits }
-    requires sessions { SessionsInRange (lanes_asked asked.now) }
+    requires sessions { AreLanes asked.now.lanes }
     ensures { RunsCommand (Ends (F.state folder.old).files (lanes (lanes_asked asked.now)))
         (F.state folder.old) (F.state folder.new) (K.state out.old) (K.state out.new)
         (run_outcome result) }
@@ -71,7 +71,7 @@ fn read_scripts<'a, F: Folder>(
     asked: &LanesWords<'a>,
 ) -> Result<Vec<SureLink>, Stop<'a>>
     requires admitted { All F.admits (scripts_of (lanes_asked asked.now)) }
-    requires sessions { SessionsInRange (lanes_asked asked.now) }
+    requires sessions { AreLanes asked.now.lanes }
     ensures read { IfOk result (λ links. AllZip (SaysScript (F.state folder.old).files)
         (scripts_of (lanes_asked asked.now)) (map (λ l. l.from) links.items)) }
     ensures unsent { IfOk result (λ links.

@@ -4,13 +4,13 @@
 ghost use Rattle.std.specs.Prelude.{◌≡◌, ◌==◌, ◌⊎◌, ◌↔◌, ℕ, List, All, IsTrue};
 ghost use Rattle.route_io.specs.Causes.{IsCounted};
 ghost use Rattle.route_io.specs.Sources.{ReadsFrom};
-ghost use Rattle.command_words.specs.Words.{AreWords, Asks, LimitsInRange, FilesInRange, IsNamed, IsStill};
+ghost use Rattle.command_words.specs.Words.{AreWords, Asks, LimitsInRange, FilesInRange, IsStill, NamesWaiting};
 ghost use Rattle.command_words.specs.Words.{PlanInRange};
 ghost use Rattle.command_words.specs.Words.{asked_of, names_of, texts_of};
-ghost use Rattle.command_words.specs.declared.apps.Name.TheVariants.{Lanes};
 ghost use Rattle.route_top.specs.Outcome.{note_of, status_of};
 ghost use Rattle.route_top.specs.Output.{AreStillWords, AsksStill, Ends, EndsByWords, IsAskedName, Output};
 ghost use Rattle.route_top.specs.Output.{RunsCommand, TookNote};
+ghost use Rattle.route_top.specs.Serve.{EndsTown, IsReadyTown, TownByWords};
 ghost use Rattle.route_top.specs.Stops.{run_outcome};
 
 mod batch;
@@ -22,12 +22,14 @@ mod network;
 mod plan;
 mod reply;
 mod script;
+mod serve;
 mod single;
 mod status;
 mod stop;
 mod summary;
 
 use command_words::{Command, WordsFault, read_words};
+use link_doors::Town;
 use route_io::{Folder, Gate, Sink};
 use status::DONE;
 pub use status::WANT_OF_MEMORY;
@@ -41,7 +43,8 @@ use stop::Stop;
 pub const MAX_FILE_SIZE: u64 = 1 << 29;
 
 /// Runs the command that the words ask for over the folder's files, and answers the exit status. Replies go to `out`.
-/// On each status but 0 and 8 one line goes to `err`, whose faults only cut that line.
+/// On each status but 0 and 8 one line goes to `err`, whose faults only cut that line. `serve` asks the town for doors, and
+/// gives them back on every way out.
 ///
 /// | Status | Comes |
 /// |---|---|
@@ -53,17 +56,20 @@ pub const MAX_FILE_SIZE: u64 = 1 << 29;
 /// | 6 | the weight files don't agree |
 /// | 7 | the file of pairs has a faulty line, or a script is too long |
 /// | 8 | an end of the query is no node, or the query passes its budget; a line on `out` says which |
-/// | 9 | memory ran out |
-pub fn route<R: Threads + Wait + Clock + Sync, G: Gate, F: Folder, K: Sink, E: Sink>(
+/// | 9 | memory ran out, in `serve` also where it did so in a link |
+/// | 10 | the town failed, or one of its doors |
+pub fn route<R: Threads + Wait + Clock + Sync, G: Gate, F: Folder, K: Sink, E: Sink, T: Town>(
     rt: &R,
     alloc: Global,
     words: &[String],
     folder: &mut F,
     out: &mut K,
     err: &mut E,
+    town: &mut T,
     gate: &G,
 ) -> u8
-    requires { (name : List ℕ) → IsAskedName (Asks (texts_of words.now)) name → F.admits name }
+    requires admitted { (name : List ℕ) → IsAskedName (Asks (texts_of words.now)) name → F.admits name }
+    requires town { IsReadyTown (Asks (texts_of words.now)) T.admits (T.state town.old) }
 
     // One outcome says all: what was read and sent, what the folder and the sinks counted, the note and the status.
     ensures output { Output (Asks (texts_of words.now)) (F.state folder.old) (F.state folder.new)
@@ -76,15 +82,24 @@ pub fn route<R: Threads + Wait + Clock + Sync, G: Gate, F: Folder, K: Sink, E: S
     // The folder's failures alone make status 3, and those of `out` status 4.
     ensures folder { ReadsFrom (F.state folder.old) (F.state folder.new) (result == 3) }
     ensures out { IsCounted (result == 4) (K.state out.old).faults (K.state out.new).faults }
+
+    // The town is asked by `serve` alone, which serves the links of its doors and gives these back. Its failures alone make
+    // status 10.
+    ensures town { EndsTown (Asks (texts_of words.now)) (F.state folder.old).files
+        (T.state town.old) (T.state town.new) (K.state out.old) (K.state out.new) result }
 {
-    if !names_lanes(words) {
+    if !names_waiting(words) {
         return run_still(rt, alloc, words, folder, out, err, gate);
     }
-    end(alloc, run_lanes(rt, alloc, words, folder, out, gate), err)
+    end(
+        alloc,
+        run_waiting(rt, alloc, words, folder, out, town, gate),
+        err,
+    )
 }
 
-/// Runs the command that the words ask for, as `route` does, where it is one that waits for nobody: `lanes` is no command
-/// here.
+/// Runs the command that the words ask for, as `route` does, where it is one that waits for nobody: `lanes` and `serve` are
+/// no commands here.
 pub fn run_still<R: Threads + Sync, G: Gate, F: Folder, K: Sink, E: Sink>(
     rt: &R,
     alloc: Global,
@@ -126,36 +141,42 @@ fn end<E: Sink>(alloc: Global, done: Result<(), Stop<'_>>, err: &mut E) -> u8
     }
 }
 
-/// Whether the words name the command that waits.
-fn names_lanes(words: &[String]) -> bool
-    ensures { IsTrue result ↔ IsNamed (texts_of words.now) Lanes }
+/// Whether the words name a command that waits.
+fn names_waiting(words: &[String]) -> bool
+    ensures { IsTrue result ↔ NamesWaiting (texts_of words.now) }
 {
     let Some(name) = words.first() else {
         return false;
     };
     match name.as_str() {
-        "lanes" => true,
+        "lanes" | "serve" => true,
         _ => false,
     }
 }
 
-/// Runs `lanes`, which the words name, and says why where it isn't done.
-fn run_lanes<'a, R: Threads + Wait + Clock + Sync, G: Gate, F: Folder, K: Sink>(
+/// Runs a command that waits, which the words name, and says why where it isn't done.
+fn run_waiting<'a, R: Threads + Wait + Clock + Sync, G: Gate, F: Folder, K: Sink, T: Town>(
     rt: &R,
     alloc: Global,
     words: &'a [String],
     folder: &mut F,
     out: &mut K,
+    town: &mut T,
     gate: &G,
 ) -> Result<(), Stop<'a>>
-    requires named { IsNamed (texts_of words.now) Lanes }
+    requires named { NamesWaiting (texts_of words.now) }
     requires admitted { (name : List ℕ) → IsAskedName (Asks (texts_of words.now)) name → F.admits name }
-    ensures { RunsCommand (EndsByWords (Asks (texts_of words.entry.now)) (F.state folder.old).files)
+    requires town { IsReadyTown (Asks (texts_of words.now)) T.admits (T.state town.old) }
+    ensures town { TownByWords (Asks (texts_of words.entry.now)) (F.state folder.old).files
+        (T.state town.old) (T.state town.new) (K.state out.old) (K.state out.new)
+        (run_outcome result) }
+    ensures runs { RunsCommand (EndsByWords (Asks (texts_of words.entry.now)) (F.state folder.old).files)
         (F.state folder.old) (F.state folder.new) (K.state out.old) (K.state out.new)
         (run_outcome result) }
 {
     match read_words(alloc, words) {
         Ok(Command::Lanes(asked)) => lanes::run(rt, alloc, &asked, folder, out, gate),
+        Ok(Command::Serve(asked)) => serve::run(rt, alloc, &asked, folder, out, town, gate),
         Ok(_) => unreachable!(),
         Err(WordsFault::Refused) => Err(Stop::Words),
         Err(WordsFault::OutOfMemory) => Err(Stop::OutOfMemory),
@@ -194,7 +215,7 @@ fn is_still(command: &Command<'_>) -> bool
 {
     match command {
         Command::Single(_) | Command::Check(_) | Command::Batch(_) | Command::Gen(_) => true,
-        Command::Lanes(_) => false,
+        Command::Lanes(_) | Command::Serve(_) => false,
     }
 }
 
@@ -221,6 +242,6 @@ fn carry_out<'a, R: Threads + Sync, G: Gate, F: Folder, K: Sink>(
         Command::Check(asked) => check::run(alloc, asked, folder, out),
         Command::Batch(asked) => batch::run(rt, alloc, asked, folder, out, gate),
         Command::Gen(asked) => generate::run(rt, alloc, asked, out, gate),
-        Command::Lanes(_) => unreachable!(),
+        Command::Lanes(_) | Command::Serve(_) => unreachable!(),
     }
 }

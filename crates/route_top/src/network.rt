@@ -1,17 +1,17 @@
 //! Reads the named files and joins them.
-ghost use Rattle.std.specs.Prelude.{◌≤◌, ◌==◌, length, IfOk, All, map};
+ghost use Rattle.std.specs.Prelude.{◌≡◌, ◌≤◌, ◌==◌, length, IfOk, All, map};
 ghost use Rattle.arc_graph.specs.Graph.{Match, network};
 ghost use Rattle.road_network.specs.Network.{IsNetwork};
 ghost use Rattle.command_words.specs.Ranges.{max_files, min_files};
 ghost use Rattle.gr_reader.specs.Sinks.{JoinerIsReady};
 ghost use Rattle.route_io.specs.Sources.{ReadsFrom};
 ghost use Rattle.route_top.specs.Outcome.{status_of};
-ghost use Rattle.route_top.specs.ReadResults.{FileRead, NetworkRead};
+ghost use Rattle.route_top.specs.ReadResults.{FileRead, FilesAreRead, NetworkRead, SizesRead};
 ghost use Rattle.route_top.specs.Stops.{run_outcome};
 
 use crate::MAX_FILE_SIZE;
 use crate::stop::Stop;
-use arc_graph::{Graph, Joiner, Weights};
+use arc_graph::{Graph, Joiner, NetworkSizes, Weights};
 use gr_reader::{FileFault, read_into};
 use line_text::{LineLimits, MAX_LINE};
 use route_io::Folder;
@@ -39,11 +39,47 @@ pub(crate) fn read_network<'a, F: Folder>(
     ensures folder { ReadsFrom (F.state folder.old) (F.state folder.new)
         (status_of (run_outcome result) == 3) }
 {
+    let joiner = read_files(alloc, folder, names)?;
+    Ok(joiner.finish()?)
+}
+
+/// Reads the named files as `read_network` does, for the sizes of their network alone, so that nothing is laid out.
+pub(crate) fn read_sizes<'a, F: Folder>(
+    alloc: Global,
+    folder: &mut F,
+    names: &[&'a str],
+) -> Result<NetworkSizes, Stop<'a>>
+    requires admitted { All F.admits (map (λ name. name.now) names.now) }
+    requires two { min_files ≤ length names.now }
+    requires four { length names.now ≤ max_files }
+    ensures read { SizesRead (F.state folder.old).files (map (λ name. name.now) names.now) result }
+    ensures folder { ReadsFrom (F.state folder.old) (F.state folder.new)
+        (status_of (run_outcome result) == 3) }
+{
+    let joiner = read_files(alloc, folder, names)?;
+    Ok(joiner.sizes()?)
+}
+
+/// Reads the named files in order, and hands their arcs to a joiner.
+fn read_files<'a, F: Folder>(
+    alloc: Global,
+    folder: &mut F,
+    names: &[&'a str],
+) -> Result<Joiner, Stop<'a>>
+    requires admitted { All F.admits (map (λ name. name.now) names.now) }
+    requires four { length names.now ≤ max_files }
+    ensures begun { IfOk result (λ joiner. joiner.begun ≡ length names.now) }
+    ensures whole { IfOk result (λ joiner. joiner.come ≡ joiner.due_arcs) }
+    ensures read { FilesAreRead (F.state folder.old).files
+        (map (λ name. name.now) names.now) result }
+    ensures folder { ReadsFrom (F.state folder.old) (F.state folder.new)
+        (status_of (run_outcome result) == 3) }
+{
     let mut joiner = Joiner::new(alloc);
     for name in names {
         read_file(alloc, folder, name, &mut joiner)?;
     }
-    Ok(joiner.finish()?)
+    Ok(joiner)
 }
 
 /// Reads one file, and hands its arcs to the joiner as they come.

@@ -1,5 +1,5 @@
 //! The replies of the commands.
-ghost use Rattle.std.specs.Prelude.{◌≢◌, ◌↔◌, ◌≡◌, length, IsOk, Ok, Err};
+ghost use Rattle.std.specs.Prelude.{◌≢◌, ◌↔◌, ◌≡◌, IsOk, Ok, Err};
 ghost use Rattle.route_io.specs.Sinks.{Sends};
 ghost use Rattle.route_top.specs.Outcome.{done};
 ghost use Rattle.route_top.specs.Stops.{IsReply, Replies, reply_outcome, run_outcome};
@@ -7,7 +7,7 @@ ghost use Rattle.route_top.specs.Texts.{check_reply};
 
 use crate::stop::Stop;
 use answer_writer::{Piece, put_line};
-use arc_graph::Graph;
+use arc_graph::NetworkSizes;
 use out_of_memory::OutOfMemory;
 use query_replies::Reply;
 use route_io::{Sink, WriteFault, put_all};
@@ -46,18 +46,18 @@ pub(crate) fn kept(written: Result<(), WriteFault>) -> Result<(), OutOfMemory>
 }
 
 /// Sends the sizes of a network.
-pub(crate) fn put_sizes<K: Sink>(sink: &mut K, graph: &Graph) -> Result<(), WriteFault>
+pub(crate) fn put_sizes<K: Sink>(sink: &mut K, sizes: NetworkSizes) -> Result<(), WriteFault>
     ensures { Sends (K.state sink.old) (K.state sink.new)
-        (check_reply graph.now.nodes (length graph.now.ends) graph.now.criteria) result }
+        (check_reply sizes.nodes sizes.arcs sizes.criteria) result }
 {
     use Piece::{Number, Text};
     put_line(
         sink,
         &[
             Text("ok"),
-            Number(u64::from(graph.nodes())),
-            Number(u64::from(graph.arcs())),
-            Number(graph.criteria() as u64),
+            Number(u64::from(sizes.nodes)),
+            Number(u64::from(sizes.arcs)),
+            Number(sizes.criteria as u64),
             Text("\n"),
         ],
     )

@@ -12,12 +12,12 @@ use crate::reply::{EPOCH, end_of};
 use crate::stop::Stop;
 use arc_graph::Network;
 use command_words::SingleWords;
-use path_readback::Room;
 use query_replies::Answerer;
 use road_network::{AnswerKind, Query};
 use route_io::{Folder, Gate, Sink};
 use std::alloc::Global;
 use std::thread::Threads;
+use walk_readback::Room;
 use work_claim::Workers;
 
 /// Answers one query over the named files.

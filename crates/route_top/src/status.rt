@@ -18,5 +18,7 @@ pub const BAD_PAIRS: u8 = 7;
 pub const LONG_SCRIPT: u8 = 7;
 /// An end of the query is no node, or the query passes its budget; a line on `out` says which.
 pub const REFUSED: u8 = 8;
+/// The town failed, or one of its doors.
+pub const TOWN_FAILED: u8 = 10;
 /// Memory ran out.
 pub const WANT_OF_MEMORY: u8 = 9;

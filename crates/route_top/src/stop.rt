@@ -8,12 +8,13 @@ ghost use Rattle.route_top.specs.Stops.{script_name, script_outcome};
 use crate::script::{Script, ScriptFault};
 use crate::status::{
     BAD_FILE, BAD_FILES, BAD_PAIRS, BAD_WORDS, FOLDER_FAILED, LONG_SCRIPT, OUT_FAILED, REFUSED,
-    WANT_OF_MEMORY,
+    TOWN_FAILED, WANT_OF_MEMORY,
 };
 use answer_writer::{Piece, put_line};
 use arc_graph::{Disagreement, JoinFault};
 use gr_reader::LineKind;
 use itoa::Buffer;
+use link_doors::TownFault;
 use out_of_memory::OutOfMemory;
 use query_replies::ReplyFault;
 use route_io::sure::SureSink;
@@ -51,6 +52,8 @@ pub(crate) enum Stop<'a> {
     },
     /// A line on `out` says why.
     Refused,
+    /// The town failed, or one of its doors.
+    Town,
     OutOfMemory,
 }
 
@@ -70,6 +73,7 @@ impl Stop<'_> {
             Stop::Files(_) => BAD_FILES,
             Stop::Pairs { .. } => BAD_PAIRS,
             Stop::Refused => REFUSED,
+            Stop::Town => TOWN_FAILED,
             Stop::Out(WriteFault::OutOfMemory) | Stop::OutOfMemory => WANT_OF_MEMORY,
         }
     }
@@ -109,6 +113,7 @@ impl Stop<'_> {
             }
             Stop::Script { script, fault } => note_script(err, script, *fault),
             Stop::Refused => Ok(()),
+            Stop::Town => put_all(err, b"route: town\n"),
             Stop::Out(WriteFault::OutOfMemory) | Stop::OutOfMemory => {
                 put_all(err, b"route: memory\n")
             }
@@ -243,6 +248,20 @@ impl From<WriteFault> for Stop<'_> {
 
     fn from(fault: WriteFault) -> Self {
         Stop::Out(fault)
+    }
+}
+
+impl From<TownFault> for Stop<'_> {
+    ghost use Rattle.std.specs.Prelude.{◌≡◌};
+    ghost use Rattle.route_top.specs.Stops.{stop_of_town};
+
+    ghost from_gives = { λ fault s. s ≡ stop_of_town fault };
+
+    fn from(fault: TownFault) -> Self {
+        match fault {
+            TownFault::Failed => Stop::Town,
+            TownFault::OutOfMemory => Stop::OutOfMemory,
+        }
     }
 }
 

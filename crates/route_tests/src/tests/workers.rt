@@ -1,7 +1,8 @@
-//! What several workers share: the answers don't tell how many they are, and merging runs on two threads at once.
-use super::rows::{FIRST, SIX_ARCS, first_run_rows};
+//! What several workers share: the answers don't tell how many they are, and merging and queries run on two threads at once.
+use super::rows::{A, B, FIRST, SIX_ARCS, first_run_rows};
 use super::{
-    FIRST as WANTED, Outside, Row, assert_ended, assert_run, generated, outside_of, walks,
+    FIRST as WANTED, Outside, Row, Wanted, assert_ended, assert_run, bounded, generated,
+    outside_of, walks,
 };
 use route_io::{Gate, Phase};
 use std::alloc::{AllocError, Global};
@@ -61,9 +62,103 @@ fn summaries_do_not_tell_the_workers(rt: HostRuntime) {
     assert_all_with_workers(&rt, rt.alloc(), generated::summary_rows(), 8);
 }
 
-/// Counts the pieces of work, and holds each of the pieces 0 and 1 of merging until the other has come, for a limited time.
+/// A gate that does nothing, and has all work shared.
+struct Sharing;
+
+impl Gate for Sharing {
+    const SHARED_FROM: usize = 0;
+
+    ghost SHARED_FROM = { 0 };
+
+    fn pass(&self, _phase: Phase, _piece: u64) {}
+}
+
+/// The run of these words ends so where all work is shared.
+fn assert_shared(
+    rt: &(impl Abort + Threads + Wait + Clock + Sync),
+    alloc: Global,
+    wanted: &Wanted,
+    number: usize,
+    outside: Result<Outside, AllocError>,
+) {
+    let ended = ended_through(rt, alloc, wanted.words, outside, &Sharing);
+    assert_ended(rt, ended, wanted, number);
+}
+
+/// The status of the run through a gate, and what it read from and sent to.
+fn ended_through(
+    rt: &(impl Threads + Wait + Clock + Sync),
+    alloc: Global,
+    words: &str,
+    outside: Result<Outside, AllocError>,
+    gate: &impl Gate,
+) -> Result<(u8, Outside), AllocError> {
+    let mut outside = outside?;
+    let status = outside.run_through(rt, alloc, words, gate)?;
+    Ok((status, outside))
+}
+
+/// A batch of five pairs, one of which is refused.
+const FIVE: &[(&str, &str)] = &[
+    ("A.gr", A),
+    ("B.gr", B),
+    ("P", "p aux sp p2p 5\nq 1 4\nq 4 1\nq 9 1\nq 2 2\nq 1 4\n"),
+];
+
+/// The replies to them.
+const FIVE_OUT: &str =
+    "r 0 1 4 2\np 2 8 2 1 3\np 4 2 2 2 4\nr 0 4 1 0\nx 0 9 1 node\nr 0 2 2 1\np 0 0 0\nr 0 1 4 2\np 2 8 2 1 3\np 4 2 2 2 4\n";
+
+/// What is wanted of that batch by so many workers, where `out` takes no more than this front of the replies.
+fn wanted_of_five(workers: u32, bound: usize) -> Wanted<'static> {
+    let words = match workers {
+        1 => "batch --pairs P --workers 1 A.gr B.gr",
+        2 => "batch --pairs P --workers 2 A.gr B.gr",
+        3 => "batch --pairs P --workers 3 A.gr B.gr",
+        _ => "batch --pairs P --workers 64 A.gr B.gr",
+    };
+    let is_whole = bound >= FIVE_OUT.len();
+    Wanted {
+        words,
+        status: if is_whole { 0 } else { 4 },
+        out: if is_whole {
+            FIVE_OUT.as_bytes()
+        } else {
+            &FIVE_OUT.as_bytes()[..bound]
+        },
+        err: if is_whole { b"" } else { b"route: out\n" },
+    }
+}
+
+#[test]
+fn batches_do_not_tell_the_workers(rt: HostRuntime) {
+    for workers in [1, 2, 3, 64] {
+        let outside = outside_of(rt.alloc(), FIVE, usize::MAX);
+        let wanted = wanted_of_five(workers, usize::MAX);
+        assert_shared(&rt, rt.alloc(), &wanted, workers as usize, outside);
+    }
+}
+
+/// That batch with an `out` that takes so many bytes.
+fn five_to(alloc: Global, bound: usize) -> Result<Outside, AllocError> {
+    let mut outside = outside_of(alloc, FIVE, usize::MAX)?;
+    outside.out = bounded(alloc, bound);
+    Ok(outside)
+}
+
+#[test]
+fn a_window_is_cut_at_any_byte(rt: HostRuntime) {
+    for bound in 0..FIVE_OUT.len() {
+        let outside = five_to(rt.alloc(), bound);
+        assert_shared(&rt, rt.alloc(), &wanted_of_five(2, bound), bound, outside);
+    }
+}
+
+/// Counts the pieces of work, and holds each of the pieces 0 and 1 of a phase until the other has come, for a limited time.
 #[derive(Drop)]
 struct Meeting {
+    at: Phase,
+    queried: AtomicU32,
     relaxed: AtomicU32,
     merged: AtomicU32,
     even_came: AtomicBool,
@@ -75,8 +170,10 @@ struct Meeting {
 const TURNS: u32 = 1_000_000;
 
 impl Meeting {
-    fn new() -> Meeting {
+    fn new(at: Phase) -> Meeting {
         Meeting {
+            at,
+            queried: AtomicU32::new(0),
             relaxed: AtomicU32::new(0),
             merged: AtomicU32::new(0),
             even_came: AtomicBool::new(false),
@@ -96,12 +193,21 @@ impl Meeting {
         self.gave_up.store(true, Ordering::SeqCst);
     }
 
-    fn pass_merge(&self, piece: u64) {
-        self.merged.fetch_add(1, Ordering::SeqCst);
+    /// Holds the pieces 0 and 1 until the other has come.
+    fn hold(&self, piece: u64) {
         match piece {
             0 => self.meet(&self.even_came, &self.odd_came),
             1 => self.meet(&self.odd_came, &self.even_came),
             _ => {}
+        }
+    }
+
+    /// The count of this phase's pieces.
+    fn count(&self, phase: Phase) -> &AtomicU32 {
+        match phase {
+            Phase::Query => &self.queried,
+            Phase::Relax => &self.relaxed,
+            Phase::Merge => &self.merged,
         }
     }
 }
@@ -112,12 +218,9 @@ impl Gate for Meeting {
     ghost SHARED_FROM = { 0 };
 
     fn pass(&self, phase: Phase, piece: u64) {
-        match phase {
-            Phase::Query => {}
-            Phase::Relax => {
-                self.relaxed.fetch_add(1, Ordering::SeqCst);
-            }
-            Phase::Merge => self.pass_merge(piece),
+        self.count(phase).fetch_add(1, Ordering::SeqCst);
+        if phase == self.at {
+            self.hold(piece);
         }
     }
 }
@@ -145,7 +248,7 @@ fn met(
 
 #[test]
 fn two_workers_merge_at_once(rt: HostRuntime) {
-    let gate = Meeting::new();
+    let gate = Meeting::new(Phase::Merge);
     assert_ended(&rt, met(&rt, rt.alloc(), &gate), &WANTED, 2);
     assert!(rt;
         gate.relaxed.load(Ordering::SeqCst) == 3,
@@ -158,5 +261,19 @@ fn two_workers_merge_at_once(rt: HostRuntime) {
     assert!(rt;
         !gate.gave_up.load(Ordering::SeqCst),
         "the pieces didn't meet"
+    );
+}
+
+#[test]
+fn two_queries_are_searched_at_once(rt: HostRuntime) {
+    let gate = Meeting::new(Phase::Query);
+    let outside = outside_of(rt.alloc(), FIVE, usize::MAX);
+    let wanted = wanted_of_five(2, usize::MAX);
+    let ended = ended_through(&rt, rt.alloc(), wanted.words, outside, &gate);
+    assert_ended(&rt, ended, &wanted, 2);
+    assert!(rt; gate.queried.load(Ordering::SeqCst) == 5, "queries");
+    assert!(rt;
+        !gate.gave_up.load(Ordering::SeqCst),
+        "the queries didn't meet"
     );
 }

@@ -1,4 +1,4 @@
-use Rattle.std.proofs.Common.{◌∙◌, refl, sym}
+use Rattle.std.proofs.Common.{◌∙◌, sym}
 use Rattle.command_words.specs.Words.{texts_of}
 use Rattle.route_top.specs.Output.{AsksStill}
 use Rattle.route_top.specs.Stops.{run_outcome}

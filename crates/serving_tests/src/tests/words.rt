@@ -1,4 +1,6 @@
-use command_words::{BatchWords, Command, GenWords, SingleWords, WordsFault, read_words};
+use command_words::{
+    BatchWords, Command, GenWords, ServeWords, SingleWords, WordsFault, read_words,
+};
 use road_network::AnswerKind;
 use std::alloc::{AllocError, Global};
 use std::process::Abort;
@@ -31,6 +33,7 @@ fn shown(alloc: Global, command: &Command) -> Result<String, AllocError> {
         Command::Batch(asked) => shown_batch(alloc, asked),
         Command::Gen(asked) => shown_gen(alloc, asked),
         Command::Lanes(asked) => String::from_str(alloc, asked.sessions),
+        Command::Serve(asked) => shown_serve(alloc, asked),
     }
 }
 
@@ -85,6 +88,16 @@ fn shown_gen(alloc: Global, asked: &GenWords) -> Result<String, AllocError> {
             listed(alloc, "all", &numbers, &[])
         }
     }
+}
+
+/// The addresses stand last, that of the operator behind the other.
+fn shown_serve(alloc: Global, asked: &ServeWords) -> Result<String, AllocError> {
+    let (budget, workers) = (asked.limits.budget, asked.limits.workers);
+    let numbers = [asked.lanes, asked.links, asked.epoch, budget, workers];
+    let mut text = listed(alloc, "serve", &numbers, &asked.files)?;
+    let (listen, operator) = (asked.listen, asked.operator);
+    write!(text, " at {listen:?} {operator:?}")?;
+    Ok(text)
 }
 
 /// Whether a text begins with a name and goes on with what stands beside it.
@@ -226,6 +239,32 @@ const LANES: &[(&str, &str)] = &[
 #[test]
 fn reads_the_words_of_lanes(rt: HostRuntime) {
     assert_rows(&rt, rt.alloc(), "", "", LANES);
+}
+
+/// Words behind `serve`, and what they ask for: the lanes, the links, the first epoch, budget, workers, files and addresses.
+const SERVE: &[(&str, &str)] = &[
+    (
+        "--listen here --operator there A B",
+        r#"serve 1 1000000000 0 10000000 1 "A" "B" at "here" "there""#,
+    ),
+    (
+        "A --links=7 --operator=127.0.0.1:2 --lanes 16 B --epoch 5 --listen= --budget 3 --workers 2 C",
+        r#"serve 16 7 5 3 2 "A" "B" "C" at "" "127.0.0.1:2""#,
+    ),
+    ("--listen here A B", REFUSED),
+    ("--operator there A B", REFUSED),
+    ("--listen here --operator there --links 0 A B", REFUSED),
+    (
+        "--listen here --operator there --links 1000000001 A B",
+        REFUSED,
+    ),
+    ("--listen here --operator there --lanes 17 A B", REFUSED),
+    ("--listen here --operator there --sessions day A B", REFUSED),
+];
+
+#[test]
+fn reads_the_words_of_serve(rt: HostRuntime) {
+    assert_rows(&rt, rt.alloc(), "serve", "", SERVE);
 }
 
 /// Words behind `gen` that are those of no command.

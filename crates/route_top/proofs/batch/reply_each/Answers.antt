@@ -1,10 +1,13 @@
-use Rattle.std.proofs.Common.{Ok, Err, arith, refl, subst}
+use Rattle.std.proofs.Common.{Ok, Err, arith, refl, rules, subst, sym}
+use Rattle.std.specs.Prelude.{IfSome}
 use Rattle.std.proofs.lemmas.Result.{err_from_is_err_and}
 use Rattle.query_reader.specs.declared.pairs.Pair.{Pair}
 use Rattle.road_network.specs.declared.query.AnswerKind.TheVariants.{Walks}
 use Rattle.road_network.specs.declared.query.Query.{Query}
+use Rattle.query_replies.specs.Making.{IsMade}
 use Rattle.query_replies.specs.Queries.{RepliesToQuery}
 use Rattle.query_replies.specs.Sending.{Replied}
+use Rattle.route_top.proofs.AheadLemmas.{taken_behind}
 use Rattle.route_top.proofs.BatchLemmas.{all_replied, ends_at_pair, none_replied, one_more_replied}
 use Rattle.route_top.proofs.batch.reply_each.Goals as goal
 
@@ -12,30 +15,44 @@ use Rattle.route_top.proofs.batch.reply_each.Goals as goal
 abbrev blank : Pair
 blank = record { from = 0; to = 0 }
 
-pub loop-pair-init : goal.loop-pair-init
-loop-pair-init g c = none_replied c.args.limits c.args.answerer.now.network.now c.args.pairs.now _
+pub loop-i-init : goal.loop-i-init
+loop-i-init g c = record {
+  replied = none_replied c.args.limits c.args.answerer.now.network.now c.args.pairs.now _;
+  ahead = rw c.new-ahead.ensures.items tt;
+}
 
-pub loop-pair-preserved : goal.loop-pair-preserved
-loop-pair-preserved g c =
+pub reply_as_made-requires : goal.reply_as_made-requires
+reply_as_made-requires g c =
     let net = c.args.answerer.now.network.now in
-    let mid = g.K.Sink.state c.loop-pair.out in
-    let replied = g.K.Sink.state c.reply.new.out in
-    let is = c.query_between-query.ensures.value in
-    let sends = subst (λ (query : Query). Replied (RepliesToQuery net 0 Walks query) mid replied (Ok c.in_ok-reply.field-0)) is c.in_ok-reply.ensures in
-    one_more_replied c.args.limits net c.args.pairs.now c.loop-pair.pair-index blank _ c.loop-pair-test.true refl _ _ _ c.loop-pair.invariant _ sends
+    let taken = taken_behind c.args.limits net c.args.pairs.now c.loop-i.i blank _ _ _ c.loop-i-test.true c.refill.ensures (c.take_next-made.ensures c.args.limits net) in
+    let made = subst (λ (query : Query). IfSome c.take_next-made.result (IsMade net 0 Walks query)) (sym c.query_between-query.ensures.value) taken.0 in
+    search (rules, made, c.query_between-query.ensures.asked)
 
-pub returns-in_err-reply : goal.returns-in_err-reply
-returns-in_err-reply g c =
+pub loop-i-preserved : goal.loop-i-preserved
+loop-i-preserved g c =
+    let net = c.args.answerer.now.network.now in
+    let mid = g.K.Sink.state c.loop-i.out in
+    let replied = g.K.Sink.state c.reply_as_made.new.out in
+    let is = c.query_between-query.ensures.value in
+    let sends = subst (λ (query : Query). Replied (RepliesToQuery net 0 Walks query) mid replied (Ok c.in_ok-reply_as_made.field-0)) is c.in_ok-reply_as_made.ensures in
+    let taken = taken_behind c.args.limits net c.args.pairs.now c.loop-i.i blank _ _ _ c.loop-i-test.true c.refill.ensures (c.take_next-made.ensures c.args.limits net) in
+    record {
+      replied = one_more_replied c.args.limits net c.args.pairs.now c.loop-i.i blank _ c.loop-i-test.true refl _ _ _ c.loop-i.invariant.replied _ sends;
+      ahead = taken.1;
+    }
+
+pub returns-in_err-reply_as_made : goal.returns-in_err-reply_as_made
+returns-in_err-reply_as_made g c =
     let p = err_from_is_err_and c.from_residual.result c.from_residual.ensures.1 in
     let net = c.args.answerer.now.network.now in
-    let mid = g.K.Sink.state c.loop-pair.out in
-    let replied = g.K.Sink.state c.reply.new.out in
+    let mid = g.K.Sink.state c.loop-i.out in
+    let replied = g.K.Sink.state c.reply_as_made.new.out in
     let is = c.query_between-query.ensures.value in
-    let sends = subst (λ (query : Query). Replied (RepliesToQuery net 0 Walks query) mid replied (Err c.in_err-reply.field-0.0)) is c.in_err-reply.ensures in
+    let sends = subst (λ (query : Query). Replied (RepliesToQuery net 0 Walks query) mid replied (Err c.in_err-reply_as_made.field-0.0)) is c.in_err-reply_as_made.ensures in
     rw (p.1, p.2)
-    (ends_at_pair c.args.limits net c.args.pairs.now c.loop-pair.pair-index blank _ c.loop-pair-test.true refl _ _ _ c.loop-pair.invariant _ sends)
+    (ends_at_pair c.args.limits net c.args.pairs.now c.loop-i.i blank _ c.loop-i-test.true refl _ _ _ c.loop-i.invariant.replied _ sends)
 
 pub returns : goal.returns
 returns g c =
-    all_replied c.args.limits c.args.answerer.now.network.now c.args.pairs.now c.loop-pair.pair-index _ _
-    (omega arith) c.loop-pair.invariant
+    all_replied c.args.limits c.args.answerer.now.network.now c.args.pairs.now c.loop-i.i _ _
+    (omega arith) c.loop-i.invariant.replied

@@ -1,7 +1,11 @@
+use Rattle.std.proofs.Common.{drop}
+use Rattle.route_top.specs.Ahead.{AreAhead}
 use Rattle.route_top.proofs.BatchLemmas.{HasReplied}
 use Rattle.route_top.proofs.batch.reply_each.Given as goal
 
--- the pairs so far have their replies
-abbrev pub invariant-loop-pair : goal.invariant-loop-pair
-invariant-loop-pair g l = HasReplied l.limits l.answerer.network.now l.pairs l.pair-index (g.K.Sink.state l.fn.out)
-    (g.K.Sink.state l.out)
+-- the pairs so far have their replies, and some of the next were made ahead
+abbrev pub invariant-loop-i : goal.invariant-loop-i
+invariant-loop-i g l = record {
+  replied : HasReplied l.limits l.answerer.network.now l.pairs l.i (g.K.Sink.state l.fn.out) (g.K.Sink.state l.out);
+  ahead : AreAhead l.limits l.answerer.network.now (drop l.i l.pairs) l.ahead.items;
+}

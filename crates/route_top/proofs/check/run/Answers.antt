@@ -3,13 +3,14 @@ use Rattle.route_top.specs.Check.{CheckReplies}
 use Rattle.route_top.proofs.FilesReadLemmas.{ends_at_files, ends_over}
 use Rattle.route_top.proofs.check.run.Goals as goal
 
-pub returns-in_err-graph : goal.returns-in_err-graph
-returns-in_err-graph g c =
+pub returns-in_err-sizes : goal.returns-in_err-sizes
+returns-in_err-sizes g c =
     let p = err_from_is_err_and c.from_residual.result c.from_residual.ensures.1 in
-    let stop = rw c.deref.ensures.value at c.in_err-graph.ensures.read in
-    rw (p.1, p.2) (ends_at_files CheckReplies _ _ _ _ stop c.in_err-graph.ensures.folder)
+    let stop = rw c.deref.ensures.value at c.in_err-sizes.ensures.read in
+    rw (p.1, p.2) (ends_at_files CheckReplies _ _ _ _ stop c.in_err-sizes.ensures.folder)
 
 pub returns : goal.returns
 returns g c =
-    let read = rw c.deref.ensures.value at c.in_ok-graph.ensures.read in
-    ends_over CheckReplies _ _ _ _ _ _ _ _ read c.in_ok-graph.ensures.folder (c.reply.ensures _)
+    let (net, read, sizes) = rw c.deref.ensures.value at c.in_ok-sizes.ensures.read in
+    let runs = rw sizes at (c.reply.ensures (g.F.Source.state c.read_sizes.new.folder)) in
+    ends_over CheckReplies _ _ _ net _ _ _ _ read c.in_ok-sizes.ensures.folder runs

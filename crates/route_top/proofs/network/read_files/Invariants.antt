@@ -1,7 +1,7 @@
 use Rattle.std.proofs.Common.{◌≡◌, false, map, take}
 use Rattle.route_io.specs.Sources.{ReadsFrom}
-use Rattle.route_top.proofs.FilesReadLemmas.{HasRead}
-use Rattle.route_top.proofs.network.read_network.Given as goal
+use Rattle.route_top.specs.ReadResults.{HasRead}
+use Rattle.route_top.proofs.network.read_files.Given as goal
 
 -- the files so far have come whole to the joiner, and nothing has failed
 abbrev pub invariant-loop-name : goal.invariant-loop-name

@@ -1,0 +1,60 @@
+-- What the words give for a search is within its ranges.
+use Rattle.std.proofs.Common.{◌≡◌, ℕ, ◌≤◌, Bool, true, false, if◌then◌else◌, List, Option, Some, None, nat_lt, arith, refl, subst}
+use Rattle.std.specs.Prelude.{codes}
+use Rattle.clap.specs.Words.{Row, Text, first_of}
+use Rattle.line_text.specs.Numerals.{is_digits, numeral_or_above, value_of}
+use Rattle.line_text.specs.declared.numerals.Numeral.TheVariants.{NotDigits, Value}
+use Rattle.road_network.specs.Limits.{max_budget}
+use Rattle.command_words.specs.declared.SearchLimits.{SearchLimits}
+use Rattle.command_words.specs.declared.apps.Name.{Name}
+use Rattle.command_words.specs.declared.apps.Name.TheVariants.{Batch, Check, Gen, Lanes, Serve, Single}
+use Rattle.command_words.specs.Ranges.{default_budget, default_workers, max_workers}
+use Rattle.command_words.specs.Words.{AreSearchLimits, Asked, AsksAs, AsksBudget, AsksLimits, AsksWorkers, IsGivenOr, LimitsInRange}
+use Rattle.command_words.proofs.AskLemmas.{batch_alone, check_alone, gen_alone, lanes_alone, serve_alone, single_alone}
+
+-- a text that is read as a number of at most the greatest is one
+number_within : (digits above : Bool) (value greatest n : ℕ) → nat_lt greatest value ≡ above
+    → (if digits then numeral_or_above (if above then None else Some value) else NotDigits) ≡ Value n → n ≤ greatest
+number_within false above value greatest n test reads = absurd cc
+number_within true true value greatest n test reads = absurd cc
+number_within true false value greatest n test reads =
+    let same : value ≡ n = cc reads in
+    grind (arith, test, same)
+
+-- an option that is given, or left out, gives a number of its range
+in_range : (other least greatest : ℕ) (text : Option Text) (n : ℕ) → least ≤ other → other ≤ greatest → IsGivenOr other least greatest text n
+    → (least ≤ n) × (n ≤ greatest)
+in_range other least greatest (Some text) n low high given =
+    (given.in_range, number_within (is_digits text) (nat_lt greatest (value_of text)) (value_of text) greatest n refl given.value)
+in_range other least greatest None n low high given = (omega (arith, low, given), omega (arith, high, given))
+
+search_limits : (rows : List Row) (budget workers : ℕ) → AsksBudget rows budget → AsksWorkers rows workers
+    → AreSearchLimits (record { budget = budget; workers = workers })
+search_limits rows budget workers b w =
+    let labels = in_range default_budget 1 max_budget (first_of (codes "budget") rows) budget (omega arith) (omega arith) b in
+    let threads = in_range default_workers 1 max_workers (first_of (codes "workers") rows) workers (omega arith) (omega arith) w in
+    record { some_budget = labels.0; budget = labels.1; some_workers = threads.0; workers = threads.1 }
+
+are_limits : (rows : List Row) (limits : SearchLimits) → AsksLimits rows limits → AreSearchLimits limits
+are_limits rows limits asks = search_limits rows limits.budget limits.workers asks.budget asks.workers
+
+-- the values of a command say within the ranges how it searches
+pub limits_in_range : (name : Name) (rows : List Row) (asked : Asked) → AsksAs name rows asked → LimitsInRange asked
+limits_in_range (Single kind) rows asked values =
+    let (s, is, kind_is, asks) = single_alone kind rows asked values in
+    subst LimitsInRange is (record { unlimited = asks.query.unlimited; limits = search_limits rows s.query.budget s.workers asks.query.budget asks.workers })
+limits_in_range Check rows asked values =
+    let (files, is, asks) = check_alone rows asked values in
+    subst LimitsInRange is tt
+limits_in_range Batch rows asked values =
+    let (b, is, asks) = batch_alone rows asked values in
+    subst LimitsInRange is (are_limits rows b.limits asks.limits)
+limits_in_range Gen rows asked values =
+    let (g, is, asks) = gen_alone rows asked values in
+    subst LimitsInRange is (are_limits rows g.limits asks.limits)
+limits_in_range Lanes rows asked values =
+    let (l, is, asks) = lanes_alone rows asked values in
+    subst LimitsInRange is (are_limits rows l.limits asks.limits)
+limits_in_range Serve rows asked values =
+    let (s, is, asks) = serve_alone rows asked values in
+    subst LimitsInRange is (are_limits rows s.limits asks.limits)

@@ -1,0 +1,132 @@
+//! The command `serve`.
+ghost use Rattle.std.specs.Prelude.{◌≡◌, ◌≤◌, All, false, length, map};
+ghost use Rattle.arc_graph.specs.Graph.{Match, network};
+ghost use Rattle.route_io.specs.Sinks.{Sends};
+ghost use Rattle.command_words.specs.Words.{AreLanes, AreSearchLimits, FilesInRange, names_of, serve, serve_asked};
+ghost use Rattle.route_top.specs.Output.{Ends, RunsCommand};
+ghost use Rattle.route_top.specs.Serve.{AsksTown, ServesDoors, ServesTown, max_taken, served_outcome};
+ghost use Rattle.route_top.specs.Stops.{run_outcome};
+ghost use Rattle.route_top.specs.Texts.{ready_reply};
+
+use crate::lanes::MAX_TAKEN;
+use crate::network::read_network;
+use crate::stop::Stop;
+use answer_writer::{Piece, put_line};
+use arc_graph::Weights;
+use command_words::ServeWords;
+use link_doors::{Door, Town};
+use out_of_memory::OutOfMemory;
+use route_io::{Folder, Gate, Sink, WriteFault};
+use route_lanes::{Served, serve_lanes};
+use session_core::ServeContext;
+use std::alloc::Global;
+use std::sync::Wait;
+use std::thread::Threads;
+use std::time::Clock;
+use work_claim::Workers;
+
+/// Has the town listen over the network of the named files, and serves what its doors give until they give no more.
+pub(crate) fn run<'a, R: Threads + Wait + Clock + Sync, G: Gate, F: Folder, K: Sink, T: Town>(
+    rt: &R,
+    alloc: Global,
+    asked: &ServeWords<'a>,
+    folder: &mut F,
+    out: &mut K,
+    town: &mut T,
+    gate: &G,
+) -> Result<(), Stop<'a>>
+    requires admitted { All F.admits (names_of (serve (serve_asked asked.now))) }
+    requires addresses { T.admits asked.now.listen.now asked.now.operator.now
+        asked.now.lanes asked.now.links }
+    requires unasked { (T.state town.old).asked ≡ false }
+    requires files { FilesInRange (serve (serve_asked asked.now)) }
+    requires limits { AreSearchLimits asked.now.limits }
+    requires lanes { AreLanes asked.now.lanes }
+    ensures runs { RunsCommand (Ends (F.state folder.old).files (serve (serve_asked asked.now)))
+        (F.state folder.old) (F.state folder.new) (K.state out.old) (K.state out.new)
+        (run_outcome result) }
+    ensures town { AsksTown (F.state folder.old).files (serve_asked asked.now)
+        (T.state town.old) (T.state town.new) (K.state out.old) (K.state out.new)
+        (run_outcome result) }
+{
+    let (graph, weights) = read_network(alloc, folder, &asked.files)?;
+    let workers = Workers::new(rt, asked.limits.workers, gate);
+    let context = ServeContext {
+        workers: &workers,
+        alloc,
+        graph: &graph,
+        budget: asked.limits.budget,
+        bytes: MAX_TAKEN,
+    };
+    serve_town(&context, weights, asked, out, town)
+}
+
+/// Has the town listen, serves its doors, and gives them back.
+fn serve_town<'a, R: Threads + Wait + Clock + Sync, G: Gate, K: Sink, T: Town>(
+    context: &ServeContext<'_, R, G>,
+    weights: Weights,
+    asked: &ServeWords<'a>,
+    out: &mut K,
+    town: &mut T,
+) -> Result<(), Stop<'a>>
+    requires addresses { T.admits asked.now.listen.now asked.now.operator.now
+        asked.now.lanes asked.now.links }
+    requires unasked { (T.state town.old).asked ≡ false }
+    requires weights { Match context.now.graph.now weights }
+    requires limits { AreSearchLimits asked.now.limits }
+    requires budget { context.now.budget ≡ asked.now.limits.budget }
+    requires bytes { context.now.bytes ≡ max_taken }
+    requires lanes { AreLanes asked.now.lanes }
+    ensures { ServesTown (serve_asked asked.now) (network context.now.graph.now weights)
+        (T.state town.old) (T.state town.new) (K.state out.old) (K.state out.new)
+        (run_outcome result) }
+{
+    let mut doors = town.listen(asked.listen, asked.operator, asked.lanes, asked.links)?;
+    let served = serve_doors(context, weights, asked, out, &mut doors);
+    town.take_back(doors);
+    served
+}
+
+/// Says that links may come in, and serves what these doors give until they give no more.
+fn serve_doors<'a, R: Threads + Wait + Clock + Sync, G: Gate, K: Sink, D: Door + Send>(
+    context: &ServeContext<'_, R, G>,
+    weights: Weights,
+    asked: &ServeWords<'a>,
+    out: &mut K,
+    doors: &mut [D],
+) -> Result<(), Stop<'a>>
+    requires weights { Match context.now.graph.now weights }
+    requires limits { AreSearchLimits asked.now.limits }
+    requires budget { context.now.budget ≡ asked.now.limits.budget }
+    requires bytes { context.now.bytes ≡ max_taken }
+    requires some_session { 2 ≤ length doors.old }
+    requires at_most_16_sessions { length doors.old ≤ 17 }
+    ensures { ServesDoors (serve_asked asked.now) (network context.now.graph.now weights)
+        (map D.state doors.old) (map D.state doors.new)
+        (K.state out.old) (K.state out.new) (run_outcome result) }
+{
+    put_ready(out, asked.lanes)?;
+    end_of(serve_lanes(context, weights, asked.epoch, doors))
+}
+
+/// How a run ends by what became of its doors.
+fn end_of<'a>(served: Result<Served, OutOfMemory>) -> Result<(), Stop<'a>>
+    ensures { run_outcome result ≡ served_outcome served }
+{
+    let served = served?;
+    if 0 < served.starved {
+        return Err(Stop::OutOfMemory);
+    }
+    if 0 < served.failed {
+        return Err(Stop::Town);
+    }
+    Ok(())
+}
+
+/// Says that links may come in, for so many lanes of sessions.
+fn put_ready<K: Sink>(out: &mut K, lanes: u32) -> Result<(), WriteFault>
+    ensures { Sends (K.state out.old) (K.state out.new) (ready_reply lanes) result }
+{
+    use Piece::{Number, Text};
+    put_line(out, &[Text("ready"), Number(u64::from(lanes)), Text("\n")])
+}

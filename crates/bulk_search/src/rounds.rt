@@ -27,6 +27,10 @@ use stored_cost::{NarrowCost, StoredCost, WideCost};
 use waiting_queue::{Item, Look, Steps};
 use work_claim::Workers;
 
+/// How many taken spots of a round are as much work as a label of whole queries that are shared: several workers list and sort the
+/// candidates of a round, which one spares.
+const SPOTS_OF_A_LABEL: usize = 64;
+
 /// A search by rounds at one width, and room for what each of them gives.
 #[derive(Drop)]
 pub(crate) struct WidthRounds<const D: usize, F: SettledFront<D>> {
@@ -88,7 +92,7 @@ where
         prove!(network.nodes() >= 1);
         prove!(network.criteria() == D);
         let taken = self.core.taken();
-        let workers = &workers.for_labels(taken.len());
+        let workers = &workers.for_labels(taken.len() / SPOTS_OF_A_LABEL);
         relax(workers, alloc, network, taken, &mut self.candidates)?;
         let settled = self.core.settled();
         keep_survivors(

@@ -5,8 +5,7 @@ use Rattle.search_tests.proofs.tests.answers.standing.KnownCostsFoundCosts.cover
 
 pub returns : goal.returns
 returns c =
-    let stands = stands_covers c.args.self.now.nodes c.args.self.now.criteria c.args.self.now.node.0 c.args.node.0 c.args._cost.now c.requires.criteria in
-    (
+    let stands = stands_covers c.args.self.now.nodes c.args.self.now.criteria c.args.self.now.node.0 c.args.node.0 c.args._cost.now c.requires.criteria in (
       λ yes. stands.0 (eqb-true c.args.node.0 c.args.self.now.node.0 (sym c.eq.ensures ∙ yes)),
       λ covered. c.eq.ensures ∙ eq-eqb c.args.node.0 c.args.self.now.node.0 (stands.1 covered),
     )

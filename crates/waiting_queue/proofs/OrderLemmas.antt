@@ -1,12 +1,11 @@
 -- The order of spots, and lists in this order.
-use Rattle.std.proofs.Common.{◌≡◌, ℕ, length-take-le, ◌+◌, ◌<◌, ◌≤◌, Bool, true, false, List, [], ◌∷◌, take, drop, get_or, length, map, length-take, length-drop, ◌⊎◌, ◌↔◌, inl, inr, refl, sym, ap, ap₂, subst, ◌∙◌, arith, Less, Equal, Greater, ◌-◌, ◌*◌, ◌/◌}
+use Rattle.std.proofs.Common.{◌≡◌, ℕ, ◌+◌, ◌<◌, ◌≤◌, Bool, true, false, List, [], ◌∷◌, take, drop, get_or, length, map, length-take, length-drop, ◌⊎◌, ◌↔◌, inl, inr, refl, sym, ap, ap₂, subst, ◌∙◌, arith, Less, Equal, Greater, ◌-◌, ◌*◌, ◌/◌}
 use Rattle.std.specs.declared.cmp.Ordering.{Ordering}
 use Rattle.std.specs.Ordering.{nat_cmp, ordering_then, ordering_reverse, is_lt, is_eq}
 use Rattle.std.specs.Cmp.{IsTotalOrder, nat_cmp_total}
 use Rattle.std.specs.Cmp.Lexicographic.{nat_list_cmp_total}
 use Rattle.std.specs.Prelude.{All, AllPairs, IsTrue}
 use Rattle.std.specs.List.Sorted.{IsSorted}
-use Rattle.std.proofs.Math.Nat.{add-zero}
 use Rattle.std.proofs.lemmas.Bool.{false≢true, cases_lt}
 use Rattle.std.proofs.lemmas.List.{take-take, get_or-map, get_or-take, get_or-drop, get_or_default, length-map}
 use Rattle.std.proofs.lemmas.List.Elements.{All-weaker}
@@ -141,13 +140,6 @@ module _ {X : Type 0} (P Q : X → Type 0) (xs : List X) where
       let short : k < length xs = omega (arith, below, within) in
       subst P (get_or_default xs k d e short ∙ sym (get_or-take (m + 1) xs k e below)) (first k m (omega arith) within holds)
 
-  -- and Q from one on of which that holds
-  pub holds_from : (m : ℕ) (d : X) → m < length xs → ((i j : ℕ) → i ≤ j → j < length xs → Q (get_or xs i d) → Q (get_or xs j d)) → Q (get_or xs m d)
-      → All Q (drop m xs)
-  holds_from m d within last holds = λ k e inside.
-      let short : m + k < length xs = omega (arith, length-drop m xs, inside) in
-      subst Q (get_or_default xs (m + k) d e short ∙ sym (get_or-drop m xs k e)) (last m (m + k) (omega arith) short holds)
-
 -- Only so many elements from the start on are left to search: P holds of those before, and Q of those behind.
 pub record IsLeft {X : Type 0} (P Q : X → Type 0) (xs : List X) (start size : ℕ) : Type 0 where
   pub within : start + size ≤ length xs
@@ -247,13 +239,6 @@ module _ {C : Type 0} (components : C → List ℕ) (xs : List (Item C)) (sorted
     ]
     | inr same ↦ let e : j ≡ i = omega arith in rw e (omega arith)
   ]
-
-  -- items whose first component is less than that of s come before it
-  pub before_by_firsts : (n i : ℕ) → i ≤ n → All (λ (x : Item C). first_of (components x.cost) < first_of s.cost) (take i (take n xs))
-      → All (λ x. SpotLess (spot_in components x) s) (take i xs)
-  before_by_firsts n i short less = All-weaker (λ (x : Item C). first_of (components x.cost) < first_of s.cost) (λ x. SpotLess (spot_in components x) s)
-      (λ x h. less_by_first (spot_in components x) s h) (take i xs)
-      (subst (All (λ (x : Item C). first_of (components x.cost) < first_of s.cost)) (take-take i n xs short) less)
 
   -- where the first i come before s, and the next doesn't, no other does
   pub splits_here : (i : ℕ) → i ≤ length xs → All (λ x. SpotLess (spot_in components x) s) (take i xs)

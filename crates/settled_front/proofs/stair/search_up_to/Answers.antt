@@ -1,4 +1,3 @@
-use Rattle.std.proofs.Common.{rules}
 use Rattle.settled_front.specs.Staircase.{first}
 use Rattle.settled_front.proofs.Stairs.{left_decides, left_halved}
 use Rattle.settled_front.proofs.stair.search_up_to.Goals as goal

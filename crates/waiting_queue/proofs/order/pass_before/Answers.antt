@@ -21,5 +21,8 @@ returns-else-is_before g c =
     let s = spot c.args.item.now in
     let x = c.index-items-count.result in
     splits_here g.C.StoredCost.components c.args.items.now c.requires.sorted s c.loop-count.count c.loop-count.invariant.within
-    c.loop-count.invariant.before (λ _. (x, c.index-items-count.is,
-      λ less. false≢true (sym c.if-is_before.false ∙ c.is_before.ensures.1 less)))
+    c.loop-count.invariant.before (λ _. (
+      x,
+      c.index-items-count.is,
+      λ less. false≢true (sym c.if-is_before.false ∙ c.is_before.ensures.1 less),
+    ))

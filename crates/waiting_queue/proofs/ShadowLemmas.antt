@@ -1,10 +1,11 @@
 -- The shadow of what was taken.
-use Rattle.std.proofs.Common.{◌≡◌, ℕ, zero, suc, ◌<◌, ◌≤◌, ◌⊎◌, ◌↔◌, List, [], ◌∷◌, ◌++◌, get_or, take, drop, length, take-append-drop, inl, inr, refl, sym, ap, subst, arith, Less}
+use Rattle.std.proofs.Common.{◌≡◌, ℕ, zero, suc, ◌+◌, ◌||◌, Bool, true, false, IsTrue, ◌∙◌, ◌<◌, ◌≤◌, ◌⊎◌, ◌↔◌, List, [], ◌∷◌, ◌++◌, get_or, take, drop, length, take-append-drop, inl, inr, refl, sym, ap, subst, arith, Less}
 use Rattle.std.specs.Prelude.{All, AllPairs, Contains, IsPermutation}
 use Rattle.std.specs.List.{insert, remove}
 use Rattle.std.specs.Ordering.{nat_cmp, ordering_then}
-use Rattle.std.proofs.lemmas.Bool.{cases_lt}
+use Rattle.std.proofs.lemmas.Bool.{cases_lt, false≢true}
 use Rattle.std.proofs.lemmas.Bool.Decides.{nat_tests}
+use Rattle.std.proofs.lemmas.List.{take_more}
 use Rattle.std.proofs.lemmas.List.Sorted.{IsPermutation-insert, IsPermutation-remove, IsPermutation-sym}
 use Rattle.cost_vector.specs.Costs.{AtMost, Dominates, LexLess, lex_cmp}
 use Rattle.cost_vector.proofs.Vectors.{AtMost-trans, cases_AtMost}
@@ -14,7 +15,7 @@ use Rattle.list_laws.proofs.OnceLaws.{in_append, pairs_append}
 use Rattle.list_laws.proofs.Pairs.{pairs_cons, pairs_none, pairs_rest, pairs_take, pair_with_first}
 use Rattle.list_laws.proofs.SetLaws.{gains_by_permutation}
 use Rattle.waiting_queue.specs.declared.item.Item.{Item}
-use Rattle.waiting_queue.specs.Shadows.{grounded, second_of, Descends, ExceedsBefore, FallsTo, IsDominatedBy, IsLater, IsShadow, Joins, SplitsAt}
+use Rattle.waiting_queue.specs.Shadows.{grounded, second_of, Descends, ExceedsBefore, FallsTo, IsBelowSome, IsDominatedBy, IsLater, IsShadow, Joins, SplitsAt}
 use Rattle.waiting_queue.proofs.TakingLemmas.{in_push, last_in}
 
 -- the end of a list
@@ -111,8 +112,37 @@ module _ {X : Type 0} (P : X → Type 0) (before xs ys : List X) (i : ℕ) (x : 
         ]
   ])
 
+either_true : (a b : Bool) → IsTrue (a || b) ↔ (IsTrue a ⊎ IsTrue b)
+either_true true b = (λ _. inl refl, λ _. refl)
+either_true false b = (λ h. inr h, λ h. elim h [ inl never ↦ absurd (false≢true never) | inr here ↦ here ])
+
 -- ---- costs have these components
 module _ {C : Type 0} (components : C → List ℕ) where
+  -- the first costs, and one more
+  pub below_some_more : (costs : List C) (c : List ℕ) (i : ℕ) (x : C) (any here : Bool) → i < length costs → x ≡ get_or costs i x
+      → IsTrue any ↔ IsBelowSome components (take i costs) c → IsTrue here ↔ AtMost c (components x)
+      → IsTrue (any || here) ↔ IsBelowSome components (take (i + 1) costs) c
+  below_some_more costs c i x any here within is before now =
+      let grown : take (i + 1) costs ≡ take i costs ++ x ∷ [] = take_more costs i x within ∙ ap (λ e. take i costs ++ e ∷ []) (sym is) in
+      rw grown (
+        λ h. elim ((either_true any here).0 h) [
+          | inl old ↦ let b = before.0 old in record { above = b.above; contains = in_push (take i costs) x b.above b.contains; at_most = b.at_most }
+          | inr new ↦ record { above = x; contains = last_in (take i costs) x; at_most = now.0 new }
+        ],
+        λ h. (either_true any here).1 (elim (cases_push (take i costs) x h.above h.contains) [
+          | inl old ↦ inl (before.1 (record { above = h.above; contains = old; at_most = h.at_most }))
+          | inr last ↦ inr (now.1 (subst (λ y. AtMost c (components y)) last h.at_most))
+        ]),
+      )
+
+  -- where c is at most no cost, all stay
+  pub without_none : (costs : List C) (c : List ℕ) → ¬ IsBelowSome components costs c → IsWithout (λ x. AtMost c (components x)) costs costs
+  without_none costs c none = record {
+    old = all_from_in (Contains costs) costs (λ x h. h);
+    kept = all_from_in (λ x. AtMost c (components x) ⊎ Contains costs x) costs (λ x h. inr h);
+    gone = all_from_in (λ x. ¬ AtMost c (components x)) costs (λ x h below. none (record { above = x; contains = h; at_most = below }));
+  }
+
   -- a later cost, or the same, exceeds none in the second component
   pub falls_to : (shadow : List C) → Descends components shadow → (i j : ℕ) (d : C) → i ≤ j → j < length shadow
       → second_of (components (get_or shadow j d)) ≤ second_of (components (get_or shadow i d))

@@ -1,7 +1,7 @@
 ghost use Rattle.std.specs.Prelude.{◌≡◌, ◌+◌, ◌<◌, ◌≤◌, ◌↔◌, nat_lt, Contains, IfNone, IfOk, IfSome, IsTrue};
 ghost use Rattle.cost_vector.specs.Costs.{AtMost, Dominates};
 ghost use Rattle.list_laws.specs.Without.{IsWithout};
-ghost use Rattle.waiting_queue.specs.Shadows.{Descends, ExceedsBefore, IsDominatedBy, IsRun, Joins, grounded, second_of};
+ghost use Rattle.waiting_queue.specs.Shadows.{Descends, ExceedsBefore, IsBelowSome, IsDominatedBy, IsRun, Joins, grounded};
 ghost use Rattle.waiting_queue.specs.Waiting.{AreCriteria};
 
 use crate::Item;
@@ -26,32 +26,21 @@ fn find_dominating<'a, const D: usize, C: StoredCost<D>>(by: &'a [C], cost: &C) 
     None
 }
 
-/// The second component.
-fn second<const D: usize, C: StoredCost<D>>(cost: &C) -> u64
-    requires { AreCriteria D }
-    ensures { result ≡ second_of (C.components cost.now) }
-{
-    cost.part(1).to_number()
-}
-
-/// How many costs of the shadow exceed this one in the second component.
+/// How many costs of the shadow exceed this one in the second component. The search has no branch that couldn't be foreseen.
 fn count_above<const D: usize, C: StoredCost<D>>(shadow: &[C], cost: &C) -> usize
     requires criteria { AreCriteria D }
     requires descends { Descends C.components shadow.now }
     ensures { ExceedsBefore C.components shadow.now (C.components cost.now) result }
 {
-    let bound = second(cost);
-    let mut low = 0;
-    let mut high = shadow.len();
-    while low < high {
-        let middle = low + (high - low) / 2;
-        if bound < second(&shadow[middle]) {
-            low = middle + 1;
-        } else {
-            high = middle;
-        }
+    let bound = cost.part(1);
+    let mut start = 0;
+    let mut size = shadow.len();
+    while size > 0 {
+        let half = size - size / 2;
+        start += half * bound.less_bit(shadow[start + half - 1].part(1));
+        size -= half;
     }
-    low
+    start
 }
 
 /// A cost of the shadow that dominates this one. It is kept out of its caller: there the comparisons of costs would become
@@ -128,8 +117,31 @@ fn floor<const D: usize, C: StoredCost<D>>(cost: &C) -> C
     C::of(&low.0)
 }
 
-/// Takes out the costs that this one is at most.
+/// Whether this cost is at most one of the list. All are compared, without a branch between them.
+fn is_below_any<const D: usize, C: StoredCost<D>>(low: &C, costs: &[C]) -> bool
+    ensures { IsTrue result ↔ IsBelowSome C.components costs.now (C.components low.now) }
+{
+    let mut any = false;
+    for cost in costs {
+        any |= low.at_most(cost);
+    }
+    any
+}
+
+/// Takes out the costs that this one is at most. Mostly there are none.
 fn uncover<const D: usize, C: StoredCost<D>>(shadow: &mut Vec<C>, low: &C)
+    requires { Descends C.components shadow.old.items }
+    ensures descends { Descends C.components shadow.new.items }
+    ensures without { IsWithout (λ x. AtMost (C.components low.now) (C.components x))
+        shadow.old.items shadow.new.items }
+{
+    if is_below_any(low, shadow) {
+        remove_above(shadow, low);
+    }
+}
+
+/// Goes through the costs, and takes out those that this one is at most.
+fn remove_above<const D: usize, C: StoredCost<D>>(shadow: &mut Vec<C>, low: &C)
     requires { Descends C.components shadow.old.items }
     ensures descends { Descends C.components shadow.new.items }
     ensures without { IsWithout (λ x. AtMost (C.components low.now) (C.components x))

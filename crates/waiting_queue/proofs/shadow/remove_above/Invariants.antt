@@ -2,7 +2,7 @@ use Rattle.std.proofs.Common.{◌≤◌, ◌-◌, ◌⊎◌, take, length}
 use Rattle.std.specs.Prelude.{All, Contains}
 use Rattle.cost_vector.specs.Costs.{AtMost}
 use Rattle.waiting_queue.specs.Shadows.{Descends}
-use Rattle.waiting_queue.proofs.shadow.uncover.Given as goal
+use Rattle.waiting_queue.proofs.shadow.remove_above.Given as goal
 
 abbrev pub invariant-loop-i : goal.invariant-loop-i
 invariant-loop-i g l = record {

@@ -1,4 +1,4 @@
-ghost use Rattle.std.specs.Prelude.{◌≡◌, ◌+◌, ◌<◌, ◌↔◌, IfOk, IsPermutation, IsTrue, length};
+ghost use Rattle.std.specs.Prelude.{◌≡◌, ◌+◌, ◌<◌, ◌↔◌, ◌++◌, IfOk, IsPermutation, IsTrue, length};
 ghost use Rattle.waiting_queue.specs.Passing.{EndsAt, IsSplit};
 ghost use Rattle.waiting_queue.specs.Taking.{AreSorted};
 ghost use Rattle.waiting_queue.specs.Waiting.{SpotLess, spot_in};
@@ -70,16 +70,18 @@ fn search_before<const D: usize, C: StoredCost<D>>(items: &[Item<C>], item: &Ite
     low
 }
 
-/// Lists the items in order. What the list held before is gone.
+/// Lists the items of both lists in order. What the list held before is gone.
 pub(crate) fn list_sorted<const D: usize, C: StoredCost<D>>(
     items: &[Item<C>],
+    others: &[Item<C>],
     list: &mut Vec<Item<C>>,
 ) -> Result<(), OutOfMemory>
-    ensures same { IfOk result (λ _. IsPermutation items.now list.new.items) }
+    ensures same { IfOk result (λ _. IsPermutation (items.now ++ others.now) list.new.items) }
     ensures sorted { IfOk result (λ _. AreSorted (spot_in C.components) list.new.items) }
 {
     list.clear();
     list.extend_from_slice(items)?;
+    list.extend_from_slice(others)?;
     list.sort_unstable();
     Ok(())
 }

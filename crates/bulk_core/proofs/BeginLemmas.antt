@@ -85,7 +85,7 @@ module _ {base now : Core} (takes : TakesWaiting base now) where
 
     closed : (i : Item) → Contains base.queue i → ¬ (¬ IsSpent base (spot_of i))
     closed i there unspent = elim (takes.queue.leaves i there) [
-      | inl stays ↦ in_none i (subst (λ items. Contains items i) none_stay stays)
+      | inl (j, stays, same) ↦ in_none j (subst (λ items. Contains items j) none_stay stays)
       | inr (inl (j, j_in, same)) ↦ none_took j j_in
       | inr (inr spent) ↦ spent unspent
     ]

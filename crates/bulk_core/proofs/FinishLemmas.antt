@@ -66,6 +66,13 @@ module _ {X : Type 0} (Open : X → Type 0) where
       ];
     }
 
+  -- all of them
+  pub appends_each : (candidates before : List X) → AppendsOpen Open candidates before (before ++ candidates)
+  appends_each candidates before = record {
+    appends = record { added = candidates; appended = refl; among = all_from_in (Contains candidates) candidates (λ x there. there) };
+    rest = λ x there. inl there;
+  }
+
   pub appends_some : {candidates before mid : List X} (i : ℕ) → AppendsOpen Open (take i candidates) before mid → Appends candidates before mid
   appends_some {candidates} {before} {mid} i appends = record {
     added = appends.appends.added;

@@ -3,7 +3,7 @@ use Rattle.std.proofs.Common.{◌≡◌, ◌↔◌, ◌⊎◌, ℕ, Bool, List, 
 use Rattle.std.specs.Prelude.{Contains, IsTrue, not}
 use Rattle.std.proofs.lemmas.Bool.{false≢true}
 use Rattle.waiting_queue.specs.Waiting.{Spot, spot_of}
-use Rattle.waiting_queue.specs.Taking.{TakesOpen}
+use Rattle.waiting_queue.specs.Taking.{TakesOpenSpots}
 use Rattle.bulk_rounds.specs.Cores.{IsSpent, Item}
 use Rattle.bulk_rounds.specs.Kept.{IsKeptItem}
 use Rattle.list_laws.proofs.Members.{all_from_in}
@@ -17,7 +17,7 @@ not_either false none same = (λ h. elim [ inl p ↦ none p | inr q ↦ false≢
 
 -- two predicates that hold of the same spots
 pub takes_alike : {X : Type 0} (spot : X → Spot) {P Q : Spot → Type 0} {before took after : List X} → ((s : Spot) → P s ↔ Q s)
-    → TakesOpen spot P before took after → TakesOpen spot Q before took after
+    → TakesOpenSpots spot P before took after → TakesOpenSpots spot Q before took after
 takes_alike spot alike takes = record {
   taken = λ s. (
     λ h. let (there, holds, best) = (takes.taken s).0 h in (there, (alike s).0 holds, λ x in_before holds_x. best x in_before ((alike (spot x)).1 holds_x)),
@@ -50,7 +50,7 @@ spent_told criteria start budget s queue taken x = (
 
 -- where spots are taken out of what waits, nothing is settled yet
 abbrev pub takes_waiting : (criteria start budget : ℕ) (s : Settled) (before after took : List Item) (untaken taken : List Spot)
-    → taken ≡ map spot_of took → TakesOpen spot_of (λ x. ¬ IsSpentBy s x) before took after
+    → taken ≡ map spot_of took → TakesOpenSpots spot_of (λ x. ¬ IsSpentBy s x) before took after
     → ((i : Item) → Contains before i → IsKeptItem (core_of criteria start budget s before untaken) i)
     → TakesWaiting (core_of criteria start budget s before untaken) (core_of criteria start budget s after taken)
 takes_waiting criteria start budget s before after took untaken taken same takes each = record {

@@ -5,7 +5,7 @@ use Rattle.bulk_rounds.specs.Cores.{Core, IsSettledIn, IsSpent, Item, SameSearch
 use Rattle.bulk_rounds.specs.Kept.{IsFrom, IsKept, IsKeptItem}
 use Rattle.bulk_rounds.specs.Taking.{CountsSettled}
 use Rattle.road_network.specs.Limits.{max_budget}
-use Rattle.waiting_queue.specs.Taking.{TakesOpen}
+use Rattle.waiting_queue.specs.Taking.{TakesOpenSpots}
 use Rattle.waiting_queue.specs.Waiting.{AreCriteria, spot_of}
 
 -- the core with this settled, with what waits and what the open round has taken
@@ -35,7 +35,7 @@ pub record TakesWaiting (before after : Core) : Type 0 where
   pub settled : after.settled ≡ before.settled
   pub took : List Item
   pub taken : after.taken ≡ map spot_of took
-  pub queue : TakesOpen spot_of (λ x. ¬ IsSpent before x) before.queue took after.queue
+  pub queue : TakesOpenSpots spot_of (λ x. ¬ IsSpent before x) before.queue took after.queue
   pub items : All (IsKeptItem before) took
 
 -- What was taken would be next, were it still in the queue, and with it no more are settled than the budget allows.

@@ -1,27 +1,43 @@
-ghost use Rattle.std.specs.Prelude.{◌≡◌, [], length, IfOk, OnErr};
+ghost use Rattle.std.specs.Prelude.{◌≡◌, ◌++◌, [], length, map, IfOk, OnErr};
 ghost use Rattle.bulk_core.specs.Kept.{MaySettleTaken, SettlesTaken, TakesWaiting, TellsBudget};
 ghost use Rattle.bulk_rounds.specs.Begins.{BeginsAs, CountsRound};
 ghost use Rattle.bulk_rounds.specs.Cores.{SameSearch};
-ghost use Rattle.waiting_queue.specs.Taking.{Counts};
+ghost use Rattle.bulk_core.specs.Settled.{IsSpentBy};
+ghost use Rattle.waiting_queue.specs.Taking.{Counts, TakesOpenSpots};
+ghost use Rattle.waiting_queue.specs.Waiting.{as_waiting, spot_of};
 
-use crate::Core;
 use crate::settled::settle_all;
+use crate::{Core, Settled};
 use bulk_rounds::Begun;
 use out_of_memory::OutOfMemory;
+use route_io::Gate;
 use settled_front::SettledFront;
+use std::alloc::Global;
 use std::sync::ledger::Ledger;
-use waiting_queue::Steps;
+use std::thread::Threads;
+use stored_cost::StoredCost;
+use waiting_queue::{Item, Queue, Steps};
+use work_claim::Workers;
 
-impl<const D: usize, F: SettledFront<D>> Core<D, F> {
+impl<const D: usize, F: SettledFront<D> + Sync> Core<D, F>
+where
+    F::Cost: Send + Sync,
+    <F::Cost as StoredCost<D>>::Part: Send + Sync,
+{
     /// Begins a round: takes all open spots whose cost no open one dominates, and settles them. Memory is asked for before
     /// the budget is compared, and again only where it isn't passed.
-    pub fn begin<L: Ledger>(&mut self, steps: &mut Steps<L>) -> Result<Begun, OutOfMemory>
+    pub fn begin<R: Threads + Sync, G: Gate, L: Ledger>(
+        &mut self,
+        workers: &Workers<'_, R, G>,
+        alloc: Global,
+        steps: &mut Steps<L>,
+    ) -> Result<Begun, OutOfMemory>
         requires between_rounds { self.old.taken ≡ [] }
         ensures same_search { SameSearch self.old self.new }
         ensures begun { IfOk result (BeginsAs self.old self.new) }
         ensures steps { CountsRound self.old result steps.old steps.new }
     {
-        self.take(steps)?;
+        self.take(workers, alloc, steps)?;
         if self.count_taken() == 0 {
             return Ok(Begun::Done);
         }
@@ -33,17 +49,27 @@ impl<const D: usize, F: SettledFront<D>> Core<D, F> {
     }
 
     /// Takes the next spots out of the queue; they aren't settled yet.
-    fn take<L: Ledger>(&mut self, steps: &mut Steps<L>) -> Result<(), OutOfMemory>
+    fn take<R: Threads + Sync, G: Gate, L: Ledger>(
+        &mut self,
+        workers: &Workers<'_, R, G>,
+        alloc: Global,
+        steps: &mut Steps<L>,
+    ) -> Result<(), OutOfMemory>
         requires { self.old.taken ≡ [] }
         ensures took { IfOk result (λ _. TakesWaiting self.old self.new) }
         ensures same { OnErr result (self.new ≡ self.old) }
         ensures step { IfOk result (λ _. Counts self.new.taken steps.old steps.new) }
         ensures uncounted { OnErr result (steps.new ≡ steps.old) }
     {
-        match self
-            .queue
-            .pass(&self.fresh, &self.settled, &mut self.taken, steps)
-        {
+        match pass(
+            workers,
+            alloc,
+            &self.settled,
+            &mut self.queue,
+            &self.fresh,
+            &mut self.taken,
+            steps,
+        ) {
             Ok(()) => {
                 self.fresh.clear();
                 Ok(())
@@ -55,7 +81,9 @@ impl<const D: usize, F: SettledFront<D>> Core<D, F> {
             }
         }
     }
+}
 
+impl<const D: usize, F: SettledFront<D>> Core<D, F> {
     /// How many spots were taken.
     fn count_taken(&self) -> usize
         ensures { result ≡ length self.now.taken }
@@ -78,4 +106,27 @@ impl<const D: usize, F: SettledFront<D>> Core<D, F> {
     {
         settle_all(&mut self.settled, &mut self.count, &self.taken)
     }
+}
+
+/// Lets the items in and takes the next spots out of the queue.
+fn pass<const D: usize, F: SettledFront<D> + Sync, R: Threads + Sync, G: Gate, L: Ledger>(
+    workers: &Workers<'_, R, G>,
+    alloc: Global,
+    settled: &Settled<D, F>,
+    queue: &mut Queue<D, F::Cost>,
+    fresh: &[Item<F::Cost>],
+    taken: &mut Vec<Item<F::Cost>>,
+    steps: &mut Steps<L>,
+) -> Result<(), OutOfMemory>
+where
+    F::Cost: Send + Sync,
+    <F::Cost as StoredCost<D>>::Part: Send + Sync,
+    ensures taken { IfOk result (λ _. TakesOpenSpots spot_of (λ x. ¬ IsSpentBy settled.now x)
+        (queue.old ++ map (as_waiting F.Cost.components) fresh.now)
+        (map (as_waiting F.Cost.components) taken.new.items) queue.new) }
+    ensures step { IfOk result (λ _. Counts taken.new.items steps.old steps.new) }
+    ensures same { OnErr result (queue.new ≡ queue.old) }
+    ensures uncounted { OnErr result (steps.new ≡ steps.old) }
+{
+    queue.pass(workers, alloc, fresh, settled, taken, steps)
 }

@@ -25,4 +25,16 @@ impl<const D: usize, F: SettledFront<D>> Core<D, F> {
         self.taken.clear();
         Ok(())
     }
+
+    /// Ends the round with candidates of which those that are spent were left out before: none is looked at again.
+    pub fn finish_open(&mut self, candidates: &[Item<F::Cost>]) -> Result<(), OutOfMemory>
+        requires { All (IsKeptItem self.old) (map (as_waiting F.Cost.components) candidates.now) }
+        ensures same_search { SameSearch self.old self.new }
+        ensures put { IfOk result (λ _.
+            PutsAll (map (as_waiting F.Cost.components) candidates.now) self.old self.new) }
+    {
+        self.fresh.extend_from_slice(candidates)?;
+        self.taken.clear();
+        Ok(())
+    }
 }

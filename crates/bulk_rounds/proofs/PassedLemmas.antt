@@ -2,7 +2,7 @@
 use Rattle.std.proofs.Common.{◌≡◌, ◌⊎◌, ◌↔◌, List, map, inl, inr, refl, sym, subst, ◌∙◌, Contains}
 use Rattle.list_laws.proofs.Members.{in_map, of_map}
 use Rattle.list_laws.proofs.Pairs.{pairs_map}
-use Rattle.waiting_queue.specs.Taking.{TakesOpen}
+use Rattle.waiting_queue.specs.Taking.{TakesOpenSpots}
 use Rattle.waiting_queue.specs.Waiting.{Spot, SpotLess, spot_of}
 use Rattle.bulk_rounds.specs.Begins.{LosesSpent}
 use Rattle.bulk_rounds.specs.Cores.{Core, IsSettledIn, IsSpent, Item, SameSearch}
@@ -11,7 +11,7 @@ use Rattle.bulk_rounds.proofs.SpentLemmas.{decidable_spent, spent_on}
 use Rattle.cost_vector.specs.Costs.{Dominates}
 use Rattle.cost_vector.proofs.Vectors.{AtMost-refl}
 
-module _ (before : Core) (took after : List Item) (takes : TakesOpen spot_of (λ x. ¬ IsSpent before x) before.queue took after) where
+module _ (before : Core) (took after : List Item) (takes : TakesOpenSpots spot_of (λ x. ¬ IsSpent before x) before.queue took after) where
   -- just the next spots are taken, ascending
   pub lists_next : ListsNext before (map spot_of took)
   lists_next = record {
@@ -43,7 +43,7 @@ module _ (before : Core) (took after : List Item) (takes : TakesOpen spot_of (λ
   loses_spent later same_search same settled = record {
     was = λ i there. (takes.stays i (rw same at there)).0;
     gone = λ x (i, i_in, is). elim (takes.leaves i i_in) [
-      | inl stays ↦ inl (i, rw same stays, is)
+      | inl (j, stays, j_same) ↦ inl (j, rw same stays, j_same ∙ is)
       | inr (inl (j, j_in, j_same)) ↦
           let there = subst (Contains (map spot_of took)) (j_same ∙ is) (in_map spot_of took j j_in) in
           inr (inl (record { by = x.cost; settled = (settled x).1 (inr there); at_most = AtMost-refl x.cost }))

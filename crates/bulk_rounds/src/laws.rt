@@ -13,7 +13,7 @@ ghost use Rattle.road_network.specs.Answers.{IsRelevant};
 ghost use Rattle.road_network.specs.Labels.{Label};
 ghost use Rattle.road_network.specs.Network.{AreSmall, IsNode};
 ghost use Rattle.road_network.specs.Walks.{IsSumOf};
-ghost use Rattle.waiting_queue.specs.Taking.{TakesOpen};
+ghost use Rattle.waiting_queue.specs.Taking.{TakesOpenSpots};
 ghost use Rattle.waiting_queue.specs.Waiting.{spot_of};
 
 /// What arrives in a round is of a node, and dominates no settled cost there.
@@ -80,10 +80,10 @@ pub fn spent_candidates_may_be_left_out()
 /// A queue that is told which spots are spent takes exactly the next ones, and once these are settled, what has left is spent.
 pub fn passes_take_the_next_spots()
     ensures next { (before : Core) (took after : List Item)
-        → TakesOpen spot_of (λ x. ¬ IsSpent before x) before.queue took after
+        → TakesOpenSpots spot_of (λ x. ¬ IsSpent before x) before.queue took after
         → ListsNext before (map spot_of took) }
     ensures loses_spent { (before after : Core) (took : List Item)
-        → TakesOpen spot_of (λ x. ¬ IsSpent before x) before.queue took after.queue → SameSearch before after
+        → TakesOpenSpots spot_of (λ x. ¬ IsSpent before x) before.queue took after.queue → SameSearch before after
         → ((x : Spot) → IsSettledIn after x ↔ (IsSettledIn before x ⊎ Contains (map spot_of took) x))
         → LosesSpent before after }
 {}

@@ -29,7 +29,8 @@ use Rattle.bulk_rounds.proofs.SpentLemmas.{barred_below, covered_below, decidabl
 use Rattle.waiting_queue.specs.Waiting.{as_waiting, spot_in, spot_of}
 use Rattle.waiting_queue.specs.declared.item.Item.{Item as QueueItem}
 use Rattle.round_work.specs.Onward.{IsTooWide, onward, onward_of, reached_from}
-use Rattle.round_work.specs.Survivors.{KeepsSurvivors}
+use Rattle.round_work.specs.Survivors.{KeepsOpen, KeepsSurvivors}
+use Rattle.round_work.proofs.OpenLemmas.{kept_is_open, open_or_kept}
 use Rattle.bulk_search.specs.Rounds.{IsOpen, EndsOver, KeepsEnough}
 
 module _ {X Y : Type 0} (f : X → List Y) where
@@ -258,6 +259,15 @@ pub keeps_survivors : (Open : Spot → Type 0) (candidates kept : List Item) →
 keeps_survivors Open candidates kept keeps = record {
   among = keeps.among;
   rest = λ i there. elim (keeps.rest i there) [
+    | inl closed ↦ inl closed
+    | inr below ↦ inr (record { spot = spot_of below.by; there = (below.by, below.member, refl); node = below.node; at_most = below.at_most })
+  ];
+}
+
+pub keeps_open : (Open : Spot → Type 0) (candidates kept : List Item) → KeepsOpen spot_of Open candidates kept → KeepsEnough Open candidates kept
+keeps_open Open candidates kept keeps = record {
+  among = λ i there. (kept_is_open spot_of Open candidates kept keeps i there).0;
+  rest = λ i there. elim (open_or_kept spot_of Open candidates kept keeps i there) [
     | inl closed ↦ inl closed
     | inr below ↦ inr (record { spot = spot_of below.by; there = (below.by, below.member, refl); node = below.node; at_most = below.at_most })
   ];

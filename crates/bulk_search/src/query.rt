@@ -117,7 +117,7 @@ where
     prove!(network.criteria() == D);
     let mut rounds = started?;
     'rounds: for _ in 0..query.budget + 1 {
-        match rounds.begin(steps)? {
+        match rounds.begin(workers, alloc, steps)? {
             Begun::Done => return Ok(rounds.into_found(alloc, network, query)?),
             Begun::Budget => return Err(SearchFault::Budget),
             Begun::Taken => rounds = rounds.finish(workers, alloc, network)?,

@@ -17,7 +17,7 @@ use cost_vector::NodeNo;
 use found_fronts::{FoundAtWidth, FoundFronts};
 use out_of_memory::OutOfMemory;
 use road_network::Query;
-use round_work::{Marks, RelaxFault, merge, relax};
+use round_work::{Marks, PIECE_SIZE, RelaxFault, merge, relax, relax_open};
 use route_io::Gate;
 use settled_front::{NarrowFront, SettledFront};
 use std::alloc::Global;
@@ -26,10 +26,6 @@ use std::thread::Threads;
 use stored_cost::{NarrowCost, StoredCost, WideCost};
 use waiting_queue::{Item, Look, Steps};
 use work_claim::Workers;
-
-/// How many taken spots of a round are as much work as a label of whole queries that are shared: several workers list and sort the
-/// candidates of a round, which one spares.
-const SPOTS_OF_A_LABEL: usize = 64;
 
 /// A search by rounds at one width, and room for what each of them gives.
 #[derive(Drop)]
@@ -89,10 +85,30 @@ where
         ensures same { result ≡ Err fault.TooWide → self.new.core ≡ self.old.core }
         ensures narrow { result ≡ Err fault.TooWide → F.Cost.Part.bound < 2 ^ 63 }
     {
+        if self.core.taken().len() <= PIECE_SIZE {
+            self.finish_by_nodes(workers, alloc, network)
+        } else {
+            self.finish_by_pieces(workers, alloc, network)
+        }
+    }
+
+    /// Ends a round in which little was taken: it is relaxed in one piece, and then the candidates of each node are a piece.
+    fn finish_by_nodes<R: Threads + Sync, G: Gate>(
+        &mut self,
+        workers: &Workers<'_, R, G>,
+        alloc: Global,
+        network: &Network<'_>,
+    ) -> Result<(), RelaxFault>
+        requires criteria { network.now.criteria ≡ D }
+        requires is_open { IsOpen network.now self.old.core }
+        ensures ended { IfOk result (λ _. EndsOver network.now self.old.core self.new.core) }
+        ensures same { result ≡ Err fault.TooWide → self.new.core ≡ self.old.core }
+        ensures narrow { result ≡ Err fault.TooWide → F.Cost.Part.bound < 2 ^ 63 }
+    {
         prove!(network.nodes() >= 1);
         prove!(network.criteria() == D);
         let taken = self.core.taken();
-        let workers = &workers.for_labels(taken.len() / SPOTS_OF_A_LABEL);
+        let workers = &workers.for_labels(taken.len());
         relax(workers, alloc, network, taken, &mut self.candidates)?;
         let settled = self.core.settled();
         keep_survivors(
@@ -103,6 +119,36 @@ where
             &mut self.candidates,
         )?;
         self.core.finish(&self.candidates)?;
+        Ok(())
+    }
+
+    /// Ends a round that is relaxed in several pieces, which leave out what isn't open.
+    fn finish_by_pieces<R: Threads + Sync, G: Gate>(
+        &mut self,
+        workers: &Workers<'_, R, G>,
+        alloc: Global,
+        network: &Network<'_>,
+    ) -> Result<(), RelaxFault>
+        requires criteria { network.now.criteria ≡ D }
+        requires is_open { IsOpen network.now self.old.core }
+        ensures ended { IfOk result (λ _. EndsOver network.now self.old.core self.new.core) }
+        ensures same { result ≡ Err fault.TooWide → self.new.core ≡ self.old.core }
+        ensures narrow { result ≡ Err fault.TooWide → F.Cost.Part.bound < 2 ^ 63 }
+    {
+        prove!(network.nodes() >= 1);
+        prove!(network.criteria() == D);
+        let taken = self.core.taken();
+        let workers = &workers.for_labels(taken.len());
+        let settled = self.core.settled();
+        relax_open(
+            workers,
+            alloc,
+            network,
+            settled,
+            taken,
+            &mut self.candidates,
+        )?;
+        self.core.finish_open(&self.candidates)?;
         Ok(())
     }
 }
@@ -152,18 +198,6 @@ where
         Ok(Rounds::Narrow(rounds))
     }
 
-    /// Begins a round.
-    pub(crate) fn begin<L: Ledger>(&mut self, steps: &mut Steps<L>) -> Result<Begun, OutOfMemory>
-        requires { (core_of self.old).taken ≡ [] }
-        ensures begun { IfOk result (BeginsAs (core_of self.old) (core_of self.new)) }
-        ensures steps { CountsRound (core_of self.old) result steps.old steps.new }
-    {
-        match self {
-            Rounds::Narrow(rounds) => rounds.core.begin(steps),
-            Rounds::Wide(rounds) => rounds.core.begin(steps),
-        }
-    }
-
     /// What was found, once no spot is open any more.
     pub(crate) fn into_found(
         self,
@@ -199,6 +233,23 @@ where
     F::Wide: SettledFront<D, Cost = WideCost<D>> + Sync,
     <F::Wide as SettledFront<D>>::Cost: StoredCost<D, Part = u64> + Send + Sync,
 {
+    /// Begins a round.
+    pub(crate) fn begin<R: Threads + Sync, G: Gate, L: Ledger>(
+        &mut self,
+        workers: &Workers<'_, R, G>,
+        alloc: Global,
+        steps: &mut Steps<L>,
+    ) -> Result<Begun, OutOfMemory>
+        requires { (core_of self.old).taken ≡ [] }
+        ensures begun { IfOk result (BeginsAs (core_of self.old) (core_of self.new)) }
+        ensures steps { CountsRound (core_of self.old) result steps.old steps.new }
+    {
+        match self {
+            Rounds::Narrow(rounds) => rounds.core.begin(workers, alloc, steps),
+            Rounds::Wide(rounds) => rounds.core.begin(workers, alloc, steps),
+        }
+    }
+
     /// Ends the open round, with wider costs where there is no room for what it gives.
     pub(crate) fn finish<R: Threads + Sync, G: Gate>(
         self,

@@ -13,9 +13,11 @@ use Rattle.list_laws.proofs.OnceLaws.{in_append}
 use Rattle.road_network.specs.Network.{Network}
 use Rattle.arc_graph.specs.Graph.{arc_state, head_of, label_by}
 use Rattle.waiting_queue.specs.declared.item.Item.{Item}
-use Rattle.waiting_queue.specs.Waiting.{Waiting, as_waiting}
+use Rattle.waiting_queue.specs.Waiting.{Spot, Waiting, as_waiting, spot_of}
 use Rattle.round_work.specs.Onward.{IsTooWide, onward, reached_from}
-use Rattle.round_work.specs.Pieces.{Appends, items_of, onward_in, piece_size}
+use Rattle.round_work.specs.Pieces.{Appends, AppendsOpen, items_of, onward_in, piece_size}
+use Rattle.round_work.specs.Survivors.{KeepsOpen}
+use Rattle.round_work.proofs.OpenLemmas.{open_both, open_none}
 
 -- a piece that ends with the list, or after so many
 pub piece_cut : {X : Type 0} (xs : List X) (start size : ℕ) → start ≤ length xs
@@ -203,3 +205,51 @@ module _ {C : Type 0} (components : C → List ℕ) (bound : ℕ) where
     pub piece_too_wide : (xs : List (Item C)) (n : ℕ) → IsTooWide bound (on (items_of xs n)) → IsTooWide bound (on xs)
     piece_too_wide xs n = too_wide_among bound (on (items_of xs n)) (on xs) (λ w there. front_among xs ((n + 1) * piece_size) w
         (subst (λ ws. Contains ws w) (sym (on_piece xs n)) ((in_append (on (take (n * piece_size) xs)) (on (items_of xs n)) w).1 (inr there))))
+
+-- ---- what is appended of open candidates
+
+module _ {C : Type 0} (components : C → List ℕ) (Open : Spot → Type 0) where
+  pub opens_first : (xs : List (Item C)) → xs ≡ [] → AppendsOpen components Open [] [] xs
+  opens_first xs none = record { kept = []; exact = ap (map (as_waiting components)) none; keeps = open_none spot_of Open }
+
+  opens_more : (ws vs : List Waiting) (xs ys zs : List (Item C)) → AppendsOpen components Open ws xs ys → AppendsOpen components Open vs ys zs
+      → AppendsOpen components Open (ws ++ vs) xs zs
+  opens_more ws vs xs ys zs first second = record {
+    kept = first.kept ++ second.kept;
+    exact = second.exact ∙ ap (λ us. us ++ second.kept) first.exact ∙ append_assoc (map (as_waiting components) xs) first.kept second.kept;
+    keeps = open_both spot_of Open ws first.kept vs second.kept first.keeps second.keeps;
+  }
+
+  -- a list of its own is appended
+  pub opens_own : (ws : List Waiting) (ys before after : List (Item C)) → after ≡ before ++ ys → AppendsOpen components Open ws [] ys
+      → AppendsOpen components Open ws before after
+  opens_own ws ys before after is own = record {
+    kept = own.kept;
+    exact = ap (map (as_waiting components)) is ∙ (map-append (as_waiting components) before ys ∙ ap (λ us. map (as_waiting components) before ++ us) own.exact);
+    keeps = own.keeps;
+  }
+
+  -- the open ones of a list of candidates
+  pub opens_listed : (ws : List Waiting) (all kept : List (Item C)) → map (as_waiting components) all ≡ ws
+      → KeepsOpen spot_of Open (map (as_waiting components) all) (map (as_waiting components) kept) → AppendsOpen components Open ws [] kept
+  opens_listed ws all kept is keeps = record {
+    kept = map (as_waiting components) kept;
+    exact = refl;
+    keeps = subst (λ us. KeepsOpen spot_of Open us (map (as_waiting components) kept)) is keeps;
+  }
+
+  -- what a piece gives is appended
+  pub piece_opens : (bound : ℕ) (net : Network) (xs : List (Item C)) (n : ℕ) (before now after : List (Item C))
+      → AppendsOpen components Open (onward_in components net (take (n * piece_size) xs)) before now
+      → AppendsOpen components Open (onward_in components net (items_of xs n)) now after
+      → AppendsOpen components Open (onward_in components net (take ((n + 1) * piece_size) xs)) before after
+  piece_opens bound net xs n before now after first next = subst (λ ws. AppendsOpen components Open ws before after)
+      (sym (on_piece components bound net xs n))
+      (opens_more (onward_in components net (take (n * piece_size) xs)) (onward_in components net (items_of xs n)) before now after first next)
+
+  -- all pieces are all items
+  pub all_open : (net : Network) (xs : List (Item C)) (n : ℕ) (after : List (Item C)) → length xs ≤ n * piece_size
+      → AppendsOpen components Open (onward_in components net (take (n * piece_size) xs)) [] after
+      → KeepsOpen spot_of Open (onward_in components net xs) (map (as_waiting components) after)
+  all_open net xs n after all is = subst (KeepsOpen spot_of Open (onward_in components net xs)) (sym is.exact)
+      (subst (λ ys. KeepsOpen spot_of Open (onward_in components net ys) is.kept) (take_all (n * piece_size) xs all) is.keeps)

@@ -49,6 +49,22 @@ module _ {X : Type 0} where
   zip_map R f (x ∷ xs) [] all = all
   zip_map R f (x ∷ xs) (z ∷ zs) all = (all.0, zip_map R f xs zs all.1)
 
+  -- those of two lists
+  zip_append : {Y : Type 0} (R : X → Y → Type 0) (xs : List X) (ys : List Y) (vs : List X) (ws : List Y) → AllZip R xs ys → AllZip R vs ws
+      → AllZip R (xs ++ vs) (ys ++ ws)
+  zip_append R [] [] vs ws one two = two
+  zip_append R [] (z ∷ zs) vs ws one two = absurd one
+  zip_append R (x ∷ xs) [] vs ws one two = absurd one
+  zip_append R (x ∷ xs) (z ∷ zs) vs ws one two = (one.0, zip_append R xs zs vs ws one.1 two)
+
+  picked_append : (bs : List Bool) (xs : List X) (cs : List Bool) (ys : List X) → length bs ≡ length xs
+      → items_where_true (bs ++ cs) (xs ++ ys) ≡ items_where_true bs xs ++ items_where_true cs ys
+  picked_append [] [] cs ys long = refl
+  picked_append [] (x ∷ xs) cs ys long = absurd (omega (arith, long))
+  picked_append (b ∷ bs) [] cs ys long = absurd (omega (arith, long))
+  picked_append (true ∷ bs) (x ∷ xs) cs ys long = ap (λ l. x ∷ l) (picked_append bs xs cs ys (omega (arith, long)))
+  picked_append (false ∷ bs) (x ∷ xs) cs ys long = picked_append bs xs cs ys (omega (arith, long))
+
 module _ {X : Type 0} (spot : X → Spot) (Open : Spot → Type 0) where
   pub open_none : KeepsOpen spot Open [] []
   open_none = record { marks = []; tell = tt; exact = refl }
@@ -65,6 +81,15 @@ module _ {X : Type 0} (spot : X → Spot) (Open : Spot → Type 0) where
     marks = is.marks ++ false ∷ [];
     tell = zip_push (λ y mark. IsTrue mark ↔ Open (spot y)) xs is.marks x false is.tell (λ yes. absurd (cc), λ o. absurd (closed o));
     exact = is.exact ∙ sym (picked_false is.marks xs x (zip_long (λ y mark. IsTrue mark ↔ Open (spot y)) xs is.marks is.tell));
+  }
+
+  -- two lists
+  pub open_both : (xs ks ys ls : List X) → KeepsOpen spot Open xs ks → KeepsOpen spot Open ys ls → KeepsOpen spot Open (xs ++ ys) (ks ++ ls)
+  open_both xs ks ys ls one two = record {
+    marks = one.marks ++ two.marks;
+    tell = zip_append (λ y mark. IsTrue mark ↔ Open (spot y)) xs one.marks ys two.marks one.tell two.tell;
+    exact = ap (λ l. l ++ ls) one.exact ∙ ap (λ l. items_where_true one.marks xs ++ l) two.exact
+        ∙ sym (picked_append one.marks xs two.marks ys (zip_long (λ y mark. IsTrue mark ↔ Open (spot y)) xs one.marks one.tell));
   }
 
   picked_in : (xs : List X) (marks : List Bool) → AllZip (λ y mark. IsTrue mark ↔ Open (spot y)) xs marks → (x : X) → Contains xs x

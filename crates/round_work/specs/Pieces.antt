@@ -3,8 +3,9 @@ use Rattle.std.specs.Prelude.{◌≡◌, ℕ, ◌*◌, ◌<◌, ◌++◌, List, 
 use Rattle.std.specs.Global.{Vec}
 use Rattle.road_network.specs.Network.{Network, IsNode}
 use Rattle.waiting_queue.specs.declared.item.Item.{Item}
-use Rattle.waiting_queue.specs.Waiting.{Waiting, as_waiting}
+use Rattle.waiting_queue.specs.Waiting.{Spot, Waiting, as_waiting, spot_of}
 use Rattle.round_work.specs.Onward.{HaveRoom, IsTooWide, onward_of}
+use Rattle.round_work.specs.Survivors.{KeepsOpen}
 
 -- how many items are a piece; the last piece may have fewer
 abbrev pub piece_size : ℕ
@@ -41,3 +42,14 @@ module _ {C : Type 0} (components : C → List ℕ) where
   abbrev pub GivesPiece : ℕ → Network → List (Item C) → Option (Vec (Item C)) → Type 0
   GivesPiece bound net items None = IsTooWide bound (onward_in net items)
   GivesPiece bound net items (Some candidates) = Appends bound (onward_in net items) [] candidates.items
+
+  -- the open ones of these stand behind what was there, in their order
+  pub record AppendsOpen (Open : Spot → Type 0) (ws : List Waiting) (before after : List (Item C)) : Type 0 where
+    pub kept : List Waiting
+    pub exact : map (as_waiting components) after ≡ map (as_waiting components) before ++ kept
+    pub keeps : KeepsOpen spot_of Open ws kept
+
+  -- the open candidates of these items, or none where there is no room for one of all
+  abbrev pub GivesOpenPiece : ℕ → (Spot → Type 0) → Network → List (Item C) → Option (Vec (Item C)) → Type 0
+  GivesOpenPiece bound Open net items None = IsTooWide bound (onward_in net items)
+  GivesOpenPiece bound Open net items (Some candidates) = AppendsOpen Open (onward_in net items) [] candidates.items

@@ -13,4 +13,5 @@ mod runs;
 pub use fault::RelaxFault;
 pub use marks::Marks;
 pub use merging::{leave_out_closed, merge};
-pub use relaxing::relax;
+pub use pieces::PIECE_SIZE;
+pub use relaxing::{relax, relax_open};

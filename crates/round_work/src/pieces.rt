@@ -5,16 +5,16 @@ ghost use Rattle.round_work.specs.Onward.{IsTooWide, onward};
 ghost use Rattle.round_work.specs.Pieces.{Appends, AreReady, CanDo, items_of, onward_in, piece_size};
 ghost use Rattle.round_work.specs.declared.fault.RelaxFault.TheVariants as fault;
 
-use crate::RelaxFault;
+use crate::{RelaxFault, leave_out_closed};
 use arc_graph::Network;
 use out_of_memory::OutOfMemory;
 use std::alloc::Global;
 use stored_cost::StoredCost;
-use waiting_queue::Item;
+use waiting_queue::{Item, Look};
 use work_claim::Job;
 
 /// How many taken items are a piece of work; the last piece may have fewer.
-const PIECE_SIZE: usize = 64;
+pub const PIECE_SIZE: usize = 64;
 
 /// The taken items of a round, which are to be relaxed.
 #[derive(Drop)]
@@ -73,6 +73,37 @@ impl<'g, const D: usize, C: StoredCost<D>> TakenItems<'g, D, C> {
             relax_into(self.network, item, candidates)?;
         }
         Ok(())
+    }
+}
+
+/// The taken items of a round, of whose candidates the open ones are wanted, over fronts that stand still.
+#[derive(Drop)]
+pub(crate) struct OpenPieces<'g, const D: usize, C: StoredCost<D>, K: Look<D, C>> {
+    pub items: &'g TakenItems<'g, D, C>,
+    pub look: &'g K,
+}
+
+impl<'g, const D: usize, C: StoredCost<D> + Send + Sync, K: Look<D, C> + Sync> Job
+    for OpenPieces<'g, D, C, K>
+where
+    C::Part: Send + Sync,
+{
+    ghost use Rattle.round_work.specs.Pieces.{CanDo, GivesOpenPiece, items_of};
+
+    type Out = Option<Vec<Item<C>>>;
+
+    ghost accepts = { λ job piece. CanDo D job.items.now.network.now job.items.now.taken.now piece };
+
+    ghost gives = { λ job piece out. GivesOpenPiece C.components C.Part.bound
+        (K.IsOpen job.look.now) job.items.now.network.now
+        (items_of job.items.now.taken.now piece) out };
+
+    fn run(&self, piece: usize) -> Result<Option<Vec<Item<C>>>, OutOfMemory> {
+        let Some(mut candidates) = self.items.run(piece)? else {
+            return Ok(None);
+        };
+        leave_out_closed(self.look, &mut candidates);
+        Ok(Some(candidates))
     }
 }
 

@@ -1,18 +1,19 @@
-ghost use Rattle.std.specs.Prelude.{◌≡◌, ◌^◌, ◌<◌, length, map, All, Err, IfOk};
+ghost use Rattle.std.specs.Prelude.{◌≡◌, ◌^◌, ◌<◌, [], length, map, All, Err, IfOk};
 ghost use Rattle.road_network.specs.Network.{IsNode};
-ghost use Rattle.waiting_queue.specs.Waiting.{as_waiting};
+ghost use Rattle.waiting_queue.specs.Waiting.{as_waiting, spot_of};
 ghost use Rattle.round_work.specs.Onward.{HaveRoom, IsTooWide, onward_of};
 ghost use Rattle.round_work.specs.Pieces.{Appends, AreReady, onward_in};
+ghost use Rattle.round_work.specs.Survivors.{KeepsOpen};
 ghost use Rattle.round_work.specs.declared.fault.RelaxFault.TheVariants as fault;
 
-use crate::RelaxFault;
-use crate::pieces::TakenItems;
+use crate::{RelaxFault, leave_out_closed};
+use crate::pieces::{OpenPieces, TakenItems};
 use arc_graph::Network;
 use route_io::{Gate, Phase};
 use std::alloc::Global;
 use std::thread::Threads;
 use stored_cost::StoredCost;
-use waiting_queue::Item;
+use waiting_queue::{Item, Look};
 use work_claim::{Workers, run_pieces};
 
 /// The candidates that the taken items give, in the order of the items, for every number of workers: for each arc that leads
@@ -87,6 +88,84 @@ where
         (onward_in C.components items.now.network.now items.now.taken.now) }
 {
     let lists = run_pieces(workers, alloc, items.pieces(), Phase::Relax, items)?;
+    for list in &lists {
+        let Some(list) = list else {
+            return Err(RelaxFault::TooWide);
+        };
+        candidates.extend_from_slice(list)?;
+    }
+    Ok(())
+}
+
+/// The open ones of the candidates that `relax` lists, in their order, for every number of workers. Where several share it,
+/// each piece of work leaves out at once what isn't open, so that only what is kept is put together.
+pub fn relax_open<
+    const D: usize,
+    C: StoredCost<D> + Send + Sync,
+    K: Look<D, C> + Sync,
+    R: Threads + Sync,
+    G: Gate,
+>(
+    workers: &Workers<'_, R, G>,
+    alloc: Global,
+    network: &Network<'_>,
+    look: &K,
+    taken: &[Item<C>],
+    candidates: &mut Vec<Item<C>>,
+) -> Result<(), RelaxFault>
+where
+    C::Part: Send + Sync,
+    requires criteria { network.now.criteria ≡ D }
+    requires few { length taken.now < 2 ^ 32 }
+    requires nodes { All (λ i. IsNode network.now.nodes i.node.0) taken.now }
+    ensures candidates { IfOk result (λ _. KeepsOpen spot_of (K.IsOpen look.now)
+        (onward_of network.now (map (as_waiting C.components) taken.now))
+        (map (as_waiting C.components) candidates.new.items)) }
+    ensures too_wide { result ≡ Err fault.TooWide → IsTooWide C.Part.bound
+        (onward_of network.now (map (as_waiting C.components) taken.now)) }
+{
+    candidates.clear();
+    let items = TakenItems {
+        alloc,
+        network,
+        taken,
+    };
+    if workers.count() == 1 {
+        relax_alone(workers, &items, candidates)?;
+        leave_out_closed(look, candidates);
+        return Ok(());
+    }
+    relax_open_together(workers, alloc, look, &items, candidates)
+}
+
+/// Has the workers relax the pieces and leave out what isn't open, and appends what comes of them.
+fn relax_open_together<
+    const D: usize,
+    C: StoredCost<D> + Send + Sync,
+    K: Look<D, C> + Sync,
+    R: Threads + Sync,
+    G: Gate,
+>(
+    workers: &Workers<'_, R, G>,
+    alloc: Global,
+    look: &K,
+    items: &TakenItems<'_, D, C>,
+    candidates: &mut Vec<Item<C>>,
+) -> Result<(), RelaxFault>
+where
+    C::Part: Send + Sync,
+    requires few { length items.now.taken.now < 2 ^ 32 }
+    requires ready { AreReady D items.now.network.now items.now.taken.now }
+    requires none { candidates.old.items ≡ [] }
+    ensures candidates { IfOk result (λ _. KeepsOpen spot_of (K.IsOpen look.now)
+        (onward_in C.components items.now.network.now items.now.taken.now)
+        (map (as_waiting C.components) candidates.new.items)) }
+    ensures too_wide { result ≡ Err fault.TooWide → IsTooWide C.Part.bound
+        (onward_in C.components items.now.network.now items.now.taken.now) }
+{
+    let pieces = items.pieces();
+    let open_pieces = OpenPieces { items, look };
+    let lists = run_pieces(workers, alloc, pieces, Phase::Relax, &open_pieces)?;
     for list in &lists {
         let Some(list) = list else {
             return Err(RelaxFault::TooWide);

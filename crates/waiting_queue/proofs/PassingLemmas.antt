@@ -35,7 +35,7 @@ module _ {C : Type 0} (components : C → List ℕ) where
   }
 
   -- the last of an ascending list is the only one that can have the spot of an item behind them
-  ends_if_there : (took : List (Item C)) (s : Spot) → AllPairs (λ a b. SpotLess (spot a) (spot b)) took
+  pub ends_if_there : (took : List (Item C)) (s : Spot) → AllPairs (λ a b. SpotLess (spot a) (spot b)) took
       → ((x : Item C) → Contains took x → ¬ SpotLess s (spot x)) → HasSpot spot took s → EndsAt spot took s
   ends_if_there [] s up behind h = absurd (in_none h.0 h.1)
   ends_if_there (x ∷ []) s up behind h = elim (cases_in x [] h.0 h.1) [
@@ -53,7 +53,7 @@ module _ {C : Type 0} (components : C → List ℕ) where
         (ends.0, ap (slice_get (x ∷ y ∷ xs)) at ∙ ends.1, ends.2)
   ]
 
-  has_if_ends : (took : List (Item C)) (s : Spot) → EndsAt spot took s → HasSpot spot took s
+  pub has_if_ends : (took : List (Item C)) (s : Spot) → EndsAt spot took s → HasSpot spot took s
   has_if_ends took s ends = (ends.0, contained_at took (length took - 1) ends.0 ends.1, ends.2)
     where
       contained_at : {X : Type 0} (xs : List X) (i : ℕ) (x : X) → slice_get xs i ≡ Some x → Contains xs x

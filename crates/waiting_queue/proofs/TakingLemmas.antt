@@ -1,5 +1,5 @@
 -- What is taken of a sorted list, as one more of its members is seen.
-use Rattle.std.proofs.Common.{◌≡◌, ℕ, List, [], ◌∷◌, ◌++◌, ◌⊎◌, ◌↔◌, inl, inr, map, refl, sym, subst, ◌∙◌}
+use Rattle.std.proofs.Common.{◌≡◌, ℕ, List, [], ◌∷◌, ◌++◌, ◌⊎◌, ◌↔◌, inl, inr, map, refl, sym, ap, subst, ◌∙◌, append-nil, append_assoc}
 use Rattle.std.specs.Prelude.{Contains, IsPermutation}
 use Rattle.std.proofs.lemmas.List.{map-append}
 use Rattle.cost_vector.specs.Costs.{Dominates}
@@ -156,6 +156,37 @@ takes_alike {X} spot Open xs ys took left same is = record {
   leaves = λ x h. is.leaves x ((same x).1 h);
 }
 
+-- the same of spots
+pub takes_spots_alike : {X : Type 0} (spot : X → Spot) (Open : Spot → Type 0) (xs ys took left : List X) → SameMembers xs ys
+    → TakesOpenSpots spot Open xs took left → TakesOpenSpots spot Open ys took left
+takes_spots_alike {X} spot Open xs ys took left same is = record {
+  taken = λ s. (
+    λ h. let was = (is.taken s).0 h in ((was.0.0, (same was.0.0).0 was.0.1, was.0.2), was.1, λ z there. was.2 z ((same z).1 there)),
+    λ h. (is.taken s).1 ((h.0.0, (same h.0.0).1 h.0.1, h.0.2), h.1, λ z there. h.2 z ((same z).0 there)),
+  );
+  among = λ x h. (same x).0 (is.among x h);
+  ascending = is.ascending;
+  stays = λ x h. let was = is.stays x h in ((same x).0 was.0, was.1);
+  leaves = λ x h. is.leaves x ((same x).1 h);
+}
+
+-- a member that is still there has its spot there
+pub spots_if_taken : {X : Type 0} (spot : X → Spot) (Open : Spot → Type 0) (xs took left : List X) → TakesOpen spot Open xs took left
+    → TakesOpenSpots spot Open xs took left
+spots_if_taken {X} spot Open xs took left is = record {
+  taken = is.taken;
+  among = is.among;
+  ascending = is.ascending;
+  stays = is.stays;
+  leaves = λ x h. elim (is.leaves x h) [ inl there ↦ inl (x, there, refl) | inr gone ↦ inr gone ];
+}
+
+-- where all was one part
+pub spots_alone : {X : Type 0} (spot : X → Spot) (Open : Spot → Type 0) (xs took left late : List X) → late ≡ [] → TakesOpen spot Open xs took left
+    → TakesOpenSpots spot Open xs took (left ++ late)
+spots_alone {X} spot Open xs took left late none is = subst (TakesOpenSpots spot Open xs took)
+    (sym (ap (λ ys. left ++ ys) none ∙ append-nil left)) (spots_if_taken spot Open xs took left is)
+
 -- ---- parts of a list
 
 module _ {X : Type 0} (spot : X → Spot) (Open : Spot → Type 0) where
@@ -270,11 +301,12 @@ module _ {X Y : Type 0} (spot : Y → Spot) (tell : X → Y) (Open : Spot → Ty
     λ free z there. free (tell z) (in_map tell xs z there),
   )
 
-  pub takes_told : (before took after : List X) → TakesOpen (λ x. spot (tell x)) Open before took after
-      → TakesOpen spot Open (map tell before) (map tell took) (map tell after)
-  takes_told before took after is = record {
+  pub spots_told : (before took after : List X) → TakesOpenSpots (λ x. spot (tell x)) Open before took after
+      → TakesOpenSpots spot Open (map tell before) (map tell took) (map tell after)
+  spots_told before took after is = record {
     taken = λ s. (
-      λ h. let was = (is.taken s).0 ((has_told took s).1 h) in ((has_told before s).0 was.0, was.1, (undominated_told before s.cost).0 was.2),
+      λ h. let was = (is.taken s).0 ((has_told took s).1 h) in
+          ((has_told before s).0 was.0, was.1, (undominated_told before s.cost).0 was.2),
       λ h. (has_told took s).0 ((is.taken s).1 ((has_told before s).1 h.0, h.1, (undominated_told before s.cost).1 h.2)),
     );
     among = λ y h. let from = of_map tell took y h in subst (Contains (map tell before)) (sym from.2) (in_map tell before from.0 (is.among from.0 from.1));
@@ -286,27 +318,29 @@ module _ {X Y : Type 0} (spot : Y → Spot) (tell : X → Y) (Open : Spot → Ty
         (in_map tell before from.0 was.0, (tell was.1.0, in_map tell took was.1.0 was.1.1, was.1.2));
     leaves = λ y h.
         let from = of_map tell before y h in
-        subst (λ z. Contains (map tell after) z ⊎ (HasSpot spot (map tell took) (spot z) ⊎ (¬ Open (spot z)))) (sym from.2)
+        subst (λ z. HasSpot spot (map tell after) (spot z) ⊎ (HasSpot spot (map tell took) (spot z) ⊎ (¬ Open (spot z)))) (sym from.2)
         (elim (is.leaves from.0 from.1) [
-          | inl there ↦ inl (in_map tell after from.0 there)
+          | inl there ↦ inl ((has_told after (spot (tell from.0))).0 there)
           | inr (inl gone) ↦ inr (inl ((has_told took (spot (tell from.0))).0 gone))
           | inr (inr closed) ↦ inr (inr closed)
         ]);
   }
 
-  -- those that come are told in any order
-  pub takes_let_in : (items given order took after : List X) → IsPermutation given order → TakesOpen (λ x. spot (tell x)) Open (items ++ order) took after
-      → TakesOpen spot Open (map tell items ++ map tell given) (map tell took) (map tell after)
-  takes_let_in items given order took after moved is =
-      subst (λ ys. TakesOpen spot Open ys (map tell took) (map tell after)) (map-append tell items given)
-      (takes_told (items ++ given) took after (takes_alike (λ x. spot (tell x)) Open (items ++ order) (items ++ given) took after
+  -- those that come are told in any order, behind those that are late
+  pub spots_let_in : (items late fresh order took after : List X) → IsPermutation (late ++ fresh) order
+      → TakesOpenSpots (λ x. spot (tell x)) Open (items ++ order) took after
+      → TakesOpenSpots spot Open (map tell (items ++ late) ++ map tell fresh) (map tell took) (map tell after)
+  spots_let_in items late fresh order took after moved is =
+      subst (λ ys. TakesOpenSpots spot Open ys (map tell took) (map tell after))
+      (ap (map tell) (sym (append_assoc items late fresh)) ∙ map-append tell (items ++ late) fresh)
+      (spots_told (items ++ (late ++ fresh)) took after (takes_spots_alike (λ x. spot (tell x)) Open (items ++ order) (items ++ (late ++ fresh)) took after
       (λ x. (
-        λ h. (in_append items given x).1 (elim ((in_append items order x).0 h) [
+        λ h. (in_append items (late ++ fresh) x).1 (elim ((in_append items order x).0 h) [
           | inl old ↦ inl old
-          | inr new ↦ inr ((same_by_permutation given order moved x).0 new)
+          | inr new ↦ inr ((same_by_permutation (late ++ fresh) order moved x).0 new)
         ]),
-        λ h. (in_append items order x).1 (elim ((in_append items given x).0 h) [
+        λ h. (in_append items order x).1 (elim ((in_append items (late ++ fresh) x).0 h) [
           | inl old ↦ inl old
-          | inr new ↦ inr ((same_by_permutation given order moved x).1 new)
+          | inr new ↦ inr ((same_by_permutation (late ++ fresh) order moved x).1 new)
         ]),
       )) is))

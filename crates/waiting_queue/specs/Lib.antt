@@ -2,3 +2,5 @@ pub mod Passing
 pub mod Shadows
 pub mod Taking
 pub mod Waiting
+pub mod Joining
+pub mod Ranges

@@ -3,10 +3,12 @@
 #![tactic(auto)]
 
 mod item;
+mod joining;
 mod look;
 mod order;
 mod passing;
 mod queue;
+mod ranges;
 mod shadow;
 mod steps;
 mod widen;

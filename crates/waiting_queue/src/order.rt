@@ -1,4 +1,4 @@
-ghost use Rattle.std.specs.Prelude.{◌≡◌, ◌+◌, ◌<◌, ◌≤◌, ◌↔◌, All, IfOk, IsPermutation, IsTrue, length, take};
+ghost use Rattle.std.specs.Prelude.{◌≡◌, ◌+◌, ◌<◌, ◌≤◌, ◌↔◌, ◌++◌, All, IfOk, IsPermutation, IsTrue, length, take};
 ghost use Rattle.waiting_queue.specs.Passing.{EndsAt, IsSplit};
 ghost use Rattle.waiting_queue.specs.Shadows.{SplitsAt};
 ghost use Rattle.waiting_queue.specs.Taking.{AreSorted};
@@ -92,16 +92,18 @@ fn pass_before<const D: usize, C: StoredCost<D>>(
     count
 }
 
-/// Lists the items in order. What the list held before is gone.
+/// Lists the items of both lists in order. What the list held before is gone.
 pub(crate) fn list_sorted<const D: usize, C: StoredCost<D>>(
     items: &[Item<C>],
+    others: &[Item<C>],
     list: &mut Vec<Item<C>>,
 ) -> Result<(), OutOfMemory>
-    ensures same { IfOk result (λ _. IsPermutation items.now list.new.items) }
+    ensures same { IfOk result (λ _. IsPermutation (items.now ++ others.now) list.new.items) }
     ensures sorted { IfOk result (λ _. AreSorted (spot_in C.components) list.new.items) }
 {
     list.clear();
     list.extend_from_slice(items)?;
+    list.extend_from_slice(others)?;
     list.sort_unstable();
     Ok(())
 }

@@ -1,6 +1,6 @@
 ghost use Rattle.std.specs.Prelude.{◌≡◌, ◌+◌, ◌<◌, ◌≤◌, [], ◌++◌, IfOk};
 ghost use Rattle.waiting_queue.specs.Passing.{IsLookedAt, IsPassed, HasPassed, PassesNext};
-ghost use Rattle.waiting_queue.specs.Shadows.{Descends};
+ghost use Rattle.waiting_queue.specs.Shadows.{Descends, IsShadow};
 ghost use Rattle.waiting_queue.specs.Taking.{AreSorted, TakesOpen};
 ghost use Rattle.waiting_queue.specs.Waiting.{AreCriteria, spot_in};
 
@@ -26,6 +26,8 @@ pub(crate) fn pass_anew<const D: usize, C: StoredCost<D>, K: Look<D, C>>(
     ensures taken { IfOk result (λ _. TakesOpen (spot_in C.components) (K.IsOpen look.now)
         (items.now ++ fresh.now) taken.new.items rest.new.items) }
     ensures sorted { IfOk result (λ _. AreSorted (spot_in C.components) rest.new.items) }
+    ensures shadow { IfOk result (λ _. IsShadow C.components taken.new.items shadow.new.items) }
+    ensures descends { IfOk result (λ _. Descends C.components shadow.new.items) }
 {
     shadow.clear();
     taken.clear();

@@ -1,38 +1,67 @@
 ghost use Rattle.std.specs.Prelude.{◌≡◌, ◌≢◌, ◌+◌, ◌<◌, ◌≤◌, ◌↔◌, [], ◌++◌, IfOk, IsTrue, OnErr, map};
-ghost use Rattle.waiting_queue.specs.Taking.{Counts, TakesOpen};
-ghost use Rattle.waiting_queue.specs.Waiting.{AreCriteria, spot_of, as_waiting};
+ghost use Rattle.waiting_queue.specs.Taking.{AreSorted, Counts, TakesOpenSpots};
+ghost use Rattle.waiting_queue.specs.Waiting.{AreCriteria, as_waiting, spot_in, spot_of};
 
+use crate::joining::join_parts;
 use crate::order::list_sorted;
 use crate::passing::pass_anew;
+use crate::ranges::pass_ranges;
 use crate::{Item, Look, Steps, widen_items};
 use out_of_memory::OutOfMemory;
+use route_io::Gate;
 use std::alloc::Global;
 use std::marker::Model;
 use std::mem;
 use std::sync::ledger::Ledger;
+use std::thread::Threads;
 use stored_cost::StoredCost;
+use work_claim::Workers;
+
+/// So many items of a queue are passed in the time that a label takes in all.
+const ITEMS_OF_A_LABEL: usize = 16;
 
 /// What waits. Some of it may be stale, barred or there more than once.
 ///
-/// The items stand in one ascending list, and each call that takes some goes through it once.
+/// Most items stand in one ascending list, and each call that takes some goes through it once, workers in as many ranges as
+/// they are where it is long.
 #[derive(Drop)]
 pub struct Queue<const D: usize, C: StoredCost<D>> {
     items: Vec<Item<C>>,
-    /// Room for what a call leaves of the items.
-    rest: Vec<Item<C>>,
+    /// What was taken in a range of the list though an item of an earlier range dominates it. It comes in again.
+    late: Vec<Item<C>>,
     /// Room for the items that come in, in order.
     order: Vec<Item<C>>,
+    left: Left<C>,
+}
+
+/// Room for what a call leaves.
+#[derive(Drop)]
+struct Left<C> {
+    items: Vec<Item<C>>,
+    late: Vec<Item<C>>,
     shadow: Vec<C>,
 }
 
+impl<C> Left<C> {
+    fn new(alloc: Global) -> Left<C>
+        ensures { result.items.items ≡ [] }
+    {
+        Left {
+            items: Vec::new(alloc),
+            late: Vec::new(alloc),
+            shadow: Vec::new(alloc),
+        }
+    }
+}
+
 impl<const D: usize, C: StoredCost<D>> Model for Queue<D, C> {
-    ghost use Rattle.std.specs.Prelude.{List, ◌≤◌, map};
+    ghost use Rattle.std.specs.Prelude.{List, ◌≤◌, ◌++◌, map};
     ghost use Rattle.waiting_queue.specs.Taking.{AreSorted};
     ghost use Rattle.waiting_queue.specs.Waiting.{AreCriteria, Waiting, spot_in, as_waiting};
 
     ghost Value = { List Waiting };
 
-    ghost view = { λ q. map (as_waiting C.components) q.items.items };
+    ghost view = { λ q. map (as_waiting C.components) (q.items.items ++ q.late.items) };
 
     ghost invariant = { λ q. (AreCriteria D)
         × AreSorted (spot_in C.components) q.items.items };
@@ -46,48 +75,16 @@ impl<const D: usize, C: StoredCost<D>> Queue<D, C> {
     {
         Queue {
             items: Vec::new(alloc),
-            rest: Vec::new(alloc),
+            late: Vec::new(alloc),
             order: Vec::new(alloc),
-            shadow: Vec::new(alloc),
+            left: Left::new(alloc),
         }
     }
 
     pub fn is_empty(&self) -> bool
         ensures { IsTrue result ↔ (self.now ≡ []) }
     {
-        self.items.as_slice().is_empty()
-    }
-
-    /// Lets these items in, in any order, and takes those that are open and whose cost no open one dominates, each spot
-    /// once. What `taken` held before is gone. A step is counted where some are taken.
-    pub fn pass<K: Look<D, C>, L: Ledger>(
-        &mut self,
-        fresh: &[Item<C>],
-        look: &K,
-        taken: &mut Vec<Item<C>>,
-        steps: &mut Steps<L>,
-    ) -> Result<(), OutOfMemory>
-        ensures taken { IfOk result (λ _. TakesOpen spot_of (K.IsOpen look.now)
-            (self.old ++ map (as_waiting C.components) fresh.now)
-            (map (as_waiting C.components) taken.new.items) self.new) }
-        ensures step { IfOk result (λ _. Counts taken.new.items steps.old steps.new) }
-        ensures same { OnErr result (self.new ≡ self.old) }
-        ensures uncounted { OnErr result (steps.new ≡ steps.old) }
-    {
-        list_sorted(fresh, &mut self.order)?;
-        pass_anew(
-            look,
-            &self.items,
-            &self.order,
-            &mut self.shadow,
-            taken,
-            &mut self.rest,
-        )?;
-        mem::swap(&mut self.items, &mut self.rest);
-        if !taken.as_slice().is_empty() {
-            steps.tick();
-        }
-        Ok(())
+        self.items.as_slice().is_empty() && self.late.as_slice().is_empty()
     }
 
     /// The same queue, with room for greater costs.
@@ -97,9 +94,92 @@ impl<const D: usize, C: StoredCost<D>> Queue<D, C> {
     {
         Ok(Queue {
             items: widen_items(alloc, &self.items)?,
-            rest: Vec::new(alloc),
+            late: widen_items(alloc, &self.late)?,
             order: Vec::new(alloc),
-            shadow: Vec::new(alloc),
+            left: Left::new(alloc),
         })
     }
+}
+
+impl<const D: usize, C: StoredCost<D> + Send + Sync> Queue<D, C>
+where
+    C::Part: Send + Sync,
+{
+    /// Lets these items in, in any order, and takes those that are open and whose cost no open one dominates, each spot
+    /// once, for every number of workers. What `taken` held before is gone. A step is counted where some are taken.
+    pub fn pass<K: Look<D, C> + Sync, R: Threads + Sync, G: Gate, L: Ledger>(
+        &mut self,
+        workers: &Workers<'_, R, G>,
+        alloc: Global,
+        fresh: &[Item<C>],
+        look: &K,
+        taken: &mut Vec<Item<C>>,
+        steps: &mut Steps<L>,
+    ) -> Result<(), OutOfMemory>
+        ensures taken { IfOk result (λ _. TakesOpenSpots spot_of (K.IsOpen look.now)
+            (self.old ++ map (as_waiting C.components) fresh.now)
+            (map (as_waiting C.components) taken.new.items) self.new) }
+        ensures step { IfOk result (λ _. Counts taken.new.items steps.old steps.new) }
+        ensures same { OnErr result (self.new ≡ self.old) }
+        ensures uncounted { OnErr result (steps.new ≡ steps.old) }
+    {
+        list_sorted(&self.late, fresh, &mut self.order)?;
+        let workers = &workers.for_labels(self.items.len() / ITEMS_OF_A_LABEL);
+        pass_lists(
+            workers,
+            alloc,
+            look,
+            &self.items,
+            &self.order,
+            taken,
+            &mut self.left,
+        )?;
+        mem::swap(&mut self.items, &mut self.left.items);
+        mem::swap(&mut self.late, &mut self.left.late);
+        if !taken.as_slice().is_empty() {
+            steps.tick();
+        }
+        Ok(())
+    }
+}
+
+/// Takes the open ones of two sorted lists of items whose cost no open one dominates, and lists apart what is left. What the
+/// lists held before is gone.
+fn pass_lists<
+    const D: usize,
+    C: StoredCost<D> + Send + Sync,
+    K: Look<D, C> + Sync,
+    R: Threads + Sync,
+    G,
+>(
+    workers: &Workers<'_, R, G>,
+    alloc: Global,
+    look: &K,
+    items: &[Item<C>],
+    fresh: &[Item<C>],
+    taken: &mut Vec<Item<C>>,
+    left: &mut Left<C>,
+) -> Result<(), OutOfMemory>
+where
+    C::Part: Send + Sync,
+    requires criteria { AreCriteria D }
+    requires sorted { AreSorted (spot_in C.components) items.now }
+    requires fresh_sorted { AreSorted (spot_in C.components) fresh.now }
+    ensures taken { IfOk result (λ _. TakesOpenSpots (spot_in C.components) (K.IsOpen look.now)
+        (items.now ++ fresh.now) taken.new.items (left.new.items.items ++ left.new.late.items)) }
+    ensures sorted { IfOk result (λ _. AreSorted (spot_in C.components) left.new.items.items) }
+{
+    left.late.clear();
+    if workers.count() == 1 {
+        return pass_anew(
+            look,
+            items,
+            fresh,
+            &mut left.shadow,
+            taken,
+            &mut left.items,
+        );
+    }
+    let parts = pass_ranges(workers, alloc, look, items, fresh)?;
+    join_parts(&parts, taken, &mut left.late, &mut left.items)
 }

@@ -107,6 +107,15 @@ pub(crate) fn count_shadowed<const D: usize, C: StoredCost<D>>(
     items.len()
 }
 
+/// Whether a cost of the shadow dominates this one.
+pub(crate) fn is_shadowed<const D: usize, C: StoredCost<D>>(shadow: &[C], cost: &C) -> bool
+    requires criteria { AreCriteria D }
+    requires descends { Descends C.components shadow.now }
+    ensures { IsTrue result ↔ IsDominatedBy C.components shadow.now (C.components cost.now) }
+{
+    search_shadowing(shadow, cost).is_some()
+}
+
 /// The cost with zero as its first component.
 fn floor<const D: usize, C: StoredCost<D>>(cost: &C) -> C
     requires { AreCriteria D }

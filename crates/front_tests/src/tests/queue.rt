@@ -1,16 +1,30 @@
 //! What passes take of a queue, of which some isn't open.
-ghost use Rattle.std.specs.Prelude.{◌≡◌, ◌<◌, ◌%◌};
+ghost use Rattle.std.specs.Prelude.{◌≡◌, ◌<◌, ◌≤◌, ◌%◌};
 ghost use Rattle.waiting_queue.specs.Waiting.{AreCriteria};
 
 use crate::tests::drawing::{cost_of, draw_cost};
 use cost_vector::NodeNo;
 use out_of_memory::OutOfMemory;
+use route_io::{Gate, Phase};
 use std::alloc::Global;
 use std::marker::Brand;
 use std::process::Abort;
 use std::sync::ledger::{Blank, Ledger};
+use std::thread::Threads;
 use stored_cost::{NarrowCost, StoredCost, WideCost};
 use waiting_queue::{Item, Look, Queue, Steps};
+use work_claim::Workers;
+
+/// A gate that does nothing, and has all work shared.
+struct Sharing;
+
+impl Gate for Sharing {
+    const SHARED_FROM: usize = 0;
+
+    ghost SHARED_FROM = { 0 };
+
+    fn pass(&self, _phase: Phase, _piece: u64) {}
+}
 
 /// Lets spots be open at nodes of even numbers alone.
 #[derive(Drop)]
@@ -87,29 +101,48 @@ fn parted<const D: usize, C: StoredCost<D>>(
 }
 
 /// What one pass takes that lets these items in.
-fn take<const D: usize, C: StoredCost<D>, L: Ledger>(
+fn take<
+    const D: usize,
+    C: StoredCost<D> + Send + Sync,
+    R: Threads + Sync,
+    G: Gate,
+    L: Ledger,
+>(
+    workers: &Workers<'_, R, G>,
     alloc: Global,
     queue: &mut Queue<D, C>,
     fresh: &[Item<C>],
     steps: &mut Steps<L>,
-) -> Result<Vec<Item<C>>, OutOfMemory> {
+) -> Result<Vec<Item<C>>, OutOfMemory>
+where
+    C::Part: Send + Sync,
+{
     let mut taken = Vec::new(alloc);
-    queue.pass(fresh, &EvenNodes, &mut taken, steps)?;
+    queue.pass(workers, alloc, fresh, &EvenNodes, &mut taken, steps)?;
     Ok(taken)
 }
 
 /// After how many rounds a queue is empty, if each takes what comparing all pairs gives.
-fn rounds<const D: usize, C: StoredCost<D>, L: Ledger>(
+fn rounds<
+    const D: usize,
+    C: StoredCost<D> + Send + Sync,
+    R: Threads + Sync,
+    G: Gate,
+    L: Ledger,
+>(
+    workers: &Workers<'_, R, G>,
     alloc: Global,
     items: Vec<Item<C>>,
     steps: &mut Steps<L>,
 ) -> Result<Option<u32>, OutOfMemory>
+where
+    C::Part: Send + Sync,
     requires { AreCriteria D }
 {
     let mut queue = Queue::<D, C>::new(alloc);
     let mut waiting = items;
     let none = Vec::new(alloc);
-    let mut taken = take(alloc, &mut queue, &waiting, steps)?;
+    let mut taken = take(workers, alloc, &mut queue, &waiting, steps)?;
     for round in 0..1000 {
         let parts = parted(alloc, &waiting)?;
         if taken.as_slice() != parts.free.as_slice() {
@@ -119,55 +152,75 @@ fn rounds<const D: usize, C: StoredCost<D>, L: Ledger>(
             return Ok(if queue.is_empty() { Some(round) } else { None });
         }
         waiting = parts.others;
-        taken = take(alloc, &mut queue, &none, steps)?;
+        taken = take(workers, alloc, &mut queue, &none, steps)?;
     }
     Ok(None)
 }
 
-/// After how many rounds queues of 2, 3 and 4 criteria are empty.
+/// After how many rounds queues of 2, 3 and 4 criteria are empty, passed by so many workers.
 fn all_rounds<L: Ledger>(
-    rt: &impl Abort,
+    rt: &(impl Abort + Threads + Sync),
     alloc: Global,
+    count: u32,
     blank: Blank,
 ) -> Result<[Option<u32>; 3], OutOfMemory>
+    requires one { 1 ≤ count }
+    requires most { count ≤ 64 }
     requires name { blank.name ≡ L.name }
     requires parts { blank.parts ≡ L.parts }
     requires some { 0 < L.parts }
 {
+    let workers = &Workers::new(rt, count, &Sharing);
     let mut steps = Steps::<L>::new(blank);
     let two = draw_items::<2, NarrowCost<2>>(rt, alloc, 300, 30)?;
     let three = draw_items::<3, NarrowCost<3>>(rt, alloc, 300, 30)?;
     let four = draw_items::<4, WideCost<4>>(rt, alloc, 300, 30)?;
     Ok([
-        rounds(alloc, two, &mut steps)?,
-        rounds(alloc, three, &mut steps)?,
-        rounds(alloc, four, &mut steps)?,
+        rounds(workers, alloc, two, &mut steps)?,
+        rounds(workers, alloc, three, &mut steps)?,
+        rounds(workers, alloc, four, &mut steps)?,
     ])
+}
+
+/// It is more than three rounds under 2, 3 and 4 criteria.
+fn assert_all_rounds(rt: &(impl Abort + Threads + Sync), alloc: Global, count: u32)
+    requires one { 1 ≤ count }
+    requires most { count ≤ 64 }
+{
+    let outcome = all_rounds::<Brand>(rt, alloc, count, Blank::new(1));
+    let are_many = outcome.is_ok_and(|all| all.iter().all(|rounds| rounds.is_some_and(|n| n > 3)));
+    assert!(rt; are_many, "{count} workers");
 }
 
 #[test]
 fn takes_what_comparing_all_pairs_gives(rt: HostRuntime) {
-    let outcome = all_rounds::<Brand>(&rt, rt.alloc(), Blank::new(1));
-    let are_many = outcome.is_ok_and(|all| all.iter().all(|rounds| rounds.is_some_and(|n| n > 3)));
-    assert!(rt; are_many, "by 2, 3 and 4 criteria");
+    assert_all_rounds(&rt, rt.alloc(), 1);
+    assert_all_rounds(&rt, rt.alloc(), 2);
+    assert_all_rounds(&rt, rt.alloc(), 5);
+    assert_all_rounds(&rt, rt.alloc(), 64);
 }
 
 /// How many spots each of two passes takes of these, and whether none is left.
 fn two_passes<L: Ledger>(
+    rt: &(impl Threads + Sync),
     alloc: Global,
+    count: u32,
     blank: Blank,
     items: &[Item<NarrowCost<2>>],
 ) -> Result<(usize, usize, bool), OutOfMemory>
+    requires one { 1 ≤ count }
+    requires most { count ≤ 64 }
     requires name { blank.name ≡ L.name }
     requires parts { blank.parts ≡ L.parts }
     requires some { 0 < L.parts }
 {
+    let workers = &Workers::new(rt, count, &Sharing);
     let mut steps = Steps::<L>::new(blank);
     let mut queue = Queue::<2, NarrowCost<2>>::new(alloc);
     let mut taken = Vec::new(alloc);
-    queue.pass(items, &EvenNodes, &mut taken, &mut steps)?;
+    queue.pass(workers, alloc, items, &EvenNodes, &mut taken, &mut steps)?;
     let first = taken.len();
-    queue.pass(&[], &EvenNodes, &mut taken, &mut steps)?;
+    queue.pass(workers, alloc, &[], &EvenNodes, &mut taken, &mut steps)?;
     Ok((first, taken.len(), queue.is_empty()))
 }
 
@@ -182,8 +235,10 @@ fn takes_equal_costs_together_and_each_spot_once(rt: HostRuntime) {
         ([1, 9], 3),
     ];
     let items = rows.map(|(cost, node)| item(cost_of(&rt, &cost), node));
-    let outcome = two_passes::<Brand>(rt.alloc(), Blank::new(1), &items);
-    assert!(rt; outcome == Ok((3, 1, true)), "the closed spot leaves");
+    let alone = two_passes::<Brand>(&rt, rt.alloc(), 1, Blank::new(1), &items);
+    assert!(rt; alone == Ok((3, 1, true)), "the closed spot leaves");
+    let shared = two_passes::<Brand>(&rt, rt.alloc(), 4, Blank::new(1), &items);
+    assert!(rt; shared == Ok((3, 1, true)), "four workers");
 }
 
 /// So many items of which none dominates another, at one node.
@@ -202,16 +257,22 @@ fn antichain(
 
 /// The same of an antichain of so many spots.
 fn passes_of_antichain(
-    rt: &impl Abort,
+    rt: &(impl Abort + Threads + Sync),
     alloc: Global,
     count: u32,
-) -> Result<(usize, usize, bool), OutOfMemory> {
+    workers: u32,
+) -> Result<(usize, usize, bool), OutOfMemory>
+    requires one { 1 ≤ workers }
+    requires most { workers ≤ 64 }
+{
     let items = antichain(rt, alloc, count)?;
-    two_passes::<Brand>(alloc, Blank::new(1), &items)
+    two_passes::<Brand>(rt, alloc, workers, Blank::new(1), &items)
 }
 
 #[test]
 fn takes_an_antichain_at_once(rt: HostRuntime) {
-    let outcome = passes_of_antichain(&rt, rt.alloc(), 200_000);
-    assert!(rt; outcome == Ok((200_000, 0, true)), "all leave in time");
+    let alone = passes_of_antichain(&rt, rt.alloc(), 200_000, 1);
+    assert!(rt; alone == Ok((200_000, 0, true)), "all leave in time");
+    let shared = passes_of_antichain(&rt, rt.alloc(), 20_000, 3);
+    assert!(rt; shared == Ok((20_000, 0, true)), "three workers");
 }

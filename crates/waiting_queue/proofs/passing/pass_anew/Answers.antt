@@ -12,3 +12,9 @@ returns-clause-taken g c =
 
 pub returns-clause-sorted : goal.returns-clause-sorted
 returns-clause-sorted g c = IfOk-weaker c.pass_in_turn.result _ _ (λ _ (seen, same, is). is.sorted) c.pass_in_turn.ensures
+
+pub returns-clause-shadow : goal.returns-clause-shadow
+returns-clause-shadow g c = IfOk-weaker c.pass_in_turn.result _ _ (λ _ (seen, same, is). is.shadow) c.pass_in_turn.ensures
+
+pub returns-clause-descends : goal.returns-clause-descends
+returns-clause-descends g c = IfOk-weaker c.pass_in_turn.result _ _ (λ _ (seen, same, is). is.descends) c.pass_in_turn.ensures

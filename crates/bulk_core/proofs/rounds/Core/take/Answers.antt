@@ -10,8 +10,8 @@ pub invariant_of-self : goal.invariant_of-self
 invariant_of-self g c =
     let told = as_waiting g.F.Cost.StoredCost.components in
     let items = c.pass.new.taken.items in
-    rw (c.clear.ensures.items, append-nil c.pass.new.self) (kept_taking (takes_waiting g.row.D c.self.inside.start.0 c.self.inside.budget
-    c.self.inside.settled (c.self.inside.queue ++ map told c.self.inside.fresh.items) c.pass.new.self (map told items)
+    rw (c.clear.ensures.items, append-nil c.pass.new.queue) (kept_taking (takes_waiting g.row.D c.self.inside.start.0 c.self.inside.budget
+    c.self.inside.settled (c.self.inside.queue ++ map told c.self.inside.fresh.items) c.pass.new.queue (map told items)
     (map (spot_in g.F.Cost.StoredCost.components) c.self.inside.taken.items) (map (spot_in g.F.Cost.StoredCost.components) items)
     (sym (map-map spot_of told items)) (rw c.deref.ensures.value at c.in-Ok.ensures.taken) c.self.invariant.kept.items) c.self.invariant)
 
@@ -19,7 +19,28 @@ pub returns-in-Ok-clause-took : goal.returns-in-Ok-clause-took
 returns-in-Ok-clause-took g c =
     let told = as_waiting g.F.Cost.StoredCost.components in
     let items = c.pass.new.taken.items in
-    rw (← c.self.view_is, c.clear.ensures.items, append-nil c.pass.new.self) (takes_waiting g.row.D c.self.inside.start.0 c.self.inside.budget
-    c.self.inside.settled (c.self.inside.queue ++ map told c.self.inside.fresh.items) c.pass.new.self (map told items)
+    rw (← c.self.view_is, c.clear.ensures.items, append-nil c.pass.new.queue) (takes_waiting g.row.D c.self.inside.start.0 c.self.inside.budget
+    c.self.inside.settled (c.self.inside.queue ++ map told c.self.inside.fresh.items) c.pass.new.queue (map told items)
     (map (spot_in g.F.Cost.StoredCost.components) c.self.inside.taken.items) (map (spot_in g.F.Cost.StoredCost.components) items)
     (sym (map-map spot_of told items)) (rw c.deref.ensures.value at c.in-Ok.ensures.taken) c.self.invariant.kept.items)
+
+pub pass-requires-send-F-Cost : goal.pass-requires-send-F-Cost
+pass-requires-send-F-Cost g c κs within = record { owned = c.type_bounds.send-F-Cost.owned; leaving = c.type_bounds.send-F-Cost.leaving }
+
+pub pass-requires-send-F-Cost-Part : goal.pass-requires-send-F-Cost-Part
+pass-requires-send-F-Cost-Part g c κs within = record { owned = c.type_bounds.send-F-Cost-Part.owned; leaving = c.type_bounds.send-F-Cost-Part.leaving }
+
+pub pass-requires-sync-F : goal.pass-requires-sync-F
+pass-requires-sync-F g c κs within = c.type_bounds.sync-F
+
+pub pass-requires-sync-R : goal.pass-requires-sync-R
+pass-requires-sync-R g c κs within = record { shared = c.type_bounds.sync-R.shared }
+
+pub pass-requires-sync-G : goal.pass-requires-sync-G
+pass-requires-sync-G g c κs within = record { shared = c.type_bounds.sync-G.shared }
+
+pub pass-requires-sync-F-Cost : goal.pass-requires-sync-F-Cost
+pass-requires-sync-F-Cost g c κs within = record { shared = c.type_bounds.sync-F-Cost.shared }
+
+pub pass-requires-sync-F-Cost-Part : goal.pass-requires-sync-F-Cost-Part
+pass-requires-sync-F-Cost-Part g c κs within = record { shared = c.type_bounds.sync-F-Cost-Part.shared }

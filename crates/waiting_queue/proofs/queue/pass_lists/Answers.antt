@@ -1,0 +1,35 @@
+use Rattle.std.proofs.Common.{◌++◌, Result, Ok, Err, sym}
+use Rattle.std.specs.Prelude.{IfOk}
+use Rattle.std.proofs.lemmas.Result.{IfOk-weaker}
+use Rattle.waiting_queue.specs.Waiting.{spot_in}
+use Rattle.waiting_queue.proofs.RangeLemmas.{are_parts, joined_take, rest_sorted}
+use Rattle.waiting_queue.proofs.TakingLemmas.{spots_alone}
+use Rattle.waiting_queue.proofs.queue.pass_lists.Goals as goal
+
+-- where it went well, both hold
+both_ok : {T E : Type 0} (r : Result T E) (P Q R : Type 0) → (P → Q → R) → IfOk r (λ _. P) → IfOk r (λ _. Q) → IfOk r (λ _. R)
+both_ok (Ok x) P Q R f p q = f p q
+both_ok (Err e) P Q R f p q = tt
+
+pub returns-then-count-eq1-clause-taken : goal.returns-then-count-eq1-clause-taken
+returns-then-count-eq1-clause-taken g c = IfOk-weaker c.pass_anew.result _ _ (λ _ takes.
+    spots_alone (spot_in g.C.StoredCost.components) (g.K.Look.IsOpen c.args.look.now) (c.args.items.now ++ c.args.fresh.now) c.pass_anew.new.taken.items
+    c.pass_anew.new.rest.items c.clear.new.self.items c.clear.ensures.items takes) c.pass_anew.ensures.taken
+
+pub join_parts-requires-clause-parts : goal.join_parts-requires-clause-parts
+join_parts-requires-clause-parts g c = rw c.deref.ensures.value
+    (are_parts g.C.StoredCost.components (g.K.Look.IsOpen c.args.look.now) (c.args.items.now ++ c.args.fresh.now) c.in_ok-parts.parts.items c.in_ok-parts.ensures)
+
+pub returns-clause-taken : goal.returns-clause-taken
+returns-clause-taken g c =
+    let passed = rw (sym c.deref.ensures.value) at c.in_ok-parts.ensures in
+    both_ok c.join_parts.result _ _ _ (λ joined rest. rw rest
+    (joined_take g.C.StoredCost.components (g.K.Look.IsOpen c.args.look.now) (c.args.items.now ++ c.args.fresh.now) c.deref.result.now
+    c.join_parts.new.taken.items c.join_parts.new.back.items passed joined)) c.join_parts.ensures.joined c.join_parts.ensures.rest
+
+pub returns-clause-sorted : goal.returns-clause-sorted
+returns-clause-sorted g c =
+    let passed = rw (sym c.deref.ensures.value) at c.in_ok-parts.ensures in
+    IfOk-weaker c.join_parts.result _ _ (λ _ rest. rw rest
+    (rest_sorted g.C.StoredCost.components (g.K.Look.IsOpen c.args.look.now) (c.args.items.now ++ c.args.fresh.now) c.deref.result.now passed))
+    c.join_parts.ensures.rest

@@ -1,0 +1,78 @@
+//! What the parts of a queue took, joined: a part doesn't know what an earlier one took.
+ghost use Rattle.std.specs.Prelude.{◌≡◌, ◌≢◌, [], flat_map, All, IfOk, IsTrue, ◌↔◌};
+ghost use Rattle.waiting_queue.specs.Joining.{AreJoined, AreParts, IsSeenBy, JoinsNext, rest_of};
+ghost use Rattle.waiting_queue.specs.Shadows.{Descends, IsDominatedBy};
+ghost use Rattle.waiting_queue.specs.Waiting.{AreCriteria};
+
+use crate::Item;
+use crate::order::is_last;
+use crate::shadow::is_shadowed;
+use out_of_memory::OutOfMemory;
+use stored_cost::StoredCost;
+
+/// What a pass over a part of a queue has taken, what stays there, and the shadow of what was taken.
+#[derive(Drop)]
+pub(crate) struct Part<C> {
+    pub taken: Vec<Item<C>>,
+    pub rest: Vec<Item<C>>,
+    pub shadow: Vec<C>,
+}
+
+/// Lists what the parts took but for what another part's dominates, each spot once, and apart what is dominated, and what
+/// stays in the parts.
+pub(crate) fn join_parts<const D: usize, C: StoredCost<D>>(
+    parts: &[Part<C>],
+    taken: &mut Vec<Item<C>>,
+    back: &mut Vec<Item<C>>,
+    rest: &mut Vec<Item<C>>,
+) -> Result<(), OutOfMemory>
+    requires criteria { AreCriteria D }
+    requires parts { AreParts C.components parts.now }
+    ensures joined { IfOk result (λ _. AreJoined C.components parts.now taken.new.items back.new.items) }
+    ensures rest { IfOk result (λ _. rest.new.items ≡ rest_of parts.now) }
+{
+    taken.clear();
+    back.clear();
+    rest.clear();
+    for (i, part) in parts.iter().enumerate() {
+        join_part(&parts[..i], &part.taken, taken, back)?;
+        rest.extend_from_slice(&part.rest)?;
+    }
+    Ok(())
+}
+
+/// Joins what a part took to what earlier ones did.
+fn join_part<const D: usize, C: StoredCost<D>>(
+    earlier: &[Part<C>],
+    items: &[Item<C>],
+    taken: &mut Vec<Item<C>>,
+    back: &mut Vec<Item<C>>,
+) -> Result<(), OutOfMemory>
+    requires criteria { AreCriteria D }
+    requires descend { All (λ p. Descends C.components p.shadow.items) earlier.now }
+    ensures { IfOk result (λ _. JoinsNext C.components earlier.now items.now
+        taken.old.items back.old.items taken.new.items back.new.items) }
+{
+    for item in items {
+        if is_shadowed_by(earlier, &item.cost) {
+            back.push(*item)?;
+        } else if !is_last(taken, item) {
+            taken.push(*item)?;
+        }
+    }
+    Ok(())
+}
+
+/// Whether a cost that one of the parts took dominates this one, which comes later.
+fn is_shadowed_by<const D: usize, C: StoredCost<D>>(parts: &[Part<C>], cost: &C) -> bool
+    requires criteria { AreCriteria D }
+    requires descend { All (λ p. Descends C.components p.shadow.items) parts.now }
+    ensures { IsTrue result ↔ IsSeenBy C.components parts.now (C.components cost.now) }
+{
+    for part in parts {
+        if is_shadowed(&part.shadow, cost) {
+            return true;
+        }
+    }
+    false
+}

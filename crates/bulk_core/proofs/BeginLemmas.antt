@@ -97,13 +97,13 @@ module _ {base now : Core} (takes : TakesWaiting base now) where
     lists = next_taken;
     count = tells.count;
     counts = counts_before tells.counts;
-    beyond = omega (arith, tells.told.0 refl, takes.same_search.budget);
+    beyond = omega (arith, tells.exact.0 refl, takes.same_search.budget);
   }
 
   -- where they don't pass the budget, they may be settled
   few_taken : (tells : TellsBudget now false) → tells.count + length now.taken ≤ now.budget
   few_taken tells = elim (cases_lt now.budget (tells.count + length now.taken)) [
-    | inl beyond ↦ absurd (false≢true (tells.told.1 beyond))
+    | inl beyond ↦ absurd (false≢true (tells.exact.1 beyond))
     | inr within ↦ omega (arith, within)
   ]
 

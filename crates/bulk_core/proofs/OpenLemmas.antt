@@ -59,7 +59,7 @@ takes_waiting criteria start budget s before after took untaken taken same takes
   took = took;
   taken = same;
   queue = takes_alike spot_of (λ x.
-      let told = spent_told criteria start budget s before untaken x in
-      (λ unspent spent. unspent (told.1 spent), λ unspent spent. unspent (told.0 spent))) takes;
+      let spends = spent_told criteria start budget s before untaken x in
+      (λ unspent spent. unspent (spends.1 spent), λ unspent spent. unspent (spends.0 spent))) takes;
   items = all_from_in (IsKeptItem (core_of criteria start budget s before untaken)) took (λ i there. each i (takes.among i there));
 }

@@ -50,7 +50,7 @@ pub record MaySettleTaken (core : Core) : Type 0 where
 pub record TellsBudget (core : Core) (passes : Bool) : Type 0 where
   pub count : ℕ
   pub counts : CountsSettled core count
-  pub told : IsTrue passes ↔ (core.budget < count + length core.taken)
+  pub exact : IsTrue passes ↔ (core.budget < count + length core.taken)
 
 -- the spots that were taken are settled
 pub record SettlesTaken (before after : Core) : Type 0 where

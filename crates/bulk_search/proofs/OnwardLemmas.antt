@@ -275,9 +275,9 @@ keeps_open Open candidates kept keeps = record {
 
 -- what isn't open for a look that tells what is spent, is spent
 pub closed_is_spent : (core : Core) (Spent : Spot → Type 0) → ((x : Spot) → Spent x ↔ IsSpent core x) → (x : Spot) → ¬ (¬ Spent x) → IsSpent core x
-closed_is_spent core Spent told x closed = elim (decidable_spent core x) [
+closed_is_spent core Spent agrees x closed = elim (decidable_spent core x) [
   | inl spent ↦ spent
-  | inr unspent ↦ absurd (closed (λ spent. unspent ((told x).0 spent)))
+  | inr unspent ↦ absurd (closed (λ spent. unspent ((agrees x).0 spent)))
 ]
 
 -- ---- the items of an open round at some width

@@ -147,10 +147,10 @@ module _ {C : Type 0} (components : C → List ℕ) (Open : Spot → Type 0) whe
         let further : suc n * size ≡ n * size + size = ap (λ m. m * size) more ∙ grind (arith, add-mul n 1 size, one-mul size) in
         let cut : take (suc n * size) gs ≡ take (n * size) gs ++ run_of size gs n = ap (λ m. take m gs) further ∙ take-add (n * size) size gs in
         let next : take (suc n) outs ≡ take n outs ++ out ∷ [] = ap (λ m. take m outs) more ∙ take_more outs n d inside in
-        let told : joined (map (λ (v : Vec (Item C)). v.items) (take (suc n) outs)) ≡ joined (map (λ (v : Vec (Item C)). v.items) (take n outs)) ++ out.items =
+        let longer : joined (map (λ (v : Vec (Item C)). v.items) (take (suc n) outs)) ≡ joined (map (λ (v : Vec (Item C)). v.items) (take n outs)) ++ out.items =
         ap (λ vs. joined (map (λ (v : Vec (Item C)). v.items) vs)) next
         ∙ (ap joined (map-append (λ (v : Vec (Item C)). v.items) (take n outs) (out ∷ [])) ∙ joined_push (map (λ (v : Vec (Item C)). v.items) (take n outs)) out.items) in
-        subst₂ Keeps (sym (ap joined cut ∙ flat_map-append (λ h. h) (take (n * size) gs) (run_of size gs n))) (sym told)
+        subst₂ Keeps (sym (ap joined cut ∙ flat_map-append (λ h. h) (take (n * size) gs) (run_of size gs n))) (sym longer)
         (keeps_both spot Open (joined (take (n * size) gs)) (joined (run_of size gs n)) (joined (map (λ (v : Vec (Item C)). v.items) (take n outs))) out.items
         (runs_so_far n (omega (arith, inside))) (each n out (slice_get-get_or outs n d inside))
         (λ x y h k. parts_apart gs ascending (n * size) x y h (in_run n y k)))

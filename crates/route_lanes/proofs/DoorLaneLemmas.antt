@@ -152,8 +152,8 @@ module _ (graph : Graph) (o : Origin) (weights : Weights) (first budget bytes : 
       let tallies : map (λ (lane : SessionLane T DoorTally). lane.end) lanes' ≡ map tally_of rest.lanes =
       ap (map (λ (lane : SessionLane T DoorTally). lane.end)) is.served.parties_became
       ∙ map_twice (λ (lane : SessionLane T DoorTally). lane.end) (λ (s : Service (SessionLane T DoorTally) D). s.party_after) services ∙ rest.tallies_are in
-      let told = lane_tally _ _ operator.left (show is.first) (show is.first_after) one'.end operator.serves in
-      let total = ap sum_of (ap₂ ◌∷◌ told tallies) ∙ sums (lead ∷ rest.lanes) in
+      let tally = lane_tally _ _ operator.left (show is.first) (show is.first_after) one'.end operator.serves in
+      let total = ap sum_of (ap₂ ◌∷◌ tally tallies) ∙ sums (lead ∷ rest.lanes) in
       record {
         origin = o;
         first_is = first_is;

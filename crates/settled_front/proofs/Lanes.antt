@@ -66,12 +66,12 @@ module _ (rows : List (List ℕ)) (cost : List ℕ) where
     -- marks that tell where some row exceeds tell whether a cost of the block is at most this one
     pub covered_by_lane : (bit : ℕ) (marks : List ℕ) → ((lane : ℕ) → lane < block_size → IsMarked bit (get_or marks lane 0) ↔ Exceeds rows cost d lane)
         → HasUnmarked bit marks ↔ IsCovered (lane_costs d rows) cost
-    covered_by_lane bit marks told = (
+    covered_by_lane bit marks marked = (
       λ h. record {
         by = get_or (lane_costs d rows) h.place [];
         contains = Contains-get_or (lane_costs d rows) h.place [] (omega (arith, h.within, length_lanes));
         at_most = subst (λ x. AtMost x cost) (sym (lane_at h.place h.within))
-            (at_most_lane h.place (λ e. h.unmarked ((told h.place h.within).1 e)));
+            (at_most_lane h.place (λ e. h.unmarked ((marked h.place h.within).1 e)));
       },
       λ h.
           let lane = h.contains.0 in
@@ -81,7 +81,7 @@ module _ (rows : List (List ℕ)) (cost : List ℕ) where
           record {
             place = lane;
             within = within;
-            unmarked = λ mark. exceeds_not lane (subst (λ x. AtMost x cost) (sym is) h.at_most) ((told lane within).0 mark);
+            unmarked = λ mark. exceeds_not lane (subst (λ x. AtMost x cost) (sym is) h.at_most) ((marked lane within).0 mark);
           },
     )
 

@@ -139,6 +139,6 @@ module _ (net : Network) (is : IsNetwork net) (f : FoundCosts) (P : ℕ → List
   -- so the arcs that leave a covered cost tell the last arc of the backward-least walk
   pub last_is_told : (p : List ℕ) → IsBackwardLeast net f.start v c p → (o : Option ℕ)
       → IsLeastIfAny (λ k. (b : List ℕ) × LeavesCovered net f v c k b) o → last_of p ≡ o
-  last_is_told p least o told =
+  last_is_told p least o leads =
       one_least (GoesBack net f v c) (last_of p) o (least_goes_back p least)
-      (least_same (λ k. (b : List ℕ) × LeavesCovered net f v c k b) (GoesBack net f v c) o (λ k (b, leaves). all_is_left k b leaves) settled_is_left told)
+      (least_same (λ k. (b : List ℕ) × LeavesCovered net f v c k b) (GoesBack net f v c) o (λ k (b, leaves). all_is_left k b leaves) settled_is_left leads)

@@ -8,21 +8,21 @@ use Rattle.bulk_core.proofs.rounds.Core.take.Goals as goal
 
 pub invariant_of-self : goal.invariant_of-self
 invariant_of-self g c =
-    let told = as_waiting g.F.Cost.StoredCost.components in
+    let waits = as_waiting g.F.Cost.StoredCost.components in
     let items = c.pass.new.taken.items in
     rw (c.clear.ensures.items, append-nil c.pass.new.queue) (kept_taking (takes_waiting g.row.D c.self.inside.start.0 c.self.inside.budget
-    c.self.inside.settled (c.self.inside.queue ++ map told c.self.inside.fresh.items) c.pass.new.queue (map told items)
+    c.self.inside.settled (c.self.inside.queue ++ map waits c.self.inside.fresh.items) c.pass.new.queue (map waits items)
     (map (spot_in g.F.Cost.StoredCost.components) c.self.inside.taken.items) (map (spot_in g.F.Cost.StoredCost.components) items)
-    (sym (map-map spot_of told items)) (rw c.deref.ensures.value at c.in-Ok.ensures.taken) c.self.invariant.kept.items) c.self.invariant)
+    (sym (map-map spot_of waits items)) (rw c.deref.ensures.value at c.in-Ok.ensures.taken) c.self.invariant.kept.items) c.self.invariant)
 
 pub returns-in-Ok-clause-took : goal.returns-in-Ok-clause-took
 returns-in-Ok-clause-took g c =
-    let told = as_waiting g.F.Cost.StoredCost.components in
+    let waits = as_waiting g.F.Cost.StoredCost.components in
     let items = c.pass.new.taken.items in
     rw (← c.self.view_is, c.clear.ensures.items, append-nil c.pass.new.queue) (takes_waiting g.row.D c.self.inside.start.0 c.self.inside.budget
-    c.self.inside.settled (c.self.inside.queue ++ map told c.self.inside.fresh.items) c.pass.new.queue (map told items)
+    c.self.inside.settled (c.self.inside.queue ++ map waits c.self.inside.fresh.items) c.pass.new.queue (map waits items)
     (map (spot_in g.F.Cost.StoredCost.components) c.self.inside.taken.items) (map (spot_in g.F.Cost.StoredCost.components) items)
-    (sym (map-map spot_of told items)) (rw c.deref.ensures.value at c.in-Ok.ensures.taken) c.self.invariant.kept.items)
+    (sym (map-map spot_of waits items)) (rw c.deref.ensures.value at c.in-Ok.ensures.taken) c.self.invariant.kept.items)
 
 pub pass-requires-send-F-Cost : goal.pass-requires-send-F-Cost
 pass-requires-send-F-Cost g c κs within = record { owned = c.type_bounds.send-F-Cost.owned; leaving = c.type_bounds.send-F-Cost.leaving }

@@ -9,5 +9,5 @@ pub returns-then-not-covers : goal.returns-then-not-covers
 returns-then-not-covers g c =
     let none : ¬ IsCovered (costs_at c.self.inside.fronts c.args.item.now.node.0) (g.F.Cost.StoredCost.components c.args.item.now.cost) =
     λ h. false≢true (sym c.if-not-covers.true ∙ c.covers.ensures.1 h) in
-    let told = rw (← c.self.view_is) at c.bars.ensures in
-    rw (← c.self.view_is) (not_either c.bars.result none told)
+    let barred = rw (← c.self.view_is) at c.bars.ensures in
+    rw (← c.self.view_is) (not_either c.bars.result none barred)

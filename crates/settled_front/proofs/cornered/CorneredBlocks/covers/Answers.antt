@@ -10,7 +10,7 @@ returns g c =
     let costs = g.B.CostBlock.costs in
     let cost = g.B.Cost.StoredCost.components c.args.cost.now in
     let blocks = c.self.inside.blocks.items in
-    let told = subst (λ n. IsTrue c.blocks_cover.result ↔ CoversBetween (map costs blocks) 0 n cost) (sym (length-map blocks costs))
+    let between = subst (λ n. IsTrue c.blocks_cover.result ↔ CoversBetween (map costs blocks) 0 n cost) (sym (length-map blocks costs))
     (rw c.deref.ensures.value at c.blocks_cover.ensures) in
     let all = covered_blocks (map costs blocks) cost in
-    rw (← c.self.view_is) (λ h. all.0 (told.0 h), λ h. told.1 (all.1 h))
+    rw (← c.self.view_is) (λ h. all.0 (between.0 h), λ h. between.1 (all.1 h))

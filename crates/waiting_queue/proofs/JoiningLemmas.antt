@@ -133,7 +133,7 @@ module _ {C : Type 0} (components : C → List ℕ) where
       where
         undominated : ¬ IsDominatedIn spot took (components x.cost)
         undominated by = elim ((in_append seen (take j items) by.0).0 (is.among by.0 by.1)) [
-          | inl old ↦ unseen (can.told (components x.cost) (λ y h. not_lex_less (spot y) (spot x) (can.next.behind y x h x_in)) (by.0, old, by.2))
+          | inl old ↦ unseen (can.noted (components x.cost) (λ y h. not_lex_less (spot y) (spot x) (can.next.behind y x h x_in)) (by.0, old, by.2))
           | inr front ↦ can.apart by.0 x ((in_parts items j by.0).1 (inl front)) x_in by.2
         ]
 
@@ -166,7 +166,7 @@ module _ {C : Type 0} (components : C → List ℕ) where
         tells = λ c sees.
             let by = shadow_tells components sees.part.taken.items sees.part.shadow.items c (earlier sees.part sees.there).shadow sees.by in
             (by.0, in_flat (λ (q : Part C). q.taken.items) (take i parts) sees.part by.0 sees.there by.1, by.2);
-        told = λ c later by.
+        noted = λ c later by.
             let (q, q_in, x_in) = of_flat (λ (q : Part C). q.taken.items) (take i parts) by.0 by.1 in
             record {
               part = q;

@@ -50,7 +50,7 @@ module _ {C : Type 0} (components : C → List ℕ) where
   pub record CanJoin (parts : List (Part C)) (seen items : List (Item C)) : Type 0 where
     pub next : AreNext components seen items
     pub tells : (c : List ℕ) → IsSeenBy parts c → IsDominatedIn (spot_in components) seen c
-    pub told : (c : List ℕ) → IsLater components seen c → IsDominatedIn (spot_in components) seen c → IsSeenBy parts c
+    pub noted : (c : List ℕ) → IsLater components seen c → IsDominatedIn (spot_in components) seen c → IsSeenBy parts c
     pub apart : (x y : Item C) → Contains items x → Contains items y → ¬ Dominates (components x.cost) (components y.cost)
 
   -- where the items can join, they are joined too

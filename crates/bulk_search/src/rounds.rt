@@ -27,6 +27,9 @@ use stored_cost::{NarrowCost, StoredCost, WideCost};
 use waiting_queue::{Item, Look, Steps};
 use work_claim::Workers;
 
+/// So many taken spots of a round are as much work to relax as a label of whole queries that are shared.
+const SPOTS_OF_A_LABEL: usize = 2;
+
 /// A search by rounds at one width, and room for what each of them gives.
 #[derive(Drop)]
 pub(crate) struct WidthRounds<const D: usize, F: SettledFront<D>> {
@@ -138,7 +141,7 @@ where
         prove!(network.nodes() >= 1);
         prove!(network.criteria() == D);
         let taken = self.core.taken();
-        let workers = &workers.for_labels(taken.len());
+        let workers = &workers.for_labels(taken.len() / SPOTS_OF_A_LABEL);
         let settled = self.core.settled();
         relax_open(
             workers,

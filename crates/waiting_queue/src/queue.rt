@@ -17,8 +17,8 @@ use std::thread::Threads;
 use stored_cost::StoredCost;
 use work_claim::Workers;
 
-/// So many items of a queue are passed in the time that a label takes in all.
-const ITEMS_OF_A_LABEL: usize = 16;
+/// Where so many items come in, passing is as much work as a label of whole queries that are shared.
+const ITEMS_OF_A_LABEL: usize = 2;
 
 /// What waits. Some of it may be stale, barred or there more than once.
 ///
@@ -124,7 +124,7 @@ where
         ensures uncounted { OnErr result (steps.new ≡ steps.old) }
     {
         list_sorted(&self.late, fresh, &mut self.order)?;
-        let workers = &workers.for_labels(self.items.len() / ITEMS_OF_A_LABEL);
+        let workers = &sharing::<D, R, G>(workers, fresh.len());
         pass_lists(
             workers,
             alloc,
@@ -140,6 +140,21 @@ where
             steps.tick();
         }
         Ok(())
+    }
+}
+
+/// Those who share a pass to which so many items come. Under 2 criteria the shadow is one cost, and one worker passes the list in
+/// less time than several take to put its ranges together.
+fn sharing<'w, const D: usize, R, G: Gate>(
+    workers: &Workers<'w, R, G>,
+    fresh: usize,
+) -> Workers<'w, R, G>
+    ensures { result.rt ≡ workers.now.rt }
+{
+    if D == 2 {
+        workers.for_labels(0)
+    } else {
+        workers.for_labels(fresh / ITEMS_OF_A_LABEL)
     }
 }
 

@@ -149,21 +149,20 @@ fn uncover<const D: usize, C: StoredCost<D>>(shadow: &mut Vec<C>, low: &C)
     }
 }
 
-/// Goes through the costs, and takes out those that this one is at most.
+/// Takes out the costs that this one is at most: the others move up, without a branch between them.
 fn remove_above<const D: usize, C: StoredCost<D>>(shadow: &mut Vec<C>, low: &C)
     requires { Descends C.components shadow.old.items }
     ensures descends { Descends C.components shadow.new.items }
     ensures without { IsWithout (λ x. AtMost (C.components low.now) (C.components x))
         shadow.old.items shadow.new.items }
 {
-    let mut i = 0;
-    while i < shadow.len() {
-        if low.at_most(&shadow[i]) {
-            shadow.remove(i);
-        } else {
-            i += 1;
-        }
+    let mut kept = 0;
+    for i in 0..shadow.len() {
+        let cost = shadow[i];
+        shadow[kept] = cost;
+        kept += usize::from(!low.at_most(&cost));
     }
+    shadow.truncate(kept);
 }
 
 /// A taken cost joins the shadow. Those leave that it covers. As part of its caller this would be slower.

@@ -1,5 +1,5 @@
-/* Loaded before a program: each of its allocations fails, from the one on whose number FAIL_FROM says.
-   Where one has failed, a byte comes to the descriptor FAIL_MARK. */
+/* Loaded before a program: each of its allocations fails, from the one on whose number FAIL_FROM says, or that one alone where
+   FAIL_ONCE is set. Where one has failed, a byte comes to the descriptor FAIL_MARK. */
 #include <errno.h>
 #include <stdatomic.h>
 #include <stdlib.h>
@@ -11,12 +11,13 @@ void *__libc_realloc(void *, size_t);
 void *__libc_memalign(size_t, size_t);
 
 static unsigned long long from;
-static int mark;
+static int mark, once;
 static atomic_ullong taken;
 
 __attribute__((constructor)) static void begin(void) {
     const char *number = getenv("FAIL_FROM"), *descriptor = getenv("FAIL_MARK");
     mark = descriptor ? atoi(descriptor) : -1;
+    once = getenv("FAIL_ONCE") != NULL;
     from = number ? strtoull(number, NULL, 10) : 0;
 }
 
@@ -24,7 +25,7 @@ __attribute__((constructor)) static void begin(void) {
 static int fails(void) {
     if (from == 0) return 0;
     unsigned long long number = atomic_fetch_add(&taken, 1) + 1;
-    if (number < from) return 0;
+    if (number < from || (once && number > from)) return 0;
     if (number == from && write(mark, "f", 1) != 1) _exit(125);
     errno = ENOMEM;
     return 1;

@@ -22,10 +22,11 @@ pub record OperatorVisit (o : Origin) (bytes : ℕ) (old : Operator) (before aft
   pub serves : Serves (OperatorRun o) (IsOperatorBye o) bytes old left before.from after.from before.to after.to end
   pub drops : new ≡ with_none_pending left
 
--- A link of a session was served: it goes on from what the session had seen and named.
+-- A link of a session was served: it goes on from what the session had seen, and the numbers are those that it named.
 abbrev pub SessionVisit : Scene → ℕ → Session → LinkState → LinkState → SessionEnd → Session → Type 0
 SessionVisit scene bytes old before after end new =
-    Serves (SessionGoes scene) (IsSessionBye scene) bytes old new before.from after.from before.to after.to end
+    Serves (SessionGoes scene) (IsSessionBye scene) bytes (record old { named = [] }) new
+    before.from after.from before.to after.to end
 
 -- a lane: its door before and afterwards, the links that it served, in order, and whether the door failed
 pub record DoorLane : Type 0 where

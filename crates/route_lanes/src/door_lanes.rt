@@ -100,7 +100,10 @@ impl<T: Store> SessionLane<T, DoorTally> {
             D::To,
         >|
             requires { CanSearch (scene_of context.now.graph.now T.origin context.now.budget) }
-        { session.serve(context, link) };
+        {
+            session.forget_numbers();
+            session.serve(context, link)
+        };
         self.end = serve_door(context, &mut self.session, door, &attend);
     }
 }

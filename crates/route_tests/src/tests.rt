@@ -201,10 +201,14 @@ fn assert_run(
     assert_ended(rt, ended, wanted, number);
 }
 
-/// A folder of these files, in pieces of this size, and sinks that never fail.
+/// A folder of these files, and sinks that never fail, all in pieces of this size.
 fn outside_of(alloc: Global, files: &[(&str, &str)], piece: usize) -> Result<Outside, AllocError> {
-    let folder = folder_of(alloc, files)?.with_piece(piece.max(1));
-    Ok(Outside::of_folder(alloc, folder))
+    let size = piece.max(1);
+    Ok(Outside {
+        folder: folder_of(alloc, files)?.with_piece(size),
+        out: ample(alloc).with_piece(size),
+        err: ample(alloc).with_piece(size),
+    })
 }
 
 fn assert_row(
@@ -217,7 +221,7 @@ fn assert_row(
     assert_run(rt, alloc, &row.expected(), piece, outside);
 }
 
-/// Each run ends as its row says, over a folder that gives one byte a read and over one that gives all.
+/// Each run ends as its row says, over a folder and sinks that give and take one byte a call, and over such that do all at once.
 fn assert_rows(rt: &(impl Abort + Threads + Wait + Clock + Sync), alloc: Global, rows: &[Row]) {
     for row in rows {
         assert_row(rt, alloc, row, 1);
@@ -440,7 +444,7 @@ fn each_failing_call_of_the_folder_is_told(rt: HostRuntime) {
     }
 }
 
-/// The first run, with this sink for its reply.
+/// The six arcs, with this sink for the reply.
 fn first_to(alloc: Global, out: Result<MemorySink, AllocError>) -> Result<Outside, AllocError> {
     let mut outside = outside_of(alloc, rows::SIX_ARCS, usize::MAX)?;
     outside.out = out?;
@@ -451,6 +455,40 @@ fn first_to(alloc: Global, out: Result<MemorySink, AllocError>) -> Result<Outsid
 fn a_failing_out_is_told(rt: HostRuntime) {
     let outside = first_to(rt.alloc(), failing(rt.alloc(), 0));
     assert_run(&rt, rt.alloc(), &told_out(b""), 0, outside);
+}
+
+/// The same with walks.
+const WALKS: Wanted = Wanted {
+    words: "one --from 1 --to 4 A.gr B.gr",
+    status: 0,
+    out: b"r 0 1 4 2\np 2 8 2 1 3\np 4 2 2 2 4\n",
+    err: b"",
+};
+
+/// The run with walks, whose reply goes out byte by byte, of which that of this number isn't taken.
+fn walks_but_a_byte(alloc: Global, call: u64) -> Result<Outside, AllocError> {
+    first_to(alloc, Ok(failing(alloc, call)?.with_piece(1)))
+}
+
+/// What is wanted where this byte of the reply with walks isn't taken.
+fn wanted_but_a_byte(call: usize) -> Wanted<'static> {
+    if call >= WALKS.out.len() {
+        return WALKS;
+    }
+    Wanted {
+        status: 4,
+        out: &WALKS.out[..call],
+        err: b"route: out\n",
+        ..WALKS
+    }
+}
+
+#[test]
+fn a_byte_that_out_does_not_take_is_told(rt: HostRuntime) {
+    for call in 0..36usize {
+        let outside = walks_but_a_byte(rt.alloc(), call as u64);
+        assert_run(&rt, rt.alloc(), &wanted_but_a_byte(call), call, outside);
+    }
 }
 
 /// What is wanted where a part of the first reply was sent.

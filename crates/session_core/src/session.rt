@@ -112,6 +112,13 @@ impl<T: Store> Session<T> {
         self.named
     }
 
+    /// Lets go of the numbers that were named so far.
+    pub fn forget_numbers(&mut self)
+        ensures { self.new ≡ record self.old { named = [] } }
+    {
+        self.named.clear();
+    }
+
     /// Serves a link. The numbers that its replies name are added to those of before.
     pub fn serve<R: Threads + Wait + Clock + Sync, G: Gate, S: Source, K: Sink>(
         &mut self,

@@ -149,6 +149,72 @@ fn faults() -> &'static [ServeRow] {
     FAULTS
 }
 
+/// The other calls of the same doors and links, up to the first that isn't made.
+const FURTHER_FAULTS: &[ServeRow] = &[
+    ServeRow {
+        operator: &["publish\n"],
+        session: &["w 1\ne\n", "w 1\n"],
+        place: Place::SessionDoor,
+        call: 0,
+        status: 10,
+        replies: &["k 1\n"],
+    },
+    ServeRow {
+        operator: &["publish\n"],
+        session: &["w 1\ne\n", "w 1\n"],
+        place: Place::SessionDoor,
+        call: 2,
+        status: 10,
+        replies: &["k 1\n", "k 1\nk 1\n", "k 1\n"],
+    },
+    // The read behind the last line fails: all replies were sent.
+    ServeRow {
+        operator: &["publish\n"],
+        session: &["w 1\ne\n", "w 1\n"],
+        place: Place::OperatorRead,
+        call: 1,
+        status: 0,
+        replies: &["k 1\n", "k 1\nk 1\n", "k 1\n"],
+    },
+    ServeRow {
+        operator: &["publish\n"],
+        session: &["w 1\ne\n", "w 1\n"],
+        place: Place::SessionRead,
+        call: 1,
+        status: 0,
+        replies: &["k 1\n", "k 1\nk 1\n", "k 1\n"],
+    },
+    ServeRow {
+        operator: &["publish\n"],
+        session: &["w 1\ne\n", "w 1\n"],
+        place: Place::SessionWrite,
+        call: 0,
+        status: 0,
+        replies: &["k 1\n", "", "k 1\n"],
+    },
+    // No link writes so often, and no door is asked so often.
+    ServeRow {
+        operator: &["publish\n"],
+        session: &["w 1\ne\n", "w 1\n"],
+        place: Place::SessionWrite,
+        call: 2,
+        status: 0,
+        replies: &["k 1\n", "k 1\nk 1\n", "k 1\n"],
+    },
+    ServeRow {
+        operator: &["publish\n"],
+        session: &["w 1\ne\n", "w 1\n"],
+        place: Place::SessionDoor,
+        call: 3,
+        status: 0,
+        replies: &["k 1\n", "k 1\nk 1\n", "k 1\n"],
+    },
+];
+
+fn further_faults() -> &'static [ServeRow] {
+    FURTHER_FAULTS
+}
+
 /// The numbers of the calls that fail at a place.
 fn fails_at(alloc: Global, row: &ServeRow, place: Place) -> Result<Vec<u64>, AllocError> {
     if row.place == place {
@@ -158,25 +224,27 @@ fn fails_at(alloc: Global, row: &ServeRow, place: Place) -> Result<Vec<u64>, All
     }
 }
 
-/// A link over which a text comes, and whose reads and writes of these numbers fail.
+/// A link over which a text comes, in pieces of this size, and whose reads and writes of these numbers fail.
 fn link_of(
     alloc: Global,
     text: &str,
+    piece: usize,
     reads: Vec<u64>,
     writes: Vec<u64>,
 ) -> Result<MemoryLink, AllocError> {
     let bytes = Vec::from_slice(alloc, text.as_bytes())?;
     Ok(Link {
-        from: MemorySource::new(bytes, reads),
-        to: MemorySink::new(alloc, u64::MAX, writes),
+        from: MemorySource::new(bytes, reads).with_piece(piece.max(1)),
+        to: MemorySink::new(alloc, u64::MAX, writes).with_piece(piece.max(1)),
     })
 }
 
-/// Links over which these texts come, of which the first fails where the row says so.
+/// Links over which these texts come, in pieces, of which the first fails where the row says so.
 fn links_of(
     alloc: Global,
     row: &ServeRow,
     texts: &[&str],
+    piece: usize,
     read: Place,
     write: Place,
 ) -> Result<Vec<MemoryLink>, AllocError> {
@@ -184,7 +252,7 @@ fn links_of(
     let mut reads = fails_at(alloc, row, read)?;
     let mut writes = fails_at(alloc, row, write)?;
     for text in texts {
-        links.push(link_of(alloc, text, reads, writes)?)?;
+        links.push(link_of(alloc, text, piece, reads, writes)?)?;
         reads = Vec::new(alloc);
         writes = Vec::new(alloc);
     }
@@ -192,13 +260,14 @@ fn links_of(
 }
 
 /// The operator's door.
-fn operator_door(alloc: Global, row: &ServeRow) -> Result<MemoryDoor, AllocError>
+fn operator_door(alloc: Global, row: &ServeRow, piece: usize) -> Result<MemoryDoor, AllocError>
     ensures { IfOk result IsUnused }
 {
     let links = links_of(
         alloc,
         row,
         row.operator,
+        piece,
         Place::OperatorRead,
         Place::OperatorWrite,
     )?;
@@ -206,13 +275,14 @@ fn operator_door(alloc: Global, row: &ServeRow) -> Result<MemoryDoor, AllocError
 }
 
 /// The session's door.
-fn session_door(alloc: Global, row: &ServeRow) -> Result<MemoryDoor, AllocError>
+fn session_door(alloc: Global, row: &ServeRow, piece: usize) -> Result<MemoryDoor, AllocError>
     ensures { IfOk result IsUnused }
 {
     let links = links_of(
         alloc,
         row,
         row.session,
+        piece,
         Place::SessionRead,
         Place::SessionWrite,
     )?;
@@ -220,12 +290,12 @@ fn session_door(alloc: Global, row: &ServeRow) -> Result<MemoryDoor, AllocError>
 }
 
 /// A town of both doors.
-fn town_of(alloc: Global, row: &ServeRow) -> Result<MemoryTown, AllocError>
+fn town_of(alloc: Global, row: &ServeRow, piece: usize) -> Result<MemoryTown, AllocError>
     ensures { IfOk result (λ town. town.asked ≡ false) }
 {
     let mut doors = Vec::with_capacity(alloc, 2)?;
-    doors.push_reserved(operator_door(alloc, row)?);
-    doors.push_reserved(session_door(alloc, row)?);
+    doors.push_reserved(operator_door(alloc, row, piece)?);
+    doors.push_reserved(session_door(alloc, row, piece)?);
     Ok(MemoryTown::new(alloc, doors, fails_at(alloc, row, Place::Listening)?))
 }
 
@@ -238,15 +308,16 @@ struct ServedTown {
     err: MemorySink,
 }
 
-/// Runs the server of a row.
+/// Runs the server of a row, whose links give and take so many bytes at once.
 fn serve_row<R: Threads + Wait + Clock + Sync>(
     rt: &R,
     alloc: Global,
     row: &ServeRow,
+    piece: usize,
 ) -> Result<ServedTown, AllocError> {
     let words = words_of(alloc, "serve --listen here --operator there A.gr B.gr")?;
     let mut folder = folder_of(alloc, &[("A.gr", A), ("B.gr", B)])?;
-    let mut town = town_of(alloc, row)?;
+    let mut town = town_of(alloc, row, piece)?;
     let (mut out, mut err) = (ample(alloc), ample(alloc));
     let status = route(
         rt,
@@ -304,16 +375,26 @@ fn assert_served(rt: &impl Abort, row: &ServeRow, served: Result<ServedTown, All
     }
 }
 
-#[test]
-fn links_have_their_replies(rt: HostRuntime) {
-    for row in rows() {
-        assert_served(&rt, row, serve_row(&rt, rt.alloc(), row));
+/// Each server ends as its row says, whose links give and take so many bytes at once.
+fn assert_all_served(
+    rt: &(impl Abort + Threads + Wait + Clock + Sync),
+    alloc: Global,
+    rows: &[ServeRow],
+    piece: usize,
+) {
+    for row in rows {
+        assert_served(rt, row, serve_row(rt, alloc, row, piece));
     }
 }
 
 #[test]
+fn links_have_their_replies(rt: HostRuntime) {
+    assert_all_served(&rt, rt.alloc(), rows(), usize::MAX);
+    assert_all_served(&rt, rt.alloc(), rows(), 1);
+}
+
+#[test]
 fn each_fault_ends_what_it_has_to(rt: HostRuntime) {
-    for row in faults() {
-        assert_served(&rt, row, serve_row(&rt, rt.alloc(), row));
-    }
+    assert_all_served(&rt, rt.alloc(), faults(), usize::MAX);
+    assert_all_served(&rt, rt.alloc(), further_faults(), usize::MAX);
 }

@@ -1,2 +1,4 @@
 mod at_once;
+mod doors;
+mod loopback;
 mod turns;

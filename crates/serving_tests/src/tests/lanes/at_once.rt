@@ -1,8 +1,9 @@
+use super::doors::TurnDoor;
 use super::turns::{TurnSink, TurnSource};
 use crate::tests::stores::six_arcs;
 use route_io::memory::{MemorySink, MemorySource};
 use route_io::{Link, OpenGate};
-use route_lanes::run_lanes;
+use route_lanes::{Served, run_lanes, serve_lanes};
 use session_core::{ServeContext, SessionEnd};
 use std::alloc::{AllocError, Global};
 use std::process::Abort;
@@ -161,5 +162,58 @@ fn serve<R: Threads + Wait + Clock + Sync + Abort>(
         assert!(rt; report.end() == SessionEnd::Ended, "a link ends in order");
         assert!(rt; report.last() == last, "the last epoch");
     }
+    Ok(())
+}
+
+/// The operator and a session wait for each other, each over the one link of its door.
+fn doors_with_operator(alloc: Global, flags: &Flags) -> Result<Vec<TurnDoor<'_>>, AllocError> {
+    let (operator, first, gave_up) = (&flags.operator, &flags.first, &flags.gave_up);
+    let mut doors = Vec::new(alloc);
+    let publishes = link(alloc, &PUBLISHES, operator, first, gave_up)?;
+    doors.push(TurnDoor::of(publishes))?;
+    let asks = link(alloc, &ASKS_AGAIN, first, operator, gave_up)?;
+    doors.push(TurnDoor::of(asks))?;
+    Ok(doors)
+}
+
+#[test]
+fn links_of_doors_are_served_at_once(rt: HostRuntime) -> Result<(), Fail> {
+    let flags = unset();
+    let mut doors = doors_with_operator(rt.alloc(), &flags)?;
+    serve_doors(&rt, rt.alloc(), &mut doors)?;
+    assert!(rt;
+        !flags.gave_up.load(Ordering::SeqCst),
+        "a wait reached its limit"
+    );
+    for (door, wanted) in doors.iter().zip(&["k 1\n", "k 0\nk 1\n"]) {
+        assert!(rt;
+            door.sent() == Some(wanted.as_bytes()),
+            "{wanted:?} is replied"
+        );
+    }
+    Ok(())
+}
+
+/// Serves the doors, none of which fails.
+fn serve_doors<R: Threads + Wait + Clock + Sync + Abort>(
+    rt: &R,
+    alloc: Global,
+    doors: &mut [TurnDoor<'_>],
+) -> Result<(), Fail> {
+    let (graph, weights) = six_arcs(alloc)?;
+    assert!(rt; 2 <= doors.len() && doors.len() <= 17);
+    let context = ServeContext {
+        workers: &Workers::new(rt, 1, &OpenGate),
+        alloc,
+        graph: &graph,
+        budget: 100,
+        bytes: u64::MAX,
+    };
+    let served = serve_lanes(&context, weights, 0, doors)?;
+    let wanted = Served {
+        failed: 0,
+        starved: 0,
+    };
+    assert!(rt; served == wanted, "no door fails");
     Ok(())
 }

@@ -27,9 +27,6 @@ use stored_cost::{NarrowCost, StoredCost, WideCost};
 use waiting_queue::{Item, Look, Steps};
 use work_claim::Workers;
 
-/// So many taken spots of a round are as much work to relax as a label of whole queries that are shared.
-const SPOTS_OF_A_LABEL: usize = 2;
-
 /// A search by rounds at one width, and room for what each of them gives.
 #[derive(Drop)]
 pub(crate) struct WidthRounds<const D: usize, F: SettledFront<D>> {
@@ -141,7 +138,7 @@ where
         prove!(network.nodes() >= 1);
         prove!(network.criteria() == D);
         let taken = self.core.taken();
-        let workers = &workers.for_labels(taken.len() / SPOTS_OF_A_LABEL);
+        let workers = &workers.for_labels(taken.len() / spots_of_a_label(D));
         let settled = self.core.settled();
         relax_open(
             workers,
@@ -297,6 +294,14 @@ where
         Err(RelaxFault::OutOfMemory) => Err(OutOfMemory),
         Err(RelaxFault::TooWide) => unreachable!(),
     }
+}
+
+/// How many taken spots of a round are as much work to relax as a label of whole queries that are shared. Under 2 criteria a front
+/// answers so soon that other processors take longer to fetch it.
+fn spots_of_a_label(criteria: usize) -> usize
+    ensures { 0 < result }
+{
+    if criteria == 2 { 64 } else { 2 }
 }
 
 /// Where several work, they leave out what isn't open and what other open candidates of its node dominate. One alone leaves all,

@@ -154,7 +154,7 @@ module _ {C : Type 0} (components : C → List ℕ) where
       let here : Contains parts p = (i, within, sym at) in
       let is = each_in (IsPart components) parts are.each p here in
       let earlier : (q : Part C) → Contains (take i parts) q → IsPart components q =
-          λ q q_in. each_in (IsPart components) parts are.each q ((in_parts parts i q).1 (inl q_in)) in
+      λ q q_in. each_in (IsPart components) parts are.each q ((in_parts parts i q).1 (inl q_in)) in
       record {
         next = record {
           sorted = pairs_weaker (λ a b. SpotLess (spot a) (spot b)) (λ a b. ¬ SpotLess (spot b) (spot a))

@@ -147,7 +147,7 @@ module _ {C : Type 0} (components : C → List ℕ) where
         back = λ x h. absurd (in_none x (subst (λ ys. Contains ys x) gone_too h));
       } in
       let end = cutting_more all ranges left fresh is (length left) (length fresh) cut r
-          (items_are ∙ sym (take_all (length left) left (omega arith))) (fresh_are ∙ sym (take_all (length fresh) fresh (omega arith))) in
+      (items_are ∙ sym (take_all (length left) left (omega arith))) (fresh_are ∙ sym (take_all (length fresh) fresh (omega arith))) in
       record {
         each = end.each;
         ascending = end.ascending;

@@ -186,14 +186,7 @@ where
 {
     left.late.clear();
     if workers.count() == 1 {
-        return pass_anew(
-            look,
-            items,
-            fresh,
-            &mut left.shadow,
-            taken,
-            &mut left.items,
-        );
+        return pass_anew(look, items, fresh, &mut left.shadow, taken, &mut left.items);
     }
     let parts = pass_ranges(workers, alloc, look, items, fresh)?;
     join_parts(&parts, taken, &mut left.late, &mut left.items)

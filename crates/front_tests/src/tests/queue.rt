@@ -101,13 +101,7 @@ fn parted<const D: usize, C: StoredCost<D>>(
 }
 
 /// What one pass takes that lets these items in.
-fn take<
-    const D: usize,
-    C: StoredCost<D> + Send + Sync,
-    R: Threads + Sync,
-    G: Gate,
-    L: Ledger,
->(
+fn take<const D: usize, C: StoredCost<D> + Send + Sync, R: Threads + Sync, G: Gate, L: Ledger>(
     workers: &Workers<'_, R, G>,
     alloc: Global,
     queue: &mut Queue<D, C>,
@@ -123,13 +117,7 @@ where
 }
 
 /// After how many rounds a queue is empty, if each takes what comparing all pairs gives.
-fn rounds<
-    const D: usize,
-    C: StoredCost<D> + Send + Sync,
-    R: Threads + Sync,
-    G: Gate,
-    L: Ledger,
->(
+fn rounds<const D: usize, C: StoredCost<D> + Send + Sync, R: Threads + Sync, G: Gate, L: Ledger>(
     workers: &Workers<'_, R, G>,
     alloc: Global,
     items: Vec<Item<C>>,

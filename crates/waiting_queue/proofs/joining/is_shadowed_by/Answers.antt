@@ -11,6 +11,8 @@ loop-part-preserved g c =
 
 pub returns-then-is_shadowed : goal.returns-then-is_shadowed
 returns-then-is_shadowed g c =
-    let numbers = g.C.StoredCost.components in
-    (λ yes. seen_at numbers c.args.parts.now c.loop-part.part-index c.part-item.result (numbers c.args.cost.now) c.loop-part-test.true c.part-item.is
-    (rw c.deref.ensures.value at (c.is_shadowed.ensures.0 c.if-is_shadowed.true)), λ h. refl)
+    let numbers = g.C.StoredCost.components in (
+      λ yes. seen_at numbers c.args.parts.now c.loop-part.part-index c.part-item.result (numbers c.args.cost.now) c.loop-part-test.true c.part-item.is
+          (rw c.deref.ensures.value at (c.is_shadowed.ensures.0 c.if-is_shadowed.true)),
+      λ h. refl,
+    )

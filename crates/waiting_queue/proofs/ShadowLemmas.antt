@@ -1,13 +1,14 @@
 -- The shadow of what was taken.
-use Rattle.std.proofs.Common.{◌≡◌, ℕ, zero, suc, ◌+◌, ◌||◌, Bool, true, false, not, IsTrue, ◌-◌, ◌∙◌, ◌<◌, ◌≤◌, ◌⊎◌, ◌↔◌, List, [], ◌∷◌, ◌++◌, get_or, set, take, drop, length, append_assoc, subst₂, take-append-drop, inl, inr, refl, sym, ap, subst, arith, Less}
+use Rattle.std.proofs.Common.{◌≡◌, ℕ, zero, suc, ◌+◌, ◌||◌, Bool, true, false, not, IsTrue, ◌-◌, ◌∙◌, ◌<◌, ◌≤◌, ◌⊎◌, ◌↔◌, List, [], ◌∷◌, ◌++◌, get_or, set, take, drop, length, length-take, length-drop, append_assoc, subst₂, take-append-drop, inl, inr, refl, sym, ap, subst, arith, Less}
 use Rattle.std.specs.Prelude.{All, AllPairs, Contains, IsPermutation}
 use Rattle.std.specs.List.{insert, remove}
+use Rattle.std.proofs.lemmas.Option.{get_or_from_slice_get, slice_get_within}
 use Rattle.std.specs.Ordering.{nat_cmp, ordering_then}
 use Rattle.std.specs.Int.{from_bool}
 use Rattle.std.proofs.Math.Nat.{add-zero}
 use Rattle.std.proofs.lemmas.Bool.{cases_lt, false≢true}
 use Rattle.std.proofs.lemmas.Bool.Decides.{nat_tests}
-use Rattle.std.proofs.lemmas.List.{append-nil, drop_all, drop_more, drop-set-lt, take-set, take_more, take_more_set}
+use Rattle.std.proofs.lemmas.List.{append-nil, get_or_default, get_or-drop, get_or-take, drop_all, drop_more, drop-set-lt, take-set, take_more, take_more_set}
 use Rattle.std.proofs.lemmas.List.Edits.{remove-append_right}
 use Rattle.std.proofs.lemmas.List.Sorted.{IsPermutation-insert}
 use Rattle.cost_vector.specs.Costs.{AtMost, Dominates, LexLess, lex_cmp}
@@ -18,7 +19,7 @@ use Rattle.list_laws.proofs.OnceLaws.{in_append, pairs_append}
 use Rattle.list_laws.proofs.Pairs.{pairs_cons, pairs_none, pairs_rest, pairs_take, pair_with_first}
 use Rattle.list_laws.proofs.SetLaws.{gains_by_permutation}
 use Rattle.waiting_queue.specs.declared.item.Item.{Item}
-use Rattle.waiting_queue.specs.Shadows.{grounded, second_of, Descends, ExceedsBefore, FallsTo, IsBelowSome, IsDominatedBy, IsLater, IsShadow, Joins, SplitsAt}
+use Rattle.waiting_queue.specs.Shadows.{grounded, second_of, Descends, ExceedsBefore, FallsTo, IsBelowSome, IsDominatedBy, IsLater, IsRun, IsShadow, Joins, SplitsAt}
 use Rattle.waiting_queue.proofs.TakingLemmas.{in_push, last_in}
 
 -- the end of a list
@@ -220,6 +221,50 @@ module _ {C : Type 0} (components : C → List ℕ) where
     | inl before ↦ descends i j d before within
     | inr same ↦ let e : j ≡ i = omega arith in subst (λ k. second_of (components (get_or shadow k d)) ≤ second_of (components (get_or shadow i d))) (sym e) (omega arith)
   ]
+
+  module _ (shadow : List C) (items : List (Item C)) where
+    abbrev Shadowed : Item C → Type 0
+    Shadowed i = IsDominatedBy components shadow (components i.cost)
+
+    -- a cost of the shadow dominates the next m items too
+    pub run_on : (by : C) (n m : ℕ) → Contains shadow by → n ≤ length items → All Shadowed (take n items)
+        → All (λ (i : Item C). Dominates (components by) (components i.cost)) (take m (drop n items)) → All Shadowed (take (n + m) items)
+    run_on by n m there within before next = λ k d inside.
+        let short : k < n + m = omega (arith, inside, length-take (n + m) items) in
+        let long : k < length items = omega (arith, inside, length-take (n + m) items) in
+        rw (get_or-take (n + m) items k d short) (elim (cases_lt k n) [
+          | inl near ↦ subst Shadowed (get_or-take n items k d near) (before k d (omega (arith, near, length-take n items, within)))
+          | inr far ↦
+              let place : n + (k - n) ≡ k = omega (arith, far) in
+              let read : get_or (take m (drop n items)) (k - n) d ≡ get_or items k d = get_or-take m (drop n items) (k - n) d (omega (arith, short, far))
+              ∙ get_or-drop n items (k - n) d ∙ ap (λ j. get_or items j d) place in
+              record {
+                by = by;
+                contains = there;
+                dominates = subst (λ (i : Item C). Dominates (components by) (components i.cost)) read
+                    (next (k - n) d (omega (arith, short, far, long, length-take m (drop n items), length-drop n items)));
+              }
+        ])
+
+    -- a run ends before an item that the shadow doesn't dominate
+    pub run_ends : (n : ℕ) (item : Item C) → All Shadowed (take n items) → n < length items → item ≡ get_or items n item → ¬ Shadowed item
+        → IsRun components shadow items n
+    run_ends n item before inside at free = record {
+      within = omega (arith, inside);
+      shadowed = before;
+      ends = λ i h by.
+          let same : item ≡ i = at ∙ get_or_default items n item i inside ∙ sym (ap (λ j. get_or items j i) (add-zero n))
+          ∙ sym (get_or-drop n items 0 i) ∙ get_or_from_slice_get (drop n items) 0 i i h in
+          free (subst Shadowed (sym same) by);
+    }
+
+    -- or where there are no more
+    pub run_over : (n : ℕ) → All Shadowed (take n items) → n ≤ length items → length items ≤ n → IsRun components shadow items n
+    run_over n before within none = record {
+      within = within;
+      shadowed = before;
+      ends = λ i h. absurd (omega (arith, slice_get_within (drop n items) 0 i h, length-drop n items, none));
+    }
 
   -- no cost was taken
   pub shadow_none : IsShadow components [] []

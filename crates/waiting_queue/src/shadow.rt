@@ -1,8 +1,9 @@
-ghost use Rattle.std.specs.Prelude.{◌≡◌, ◌+◌, ◌<◌, ◌≤◌, ◌↔◌, nat_lt, Contains, IfNone, IfOk, IfSome, IsTrue};
+ghost use Rattle.std.specs.Prelude.{◌≡◌, ◌+◌, ◌<◌, ◌≤◌, ◌↔◌, drop, length, nat_lt, slice_get, take, All, Contains, IfNone, IfOk, IfSome, IsTrue, Some};
 ghost use Rattle.cost_vector.specs.Costs.{AtMost, Dominates};
 ghost use Rattle.list_laws.specs.Without.{IsWithout};
 ghost use Rattle.waiting_queue.specs.Shadows.{Descends, ExceedsBefore, IsBelowSome, IsDominatedBy, IsRun, Joins, grounded};
 ghost use Rattle.waiting_queue.specs.Waiting.{AreCriteria};
+ghost use Rattle.waiting_queue.specs.declared.item.Item.{Item};
 
 use crate::Item;
 use out_of_memory::OutOfMemory;
@@ -98,11 +99,33 @@ pub(crate) fn count_shadowed<const D: usize, C: StoredCost<D>>(
     let Some(mut last) = shadow.first() else {
         return 0;
     };
-    for (count, item) in items.iter().enumerate() {
+    let mut count = 0;
+    loop {
+        let (_, left) = items.split_at(count);
+        count += count_dominated(last, left);
+        let Some(item) = items.get(count) else {
+            return count;
+        };
         let Some(found) = find_shadowing(shadow, last, &item.cost) else {
             return count;
         };
         last = found;
+        count += 1;
+    }
+}
+
+/// How many of the items this cost dominates, up to the first that it doesn't.
+fn count_dominated<const D: usize, C: StoredCost<D>>(by: &C, items: &[Item<C>]) -> usize
+    ensures within { result ≤ length items.now }
+    ensures dominated { All (λ i. Dominates (C.components by.now) (C.components i.cost))
+        (take result items.now) }
+    ensures ends { (i : Item C) → slice_get (drop result items.now) 0 ≡ Some i
+        → ¬ Dominates (C.components by.now) (C.components i.cost) }
+{
+    for (count, item) in items.iter().enumerate() {
+        if !by.dominates(&item.cost) {
+            return count;
+        }
     }
     items.len()
 }

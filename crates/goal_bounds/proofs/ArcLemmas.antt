@@ -1,11 +1,10 @@
 -- Arcs by their numbers.
-use Rattle.std.proofs.Common.{◌≡◌, ℕ, ◌+◌, ◌-◌, ◌≤◌, List, length, Option, Some, None, inl, inr, refl, sym, ap, subst, ◌∙◌, arith}
+use Rattle.std.proofs.Common.{◌≡◌, ℕ, ◌-◌, ◌≤◌, List, length, Option, Some, None, inl, inr, refl, sym, ap, ◌∙◌, arith}
 use Rattle.std.specs.Prelude.{slice_get}
 use Rattle.std.specs.Option.{option_map_or, option_and_then}
 use Rattle.std.proofs.lemmas.Option.{slice_get_cases}
 use Rattle.cost_vector.specs.declared.label.ArcNo.{ArcNo}
 use Rattle.road_network.specs.Network.{Network, IsNetwork, IsNode, Leads}
-use Rattle.road_network.proofs.WalkLaws.{leads_from_node}
 use Rattle.arc_graph.specs.Graph.{arc_state, head_of, tail_of}
 use Rattle.list_laws.proofs.Members.{all_got}
 

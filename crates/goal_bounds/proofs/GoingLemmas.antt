@@ -1,5 +1,5 @@
 -- How the search goes back along arcs, one after another.
-use Rattle.std.proofs.Common.{◌≡◌, ◌≢◌, ℕ, ◌+◌, ◌<◌, ◌≤◌, List, [], ◌∷◌, length, get_or, set, inl, inr, ◌⊎◌, refl, sym, ap, subst, ◌∙◌, arith}
+use Rattle.std.proofs.Common.{◌≡◌, ◌≢◌, ℕ, ◌+◌, ◌<◌, ◌≤◌, List, ◌∷◌, length, get_or, set, inl, inr, ◌⊎◌, refl, sym, ap, subst, ◌∙◌, arith}
 use Rattle.std.specs.Prelude.{Contains, IsPermutation}
 use Rattle.std.proofs.lemmas.Bool.{cases_eq, cases_lt}
 use Rattle.std.proofs.lemmas.List.{get_or-set_same, get_or-set_other, length-set, get_or_default}
@@ -145,7 +145,7 @@ module _ (net : Network) (v x : ℕ) where
         | inr other ↦ inl (elsewhere z other)
         | inl same ↦ inr (
           subst (λ n. Contains items (item (value_at lowered n) n)) (sym same)
-          (subst (λ y. Contains items (item y u)) (sym here) (Contains-permutation (item found u ∷ s.items) items (item found u) pushed (0, omega arith, refl))),
+              (subst (λ y. Contains items (item y u)) (sym here) (Contains-permutation (item found u ∷ s.items) items (item found u) pushed (0, omega arith, refl))),
           subst (λ n. IsFoundAlong net s.criterion v x n (value_at lowered n)) (sym same) (subst (IsFoundAlong net s.criterion v x u) (sym here) is_found),
         )
       ]

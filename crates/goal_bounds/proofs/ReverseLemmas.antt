@@ -1,6 +1,6 @@
 -- The states of the search backwards: what is known for a node is exact where no item that waits is less, and each step keeps
 -- what a state keeps.
-use Rattle.std.proofs.Common.{◌≡◌, ◌≢◌, ℕ, ◌+◌, ◌*◌, ◌-◌, ◌^◌, ◌<◌, ◌≤◌, List, [], ◌∷◌, length, get_or, replicate, set, true, false, inl, inr, ◌⊎◌, refl, sym, ap, subst, ◌∙◌, arith}
+use Rattle.std.proofs.Common.{◌≡◌, ◌≢◌, ℕ, ◌+◌, ◌*◌, ◌-◌, ◌^◌, ◌<◌, ◌≤◌, List, [], ◌∷◌, length, get_or, replicate, set, inl, inr, ◌⊎◌, refl, sym, ap, subst, ◌∙◌, arith}
 use Rattle.std.specs.Prelude.{All, Contains, IsPermutation}
 use Rattle.std.specs.BinaryHeap.{IsUpperBound}
 use Rattle.std.specs.Ordering.{is_lt, nat_cmp, ordering_then}
@@ -104,7 +104,7 @@ module _ (net : Network) (road : IsRoadNetwork net) (t : ℕ) where
         subst (λ (y : Item). HasWalkOf net y.0.node.0 t j y.0.value) (sym same) standing;
     expanded = λ v there. elim (cases_eq v t) [
       | inl same ↦ inr (subst (λ u. Contains items (item (get_or values u 0) u)) (sym same)
-      (subst (λ x. Contains items (item x t)) (sym here) (Contains-permutation (item 0 t ∷ []) items (item 0 t) pushed (0, omega arith, refl))))
+          (subst (λ x. Contains items (item x t)) (sym here) (Contains-permutation (item 0 t ∷ []) items (item 0 t) pushed (0, omega arith, refl))))
       | inr other ↦ inl (λ k u w arc.
           let node_too = leads_from_node net is k u v w arc in
           omega (arith, elsewhere v there other, most u node_too))

@@ -77,11 +77,7 @@ impl ReverseSearch {
 
     /// The least component that walks from the node to the target have, or `None` where none leads there. The search goes on
     /// until it is known.
-    pub fn least(
-        &mut self,
-        network: &Network<'_>,
-        node: NodeNo,
-    ) -> Result<Option<u64>, OutOfMemory>
+    pub fn least(&mut self, network: &Network<'_>, node: NodeNo) -> Result<Option<u64>, OutOfMemory>
         requires node { IsNode network.now.nodes node.0 }
         requires reverse { IsReverse network.now self.old.target self.old.criterion self.old }
         ensures reverse { OnOk result
@@ -131,12 +127,7 @@ impl ReverseSearch {
     }
 
     /// Goes back along all arcs into a node, for which this value is known.
-    fn expand(
-        &mut self,
-        network: &Network<'_>,
-        node: NodeNo,
-        value: u64,
-    ) -> Result<(), OutOfMemory>
+    fn expand(&mut self, network: &Network<'_>, node: NodeNo, value: u64) -> Result<(), OutOfMemory>
         requires node { IsNode network.now.nodes node.0 }
         requires room { value < 2 ^ 55 }
         requires count { length self.old.values ≡ network.now.nodes + 1 }
@@ -151,12 +142,7 @@ impl ReverseSearch {
     }
 
     /// Lowers what is known where an arc leads from to what is found along it, if that is less; then it waits.
-    fn go_back(
-        &mut self,
-        network: &Network<'_>,
-        arc: ArcNo,
-        value: u64,
-    ) -> Result<(), OutOfMemory>
+    fn go_back(&mut self, network: &Network<'_>, arc: ArcNo, value: u64) -> Result<(), OutOfMemory>
         requires counted { 1 ≤ arc.0 }
         requires there { arc.0 ≤ length network.now.ends }
         requires room { value < 2 ^ 55 }

@@ -1,6 +1,4 @@
-use Rattle.std.proofs.Common.{subst}
 use Rattle.arc_graph.proofs.InArcsLemmas.{arc_at}
-use Rattle.goal_bounds.specs.Reverse.{GoesBack}
 use Rattle.goal_bounds.proofs.GoingLemmas.{among_all, among_more, among_none}
 use Rattle.goal_bounds.proofs.reverse.ReverseSearch.expand.Goals as goal
 

@@ -1,4 +1,4 @@
-use Rattle.std.proofs.Common.{◌≡◌, ℕ, ◌+◌, ◌<◌, ◌≤◌, length, get_or, sym, ap, subst, ◌∙◌, arith}
+use Rattle.std.proofs.Common.{◌≡◌, ◌+◌, ◌<◌, length, get_or, sym, ap, subst, ◌∙◌, arith}
 use Rattle.std.specs.BinaryHeap.{heap_items}
 use Rattle.std.proofs.lemmas.List.{get_or_default}
 use Rattle.road_network.specs.Network.{Leads}
@@ -24,9 +24,9 @@ returns-in_ok-push c =
     let within : u < length s.values = omega (arith, count, node.1, c.tail-tail.ensures) in
     let read : c.index.result.now ≡ get_or s.values u 0 = c.index.ensures ∙ get_or_default s.values u c.index.result.now 0 within in
     rw (← c.self.view_is)
-        (goes_lower net (head_of net.ends a) c.args.value a.0 u w arc s (c.args.value + c.from.result)
-        (omega (arith, c.from.ensures, c.component.ensures)) (heap_items c.push.new.self) (omega (arith, read, c.if-found-index.true)) within
-        c.in_ok-push.ensures.permutation)
+    (goes_lower net (head_of net.ends a) c.args.value a.0 u w arc s (c.args.value + c.from.result)
+    (omega (arith, c.from.ensures, c.component.ensures)) (heap_items c.push.new.self) (omega (arith, read, c.if-found-index.true)) within
+    c.in_ok-push.ensures.permutation)
 
 pub returns-else-found-index : goal.returns-else-found-index
 returns-else-found-index c =
@@ -44,8 +44,8 @@ returns-else-found-index c =
     let within : u < length s.values = omega (arith, count, node.1, c.tail-tail.ensures) in
     let read : c.index.result.now ≡ get_or s.values u 0 = c.index.ensures ∙ get_or_default s.values u c.index.result.now 0 within in
     rw (← c.self.view_is)
-        (goes_no_lower net (head_of net.ends a) c.args.value a.0 u w arc s
-        (omega (arith, read, c.from.ensures, c.component.ensures, c.if-found-index.false)))
+    (goes_no_lower net (head_of net.ends a) c.args.value a.0 u w arc s
+    (omega (arith, read, c.from.ensures, c.component.ensures, c.if-found-index.false)))
 
 pub returns-in_default : goal.returns-in_default
 returns-in_default c =

@@ -1,9 +1,8 @@
-use Rattle.std.proofs.Common.{◌≡◌, ◌∷◌, ◌+◌, ◌<◌, ◌≤◌, length, get_or, ap, sym, subst, ◌∙◌, arith, rules}
+use Rattle.std.proofs.Common.{◌≡◌, ◌∷◌, ◌<◌, ◌≤◌, length, get_or, ap, sym, subst, ◌∙◌, arith, rules}
 use Rattle.std.specs.Prelude.{All, IsPermutation}
 use Rattle.std.specs.BinaryHeap.{heap_items}
-use Rattle.std.proofs.lemmas.List.{get_or_default}
 use Rattle.std.proofs.lemmas.Result.{on_ok_weaker}
-use Rattle.goal_bounds.specs.Reverse.{GoesBack, IsReverse, Item, ReverseSearch, value_at}
+use Rattle.goal_bounds.specs.Reverse.{GoesBack, IsReverse, Item, ReverseSearch}
 use Rattle.goal_bounds.proofs.ReverseLemmas.{known_at_node, none_less, one_fewer, popped_at_node, popped_is_small, with_expanded, with_items, without_item}
 use Rattle.goal_bounds.proofs.reverse.ReverseSearch.step.Goals as goal
 

@@ -10,6 +10,7 @@ use Rattle.road_network.proofs.WalkLaws.{length_of_walk, parts_of_walk}
 use Rattle.road_network.proofs.BackwardLaws.{one_end}
 use Rattle.walk_readback.specs.Found.{FoundCosts, HasSettled, IsFound, IsOnTheWay, IsWellFound}
 use Rattle.goal_laws.specs.FoundGoal.{HasAllGoalRelevant}
+use Rattle.goal_laws.proofs.BoundLaws.{has_bound}
 use Rattle.goal_laws.proofs.GoalLaws.{goal_relevant_at_target, goal_relevant_on_the_way}
 
 module _ (net : Network) (is : IsNetwork net) (f : FoundCosts) (found : IsFound f) (all : HasAllGoalRelevant net f) where
@@ -27,10 +28,10 @@ module _ (net : Network) (is : IsNetwork net) (f : FoundCosts) (found : IsFound 
       let parts = parts_of_walk net is way.first way.rest f.start f.target way.cost way.whole in
       let end = one_end net way.first f.start parts.at v parts.so_far b parts.first way.reaches in
       let onward = subst (λ x. IsWalk net x way.rest f.target parts.onward) end.0 parts.second in
-      let bound = all.bounded v way.rest parts.onward onward in
+      let bound = has_bound net is v f.target way.rest parts.onward onward in
       (all.relevant v b).1
-      (goal_relevant_on_the_way net is f.start f.target way.first way.rest v b way.cost bound.bound way.whole
-      ((costs_are_best way.cost).0 way.there).0 way.reaches bound.is_bound)
+      (goal_relevant_on_the_way net is f.start f.target way.first way.rest v b way.cost bound.0 way.whole
+      ((costs_are_best way.cost).0 way.there).0 way.reaches bound.1)
 
   pub well_found_by_goal : IsWellFound net (no_limit net.criteria) f
   well_found_by_goal = record {

@@ -1,10 +1,13 @@
 ghost use Rattle.std.specs.Prelude.{◌≡◌, ℕ, List, length, replicate};
 ghost use Rattle.cost_vector.specs.Costs.{AtMost, plus};
 ghost use Rattle.road_network.specs.Network.{Network, IsNetwork, IsNode, Leads};
+ghost use Rattle.road_network.specs.Walks.{IsWalk};
 ghost use Rattle.goal_laws.specs.Goal.{IsBound};
 
-/// A node has one bound at most, and the target's is zero.
+/// Each node from which a walk leads to the target has one bound, and the target's is zero.
 pub fn bounds_are_unique()
+    ensures some { (net : Network) (v t : ℕ) (p c : List ℕ) → IsNetwork net
+        → IsWalk net v p t c → (h : List ℕ) × IsBound net v t h }
     ensures one { (net : Network) (v t : ℕ) (h g : List ℕ)
         → IsBound net v t h → IsBound net v t g → h ≡ g }
     ensures at_the_target { (net : Network) (t : ℕ) → IsNetwork net → IsNode net.nodes t

@@ -99,20 +99,20 @@ module _ (net : Network) (is : IsNetwork net) (s t : ℕ) where
     given_walk =
         let from = goal.relevant given.from (goal.taken given.from given.taken) in
         let best = from.relevant.best.reached in
-        let c = given.bounded.cost in
-        let same = one_cost net t given.from from.bounded given.bounded in
+        let c = given.along.bounded.cost in
+        let same = one_cost net t given.from from.bounded given.along.bounded in
         let walk = subst (IsWalk net s best.0 given.from.node) same best.1 in
-        let vector = (leads_by_vector net is given.arc given.from.node y.node given.by given.leads).whole in
+        let vector = (leads_by_vector net is given.along.arc given.from.node y.node given.along.by given.along.leads).whole in
         record {
           bounded = record {
-            cost = plus c given.by;
-            whole = length-plus c given.by (given.bounded.whole ∙ sym vector) ∙ given.bounded.whole;
-            bound = given.bound;
-            is_bound = given.is_bound;
-            sum = given.cost;
+            cost = plus c given.along.by;
+            whole = length-plus c given.along.by (given.along.bounded.whole ∙ sym vector) ∙ given.along.bounded.whole;
+            bound = given.along.bound;
+            is_bound = given.along.is_bound;
+            sum = given.along.cost;
           };
-          arcs = best.0 ++ given.arc ∷ [];
-          walk = walk_on net is best.0 s given.from.node y.node given.arc c given.by walk given.leads;
+          arcs = best.0 ++ given.along.arc ∷ [];
+          walk = walk_on net is best.0 s given.from.node y.node given.along.arc c given.along.by walk given.along.leads;
         }
 
     pub given_spares : SparesSettled core y
@@ -129,12 +129,12 @@ module _ (net : Network) (is : IsNetwork net) (s t : ℕ) where
 
     pub given_from : IsCoveredIn core (record { cost = y.cost; node = given.from.node })
     given_from =
-        let b = given.bounded in
-        let up = never_less net is given.arc given.from.node y.node t b.cost given.by b.bound given.bound given.leads b.whole b.is_bound given.is_bound in
+        let b = given.along.bounded in
+        let up = never_less net is given.along.arc given.from.node y.node t b.cost given.along.by b.bound given.along.bound given.along.leads b.whole b.is_bound given.along.is_bound in
         record {
           by = given.from.cost;
           settled = goal.taken given.from given.taken;
-          at_most = subst (λ z. AtMost z y.cost) (sym b.sum) (subst (AtMost (plus b.cost b.bound)) (sym given.cost) up);
+          at_most = subst (λ z. AtMost z y.cost) (sym b.sum) (subst (AtMost (plus b.cost b.bound)) (sym given.along.cost) up);
         }
 
   module _ (before after : Core) (candidates : List Item) (goal : IsGoalCore net s t before) (are : AreGoalCandidates net t before candidates)
@@ -174,13 +174,7 @@ module _ (net : Network) (is : IsNetwork net) (s t : ℕ) where
         | inl taken ↦ comes (bounded_spot v (plus b.cost w) g) (record {
           from = x;
           taken = taken;
-          bounded = b;
-          arc = k;
-          by = w;
-          bound = g;
-          leads = arc;
-          is_bound = bound;
-          cost = refl;
+          along = record { bounded = b; arc = k; by = w; bound = g; leads = arc; is_bound = bound; cost = refl };
         })
       ]);
       taken = λ x there. absurd (in_none x (subst (λ xs. Contains xs x) puts.none_taken there));

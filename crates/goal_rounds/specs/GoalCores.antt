@@ -70,17 +70,21 @@ pub record IsNewGoalSearch (net : Network) (s t budget : ℕ) (core : Core) : Ty
   pub waiting : (x : Spot) → Waits core x ↔ ((x.node ≡ s) × IsBound net s t x.cost)
   pub none_taken : core.taken ≡ []
 
+-- the spot y is what an arc gives that leads on from the spot x
+pub record IsGivenFrom (net : Network) (t : ℕ) (x y : Spot) : Type 0 where
+  pub bounded : IsBounded net t x
+  pub arc : ℕ
+  pub by : List ℕ
+  pub bound : List ℕ
+  pub leads : Leads net arc x.node by y.node
+  pub is_bound : IsBound net y.node t bound
+  pub cost : y.cost ≡ plus (plus bounded.cost by) bound
+
 -- the spot is what an arc gives that leads on from a spot that the open round has taken
 pub record IsGivenByArc (net : Network) (t : ℕ) (core : Core) (y : Spot) : Type 0 where
   pub from : Spot
   pub taken : Contains core.taken from
-  pub bounded : IsBounded net t from
-  pub arc : ℕ
-  pub by : List ℕ
-  pub bound : List ℕ
-  pub leads : Leads net arc from.node by y.node
-  pub is_bound : IsBound net y.node t bound
-  pub cost : y.cost ≡ plus (plus bounded.cost by) bound
+  pub along : IsGivenFrom net t from y
 
 -- The candidates are such; and each such spot is a candidate's, or is spent.
 pub record AreGoalCandidates (net : Network) (t : ℕ) (core : Core) (candidates : List Item) : Type 0 where

@@ -13,12 +13,53 @@ use Rattle.bulk_rounds.specs.Standing.{IsAt}
 use Rattle.bulk_rounds.specs.Taking.{IsOpenIn}
 use Rattle.bulk_rounds.proofs.FoundLemmas.{has_all}
 use Rattle.waiting_queue.specs.Waiting.{AreCriteria}
-use Rattle.bulk_core.specs.Kept.{IsKeptCore, core_of}
+use Rattle.bulk_core.specs.Kept.{IsEmptySearch, IsKeptCore, core_of}
 use Rattle.bulk_core.specs.Settled.{Settled}
 
 -- the start, reached at no cost
 abbrev pub start_of : ℕ → ℕ → Item
 start_of criteria start = record { spot = record { cost = replicate criteria 0; node = start }; from = 0 }
+
+module _ (criteria start budget : ℕ) (s : Settled) (queue : List Item) (taken : List Spot) (none : (v : ℕ) → costs_at s.fronts v ≡ []) (none_waits : queue ≡ [])
+    (none_taken : taken ≡ []) where
+  abbrev empty_core : Core
+  empty_core = core_of criteria start budget s queue taken
+
+  nothing_settled : (x : Spot) → ¬ IsSettledIn empty_core x
+  nothing_settled x there = in_none x.cost (subst (λ costs. Contains costs x.cost) (none x.node) there)
+
+  pub is_empty : (nodes target : ℕ) (limit : List (Option ℕ)) → s.fronts.nodes ≡ nodes → s.target ≡ target → s.limit ≡ limit
+      → IsEmptySearch nodes criteria start target limit budget empty_core
+  is_empty nodes target limit nodes_are target_is limit_is = record {
+    nodes_are = nodes_are;
+    criteria_are = refl;
+    start_is = refl;
+    target_is = target_is;
+    limit_is = limit_is;
+    budget_is = refl;
+    none_settled = nothing_settled;
+    none_waits = none_waits;
+    none_taken = none_taken;
+  }
+
+  pub empty_is_kept : (took : List Item) → took ≡ [] → AreCriteria criteria → IsNode s.fronts.nodes start → IsNode s.fronts.nodes s.target → budget ≤ max_budget
+      → IsKeptCore empty_core 0 took
+  empty_is_kept took none_took are_criteria start_node target_node most = record {
+    criteria = are_criteria;
+    kept = record {
+      start_node = start_node;
+      target_node = target_node;
+      items = λ i there. absurd (in_none i (subst (λ items. Contains items i) none_waits there));
+      counted = record {
+        spots = [];
+        once = record { exact = λ x. (λ h. absurd (in_none x h), λ h. absurd (nothing_settled x h)); once = pairs_none ◌≢◌ };
+        counted = refl;
+      };
+      within = omega arith;
+    };
+    most = most;
+    from = subst (All (IsFrom empty_core)) (sym none_took) (λ k d within. absurd (omega (arith, within)));
+  }
 
 module _ (criteria start budget : ℕ) (s : Settled) (queue : List Item) (taken : List Spot) (none : (v : ℕ) → costs_at s.fronts v ≡ [])
     (waits : queue ≡ start_of criteria start ∷ []) (none_taken : taken ≡ []) where

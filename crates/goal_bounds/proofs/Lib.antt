@@ -1,0 +1,4 @@
+pub mod ArcLemmas
+pub mod ReverseLemmas
+pub mod GoingLemmas
+pub mod BoundLemmas

@@ -1,0 +1,2 @@
+pub mod Reverse
+pub mod Bounds

@@ -1,0 +1,3 @@
+pub mod BoundLaws
+pub mod GoalLaws
+pub mod FoundGoalLaws

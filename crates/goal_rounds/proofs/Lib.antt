@@ -1,0 +1,3 @@
+pub mod AheadLemmas
+pub mod KeepingLemmas
+pub mod BudgetLemmas

@@ -42,7 +42,7 @@ pub fn list_labels<F: SettledCosts>(
     prove!(network.nodes() >= 1);
     let _count = found.count();
     let labels = settled_labels(alloc, network, found)?;
-    Ok(Listing::of_labels(network, found.start(), found.target(), labels))
+    Ok(Listing::of_labels(alloc, network, found.start(), found.target(), labels))
 }
 
 /// The labels of all settled pairs.

@@ -5,3 +5,4 @@ pub mod RuleLemmas
 pub mod DraftLemmas
 pub mod ReadLemmas
 pub mod FoundLemmas
+pub mod CornerLemmas

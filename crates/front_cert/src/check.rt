@@ -36,7 +36,8 @@ pub fn check_cert<S: Source>(
     ensures source { ReadsFrom (S.state source.old) (S.state source.new) (cert_failed result) }
 {
     prove!(network.nodes() >= 1);
-    let listing = read_listing(alloc, source, network)?;
+    let mut listing = read_listing(alloc, source, network)?;
+    listing.lay_corners(alloc)?;
     match listing.first_failure(network) {
         None => Ok(listing),
         Some((rule, label)) => Err(CertFault::Rule { rule, label }),

@@ -5,6 +5,7 @@
 #![tactic(auto)]
 
 mod check;
+mod corners;
 mod draft;
 mod fault;
 mod found;

@@ -3,9 +3,12 @@ ghost use Rattle.cert_rules.specs.Certificates.{IsBeaten};
 ghost use Rattle.road_network.specs.Network.{IsNode};
 ghost use Rattle.front_cert.specs.Listing.{AreKept, IsListingOf, line_of};
 
+use crate::corners::corners_of;
 use crate::lookup::{arc_at, is_beaten_at, place_of};
 use arc_graph::Network;
 use cost_vector::{ArcNo, Cost, Label, NodeNo};
+use out_of_memory::OutOfMemory;
+use std::alloc::Global;
 use std::marker::Model;
 
 /// A certificate of a network: labels by ascending node and then by ascending cost.
@@ -16,11 +19,13 @@ pub struct Listing {
     pub(crate) start: NodeNo,
     pub(crate) target: NodeNo,
     pub(crate) labels: Vec<Label>,
+    /// Of each of the first blocks of labels, a cost that is at most each of theirs.
+    pub(crate) corners: Vec<Cost>,
 }
 
 impl Model for Listing {
     ghost use Rattle.std.specs.Prelude.{map};
-    ghost use Rattle.front_cert.specs.Listing.{Listing, AreKept, IsKept, line_of};
+    ghost use Rattle.front_cert.specs.Listing.{Listing, AreKeptWith, IsKept, line_of};
 
     ghost Value = { Listing };
 
@@ -34,12 +39,13 @@ impl Model for Listing {
       nodes = l.nodes;
       criteria = l.criteria;
       cert = record { start = l.start.0; target = l.target.0; labels = map line_of l.labels.items };
-    }) × AreKept l.criteria l.labels.items };
+    }) × AreKeptWith l.criteria l.labels.items l.corners.items };
 }
 
 impl Listing {
     /// The certificate of labels that ascend.
     pub fn of_labels(
+        alloc: Global,
         network: &Network<'_>,
         start: NodeNo,
         target: NodeNo,
@@ -61,7 +67,16 @@ impl Listing {
             start,
             target,
             labels,
+            corners: Vec::new(alloc),
         }
+    }
+
+    /// Lays the corners of all full blocks, by which costs that dominate others are found faster.
+    pub(crate) fn lay_corners(&mut self, alloc: Global) -> Result<(), OutOfMemory>
+        ensures { self.new ≡ self.old }
+    {
+        self.corners = corners_of(alloc, &self.labels, self.criteria)?;
+        Ok(())
     }
 
     /// The number of criteria.
@@ -101,6 +116,6 @@ impl Listing {
         ensures { IsTrue result ↔ IsBeaten self.now.cert.labels node.0 cost.now }
     {
         let place = place_of(&self.labels, node, cost);
-        is_beaten_at(&self.labels, place, node, cost)
+        is_beaten_at(&self.labels, &self.corners, place, node, cost)
     }
 }

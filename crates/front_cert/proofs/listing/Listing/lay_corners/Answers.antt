@@ -1,0 +1,1 @@
+use Rattle.front_cert.proofs.listing.Listing.lay_corners.Goals as goal

@@ -1,4 +1,4 @@
-use Rattle.std.proofs.Common.{◌≡◌, ℕ, ◌<◌, ◌≤◌, length, get_or, min}
+use Rattle.std.proofs.Common.{◌≡◌, ℕ, ◌<◌, length, get_or, min}
 use Rattle.cost_vector.specs.Costs.{max_criteria}
 use Rattle.front_cert.proofs.corners.meet.Given as goal
 

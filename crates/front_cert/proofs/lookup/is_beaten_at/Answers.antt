@@ -1,9 +1,7 @@
 use Rattle.std.proofs.Common.{◌≡◌, ◌≢◌, inl, inr, ◌+◌, ◌-◌, ◌<◌, length, refl, sym, subst, Some, arith}
 use Rattle.std.specs.Prelude.{slice_get}
 use Rattle.std.proofs.lemmas.Bool.Decides.{nat_tests}
-use Rattle.std.proofs.lemmas.Option.{slice_get_read, get_or_from_slice_get}
-use Rattle.cost_vector.specs.Costs.{AtMost}
-use Rattle.cost_vector.specs.declared.label.Label.{Label}
+use Rattle.std.proofs.lemmas.Option.{slice_get_read}
 use Rattle.front_cert.proofs.LookupLemmas.{Beats, NoneBetween, beaten_by, none_at_all, none_behind, none_block, none_more}
 use Rattle.front_cert.proofs.lookup.is_beaten_at.Goals as goal
 

@@ -1,8 +1,6 @@
-use Rattle.std.proofs.Common.{◌≡◌, ◌+◌, ◌-◌, ◌*◌, ◌/◌, ◌<◌, get_or, [], ◌∙◌, inl, inr, refl, subst, sym, arith}
+use Rattle.std.proofs.Common.{◌≡◌, ◌+◌, ◌-◌, ◌*◌, ◌/◌, get_or, [], ◌∙◌, inr, refl, subst, sym, arith}
 use Rattle.cost_vector.specs.Costs.{AtMost}
-use Rattle.std.proofs.lemmas.Bool.Decides.{nat_tests}
 use Rattle.std.proofs.lemmas.List.{get_or_default}
-use Rattle.front_cert.specs.Listing.{block_size}
 use Rattle.front_cert.proofs.lookup.passed_over.Goals as goal
 
 pub returns-then-not-at_most-clause-block : goal.returns-then-not-at_most-clause-block

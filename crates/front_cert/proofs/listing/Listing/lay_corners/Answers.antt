@@ -1,1 +1,0 @@
-use Rattle.front_cert.proofs.listing.Listing.lay_corners.Goals as goal

@@ -4,3 +4,5 @@ pub mod ArcLemmas
 pub mod RuleLemmas
 pub mod DraftLemmas
 pub mod ReadLemmas
+pub mod FoundLemmas
+pub mod CornerLemmas

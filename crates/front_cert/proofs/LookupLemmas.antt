@@ -1,6 +1,6 @@
 -- Labels by their place among others.
-use Rattle.std.proofs.Common.{◌≡◌, ◌≢◌, ℕ, ◌+◌, ◌<◌, ◌≤◌, true, false, List, map, Some, None, ◌⊎◌, ◌↔◌, inl, inr, refl, sym, ap, subst, subst₂, ◌∙◌, arith, get_or}
-use Rattle.std.specs.Prelude.{AllPairs, Contains, slice_get}
+use Rattle.std.proofs.Common.{◌≡◌, ◌≢◌, ℕ, ◌+◌, ◌-◌, ◌<◌, ◌≤◌, true, false, List, [], map, Some, None, ◌⊎◌, ◌↔◌, inl, inr, refl, sym, ap, subst, subst₂, ◌∙◌, arith, get_or}
+use Rattle.std.specs.Prelude.{AllPairs, Contains, slice_get, slice_index_or}
 use Rattle.std.specs.List.Sorted.{IsPartitionedBy}
 use Rattle.std.specs.Ordering.{is_lt}
 use Rattle.std.specs.declared.cmp.Ordering.{Ordering}
@@ -12,12 +12,12 @@ use Rattle.cost_vector.specs.Costs.{AtMost, LexLess, lex_cmp}
 use Rattle.cost_vector.specs.declared.label.ArcNo.{ArcNo}
 use Rattle.cost_vector.specs.declared.label.Label.{Label as StoredLabel}
 use Rattle.cert_rules.proofs.ListedLaws.{one_label}
-use Rattle.cost_vector.proofs.Vectors.{LexLess-irrefl, LexLess-trans, LexLess_from_Dominates}
+use Rattle.cost_vector.proofs.Vectors.{AtMost-trans, LexLess-irrefl, LexLess-trans, LexLess_from_Dominates}
 use Rattle.list_laws.proofs.Members.{in_map, of_map}
 use Rattle.road_network.specs.Labels.{Label}
 use Rattle.cert_rules.specs.Certificates.{IsBeaten, IsBefore}
-use Rattle.front_cert.specs.Listing.{line_of}
-use Rattle.front_cert.specs.Lookup.{IsPlace, Precedes, is_before}
+use Rattle.front_cert.specs.Listing.{AreCorners, line_of}
+use Rattle.front_cert.specs.Lookup.{IsPassed, IsPlace, Precedes, is_before}
 
 abbrev an_arc : ℕ → ArcNo
 an_arc n = record { 0 = n }
@@ -194,6 +194,16 @@ module _ (labels : List StoredLabel) (v : ℕ) (c : List ℕ) (i : ℕ) (ascendi
         let is : x ≡ y = cc in
         other (subst (Beats v c) (sym is) beats)
     | inr differs ↦ none k y there (omega arith) below beats
+  ]
+
+  -- none of a block costs at most so much, where its corner doesn't
+  pub none_block : (d : ℕ) (corners : List (List ℕ)) → AreCorners d labels corners → (end size : ℕ) → IsPassed corners end c size → NoneBetween labels v c end i
+      → NoneBetween labels v c (end - size) i
+  none_block d corners are end size passed none k y there above below beats = elim (cases_lt k end) [
+    | inl inside ↦
+        let corner = are.at_most passed.block k y passed.there there (omega (arith, above, passed.ends, passed.all)) (omega (arith, inside, passed.ends)) in
+        passed.greater (AtMost-trans (slice_index_or corners passed.block []) y.cost c corner beats.1)
+    | inr behind ↦ none k y there behind below beats
   ]
 
   pub none_at_all : NoneBetween labels v c 0 i → ¬ IsBeaten (map line_of labels) v c

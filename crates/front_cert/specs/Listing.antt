@@ -1,6 +1,6 @@
 -- A certificate in memory.
-use Rattle.std.specs.Prelude.{◌≡◌, ◌≤◌, ℕ, List, length, All, AllPairs}
-use Rattle.cost_vector.specs.Costs.{min_criteria, max_criteria}
+use Rattle.std.specs.Prelude.{◌≡◌, ◌+◌, ◌*◌, ◌<◌, ◌≤◌, ℕ, List, [], Some, length, slice_get, slice_index_or, All, AllPairs}
+use Rattle.cost_vector.specs.Costs.{AtMost, min_criteria, max_criteria}
 use Rattle.cost_vector.specs.declared.label.Label.{Label as StoredLabel}
 use Rattle.road_network.specs.Labels.{Label}
 use Rattle.road_network.specs.Limits.{max_nodes}
@@ -34,3 +34,20 @@ pub record IsKept (l : Listing) : Type 0 where
 pub record AreKept (criteria : ℕ) (labels : List StoredLabel) : Type 0 where
   pub whole : All (λ l. length l.cost ≡ criteria) labels
   pub ascending : AllPairs (λ x y. IsBefore (line_of x) (line_of y)) labels
+
+-- how many labels stand in a block
+abbrev pub block_size : ℕ
+block_size = 16
+
+-- Each of the first blocks of labels has a corner, which is at most each cost of the block.
+pub record AreCorners (criteria : ℕ) (labels : List StoredLabel) (corners : List (List ℕ)) : Type 0 where
+  pub whole : All (λ c. length c ≡ criteria) corners
+  pub within : length corners * block_size ≤ length labels
+  pub at_most : (k j : ℕ) (l : StoredLabel) → k < length corners → slice_get labels j ≡ Some l → k * block_size ≤ j
+      → j < k * block_size + block_size → AtMost (slice_index_or corners k []) l.cost
+
+-- the same of labels with their corners
+pub record AreKeptWith (criteria : ℕ) (labels : List StoredLabel) (corners : List (List ℕ)) : Type 0 where
+  pub whole : All (λ l. length l.cost ≡ criteria) labels
+  pub ascending : AllPairs (λ x y. IsBefore (line_of x) (line_of y)) labels
+  pub cornered : AreCorners criteria labels corners

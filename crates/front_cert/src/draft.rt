@@ -148,7 +148,7 @@ fn next_in(text: &[u8], least: u64, greatest: u64) -> Option<(u64, &[u8])>
 
 impl Draft {
     /// The certificate, once all labels have come.
-    pub(crate) fn into_listing(self, network: &Network<'_>) -> Listing
+    pub(crate) fn into_listing(self, alloc: Global, network: &Network<'_>) -> Listing
         requires draft { IsDraft network.now self }
         ensures cert { result.cert ≡ (draft_of self).cert }
         ensures of { IsListingOf network.now result }
@@ -160,6 +160,7 @@ impl Draft {
             start: self.start,
             target: self.target,
             labels: self.labels,
+            corners: Vec::new(alloc),
         }
     }
 }

@@ -5,8 +5,10 @@
 #![tactic(auto)]
 
 mod check;
+mod corners;
 mod draft;
 mod fault;
+mod found;
 mod listing;
 mod lookup;
 mod reader;

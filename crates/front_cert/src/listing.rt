@@ -1,9 +1,14 @@
 ghost use Rattle.std.specs.Prelude.{◌≡◌, ◌<◌, ◌≤◌, ◌↔◌, ℕ, Some, length, map, slice_get, slice_index, Contains, IsTrue, IfSome};
 ghost use Rattle.cert_rules.specs.Certificates.{IsBeaten};
-ghost use Rattle.front_cert.specs.Listing.{line_of};
+ghost use Rattle.road_network.specs.Network.{IsNode};
+ghost use Rattle.front_cert.specs.Listing.{AreKept, IsListingOf, line_of};
 
+use crate::corners::corners_of;
 use crate::lookup::{arc_at, is_beaten_at, place_of};
+use arc_graph::Network;
 use cost_vector::{ArcNo, Cost, Label, NodeNo};
+use out_of_memory::OutOfMemory;
+use std::alloc::Global;
 use std::marker::Model;
 
 /// A certificate of a network: labels by ascending node and then by ascending cost.
@@ -14,11 +19,13 @@ pub struct Listing {
     pub(crate) start: NodeNo,
     pub(crate) target: NodeNo,
     pub(crate) labels: Vec<Label>,
+    /// Of each of the first blocks of labels, a cost that is at most each of theirs.
+    pub(crate) corners: Vec<Cost>,
 }
 
 impl Model for Listing {
     ghost use Rattle.std.specs.Prelude.{map};
-    ghost use Rattle.front_cert.specs.Listing.{Listing, AreKept, IsKept, line_of};
+    ghost use Rattle.front_cert.specs.Listing.{Listing, AreKeptWith, IsKept, line_of};
 
     ghost Value = { Listing };
 
@@ -32,37 +39,66 @@ impl Model for Listing {
       nodes = l.nodes;
       criteria = l.criteria;
       cert = record { start = l.start.0; target = l.target.0; labels = map line_of l.labels.items };
-    }) × AreKept l.criteria l.labels.items };
+    }) × AreKeptWith l.criteria l.labels.items l.corners.items };
 }
 
 impl Listing {
+    /// The certificate of labels that ascend.
+    pub fn of_labels(
+        alloc: Global,
+        network: &Network<'_>,
+        start: NodeNo,
+        target: NodeNo,
+        labels: Vec<Label>,
+    ) -> Listing
+        requires start { IsNode network.now.nodes start.0 }
+        requires target { IsNode network.now.nodes target.0 }
+        requires kept { AreKept network.now.criteria labels.items }
+        ensures of { IsListingOf network.now result }
+        ensures says { result.cert ≡ record {
+          start = start.0;
+          target = target.0;
+          labels = map line_of labels.items;
+        } }
+    {
+        Listing {
+            nodes: network.nodes(),
+            criteria: network.criteria(),
+            start,
+            target,
+            labels,
+            corners: Vec::new(alloc),
+        }
+    }
+
+    /// Lays the corners of all full blocks, by which costs that dominate others are found faster.
+    pub(crate) fn lay_corners(&mut self, alloc: Global) -> Result<(), OutOfMemory>
+        ensures { self.new ≡ self.old }
+    {
+        self.corners = corners_of(alloc, &self.labels, self.criteria)?;
+        Ok(())
+    }
+
+    /// The number of criteria.
+    pub fn criteria(&self) -> usize
+        ensures { result ≡ self.now.criteria }
+    {
+        self.criteria
+    }
+
     /// The number of labels.
-    pub(crate) fn len(&self) -> usize
+    pub fn len(&self) -> usize
         ensures { result ≡ length self.now.cert.labels }
     {
         self.labels.len()
     }
 
     /// The label at the place `i`, from 0.
-    pub(crate) fn label(&self, i: usize) -> Label
+    pub fn label(&self, i: usize) -> Label
         requires { i < length self.now.cert.labels }
         ensures { slice_get self.now.cert.labels i ≡ Some (line_of result) }
     {
         self.labels[i]
-    }
-
-    /// The node from which walks lead.
-    pub(crate) fn start(&self) -> NodeNo
-        ensures { result.0 ≡ self.now.cert.start }
-    {
-        self.start
-    }
-
-    /// The node to which they lead.
-    pub(crate) fn target(&self) -> NodeNo
-        ensures { result.0 ≡ self.now.cert.target }
-    {
-        self.target
     }
 
     /// The arc of the label of this node and this cost, if there is one.
@@ -80,6 +116,6 @@ impl Listing {
         ensures { IsTrue result ↔ IsBeaten self.now.cert.labels node.0 cost.now }
     {
         let place = place_of(&self.labels, node, cost);
-        is_beaten_at(&self.labels, place, node, cost)
+        is_beaten_at(&self.labels, &self.corners, place, node, cost)
     }
 }

@@ -1,9 +1,10 @@
 //! Where a node and a cost stand among labels that ascend.
-ghost use Rattle.std.specs.Prelude.{◌≡◌, ◌≤◌, ◌↔◌, ℕ, Some, length, map, All, AllPairs, Contains, IsTrue};
+ghost use Rattle.std.specs.Prelude.{◌≡◌, ◌<◌, ◌≤◌, ◌↔◌, ◌⊎◌, ℕ, Some, length, map, All, AllPairs, Contains, IsTrue};
 ghost use Rattle.cert_rules.specs.Certificates.{IsBeaten};
-ghost use Rattle.front_cert.specs.Listing.{line_of};
-ghost use Rattle.front_cert.specs.Lookup.{IsPlace, Precedes, is_before};
+ghost use Rattle.front_cert.specs.Listing.{AreCorners, line_of};
+ghost use Rattle.front_cert.specs.Lookup.{IsPassed, IsPlace, Precedes, is_before};
 
+use crate::corners::BLOCK;
 use cost_vector::{ArcNo, Cost, Label, NodeNo};
 
 /// How many labels stand before each of this node and this cost.
@@ -52,22 +53,46 @@ fn is_of(label: &Label, node: NodeNo, cost: &Cost) -> bool
 }
 
 /// Whether a cost of the node dominates this one, which would stand at this place: what dominates stands before it.
-pub(crate) fn is_beaten_at(labels: &[Label], place: usize, node: NodeNo, cost: &Cost) -> bool
+pub(crate) fn is_beaten_at(
+    labels: &[Label],
+    corners: &[Cost],
+    place: usize,
+    node: NodeNo,
+    cost: &Cost,
+) -> bool
     requires ascending { AllPairs Precedes labels.now }
     requires within { place ≤ length labels.now }
     requires place { IsPlace labels.now node.0 cost.now place }
     requires whole { All (λ l. length l.cost ≡ length cost.now) labels.now }
+    requires cornered { AreCorners (length cost.now) labels.now corners.now }
     ensures { IsTrue result ↔ IsBeaten (map line_of labels.now) node.0 cost.now }
 {
     let mut left = place;
     'labels: while left > 0 {
-        left -= 1;
-        if labels[left].node != node {
+        let label = &labels[left - 1];
+        if label.node != node {
             return false;
         }
-        if labels[left].cost.at_most(cost) {
+        if label.cost.at_most(cost) {
             return true;
         }
+        left -= passed_over(corners, left, cost);
     }
     false
+}
+
+/// How many labels before this place can be passed over, of which the last isn't at most the cost: a block where its corner
+/// isn't.
+fn passed_over(corners: &[Cost], end: usize, cost: &Cost) -> usize
+    requires some { 0 < end }
+    requires whole { All (λ c. length c ≡ length cost.now) corners.now }
+    ensures some { 1 ≤ result }
+    ensures within { result ≤ end }
+    ensures block { result ≡ 1 ⊎ IsPassed corners.now end cost.now result }
+{
+    let block = (end - 1) / BLOCK;
+    if end % BLOCK == 0 && block < corners.len() && !corners[block].at_most(cost) {
+        return BLOCK;
+    }
+    1
 }

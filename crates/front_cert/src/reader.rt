@@ -40,7 +40,7 @@ pub(crate) fn read_listing<S: Source>(
     if draft.labels.len() < draft.due as usize {
         return Err(behind(&lines));
     }
-    Ok(draft.into_listing(network))
+    Ok(draft.into_listing(alloc, network))
 }
 
 /// Reads the first line.

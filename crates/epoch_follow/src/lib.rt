@@ -1,0 +1,12 @@
+//! Feeds of epochs: a leader's published change sets as a text, and a follower's store that takes its epochs from one.
+//!
+//! A feed may break anywhere and repeat what came before. What it does to a follower is one fold over its lines.
+#![tactic(auto)]
+
+mod feed_end;
+mod put;
+mod take;
+
+pub use feed_end::FeedEnd;
+pub use put::put_feed;
+pub use take::take_feed;

@@ -1,2 +1,4 @@
 pub mod SentLemmas
 pub mod WeightLemmas
+pub mod MeetsLemmas
+pub mod ChangeLemmas

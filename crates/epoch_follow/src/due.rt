@@ -1,12 +1,12 @@
 //! One line of a feed after another.
-ghost use Rattle.std.specs.Prelude.{◌≡◌, ◌+◌, ◌<◌, ◌≤◌, [], Some, None, Ok, Err, OnErr, OnOk, IfErr, length};
+ghost use Rattle.std.specs.Prelude.{◌≡◌, ◌<◌, [], false, OnErr, OnOk};
 ghost use mathlib.Core.List.{IsPrefix};
 ghost use Rattle.line_text.specs.Fields.{fields_of};
 ghost use Rattle.arc_graph.specs.Graph.{Match};
-ghost use Rattle.arc_graph.specs.History.{IsChange, max_pending, with_none_pending, with_pending, with_published};
-ghost use Rattle.epoch_store.specs.Origin.{arcs_of, criteria_of, last_number};
+ghost use Rattle.arc_graph.specs.History.{IsChange, with_pending, with_published};
+ghost use Rattle.epoch_store.specs.Origin.{arcs_of, criteria_of};
 ghost use Rattle.epoch_store.specs.Faults.{MayPend, MayPublish};
-ghost use Rattle.epoch_follow.specs.Reads.{Awaits, LineTells, end_due, place_of};
+ghost use Rattle.epoch_follow.specs.Reads.{Awaits, LineTells, end_due, has_read_fault};
 ghost use Rattle.epoch_follow.specs.Text.{head_of};
 
 use crate::FeedEnd;
@@ -52,6 +52,7 @@ impl Due {
         ensures tells { LineTells (head_of graph.now T.origin.first) line operator.old self
             (fields_of text.now) operator.new result }
         ensures begins { IsPrefix operator.old.published operator.new.published }
+        ensures reads_nothing { has_read_fault result ≡ false }
     {
         match self {
             Due::First => take_head(operator, graph, text, line),
@@ -72,8 +73,9 @@ fn take_head<T: Store>(
     line: u64,
 ) -> Result<Due, FeedEnd>
     requires { operator.now.pending ≡ [] }
-    ensures { LineTells (head_of graph.now T.origin.first) line operator.now Due.First
+    ensures tells { LineTells (head_of graph.now T.origin.first) line operator.now Due.First
         (fields_of text.now) operator.now result }
+    ensures reads_nothing { has_read_fault result ≡ false }
 {
     if is_head(text, graph, operator.first()) {
         Ok(Due::Begin)
@@ -90,8 +92,9 @@ fn begin_message<T: Store>(
     line: u64,
 ) -> Result<Due, FeedEnd>
     requires { operator.now.pending ≡ [] }
-    ensures { LineTells (head_of graph.now T.origin.first) line operator.now Due.Begin
+    ensures tells { LineTells (head_of graph.now T.origin.first) line operator.now Due.Begin
         (fields_of text.now) operator.now result }
+    ensures reads_nothing { has_read_fault result ≡ false }
 {
     let Some((epoch, left)) = message_in(text) else {
         return Err(FeedEnd::Bad { line });
@@ -118,6 +121,7 @@ fn take_change<T: Store>(
     ensures tells { LineTells (head_of graph.now T.origin.first) line operator.old
         (Due.Within epoch left) (fields_of text.now) operator.new result }
     ensures stays { operator.new.published ≡ operator.old.published }
+    ensures reads_nothing { has_read_fault result ≡ false }
 {
     let Some(change) = change_in(text, graph) else {
         return Err(FeedEnd::Bad { line });
@@ -143,6 +147,7 @@ fn end_message<T: Store, R: Wait>(
     ensures tells { LineTells (head_of graph.now T.origin.first) line operator.old
         (Due.Within epoch 0) (fields_of text.now) operator.new result }
     ensures begins { IsPrefix operator.old.published operator.new.published }
+    ensures reads_nothing { has_read_fault result ≡ false }
 {
     if !is_end(text, epoch) {
         return Err(FeedEnd::Bad { line });

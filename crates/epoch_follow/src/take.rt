@@ -1,5 +1,5 @@
 //! Feeds that a follower takes.
-ghost use Rattle.std.specs.Prelude.{◌≡◌, ◌<◌, ◌+◌, [], None, IfSome, IfOk, OnOk, MatchBool, is_err};
+ghost use Rattle.std.specs.Prelude.{◌≡◌, ◌<◌, ◌+◌, ◌^◌, [], None, IfSome, IfOk, OnOk, MatchBool, is_err};
 ghost use mathlib.Core.List.{IsPrefix};
 ghost use Rattle.route_io.specs.Sources.{ReadsFrom};
 ghost use Rattle.line_text.specs.Reading.{InLimits, begun as begun_lines, rest_of};
@@ -67,6 +67,7 @@ fn take_lines<T: Store, R: Wait, S: Source>(
     requires weights { Match graph.now T.origin.base }
     requires nothing_pending { operator.old.pending ≡ [] }
     requires begun { lines ≡ begun_lines (feed_limits lines.limits.total) }
+    requires fits { lines.limits.total < 2 ^ 64 }
     ensures takes { IfSome (S.state source.old).left
         (λ bytes. TakesFeed (head_of graph.now T.origin.first) lines.limits.total
         operator.old.published bytes (end_of result) operator.new.published) }
@@ -84,7 +85,9 @@ fn take_lines<T: Store, R: Wait, S: Source>(
 
 /// Makes the next line current, and answers true, or false at the end of the input.
 fn next_line<S: Source>(source: &mut S, lines: &mut Lines) -> Result<bool, FeedEnd>
-    requires { lines.old.fault ≡ None }
+    requires limits { lines.old.limits ≡ feed_limits lines.old.limits.total }
+    requires fits { lines.old.limits.total < 2 ^ 64 }
+    requires goes_on { lines.old.fault ≡ None }
     ensures limits { lines.new.limits ≡ lines.old.limits }
     ensures goes_on { OnOk result (lines.new.fault ≡ None) }
     ensures counts { IfOk result (λ more. MatchBool more
@@ -98,6 +101,6 @@ fn next_line<S: Source>(source: &mut S, lines: &mut Lines) -> Result<bool, FeedE
 {
     match lines.next_line(source) {
         Ok(more) => Ok(more),
-        Err(fault) => Err(FeedEnd::by_fault(fault, lines.number() + 1)),
+        Err(fault) => Err(FeedEnd::by_fault(fault, lines.number().saturating_add(1))),
     }
 }

@@ -5,3 +5,7 @@ pub mod ChangeLemmas
 pub mod NextLemmas
 pub mod RunLemmas
 pub mod TakeLemmas
+pub mod WrittenLemmas
+pub mod BrokenLemmas
+pub mod LeaderLemmas
+pub mod OnWayLemmas

@@ -9,3 +9,5 @@ pub mod WrittenLemmas
 pub mod BrokenLemmas
 pub mod LeaderLemmas
 pub mod OnWayLemmas
+pub mod TrueLineLemmas
+pub mod FollowLemmas

@@ -2,7 +2,6 @@
 use Rattle.std.proofs.Common.{◌≡◌, List, [], ◌∷◌, ℕ, Option, Some, None, refl, ap}
 use Rattle.std.specs.List.{AllZip}
 use Rattle.std.specs.Option.{option_and_then}
-use Rattle.arc_graph.specs.declared.change.Change.{Change}
 use Rattle.line_text.specs.Fields.{fields_of}
 use Rattle.session_requests.specs.declared.operator.OperatorRequest.{OperatorRequest}
 use Rattle.session_requests.specs.declared.operator.OperatorRequest.TheVariants as asks

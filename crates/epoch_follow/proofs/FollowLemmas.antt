@@ -1,26 +1,25 @@
 -- What a follower comes to by its leader's feeds.
-use Rattle.std.proofs.Common.{◌≡◌, ◌≢◌, ℕ, ◌+◌, ◌-◌, ◌<◌, ◌≤◌, ◌^◌, min, List, [], ◌∷◌, ◌++◌, ◌⊎◌, inl, inr, length, map, take, drop, refl, sym, ap, subst, ◌∙◌, arith, append_assoc, append-nil, length-append, length-drop, take-append-drop}
+use Rattle.std.proofs.Common.{◌≡◌, ◌≢◌, ℕ, ◌+◌, ◌-◌, ◌<◌, ◌≤◌, ◌^◌, List, [], ◌∷◌, ◌++◌, ◌⊎◌, inl, inr, length, map, take, drop, refl, sym, ap, subst, ◌∙◌, arith, append_assoc, append-nil, length-append, length-drop, take-append-drop}
 use Rattle.std.specs.Prelude.{All, Contains}
 use Rattle.std.specs.List.{flat_map, slice_range}
 use Rattle.std.proofs.lemmas.List.{length-take}
 use Rattle.std.proofs.lemmas.List.Elements.{All-append, All-cons, All-head, All-map, All-nil, All-tail, All-weaker, Contains-append_left, Contains-append_right}
 use mathlib.Core.List.{IsPrefix}
-use Rattle.list_laws.proofs.Members.{cases_push, each_in, in_first, in_none}
+use Rattle.list_laws.proofs.Members.{cases_push, in_first, in_none}
 use Rattle.arc_graph.specs.declared.change.Change.{Change}
 use Rattle.arc_graph.specs.Graph.{Graph, IsGraph}
 use Rattle.arc_graph.specs.History.{History, IsChange, IsPublished, sets, sets_of}
-use Rattle.epoch_store.proofs.PrefixLemmas.{prefix_trans}
 use Rattle.line_text.specs.Lines.{lines_of}
 use Rattle.line_text.proofs.WrittenLineLemmas.{IsLineText, lines_of-line}
 use Rattle.epoch_follow.specs.declared.feed_end.FeedEnd.{FeedEnd}
 use Rattle.epoch_follow.specs.declared.feed_end.FeedEnd.TheVariants.{Whole, Cut, Bad, Gap, Long, Read, OutOfMemory}
-use Rattle.epoch_follow.specs.Followers.{ComesFrom, ComesWhole, Delivery, Follows, IsCaughtUp, IsFollowed, begun as none_yet, then}
+use Rattle.epoch_follow.specs.Followers.{ComesFrom, ComesWhole, Delivery, Follows, IsCaughtUp, begun as none_yet, then}
 use Rattle.epoch_follow.specs.Runs.{FeedRun, Place, State, Step, begun, end_at, feed_run, last_epoch, run_lines, step_of, with_message}
 use Rattle.epoch_follow.specs.Runs.Place.{First, Between, Within}
 use Rattle.epoch_follow.specs.Runs.Step.{GoesOn, Ends}
 use Rattle.epoch_follow.specs.Takes.{TakesFeed, TakesLines}
-use Rattle.epoch_follow.specs.Text.{FeedHead, feed_text, head_line, head_of, messages}
-use Rattle.epoch_follow.proofs.BrokenLemmas.{BreaksOff, all_of, breaks_off, cut, fewer, more, nothing}
+use Rattle.epoch_follow.specs.Text.{FeedHead, feed_text, head_of, messages}
+use Rattle.epoch_follow.proofs.BrokenLemmas.{BreaksOff, breaks_off, cut, fewer, more, nothing}
 use Rattle.epoch_follow.proofs.LeaderLemmas.{Carries, all_changes, carries_others, epoch_counts, few_changes, message_keeps, sets_grow}
 use Rattle.epoch_follow.proofs.OnWayLemmas.{AtEnd, any_step, by_step, run_grows}
 use Rattle.epoch_follow.proofs.RunLemmas.{behind, run_ends, run_goes}
@@ -158,10 +157,12 @@ module _ (head : FeedHead) (leader : History) (is : IsHead head) (published : Is
     feed_keeps total old new bytes end front begins takes = by_end end takes where
       run : IsPrefix (feed_run head total old bytes).history leader
       run = lines_keep total old bytes begins (lines_of bytes) (came bytes front)
+
       first : (takes : TakesLines head total old bytes new) → IsPrefix new leader
       first takes =
           subst (λ h. IsPrefix h leader) takes.history
           (lines_keep total old bytes begins (take takes.count (lines_of bytes)) (fewer takes.count (came bytes front)))
+
       by_end : (e : FeedEnd) → TakesFeed head total old bytes e new → IsPrefix new leader
       by_end Read takes = first takes
       by_end OutOfMemory takes = first takes
@@ -213,8 +214,10 @@ takes_grows : (head : FeedHead) (total : ℕ) (old new : History) (bytes : List 
 takes_grows head total old new bytes end takes = by_end end takes where
   run : IsPrefix old (feed_run head total old bytes).history
   run = run_grows head total (length bytes) (begun old) (lines_of bytes)
+
   first : (takes : TakesLines head total old bytes new) → IsPrefix old new
   first takes = subst (IsPrefix old) takes.history (run_grows head total (length bytes) (begun old) (take takes.count (lines_of bytes)))
+
   by_end : (e : FeedEnd) → TakesFeed head total old bytes e new → IsPrefix old new
   by_end Read takes = first takes
   by_end OutOfMemory takes = first takes

@@ -1,17 +1,16 @@
 -- A follower's history as the beginning of its leader's.
-use Rattle.std.proofs.Common.{◌≡◌, ℕ, ◌+◌, ◌-◌, ◌<◌, ◌≤◌, ◌==◌, Bool, true, false, List, [], ◌∷◌, ◌++◌, Some, length, refl, sym, ap, subst, ◌∙◌, arith, append_assoc, length-append, ◌≢◌}
+use Rattle.std.proofs.Common.{◌≡◌, ℕ, ◌+◌, ◌≤◌, ◌==◌, Bool, true, false, List, [], ◌∷◌, ◌++◌, Some, length, refl, sym, ap, subst, ◌∙◌, arith, append_assoc, length-append, ◌≢◌}
 use Rattle.std.specs.Prelude.{if◌then◌else◌, slice_get, All, Contains}
 use Rattle.std.proofs.lemmas.Bool.Decides.{nat_tests}
 use mathlib.Core.List.{IsPrefix}
-use Rattle.list_laws.proofs.Gets.{get_before}
 use Rattle.list_laws.proofs.Members.{each_in, in_first}
-use Rattle.std.proofs.lemmas.List.Elements.{Contains-append_left, Contains-append_right}
+use Rattle.std.proofs.lemmas.List.Elements.{Contains-append_right}
 use Rattle.arc_graph.specs.declared.change.Change.{Change}
-use Rattle.arc_graph.specs.History.{History, HistoryEntry, IsChange, IsHistory, IsPublished, max_pending, number_after, sets, sets_of}
+use Rattle.arc_graph.specs.History.{History, HistoryEntry, IsChange, IsHistory, IsPublished, max_pending, sets, sets_of}
 use Rattle.arc_graph.specs.History.HistoryEntry.{Changes, Closed}
 use Rattle.arc_graph.proofs.HistoryLemmas.{count_with_set, sets_of_both}
 use Rattle.road_network.specs.Limits.{max_epoch}
-use Rattle.epoch_store.proofs.PrefixLemmas.{prefix_self, prefix_trans}
+use Rattle.epoch_store.proofs.PrefixLemmas.{prefix_self}
 use Rattle.epoch_follow.specs.Runs.{Message, last_epoch, with_message}
 use Rattle.epoch_follow.specs.Text.{FeedHead}
 

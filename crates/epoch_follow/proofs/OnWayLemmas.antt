@@ -1,30 +1,22 @@
 -- A follower that takes the lines of its leader's feed.
-use Rattle.std.proofs.Common.{◌≡◌, ℕ, ◌+◌, ◌-◌, ◌<◌, ◌≤◌, Bool, true, false, List, [], ◌∷◌, ◌++◌, Option, Some, None, ◌⊎◌, inl, inr, length, map, min, refl, sym, ap, subst, ◌∙◌, arith, append_assoc, append-nil, length-append}
-use Rattle.std.specs.Prelude.{if◌then◌else◌, nat_lt, All}
-use Rattle.std.specs.Option.{option_and_then}
-use Rattle.std.proofs.lemmas.Bool.{lt-ltb}
+use Rattle.std.proofs.Common.{◌≡◌, ℕ, ◌+◌, ◌≤◌, Bool, true, false, List, [], ◌∷◌, Option, Some, None, length, refl, arith}
+use Rattle.std.specs.Prelude.{if◌then◌else◌, nat_lt}
 use Rattle.std.proofs.lemmas.Bool.Decides.{nat_tests}
-use Rattle.std.proofs.lemmas.List.Elements.{Contains-append_right}
 use mathlib.Core.List.{IsPrefix}
-use Rattle.list_laws.proofs.Members.{each_in, in_first}
 use Rattle.arc_graph.specs.declared.change.Change.{Change}
-use Rattle.arc_graph.specs.History.{History, IsChange, IsPublished, sets, sets_of}
+use Rattle.arc_graph.specs.History.{History}
 use Rattle.epoch_store.proofs.PrefixLemmas.{prefix_self, prefix_trans}
 use Rattle.line_text.specs.Fields.{fields_of}
 use Rattle.line_text.specs.Lines.{without_cr}
-use Rattle.line_text.specs.Marks.{fault_of_marks, line_fault, line_mark, total_mark}
+use Rattle.line_text.specs.Marks.{line_fault}
 use Rattle.line_text.specs.declared.limits.LineFault.{LineFault}
-use Rattle.line_text.specs.declared.limits.LineFault.TheVariants as fault
-use Rattle.epoch_follow.specs.declared.feed_end.FeedEnd.{FeedEnd}
-use Rattle.epoch_follow.specs.declared.feed_end.FeedEnd.TheVariants.{Whole, Cut, Bad, Gap, Long}
-use Rattle.epoch_follow.specs.Runs.{FeedRun, Message, Place, State, Step, begin_from, behind_begin, behind_change, behind_end, behind_first, behind_line, change_from, end_by, feed_limits, go_on, is_end, is_head, last_epoch, run_lines, size_in, step_of, unless_broken, with_message}
+use Rattle.epoch_follow.specs.declared.feed_end.FeedEnd.TheVariants.{Gap}
+use Rattle.epoch_follow.specs.Runs.{Message, Place, State, Step, begin_from, behind_begin, behind_change, behind_end, behind_first, behind_line, change_from, feed_limits, is_end, is_head, last_epoch, run_lines, size_in, step_of, unless_broken, with_message}
 use Rattle.epoch_follow.specs.Runs.Place.{First, Between, Within}
 use Rattle.epoch_follow.specs.Runs.Step.{GoesOn, Ends}
 use Rattle.epoch_follow.specs.Text.{FeedHead}
-use Rattle.epoch_follow.proofs.BrokenLemmas.{BreaksOff, nothing, cut, more}
-use Rattle.epoch_follow.proofs.LeaderLemmas.{Carries, all_changes, carries_others, epoch_counts, few_changes, message_grows, message_keeps, message_reaches, sets_grow}
+use Rattle.epoch_follow.proofs.LeaderLemmas.{message_grows}
 use Rattle.epoch_follow.proofs.RunLemmas.{behind, run_ends, run_goes}
-use Rattle.epoch_follow.proofs.WrittenLemmas.{IsHead, begin_says, begin_words, begin_written, change_says, change_words, end_says, end_words, end_written, head_says, head_words, head_written, message_words, messages_words}
 
 -- ---- any line
 

@@ -1,6 +1,5 @@
 -- The run of a feed, line by line.
-use Rattle.std.proofs.Common.{◌≡◌, ℕ, ◌+◌, ◌-◌, ◌<◌, ◌≤◌, min, List, [], ◌∷◌, ◌++◌, Option, Some, None, Ok, length, take, refl, sym, ap, subst, ◌∙◌, arith, append_assoc, append-nil}
-use Rattle.std.specs.Prelude.{IfSome, IsSomeAnd}
+use Rattle.std.proofs.Common.{◌≡◌, ℕ, ◌+◌, ◌-◌, min, List, [], ◌∷◌, ◌++◌, Option, Some, None, length, take, refl, sym, ap, ◌∙◌, arith, append_assoc, append-nil}
 use Rattle.std.proofs.Math.Seq.{take-append_seam}
 use Rattle.std.proofs.lemmas.List.{take_all}
 use Rattle.arc_graph.specs.declared.change.Change.{Change}
@@ -9,14 +8,12 @@ use Rattle.line_text.specs.Fields.{fields_of}
 use Rattle.line_text.specs.Lines.{raw_line, after_line, line_size, lines_of, without_cr}
 use Rattle.line_text.specs.Marks.{first_fault, line_fault}
 use Rattle.line_text.specs.declared.limits.LineFault.{LineFault}
-use Rattle.line_text.specs.declared.limits.LineLimits.{LineLimits}
-use Rattle.line_text.proofs.LineLemmas.{lines_of-first}
 use Rattle.epoch_follow.specs.declared.due.Due.{Due}
 use Rattle.epoch_follow.specs.declared.due.Due.TheVariants as due
 use Rattle.epoch_follow.specs.declared.feed_end.FeedEnd.{FeedEnd}
 use Rattle.epoch_follow.specs.declared.feed_end.FeedEnd.TheVariants.{Whole, Cut, Bad, Gap, Long, Read, OutOfMemory}
 use Rattle.epoch_follow.specs.Reads.{HasRun, end_due, place_of}
-use Rattle.epoch_follow.specs.Runs.{FeedRun, Place, State, Step, begun, behind_line, end_at, end_by, feed_limits, feed_run, go_on, run_lines, size_in, step_of, unless_broken}
+use Rattle.epoch_follow.specs.Runs.{Place, State, Step, begun, behind_line, end_at, end_by, feed_limits, feed_run, go_on, run_lines, size_in, step_of, unless_broken}
 use Rattle.epoch_follow.specs.Runs.Step.{GoesOn, Ends}
 use Rattle.epoch_follow.specs.Takes.{TakesFeed, TakesLines}
 use Rattle.epoch_follow.specs.Text.{FeedHead}

@@ -1,9 +1,9 @@
 -- What is known of a run, from one line to the next.
-use Rattle.std.proofs.Common.{◌≡◌, ℕ, ◌+◌, true, List, Option, Some, None, Result, Ok, Err, refl, sym, ap, subst, ◌∙◌}
+use Rattle.std.proofs.Common.{◌≡◌, ℕ, ◌+◌, List, Option, Some, None, Err, sym, ap, subst, ◌∙◌}
 use Rattle.std.specs.Prelude.{IfSome, IsSomeAnd}
 use Rattle.arc_graph.specs.History.{History, Operator}
 use Rattle.line_text.specs.Fields.{fields_of}
-use Rattle.line_text.specs.Lines.{raw_line, after_line, without_cr}
+use Rattle.line_text.specs.Lines.{raw_line, without_cr}
 use Rattle.line_text.specs.Marks.{first_fault}
 use Rattle.line_text.specs.Reading.{Lines, TakesLine}
 use Rattle.line_text.proofs.LineLemmas.{lines_of-first}
@@ -16,7 +16,7 @@ use Rattle.epoch_follow.specs.Runs.Step.{GoesOn, Ends}
 use Rattle.epoch_follow.specs.Takes.{TakesFeed}
 use Rattle.epoch_follow.specs.Text.{FeedHead}
 use Rattle.epoch_follow.proofs.NextLemmas.{unbroken}
-use Rattle.epoch_follow.proofs.RunLemmas.{end_is, run_breaks, run_cut, run_done, run_more, run_stops_by}
+use Rattle.epoch_follow.proofs.RunLemmas.{run_breaks, run_cut, run_more, run_stops_by}
 
 -- what is known of a rest that a source tells, and of the bytes that it told at first
 through : {P : List ℕ → List ℕ → Type 0} {Q R : List ℕ → Type 0} (start rest : Option (List ℕ)) → IfSome start (λ bytes. IsSomeAnd rest (P bytes))

@@ -1,19 +1,17 @@
 -- A follower at a line of its leader's feed.
-use Rattle.std.proofs.Common.{◌≡◌, ℕ, ◌+◌, ◌-◌, ◌<◌, ◌≤◌, ◌^◌, Bool, true, false, List, [], ◌∷◌, ◌++◌, Option, Some, None, ◌⊎◌, inl, inr, length, map, refl, sym, ap, subst, ◌∙◌, arith, append_assoc, append-nil, length-append}
-use Rattle.std.specs.Prelude.{if◌then◌else◌, nat_lt, All}
+use Rattle.std.proofs.Common.{◌≡◌, ℕ, ◌+◌, ◌<◌, ◌≤◌, ◌^◌, Bool, true, false, List, [], ◌∷◌, ◌++◌, Some, None, ◌⊎◌, inl, inr, length, map, refl, sym, ap, subst, ◌∙◌, arith, append_assoc, append-nil, length-append}
+use Rattle.std.specs.Prelude.{if◌then◌else◌, nat_lt}
 use Rattle.std.proofs.lemmas.Bool.{lt-ltb}
 use Rattle.std.proofs.lemmas.Bool.Decides.{nat_tests}
 use Rattle.std.proofs.lemmas.List.Elements.{Contains-append_right}
 use mathlib.Core.List.{IsPrefix}
 use Rattle.list_laws.proofs.Members.{each_in, in_first}
 use Rattle.arc_graph.specs.declared.change.Change.{Change}
-use Rattle.arc_graph.specs.History.{History, IsChange, IsPublished, sets}
+use Rattle.arc_graph.specs.History.{History, IsChange, IsPublished}
 use Rattle.line_text.specs.Fields.{fields_of}
 use Rattle.line_text.specs.Lines.{without_cr}
 use Rattle.line_text.specs.Marks.{fault_of_marks, line_fault, total_mark}
-use Rattle.line_text.specs.declared.limits.LineFault.{LineFault}
 use Rattle.line_text.specs.declared.limits.LineFault.TheVariants as fault
-use Rattle.epoch_follow.specs.declared.feed_end.FeedEnd.{FeedEnd}
 use Rattle.epoch_follow.specs.declared.feed_end.FeedEnd.TheVariants.{Gap, Long}
 use Rattle.epoch_follow.specs.Runs.{Message, Place, State, Step, begin_from, behind_begin, behind_change, behind_end, behind_first, behind_line, change_from, feed_limits, is_end, is_head, last_epoch, size_in, step_of, unless_broken, with_message}
 use Rattle.epoch_follow.specs.Runs.Place.{First, Between, Within}
@@ -28,8 +26,10 @@ pub short_fault : (total passed raw size : ℕ) → raw ≤ 1024
 short_fault total passed raw size short = by_test (nat_lt total (passed + size)) refl where
   line : nat_lt 1024 raw ≡ false
   line = grind (arith, nat_tests)
+
   fault_is : line_fault (feed_limits total) passed raw size ≡ fault_of_marks None (total_mark (feed_limits total) passed size)
   fault_is = ap (λ b. fault_of_marks (if b then Some (passed + 1024 + 1) else None) (total_mark (feed_limits total) passed size)) line
+
   by_test : (test : Bool) → nat_lt total (passed + size) ≡ test
       → (line_fault (feed_limits total) passed raw size ≡ None) ⊎ (line_fault (feed_limits total) passed raw size ≡ Some fault.Total)
   by_test true e = inr (fault_is ∙ ap (λ b. fault_of_marks None (if b then Some (total + 1) else None)) e)
@@ -131,15 +131,17 @@ module _ (head : FeedHead) (leader : History) (j : ℕ) (Near : Type 0) where
         ∙ ap (λ l. behind_change n h m (change_from head (fields_of (without_cr l)))) this ∙ ap (behind_change n h m) says.says in
         record {
           short = subst (λ l. length l ≤ 1024) (sym this) says.short;
-          fares = subst (Fares lines) (sym step)
-              (begins, record {
-                cs = cs;
-                css = css;
-                carries = subst (λ set. Carries head leader j m.epoch (set ∷ css)) joined carries;
-                due = due ∙ ap length joined;
-                near = near;
-                to_come = others;
-              });
+          fares = subst (Fares lines) (sym step) (
+            begins,
+            record {
+              cs = cs;
+              css = css;
+              carries = subst (λ set. Carries head leader j m.epoch (set ∷ css)) joined carries;
+              due = due ∙ ap length joined;
+              near = near;
+              to_come = others;
+            },
+          );
         }
 
     fares_end : (m : Message) (css : List (List Change)) → Carries head leader j m.epoch ((m.changes ++ []) ∷ css) → m.due ≡ length (m.changes ++ [])

@@ -1,12 +1,11 @@
 -- The lines of a feed as they are written, and what they say when they are read.
-use Rattle.std.proofs.Common.{◌≡◌, ℕ, suc, ◌+◌, ◌*◌, ◌<◌, ◌≤◌, ◌^◌, true, false, ◌&&◌, cond, List, [], ◌∷◌, ◌++◌, Option, Some, None, length, map, codes, decimal, refl, sym, ap, subst, ◌∙◌, arith, append_assoc, append-nil}
+use Rattle.std.proofs.Common.{◌≡◌, ℕ, ◌+◌, ◌<◌, ◌≤◌, ◌^◌, true, false, ◌&&◌, List, [], ◌∷◌, ◌++◌, Option, Some, None, length, map, codes, decimal, refl, sym, ap, ◌∙◌, arith, append_assoc, append-nil}
 use Rattle.std.proofs.lemmas.List.{length-map}
 use Rattle.std.specs.Prelude.{Bool, IfSome, if◌then◌else◌, nat_eq, nat_le, nat_lt, sum}
 use Rattle.std.specs.List.{All, AllZip, flat_map}
-use Rattle.std.specs.Option.{option_and_then}
 use Rattle.std.proofs.lemmas.Bool.{le-leb, lt-ltb}
 use Rattle.std.proofs.lemmas.Bool.Decides.{nat_tests}
-use Rattle.std.proofs.lemmas.List.Elements.{All-cons, All-head, All-map, All-nil, All-tail, All-weaker}
+use Rattle.std.proofs.lemmas.List.Elements.{All-cons, All-head, All-nil, All-tail, All-weaker}
 use Rattle.answer_writer.specs.Replies.{and_number, end_line}
 use Rattle.arc_graph.specs.declared.change.Change.{Change}
 use Rattle.arc_graph.specs.History.{IsChange, max_pending}
@@ -14,7 +13,7 @@ use Rattle.std.proofs.lemmas.Grind.{flat_map-append}
 use Rattle.cost_vector.specs.Costs.{max_criteria}
 use Rattle.line_text.specs.Fields.{fields_of}
 use Rattle.line_text.specs.Lines.{without_cr}
-use Rattle.line_text.specs.Numerals.{at_most, is_digits, numeral_of, numeral_or_above, value_of}
+use Rattle.line_text.specs.Numerals.{at_most, is_digits, numeral_or_above, value_of}
 use Rattle.line_text.specs.declared.numerals.Numeral.TheVariants.{Value, NotDigits}
 use Rattle.line_text.proofs.WrittenLineLemmas.{IsField, IsLineText, IsShortField, behind_blank, byte_more, fields_are, fields_of-line, is_digits-decimal, length-line, line_of_fields, line_text, none_short, numbers_more, one_byte, value_of-decimal, without_cr-same}
 use Rattle.road_network.specs.Limits.{max_epoch}
@@ -22,9 +21,9 @@ use Rattle.road_network.specs.Network.{IsVector}
 use Rattle.session_requests.specs.Readings.{pair_of}
 use Rattle.session_requests.specs.declared.operator.OperatorRequest.{OperatorRequest}
 use Rattle.session_requests.specs.declared.operator.OperatorRequest.TheVariants as asks
-use Rattle.session_requests.specs.Requests.{AsksOfOperator, operator_tokens}
+use Rattle.session_requests.specs.Requests.{AsksOfOperator}
 use Rattle.session_requests.specs.Tokens.{Writes, max_number}
-use Rattle.session_requests.specs.Tokens.Token.{Number, Word}
+use Rattle.session_requests.specs.Tokens.Token.{Number}
 use Rattle.epoch_follow.specs.Runs.{begin_from, change_asked, change_from, is_arc, is_end, is_head, number_in, writes}
 use Rattle.epoch_follow.specs.Text.{FeedHead, begin_line, change_line, end_of_message, head_line, message, messages, state_line}
 use Rattle.epoch_follow.proofs.ChangeLemmas.{says_asked}
@@ -286,6 +285,7 @@ module _ (head : FeedHead) (is : IsHead head) where
   change_says c ok = by_state c.weight ok.vector ok.small where
     below : c.arc.0 < 2 ^ 32
     below = omega (arith, ok.there, is.arcs)
+
     by_state : (state : Option (List ℕ)) → IfSome state (IsVector head.criteria) → IfSome state (All (λ x. x < 2 ^ 32))
         → SaysChange (state_words c.arc.0 state) (asked_change c.arc.0 state)
     by_state None vector small =

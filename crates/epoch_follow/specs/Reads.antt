@@ -9,8 +9,8 @@ use Rattle.line_text.specs.declared.limits.LineFault.{LineFault}
 use Rattle.epoch_follow.specs.declared.due.Due.{Due}
 use Rattle.epoch_follow.specs.declared.due.Due.TheVariants as due
 use Rattle.epoch_follow.specs.declared.feed_end.FeedEnd.{FeedEnd}
-use Rattle.epoch_follow.specs.declared.feed_end.FeedEnd.TheVariants.{Whole, Cut, Bad, Gap, Long, Read, OutOfMemory}
-use Rattle.epoch_follow.specs.Runs.{FeedRun, Place, State, Step, begun, behind_line, end_at, end_by, last_epoch, number_in, run_lines, writes}
+use Rattle.epoch_follow.specs.declared.feed_end.FeedEnd.TheVariants.{Whole, Cut, Read, OutOfMemory}
+use Rattle.epoch_follow.specs.Runs.{Place, State, begun, behind_line, end_by, last_epoch, number_in, run_lines}
 use Rattle.epoch_follow.specs.Runs.Place.{First, Between, Within}
 use Rattle.epoch_follow.specs.Runs.Step.{GoesOn, Ends}
 use Rattle.epoch_follow.specs.Takes.{is_read}

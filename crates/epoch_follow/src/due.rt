@@ -58,9 +58,7 @@ impl Due {
             Due::First => take_head(operator, graph, text, line),
             Due::Begin => begin_message(operator, graph, text, line),
             Due::Within { epoch, left: 0 } => end_message(rt, operator, graph, epoch, text, line),
-            Due::Within { epoch, left } => {
-                take_change(operator, graph, epoch, left, text, line)
-            }
+            Due::Within { epoch, left } => { take_change(operator, graph, epoch, left, text, line) }
         }
     }
 }

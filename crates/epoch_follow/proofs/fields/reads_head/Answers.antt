@@ -1,4 +1,4 @@
-use Rattle.std.proofs.Common.{◌≡◌, ℕ, Bool, List, [], ◌∷◌, is_some, sym, ap, ◌∙◌}
+use Rattle.std.proofs.Common.{[], ◌∷◌, is_some, sym, ap, ◌∙◌}
 use Rattle.line_text.specs.Fields.{fields_of}
 use Rattle.epoch_follow.specs.Runs.{writes}
 use Rattle.epoch_follow.specs.Text.{head_of}

@@ -1,4 +1,4 @@
-use Rattle.std.proofs.Common.{Err, Ok, ◌∙◌, ap, subst, sym}
+use Rattle.std.proofs.Common.{Err, Ok, ◌∙◌, subst}
 use Rattle.std.proofs.lemmas.Result.{err_from_is_err_and}
 use Rattle.line_text.specs.Fields.{fields_of}
 use Rattle.line_text.specs.Reading.{rest_of}

@@ -1,13 +1,13 @@
 //! One line of a feed after another.
-ghost use Rattle.std.specs.Prelude.{◌≡◌, ◌<◌, [], false, OnErr, OnOk};
+ghost use Rattle.std.specs.Prelude.{◌≡◌, ◌+◌, ◌<◌, ◌≤◌, [], false, OnErr, OnOk};
 ghost use mathlib.Core.List.{IsPrefix};
 ghost use Rattle.line_text.specs.Fields.{fields_of};
 ghost use Rattle.arc_graph.specs.Graph.{Match};
 ghost use Rattle.arc_graph.specs.History.{IsChange, with_pending, with_published};
-ghost use Rattle.epoch_store.specs.Origin.{arcs_of, criteria_of};
+ghost use Rattle.epoch_store.specs.Origin.{arcs_of, criteria_of, last_number};
 ghost use Rattle.epoch_store.specs.Faults.{MayPend, MayPublish};
 ghost use Rattle.epoch_follow.specs.Reads.{Awaits, LineTells, end_due, has_read_fault};
-ghost use Rattle.epoch_follow.specs.Text.{head_of};
+ghost use Rattle.epoch_follow.specs.Text.{FeedHead, head_of};
 
 use crate::FeedEnd;
 use crate::fields::{change_in, is_end, is_head, message_in};
@@ -56,8 +56,8 @@ impl Due {
     {
         match self {
             Due::First => take_head(operator, graph, text, line),
-            Due::Begin => begin_message(operator, graph, text, line),
-            Due::Within { epoch, left: 0 } => end_message(rt, operator, graph, epoch, text, line),
+            Due::Begin => begin_message(operator, text, line),
+            Due::Within { epoch, left: 0 } => end_message(rt, operator, epoch, text, line),
             Due::Within { epoch, left } => { take_change(operator, graph, epoch, left, text, line) }
         }
     }
@@ -83,15 +83,10 @@ fn take_head<T: Store>(
 }
 
 /// Takes the first line of a message.
-fn begin_message<T: Store>(
-    operator: &Operator<T>,
-    graph: &Graph,
-    text: &[u8],
-    line: u64,
-) -> Result<Due, FeedEnd>
+fn begin_message<T: Store>(operator: &Operator<T>, text: &[u8], line: u64) -> Result<Due, FeedEnd>
     requires { operator.now.pending ≡ [] }
-    ensures tells { LineTells (head_of graph.now T.origin.first) line operator.now Due.Begin
-        (fields_of text.now) operator.now result }
+    ensures tells { (head : FeedHead) → head.first ≡ T.origin.first
+        → LineTells head line operator.now Due.Begin (fields_of text.now) operator.now result }
     ensures reads_nothing { has_read_fault result ≡ false }
 {
     let Some((epoch, left)) = message_in(text) else {
@@ -136,14 +131,14 @@ fn take_change<T: Store>(
 fn end_message<T: Store, R: Wait>(
     rt: &R,
     operator: &mut Operator<T>,
-    graph: &Graph,
     epoch: u32,
     text: &[u8],
     line: u64,
 ) -> Result<Due, FeedEnd>
-    requires { Awaits (head_of graph.now T.origin.first) operator.old (Due.Within epoch 0) }
-    ensures tells { LineTells (head_of graph.now T.origin.first) line operator.old
-        (Due.Within epoch 0) (fields_of text.now) operator.new result }
+    requires { epoch ≤ last_number T.origin operator.old.published + 1 }
+    ensures tells { (head : FeedHead) → head.first ≡ T.origin.first
+        → LineTells head line operator.old (Due.Within epoch 0) (fields_of text.now)
+        operator.new result }
     ensures begins { IsPrefix operator.old.published operator.new.published }
     ensures reads_nothing { has_read_fault result ≡ false }
 {

@@ -1,7 +1,7 @@
 use Rattle.std.proofs.Common.{refl}
 use Rattle.std.proofs.lemmas.Result.{err_from_is_err_and}
-use Rattle.query_replies.specs.declared.reply.Reply.TheVariants.{Answer}
-use Rattle.query_replies.proofs.answerer.Answerer.answer.Goals as goal
+use Rattle.session_core.specs.declared.reply.Reply.TheVariants.{Answer}
+use Rattle.session_core.proofs.answerer.Answerer.answer.Goals as goal
 
 pub returns-in_err-put_answer : goal.returns-in_err-put_answer
 returns-in_err-put_answer g c = λ routes is.

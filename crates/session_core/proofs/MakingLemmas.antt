@@ -8,8 +8,8 @@ use Rattle.road_network.specs.Network.{Network}
 use Rattle.road_network.specs.declared.query.AnswerKind.{AnswerKind}
 use Rattle.road_network.specs.declared.query.Query.{Query}
 use Rattle.work_claim.specs.Results.{GivesAll}
-use Rattle.query_replies.specs.declared.made.MadeReply.{MadeReply}
-use Rattle.query_replies.specs.Making.{AreMade, IsMade}
+use Rattle.session_core.specs.declared.made.MadeReply.{MadeReply}
+use Rattle.session_core.specs.Making.{AreMade, IsMade}
 
 -- what holds at each place of two lists of one length holds of them place by place
 zipped : {A B : Type 0} (R : A → B → Type 0) (xs : List A) (ys : List B) → length ys ≡ length xs

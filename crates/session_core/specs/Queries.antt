@@ -6,8 +6,8 @@ use Rattle.road_network.specs.Queries.{HaveNodes, IsTooLarge, limit_of}
 use Rattle.road_network.specs.declared.query.AnswerKind.{AnswerKind}
 use Rattle.road_network.specs.declared.query.Query.{Query}
 use Rattle.answer_writer.specs.Replies.{node_refusal, budget_refusal, reply_of}
-use Rattle.query_replies.specs.declared.reply.Reply.{Reply}
-use Rattle.query_replies.specs.declared.reply.Reply.TheVariants.{Answer, Refusal}
+use Rattle.session_core.specs.declared.reply.Reply.{Reply}
+use Rattle.session_core.specs.declared.reply.Reply.TheVariants.{Answer, Refusal}
 
 -- The reply is the answer: all best costs of the target within the limit, alone or each with its backward-least walk. The
 -- query is within its budget.

@@ -9,12 +9,12 @@ use Rattle.road_network.specs.Queries.{HaveNodes, IsTooLarge, limit_of}
 use Rattle.road_network.specs.declared.query.AnswerKind.{AnswerKind}
 use Rattle.road_network.specs.declared.query.Query.{Query}
 use Rattle.answer_writer.specs.Replies.{reply_of}
-use Rattle.query_replies.specs.declared.reply.Reply.{Reply}
-use Rattle.query_replies.specs.declared.reply.Reply.TheVariants.{Answer}
-use Rattle.query_replies.specs.declared.fault.ReplyFault.{ReplyFault}
-use Rattle.query_replies.specs.declared.fault.ReplyFault.TheVariants as fault
-use Rattle.query_replies.specs.Queries.{RepliesToQuery}
-use Rattle.query_replies.specs.Sending.{IsReplyOf, Replied, SendsReply}
+use Rattle.session_core.specs.declared.reply.Reply.{Reply}
+use Rattle.session_core.specs.declared.reply.Reply.TheVariants.{Answer}
+use Rattle.session_core.specs.declared.fault.ReplyFault.{ReplyFault}
+use Rattle.session_core.specs.declared.fault.ReplyFault.TheVariants as fault
+use Rattle.session_core.specs.Queries.{RepliesToQuery}
+use Rattle.session_core.specs.Sending.{IsReplyOf, Replied, SendsReply}
 
 -- a reply of one kind is one of another
 module _ (One Other : Reply → List ℕ → Type 0) (each : (reply : Reply) (text : List ℕ) → One reply text → Other reply text) (out replied : SinkState) where

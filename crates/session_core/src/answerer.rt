@@ -3,11 +3,12 @@ ghost use Rattle.road_network.specs.Answers.{IsAnswer, Route};
 ghost use Rattle.walk_readback.specs.Found.{IsOf, IsWellFound};
 ghost use Rattle.road_network.specs.Queries.{IsAsked, limit_of};
 ghost use Rattle.answer_writer.specs.Replies.{refusal, reply_of};
-ghost use Rattle.query_replies.specs.Queries.{RepliesToQuery};
-ghost use Rattle.query_replies.specs.Sending.{IsReplyOf, Replied};
-ghost use Rattle.query_replies.specs.declared.reply.Reply.TheVariants.{Answer, Refusal};
+ghost use Rattle.session_core.specs.Queries.{RepliesToQuery};
+ghost use Rattle.session_core.specs.Sending.{IsReplyOf, Replied};
+ghost use Rattle.session_core.specs.declared.reply.Reply.TheVariants.{Answer, Refusal};
 
-use crate::{Reply, ReplyFault};
+use crate::fault::ReplyFault;
+use crate::reply::Reply;
 use answer_writer::{put_answer, put_refusal};
 use arc_graph::Network;
 use bulk_search::find;

@@ -4,8 +4,8 @@ use Rattle.std.specs.List.{AllZip}
 use Rattle.road_network.specs.Network.{Network}
 use Rattle.road_network.specs.declared.query.AnswerKind.{AnswerKind}
 use Rattle.road_network.specs.declared.query.Query.{Query}
-use Rattle.query_replies.specs.declared.made.MadeReply.{MadeReply}
-use Rattle.query_replies.specs.Queries.{RepliesToQuery}
+use Rattle.session_core.specs.declared.made.MadeReply.{MadeReply}
+use Rattle.session_core.specs.Queries.{RepliesToQuery}
 
 -- it is the whole reply to the query
 abbrev pub IsMade : Network → ℕ → AnswerKind → Query → MadeReply → Type 0

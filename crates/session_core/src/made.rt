@@ -1,11 +1,13 @@
 ghost use Rattle.std.specs.Prelude.{◌<◌, ◌^◌, length, slice_get, All, IfOk, IfSome, IsSomeAnd};
 ghost use Rattle.std.specs.Thread.{IsSync};
 ghost use Rattle.road_network.specs.Queries.{IsAsked};
-ghost use Rattle.query_replies.specs.Making.{AreMade, IsMade};
-ghost use Rattle.query_replies.specs.Queries.{RepliesToQuery};
-ghost use Rattle.query_replies.specs.Sending.{IsReplyOf, Replied};
+ghost use Rattle.session_core.specs.Making.{AreMade, IsMade};
+ghost use Rattle.session_core.specs.Queries.{RepliesToQuery};
+ghost use Rattle.session_core.specs.Sending.{IsReplyOf, Replied};
 
-use crate::{Answerer, Reply, ReplyFault};
+use crate::answerer::Answerer;
+use crate::fault::ReplyFault;
+use crate::reply::Reply;
 use out_of_memory::OutOfMemory;
 use road_network::{AnswerKind, Query};
 use route_io::sure::SureSink;

@@ -15,7 +15,7 @@ pub enum ReplyFault {
 
 impl From<OutOfMemory> for ReplyFault {
     ghost use Rattle.std.specs.Prelude.{◌≡◌};
-    ghost use Rattle.query_replies.specs.declared.fault.ReplyFault.TheVariants as fault;
+    ghost use Rattle.session_core.specs.declared.fault.ReplyFault.TheVariants as fault;
 
     ghost from_gives = { λ _ e. e ≡ fault.OutOfMemory };
 
@@ -26,7 +26,7 @@ impl From<OutOfMemory> for ReplyFault {
 
 impl From<WriteFault> for ReplyFault {
     ghost use Rattle.std.specs.Prelude.{◌≡◌};
-    ghost use Rattle.query_replies.specs.declared.fault.ReplyFault.TheVariants as fault;
+    ghost use Rattle.session_core.specs.declared.fault.ReplyFault.TheVariants as fault;
 
     ghost from_gives = { λ cut e. e ≡ fault.Out cut };
 

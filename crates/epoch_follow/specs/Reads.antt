@@ -100,7 +100,8 @@ pub record HasRun (head : FeedHead) (total : ℕ) (old : History) (bytes : List 
   pub taken : List (List ℕ)
   pub parts : lines_of bytes ≡ taken ++ lines_of rest
   pub size : length bytes ≡ state.passed + length rest
-  pub runs : (more : List (List ℕ)) → run_lines head total (length bytes) (begun old) (taken ++ more) ≡ run_lines head total (length bytes) state more
+  pub runs : (more : List (List ℕ))
+      → run_lines head total (length bytes) (begun old) (taken ++ more) ≡ run_lines head total (length bytes) state more
 
 -- the end of a feed where the input ends, by what is due
 abbrev pub end_due : Due → FeedEnd

@@ -96,7 +96,8 @@ fn change_asked(request: OperatorRequest, graph: &Graph) -> Option<Change>
 
 /// The change that gives an arc these weights, where not all of them are 0.
 fn set_change(arc: u32, weight: Weight) -> Option<Change>
-    ensures some { IfSome result (λ change. (change ≡ record { arc = record { 0 = arc }; weight = Some weight })
+    ensures some { IfSome result (λ change. (change
+        ≡ record { arc = record { 0 = arc }; weight = Some weight })
         × (0 < sum weight) × All (λ x. x < 2 ^ 32) weight) }
     ensures none { IfNone result (sum weight ≡ 0) }
 {

@@ -9,8 +9,8 @@ use crate::stop::Stop;
 use answer_writer::{Piece, put_line};
 use arc_graph::NetworkSizes;
 use out_of_memory::OutOfMemory;
-use session_core::Reply;
 use route_io::{Sink, WriteFault, put_all};
+use session_core::Reply;
 
 /// The epoch of each reply, since nothing is published.
 pub(crate) const EPOCH: u32 = 0;

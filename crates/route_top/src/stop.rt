@@ -16,9 +16,9 @@ use gr_reader::LineKind;
 use itoa::Buffer;
 use link_doors::TownFault;
 use out_of_memory::OutOfMemory;
-use session_core::ReplyFault;
 use route_io::sure::SureSink;
 use route_io::{Sink, WriteFault, put_all};
+use session_core::ReplyFault;
 use std::alloc::Global;
 
 /// Why a run isn't done.

@@ -12,13 +12,13 @@ ghost use Rattle.session_core.specs.Operators.{IsOperatorBye, OperatorRun};
 
 use crate::context::ServeContext;
 use crate::end::SessionEnd;
+use crate::fault::ReplyFault;
 use crate::handler::{Answered, LineHandler};
 use crate::obey::apply;
 use crate::operator_reply::{Applied, put_reply};
 use crate::serve::serve;
 use epoch_store::{Operator, Store};
 use line_text::Request;
-use crate::fault::ReplyFault;
 use route_io::{Link, Sink, Source};
 use session_requests::{Line, OperatorRequest, read_operator_request};
 use std::sync::Wait;

@@ -10,13 +10,13 @@ ghost use Rattle.session_requests.specs.declared.session.SessionRequest.TheVaria
 ghost use Rattle.session_core.specs.Answering.{CanSearch, MayReply, RepliesOneOf, scene_of};
 ghost use Rattle.session_core.specs.Sessions.{RepliesTo};
 
+use crate::answerer::Answerer;
 use crate::context::ServeContext;
+use crate::fault::ReplyFault;
 use crate::short::{put_closed, put_epoch};
 use arc_graph::Network;
 use cost_vector::Limit;
 use epoch_store::{EpochReader, Snapshot, Store};
-use crate::answerer::Answerer;
-use crate::fault::ReplyFault;
 use road_network::{AnswerKind, Query};
 use route_io::{Gate, Sink};
 use session_requests::SessionRequest;

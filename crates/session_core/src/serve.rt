@@ -8,10 +8,10 @@ ghost use Rattle.session_core.specs.Links.{Serves};
 ghost use Rattle.session_core.specs.Serving.{Served, ServesOne, end_by_answer, end_by_input};
 
 use crate::SessionEnd;
+use crate::fault::ReplyFault;
 use crate::handler::{Answered, LineHandler};
 use line_text::{LineFault, LineLimits, Lines, Request};
 use out_of_memory::OutOfMemory;
-use crate::fault::ReplyFault;
 use route_io::{Link, Sink, Source, WriteFault};
 use std::alloc::Global;
 

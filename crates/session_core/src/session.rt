@@ -17,6 +17,7 @@ ghost use Rattle.session_core.specs.Sessions.{IsSessionBye, Session as Kept, Ses
 
 use crate::context::ServeContext;
 use crate::end::SessionEnd;
+use crate::fault::ReplyFault;
 use crate::handler::{Answered, LineHandler};
 use crate::look::look_for;
 use crate::serve::serve;
@@ -24,7 +25,6 @@ use crate::short::refuse_line;
 use epoch_store::{Ended, EpochReader, Store};
 use line_text::Request;
 use out_of_memory::OutOfMemory;
-use crate::fault::ReplyFault;
 use route_io::{Gate, Link, Sink, Source};
 use session_requests::{Line, SessionRequest, read_session_request};
 use std::alloc::Global;

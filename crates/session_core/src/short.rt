@@ -4,8 +4,8 @@ ghost use Rattle.route_io.specs.Sinks.{Sends};
 ghost use Rattle.session_core.specs.Answering.{RepliesOneOf};
 ghost use Rattle.session_core.specs.Sessions.{closed_reply, epoch_reply, line_refusal};
 
-use answer_writer::{Piece, put_line};
 use crate::fault::ReplyFault;
+use answer_writer::{Piece, put_line};
 use route_io::{Sink, WriteFault};
 
 /// Sends the number of an epoch.

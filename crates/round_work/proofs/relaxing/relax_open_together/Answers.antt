@@ -1,4 +1,4 @@
-use Rattle.std.proofs.Common.{◌≡◌, [], Some, length, refl, subst}
+use Rattle.std.proofs.Common.{◌≡◌, Some, length, refl, subst}
 use Rattle.std.specs.Prelude.{slice_get}
 use Rattle.std.proofs.lemmas.Option.{slice_get_read}
 use Rattle.round_work.proofs.OnwardLemmas.{opens_first, opens_own, piece_opens, piece_too_wide}

@@ -1,0 +1,6 @@
+//! The search for the best costs of a query that is directed to its target by lower bounds: rounds over bounded costs.
+#![tactic(auto)]
+
+mod relaxing;
+
+pub use relaxing::follow;

@@ -49,7 +49,7 @@ moved_more d cost own by bound i x components so_far within here = record {
   long = length-set components i x ∙ so_far.long;
   moved = λ k below. elim (cases_eq k i) [
     | inl same ↦ subst (λ n. get_or (set components i x) n 0 + get_or own n 0 ≡ get_or cost n 0 + (get_or by n 0 + get_or bound n 0)) (sym same)
-    (omega (arith, get_or-set_same components i x 0 (omega (arith, within, so_far.long)), here))
+        (omega (arith, get_or-set_same components i x 0 (omega (arith, within, so_far.long)), here))
     | inr other ↦ omega (arith, get_or-set_other components i k x 0 other, so_far.moved k (omega (arith, below, other)))
   ];
   others = λ k above.

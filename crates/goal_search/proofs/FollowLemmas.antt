@@ -1,14 +1,16 @@
 -- How candidates are listed along arcs, one after another.
-use Rattle.std.proofs.Common.{◌≡◌, ℕ, ◌+◌, ◌-◌, ◌<◌, ◌≤◌, List, [], ◌∷◌, ◌++◌, Some, length, get_or, inl, inr, ◌⊎◌, refl, sym, ap, subst, ◌∙◌, arith}
+use Rattle.std.proofs.Common.{◌≡◌, ℕ, ◌+◌, ◌-◌, ◌<◌, ◌≤◌, List, [], ◌∷◌, ◌++◌, Some, length, get_or, map, inl, inr, ◌⊎◌, refl, sym, ap, subst, ◌∙◌, arith}
 use Rattle.std.specs.Prelude.{Contains, slice_get}
 use Rattle.std.proofs.lemmas.Option.{slice_get_within}
 use Rattle.std.proofs.lemmas.Bool.{cases_lt}
-use Rattle.std.proofs.lemmas.List.{get_or_default}
+use Rattle.std.proofs.lemmas.List.{get_or_default, length-map}
+use Rattle.std.proofs.Math.ListN.{get_or-map}
 use Rattle.std.proofs.lemmas.List.Elements.{Contains-append_left, Contains-get_or, Contains-push}
-use Rattle.list_laws.proofs.Members.{cases_push}
+use Rattle.list_laws.proofs.Members.{cases_push, in_none}
 use Rattle.cost_vector.specs.Costs.{plus}
 use Rattle.cost_vector.specs.declared.label.ArcNo.{ArcNo}
-use Rattle.road_network.specs.Network.{Network, Leads}
+use Rattle.road_network.specs.Network.{Network, IsNetwork, IsNode, Leads}
+use Rattle.road_network.proofs.WalkLaws.{start_of_walk}
 use Rattle.road_network.proofs.Reached.{leads_alike}
 use Rattle.arc_graph.specs.Graph.{out_arcs_of, tail_of}
 use Rattle.arc_graph.proofs.NumbersLemmas.{in_numbers, of_numbers}
@@ -17,7 +19,7 @@ use Rattle.goal_laws.proofs.BoundLaws.{one_bound}
 use Rattle.bulk_rounds.specs.Cores.{Item, Spot}
 use Rattle.goal_rounds.specs.GoalCores.{IsBounded, IsGivenFrom, bounded_spot}
 use Rattle.goal_rounds.proofs.KeepingLemmas.{one_cost}
-use Rattle.goal_search.specs.Relaxing.{Follows}
+use Rattle.goal_search.specs.Relaxing.{Follows, FollowsAll}
 
 -- k is one of the first i arcs
 abbrev pub IsAmong : List ArcNo → ℕ → ℕ → Type 0
@@ -112,3 +114,56 @@ out_arc_at ends u arcs i d all within =
     let place : at.place ≡ a.0 - 1 = omega (arith, at.number) in
     let got : slice_get ends (a.0 - 1) ≡ Some (u, at.head) = subst (λ n. slice_get ends n ≡ Some (u, at.head)) place at.ends in
     record { counted = omega (arith, at.number); there = omega (arith, at.number, inside); tail = rw got refl }
+
+-- ---- spot by spot
+
+-- x is one of the first i spots
+abbrev pub IsFirst : List Spot → ℕ → Spot → Type 0
+IsFirst spots i x = (n : ℕ) × (n < i) × (n < length spots) × (get_or spots n x ≡ x)
+
+module _ (net : Network) (t : ℕ) where
+  pub first_none : (spots : List Spot) → FollowsAll net t (IsFirst spots 0) []
+  first_none spots = record {
+    come = λ i there. absurd (in_none i there);
+    all = λ x first b k v w g arc bound. let none : ⊥ = omega (arith, first.1) in absurd none;
+  }
+
+  pub first_more : (spots : List Spot) (i : ℕ) (y : Spot) (before after : List Item) → i < length spots → ((d : Spot) → get_or spots i d ≡ y)
+      → FollowsAll net t (IsFirst spots i) before → Follows net t y (λ k. Unit {0}) before after → FollowsAll net t (IsFirst spots (i + 1)) after
+  first_more spots i y before after within here so_far now = record {
+    come = λ j there. elim (now.come j there) [
+      | inl old ↦
+          let from = so_far.come j old in
+          (from.0, (from.1.0, omega (arith, from.1.1), from.1.2, from.1.3), from.2, from.3)
+      | inr new ↦ (y, (i, omega arith, within, here y), new.0, new.1)
+    ];
+    all = λ x first b k v w g arc bound. elim (cases_lt first.0 i) [
+      | inl earlier ↦
+          let found = so_far.all x (first.0, earlier, first.2, first.3) b k v w g arc bound in
+          (found.0, now.kept found.0 found.1, found.2)
+      | inr last ↦
+          let at : first.0 ≡ i = omega (arith, first.1, last) in
+          let same : y ≡ x = sym (here x) ∙ subst (λ n. get_or spots n x ≡ x) at first.3 in
+          let Found = λ (z : Spot). (c : IsBounded net t z) → Leads net k z.node w v
+          → (j : Item) × Contains after j × (j.spot ≡ bounded_spot v (plus c.cost w) g) in
+          let found : Found y = λ c leads. now.all c k v w g tt leads bound in
+          subst Found same found b arc
+    ];
+  }
+
+  pub first_all : (spots : List Spot) (i : ℕ) (candidates : List Item) → length spots ≤ i → FollowsAll net t (IsFirst spots i) candidates
+      → FollowsAll net t (Contains spots) candidates
+  first_all spots i candidates ended follows = record {
+    come = λ j there. let from = follows.come j there in (from.0, (from.1.0, from.1.2, from.1.3), from.2, from.3);
+    all = λ x there. follows.all x (there.0, omega (arith, there.1, ended), there.1, there.2);
+  }
+
+-- the item at a place, as its list is seen
+pub item_at : {X Y : Type 0} (f : X → Y) (xs : List X) (i : ℕ) (x : X) → i < length xs → x ≡ get_or xs i x → (d : Y) → get_or (map f xs) i d ≡ f x
+item_at f xs i x within is d = get_or_default (map f xs) i d (f x) (omega (arith, within, length-map xs f)) ∙ get_or-map f xs i x ∙ ap f (sym is)
+
+-- the spot of a bounded cost is of a node
+pub bounded_at_node : (net : Network) → IsNetwork net → (t : ℕ) (x : Spot) → IsBounded net t x → IsNode net.nodes x.node
+bounded_at_node net is t x b =
+    let walk = b.is_bound.least 0 (omega (arith, is.two)) in
+    start_of_walk net is walk.arcs x.node t walk.cost walk.walk

@@ -17,3 +17,9 @@ pub record Follows (net : Network) (t : ℕ) (x : Spot) (P : ℕ → Type 0) (be
   pub come : (i : Item) → Contains after i → Contains before i ⊎ (IsGivenFrom net t x i.spot × (i.from ≡ x.node))
   pub all : (b : IsBounded net t x) (k v : ℕ) (w g : List ℕ) → P k → Leads net k x.node w v → IsBound net v t g
       → (i : Item) × Contains after i × (i.spot ≡ bounded_spot v (plus b.cost w) g)
+
+-- The candidates have just what the arcs give that lead on from the spots of which P holds, each with the node from which it came.
+pub record FollowsAll (net : Network) (t : ℕ) (P : Spot → Type 0) (candidates : List Item) : Type 0 where
+  pub come : (i : Item) → Contains candidates i → (x : Spot) × P x × IsGivenFrom net t x i.spot × (i.from ≡ x.node)
+  pub all : (x : Spot) → P x → (b : IsBounded net t x) (k v : ℕ) (w g : List ℕ) → Leads net k x.node w v → IsBound net v t g
+      → (i : Item) × Contains candidates i × (i.spot ≡ bounded_spot v (plus b.cost w) g)

@@ -3,4 +3,4 @@
 
 mod relaxing;
 
-pub use relaxing::follow;
+pub use relaxing::relax_toward;

@@ -1,23 +1,50 @@
-ghost use Rattle.std.specs.Prelude.{◌≡◌, ℕ, ◌^◌, ◌<◌, ◌≤◌, List, length, map, All, OnOk};
+ghost use Rattle.std.specs.Prelude.{◌≡◌, ℕ, ◌^◌, ◌<◌, ◌≤◌, List, length, map, All, Contains, IfOk, OnOk};
 ghost use Rattle.cost_vector.specs.Costs.{plus};
 ghost use Rattle.road_network.specs.Network.{IsNode};
 ghost use Rattle.arc_graph.specs.Graph.{tail_of};
 ghost use Rattle.waiting_queue.specs.Waiting.{as_waiting, spot_in};
 ghost use Rattle.goal_laws.specs.Goal.{IsBound};
 ghost use Rattle.goal_bounds.specs.Bounds.{IsBoundSearch};
-ghost use Rattle.goal_search.specs.Relaxing.{Follows, IsSmallBounded};
+ghost use Rattle.goal_search.specs.Relaxing.{Follows, FollowsAll, IsSmallBounded};
 
 use arc_graph::Network;
 use cost_vector::{ArcNo, CompactCost, Cost, Weight};
 use goal_bounds::BoundSearch;
 use out_of_memory::OutOfMemory;
+use std::alloc::Global;
 use stored_cost::StoredCost;
 use waiting_queue::Item;
+
+/// What follows the spots that a round has taken, along the arcs that lead on from them.
+pub fn relax_toward<const D: usize, C: StoredCost<D>>(
+    alloc: Global,
+    network: &Network<'_>,
+    bounds: &mut BoundSearch,
+    taken: &[Item<C>],
+) -> Result<Vec<Item<C>>, OutOfMemory>
+    requires criteria { network.now.criteria ≡ D }
+    requires room { 2 ^ 57 ≤ C.Part.bound }
+    requires bounds { IsBoundSearch network.now bounds.old.target bounds.old }
+    requires spots { All (IsSmallBounded network.now bounds.old.target)
+        (map (spot_in C.components) taken.now) }
+    ensures bounds { OnOk result (IsBoundSearch network.now bounds.old.target bounds.new) }
+    ensures follows { IfOk result (λ list. FollowsAll network.now bounds.old.target
+        (Contains (map (spot_in C.components) taken.now))
+        (map (as_waiting C.components) list.items)) }
+{
+    prove!(network.nodes() >= 1);
+    prove!(network.criteria() == D);
+    let mut candidates = Vec::new(alloc);
+    for item in taken {
+        follow(network, bounds, item, &mut candidates)?;
+    }
+    Ok(candidates)
+}
 
 /// Lists behind the candidates what follows a spot, whose cost is that of a walk with the bound of its node added: for each
 /// passable arc that leads on to a node from which a walk leads to the target, that node at the walk's cost with the arc's vector
 /// and the node's bound added.
-pub fn follow<const D: usize, C: StoredCost<D>>(
+fn follow<const D: usize, C: StoredCost<D>>(
     network: &Network<'_>,
     bounds: &mut BoundSearch,
     item: &Item<C>,

@@ -1,7 +1,6 @@
-use Rattle.std.proofs.Common.{◌≡◌, ◌<◌, ◌≤◌, length, get_or, map, sym, subst, arith}
+use Rattle.std.proofs.Common.{◌≡◌, get_or, map, sym, subst, arith}
 use Rattle.arc_graph.specs.Graph.{tail_of}
 use Rattle.waiting_queue.specs.Waiting.{as_waiting, spot_in}
-use Rattle.bulk_rounds.specs.Cores.{Spot}
 use Rattle.goal_laws.specs.Goal.{IsBound}
 use Rattle.goal_bounds.specs.Bounds.{IsBoundIfAny, IsBoundSearch}
 use Rattle.goal_search.specs.Relaxing.{Follows, IsSmallBounded}
@@ -12,7 +11,7 @@ pub loop-arc-init : goal.loop-arc-init
 loop-arc-init g c = record {
   search = c.in_ok-own.ensures.search;
   follows = among_none c.args.network.now c.args.bounds.now.target (spot_in g.C.StoredCost.components c.args.item.now) c.out_arcs-arc-items.result.now
-  (map (as_waiting g.C.StoredCost.components) c.args.candidates.now.items);
+      (map (as_waiting g.C.StoredCost.components) c.args.candidates.now.items);
 }
 
 pub follow_arc-requires-clause-counted : goal.follow_arc-requires-clause-counted
@@ -67,7 +66,7 @@ loop-arc-preserved g c =
     record {
       search = subst (λ n. IsBoundSearch net n c.follow_arc.new.bounds) here c.in_ok-follow_arc.ensures.bounds;
       follows = among_more net t (spot_in components c.args.item.now) arcs i (map (as_waiting components) c.args.candidates.now.items) between after
-      c.loop-arc.invariant.follows second;
+          c.loop-arc.invariant.follows second;
     }
 
 pub returns-in_default-clause-follows : goal.returns-in_default-clause-follows

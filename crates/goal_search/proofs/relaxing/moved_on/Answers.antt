@@ -1,7 +1,7 @@
-use Rattle.std.proofs.Common.{◌≡◌, ◌+◌, ◌-◌, ◌^◌, ◌<◌, ◌≤◌, get_or, refl, sym, subst, arith}
+use Rattle.std.proofs.Common.{◌-◌, ◌^◌, ◌<◌, get_or, refl, sym, subst, arith}
 use Rattle.std.proofs.Math.Facts.{Fits-of_lt}
 use Rattle.std.proofs.lemmas.List.Elements.{All-get_or}
-use Rattle.goal_search.proofs.CostLemmas.{IsMovedUpTo, cost_long, less_fits, moved_more, moved_sum, own_fits}
+use Rattle.goal_search.proofs.CostLemmas.{cost_long, less_fits, moved_more, moved_sum, own_fits}
 use Rattle.goal_search.proofs.relaxing.moved_on.Goals as goal
 
 pub loop-i-init : goal.loop-i-init

@@ -2,5 +2,7 @@
 #![tactic(auto)]
 
 mod relaxing;
+mod rounds;
 
 pub use relaxing::relax_toward;
+pub use rounds::finish_toward;

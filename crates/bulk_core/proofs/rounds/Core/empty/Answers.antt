@@ -1,4 +1,4 @@
-use Rattle.std.proofs.Common.{◌≡◌, ◌++◌, [], map, ap, ap₂, ◌∙◌}
+use Rattle.std.proofs.Common.{◌≡◌, ◌++◌, [], map, ap}
 use Rattle.waiting_queue.specs.Waiting.{as_waiting, spot_in}
 use Rattle.bulk_core.proofs.StartLemmas.{empty_is_kept, is_empty}
 use Rattle.bulk_core.proofs.rounds.Core.empty.Goals as goal

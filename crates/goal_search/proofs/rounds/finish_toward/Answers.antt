@@ -1,0 +1,37 @@
+use Rattle.std.proofs.Common.{List, map, sym, subst, rules}
+use Rattle.std.specs.Prelude.{All, Contains}
+use Rattle.waiting_queue.specs.Waiting.{as_waiting, spot_in}
+use Rattle.bulk_rounds.specs.Cores.{Spot}
+use Rattle.goal_bounds.specs.Bounds.{IsBoundSearch}
+use Rattle.goal_search.specs.Relaxing.{FollowsAll, IsSmallBounded}
+use Rattle.goal_search.proofs.RoundLemmas.{are_kept, ended_rounds, taken_are_small}
+use Rattle.goal_search.proofs.rounds.finish_toward.Goals as goal
+
+pub relax_toward-requires-clause-spots : goal.relax_toward-requires-clause-spots
+relax_toward-requires-clause-spots g c =
+    let net = c.args.network.now in let core = c.args.core.now in
+    let small = taken_are_small net c.nodes.ensures.network core c.args.bounds.now c.requires.rounds in
+    subst (λ n. All (IsSmallBounded net n) (map (spot_in g.F.Cost.StoredCost.components) c.taken.result.now)) (sym c.requires.rounds.bounds_are.target_is)
+    (subst (All (IsSmallBounded net core.target)) (sym c.taken.ensures.spots) small)
+
+pub finish-requires : goal.finish-requires
+finish-requires g c =
+    let net = c.args.network.now in let core = c.args.core.now in
+    let items = map (as_waiting g.F.Cost.StoredCost.components) c.in_ok-candidates.candidates.items in
+    let first = subst (λ n. FollowsAll net n (Contains (map (spot_in g.F.Cost.StoredCost.components) c.taken.result.now)) items)
+    c.requires.rounds.bounds_are.target_is c.in_ok-candidates.ensures.follows in
+    let follows = subst (λ (xs : List Spot). FollowsAll net core.target (Contains xs) items) c.taken.ensures.spots first in
+    let kept = are_kept net c.nodes.ensures.network core c.args.bounds.now c.requires.rounds items follows in
+    (search rules, rw (c.deref.ensures.value) kept)
+
+pub returns-clause-rounds : goal.returns-clause-rounds
+returns-clause-rounds g c =
+    let net = c.args.network.now in let core = c.args.core.now in
+    let items = map (as_waiting g.F.Cost.StoredCost.components) c.in_ok-candidates.candidates.items in
+    let here = c.requires.rounds.bounds_are.target_is in
+    let first = subst (λ n. FollowsAll net n (Contains (map (spot_in g.F.Cost.StoredCost.components) c.taken.result.now)) items) here
+    c.in_ok-candidates.ensures.follows in
+    let follows = subst (λ (xs : List Spot). FollowsAll net core.target (Contains xs) items) c.taken.ensures.spots first in
+    let puts = rw (c.deref.ensures.value) at (c.in_ok-finish.ensures.put) in
+    let search = subst (λ n. IsBoundSearch net n c.relax_toward.new.bounds) here c.in_ok-candidates.ensures.bounds in
+    ended_rounds net c.nodes.ensures.network core c.args.bounds.now c.requires.rounds items follows c.finish.new.self c.relax_toward.new.bounds puts search

@@ -1,0 +1,25 @@
+-- What follows a spot of a goal-directed search along the arcs that lead on from it.
+use Rattle.std.specs.Prelude.{◌≡◌, ℕ, ◌^◌, ◌<◌, ◌⊎◌, List, All, Contains}
+use Rattle.cost_vector.specs.Costs.{plus}
+use Rattle.road_network.specs.Network.{Network, Leads}
+use Rattle.goal_laws.specs.Goal.{IsBound}
+use Rattle.bulk_rounds.specs.Cores.{Item, Spot}
+use Rattle.goal_rounds.specs.GoalCores.{IsBounded, IsGivenFrom, bounded_spot}
+
+-- the spot is that of a cost, each component of which is below 2^55, with the bound of its node added
+pub record IsSmallBounded (net : Network) (t : ℕ) (x : Spot) : Type 0 where
+  pub bounded : IsBounded net t x
+  pub small : All (λ c. c < 2 ^ 55) bounded.cost
+
+-- What the arcs that P holds of give, from the spot x on, has come to the candidates, and nothing else.
+pub record Follows (net : Network) (t : ℕ) (x : Spot) (P : ℕ → Type 0) (before after : List Item) : Type 0 where
+  pub kept : (i : Item) → Contains before i → Contains after i
+  pub come : (i : Item) → Contains after i → Contains before i ⊎ (IsGivenFrom net t x i.spot × (i.from ≡ x.node))
+  pub all : (b : IsBounded net t x) (k v : ℕ) (w g : List ℕ) → P k → Leads net k x.node w v → IsBound net v t g
+      → (i : Item) × Contains after i × (i.spot ≡ bounded_spot v (plus b.cost w) g)
+
+-- The candidates have just what the arcs give that lead on from the spots of which P holds, each with the node from which it came.
+pub record FollowsAll (net : Network) (t : ℕ) (P : Spot → Type 0) (candidates : List Item) : Type 0 where
+  pub come : (i : Item) → Contains candidates i → (x : Spot) × P x × IsGivenFrom net t x i.spot × (i.from ≡ x.node)
+  pub all : (x : Spot) → P x → (b : IsBounded net t x) (k v : ℕ) (w g : List ℕ) → Leads net k x.node w v → IsBound net v t g
+      → (i : Item) × Contains candidates i × (i.spot ≡ bounded_spot v (plus b.cost w) g)

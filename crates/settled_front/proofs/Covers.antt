@@ -1,17 +1,15 @@
 -- Which costs are covered by lists of costs, and by blocks of them.
 use Rattle.std.proofs.Common.{◌≡◌, ◌↔◌, ◌⊎◌, ℕ, zero, suc, ◌+◌, ◌*◌, ◌/◌, ◌<◌, ◌≤◌, Bool, true, false, ◌||◌, List, [], ◌∷◌, ◌++◌, length}
-use Rattle.std.proofs.Common.{map, set, take, drop, length-take, get_or, inl, inr, refl, sym, ap, subst, ◌∙◌, arith}
-use Rattle.std.specs.Int.{from_bool}
-use Rattle.std.specs.Prelude.{All, Contains, IsTrue}
-use Rattle.std.proofs.Math.Nat.{add-zero}
+use Rattle.std.proofs.Common.{map, take, get_or, inl, inr, refl, sym, ap, subst, ◌∙◌, arith}
+use Rattle.std.specs.Prelude.{All, IsTrue}
 use Rattle.std.proofs.lemmas.Bool.{cases_lt, false≢true}
-use Rattle.std.proofs.lemmas.List.{drop_more, get_or-take, map-append, take-set, take_more, take_more_set}
-use Rattle.std.proofs.lemmas.List.Elements.{All-cons, All-nil, Contains-append_left, Contains-append_right, Contains-append_cases}
+use Rattle.std.proofs.lemmas.List.{map-append, take_more}
+use Rattle.std.proofs.lemmas.List.Elements.{Contains-append_left, Contains-append_right, Contains-append_cases}
 use Rattle.cost_vector.specs.Costs.{AtMost}
 use Rattle.cost_vector.proofs.Vectors.{AtMost-trans}
-use Rattle.list_laws.proofs.Members.{all_from_in, cases_push, in_none, in_first, in_one, each_in}
+use Rattle.list_laws.proofs.Members.{in_none, in_first, in_one, each_in}
 use Rattle.settled_front.specs.Fronts.{IsCovered}
-use Rattle.settled_front.specs.Corners.{AreReached, CoversBetween, HaveCorners, HaveWideCorners, in_blocks}
+use Rattle.settled_front.specs.Corners.{CoversBetween, HaveCorners, HaveWideCorners, in_blocks}
 
 -- nothing covers in an empty list
 covered_none : (c : List ℕ) → ¬ IsCovered [] c
@@ -88,7 +86,16 @@ module _ {blocks : List (List (List ℕ))} {c : List ℕ} where
     | inr behind ↦ far (record { block = h.block; from = behind; before = h.before; covered = h.covered })
   ]
 
-  -- none of eight blocks does whose wide corner isn't at most c, where none behind them does
+  -- none does from a block on that doesn't, where none behind it does
+  pub none_at : (k end : ℕ) → ¬ IsCovered (get_or blocks k []) c → ¬ CoversBetween blocks (k + 1) end c → ¬ CoversBetween blocks k end c
+  none_at k end here = none_more k (k + 1) end (λ h. here (subst (λ j. IsCovered (get_or blocks j []) c) (omega (arith, h.from, h.before)) h.covered))
+
+  -- a block whose corner isn't at most c doesn't cover
+  pub passed_over : {corners : List (List ℕ)} → HaveCorners blocks corners → (k : ℕ) → k < length blocks → ¬ AtMost (get_or corners k []) c
+      → ¬ IsCovered (get_or blocks k []) c
+  passed_over {corners} have k within = ruled_out (get_or corners k []) (get_or blocks k []) c (have.at_most k within)
+
+  -- nor do eight blocks whose wide corner isn't, where none behind them does
   pub none_at_wide : {corners : List (List ℕ)} → HaveWideCorners blocks corners → (k end : ℕ) → end ≤ length blocks → ¬ AtMost (get_or corners k []) c
       → ¬ CoversBetween blocks ((k + 1) * 8) end c → ¬ CoversBetween blocks (k * 8) end c
   none_at_wide {corners} have k end within above behind h = elim (cases_lt h.block ((k + 1) * 8)) [
@@ -98,82 +105,3 @@ module _ {blocks : List (List (List ℕ))} {c : List ℕ} where
         (subst (λ j. ¬ AtMost (get_or corners j []) c) (sym of_this) above) h.covered
     | inr far ↦ behind (record { block = h.block; from = far; before = h.before; covered = h.covered })
   ]
-
--- ---- places whose corner is at most a cost
-
-module _ (corners : List (List ℕ)) (start : ℕ) (c : List ℕ) where
-  pub reached_none : AreReached corners start start c []
-  reached_none = record {
-    between = All-nil (λ (j : ℕ). (start ≤ j) × (j < start));
-    at_most = All-nil (λ (j : ℕ). AtMost (get_or corners j []) c);
-    all = λ j from before. absurd (omega (arith, from, before));
-  }
-
-  module _ (i : ℕ) (places : List ℕ) (is : AreReached corners start i c places) (from : start ≤ i) where
-    -- one place more
-    reached_more : AtMost (get_or corners i []) c → AreReached corners start (i + 1) c (places ++ i ∷ [])
-    reached_more below = record {
-      between = all_from_in (λ (j : ℕ). (start ≤ j) × (j < i + 1)) (places ++ i ∷ []) (λ j h. elim (cases_push places i j h) [
-        | inl old ↦ let b = each_in (λ (k : ℕ). (start ≤ k) × (k < i)) places is.between j old in (b.0, omega (arith, b.1))
-        | inr last ↦ (omega (arith, last, from), omega (arith, last))
-      ]);
-      at_most = all_from_in (λ (j : ℕ). AtMost (get_or corners j []) c) (places ++ i ∷ []) (λ j h. elim (cases_push places i j h) [
-        | inl old ↦ each_in (λ (k : ℕ). AtMost (get_or corners k []) c) places is.at_most j old
-        | inr last ↦ subst (λ (k : ℕ). AtMost (get_or corners k []) c) (sym last) below
-      ]);
-      all = λ j after before low. elim (cases_lt j i) [
-        | inl old ↦ Contains-append_left places (i ∷ []) j (is.all j after old low)
-        | inr new ↦
-            let same : i ≡ j = omega (arith, before, new) in
-            subst (Contains (places ++ i ∷ [])) same (Contains-append_right places (i ∷ []) i (in_first i []))
-      ];
-    }
-
-    reached_not : ¬ AtMost (get_or corners i []) c → AreReached corners start (i + 1) c places
-    reached_not not_below = record {
-      between = all_from_in (λ (j : ℕ). (start ≤ j) × (j < i + 1)) places (λ j h.
-          let b = each_in (λ (k : ℕ). (start ≤ k) × (k < i)) places is.between j h in (b.0, omega (arith, b.1)));
-      at_most = is.at_most;
-      all = λ j after before low. elim (cases_lt j i) [
-        | inl old ↦ is.all j after old low
-        | inr new ↦
-            let same : j ≡ i = omega (arith, before, new) in
-            absurd (not_below (subst (λ (k : ℕ). AtMost (get_or corners k []) c) same low))
-      ];
-    }
-
-  -- the next place is listed, or not
-  pub reached_next : (i count : ℕ) (places : List ℕ) (corner : List ℕ) (b : Bool) → AreReached corners start i c (take count places) → start ≤ i
-      → count < length places → get_or corners i [] ≡ corner → IsTrue b ↔ AtMost corner c
-      → AreReached corners start (i + 1) c (take (count + from_bool b) (set places count i))
-  reached_next i count places corner true is from room at tells =
-      rw (take_more_set places count i room) (reached_more i (take count places) is from (subst (λ x. AtMost x c) (sym at) (tells.0 refl)))
-  reached_next i count places corner false is from room at tells =
-      rw (add-zero count, take-set places count i)
-      (reached_not i (take count places) is from (λ low. false≢true (tells.1 (subst (λ x. AtMost x c) at low))))
-
--- where none covers c of the blocks whose corner is at most it, none does
-pub none_covers : (blocks : List (List (List ℕ))) (corners : List (List ℕ)) (start end : ℕ) (c : List ℕ) (places : List ℕ) → HaveCorners blocks corners
-    → end ≤ length blocks → AreReached corners start end c places → All (λ j. ¬ IsCovered (get_or blocks j []) c) places → ¬ CoversBetween blocks start end c
-none_covers blocks corners start end c places have within is none h =
-    let j = h.block in
-    let by = h.covered.by in
-    let below = each_in (AtMost (get_or corners j [])) (get_or blocks j []) (have.at_most j (omega (arith, within, h.before))) by h.covered.contains in
-    let there = is.all j h.from h.before (AtMost-trans (get_or corners j []) by c below h.covered.at_most) in
-    each_in (λ (k : ℕ). ¬ IsCovered (get_or blocks k []) c) places none j there h.covered
-
--- one place that is listed
-pub reached_at : (corners : List (List ℕ)) (start end : ℕ) (c : List ℕ) (places : List ℕ) (count k : ℕ) → AreReached corners start end c (take count places)
-    → k < count → count ≤ length places → (start ≤ get_or places k 0) × (get_or places k 0 < end)
-reached_at corners start end c places count k is before short =
-    subst (λ (n : ℕ). (start ≤ n) × (n < end)) (get_or-take count places k 0 before)
-    (is.between k 0 (omega (arith, before, short, length-take count places)))
-
--- none of the places from k on, nor the one before them
-pub none_from : (Covers : ℕ → Type 0) (places : List ℕ) (count k : ℕ) → k < count → count ≤ length places → ¬ Covers (get_or places k 0)
-    → All (λ j. ¬ Covers j) (drop (k + 1) (take count places)) → All (λ j. ¬ Covers j) (drop k (take count places))
-none_from Covers places count k before short not_here none =
-    let inside : k < length (take count places) = omega (arith, before, short, length-take count places) in
-    subst (All (λ j. ¬ Covers j)) (sym (drop_more (take count places) k 0 inside))
-    (All-cons (λ j. ¬ Covers j) (get_or (take count places) k 0) (drop (k + 1) (take count places))
-    (subst (λ (j : ℕ). ¬ Covers j) (sym (get_or-take count places k 0 before)) not_here) none)

@@ -1,5 +1,5 @@
 -- Blocks of costs with their corners, of which the front of a node under 3 or 4 criteria is made.
-use Rattle.std.specs.Prelude.{◌≡◌, ◌≢◌, ℕ, ◌+◌, ◌/◌, ◌<◌, ◌≤◌, ◌++◌, List, [], length, slice_index_or, All, AllPairs, Contains}
+use Rattle.std.specs.Prelude.{◌≡◌, ◌≢◌, ℕ, ◌+◌, ◌/◌, ◌<◌, ◌≤◌, ◌++◌, List, [], length, slice_index_or, All, AllPairs}
 use Rattle.std.specs.List.{flat_map}
 use Rattle.cost_vector.specs.Costs.{AtMost, min_criteria}
 use Rattle.settled_front.specs.Blocks.{block_size}
@@ -22,12 +22,6 @@ pub record HaveCorners (blocks : List (List (List ℕ))) (corners : List (List �
 pub record HaveWideCorners (blocks : List (List (List ℕ))) (corners : List (List ℕ)) : Type 0 where
   pub as_many : length corners ≡ (length blocks + 7) / wide_size
   pub at_most : (k : ℕ) → k < length blocks → All (AtMost (slice_index_or corners (k / wide_size) [])) (slice_index_or blocks k [])
-
--- the list has exactly the places from start on and before the end at which the corner is at most c
-pub record AreReached (corners : List (List ℕ)) (start end : ℕ) (c : List ℕ) (places : List ℕ) : Type 0 where
-  pub between : All (λ j. (start ≤ j) × (j < end)) places
-  pub at_most : All (λ j. AtMost (slice_index_or corners j []) c) places
-  pub all : (j : ℕ) → start ≤ j → j < end → AtMost (slice_index_or corners j []) c → Contains places j
 
 -- full blocks of costs of at least two components, with their corners of both kinds
 pub record AreCornered (d : ℕ) (blocks : List (List (List ℕ))) (corners wide_corners : List (List ℕ)) : Type 0 where

@@ -1,7 +1,7 @@
-ghost use Rattle.std.specs.Prelude.{◌≡◌, ◌+◌, ◌*◌, ◌/◌, ◌%◌, ◌≤◌, ◌<◌, ◌↔◌, ◌++◌, ◌∷◌, ℕ, List, [], drop, length, map, take, All, IfOk, IsPermutation, IsTrue, OnErr, vec_len, vec_capacity};
+ghost use Rattle.std.specs.Prelude.{◌≡◌, ◌+◌, ◌*◌, ◌/◌, ◌%◌, ◌≤◌, ◌<◌, ◌↔◌, ◌++◌, ◌∷◌, ℕ, List, [], drop, length, map, All, IfOk, IsPermutation, IsTrue, OnErr, vec_len, vec_capacity};
 ghost use Rattle.cost_vector.specs.Costs.{AtMost, min_criteria};
 ghost use Rattle.settled_front.specs.Blocks.{block_size};
-ghost use Rattle.settled_front.specs.Corners.{AreCornered, AreReached, CoversBetween, HasRoom, HaveCorners, HaveWideCorners, in_blocks, wide_size};
+ghost use Rattle.settled_front.specs.Corners.{AreCornered, CoversBetween, HasRoom, HaveCorners, HaveWideCorners, in_blocks, wide_size};
 ghost use Rattle.settled_front.specs.Fronts.{IsCovered};
 
 use crate::block::{BLOCK, CostBlock};
@@ -132,7 +132,7 @@ fn blocks_cover<const D: usize, B: CostBlock<D>>(
     false
 }
 
-/// Whether some cost of at most eight blocks, from a place on and before another, is at most this one.
+/// Whether some cost of the blocks from a place on, and before another, is at most this one.
 fn part_covers<const D: usize, B: CostBlock<D>>(
     blocks: &[B],
     corners: &[B::Cost],
@@ -141,43 +141,16 @@ fn part_covers<const D: usize, B: CostBlock<D>>(
     cost: &B::Cost,
 ) -> bool
     requires cornered { HaveCorners (map B.costs blocks.now) (map B.Cost.components corners.now) }
-    requires ordered { start ≤ end }
-    requires few { end ≤ start + wide_size }
     requires within { end ≤ length blocks.now }
     ensures { IsTrue result ↔ CoversBetween (map B.costs blocks.now)
         start end (B.Cost.components cost.now) }
 {
-    let (places, count) = list_reached(corners, start, end, cost);
-    for k in (0..count).rev() {
-        if blocks[places[k]].covers(cost) {
+    for i in (start..end).rev() {
+        if corners[i].at_most(cost) && blocks[i].covers(cost) {
             return true;
         }
     }
     false
-}
-
-/// The places of at most eight corners, from one on and before another, at which they are at most this cost; and how many these
-/// are. They are listed without a branch, since which ones they are couldn't be foreseen.
-fn list_reached<const D: usize, C: StoredCost<D>>(
-    corners: &[C],
-    start: usize,
-    end: usize,
-    cost: &C,
-) -> ([usize; WIDTH], usize)
-    requires ordered { start ≤ end }
-    requires few { end ≤ start + wide_size }
-    requires within { end ≤ length corners.now }
-    ensures few { result.1 ≤ wide_size }
-    ensures reached { AreReached (map C.components corners.now) start end
-        (C.components cost.now) (take result.1 result.0) }
-{
-    let mut places = [0; WIDTH];
-    let mut count = 0;
-    for i in start..end {
-        places[count] = i;
-        count += usize::from(corners[i].at_most(cost));
-    }
-    (places, count)
 }
 
 /// The greatest cost that is at most each of these.

@@ -1,13 +1,14 @@
 -- The order of spots, and lists in this order.
-use Rattle.std.proofs.Common.{◌≡◌, ℕ, ◌+◌, ◌<◌, ◌≤◌, Bool, true, false, List, [], ◌∷◌, take, drop, get_or, length, map, length-take, length-drop, ◌⊎◌, ◌↔◌, inl, inr, refl, sym, ap, ap₂, subst, ◌∙◌, arith, Less, Equal, Greater, ◌-◌, ◌*◌, ◌/◌}
+use Rattle.std.proofs.Common.{◌≡◌, ℕ, length-take-le, ◌+◌, ◌-◌, ◌*◌, ◌/◌, ◌<◌, ◌≤◌, Bool, true, false, List, take, drop, get_or, length, map, length-take, length-drop, ◌⊎◌, ◌↔◌, inl, inr, refl, sym, ap, ap₂, subst, ◌∙◌, arith, Less, Equal, Greater}
 use Rattle.std.specs.declared.cmp.Ordering.{Ordering}
 use Rattle.std.specs.Ordering.{nat_cmp, ordering_then, ordering_reverse, is_lt, is_eq}
 use Rattle.std.specs.Cmp.{IsTotalOrder, nat_cmp_total}
 use Rattle.std.specs.Cmp.Lexicographic.{nat_list_cmp_total}
 use Rattle.std.specs.Prelude.{All, AllPairs, IsTrue}
 use Rattle.std.specs.List.Sorted.{IsSorted}
+use Rattle.std.proofs.Math.Nat.{add-zero}
 use Rattle.std.proofs.lemmas.Bool.{false≢true, cases_lt}
-use Rattle.std.proofs.lemmas.List.{get_or-map, get_or-take, get_or-drop, get_or_default, length-map}
+use Rattle.std.proofs.lemmas.List.{take-take, get_or-map, get_or-take, get_or-drop, get_or_default, length-map}
 use Rattle.std.proofs.lemmas.List.Sorted.{sorted_far, ranks_by}
 use Rattle.std.proofs.lemmas.Bool.Decides.{nat_tests}
 use Rattle.std.proofs.lemmas.Cmp.{tied_itself, then_total, on_total}
@@ -18,7 +19,7 @@ use Rattle.waiting_queue.specs.declared.item.Item.{Item}
 use Rattle.waiting_queue.specs.Passing.{IsSplit}
 use Rattle.waiting_queue.specs.Shadows.{SplitsAt}
 use Rattle.waiting_queue.specs.Taking.{AreSorted}
-use Rattle.waiting_queue.specs.Waiting.{Spot, SpotLess, first_of, spot_cmp, spot_in}
+use Rattle.waiting_queue.specs.Waiting.{Spot, SpotLess, spot_cmp, spot_in}
 
 -- ---- spots
 
@@ -139,6 +140,18 @@ module _ {X : Type 0} (P Q : X → Type 0) (xs : List X) where
       let short : k < length xs = omega (arith, below, within) in
       subst P (get_or_default xs k d e short ∙ sym (get_or-take (m + 1) xs k e below)) (first k m (omega arith) within holds)
 
+  -- and Q from one on of which that holds
+  pub holds_from : (m : ℕ) (d : X) → m < length xs → ((i j : ℕ) → i ≤ j → j < length xs → Q (get_or xs i d) → Q (get_or xs j d)) → Q (get_or xs m d)
+      → All Q (drop m xs)
+  holds_from m d within last holds = λ k e inside.
+      let short : m + k < length xs = omega (arith, length-drop m xs, inside) in
+      subst Q (get_or_default xs (m + k) d e short ∙ sym (get_or-drop m xs k e)) (last m (m + k) (omega arith) short holds)
+
+  -- the search has ended
+  pub splits_at : (i j : ℕ) → j ≤ i → i ≤ j → i ≤ length xs → All P (take i xs) → All Q (drop j xs) → SplitsAt P Q xs i
+  splits_at i j low high within before after =
+      let same : j ≡ i = omega arith in record { within = within; before = before; after = subst (λ n. All Q (drop n xs)) same after }
+
 -- Only so many elements from the start on are left to search: P holds of those before, and Q of those behind.
 pub record IsLeft {X : Type 0} (P Q : X → Type 0) (xs : List X) (start size : ℕ) : Type 0 where
   pub within : start + size ≤ length xs
@@ -154,14 +167,6 @@ module _ {X : Type 0} (P Q : X → Type 0) (xs : List X) where
   -- a number that tells whether P holds, or Q
   abbrev pub Tells : X → ℕ → Type 0
   Tells x bit = (P x × (bit ≡ 1)) ⊎ (Q x × (bit ≡ 0))
-
-  -- the search has ended
-  pub none_left : (start size : ℕ) → IsLeft P Q xs start size → size ≤ 0 → SplitsAt P Q xs start
-  none_left start size is none = record {
-    within = omega (arith, is.within);
-    before = is.before;
-    after = subst (λ n. All Q (drop n xs)) (omega (arith, none)) is.after;
-  }
 
   -- of those that are left, the earlier half goes or the later one
   pub left_halved : Turns → (start size : ℕ) (x : X) (bit : ℕ) → IsLeft P Q xs start size → 0 < size → x ≡ get_or xs (start + (size - size / 2) - 1) x
@@ -200,19 +205,6 @@ all_more P xs i x within at all holds = λ k e inside.
       | inr last ↦ let same : i ≡ k = omega arith in subst (λ j. P (get_or xs j e)) same (subst P (at ∙ get_or_default xs i x e within) holds)
     ])
 
--- a lesser first component decides
-less_in_first : (a b : List ℕ) → first_of a < first_of b → LexLess a b
-less_in_first [] [] less = absurd (omega (arith, less))
-less_in_first [] (y ∷ ys) less = refl
-less_in_first (x ∷ xs) [] less = absurd (omega (arith, less))
-less_in_first (x ∷ xs) (y ∷ ys) less = ap (λ o. ordering_then o (lex_cmp xs ys)) (nat_less x y less)
-  where
-    nat_less : (x y : ℕ) → x < y → nat_cmp x y ≡ Less
-    nat_less x y h = grind (arith, nat_tests)
-
-less_by_first : (s t : Spot) → first_of s.cost < first_of t.cost → SpotLess s t
-less_by_first s t less = ap (λ o. ordering_then o (nat_cmp s.node t.node)) (less_in_first s.cost t.cost less)
-
 module _ {C : Type 0} (components : C → List ℕ) (xs : List (Item C)) (sorted : AreSorted (spot_in components) xs) (s : Spot) where
   -- what comes before s stands before what doesn't
   pub lesser_first : (i j : ℕ) (d : Item C) → i ≤ j → j < length xs → SpotLess (spot_in components (get_or xs j d)) s
@@ -228,30 +220,24 @@ module _ {C : Type 0} (components : C → List ℕ) (xs : List (Item C)) (sorted
         | inr same ↦ let e : j ≡ i = omega arith in subst (λ k. SpotLess (spot_in components (get_or xs k d)) s) e less
       ]
 
-  -- first components rise
-  pub firsts_rise : (i j : ℕ) (d : Item C) → i ≤ j → j < length xs
-      → first_of (components (get_or xs i d).cost) ≤ first_of (components (get_or xs j d).cost)
-  firsts_rise i j d up within = elim (cases_lt i j) [
-    | inl before ↦ elim (cases_lt (first_of (components (get_or xs j d).cost)) (first_of (components (get_or xs i d).cost))) [
-      | inl less ↦ absurd (sorted i j d before within (less_by_first (spot_in components (get_or xs j d)) (spot_in components (get_or xs i d)) less))
-      | inr not_less ↦ not_less
-    ]
-    | inr same ↦ let e : j ≡ i = omega arith in rw e (omega arith)
-  ]
-
-  -- where the first i come before s, and the next doesn't, no other does
-  pub splits_here : (i : ℕ) → i ≤ length xs → All (λ x. SpotLess (spot_in components x) s) (take i xs)
-      → (i < length xs → (x : Item C) × (x ≡ get_or xs i x) × ¬ SpotLess (spot_in components x) s) → IsSplit (spot_in components) xs s i
-  splits_here i within before next = record {
-    within = within;
-    before = before;
-    after = λ k d inside less.
-        let there : i + k < length xs = omega (arith, inside, length-drop i xs) in
-        let here : i < length xs = omega (arith, there) in
-        let n = next here in
-        n.2 (subst (λ y. SpotLess (spot_in components y) s) (get_or_default xs i d n.0 here ∙ sym n.1)
-        (lesser_first i (i + k) d (omega arith) there (subst (λ y. SpotLess (spot_in components y) s) (get_or-drop i xs k d) less)));
+  -- where the first items split before their end, all do
+  pub split_by_near : (n i : ℕ) → IsSplit (spot_in components) (take n xs) s i → i < length (take n xs) → IsSplit (spot_in components) xs s i
+  split_by_near n i near inside = record {
+    within = omega (arith, inside, length-take-le n xs, length-take n xs);
+    before = subst (All (λ x. SpotLess (spot_in components x) s)) (take-take i n xs (omega (arith, inside, length-take n xs))) near.before;
+    after = λ k d short less.
+        let within_too : i + k < length xs = omega (arith, short, length-drop i xs) in
+        first_not_less d (lesser_first i (i + k) d (omega arith) within_too (subst (λ y. SpotLess (spot_in components y) s) (get_or-drop i xs k d) less));
   }
+    where
+      in_near : i < n
+      in_near = omega (arith, inside, length-take n xs)
+
+      first_not_less : (d : Item C) → ¬ SpotLess (spot_in components (get_or xs i d)) s
+      first_not_less d less =
+          near.after 0 d (omega (arith, inside, length-drop i (take n xs)))
+          (subst (λ y. SpotLess (spot_in components y) s)
+          (sym (get_or-drop i (take n xs) 0 d ∙ ap (λ j. get_or (take n xs) j d) (add-zero i) ∙ get_or-take n xs i d in_near)) less)
 
 -- where two lists are seen as the same ones, what holds of any two of the one holds of any two of the other
 pub pairs_as : {X Y Z : Type 0} (f : X → Z) (g : Y → Z) (R : Z → Z → Type 0) (xs : List X) (ys : List Y) → map g ys ≡ map f xs

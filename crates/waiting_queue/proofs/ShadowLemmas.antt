@@ -82,7 +82,7 @@ loses_by_without P before after w x = (
 
 -- ---- a list is gone through, and what stays moves up
 
-pub in_removed : {X : Type 0} (xs : List X) (i : ℕ) (x : X) → Contains (remove xs i) x → Contains xs x
+in_removed : {X : Type 0} (xs : List X) (i : ℕ) (x : X) → Contains (remove xs i) x → Contains xs x
 in_removed xs i x h = elim ((in_append (take i xs) (drop (suc i) xs) x).0 h) [
   | inl front ↦ (in_parts xs i x).1 (inl front)
   | inr back ↦ (in_parts xs (suc i) x).1 (inr back)

@@ -1,5 +1,5 @@
 -- What waits in a search, and its order.
-use Rattle.std.specs.Prelude.{◌≡◌, ℕ, ◌≤◌, List, slice_index}
+use Rattle.std.specs.Prelude.{◌≡◌, ℕ, ◌≤◌, List}
 use Rattle.std.specs.declared.cmp.Ordering.{Ordering}
 use Rattle.std.specs.declared.cmp.Ordering.TheVariants.{Less}
 use Rattle.std.specs.Ordering.{nat_cmp, ordering_then}
@@ -9,10 +9,6 @@ use Rattle.waiting_queue.specs.declared.item.Item.{Item}
 -- so many criteria are allowed
 abbrev pub AreCriteria : ℕ → Type 0
 AreCriteria d = (min_criteria ≤ d) × (d ≤ max_criteria)
-
--- the first component
-abbrev pub first_of : List ℕ → ℕ
-first_of c = slice_index c 0
 
 -- a node, reached at a cost
 pub record Spot : Type 0 where

@@ -72,7 +72,6 @@ pub(crate) fn cut_ranges<'q, const D: usize, C: StoredCost<D>>(
     fresh: &'q [Item<C>],
     count: usize,
 ) -> Result<Vec<Range<'q, C>>, OutOfMemory>
-    requires criteria { AreCriteria D }
     requires some { 1 ≤ count }
     requires sorted { AreSorted (spot_in C.components) items.now }
     requires fresh_sorted { AreSorted (spot_in C.components) fresh.now }
@@ -100,7 +99,6 @@ pub(crate) fn cut_ranges<'q, const D: usize, C: StoredCost<D>>(
 
 /// How many of the items come before all others of a sorted list.
 fn count_until<const D: usize, C: StoredCost<D>>(items: &[Item<C>], others: &[Item<C>]) -> usize
-    requires criteria { AreCriteria D }
     requires sorted { AreSorted (spot_in C.components) items.now }
     requires others_sorted { AreSorted (spot_in C.components) others.now }
     ensures { IsCut C.components items.now others.now result }

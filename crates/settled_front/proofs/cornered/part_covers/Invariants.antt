@@ -1,8 +1,7 @@
-use Rattle.std.proofs.Common.{drop, get_or, map, take, []}
-use Rattle.std.specs.Prelude.{All}
-use Rattle.settled_front.specs.Fronts.{IsCovered}
+use Rattle.std.proofs.Common.{map}
+use Rattle.settled_front.specs.Corners.{CoversBetween}
 use Rattle.settled_front.proofs.cornered.part_covers.Given as goal
 
-abbrev pub invariant-loop-k : goal.invariant-loop-k
-invariant-loop-k g l =
-    All (λ j. ¬ IsCovered (get_or (map g.B.CostBlock.costs l.blocks) j []) (g.B.Cost.StoredCost.components l.cost)) (drop l.k (take l.count l.places))
+abbrev pub invariant-loop-i : goal.invariant-loop-i
+invariant-loop-i g l =
+    ¬ CoversBetween (map g.B.CostBlock.costs l.blocks) l.i l.end (g.B.Cost.StoredCost.components l.cost)

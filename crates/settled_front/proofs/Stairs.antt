@@ -1,13 +1,14 @@
 -- Costs of two components that stand as a staircase.
-use Rattle.std.proofs.Common.{◌≡◌, ◌≢◌, ◌↔◌, ◌⊎◌, ℕ, zero, suc, ◌+◌, ◌-◌, ◌<◌, ◌≤◌, List, [], ◌∷◌, length, map, take, drop, get_or, inl, inr, sym, ap, subst, ◌∙◌, arith, Less, true, false, nat_le}
+use Rattle.std.proofs.Common.{◌≡◌, ◌≢◌, ◌↔◌, ◌⊎◌, ℕ, zero, suc, ◌+◌, ◌-◌, ◌*◌, ◌/◌, ◌<◌, ◌≤◌, List, [], ◌∷◌, length, map, take, drop, get_or, inl, inr, sym, ap, subst, ◌∙◌, arith, Less, Some}
 use Rattle.std.specs.Prelude.{All, AllPairs, Contains}
-use Rattle.std.specs.List.{insert}
-use Rattle.std.specs.List.Sorted.{IsPartitionPoint, IsNonDecreasingBy}
+use Rattle.std.specs.List.{insert, slice_get}
+use Rattle.std.specs.List.Sorted.{IsNonDecreasingBy}
 use Rattle.std.specs.Ordering.{nat_cmp, ordering_then}
-use Rattle.std.proofs.lemmas.Bool.{cases_lt, leb-true, leb-false}
+use Rattle.std.proofs.lemmas.Option.{get_or_from_slice_get}
+use Rattle.std.proofs.lemmas.Bool.{cases_lt}
 use Rattle.std.proofs.lemmas.Bool.Decides.{nat_tests}
-use Rattle.std.proofs.lemmas.List.{drop-map, get_or-take, get_or-drop, length-take, length-drop, length-map, take-map, get_or_default, get_or-map}
-use Rattle.std.proofs.lemmas.List.Elements.{All-append, All-cons, All-drop, All-take, All-map, AllZip-get_or, Contains-get_or}
+use Rattle.std.proofs.lemmas.List.{drop-map, get_or-take, get_or-drop, length-take, length-drop, length-map, take-map, get_or_default, get_or-map, take_all}
+use Rattle.std.proofs.lemmas.List.Elements.{All-append, All-nil, All-cons, All-drop, All-take, All-map, AllZip-get_or, Contains-get_or}
 use Rattle.cost_vector.specs.Costs.{AtMost, Dominates, LexLess, lex_cmp}
 use Rattle.cost_vector.proofs.Components.{AtMost_from_places}
 use Rattle.list_laws.proofs.Members.{cases_in}
@@ -57,17 +58,97 @@ firsts_rise f xs s = λ i j d up within. elim (cases_lt i j) [
   | inr same ↦ let e : i ≡ j = omega arith in rw e (omega arith)
 ]
 
--- a cut by a test of the first component
-pub up_to_cut : {X : Type 0} (f : X → List ℕ) (xs : List X) (t i : ℕ) → i ≤ length xs
-    → IsPartitionPoint (λ x. nat_le (first (f x)) t ≡ true) (λ x. nat_le (first (f x)) t ≡ false) xs i → IsUpTo (map f xs) t i
-up_to_cut f xs t i within cut = record {
-  within = omega (arith, within, length-map xs f);
-  before = rw (take-map f i xs) (All-map (λ (c : List ℕ). first c ≤ t) f (take i xs) (λ k d inside.
-      let below : k < i = omega (arith, length-take i xs, inside) in
-      rw (get_or-take i xs k d below) (leb-true _ _ (cut.0 k d (omega arith) below))));
-  after = rw (drop-map f i xs) (All-map (λ (c : List ℕ). t < first c) f (drop i xs) (λ k d inside.
-      rw (get_or-drop i xs k d) (leb-false _ _ (cut.1 (i + k) d (omega arith) (omega (arith, length-drop i xs, inside))))));
-}
+module _ {X : Type 0} (f : X → List ℕ) (xs : List X) (s : IsStaircase (map f xs)) (x : X) (t : ℕ) where
+  -- no first component is at most one that is less than the least
+  pub none_up_to : Some x ≡ slice_get xs 0 → t < first (f x) → IsUpTo (map f xs) t 0
+  none_up_to is less = record {
+    within = omega arith;
+    before = All-nil (λ (c : List ℕ). first c ≤ t);
+    after = All-map (λ (c : List ℕ). t < first c) f xs (λ k e inside.
+        let least = subst (λ y. t < first (f y)) (sym (get_or_from_slice_get xs 0 x e (sym is))) less in
+        omega (arith, least, firsts_rise f xs s 0 k e (omega arith) inside));
+  }
+
+  -- all are at most one that is no less than the greatest
+  pub all_up_to : Some x ≡ slice_get xs (length xs - 1) → first (f x) ≤ t → IsUpTo (map f xs) t (length xs)
+  all_up_to is below = record {
+    within = omega (arith, length-map xs f);
+    before = rw (take_all (length xs) (map f xs) (omega (arith, length-map xs f))) (All-map (λ (c : List ℕ). first c ≤ t) f xs (λ k e inside.
+        let greatest = subst (λ y. first (f y) ≤ t) (sym (get_or_from_slice_get xs (length xs - 1) x e (sym is))) below in
+        omega (arith, greatest, firsts_rise f xs s k (length xs - 1) e (omega (arith, inside)) (omega (arith, inside)))));
+    after = λ k e inside. absurd (omega (arith, inside, length-drop (length xs) (map f xs), length-map xs f));
+  }
+
+-- of the costs, only as many as the size before the end are left to search: those before have a first component of at most t, and those
+-- behind a greater one
+pub record IsLeft {X : Type 0} (f : X → List ℕ) (xs : List X) (t end size : ℕ) : Type 0 where
+  pub some : 0 < size
+  pub within : end ≤ length xs
+  pub left : size ≤ end
+  pub above : All (λ x. t < first (f x)) (drop end xs)
+  pub below : All (λ x. first (f x) ≤ t) (take (end - size) xs)
+
+module _ {X : Type 0} (f : X → List ℕ) (xs : List X) (s : IsStaircase (map f xs)) (t : ℕ) where
+  -- from a greater one on all are greater
+  rises_from : (i : ℕ) (x : X) → i < length xs → x ≡ get_or xs i x → t < first (f x) → All (λ y. t < first (f y)) (drop i xs)
+  rises_from i x within is greater = λ k e inside.
+      let there : i + k < length xs = omega (arith, inside, length-drop i xs) in
+      let here = subst (λ y. t < first (f y)) (is ∙ get_or_default xs i x e within) greater in
+      rw (get_or-drop i xs k e) (omega (arith, here, firsts_rise f xs s i (i + k) e (omega arith) there))
+
+  -- and up to one that isn't, none is
+  rises_to : (n i : ℕ) (x : X) → n ≤ i + 1 → i < length xs → x ≡ get_or xs i x → first (f x) ≤ t → All (λ y. first (f y) ≤ t) (take n xs)
+  rises_to n i x near within is not_greater = λ k e inside.
+      let short : k < n = omega (arith, inside, length-take n xs) in
+      let here = subst (λ y. first (f y) ≤ t) (is ∙ get_or_default xs i x e within) not_greater in
+      rw (get_or-take n xs k e short) (omega (arith, here, firsts_rise f xs s k i e (omega (arith, near, short)) within))
+
+  -- a number that tells whether a first component is greater
+  abbrev pub Tells : X → ℕ → Type 0
+  Tells x bit = ((t < first (f x)) × (bit ≡ 1)) ⊎ ((first (f x) ≤ t) × (bit ≡ 0))
+
+  -- of those that are left, the later half goes or the earlier one
+  pub left_halved : (end size : ℕ) (x : X) (bit : ℕ) → IsLeft f xs t end size → 1 < size → x ≡ get_or xs (end - size / 2) x → Tells x bit
+      → IsLeft f xs t (end - size / 2 * bit) (size - size / 2)
+  left_halved end size x bit is more at tells = elim tells [
+    | inl greater ↦ subst (λ b. IsLeft f xs t (end - size / 2 * b) (size - size / 2)) (sym greater.1) (record {
+      some = omega (arith, more);
+      within = omega (arith, is.within);
+      left = omega (arith, is.left);
+      above = subst (λ n. All (λ y. t < first (f y)) (drop n xs)) (omega arith) (rises_from (end - size / 2) x inside at greater.0);
+      below = subst (λ n. All (λ y. first (f y) ≤ t) (take n xs)) (omega (arith, is.left)) is.below;
+    })
+    | inr not_greater ↦ subst (λ b. IsLeft f xs t (end - size / 2 * b) (size - size / 2)) (sym not_greater.1) (record {
+      some = omega (arith, more);
+      within = omega (arith, is.within);
+      left = omega (arith, is.left);
+      above = subst (λ n. All (λ y. t < first (f y)) (drop n xs)) (omega arith) is.above;
+      below = rises_to (end - size / 2 * 0 - (size - size / 2)) (end - size / 2) x (omega (arith, is.left)) inside at not_greater.0;
+    })
+  ]
+    where
+      inside : end - size / 2 < length xs
+      inside = omega (arith, more, is.left, is.within)
+
+  -- the last one that is left decides
+  pub left_decides : (end size : ℕ) (x : X) (bit : ℕ) → IsLeft f xs t end size → size ≤ 1 → x ≡ get_or xs (end - 1) x → Tells x bit
+      → IsUpTo (map f xs) t (end - bit)
+  left_decides end size x bit is one at tells = elim tells [
+    | inl greater ↦ subst (λ b. IsUpTo (map f xs) t (end - b)) (sym greater.1) (cut_at (end - 1) (omega (arith, is.within))
+        (subst (λ n. All (λ y. first (f y) ≤ t) (take n xs)) (omega (arith, one, is.some)) is.below) (rises_from (end - 1) x inside at greater.0))
+    | inr not_greater ↦ subst (λ n. IsUpTo (map f xs) t n) (omega (arith, not_greater.1)) (cut_at end is.within
+        (rises_to end (end - 1) x (omega arith) inside at not_greater.0) is.above)
+  ]
+    where
+      inside : end - 1 < length xs
+      inside = omega (arith, is.some, is.left, is.within)
+
+      cut_at : (i : ℕ) → i ≤ length xs → All (λ y. first (f y) ≤ t) (take i xs) → All (λ y. t < first (f y)) (drop i xs) → IsUpTo (map f xs) t i
+      cut_at i within before after = record {
+        within = omega (arith, within, length-map xs f);
+        before = rw (take-map f i xs) (All-map (λ (c : List ℕ). first c ≤ t) f (take i xs) before);
+        after = rw (drop-map f i xs) (All-map (λ (c : List ℕ). t < first c) f (drop i xs) after);
+      }
 
 module _ {costs : List (List ℕ)} (s : IsStaircase costs) (c : List ℕ) (long : length c ≡ 2) (i : ℕ) (cut : IsUpTo costs (first c) i) where
   -- the cost at a place

@@ -1,4 +1,4 @@
-ghost use Rattle.std.specs.Prelude.{◌≡◌, nat_le, length, map, slice_index};
+ghost use Rattle.std.specs.Prelude.{◌≡◌, ◌<◌, length, map};
 ghost use Rattle.settled_front.specs.Staircase.{IsStaircase, IsUpTo, first};
 
 use crate::front::{NarrowFront, SettledFront};
@@ -61,18 +61,41 @@ impl<C: StoredCost<2>> SettledFront<2> for StairFront<C> {
     }
 }
 
-/// How many costs have a first component that isn't greater.
+/// How many costs have a first component that isn't greater. It is often none, as at the target, or all.
 fn up_to<C: StoredCost<2>>(costs: &[C], cost: &C) -> usize
     requires { IsStaircase (map C.components costs.now) }
     ensures long { length (C.components cost.now) ≡ 2 }
     ensures cut { IsUpTo (map C.components costs.now) (first (C.components cost.now)) result }
 {
     let first = cost.part(0).to_number();
-    costs.partition_point(
-        |e| -> bool
-            ensures { result ≡ nat_le (slice_index (C.components e.now) 0) first }
-        { e.part(0).to_number() <= first },
-    )
+    let (Some(least), Some(greatest)) = (costs.first(), costs.last()) else {
+        return 0;
+    };
+    if first < least.part(0).to_number() {
+        return 0;
+    }
+    if greatest.part(0).to_number() <= first {
+        return costs.len();
+    }
+    search_up_to(costs, cost)
+}
+
+/// How many costs have a first component that isn't greater. The search has no branch that couldn't be foreseen: of the costs that
+/// are left the later half goes where its first one is greater.
+fn search_up_to<C: StoredCost<2>>(costs: &[C], cost: &C) -> usize
+    requires stairs { IsStaircase (map C.components costs.now) }
+    requires some { 0 < length costs.now }
+    ensures cut { IsUpTo (map C.components costs.now) (first (C.components cost.now)) result }
+{
+    let first = cost.part(0);
+    let mut end = costs.len();
+    let mut size = costs.len();
+    while size > 1 {
+        let half = size / 2;
+        end -= half * first.less_bit(costs[end - half].part(0));
+        size -= half;
+    }
+    end - first.less_bit(costs[end - 1].part(0))
 }
 
 impl NarrowFront<2> for StairFront<NarrowCost<2>> {

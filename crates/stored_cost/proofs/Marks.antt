@@ -1,5 +1,5 @@
 -- The highest bit, which marks differences that wrap.
-use Rattle.std.proofs.Common.{◌≡◌, ℕ, ◌+◌, ◌-◌, ◌%◌, ◌^◌, ◌<◌, ◌↔◌, ◌⊎◌, inl, inr, bit_and, bit_or, arith}
+use Rattle.std.proofs.Common.{◌≡◌, ℕ, ◌+◌, ◌-◌, ◌%◌, ◌/◌, ◌^◌, ◌<◌, ◌≤◌, ◌↔◌, ◌⊎◌, inl, inr, bit_and, bit_or, arith}
 use Rattle.std.specs.Int.{bit_at}
 use Rattle.std.proofs.lemmas.Bool.{cases_lt}
 use Rattle.std.proofs.lemmas.Nat.Bits.{bit_at_and, bit_at_or, bit_at-lt}
@@ -46,3 +46,12 @@ marks_less-narrow self x than f g = marks_less 31 self x than _ (wraps-narrow x 
 pub marks_less-wide : (self x than : ℕ) → x < 2 ^ 63 → than < 2 ^ 63
     → (bit_at (bit_or self ((x + (2 ^ 64 - than)) % 2 ^ 64)) 63 ≡ 1) ↔ ((bit_at self 63 ≡ 1) ⊎ (x < than))
 marks_less-wide self x than f g = marks_less 63 self x than _ (wraps-wide x than f g)
+
+-- the highest bit of the difference, as a number
+pub less_or_not-narrow : (x than : ℕ) → x < 2 ^ 31 → than < 2 ^ 31 → ((x < than) × ((x + (2 ^ 32 - than)) % 2 ^ 32 / 2 ^ 31 ≡ 1))
+    ⊎ ((than ≤ x) × ((x + (2 ^ 32 - than)) % 2 ^ 32 / 2 ^ 31 ≡ 0))
+less_or_not-narrow x than f g = elim (cases_lt x than) [ inl less ↦ inl (less, omega arith) | inr above ↦ inr (above, omega arith) ]
+
+pub less_or_not-wide : (x than : ℕ) → x < 2 ^ 63 → than < 2 ^ 63 → ((x < than) × ((x + (2 ^ 64 - than)) % 2 ^ 64 / 2 ^ 63 ≡ 1))
+    ⊎ ((than ≤ x) × ((x + (2 ^ 64 - than)) % 2 ^ 64 / 2 ^ 63 ≡ 0))
+less_or_not-wide x than f g = elim (cases_lt x than) [ inl less ↦ inl (less, omega arith) | inr above ↦ inr (above, omega arith) ]

@@ -1,4 +1,4 @@
-ghost use Rattle.std.specs.Prelude.{◌≡◌, ℕ, ◌^◌, ◌<◌, ◌↔◌, ◌⊎◌, IfSome, IsSome, IsTrue};
+ghost use Rattle.std.specs.Prelude.{◌≡◌, ℕ, ◌^◌, ◌<◌, ◌≤◌, ◌↔◌, ◌⊎◌, IfSome, IsSome, IsTrue};
 ghost use Rattle.std.specs.Int.{bit_at};
 
 use std::fmt::Debug;
@@ -36,6 +36,13 @@ pub trait Part: Copy + Drop + Debug {
         requires than_fits { value than < bound }
         ensures { is_marked result ↔ (is_marked self ⊎ (value x < value than)) };
 
+    /// 1 where it is less than another component, else 0: a number to reckon with where a branch couldn't be foreseen.
+    fn less_bit(self, than: Self) -> usize
+        requires fits { value self < bound }
+        requires than_fits { value than < bound }
+        ensures { ((value self < value than) × (result ≡ 1))
+            ⊎ ((value than ≤ value self) × (result ≡ 0)) };
+
     /// What is marked where both are.
     fn marked_in_both(self, other: Self) -> Self
         ensures { is_marked result ↔ (is_marked self × is_marked other) };
@@ -72,6 +79,10 @@ impl Part for u32 {
         self | x.wrapping_sub(than)
     }
 
+    fn less_bit(self, than: u32) -> usize {
+        (self.wrapping_sub(than) >> 31) as usize
+    }
+
     fn marked_in_both(self, other: u32) -> u32 {
         self & other
     }
@@ -102,6 +113,10 @@ impl Part for u64 {
 
     fn mark_less(self, x: u64, than: u64) -> u64 {
         self | x.wrapping_sub(than)
+    }
+
+    fn less_bit(self, than: u64) -> usize {
+        (self.wrapping_sub(than) >> 63) as usize
     }
 
     fn marked_in_both(self, other: u64) -> u64 {

@@ -1,14 +1,18 @@
-use Rattle.std.proofs.Common.{rules, nat_le}
-use Rattle.std.proofs.lemmas.List.Sorted.{IsPartitionPoint-from_clause, IsPartitionedBy-leb}
+use Rattle.std.proofs.Common.{rules}
 use Rattle.settled_front.specs.Staircase.{first}
-use Rattle.settled_front.proofs.Stairs.{firsts_rise, up_to_cut}
+use Rattle.settled_front.proofs.Stairs.{all_up_to, none_up_to}
 use Rattle.settled_front.proofs.stair.up_to.Goals as goal
 
-pub returns-clause-cut : goal.returns-clause-cut
-returns-clause-cut g c =
+pub returns-then-first-to_number-clause-cut : goal.returns-then-first-to_number-clause-cut
+returns-then-first-to_number-clause-cut g c =
     let f = g.C.StoredCost.components in
     let list = c.args.costs.now in
-    let t = first (f c.args.cost.now) in
-    up_to_cut f list t _ c.partition_point.ensures.bound
-    (IsPartitionPoint-from_clause (λ x. nat_le (first (f x)) t) list _ c.partition_point.ensures.partitioned
-    (IsPartitionedBy-leb (λ x. first (f x)) list t (firsts_rise f list c.requires)) (λ a r h k. search rules))
+    let x = c.in-Some-Some.least.now in
+    none_up_to f list c.requires x (first (f c.args.cost.now)) c.in-Some-Some.ensures.value (search rules)
+
+pub returns-then-to_number-first-clause-cut : goal.returns-then-to_number-first-clause-cut
+returns-then-to_number-first-clause-cut g c =
+    let f = g.C.StoredCost.components in
+    let list = c.args.costs.now in
+    let x = c.in-Some-Some.greatest.now in
+    all_up_to f list c.requires x (first (f c.args.cost.now)) c.in-Some-Some.ensures'.value (search rules)

@@ -1,5 +1,5 @@
 -- The order of spots, and lists in this order.
-use Rattle.std.proofs.Common.{◌≡◌, ℕ, length-take-le, ◌+◌, ◌<◌, ◌≤◌, Bool, true, false, List, take, drop, get_or, length, map, length-take, length-drop, ◌⊎◌, ◌↔◌, inl, inr, refl, sym, ap, ap₂, subst, ◌∙◌, arith, Less, Equal, Greater}
+use Rattle.std.proofs.Common.{◌≡◌, ℕ, length-take-le, ◌+◌, ◌-◌, ◌*◌, ◌/◌, ◌<◌, ◌≤◌, Bool, true, false, List, take, drop, get_or, length, map, length-take, length-drop, ◌⊎◌, ◌↔◌, inl, inr, refl, sym, ap, ap₂, subst, ◌∙◌, arith, Less, Equal, Greater}
 use Rattle.std.specs.declared.cmp.Ordering.{Ordering}
 use Rattle.std.specs.Ordering.{nat_cmp, ordering_then, ordering_reverse, is_lt, is_eq}
 use Rattle.std.specs.Cmp.{IsTotalOrder, nat_cmp_total}
@@ -151,6 +151,49 @@ module _ {X : Type 0} (P Q : X → Type 0) (xs : List X) where
   pub splits_at : (i j : ℕ) → j ≤ i → i ≤ j → i ≤ length xs → All P (take i xs) → All Q (drop j xs) → SplitsAt P Q xs i
   splits_at i j low high within before after =
       let same : j ≡ i = omega arith in record { within = within; before = before; after = subst (λ n. All Q (drop n xs)) same after }
+
+-- Only so many elements from the start on are left to search: P holds of those before, and Q of those behind.
+pub record IsLeft {X : Type 0} (P Q : X → Type 0) (xs : List X) (start size : ℕ) : Type 0 where
+  pub within : start + size ≤ length xs
+  pub before : All P (take start xs)
+  pub after : All Q (drop (start + size) xs)
+
+module _ {X : Type 0} (P Q : X → Type 0) (xs : List X) where
+  -- P holds before each element of which it holds, and Q behind each of which that holds
+  abbrev pub Turns : Type 0
+  Turns = ((i j : ℕ) (d : X) → i ≤ j → j < length xs → P (get_or xs j d) → P (get_or xs i d))
+      × ((i j : ℕ) (d : X) → i ≤ j → j < length xs → Q (get_or xs i d) → Q (get_or xs j d))
+
+  -- a number that tells whether P holds, or Q
+  abbrev pub Tells : X → ℕ → Type 0
+  Tells x bit = (P x × (bit ≡ 1)) ⊎ (Q x × (bit ≡ 0))
+
+  -- of those that are left, the earlier half goes or the later one
+  pub left_halved : Turns → (start size : ℕ) (x : X) (bit : ℕ) → IsLeft P Q xs start size → 0 < size → x ≡ get_or xs (start + (size - size / 2) - 1) x
+      → Tells x bit → IsLeft P Q xs (start + (size - size / 2) * bit) (size - (size - size / 2))
+  left_halved turns start size x bit is some at tells = elim tells [
+    | inl holds ↦ subst (λ b. IsLeft P Q xs (start + (size - size / 2) * b) (size - (size - size / 2))) (sym holds.1) (record {
+      within = omega (arith, is.within);
+      before = subst (λ n. All P (take n xs)) (omega (arith, some))
+          (holds_before P Q xs m x inside (λ i j up near. turns.0 i j x up near) (subst P at holds.0));
+      after = subst (λ n. All Q (drop n xs)) (omega arith) is.after;
+    })
+    | inr fails ↦ subst (λ b. IsLeft P Q xs (start + (size - size / 2) * b) (size - (size - size / 2))) (sym fails.1) (record {
+      within = omega (arith, is.within);
+      before = subst (λ n. All P (take n xs)) (omega arith) is.before;
+      after = λ k e far.
+          let n = start + (size - size / 2) * 0 + (size - (size - size / 2)) in
+          let there : n + k < length xs = omega (arith, far, length-drop n xs) in
+          rw (get_or-drop n xs k e)
+          (turns.1 m (n + k) e (omega (arith, some)) there (subst Q (at ∙ get_or_default xs m x e inside) fails.0));
+    })
+  ]
+    where
+      m : ℕ
+      m = start + (size - size / 2) - 1
+
+      inside : m < length xs
+      inside = omega (arith, some, is.within)
 
 -- what holds of the first i and of the next
 pub all_more : {X : Type 0} (P : X → Type 0) (xs : List X) (i : ℕ) (x : X) → i < length xs → x ≡ get_or xs i x → All P (take i xs) → P x

@@ -1,20 +1,25 @@
 -- The shadow of what was taken.
-use Rattle.std.proofs.Common.{◌≡◌, ℕ, zero, suc, ◌<◌, ◌≤◌, ◌⊎◌, ◌↔◌, List, [], ◌∷◌, ◌++◌, get_or, take, drop, length, take-append-drop, inl, inr, refl, sym, ap, subst, arith, Less}
+use Rattle.std.proofs.Common.{◌≡◌, ℕ, zero, suc, ◌+◌, ◌||◌, Bool, true, false, not, IsTrue, ◌-◌, ◌∙◌, ◌<◌, ◌≤◌, ◌⊎◌, ◌↔◌, List, [], ◌∷◌, ◌++◌, get_or, set, take, drop, length, length-take, length-drop, append_assoc, subst₂, take-append-drop, inl, inr, refl, sym, ap, subst, arith, Less}
 use Rattle.std.specs.Prelude.{All, AllPairs, Contains, IsPermutation}
 use Rattle.std.specs.List.{insert, remove}
+use Rattle.std.proofs.lemmas.Option.{get_or_from_slice_get, slice_get_within}
 use Rattle.std.specs.Ordering.{nat_cmp, ordering_then}
-use Rattle.std.proofs.lemmas.Bool.{cases_lt}
+use Rattle.std.specs.Int.{from_bool}
+use Rattle.std.proofs.Math.Nat.{add-zero}
+use Rattle.std.proofs.lemmas.Bool.{cases_lt, false≢true}
 use Rattle.std.proofs.lemmas.Bool.Decides.{nat_tests}
-use Rattle.std.proofs.lemmas.List.Sorted.{IsPermutation-insert, IsPermutation-remove, IsPermutation-sym}
+use Rattle.std.proofs.lemmas.List.{append-nil, get_or_default, get_or-drop, get_or-take, drop_all, drop_more, drop-set-lt, take-set, take_more, take_more_set}
+use Rattle.std.proofs.lemmas.List.Edits.{remove-append_right}
+use Rattle.std.proofs.lemmas.List.Sorted.{IsPermutation-insert}
 use Rattle.cost_vector.specs.Costs.{AtMost, Dominates, LexLess, lex_cmp}
 use Rattle.cost_vector.proofs.Vectors.{AtMost-trans, cases_AtMost}
 use Rattle.list_laws.specs.Without.{IsWithout}
-use Rattle.list_laws.proofs.Members.{all_from_in, cases_in, cases_push, each_in, in_none}
+use Rattle.list_laws.proofs.Members.{all_from_in, cases_in, cases_push, each_in, in_none, in_rest}
 use Rattle.list_laws.proofs.OnceLaws.{in_append, pairs_append}
 use Rattle.list_laws.proofs.Pairs.{pairs_cons, pairs_none, pairs_rest, pairs_take, pair_with_first}
 use Rattle.list_laws.proofs.SetLaws.{gains_by_permutation}
 use Rattle.waiting_queue.specs.declared.item.Item.{Item}
-use Rattle.waiting_queue.specs.Shadows.{grounded, second_of, Descends, ExceedsBefore, FallsTo, IsDominatedBy, IsLater, IsShadow, Joins, SplitsAt}
+use Rattle.waiting_queue.specs.Shadows.{grounded, second_of, Descends, ExceedsBefore, FallsTo, IsBelowSome, IsDominatedBy, IsLater, IsRun, IsShadow, Joins, SplitsAt}
 use Rattle.waiting_queue.proofs.TakingLemmas.{in_push, last_in}
 
 -- the end of a list
@@ -75,12 +80,7 @@ loses_by_without P before after w x = (
   λ h. elim (each_in (λ y. P y ⊎ Contains after y) before w.kept x h.0) [ inl holds ↦ absurd (h.1 holds) | inr there ↦ there ],
 )
 
--- ---- an element is taken out
-
-pub take_remove : {X : Type 0} (i : ℕ) (xs : List X) → take i (remove xs i) ≡ take i xs
-take_remove zero xs = refl
-take_remove (suc i) [] = refl
-take_remove (suc i) (x ∷ xs) = ap (λ ys. x ∷ ys) (take_remove i xs)
+-- ---- a list is gone through, and what stays moves up
 
 in_removed : {X : Type 0} (xs : List X) (i : ℕ) (x : X) → Contains (remove xs i) x → Contains xs x
 in_removed xs i x h = elim ((in_append (take i xs) (drop (suc i) xs) x).0 h) [
@@ -88,31 +88,132 @@ in_removed xs i x h = elim ((in_append (take i xs) (drop (suc i) xs) x).0 h) [
   | inr back ↦ (in_parts xs (suc i) x).1 (inr back)
 ]
 
-pub pairs_remove : {X : Type 0} (R : X → X → Type 0) (i : ℕ) (xs : List X) → AllPairs R xs → AllPairs R (remove xs i)
+pairs_remove : {X : Type 0} (R : X → X → Type 0) (i : ℕ) (xs : List X) → AllPairs R xs → AllPairs R (remove xs i)
 pairs_remove R zero [] pairs = pairs_none R
 pairs_remove R zero (x ∷ xs) pairs = pairs_rest R x xs pairs
 pairs_remove R (suc i) [] pairs = pairs_none R
 pairs_remove R (suc i) (x ∷ xs) pairs =
     pairs_cons R x (remove xs i) (λ y h. pair_with_first R x xs pairs y (in_removed xs i y h)) (pairs_remove R i xs (pairs_rest R x xs pairs))
 
--- the others of those of which P doesn't hold stay
-module _ {X : Type 0} (P : X → Type 0) (before xs ys : List X) (i : ℕ) (x : X) (within : i < length xs) (at : x ≡ get_or xs i x) (is : ys ≡ remove xs i) where
-  pub old_removed : All (Contains before) xs → All (Contains before) ys
-  old_removed old = all_from_in (Contains before) ys (λ y h. each_in (Contains before) xs old y (in_removed xs i y (subst (λ zs. Contains zs y) is h)))
+module _ {X : Type 0} (R : X → X → Type 0) (P : X → Type 0) (old : List X) where
+  -- of what was gone through, the front stays: P holds of none of it; the back is still to come
+  pub record IsSifted (front back : List X) : Type 0 where
+    pub pairs : AllPairs R (front ++ back)
+    pub from : All (Contains old) (front ++ back)
+    pub rest : All (λ y. P y ⊎ Contains (front ++ back) y) old
+    pub gone : All (λ y. ¬ P y) front
 
-  pub kept_removed : P x → All (λ y. P y ⊎ Contains xs y) before → All (λ y. P y ⊎ Contains ys y) before
-  kept_removed holds kept = all_from_in (λ y. P y ⊎ Contains ys y) before (λ y h. elim (each_in (λ z. P z ⊎ Contains xs z) before kept y h) [
-    | inl already ↦ inl already
-    | inr there ↦
-        let moved = IsPermutation-sym xs (x ∷ remove xs i) (IsPermutation-remove xs i x within at) in
-        elim ((gains_by_permutation x (remove xs i) xs moved y).0 there) [
-          | inl stays ↦ inr (subst (λ zs. Contains zs y) (sym is) stays)
-          | inr same ↦ inl (subst P (sym same) holds)
-        ]
-  ])
+  pub sifted_none : AllPairs R old → IsSifted [] old
+  sifted_none pairs = record {
+    pairs = pairs;
+    from = all_from_in (Contains old) old (λ x h. h);
+    rest = all_from_in (λ x. P x ⊎ Contains old x) old (λ x h. inr h);
+    gone = all_from_in (λ y. ¬ P y) [] (λ y h. absurd (in_none y h));
+  }
+
+  -- the next stays
+  sifted_more : (front back : List X) (x : X) → IsSifted front (x ∷ back) → ¬ P x → IsSifted (front ++ x ∷ []) back
+  sifted_more front back x is fails =
+      let same : front ++ x ∷ back ≡ (front ++ x ∷ []) ++ back = sym (append_assoc front (x ∷ []) back) in record {
+        pairs = subst (AllPairs R) same is.pairs;
+        from = subst (All (Contains old)) same is.from;
+        rest = subst (λ ys. All (λ y. P y ⊎ Contains ys y) old) same is.rest;
+        gone = all_from_in (λ y. ¬ P y) (front ++ x ∷ []) (λ y h. elim (cases_push front x y h) [
+          | inl before ↦ each_in (λ z. ¬ P z) front is.gone y before
+          | inr last ↦ subst (λ z. ¬ P z) (sym last) fails
+        ]);
+      }
+
+  -- the next leaves
+  sifted_less : (front back : List X) (x : X) → IsSifted front (x ∷ back) → P x → IsSifted front back
+  sifted_less front back x is holds =
+      let none : length front - length front ≡ 0 = omega arith in
+      let there : remove (front ++ x ∷ back) (length front) ≡ front ++ back = remove-append_right front (x ∷ back) (length front) (length front) refl (omega arith)
+      ∙ ap (λ n. front ++ remove (x ∷ back) n) none in record {
+        pairs = subst (AllPairs R) there (pairs_remove R (length front) (front ++ x ∷ back) is.pairs);
+        from = all_from_in (Contains old) (front ++ back) (λ y h. each_in (Contains old) (front ++ x ∷ back) is.from y (in_less y h));
+        rest = all_from_in (λ y. P y ⊎ Contains (front ++ back) y) old (λ y h. elim (each_in (λ z. P z ⊎ Contains (front ++ x ∷ back) z) old is.rest y h) [
+          | inl already ↦ inl already
+          | inr stood ↦ elim ((in_append front (x ∷ back) y).0 stood) [
+            | inl before ↦ inr ((in_append front back y).1 (inl before))
+            | inr behind ↦ elim (cases_in x back y behind) [
+              | inl same ↦ inl (subst P (sym same) holds)
+              | inr later ↦ inr ((in_append front back y).1 (inr later))
+            ]
+          ]
+        ]);
+        gone = is.gone;
+      }
+    where
+      in_less : (y : X) → Contains (front ++ back) y → Contains (front ++ x ∷ back) y
+      in_less y h = elim ((in_append front back y).0 h) [
+        | inl before ↦ (in_append front (x ∷ back) y).1 (inl before)
+        | inr behind ↦ (in_append front (x ∷ back) y).1 (inr (in_rest x back y behind))
+      ]
+
+  -- all were gone through
+  pub sifted_all : (now : List X) (kept i : ℕ) → IsSifted (take kept now) (drop i now) → length now ≤ i → AllPairs R (take kept now) × IsWithout P old (take kept now)
+  sifted_all now kept i is all =
+      let ended : take kept now ++ drop i now ≡ take kept now = ap (λ ys. take kept now ++ ys) (drop_all i now all) ∙ append-nil (take kept now) in (
+        subst (AllPairs R) ended is.pairs,
+        record {
+          old = subst (All (Contains old)) ended is.from;
+          kept = subst (λ ys. All (λ y. P y ⊎ Contains ys y) old) ended is.rest;
+          gone = is.gone;
+        },
+      )
+
+  module _ (now : List X) (kept i : ℕ) (x : X) (behind : kept ≤ i) (within : i < length now) (at : x ≡ get_or now i x)
+      (is : IsSifted (take kept now) (drop i now)) where
+    next : IsSifted (take kept now) (x ∷ drop (i + 1) now)
+    next = subst (IsSifted (take kept now)) (drop_more now i x within ∙ ap (λ y. y ∷ drop (i + 1) now) (sym at)) is
+
+    left : drop (i + 1) (set now kept x) ≡ drop (i + 1) now
+    left = drop-set-lt (i + 1) now kept x (omega (arith, behind))
+
+    sifted_stays : ¬ P x → IsSifted (take (kept + 1) (set now kept x)) (drop (i + 1) (set now kept x))
+    sifted_stays fails = subst₂ IsSifted (sym (take_more_set now kept x (omega (arith, behind, within)))) (sym left)
+        (sifted_more (take kept now) (drop (i + 1) now) x next fails)
+
+    sifted_leaves : P x → IsSifted (take kept (set now kept x)) (drop (i + 1) (set now kept x))
+    sifted_leaves holds = subst₂ IsSifted (sym (take-set now kept x)) (sym left) (sifted_less (take kept now) (drop (i + 1) now) x next holds)
+
+    -- the next stays or leaves
+    pub sifted_next : (leaves : Bool) → IsTrue leaves ↔ P x → IsSifted (take (kept + from_bool (not leaves)) (set now kept x)) (drop (i + 1) (set now kept x))
+    sifted_next true tells = rw (add-zero kept) (sifted_leaves (tells.0 refl))
+    sifted_next false tells = sifted_stays (λ holds. false≢true (tells.1 holds))
+
+either_true : (a b : Bool) → IsTrue (a || b) ↔ (IsTrue a ⊎ IsTrue b)
+either_true true b = (λ _. inl refl, λ _. refl)
+either_true false b = (λ h. inr h, λ h. elim h [ inl never ↦ absurd (false≢true never) | inr here ↦ here ])
 
 -- ---- costs have these components
 module _ {C : Type 0} (components : C → List ℕ) where
+  -- the first costs, and one more
+  pub below_some_more : (costs : List C) (c : List ℕ) (i : ℕ) (x : C) (any here : Bool) → i < length costs → x ≡ get_or costs i x
+      → IsTrue any ↔ IsBelowSome components (take i costs) c → IsTrue here ↔ AtMost c (components x)
+      → IsTrue (any || here) ↔ IsBelowSome components (take (i + 1) costs) c
+  below_some_more costs c i x any here within is before now =
+      let grown : take (i + 1) costs ≡ take i costs ++ x ∷ [] = take_more costs i x within ∙ ap (λ e. take i costs ++ e ∷ []) (sym is) in
+      rw grown (
+        λ h. elim ((either_true any here).0 h) [
+          | inl old ↦ let b = before.0 old in record { above = b.above; contains = in_push (take i costs) x b.above b.contains; at_most = b.at_most }
+          | inr new ↦ record { above = x; contains = last_in (take i costs) x; at_most = now.0 new }
+        ],
+        λ h. (either_true any here).1 (elim (cases_push (take i costs) x h.above h.contains) [
+          | inl old ↦ inl (before.1 (record { above = h.above; contains = old; at_most = h.at_most }))
+          | inr last ↦ inr (now.1 (subst (λ y. AtMost c (components y)) last h.at_most))
+        ]),
+      )
+
+  -- where c is at most no cost, all stay
+  pub without_none : (costs : List C) (c : List ℕ) → ¬ IsBelowSome components costs c → IsWithout (λ x. AtMost c (components x)) costs costs
+  without_none costs c none = record {
+    old = all_from_in (Contains costs) costs (λ x h. h);
+    kept = all_from_in (λ x. AtMost c (components x) ⊎ Contains costs x) costs (λ x h. inr h);
+    gone = all_from_in (λ x. ¬ AtMost c (components x)) costs (λ x h below. none (record { above = x; contains = h; at_most = below }));
+  }
+
   -- a later cost, or the same, exceeds none in the second component
   pub falls_to : (shadow : List C) → Descends components shadow → (i j : ℕ) (d : C) → i ≤ j → j < length shadow
       → second_of (components (get_or shadow j d)) ≤ second_of (components (get_or shadow i d))
@@ -120,6 +221,50 @@ module _ {C : Type 0} (components : C → List ℕ) where
     | inl before ↦ descends i j d before within
     | inr same ↦ let e : j ≡ i = omega arith in subst (λ k. second_of (components (get_or shadow k d)) ≤ second_of (components (get_or shadow i d))) (sym e) (omega arith)
   ]
+
+  module _ (shadow : List C) (items : List (Item C)) where
+    abbrev Shadowed : Item C → Type 0
+    Shadowed i = IsDominatedBy components shadow (components i.cost)
+
+    -- a cost of the shadow dominates the next m items too
+    pub run_on : (by : C) (n m : ℕ) → Contains shadow by → n ≤ length items → All Shadowed (take n items)
+        → All (λ (i : Item C). Dominates (components by) (components i.cost)) (take m (drop n items)) → All Shadowed (take (n + m) items)
+    run_on by n m there within before next = λ k d inside.
+        let short : k < n + m = omega (arith, inside, length-take (n + m) items) in
+        let long : k < length items = omega (arith, inside, length-take (n + m) items) in
+        rw (get_or-take (n + m) items k d short) (elim (cases_lt k n) [
+          | inl near ↦ subst Shadowed (get_or-take n items k d near) (before k d (omega (arith, near, length-take n items, within)))
+          | inr far ↦
+              let place : n + (k - n) ≡ k = omega (arith, far) in
+              let read : get_or (take m (drop n items)) (k - n) d ≡ get_or items k d = get_or-take m (drop n items) (k - n) d (omega (arith, short, far))
+              ∙ get_or-drop n items (k - n) d ∙ ap (λ j. get_or items j d) place in
+              record {
+                by = by;
+                contains = there;
+                dominates = subst (λ (i : Item C). Dominates (components by) (components i.cost)) read
+                    (next (k - n) d (omega (arith, short, far, long, length-take m (drop n items), length-drop n items)));
+              }
+        ])
+
+    -- a run ends before an item that the shadow doesn't dominate
+    pub run_ends : (n : ℕ) (item : Item C) → All Shadowed (take n items) → n < length items → item ≡ get_or items n item → ¬ Shadowed item
+        → IsRun components shadow items n
+    run_ends n item before inside at free = record {
+      within = omega (arith, inside);
+      shadowed = before;
+      ends = λ i h by.
+          let same : item ≡ i = at ∙ get_or_default items n item i inside ∙ sym (ap (λ j. get_or items j i) (add-zero n))
+          ∙ sym (get_or-drop n items 0 i) ∙ get_or_from_slice_get (drop n items) 0 i i h in
+          free (subst Shadowed (sym same) by);
+    }
+
+    -- or where there are no more
+    pub run_over : (n : ℕ) → All Shadowed (take n items) → n ≤ length items → length items ≤ n → IsRun components shadow items n
+    run_over n before within none = record {
+      within = within;
+      shadowed = before;
+      ends = λ i h. absurd (omega (arith, slice_get_within (drop n items) 0 i h, length-drop n items, none));
+    }
 
   -- no cost was taken
   pub shadow_none : IsShadow components [] []

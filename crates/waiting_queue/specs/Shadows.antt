@@ -26,6 +26,12 @@ module _ {C : Type 0} (components : C → List ℕ) where
     pub contains : Contains costs by
     pub dominates : Dominates (components by) c
 
+  -- c is at most some cost of the list
+  pub record IsBelowSome (costs : List C) (c : List ℕ) : Type 0 where
+    pub above : C
+    pub contains : Contains costs above
+    pub at_most : AtMost c (components above)
+
   -- b doesn't exceed a in the second component
   abbrev pub FallsTo : C → C → Type 0
   FallsTo a b = second_of (components b) ≤ second_of (components a)

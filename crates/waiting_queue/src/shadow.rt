@@ -1,8 +1,9 @@
-ghost use Rattle.std.specs.Prelude.{◌≡◌, ◌+◌, ◌<◌, ◌≤◌, ◌↔◌, nat_lt, Contains, IfNone, IfOk, IfSome, IsTrue};
+ghost use Rattle.std.specs.Prelude.{◌≡◌, ◌+◌, ◌<◌, ◌≤◌, ◌↔◌, drop, length, nat_lt, slice_get, take, All, Contains, IfNone, IfOk, IfSome, IsTrue, Some};
 ghost use Rattle.cost_vector.specs.Costs.{AtMost, Dominates};
 ghost use Rattle.list_laws.specs.Without.{IsWithout};
-ghost use Rattle.waiting_queue.specs.Shadows.{Descends, ExceedsBefore, IsDominatedBy, IsRun, Joins, grounded, second_of};
+ghost use Rattle.waiting_queue.specs.Shadows.{Descends, ExceedsBefore, IsBelowSome, IsDominatedBy, IsRun, Joins, grounded};
 ghost use Rattle.waiting_queue.specs.Waiting.{AreCriteria};
+ghost use Rattle.waiting_queue.specs.declared.item.Item.{Item};
 
 use crate::Item;
 use out_of_memory::OutOfMemory;
@@ -26,32 +27,21 @@ fn find_dominating<'a, const D: usize, C: StoredCost<D>>(by: &'a [C], cost: &C) 
     None
 }
 
-/// The second component.
-fn second<const D: usize, C: StoredCost<D>>(cost: &C) -> u64
-    requires { AreCriteria D }
-    ensures { result ≡ second_of (C.components cost.now) }
-{
-    cost.part(1).to_number()
-}
-
-/// How many costs of the shadow exceed this one in the second component.
+/// How many costs of the shadow exceed this one in the second component. The search has no branch that couldn't be foreseen.
 fn count_above<const D: usize, C: StoredCost<D>>(shadow: &[C], cost: &C) -> usize
     requires criteria { AreCriteria D }
     requires descends { Descends C.components shadow.now }
     ensures { ExceedsBefore C.components shadow.now (C.components cost.now) result }
 {
-    let bound = second(cost);
-    let mut low = 0;
-    let mut high = shadow.len();
-    while low < high {
-        let middle = low + (high - low) / 2;
-        if bound < second(&shadow[middle]) {
-            low = middle + 1;
-        } else {
-            high = middle;
-        }
+    let bound = cost.part(1);
+    let mut start = 0;
+    let mut size = shadow.len();
+    while size > 0 {
+        let half = size - size / 2;
+        start += half * bound.less_bit(shadow[start + half - 1].part(1));
+        size -= half;
     }
-    low
+    start
 }
 
 /// A cost of the shadow that dominates this one. It is kept out of its caller: there the comparisons of costs would become
@@ -109,11 +99,33 @@ pub(crate) fn count_shadowed<const D: usize, C: StoredCost<D>>(
     let Some(mut last) = shadow.first() else {
         return 0;
     };
-    for (count, item) in items.iter().enumerate() {
+    let mut count = 0;
+    loop {
+        let (_, left) = items.split_at(count);
+        count += count_dominated(last, left);
+        let Some(item) = items.get(count) else {
+            return count;
+        };
         let Some(found) = find_shadowing(shadow, last, &item.cost) else {
             return count;
         };
         last = found;
+        count += 1;
+    }
+}
+
+/// How many of the items this cost dominates, up to the first that it doesn't.
+fn count_dominated<const D: usize, C: StoredCost<D>>(by: &C, items: &[Item<C>]) -> usize
+    ensures within { result ≤ length items.now }
+    ensures dominated { All (λ i. Dominates (C.components by.now) (C.components i.cost))
+        (take result items.now) }
+    ensures ends { (i : Item C) → slice_get (drop result items.now) 0 ≡ Some i
+        → ¬ Dominates (C.components by.now) (C.components i.cost) }
+{
+    for (count, item) in items.iter().enumerate() {
+        if !by.dominates(&item.cost) {
+            return count;
+        }
     }
     items.len()
 }
@@ -128,21 +140,43 @@ fn floor<const D: usize, C: StoredCost<D>>(cost: &C) -> C
     C::of(&low.0)
 }
 
-/// Takes out the costs that this one is at most.
+/// Whether this cost is at most one of the list. All are compared, without a branch between them.
+fn is_below_any<const D: usize, C: StoredCost<D>>(low: &C, costs: &[C]) -> bool
+    ensures { IsTrue result ↔ IsBelowSome C.components costs.now (C.components low.now) }
+{
+    let mut any = false;
+    for cost in costs {
+        any |= low.at_most(cost);
+    }
+    any
+}
+
+/// Takes out the costs that this one is at most. Mostly there are none.
 fn uncover<const D: usize, C: StoredCost<D>>(shadow: &mut Vec<C>, low: &C)
     requires { Descends C.components shadow.old.items }
     ensures descends { Descends C.components shadow.new.items }
     ensures without { IsWithout (λ x. AtMost (C.components low.now) (C.components x))
         shadow.old.items shadow.new.items }
 {
-    let mut i = 0;
-    while i < shadow.len() {
-        if low.at_most(&shadow[i]) {
-            shadow.remove(i);
-        } else {
-            i += 1;
-        }
+    if is_below_any(low, shadow) {
+        remove_above(shadow, low);
     }
+}
+
+/// Takes out the costs that this one is at most: the others move up, without a branch between them.
+fn remove_above<const D: usize, C: StoredCost<D>>(shadow: &mut Vec<C>, low: &C)
+    requires { Descends C.components shadow.old.items }
+    ensures descends { Descends C.components shadow.new.items }
+    ensures without { IsWithout (λ x. AtMost (C.components low.now) (C.components x))
+        shadow.old.items shadow.new.items }
+{
+    let mut kept = 0;
+    for i in 0..shadow.len() {
+        let cost = shadow[i];
+        shadow[kept] = cost;
+        kept += usize::from(!low.at_most(&cost));
+    }
+    shadow.truncate(kept);
 }
 
 /// A taken cost joins the shadow. Those leave that it covers. As part of its caller this would be slower.

@@ -1,15 +1,12 @@
-use Rattle.std.proofs.Common.{◌≤◌, ◌<◌, ◌-◌, take, drop, length}
-use Rattle.std.specs.Prelude.{All}
+use Rattle.std.proofs.Common.{◌≤◌, ◌<◌}
 use Rattle.waiting_queue.specs.Shadows.{second_of}
+use Rattle.waiting_queue.proofs.OrderLemmas.{IsLeft}
 use Rattle.waiting_queue.proofs.shadow.count_above.Given as goal
 
-abbrev pub invariant-loop-low : goal.invariant-loop-low
-invariant-loop-low g l = record {
-  ordered : l.low ≤ l.high;
-  within : l.high ≤ length l.shadow;
-  above : All (λ x. l.bound < second_of (g.C.StoredCost.components x)) (take l.low l.shadow);
-  below : All (λ x. second_of (g.C.StoredCost.components x) ≤ l.bound) (drop l.high l.shadow);
-}
+abbrev pub invariant-loop-size : goal.invariant-loop-size
+invariant-loop-size g l =
+    let f = g.C.StoredCost.components in
+    IsLeft (λ x. second_of (f l.cost) < second_of (f x)) (λ x. second_of (f x) ≤ second_of (f l.cost)) l.shadow l.start l.size
 
-abbrev pub decreases-loop-low : goal.decreases-loop-low
-decreases-loop-low g l = l.high - l.low
+abbrev pub decreases-loop-size : goal.decreases-loop-size
+decreases-loop-size g l = l.size

@@ -1,2 +1,13 @@
 pub mod SentLemmas
 pub mod WeightLemmas
+pub mod MeetsLemmas
+pub mod ChangeLemmas
+pub mod NextLemmas
+pub mod RunLemmas
+pub mod TakeLemmas
+pub mod WrittenLemmas
+pub mod BrokenLemmas
+pub mod LeaderLemmas
+pub mod OnWayLemmas
+pub mod TrueLineLemmas
+pub mod FollowLemmas

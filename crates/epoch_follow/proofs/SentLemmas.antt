@@ -1,7 +1,7 @@
 -- Texts of a feed that are sent one after another.
-use Rattle.std.proofs.Common.{◌≡◌, ℕ, zero, suc, ◌+◌, ◌<◌, ◌≤◌, List, [], ◌∷◌, ◌++◌, Err, Ok, length, take, drop, get_or, ap, sym, refl, ◌∙◌, subst, append-nil, append_assoc, arith}
+use Rattle.std.proofs.Common.{◌≡◌, ℕ, ◌+◌, ◌<◌, List, [], ◌∷◌, ◌++◌, Err, length, take, drop, get_or, ap, sym, ◌∙◌, append-nil, append_assoc, arith}
 use Rattle.std.specs.List.{flat_map}
-use Rattle.std.proofs.lemmas.List.{take_all, take_more, take-append-drop, length-take}
+use Rattle.std.proofs.lemmas.List.{take_more, take-append-drop, length-take}
 use Rattle.std.proofs.lemmas.Grind.{flat_map-append}
 use Rattle.route_io.specs.declared.fault.WriteFault.{WriteFault}
 use Rattle.route_io.specs.Sinks.{SinkState, Sends}

@@ -1,3 +1,5 @@
 pub mod Text
 pub mod Runs
 pub mod Takes
+pub mod Reads
+pub mod Followers

@@ -1,3 +1,9 @@
+ghost use Rattle.std.specs.Prelude.{◌≡◌};
+ghost use Rattle.epoch_follow.specs.Runs.{end_by};
+
+use line_text::LineFault;
+use out_of_memory::OutOfMemory;
+
 /// How a feed ended.
 #[derive(Clone, Copy, Debug, PartialEq, Eq)]
 pub enum FeedEnd {
@@ -14,4 +20,29 @@ pub enum FeedEnd {
     /// The source failed.
     Read,
     OutOfMemory,
+}
+
+impl FeedEnd {
+    /// What a reader of lines found at this line.
+    pub(crate) fn by_fault(fault: LineFault, line: u64) -> FeedEnd
+        ensures { result ≡ end_by fault line }
+    {
+        match fault {
+            LineFault::TooLong => FeedEnd::Bad { line },
+            LineFault::Total => FeedEnd::Long,
+            LineFault::Read => FeedEnd::Read,
+            LineFault::OutOfMemory => FeedEnd::OutOfMemory,
+        }
+    }
+}
+
+impl From<OutOfMemory> for FeedEnd {
+    ghost use Rattle.std.specs.Prelude.{◌≡◌};
+    ghost use Rattle.epoch_follow.specs.declared.feed_end.FeedEnd.TheVariants as end;
+
+    ghost from_gives = { λ _ e. e ≡ end.OutOfMemory };
+
+    fn from(_: OutOfMemory) -> FeedEnd {
+        FeedEnd::OutOfMemory
+    }
 }

@@ -78,10 +78,7 @@ fn put_begin<K: Sink>(sink: &mut K, epoch: u32, count: u64) -> Result<(), WriteF
 {
     use Piece::{Number, Text};
     let epoch = u64::from(epoch);
-    put_line(
-        sink,
-        &[Text("g"), Number(epoch), Number(count), Text("\n")],
-    )
+    put_line(sink, &[Text("g"), Number(epoch), Number(count), Text("\n")])
 }
 
 /// Sends the last line of a message.

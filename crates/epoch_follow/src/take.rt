@@ -1,15 +1,20 @@
 //! Feeds that a follower takes.
-ghost use Rattle.std.specs.Prelude.{◌≡◌, [], IfSome};
+ghost use Rattle.std.specs.Prelude.{◌≡◌, ◌<◌, ◌+◌, ◌^◌, [], None, IfSome, IfOk, OnOk, MatchBool, is_err};
 ghost use mathlib.Core.List.{IsPrefix};
 ghost use Rattle.route_io.specs.Sources.{ReadsFrom};
+ghost use Rattle.line_text.specs.Reading.{InLimits, begun as begun_lines, rest_of};
 ghost use Rattle.arc_graph.specs.Graph.{Match};
+ghost use Rattle.epoch_follow.specs.Reads.{NextTells, end_of, has_read_fault};
+ghost use Rattle.epoch_follow.specs.Runs.{feed_limits};
 ghost use Rattle.epoch_follow.specs.Takes.{TakesFeed, is_read};
 ghost use Rattle.epoch_follow.specs.Text.{head_of};
 
 use crate::FeedEnd;
+use crate::due::Due;
 use arc_graph::Graph;
 use epoch_store::{Operator, Store};
-use line_text::LineLimits;
+use line_text::{LineLimits, Lines};
+use out_of_memory::OutOfMemory;
 use route_io::Source;
 use std::alloc::Global;
 use std::sync::Wait;
@@ -40,6 +45,62 @@ pub fn take_feed<T: Store, R: Wait, S: Source>(
     // The source's failures alone make a failed read.
     ensures source { ReadsFrom (S.state source.old) (S.state source.new) (is_read result) }
 {
+    let end = match Lines::new(alloc, limits) {
+        Ok(lines) => match take_lines(rt, operator, graph, source, lines) {
+            Ok(due) => due.end(),
+            Err(end) => end,
+        },
+        Err(OutOfMemory) => FeedEnd::OutOfMemory,
+    };
     operator.drop_pending();
-    FeedEnd::OutOfMemory
+    end
+}
+
+/// Takes the lines of a feed, and answers what is due behind them, or how the feed ended before.
+fn take_lines<T: Store, R: Wait, S: Source>(
+    rt: &R,
+    operator: &mut Operator<T>,
+    graph: &Graph,
+    source: &mut S,
+    lines: Lines,
+) -> Result<Due, FeedEnd>
+    requires weights { Match graph.now T.origin.base }
+    requires nothing_pending { operator.old.pending ≡ [] }
+    requires begun { lines ≡ begun_lines (feed_limits lines.limits.total) }
+    requires fits { lines.limits.total < 2 ^ 64 }
+    ensures takes { IfSome (S.state source.old).left
+        (λ bytes. TakesFeed (head_of graph.now T.origin.first) lines.limits.total
+        operator.old.published bytes (end_of result) operator.new.published) }
+    ensures begins { IsPrefix operator.old.published operator.new.published }
+    ensures source { ReadsFrom (S.state source.old) (S.state source.new)
+        (is_read (end_of result)) }
+{
+    let mut lines = lines;
+    let mut due = Due::First;
+    'lines: while next_line(source, &mut lines)? {
+        due = due.take(rt, operator, graph, lines.text(), lines.number())?;
+    }
+    Ok(due)
+}
+
+/// Makes the next line current, and answers true, or false at the end of the input.
+fn next_line<S: Source>(source: &mut S, lines: &mut Lines) -> Result<bool, FeedEnd>
+    requires limits { lines.old.limits ≡ feed_limits lines.old.limits.total }
+    requires fits { lines.old.limits.total < 2 ^ 64 }
+    requires goes_on { lines.old.fault ≡ None }
+    ensures limits { lines.new.limits ≡ lines.old.limits }
+    ensures goes_on { OnOk result (lines.new.fault ≡ None) }
+    ensures counts { IfOk result (λ more. MatchBool more
+        ((lines.old.passed < lines.new.passed) × (lines.new.number ≡ lines.old.number + 1))
+        (Unit {0})) }
+    ensures in_limits { InLimits lines.new }
+    ensures tells { IfSome (rest_of lines.old (S.state source.old)) (λ rest. NextTells
+        lines.old lines.new rest (rest_of lines.new (S.state source.new)) result) }
+    ensures source { ReadsFrom (S.state source.old) (S.state source.new)
+        (has_read_fault result) }
+{
+    match lines.next_line(source) {
+        Ok(more) => Ok(more),
+        Err(fault) => Err(FeedEnd::by_fault(fault, lines.number().saturating_add(1))),
+    }
 }

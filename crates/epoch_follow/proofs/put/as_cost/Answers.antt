@@ -1,4 +1,4 @@
-use Rattle.std.proofs.Common.{◌≡◌, ◌^◌, ◌<◌, length, replicate, sym, ap, ◌∙◌, subst}
+use Rattle.std.proofs.Common.{◌≡◌, ◌^◌, ◌<◌, replicate, sym, ap, ◌∙◌, subst}
 use Rattle.std.specs.List.{All}
 use Rattle.cost_vector.specs.Costs.{plus}
 use Rattle.epoch_follow.proofs.WeightLemmas.{fits_cost, plus_zero}

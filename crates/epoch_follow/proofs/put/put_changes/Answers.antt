@@ -1,4 +1,4 @@
-use Rattle.std.proofs.Common.{◌+◌, arith, take, drop}
+use Rattle.std.proofs.Common.{◌+◌, take, drop}
 use Rattle.std.specs.List.{flat_map}
 use Rattle.std.proofs.lemmas.Result.{err_from_is_err_and}
 use Rattle.epoch_follow.specs.Text.{change_line}

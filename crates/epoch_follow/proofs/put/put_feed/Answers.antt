@@ -1,8 +1,7 @@
-use Rattle.std.proofs.Common.{◌≡◌, ◌+◌, ◌-◌, ◌++◌, length, take, ap, ◌∙◌, subst, sym, arith}
+use Rattle.std.proofs.Common.{◌≡◌, ◌+◌, ◌-◌, length, take, ap, ◌∙◌, arith}
 use Rattle.std.specs.List.{slice_range}
 use Rattle.std.proofs.lemmas.Result.{err_from_is_err_and}
 use Rattle.std.proofs.lemmas.List.{take_all}
-use Rattle.route_io.specs.Sinks.{Sends}
 use Rattle.route_io.proofs.SendsLemmas.{Sends-cut, Sends-then}
 use Rattle.arc_graph.specs.History.{sets_of}
 use Rattle.epoch_follow.specs.Text.{head_line, head_of, messages}

@@ -85,7 +85,8 @@ fn take_each<T: Store, R: Wait, G, F: Source>(
     requires room { length feeds.old ≤ vec_capacity reports.old }
     requires weights { Match context.now.graph.now T.origin.base }
     ensures idle { operator.new.pending ≡ [] }
-    ensures takes { TakesFeeds context.now.graph.now T.origin (map F.state feeds.old) (map F.state feeds.new)
+    ensures takes { TakesFeeds context.now.graph.now T.origin
+        (map F.state feeds.old) (map F.state feeds.new)
         reports.new.items operator.new.published }
 {
     for k in 0..feeds.len() {

@@ -41,11 +41,11 @@ serves_whole show scene bytes whole s is begins allowed = record {
 }
 
 -- a session's lane, where the last epoch has this number
-abbrev lane_of : {T L : Type 0} → (L → LinkState) → ℕ → Service (SessionLane T SessionEnd) L → Lane
+abbrev pub lane_of : {T L : Type 0} → (L → LinkState) → ℕ → Service (SessionLane T SessionEnd) L → Lane
 lane_of show last s = record { before = show s.link; after = show s.link_after; report = report_of last s.party_after }
 
 -- the lanes of sessions
-session_lanes : {T L : Type 0} (show : L → LinkState) (scene : Scene) (bytes : ℕ) (whole : History) → IsPublishedIn scene.origin whole
+pub session_lanes : {T L : Type 0} (show : L → LinkState) (scene : Scene) (bytes : ℕ) (whole : History) → IsPublishedIn scene.origin whole
     → (services : List (Service (SessionLane T SessionEnd) L))
     → All (λ s. SessionServes show scene bytes s.party s.link s.party_after s.link_after) services
     → All (λ lane. IsPrefix lane.session.seen whole) (map (λ s. s.party_after) services)
@@ -61,7 +61,7 @@ session_lanes {T} {L} show scene bytes whole allowed (s ∷ services) served beg
     (session_lanes show scene bytes whole allowed services (All-tail serves s services served) (All-tail seen s.party_after after begins))
 
 -- two ways of mapping a list twice, which agree on each element
-maps_agree : {A B C D : Type 0} (f : B → D) (g : A → B) (h : C → D) (k : A → C) → ((x : A) → f (g x) ≡ h (k x)) → (xs : List A)
+pub maps_agree : {A B C D : Type 0} (f : B → D) (g : A → B) (h : C → D) (k : A → C) → ((x : A) → f (g x) ≡ h (k x)) → (xs : List A)
     → map f (map g xs) ≡ map h (map k xs)
 maps_agree f g h k same [] = refl
 maps_agree f g h k same (x ∷ xs) = ap₂ ◌∷◌ (same x) (maps_agree f g h k same xs)

@@ -6,3 +6,5 @@ pub mod ReportLemmas
 pub mod VisitLemmas
 pub mod ServingLemmas
 pub mod DoorLaneLemmas
+pub mod FeedLemmas
+pub mod FollowLemmas

@@ -4,3 +4,6 @@ pub mod Served
 pub mod Visits
 pub mod Serving
 pub mod DoorsServed
+pub mod Following
+pub mod Taken
+pub mod Leading

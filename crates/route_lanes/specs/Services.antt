@@ -9,6 +9,10 @@ module _ {F P L : Type 0} (g : Shared F (MutBor P × (MutBor L × Unit {0})) (Un
   abbrev pub Accepts : P → Type 0
   Accepts p = (party : MutBor P) (link : MutBor L) → party.now ≡ p → g.pre f (party, (link, tt))
 
+  -- f may be called with this party and this link
+  abbrev pub AcceptsBoth : P → L → Type 0
+  AcceptsBoth p l = (party : MutBor P) (link : MutBor L) → party.now ≡ p → link.now ≡ l → g.pre f (party, (link, tt))
+
   -- a call of f with this party and this link may leave those
   pub record CallLeaves (p : P) (l : L) (p' : P) (l' : L) : Type 0 where
     pub party : MutBor P

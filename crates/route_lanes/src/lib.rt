@@ -2,7 +2,10 @@
 #![tactic(auto)]
 
 mod door_lanes;
+mod feed_lane;
+mod follow;
 mod lanes;
+mod leader;
 mod operator_lane;
 mod report;
 mod run;
@@ -11,6 +14,9 @@ mod service;
 mod session_lane;
 mod visits;
 
+pub use feed_lane::FeedReport;
+pub use follow::{FollowReport, run_follow};
+pub use leader::write_feed;
 pub use report::LaneReport;
 pub use run::run_lanes;
 pub use serve::{Served, serve_lanes};

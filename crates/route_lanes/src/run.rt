@@ -10,7 +10,7 @@ ghost use Rattle.route_lanes.specs.Served.{report_of, whole_of};
 use crate::lanes::serve_links;
 use crate::operator_lane::{OperatorLane, StoreState};
 use crate::report::LaneReport;
-use crate::session_lane::{SessionLane, learn_all, report_all, session_lanes};
+use crate::session_lane::{SessionLane, end_store, report_sessions, session_lanes};
 use arc_graph::Weights;
 use epoch_store::{Chronicle, Store, make};
 use out_of_memory::OutOfMemory;
@@ -103,7 +103,7 @@ fn run_in_store<
 fn report_lanes<R: Wait, T: Store>(
     rt: &R,
     alloc: Global,
-    reports: Vec<LaneReport>,
+    mut reports: Vec<LaneReport>,
     operator: OperatorLane<T, SessionEnd>,
     mut sessions: Vec<SessionLane<T, SessionEnd>>,
 ) -> Result<Vec<LaneReport>, OutOfMemory>
@@ -118,9 +118,11 @@ fn report_lanes<R: Wait, T: Store>(
         (All (λ lane. IsPrefix lane.session.seen (whole_of operator.store)) sessions.items) }
 {
     let OperatorLane { store, end } = operator;
-    let ended = store.close(rt);
-    let learnt = learn_all(&mut sessions, &ended);
-    let last = ended.end(rt);
-    learnt?;
-    report_all(alloc, reports, end, sessions, last)
+    let last = end_store(rt, store, &mut sessions)?;
+    reports.push(LaneReport {
+        end,
+        last,
+        numbers: Vec::new(alloc),
+    })?;
+    report_sessions(reports, sessions, last)
 }

@@ -9,7 +9,7 @@ ghost use Rattle.route_lanes.specs.Serving.{ServesLanes};
 
 use crate::door_lanes::serve_doors;
 use crate::operator_lane::{OperatorLane, StoreState};
-use crate::session_lane::{SessionLane, learn_all, session_lanes};
+use crate::session_lane::{SessionLane, end_store, session_lanes};
 use crate::visits::DoorTally;
 use arc_graph::Weights;
 use epoch_store::{Chronicle, Store, make};
@@ -107,10 +107,7 @@ fn finish<R: Wait, T: Store>(
 {
     let OperatorLane { store, end } = operator;
     let served = sum_up(end, &sessions);
-    let ended = store.close(rt);
-    let learnt = learn_all(&mut sessions, &ended);
-    let _last = ended.end(rt);
-    learnt?;
+    end_store(rt, store, &mut sessions)?;
     Ok(served)
 }
 

@@ -1,7 +1,7 @@
 //! Parties that serve links at once, each on a thread of its own.
 ghost use Rattle.std.specs.Prelude.{◌≡◌, ◌+◌, ◌≤◌, length, All};
 ghost use Rattle.std.specs.Thread.{IsSend, IsSync};
-ghost use Rattle.route_lanes.specs.Services.{Accepts, AllServe, CallLeaves, FirstAndAllServe, ServesOne};
+ghost use Rattle.route_lanes.specs.Services.{Accepts, AcceptsBoth, AllServe, CallLeaves, FirstAndAllServe, ServesOne};
 
 use std::thread::{Threads, join_mut};
 
@@ -23,41 +23,54 @@ pub(crate) fn serve_all<
         leader.old parties.old links.old leader.new parties.new links.new }
 {
     let (first, rest) = links.split_at_mut(1);
-    serve_beside(rt, lead, leader, first, serve, parties, rest);
+    lead_beside(
+        rt,
+        &|leader: &mut O, first: &mut [L]|
+            requires { (length first.now ≡ 1) × Accepts V.Fn lead.now leader.now }
+            ensures { ServesOne (CallLeaves V.Fn lead.entry.now)
+                leader.entry.now first.entry.now leader.exit.now first.exit.now }
+        { serve_one(lead, leader, first) },
+        leader,
+        first,
+        serve,
+        parties,
+        rest,
+    );
 }
 
-/// Has one party serve a link, and beside it each of the others one of the rest.
-fn serve_beside<
+/// Has one party do its work on these items, on the caller's thread, and each of the others serve one of the links, on threads
+/// beside it. Where no thread can be started the work is done before the links are served.
+pub(crate) fn lead_beside<
     O,
+    M,
     P: Send,
     L: Send,
-    V: Fn(&mut O, &mut L),
+    V: Fn(&mut O, &mut [M]),
     W: Fn(&mut P, &mut L) + Sync,
     R: Threads + Sync,
->(rt: &R, lead: &V, leader: &mut O, first: &mut [L], serve: &W, parties: &mut [P], rest: &mut [L])
-    requires first { length first.old ≡ 1 }
+>(rt: &R, lead: &V, leader: &mut O, items: &mut [M], serve: &W, parties: &mut [P], links: &mut [L])
     requires some { 1 ≤ length parties.old }
-    requires rest { length rest.old ≡ length parties.old }
-    requires leader { Accepts V.Fn lead.now leader.old }
+    requires links { length links.old ≡ length parties.old }
+    requires leader { AcceptsBoth V.Fn lead.now leader.old items.old }
     requires parties { All (Accepts W.Fn serve.now) parties.old }
-    ensures first { ServesOne (CallLeaves V.Fn lead.now) leader.old first.old leader.new first.new }
-    ensures rest { AllServe (CallLeaves W.Fn serve.now)
-        parties.old rest.old parties.new rest.new }
+    ensures leads { CallLeaves V.Fn lead.now leader.old items.old leader.new items.new }
+    ensures serves { AllServe (CallLeaves W.Fn serve.now)
+        parties.old links.old parties.new links.new }
 {
     join_mut(
         rt,
         &mut ||
             requires { IsSync R.row × IsSync W.row × IsSend P.row × IsSend L.row
-                × (1 ≤ length parties.now) × (length rest.now ≡ length parties.now)
+                × (1 ≤ length parties.now) × (length links.now ≡ length parties.now)
                 × All (Accepts W.Fn serve.now) parties.now }
             ensures { AllServe (CallLeaves W.Fn serve.entry.now)
-                parties.entry.now rest.entry.now parties.exit.now rest.exit.now }
-        { serve_each(rt, serve, parties, rest) },
+                parties.entry.now links.entry.now parties.exit.now links.exit.now }
+        { serve_each(rt, serve, parties, links) },
         &mut ||
-            requires { (length first.now ≡ 1) × Accepts V.Fn lead.now leader.now }
-            ensures { ServesOne (CallLeaves V.Fn lead.entry.now)
-                leader.entry.now first.entry.now leader.exit.now first.exit.now }
-        { serve_one(lead, leader, first) },
+            requires { AcceptsBoth V.Fn lead.now leader.now items.now }
+            ensures { CallLeaves V.Fn lead.entry.now
+                leader.entry.now items.entry.now leader.exit.now items.exit.now }
+        { lead(leader, items) },
     );
 }
 

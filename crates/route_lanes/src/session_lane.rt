@@ -1,10 +1,12 @@
 //! The lanes of sessions.
-ghost use Rattle.std.specs.Prelude.{◌≡◌, [], ◌∷◌, All, IfOk, OnOk, map, vec_len};
+ghost use Rattle.std.specs.Prelude.{◌≡◌, [], ◌++◌, All, IfOk, OnOk, map, vec_len};
 ghost use mathlib.Core.List.{IsPrefix};
+ghost use Rattle.epoch_store.specs.Origin.{last_number};
 ghost use Rattle.session_core.specs.Answering.{CanSearch, scene_of};
-ghost use Rattle.route_lanes.specs.Served.{IsFresh, SessionServes, learnt, report_of};
+ghost use Rattle.route_lanes.specs.Served.{IsFresh, SessionServes, learnt, report_of, whole_of};
 ghost use Rattle.link_doors.specs.Links.{state_of};
 
+use crate::operator_lane::StoreState;
 use crate::report::LaneReport;
 use epoch_store::{Ended, EpochReader, Store};
 use out_of_memory::OutOfMemory;
@@ -80,7 +82,7 @@ pub(crate) fn session_lanes<T: Store, E: Copy>(
 }
 
 /// Goes on to the last epoch of a store that is closed, in each lane.
-pub(crate) fn learn_all<T: Store, E>(
+fn learn_all<T: Store, E>(
     lanes: &mut [SessionLane<T, E>],
     ended: &Ended<T>,
 ) -> Result<(), OutOfMemory>
@@ -94,24 +96,33 @@ pub(crate) fn learn_all<T: Store, E>(
     Ok(())
 }
 
-/// What is reported of the operator's lane, and then of each of these, where the last epoch has this number. The list of
-/// reports is empty before.
-pub(crate) fn report_all<T: Store>(
-    alloc: Global,
+/// Closes and ends a store, once each of these lanes has gone on to its last epoch, and answers the number of that epoch.
+pub(crate) fn end_store<T: Store, R: Wait, E>(
+    rt: &R,
+    store: StoreState<T>,
+    lanes: &mut [SessionLane<T, E>],
+) -> Result<u32, OutOfMemory>
+    ensures last { IfOk result (λ n. n ≡ last_number T.origin (whole_of store)) }
+    ensures learnt { OnOk result (lanes.new ≡ map (learnt (whole_of store)) lanes.old) }
+    ensures begins { OnOk result
+        (All (λ lane. IsPrefix lane.session.seen (whole_of store)) lanes.old) }
+{
+    let ended = store.close(rt);
+    let learnt = learn_all(lanes, &ended);
+    let last = ended.end(rt);
+    learnt?;
+    Ok(last)
+}
+
+/// Adds what is reported of each of these lanes, where the last epoch has this number.
+pub(crate) fn report_sessions<T: Store>(
     mut reports: Vec<LaneReport>,
-    operator: SessionEnd,
     lanes: Vec<SessionLane<T, SessionEnd>>,
     last: u32,
 ) -> Result<Vec<LaneReport>, OutOfMemory>
-    requires { reports.items ≡ [] }
     ensures { IfOk result (λ all. all.items
-        ≡ record { end = operator; last = last; numbers = [] } ∷ map (report_of last) lanes.items) }
+        ≡ reports.items ++ map (report_of last) lanes.items) }
 {
-    reports.push(LaneReport {
-        end: operator,
-        last,
-        numbers: Vec::new(alloc),
-    })?;
     for lane in lanes {
         reports.push(lane.report(last))?;
     }

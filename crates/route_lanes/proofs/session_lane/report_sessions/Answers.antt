@@ -1,11 +1,10 @@
-use Rattle.std.proofs.Common.{rules, List, ◌∷◌, [], sym, ap, ◌∙◌, map, map-id}
+use Rattle.std.proofs.Common.{rules, List, ◌++◌, sym, ap, ◌∙◌, map, map-id}
 use Rattle.std.proofs.lemmas.Iterator.Adapters.{YieldsList-from_vec}
 use Rattle.std.proofs.lemmas.Iterator.Consumers.{YieldsList-end}
 use Rattle.session_core.specs.declared.end.SessionEnd.{SessionEnd}
-use Rattle.route_lanes.specs.Lanes.{LaneReport}
 use Rattle.route_lanes.specs.Served.{report_of}
 use Rattle.route_lanes.specs.declared.session_lane.SessionLane.{SessionLane}
-use Rattle.route_lanes.proofs.session_lane.report_all.Goals as goal
+use Rattle.route_lanes.proofs.session_lane.report_sessions.Goals as goal
 
 pub returns : goal.returns
 returns g c =
@@ -13,5 +12,4 @@ returns g c =
     let loop = c.loop-lane in
     let road = YieldsList-from_vec {s = c.into_iter-lane-iterator.result} lanes (search rules) (search rules) in
     let end = YieldsList-end road loop.yielded loop.lane-iterator loop.yielded_by c.next.result c.next.new.self c.in-None.is c.next.ensures.steps in
-    let first : LaneReport = record { end = c.args.operator; last = c.args.last; numbers = [] } in
-    loop.invariant ∙ ap (λ (xs : List (SessionLane g.row.T.Denot SessionEnd)). first ∷ map (report_of c.args.last) xs) (sym (map-id loop.yielded) ∙ end.0)
+    loop.invariant ∙ ap (λ (xs : List (SessionLane g.row.T.Denot SessionEnd)). c.args.reports.items ++ map (report_of c.args.last) xs) (sym (map-id loop.yielded) ∙ end.0)

@@ -1,0 +1,37 @@
+use Rattle.std.proofs.Common.{List, All, map, ap, sym, subst, ◌∙◌}
+use mathlib.Core.List.{IsPrefix}
+use Rattle.route_io.specs.declared.link.Link.{Link}
+use Rattle.epoch_store.specs.Origin.{last_number}
+use Rattle.session_core.specs.Sessions.{Scene}
+use Rattle.link_doors.specs.Links.{LinkState, state_of}
+use Rattle.session_core.specs.declared.end.SessionEnd.{SessionEnd}
+use Rattle.route_lanes.specs.Served.{SessionServes, report_of, whole_of}
+use Rattle.route_lanes.specs.declared.session_lane.SessionLane.{SessionLane}
+use Rattle.route_lanes.proofs.FollowLemmas.{runs_follow}
+use Rattle.route_lanes.proofs.ReportLemmas.{ok_with, written_back}
+use Rattle.route_lanes.proofs.SaidLemmas.{as_many_parties}
+use Rattle.route_lanes.proofs.follow.follow_in_store.Goals as goal
+
+pub returns-in-Ok : goal.returns-in-Ok
+returns-in-Ok g c =
+    let o = g.T.Store.origin in
+    let context = c.args.context.now in
+    let show : Link g.row.S.Denot g.row.K.Denot → LinkState = state_of g.S.Source.state g.K.Sink.state in
+    let scene : Scene = record { graph = context.graph.now; origin = o; budget = context.budget } in
+    let one = c.follow_and_serve.new.follower in
+    let lanes = c.follow_and_serve.new.sessions in
+    let before = c.in-Ok.sessions.items in
+    let all = c.follow_and_serve.ensures in
+    let serves : SessionLane g.row.T.Denot SessionEnd → _ → SessionLane g.row.T.Denot SessionEnd → _ → Type 0 = SessionServes show scene context.bytes in
+    let count = as_many_parties serves all.sessions ∙ c.deref_mut.ensures.len in
+    let back = written_back lanes before c.in-Ok.sessions.len count in
+    let whole = whole_of one.store in
+    let last = last_number o whole in
+    let seen : List (SessionLane g.row.T.Denot SessionEnd) → Type 0 = λ xs. All (λ (x : SessionLane g.row.T.Denot SessionEnd). IsPrefix x.session.seen whole) xs in
+    ok_with c.report_follow.result _ _
+    (λ report told begins.
+    runs_follow g.F.Source.state show context.graph.now o context.budget context.bytes _ one _ _ _ lanes _ _ report c.args.weights c.args.first
+    (sym c.requires.first) (sym c.requires.base) all.follower all.sessions
+    (told ∙ ap (λ (xs : List (SessionLane g.row.T.Denot SessionEnd)). record { feeds = one.end.items; lanes = map (report_of last) xs }) back)
+    (subst seen back begins))
+    c.report_follow.ensures.reports c.report_follow.ensures.begins

@@ -7,9 +7,8 @@ ghost use Rattle.route_lanes.specs.Leading.{WritesFeed, WritesPublished};
 use arc_graph::Weights;
 use epoch_follow::put_feed;
 use epoch_store::{Chronicle, Operator, Store, make};
-use session_core::ReplyFault;
 use route_io::{Link, Sink, Source};
-use session_core::{ServeContext, SessionEnd, serve_operator};
+use session_core::{ReplyFault, ServeContext, SessionEnd, serve_operator};
 use std::marker::Brand;
 use std::sync::Wait;
 

@@ -45,7 +45,7 @@ def tell(network: Network, found: Findings) -> None:
         )
     for one in found.ranges:
         print(
-            f"{one.criterion}: {one.least} to {one.most}, half of the arcs up to {one.median:g}, {one.zeros} of 0"
+            f"{one.criterion}: {one.least} to {one.most}, half of the arcs up to {one.median:g}, {one.zeros} of weight 0"
         )
     dominated = [one for one in found.parallel if one.dominated]
     print(

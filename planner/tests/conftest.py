@@ -21,6 +21,12 @@ def program() -> Program:
 
 
 @pytest.fixture(scope="session")
+def served(program):
+    """`serve` over files, as a context: a server on two free ports, with lanes enough for a test."""
+    return lambda files: program.serve(files, lanes=4)
+
+
+@pytest.fixture(scope="session")
 def tool():
     """Runs a tool and answers its standard output; `status` is the one that is due."""
 

@@ -4,7 +4,6 @@ import socket
 import threading
 
 import pytest
-from stand_in import served
 
 from saminoha_planner.client import (
     Answer,
@@ -93,20 +92,8 @@ def test_a_slow_program_is_ended(tmp_path, six_arcs):
         list(program.batch(six_arcs, [(1, 4)]))
 
 
-def test_session_and_operator(six_arcs):
-    with served(six_arcs) as server:
-        _session_and_operator(server)
-
-
-def test_session_and_operator_of_the_real_server(program, six_arcs):
-    if not program.knows("serve"):
-        pytest.skip("the program has no command serve yet: the client was tried against a stand-in")
-    with program.serve(six_arcs, lanes=2) as server:
-        _session_and_operator(server)
-
-
-def _session_and_operator(server):
-    with Session(server.host, server.port) as session, Operator(
+def test_session_and_operator(six_arcs, served):
+    with served(six_arcs) as server, Session(server.host, server.port) as session, Operator(
         server.host, server.operator_port
     ) as operator:
         assert session.epoch() == 0
@@ -133,7 +120,7 @@ def _session_and_operator(server):
             session.wait(99, timeout=0.3)
 
 
-def test_the_number_of_criteria_is_learnt(town):
+def test_the_number_of_criteria_is_learnt(town, served):
     with served(town.files) as server, Session(server.host, server.port) as session:
         assert session.criteria == 3
         assert len(session.query(town.find("Northend"), town.find("Southend")).routes[0].cost) == 3

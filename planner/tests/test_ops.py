@@ -3,7 +3,6 @@ from __future__ import annotations
 import json
 
 import pytest
-from stand_in import served
 
 from saminoha_planner.client import Session
 from saminoha_planner.network import read_network
@@ -95,7 +94,7 @@ def test_apply(tool, town, tmp_path, program):
     assert "no arc 999" in tool("apply.py", town.folder, lines, tmp_path / "other", status=1)
 
 
-def test_sent_to_a_server(tool, town):
+def test_sent_to_a_server(tool, town, served):
     with served(town.files) as server:
         tool(
             "ops.py",

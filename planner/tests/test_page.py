@@ -10,14 +10,13 @@ from pathlib import Path
 
 import pytest
 from conftest import PLANNER
-from stand_in import served
 
 from saminoha_planner.ask import ProgramAsker, ServerAsker
 from saminoha_planner.site import LEAFLET, make_site
 
 
 @pytest.fixture(scope="module")
-def server(town):
+def server(town, served):
     with served(town.files) as server:
         yield server
 

@@ -9,5 +9,6 @@ mod refusal;
 
 pub use answer::put_answer;
 pub use line::put_line;
+pub use page::Page;
 pub use piece::Piece;
 pub use refusal::put_refusal;

@@ -12,7 +12,7 @@ const PAGE: usize = 4096;
 
 /// What is still to be sent of a text.
 #[derive(Drop)]
-pub(crate) struct Page {
+pub struct Page {
     text: ArrayString<PAGE>,
 }
 
@@ -26,7 +26,7 @@ impl Model for Page {
 
 impl Page {
     /// A page that holds nothing.
-    pub(crate) fn new() -> Page
+    pub fn new() -> Page
         ensures { result ≡ [] }
     {
         Page {
@@ -35,7 +35,7 @@ impl Page {
     }
 
     /// Puts a text behind what the page holds, which is sent where both don't fit, and so is a text longer than a page.
-    pub(crate) fn put<K: Sink>(&mut self, sink: &mut K, text: &str) -> Result<(), WriteFault>
+    pub fn put<K: Sink>(&mut self, sink: &mut K, text: &str) -> Result<(), WriteFault>
         ensures { Gathers (K.state sink.old) (K.state sink.new) self.old self.new text.now result }
     {
         if self.text.remaining_capacity() < text.len() {
@@ -49,7 +49,7 @@ impl Page {
     }
 
     /// Sends what the page holds.
-    pub(crate) fn send<K: Sink>(&mut self, sink: &mut K) -> Result<(), WriteFault>
+    pub fn send<K: Sink>(&mut self, sink: &mut K) -> Result<(), WriteFault>
         ensures empty { self.new ≡ [] }
         ensures sent { Sends (K.state sink.old) (K.state sink.new) self.old result }
     {

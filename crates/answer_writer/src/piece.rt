@@ -27,7 +27,7 @@ pub enum Piece<'a> {
 
 impl Page {
     /// Puts the pieces in order.
-    pub(crate) fn put_pieces<K: Sink>(
+    pub fn put_pieces<K: Sink>(
         &mut self,
         sink: &mut K,
         pieces: &[Piece<'_>],

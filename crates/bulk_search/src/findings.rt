@@ -1,6 +1,8 @@
 use cost_vector::{Cost, NodeNo};
-use found_fronts::FoundAtWidth;
+use found_fronts::{FoundAtWidth, SettledCosts};
+use out_of_memory::OutOfMemory;
 use settled_front::{BlockFront, NarrowBlock, StairFront};
+use std::alloc::Global;
 use stored_cost::NarrowCost;
 use walk_readback::FoundCosts;
 
@@ -62,6 +64,24 @@ impl FoundCosts for Findings {
             Findings::Two(found) => found.longest(),
             Findings::Three(found) => found.longest(),
             Findings::Four(found) => found.longest(),
+        }
+    }
+}
+
+impl SettledCosts for Findings {
+    fn settled(&self) -> usize {
+        match self {
+            Findings::Two(found) => found.settled(),
+            Findings::Three(found) => found.settled(),
+            Findings::Four(found) => found.settled(),
+        }
+    }
+
+    fn costs_of(&self, alloc: Global, node: NodeNo) -> Result<Vec<Cost>, OutOfMemory> {
+        match self {
+            Findings::Two(found) => found.costs_of(alloc, node),
+            Findings::Three(found) => found.costs_of(alloc, node),
+            Findings::Four(found) => found.costs_of(alloc, node),
         }
     }
 }

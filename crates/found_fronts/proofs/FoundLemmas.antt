@@ -1,6 +1,6 @@
 -- What is found in the fronts of all nodes.
 use Rattle.std.proofs.Common.{◌≡◌, ◌↔◌, ℕ, ◌<◌, List, [], ◌∷◌, Option, Some, length, map, get_or, refl, sym, ap, ◌∙◌, arith, option_map}
-use Rattle.std.specs.Prelude.{All, slice_get}
+use Rattle.std.specs.Prelude.{All, IfOk, Result, Ok, Err, slice_get}
 use Rattle.std.proofs.lemmas.List.Elements.{All-nil, All-cons, All-head, All-tail}
 use Rattle.std.proofs.lemmas.Option.{slice_get-map, slice_get-get_or}
 use Rattle.cost_vector.specs.Costs.{AtMost}
@@ -13,6 +13,7 @@ use Rattle.settled_fronts.specs.NodeFronts.{AreFronts, Fronts, costs_at}
 use Rattle.settled_fronts.proofs.PairLemmas.{in_settled_pairs, settled_pairs_once}
 use Rattle.walk_readback.specs.Found.{FoundCosts, IsBelowSettled, IsCovered, IsFound}
 use Rattle.found_fronts.specs.FoundFronts.{found_in, IsOfFronts}
+use Rattle.found_fronts.specs.SettledCosts.{ListsSettled}
 
 module _ (d bound start target : ℕ) (costs : List (List ℕ)) (fronts : Fronts) where
   abbrev found : FoundCosts
@@ -42,6 +43,10 @@ module _ (d bound start target : ℕ) (costs : List (List ℕ)) (fronts : Fronts
     λ covered. record { by = covered.cost; contains = (in_settled_pairs fronts v covered.cost).0 covered.settled; at_most = covered.at_most },
   )
 
+  -- the costs of a node's front are what is settled there
+  pub lists_settled : (v : ℕ) (list : List (List ℕ)) → ListsCosts (costs_at fronts v) list → ListsSettled found v list
+  lists_settled v list lists = record { ascending = lists.ascending; exact = λ c. alike_through (lists.exact c) (alike_back (in_settled_pairs fronts v c)) }
+
   -- there is room for what is at most a settled cost
   pub fits_below : AreFronts d bound fronts → (c : List ℕ) → IsBelowSettled found c → All (λ x. x < bound) c
   fits_below are c below =
@@ -61,3 +66,8 @@ cost_found {D} list i x within read =
     slice_get-map (λ (c : CompactCost D). c.0) list i
     ∙ ap (λ (o : Option (CompactCost D)). option_map (λ (c : CompactCost D). c.0) o) (slice_get-get_or list i x within)
     ∙ ap (λ (y : CompactCost D). let o : Option (List ℕ) = Some y.0 in o) (sym read)
+
+-- what holds of each value of a kind holds of the value, if there is one
+pub if_ok_then : {T E : Type 0} {P Q : T → Type 0} (r : Result T E) → IfOk r P → ((x : T) → P x → Q x) → IfOk r Q
+if_ok_then (Ok x) holds each = each x holds
+if_ok_then (Err e) holds each = holds

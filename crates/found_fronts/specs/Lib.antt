@@ -1,2 +1,3 @@
 pub mod FoundFronts
 pub mod FoundAtWidth
+pub mod SettledCosts

@@ -2,6 +2,8 @@ ghost use Rattle.std.specs.Prelude.{IfOk};
 ghost use Rattle.road_network.specs.Network.{IsNode};
 ghost use Rattle.found_fronts.specs.FoundFronts.{IsOfFronts};
 
+use crate::SettledCosts;
+use crate::settled::to_costs;
 use cost_vector::{CompactCost, Cost, NodeNo};
 use out_of_memory::OutOfMemory;
 use settled_front::SettledFront;
@@ -86,5 +88,17 @@ impl<const D: usize, F: SettledFront<D>> FoundCosts for FoundFronts<D, F> {
     fn longest(&self) -> u32 {
         let most = self.fronts.len().min(self.fronts.nodes() as usize);
         most.saturating_sub(1) as u32
+    }
+}
+
+impl<const D: usize, F: SettledFront<D>> SettledCosts for FoundFronts<D, F> {
+    fn settled(&self) -> usize {
+        self.fronts.len()
+    }
+
+    fn costs_of(&self, alloc: Global, node: NodeNo) -> Result<Vec<Cost>, OutOfMemory> {
+        self.fronts.costs_are_stored();
+        let list = self.fronts.costs_of(alloc, node)?;
+        to_costs(alloc, &list)
     }
 }

@@ -2,7 +2,9 @@
 #![tactic(auto)]
 
 mod found;
+mod settled;
 mod width;
 
 pub use found::FoundFronts;
+pub use settled::SettledCosts;
 pub use width::FoundAtWidth;

@@ -1,6 +1,8 @@
-use crate::FoundFronts;
+use crate::{FoundFronts, SettledCosts};
 use cost_vector::{Cost, NodeNo};
+use out_of_memory::OutOfMemory;
 use settled_front::NarrowFront;
+use std::alloc::Global;
 use walk_readback::FoundCosts;
 
 /// What a search has found, at the width at which it ended.
@@ -54,6 +56,22 @@ impl<const D: usize, F: NarrowFront<D>> FoundCosts for FoundAtWidth<D, F> {
         match self {
             FoundAtWidth::Narrow(found) => found.longest(),
             FoundAtWidth::Wide(found) => found.longest(),
+        }
+    }
+}
+
+impl<const D: usize, F: NarrowFront<D>> SettledCosts for FoundAtWidth<D, F> {
+    fn settled(&self) -> usize {
+        match self {
+            FoundAtWidth::Narrow(found) => found.settled(),
+            FoundAtWidth::Wide(found) => found.settled(),
+        }
+    }
+
+    fn costs_of(&self, alloc: Global, node: NodeNo) -> Result<Vec<Cost>, OutOfMemory> {
+        match self {
+            FoundAtWidth::Narrow(found) => found.costs_of(alloc, node),
+            FoundAtWidth::Wide(found) => found.costs_of(alloc, node),
         }
     }
 }

@@ -4,3 +4,4 @@ pub mod ArcLemmas
 pub mod RuleLemmas
 pub mod DraftLemmas
 pub mod ReadLemmas
+pub mod FoundLemmas

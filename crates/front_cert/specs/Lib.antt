@@ -1,4 +1,5 @@
 pub mod Listing
+pub mod Found
 pub mod Lookup
 pub mod Text
 pub mod Checks

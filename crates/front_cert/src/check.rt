@@ -2,6 +2,9 @@ ghost use Rattle.std.specs.Prelude.{IfOk, IfSome};
 ghost use Rattle.route_io.specs.Sources.{ReadsFrom};
 ghost use Rattle.cert_rules.specs.Certificates.{IsCertificate};
 ghost use Rattle.cert_rules.specs.Meaning.{ShowsAnswer};
+ghost use Rattle.cost_vector.specs.Costs.{no_limit};
+ghost use Rattle.walk_readback.specs.Found.{IsWellFound};
+ghost use Rattle.front_cert.specs.Found.{found_of};
 ghost use Rattle.front_cert.specs.Listing.{IsListingOf};
 ghost use Rattle.front_cert.specs.Reads.{ChecksText, cert_failed};
 
@@ -22,10 +25,12 @@ pub fn check_cert<S: Source>(
     ensures checks { IfSome (S.state source.old).left
         (λ bytes. ChecksText network.now bytes result) }
 
-    // Over every source what is answered is a certificate of the network, and shows the answer.
+    // Over every source what is answered is a certificate of the network, and shows the answer, as what a search has found does.
     ensures of { IfOk result (IsListingOf network.now) }
     ensures certificate { IfOk result (λ listing. IsCertificate network.now listing.cert) }
     ensures shows { IfOk result (λ listing. ShowsAnswer network.now listing.cert) }
+    ensures well_found { IfOk result (λ listing.
+        IsWellFound network.now (no_limit network.now.criteria) (found_of listing)) }
 
     // The source's failures alone make a failed read.
     ensures source { ReadsFrom (S.state source.old) (S.state source.new) (cert_failed result) }

@@ -7,6 +7,7 @@
 mod check;
 mod draft;
 mod fault;
+mod found;
 mod listing;
 mod lookup;
 mod reader;

@@ -1,8 +1,10 @@
 ghost use Rattle.std.specs.Prelude.{◌≡◌, ◌<◌, ◌≤◌, ◌↔◌, ℕ, Some, length, map, slice_get, slice_index, Contains, IsTrue, IfSome};
 ghost use Rattle.cert_rules.specs.Certificates.{IsBeaten};
-ghost use Rattle.front_cert.specs.Listing.{line_of};
+ghost use Rattle.road_network.specs.Network.{IsNode};
+ghost use Rattle.front_cert.specs.Listing.{AreKept, IsListingOf, line_of};
 
 use crate::lookup::{arc_at, is_beaten_at, place_of};
+use arc_graph::Network;
 use cost_vector::{ArcNo, Cost, Label, NodeNo};
 use std::marker::Model;
 
@@ -36,33 +38,52 @@ impl Model for Listing {
 }
 
 impl Listing {
+    /// The certificate of labels that ascend.
+    pub fn of_labels(
+        network: &Network<'_>,
+        start: NodeNo,
+        target: NodeNo,
+        labels: Vec<Label>,
+    ) -> Listing
+        requires start { IsNode network.now.nodes start.0 }
+        requires target { IsNode network.now.nodes target.0 }
+        requires kept { AreKept network.now.criteria labels.items }
+        ensures of { IsListingOf network.now result }
+        ensures says { result.cert ≡ record {
+          start = start.0;
+          target = target.0;
+          labels = map line_of labels.items;
+        } }
+    {
+        Listing {
+            nodes: network.nodes(),
+            criteria: network.criteria(),
+            start,
+            target,
+            labels,
+        }
+    }
+
+    /// The number of criteria.
+    pub fn criteria(&self) -> usize
+        ensures { result ≡ self.now.criteria }
+    {
+        self.criteria
+    }
+
     /// The number of labels.
-    pub(crate) fn len(&self) -> usize
+    pub fn len(&self) -> usize
         ensures { result ≡ length self.now.cert.labels }
     {
         self.labels.len()
     }
 
     /// The label at the place `i`, from 0.
-    pub(crate) fn label(&self, i: usize) -> Label
+    pub fn label(&self, i: usize) -> Label
         requires { i < length self.now.cert.labels }
         ensures { slice_get self.now.cert.labels i ≡ Some (line_of result) }
     {
         self.labels[i]
-    }
-
-    /// The node from which walks lead.
-    pub(crate) fn start(&self) -> NodeNo
-        ensures { result.0 ≡ self.now.cert.start }
-    {
-        self.start
-    }
-
-    /// The node to which they lead.
-    pub(crate) fn target(&self) -> NodeNo
-        ensures { result.0 ≡ self.now.cert.target }
-    {
-        self.target
     }
 
     /// The arc of the label of this node and this cost, if there is one.

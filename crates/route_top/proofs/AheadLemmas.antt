@@ -9,8 +9,8 @@ use Rattle.std.proofs.lemmas.Slice.Zip.{AllZip-long}
 use Rattle.road_network.specs.Network.{Network}
 use Rattle.road_network.specs.declared.query.AnswerKind.TheVariants.{Walks}
 use Rattle.query_reader.specs.declared.pairs.Pair.{Pair}
-use Rattle.query_replies.specs.declared.made.MadeReply.{MadeReply}
-use Rattle.query_replies.specs.Making.{AreMade}
+use Rattle.session_core.specs.declared.made.MadeReply.{MadeReply}
+use Rattle.session_core.specs.Making.{AreMade}
 use Rattle.command_words.specs.declared.SearchLimits.{SearchLimits}
 use Rattle.route_top.specs.Ahead.{AreAhead, IsAhead}
 use Rattle.route_top.specs.Batch.{query_between}

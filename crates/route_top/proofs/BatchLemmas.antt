@@ -16,11 +16,11 @@ use Rattle.route_io.proofs.SendsLemmas.{Sent, Sends-then}
 use Rattle.road_network.specs.declared.query.AnswerKind.TheVariants.{Walks}
 use Rattle.command_words.specs.declared.SearchLimits.{SearchLimits}
 use Rattle.command_words.specs.Words.{BatchAsked, batch}
-use Rattle.query_replies.specs.declared.reply.Reply.{Reply}
-use Rattle.query_replies.specs.declared.fault.ReplyFault.{ReplyFault}
-use Rattle.query_replies.specs.declared.fault.ReplyFault.TheVariants as fault
-use Rattle.query_replies.specs.Queries.{RepliesToQuery}
-use Rattle.query_replies.specs.Sending.{Replied, SendsReply}
+use Rattle.session_core.specs.declared.reply.Reply.{Reply}
+use Rattle.session_core.specs.declared.fault.ReplyFault.{ReplyFault}
+use Rattle.session_core.specs.declared.fault.ReplyFault.TheVariants as fault
+use Rattle.session_core.specs.Queries.{RepliesToQuery}
+use Rattle.session_core.specs.Sending.{Replied, SendsReply}
 use Rattle.route_top.specs.declared.stop.Stop.TheVariants as stop
 use Rattle.route_top.specs.Batch.{BatchReplies, PairsEnd, PairsReplies, PairsStop, RepliesTo, RepliesToEach, SaysPairs, StarvesAtPair}
 use Rattle.route_top.specs.Batch.{pairs_read, pairs_stop, query_between}

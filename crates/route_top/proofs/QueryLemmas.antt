@@ -7,12 +7,12 @@ use Rattle.road_network.specs.Network.{Network}
 use Rattle.route_io.specs.Sinks.{SinkState}
 use Rattle.road_network.specs.declared.query.AnswerKind.{AnswerKind}
 use Rattle.road_network.specs.declared.query.Query.{Query}
-use Rattle.query_replies.specs.declared.reply.Reply.{Reply}
-use Rattle.query_replies.specs.declared.reply.Reply.TheVariants.{Answer, Refusal}
-use Rattle.query_replies.specs.declared.fault.ReplyFault.{ReplyFault}
-use Rattle.query_replies.specs.declared.fault.ReplyFault.TheVariants as fault
-use Rattle.query_replies.specs.Queries.{RepliesToQuery}
-use Rattle.query_replies.specs.Sending.{Replied, SendsReply}
+use Rattle.session_core.specs.declared.reply.Reply.{Reply}
+use Rattle.session_core.specs.declared.reply.Reply.TheVariants.{Answer, Refusal}
+use Rattle.session_core.specs.declared.fault.ReplyFault.{ReplyFault}
+use Rattle.session_core.specs.declared.fault.ReplyFault.TheVariants as fault
+use Rattle.session_core.specs.Queries.{RepliesToQuery}
+use Rattle.session_core.specs.Sending.{Replied, SendsReply}
 use Rattle.route_top.specs.declared.stop.Stop.TheVariants as stop
 use Rattle.route_top.specs.Queries.{QueryReplies}
 use Rattle.route_top.specs.Stops.{Replies, outcome_of, reply_outcome, stop_at}

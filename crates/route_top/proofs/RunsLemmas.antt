@@ -7,8 +7,8 @@ use Rattle.route_io.specs.declared.fault.WriteFault.TheVariants as write
 use Rattle.route_io.specs.Sinks.{SinkState, Sends}
 use Rattle.route_io.specs.Sources.{SourceState, ReadsFrom}
 use Rattle.route_io.proofs.ReadsLemmas.{ReadsFrom-then}
-use Rattle.query_replies.specs.declared.reply.Reply.{Reply}
-use Rattle.query_replies.specs.declared.reply.Reply.TheVariants.{Answer, Refusal}
+use Rattle.session_core.specs.declared.reply.Reply.{Reply}
+use Rattle.session_core.specs.declared.reply.Reply.TheVariants.{Answer, Refusal}
 use Rattle.route_top.specs.declared.stop.Stop.TheVariants as stop
 use Rattle.route_top.specs.Outcome.{Outcome, done, refused, no_memory, status_of, out_has_wanted}
 use Rattle.route_top.specs.Output.{TookNote, RunsCommand, EndsOrCut, uncut, failed, wanted, IsCut}

@@ -4,8 +4,8 @@ use Rattle.std.specs.List.{AllZip}
 use Rattle.road_network.specs.Network.{Network}
 use Rattle.road_network.specs.declared.query.AnswerKind.TheVariants.{Walks}
 use Rattle.query_reader.specs.declared.pairs.Pair.{Pair}
-use Rattle.query_replies.specs.declared.made.MadeReply.{MadeReply}
-use Rattle.query_replies.specs.Making.{IsMade}
+use Rattle.session_core.specs.declared.made.MadeReply.{MadeReply}
+use Rattle.session_core.specs.Making.{IsMade}
 use Rattle.command_words.specs.declared.SearchLimits.{SearchLimits}
 use Rattle.route_top.specs.Batch.{query_between}
 

@@ -7,8 +7,8 @@ use Rattle.road_network.specs.Network.{Network}
 use Rattle.gr_reader.specs.declared.fault.LineKind.{LineKind}
 use Rattle.query_reader.specs.Grammar.{IsPairs, PairFault}
 use Rattle.query_reader.specs.declared.pairs.Pair.{Pair}
-use Rattle.query_replies.specs.declared.reply.Reply.{Reply}
-use Rattle.query_replies.specs.Queries.{RepliesToQuery}
+use Rattle.session_core.specs.declared.reply.Reply.{Reply}
+use Rattle.session_core.specs.Queries.{RepliesToQuery}
 use Rattle.road_network.specs.declared.query.AnswerKind.TheVariants.{Walks}
 use Rattle.road_network.specs.declared.query.Query.{Query}
 use Rattle.command_words.specs.declared.SearchLimits.{SearchLimits}

@@ -3,8 +3,8 @@ use Rattle.std.specs.Prelude.{◌≡◌, ℕ, List, []}
 use Rattle.road_network.specs.Network.{Network}
 use Rattle.road_network.specs.declared.query.AnswerKind.{AnswerKind}
 use Rattle.road_network.specs.declared.query.Query.{Query}
-use Rattle.query_replies.specs.declared.reply.Reply.TheVariants.{Answer, Refusal}
-use Rattle.query_replies.specs.Queries.{RepliesToQuery}
+use Rattle.session_core.specs.declared.reply.Reply.TheVariants.{Answer, Refusal}
+use Rattle.session_core.specs.Queries.{RepliesToQuery}
 use Rattle.route_top.specs.Outcome.{Outcome, done, refused, no_memory}
 
 -- The reply at epoch 0 is the answer or a refusal, unless memory runs out before its first byte.

@@ -7,10 +7,10 @@ use Rattle.link_doors.specs.declared.town.TownFault.TheVariants as town
 use Rattle.route_io.specs.Sinks.{SinkState}
 use Rattle.route_io.specs.Sources.{SourceState}
 use Rattle.route_io.specs.declared.fault.WriteFault.TheVariants as write
-use Rattle.query_replies.specs.declared.reply.Reply.{Reply}
-use Rattle.query_replies.specs.declared.reply.Reply.TheVariants.{Answer, Refusal}
-use Rattle.query_replies.specs.declared.fault.ReplyFault.{ReplyFault}
-use Rattle.query_replies.specs.declared.fault.ReplyFault.TheVariants as reply
+use Rattle.session_core.specs.declared.reply.Reply.{Reply}
+use Rattle.session_core.specs.declared.reply.Reply.TheVariants.{Answer, Refusal}
+use Rattle.session_core.specs.declared.fault.ReplyFault.{ReplyFault}
+use Rattle.session_core.specs.declared.fault.ReplyFault.TheVariants as reply
 use Rattle.route_top.specs.declared.script.Script.{Script}
 use Rattle.route_top.specs.declared.script.Script.TheVariants.{Operator, Session}
 use Rattle.route_top.specs.declared.script.ScriptFault.{ScriptFault}

@@ -20,7 +20,7 @@ use command_words::{BatchWords, SearchLimits};
 use gr_reader::FileFault;
 use out_of_memory::OutOfMemory;
 use query_reader::{Pair, read_p2p};
-use query_replies::{Answerer, MadeReply};
+use session_core::{Answerer, MadeReply};
 use road_network::{AnswerKind, Query};
 use route_io::{Folder, Gate, Sink};
 use std::alloc::Global;

@@ -9,7 +9,7 @@ use crate::stop::Stop;
 use answer_writer::{Piece, put_line};
 use arc_graph::NetworkSizes;
 use out_of_memory::OutOfMemory;
-use query_replies::Reply;
+use session_core::Reply;
 use route_io::{Sink, WriteFault, put_all};
 
 /// The epoch of each reply, since nothing is published.

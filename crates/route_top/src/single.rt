@@ -12,7 +12,7 @@ use crate::reply::{EPOCH, end_of};
 use crate::stop::Stop;
 use arc_graph::Network;
 use command_words::SingleWords;
-use query_replies::Answerer;
+use session_core::Answerer;
 use road_network::{AnswerKind, Query};
 use route_io::{Folder, Gate, Sink};
 use std::alloc::Global;

@@ -16,7 +16,7 @@ use gr_reader::LineKind;
 use itoa::Buffer;
 use link_doors::TownFault;
 use out_of_memory::OutOfMemory;
-use query_replies::ReplyFault;
+use session_core::ReplyFault;
 use route_io::sure::SureSink;
 use route_io::{Sink, WriteFault, put_all};
 use std::alloc::Global;

@@ -5,8 +5,8 @@ use Rattle.std.specs.Io.KnownBytes.{Appends}
 use Rattle.std.proofs.lemmas.List.{append-nil}
 use Rattle.route_io.specs.Sinks.{SinkState, Sends}
 use Rattle.route_io.specs.declared.fault.WriteFault.{WriteFault}
-use Rattle.query_replies.specs.declared.fault.ReplyFault.{ReplyFault}
-use Rattle.query_replies.specs.declared.fault.ReplyFault.TheVariants as fault
+use Rattle.session_core.specs.declared.fault.ReplyFault.{ReplyFault}
+use Rattle.session_core.specs.declared.fault.ReplyFault.TheVariants as fault
 use Rattle.session_core.specs.declared.handler.Answered.{Answered}
 use Rattle.session_core.specs.Handlers.{AnswersLine, TellsOne}
 use Rattle.session_core.specs.Exchanges.{Exchange}

@@ -1,3 +1,5 @@
+pub mod ReplyLemmas
+mod MakingLemmas
 mod LineKindLemmas
 mod AnswersLineLemmas
 pub mod StayLemmas

@@ -9,8 +9,8 @@ use Rattle.list_laws.proofs.Pairs.{pairs_push}
 use Rattle.route_io.specs.Sinks.{SinkState, Sends}
 use Rattle.route_io.specs.declared.fault.WriteFault.{WriteFault}
 use Rattle.arc_graph.specs.History.{History}
-use Rattle.query_replies.specs.declared.fault.ReplyFault.{ReplyFault}
-use Rattle.query_replies.specs.declared.fault.ReplyFault.TheVariants as fault
+use Rattle.session_core.specs.declared.fault.ReplyFault.{ReplyFault}
+use Rattle.session_core.specs.declared.fault.ReplyFault.TheVariants as fault
 use Rattle.epoch_store.specs.Origin.{Origin, last_number}
 use Rattle.epoch_store.proofs.PrefixLemmas.{prefix_self, prefix_trans}
 use Rattle.session_requests.specs.Requests.{AsksOfSession}

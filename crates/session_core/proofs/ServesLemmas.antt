@@ -21,8 +21,8 @@ use Rattle.line_text.specs.declared.limits.Request.TheVariants.{Whole, Long}
 use Rattle.line_text.proofs.AdvancesLemmas.{rest_told}
 use Rattle.line_text.proofs.LineLemmas.{first_lf-le, length-raw_line}
 use Rattle.epoch_store.proofs.PrefixLemmas.{prefix_trans}
-use Rattle.query_replies.specs.declared.fault.ReplyFault.{ReplyFault}
-use Rattle.query_replies.specs.declared.fault.ReplyFault.TheVariants as reply
+use Rattle.session_core.specs.declared.fault.ReplyFault.{ReplyFault}
+use Rattle.session_core.specs.declared.fault.ReplyFault.TheVariants as reply
 use Rattle.session_core.specs.declared.end.SessionEnd.{SessionEnd}
 use Rattle.session_core.specs.declared.end.SessionEnd.TheVariants.{Ended, ReadFault, WriteFault, TooLong, OutOfMemory}
 use Rattle.session_core.specs.declared.handler.Answered.{Answered}

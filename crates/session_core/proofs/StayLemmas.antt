@@ -10,7 +10,7 @@ use Rattle.arc_graph.specs.History.{History, ends_closed, epoch_after, sets, set
 use Rattle.arc_graph.proofs.HistoryLemmas.{epoch_earlier, sets_of_both}
 use Rattle.road_network.specs.declared.query.AnswerKind.{AnswerKind}
 use Rattle.road_network.specs.declared.query.Query.{Query}
-use Rattle.query_replies.specs.Queries.{RepliesToQuery}
+use Rattle.session_core.specs.Queries.{RepliesToQuery}
 use Rattle.epoch_store.specs.Origin.{Origin, arcs_of, criteria_of, last_number}
 use Rattle.epoch_store.proofs.ClosedLemmas.{no_further}
 use Rattle.epoch_store.proofs.PrefixLemmas.{prefix_trans}

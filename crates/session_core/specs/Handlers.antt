@@ -4,8 +4,8 @@ use Rattle.std.specs.Borrow.{Bor, MutBor}
 use Rattle.line_text.specs.declared.limits.Request.{Request as Kind}
 use Rattle.route_io.specs.Sinks.{SinkState, Sends}
 use Rattle.route_io.specs.declared.fault.WriteFault.{WriteFault}
-use Rattle.query_replies.specs.declared.fault.ReplyFault.{ReplyFault}
-use Rattle.query_replies.specs.declared.fault.ReplyFault.TheVariants as fault
+use Rattle.session_core.specs.declared.fault.ReplyFault.{ReplyFault}
+use Rattle.session_core.specs.declared.fault.ReplyFault.TheVariants as fault
 use Rattle.session_core.specs.declared.handler.Answered.{Answered}
 use Rattle.session_core.specs.declared.handler.Answered.TheVariants.{Replied, Bye}
 use Rattle.session_core.specs.Lines.{IsText}

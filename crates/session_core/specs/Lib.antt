@@ -1,3 +1,6 @@
+pub mod Queries
+pub mod Sending
+pub mod Making
 pub mod Lines
 pub mod Exchanges
 pub mod Links

@@ -7,8 +7,8 @@ use Rattle.arc_graph.specs.History.{History, ends_closed, epoch_after}
 use Rattle.answer_writer.specs.Replies.{and_number, end_line}
 use Rattle.road_network.specs.declared.query.AnswerKind.{AnswerKind}
 use Rattle.road_network.specs.declared.query.AnswerKind.TheVariants.{Costs, Walks}
-use Rattle.query_replies.specs.Queries.{RepliesToQuery}
-use Rattle.query_replies.specs.declared.reply.Reply.{Reply}
+use Rattle.session_core.specs.Queries.{RepliesToQuery}
+use Rattle.session_core.specs.declared.reply.Reply.{Reply}
 use Rattle.epoch_store.specs.Origin.{Origin, last_number}
 use Rattle.session_requests.specs.Requests.{AsksOfSession}
 use Rattle.session_requests.specs.declared.line.Line.{Line}

@@ -18,7 +18,7 @@ use crate::operator_reply::{Applied, put_reply};
 use crate::serve::serve;
 use epoch_store::{Operator, Store};
 use line_text::Request;
-use query_replies::ReplyFault;
+use crate::fault::ReplyFault;
 use route_io::{Link, Sink, Source};
 use session_requests::{Line, OperatorRequest, read_operator_request};
 use std::sync::Wait;

@@ -11,7 +11,7 @@ use crate::SessionEnd;
 use crate::handler::{Answered, LineHandler};
 use line_text::{LineFault, LineLimits, Lines, Request};
 use out_of_memory::OutOfMemory;
-use query_replies::ReplyFault;
+use crate::fault::ReplyFault;
 use route_io::{Link, Sink, Source, WriteFault};
 use std::alloc::Global;
 

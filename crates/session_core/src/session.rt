@@ -24,7 +24,7 @@ use crate::short::refuse_line;
 use epoch_store::{Ended, EpochReader, Store};
 use line_text::Request;
 use out_of_memory::OutOfMemory;
-use query_replies::ReplyFault;
+use crate::fault::ReplyFault;
 use route_io::{Gate, Link, Sink, Source};
 use session_requests::{Line, SessionRequest, read_session_request};
 use std::alloc::Global;

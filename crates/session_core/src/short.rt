@@ -5,7 +5,7 @@ ghost use Rattle.session_core.specs.Answering.{RepliesOneOf};
 ghost use Rattle.session_core.specs.Sessions.{closed_reply, epoch_reply, line_refusal};
 
 use answer_writer::{Piece, put_line};
-use query_replies::ReplyFault;
+use crate::fault::ReplyFault;
 use route_io::{Sink, WriteFault};
 
 /// Sends the number of an epoch.

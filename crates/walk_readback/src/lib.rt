@@ -15,5 +15,5 @@ pub use laws::{
     found_with_all_relevant_is_well_found, least_arcs_back_are_last_arcs,
     least_relevant_arcs_back_are_last_arcs,
 };
-pub use readback::walk;
+pub use readback::{last_arc, walk};
 pub use room::Room;

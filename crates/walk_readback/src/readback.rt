@@ -4,8 +4,8 @@ ghost use Rattle.list_laws.specs.Least.{IsLeastIfAny};
 ghost use Rattle.arc_graph.specs.Graph.{head_of};
 ghost use Rattle.road_network.specs.Network.{IsNode};
 ghost use Rattle.road_network.specs.Best.{IsBackwardLeast};
-ghost use Rattle.walk_readback.specs.Found.{IsBelowSettled, IsWellFound, longest_in};
-ghost use Rattle.walk_readback.specs.GoingBack.{LeavesCovered};
+ghost use Rattle.walk_readback.specs.Found.{HasAllRelevant, HasSettled, IsBelowSettled, IsWellFound, longest_in};
+ghost use Rattle.walk_readback.specs.GoingBack.{LeavesCovered, last_of};
 
 use crate::{FoundCosts, Room};
 use arc_graph::Network;
@@ -43,6 +43,27 @@ pub fn walk<F: FoundCosts>(network: &Network<'_>, found: &F, i: usize, room: &mu
         cost = step.before;
     }
     room.reverse();
+}
+
+/// The last arc of the backward-least walk to a node of a cost that is settled there, or `None` for the walk without arcs.
+pub fn last_arc<F: FoundCosts>(
+    network: &Network<'_>,
+    found: &F,
+    node: NodeNo,
+    cost: &Cost,
+) -> Option<ArcNo>
+    requires settled { HasSettled (F.state found.now) node.0 cost.now }
+    requires nodes { (F.state found.now).nodes ≡ network.now.nodes }
+    requires criteria { (F.state found.now).criteria ≡ network.now.criteria }
+    requires all_relevant { (limit : List (Option ℕ))
+        × HasAllRelevant network.now limit (F.state found.now) }
+    ensures { (p : List ℕ)
+        → IsBackwardLeast network.now (F.state found.now).start node.0 cost.now p
+        → option_map (λ a. a.0) result ≡ last_of p }
+{
+    prove!(network.nodes() >= 1);
+    let step = step_back(network, found, node, cost)?;
+    Some(step.arc)
 }
 
 /// The least arc into a node whose tail has a settled cost at most what the arc leaves of this cost.

@@ -3,6 +3,8 @@
 const byId = (id) => document.getElementById(id);
 const SVG = "http://www.w3.org/2000/svg";
 const WIDTHS = {motorway: 4, trunk: 4, primary: 3.2, secondary: 2.6, tertiary: 2};
+// What is shown lies beside the buttons of the zoom, so that each place can be clicked.
+const BESIDE_CONTROLS = {paddingTopLeft: [60, 30], paddingBottomRight: [30, 30]};
 const map = L.map("map", {preferCanvas: true, zoomSnap: 0.25});
 const lanes = L.layerGroup().addTo(map);
 const pins = L.layerGroup().addTo(map);
@@ -51,7 +53,7 @@ async function begin() {
     roadLines.set(road, line);
     all.extend(line.getBounds());
   }
-  map.fitBounds(all);
+  map.fitBounds(all, BESIDE_CONTROLS);
   L.control.scale({imperial: false}).addTo(map);
   byId("places").append(...names(network.places.map((place) => place.name)));
   byId("roads").append(...names(network.roads.map((road) => road.title)));
@@ -129,7 +131,7 @@ async function ask(isFresh) {
   const [count, within, few] = [answer.costs, answer.within, answer.options].map((list) => list.length);
   tell(count === 0 ? "No way leads there."
     : `${count} trade-offs at epoch ${answer.epoch}, ${within} within the limits, ${few} shown.`);
-  if (isFresh && few) map.fitBounds(answer.options.flatMap((option) => option.line), {padding: [30, 30]});
+  if (isFresh && few) map.fitBounds(answer.options.flatMap((option) => option.line), BESIDE_CONTROLS);
 }
 
 function clear() {
@@ -202,7 +204,7 @@ function drawTable() {
     row.append(cell, ...option.texts.map((text) => element("td", {}, text)), element("td", {}, option.via));
     row.onmouseenter = button.onfocus = () => light(option.letter);
     row.onmouseleave = button.onblur = () => light(null);
-    button.onclick = () => map.fitBounds(option.shape.getBounds(), {padding: [30, 30]});
+    button.onclick = () => map.fitBounds(option.shape.getBounds(), BESIDE_CONTROLS);
     return row;
   }));
 }

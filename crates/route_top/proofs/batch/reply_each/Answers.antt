@@ -4,9 +4,9 @@ use Rattle.std.proofs.lemmas.Result.{err_from_is_err_and}
 use Rattle.query_reader.specs.declared.pairs.Pair.{Pair}
 use Rattle.road_network.specs.declared.query.AnswerKind.TheVariants.{Walks}
 use Rattle.road_network.specs.declared.query.Query.{Query}
-use Rattle.query_replies.specs.Making.{IsMade}
-use Rattle.query_replies.specs.Queries.{RepliesToQuery}
-use Rattle.query_replies.specs.Sending.{Replied}
+use Rattle.session_core.specs.Making.{IsMade}
+use Rattle.session_core.specs.Queries.{RepliesToQuery}
+use Rattle.session_core.specs.Sending.{Replied}
 use Rattle.route_top.proofs.AheadLemmas.{taken_behind}
 use Rattle.route_top.proofs.BatchLemmas.{all_replied, ends_at_pair, none_replied, one_more_replied}
 use Rattle.route_top.proofs.batch.reply_each.Goals as goal

@@ -1,3 +1,0 @@
-pub mod Queries
-pub mod Sending
-pub mod Making

@@ -1,0 +1,104 @@
+ghost use Rattle.std.specs.Prelude.{◌≡◌, ◌≤◌, ℕ, List, length};
+ghost use Rattle.road_network.specs.Answers.{IsAnswer, Route};
+ghost use Rattle.walk_readback.specs.Found.{IsOf, IsWellFound};
+ghost use Rattle.road_network.specs.Queries.{IsAsked, limit_of};
+ghost use Rattle.answer_writer.specs.Replies.{refusal, reply_of};
+ghost use Rattle.session_core.specs.Queries.{RepliesToQuery};
+ghost use Rattle.session_core.specs.Sending.{IsReplyOf, Replied};
+ghost use Rattle.session_core.specs.declared.reply.Reply.TheVariants.{Answer, Refusal};
+
+use crate::fault::ReplyFault;
+use crate::reply::Reply;
+use answer_writer::{put_answer, put_refusal};
+use arc_graph::Network;
+use bulk_search::find;
+use road_network::{AnswerKind, Query, SearchFault};
+use route_io::{Gate, Sink};
+use std::alloc::Global;
+use std::thread::Threads;
+use walk_readback::{FoundCosts, Room};
+use work_claim::Workers;
+
+/// Who replies to queries over one network, with workers who share each search.
+#[derive(Drop)]
+pub struct Answerer<'n, R, G> {
+    pub workers: &'n Workers<'n, R, G>,
+    pub alloc: Global,
+    pub network: &'n Network<'n>,
+}
+
+impl<R: Threads + Sync, G: Gate> Answerer<'_, R, G> {
+    /// Sends the reply to a query at an epoch, and answers what it is. Nothing but a fault of the sink cuts it: all memory,
+    /// also the room for the longest walk, is taken before its first byte. The room may serve one reply after another.
+    pub fn reply<K: Sink>(
+        &self,
+        epoch: u32,
+        kind: AnswerKind,
+        query: &Query,
+        room: &mut Room,
+        out: &mut K,
+    ) -> Result<Reply, ReplyFault>
+        requires { IsAsked self.now.network.now.criteria query.now }
+        ensures { Replied (RepliesToQuery self.now.network.now epoch kind query.now)
+            (K.state out.old) (K.state out.new) result }
+    {
+        self.reply_by(self.workers, epoch, kind, query, room, out)
+    }
+
+    /// Sends the reply to a query whose search these workers share.
+    pub(crate) fn reply_by<K: Sink>(
+        &self,
+        workers: &Workers<'_, R, G>,
+        epoch: u32,
+        kind: AnswerKind,
+        query: &Query,
+        room: &mut Room,
+        out: &mut K,
+    ) -> Result<Reply, ReplyFault>
+        requires { IsAsked self.now.network.now.criteria query.now }
+        ensures { Replied (RepliesToQuery self.now.network.now epoch kind query.now)
+            (K.state out.old) (K.state out.new) result }
+    {
+        if !self.network.has_node(query.from) || !self.network.has_node(query.to) {
+            return refuse(out, epoch, query, " node");
+        }
+        prove!(self.network.nodes() >= 1);
+        match find(workers, self.alloc, self.network, query) {
+            Ok(found) => self.answer(epoch, kind, query, &found, room, out),
+            Err(SearchFault::Budget) => refuse(out, epoch, query, " budget"),
+            Err(SearchFault::OutOfMemory) => Err(ReplyFault::OutOfMemory),
+        }
+    }
+
+    /// Sends the answer that was found. Room for its walks is taken before the first byte.
+    fn answer<F: FoundCosts, K: Sink>(
+        &self,
+        epoch: u32,
+        kind: AnswerKind,
+        query: &Query,
+        found: &F,
+        room: &mut Room,
+        out: &mut K,
+    ) -> Result<Reply, ReplyFault>
+        requires of_query { IsOf self.now.network.now query.now (F.state found.now) }
+        requires well_found { IsWellFound self.now.network.now
+            (limit_of self.now.network.now.criteria query.now) (F.state found.now) }
+        ensures { (routes : List Route) → IsAnswer self.now.network.now query.now.from query.now.to
+            (limit_of self.now.network.now.criteria query.now) routes
+            → Replied (IsReplyOf Answer (reply_of kind epoch query.now routes))
+            (K.state out.old) (K.state out.new) result }
+    {
+        room.make_room(found.longest())?;
+        put_answer(out, epoch, kind, query, self.network, found, room)?;
+        Ok(Reply::Answer)
+    }
+}
+
+/// Sends a refusal.
+fn refuse<K: Sink>(out: &mut K, epoch: u32, query: &Query, why: &str) -> Result<Reply, ReplyFault>
+    ensures { Replied (IsReplyOf Refusal (refusal epoch query.now.from query.now.to why.now))
+        (K.state out.old) (K.state out.new) result }
+{
+    put_refusal(out, epoch, query.from, query.to, why)?;
+    Ok(Reply::Refusal)
+}

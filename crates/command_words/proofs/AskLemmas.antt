@@ -4,8 +4,8 @@ use Rattle.std.specs.Prelude.{codes, if◌then◌else◌, option_and_then}
 use Rattle.std.specs.Str.{bytes_eq}
 use Rattle.clap.specs.Words.{App, Row, Text, fault_of, first_of, is_simple_and_free, matches_of}
 use Rattle.command_words.specs.Apps.{app_for, word_of}
-use Rattle.command_words.specs.Words.{AreWords, Asked, Asks, AsksAs, AsksBatch, AsksLimits, AsksGen, AsksLanes, AsksPlan, AsksQuery, AsksServe, AsksSingle, BatchAsked, GenAsked, LanesAsked}
-use Rattle.command_words.specs.Words.{IsGiven, IsGivenIf, IsGivenOr, IsNamed, NamesFiles, ServeAsked, SingleAsked, batch, check, generate, lanes, serve, single}
+use Rattle.command_words.specs.Words.{AreWords, Asked, Asks, AsksAs, AsksBatch, AsksLimits, AsksGen, AsksLanes, AsksPlan, AsksProve, AsksQuery, AsksServe, AsksSingle, AsksVerify, BatchAsked, GenAsked, LanesAsked}
+use Rattle.command_words.specs.Words.{IsGiven, IsGivenIf, IsGivenOr, IsNamed, NamesFiles, ProveAsked, ServeAsked, SingleAsked, VerifyAsked, batch, check, generate, lanes, prove, serve, single, verify}
 use Rattle.graph_gen.specs.declared.GenPlan.{GenPlan}
 use Rattle.line_text.specs.declared.numerals.Numeral.TheVariants.{Value}
 use Rattle.command_words.specs.declared.apps.Name.{Name}
@@ -13,7 +13,7 @@ use Rattle.road_network.specs.declared.query.AnswerKind.{AnswerKind}
 use Rattle.road_network.specs.declared.query.AnswerKind.TheVariants.{Costs, Walks}
 use Rattle.command_words.specs.declared.SearchLimits.{SearchLimits}
 use Rattle.road_network.specs.declared.query.Query.{Query}
-use Rattle.command_words.specs.declared.apps.Name.TheVariants.{Batch, Check, Gen, Lanes, Serve, Single}
+use Rattle.command_words.specs.declared.apps.Name.TheVariants.{Batch, Check, Gen, Lanes, Prove, Serve, Single, Verify}
 
 -- each command's arguments are of the kind whose matches are a function of the words
 pub apps_simple : (name : Name) → is_simple_and_free (app_for name) ≡ true
@@ -24,6 +24,8 @@ apps_simple Batch = refl
 apps_simple Gen = refl
 apps_simple Lanes = refl
 apps_simple Serve = refl
+apps_simple Prove = refl
+apps_simple Verify = refl
 
 -- ---- the words name one command at most
 
@@ -37,6 +39,8 @@ name_for word =
     else if bytes_eq word (codes "gen") then Some Gen
     else if bytes_eq word (codes "lanes") then Some Lanes
     else if bytes_eq word (codes "serve") then Some Serve
+    else if bytes_eq word (codes "prove") then Some Prove
+    else if bytes_eq word (codes "verify") then Some Verify
     else None
 
 named_back : (name : Name) → name_for (word_of name) ≡ Some name
@@ -47,6 +51,8 @@ named_back Batch = refl
 named_back Gen = refl
 named_back Lanes = refl
 named_back Serve = refl
+named_back Prove = refl
+named_back Verify = refl
 
 same_name : (words : List Text) (m n : Name) → IsNamed words m → IsNamed words n → m ≡ n
 same_name words m n a b =
@@ -111,8 +117,8 @@ same_limits rows a b x y =
     let limits : ℕ → ℕ → SearchLimits = λ n w. record { budget = n; workers = w } in
     ap₂ limits budget workers
 
-same_query : (rows : List Row) (a b : Query) → AsksQuery rows a → AsksQuery rows b → a ≡ b
-same_query rows a b x y =
+same_query : (other greatest : ℕ) (rows : List Row) (a b : Query) → AsksQuery other greatest rows a → AsksQuery other greatest rows b → a ≡ b
+same_query other greatest rows a b x y =
     let from = same_number _ _ a.from b.from _ x.from y.from in
     let to = same_number _ _ a.to b.to _ x.to y.to in
     let limit = x.unlimited ∙ sym y.unlimited in
@@ -125,11 +131,26 @@ same_files rows a b x y = let e : Some a ≡ Some b = sym x.all ∙ y.all in cc
 
 same_single : (rows : List Row) (a b : SingleAsked) → a.kind ≡ b.kind → AsksSingle rows a → AsksSingle rows b → a ≡ b
 same_single rows a b kind x y =
-    let query = same_query rows a.query b.query x.query y.query in
+    let query = same_query _ _ rows a.query b.query x.query y.query in
     let workers = same_number_or _ _ _ a.workers b.workers _ x.workers y.workers in
     let files = same_files rows a.files b.files x.files y.files in
     let asked : AnswerKind → Query → ℕ → List Text → SingleAsked = λ k q w f. record { kind = k; query = q; workers = w; files = f } in
     let e : asked a.kind a.query a.workers a.files ≡ asked b.kind b.query b.workers b.files = cc in e
+
+same_prove : (rows : List Row) (a b : ProveAsked) → AsksProve rows a → AsksProve rows b → a ≡ b
+same_prove rows a b x y =
+    let query = same_query _ _ rows a.query b.query x.query y.query in
+    let workers = same_number_or _ _ _ a.workers b.workers _ x.workers y.workers in
+    let files = same_files rows a.files b.files x.files y.files in
+    let asked : Query → ℕ → List Text → ProveAsked = λ q w f. record { query = q; workers = w; files = f } in
+    let e : asked a.query a.workers a.files ≡ asked b.query b.workers b.files = cc in e
+
+same_verify : (rows : List Row) (a b : VerifyAsked) → AsksVerify rows a → AsksVerify rows b → a ≡ b
+same_verify rows a b x y =
+    let cert : Some a.cert ≡ Some b.cert = sym x.cert ∙ y.cert in
+    let files = same_files rows a.files b.files x.files y.files in
+    let asked : Text → List Text → VerifyAsked = λ c f. record { cert = c; files = f } in
+    let e : asked a.cert a.files ≡ asked b.cert b.files = cc in e
 
 same_batch : (rows : List Row) (a b : BatchAsked) → AsksBatch rows a → AsksBatch rows b → a ≡ b
 same_batch rows a b x y =
@@ -220,6 +241,16 @@ pub serve_alone : (rows : List Row) (asked : Asked) → AsksAs Serve rows asked 
 serve_alone rows (serve s) values = (s, refl, values)
 serve_alone rows _ values = absurd values
 
+-- values of `prove` are of its own kind
+pub prove_alone : (rows : List Row) (asked : Asked) → AsksAs Prove rows asked → (p : ProveAsked) × (prove p ≡ asked) × AsksProve rows p
+prove_alone rows (prove p) values = (p, refl, values)
+prove_alone rows _ values = absurd values
+
+-- values of `verify` are of its own kind
+pub verify_alone : (rows : List Row) (asked : Asked) → AsksAs Verify rows asked → (v : VerifyAsked) × (verify v ≡ asked) × AsksVerify rows v
+verify_alone rows (verify v) values = (v, refl, values)
+verify_alone rows _ values = absurd values
+
 same_values : (name : Name) (rows : List Row) (a b : Asked) → AsksAs name rows a → AsksAs name rows b → a ≡ b
 same_values (Single kind) rows a b x y =
     let (c, is_a, kind_c, values) = single_alone kind rows a x in
@@ -245,6 +276,14 @@ same_values Serve rows a b x y =
     let (s, is_a, values) = serve_alone rows a x in
     let (t, is_b, others) = serve_alone rows b y in
     sym is_a ∙ ap serve (same_serve rows s t values others) ∙ is_b
+same_values Prove rows a b x y =
+    let (p, is_a, values) = prove_alone rows a x in
+    let (q, is_b, others) = prove_alone rows b y in
+    sym is_a ∙ ap prove (same_prove rows p q values others) ∙ is_b
+same_values Verify rows a b x y =
+    let (v, is_a, values) = verify_alone rows a x in
+    let (w, is_b, others) = verify_alone rows b y in
+    sym is_a ∙ ap verify (same_verify rows v w values others) ∙ is_b
 
 pub asks_one : (words : List Text) (a b : Asked) → Asks words a → Asks words b → a ≡ b
 asks_one words a b x y =

@@ -7,10 +7,10 @@ use Rattle.line_text.specs.declared.numerals.Numeral.TheVariants.{NotDigits, Val
 use Rattle.road_network.specs.Limits.{max_budget}
 use Rattle.command_words.specs.declared.SearchLimits.{SearchLimits}
 use Rattle.command_words.specs.declared.apps.Name.{Name}
-use Rattle.command_words.specs.declared.apps.Name.TheVariants.{Batch, Check, Gen, Lanes, Serve, Single}
-use Rattle.command_words.specs.Ranges.{default_budget, default_workers, max_workers}
+use Rattle.command_words.specs.declared.apps.Name.TheVariants.{Batch, Check, Gen, Lanes, Prove, Serve, Single, Verify}
+use Rattle.command_words.specs.Ranges.{default_budget, default_listed, default_workers, max_listed, max_workers}
 use Rattle.command_words.specs.Words.{AreSearchLimits, Asked, AsksAs, AsksBudget, AsksLimits, AsksWorkers, IsGivenOr, LimitsInRange}
-use Rattle.command_words.proofs.AskLemmas.{batch_alone, check_alone, gen_alone, lanes_alone, serve_alone, single_alone}
+use Rattle.command_words.proofs.AskLemmas.{batch_alone, check_alone, gen_alone, lanes_alone, prove_alone, serve_alone, single_alone, verify_alone}
 
 -- a text that is read as a number of at most the greatest is one
 number_within : (digits above : Bool) (value greatest n : ℕ) → nat_lt greatest value ≡ above
@@ -58,3 +58,17 @@ limits_in_range Lanes rows asked values =
 limits_in_range Serve rows asked values =
     let (s, is, asks) = serve_alone rows asked values in
     subst LimitsInRange is (are_limits rows s.limits asks.limits)
+limits_in_range Prove rows asked values =
+    let (p, is, asks) = prove_alone rows asked values in
+    let labels = in_range default_listed 1 max_listed (first_of (codes "budget") rows) p.query.budget (omega arith) (omega arith) asks.query.budget in
+    let threads = in_range default_workers 1 max_workers (first_of (codes "workers") rows) p.workers (omega arith) (omega arith) asks.workers in
+    subst LimitsInRange is (record {
+      unlimited = asks.query.unlimited;
+      some_budget = labels.0;
+      budget = labels.1;
+      some_workers = threads.0;
+      workers = threads.1;
+    })
+limits_in_range Verify rows asked values =
+    let (v, is, asks) = verify_alone rows asked values in
+    subst LimitsInRange is tt

@@ -2,8 +2,8 @@
 use Rattle.std.proofs.Common.{ℕ, List, inl, inr}
 use Rattle.clap.specs.Words.{Row}
 use Rattle.command_words.specs.declared.apps.Name.{Name}
-use Rattle.command_words.specs.declared.apps.Name.TheVariants.{Batch, Check, Gen, Lanes, Serve, Single}
-use Rattle.command_words.specs.Words.{Asked, Asks, AsksAs, IsNamed, IsStill, LanesAsked, NamesWaiting, ServeAsked, batch, check, generate, lanes, serve, single}
+use Rattle.command_words.specs.declared.apps.Name.TheVariants.{Batch, Check, Gen, Lanes, Prove, Serve, Single, Verify}
+use Rattle.command_words.specs.Words.{Asked, Asks, AsksAs, IsNamed, IsStill, LanesAsked, NamesWaiting, ServeAsked, batch, check, generate, lanes, prove, serve, single, verify}
 use Rattle.command_words.proofs.AskLemmas.{under_name}
 
 lanes_wait : (rows : List Row) (asked : Asked) → AsksAs Lanes rows asked → ¬ IsStill asked
@@ -27,6 +27,8 @@ named_by_lanes words rows Check asked named values = absurd values
 named_by_lanes words rows Batch asked named values = absurd values
 named_by_lanes words rows Gen asked named values = absurd values
 named_by_lanes words rows Serve asked named values = absurd values
+named_by_lanes words rows Prove asked named values = absurd values
+named_by_lanes words rows Verify asked named values = absurd values
 
 named_by_serving : (words : List (List ℕ)) (rows : List Row) (name : Name) (asked : ServeAsked) → IsNamed words name
     → AsksAs name rows (serve asked) → IsNamed words Serve
@@ -36,6 +38,8 @@ named_by_serving words rows Check asked named values = absurd values
 named_by_serving words rows Batch asked named values = absurd values
 named_by_serving words rows Gen asked named values = absurd values
 named_by_serving words rows Lanes asked named values = absurd values
+named_by_serving words rows Prove asked named values = absurd values
+named_by_serving words rows Verify asked named values = absurd values
 
 -- words that name none ask for no command that waits
 pub named_still : (words : List (List ℕ)) (asked : Asked) → (¬ NamesWaiting words) → Asks words asked → IsStill asked
@@ -43,5 +47,7 @@ named_still words (single asked) other a = tt
 named_still words (check asked) other a = tt
 named_still words (batch asked) other a = tt
 named_still words (generate asked) other a = tt
+named_still words (prove asked) other a = tt
+named_still words (verify asked) other a = tt
 named_still words (lanes asked) other a = absurd (other (inl (named_by_lanes words _ a.name asked a.named a.values)))
 named_still words (serve asked) other a = absurd (other (inr (named_by_serving words _ a.name asked a.named a.values)))

@@ -4,7 +4,7 @@ use Rattle.clap.specs.Words.{App, Rule, Text, new_app, new_rule, with_rule}
 use Rattle.clap.specs.declared.builder.action.ArgAction.TheVariants.{Append, Set}
 use Rattle.road_network.specs.declared.query.AnswerKind.TheVariants.{Costs, Walks}
 use Rattle.command_words.specs.declared.apps.Name.{Name}
-use Rattle.command_words.specs.declared.apps.Name.TheVariants.{Batch, Check, Gen, Lanes, Serve, Single}
+use Rattle.command_words.specs.declared.apps.Name.TheVariants.{Batch, Check, Gen, Lanes, Prove, Serve, Single, Verify}
 
 -- the word that names a command
 abbrev pub word_of : Name → Text
@@ -15,6 +15,8 @@ word_of Batch = codes "batch"
 word_of Gen = codes "gen"
 word_of Lanes = codes "lanes"
 word_of Serve = codes "serve"
+word_of Prove = codes "prove"
+word_of Verify = codes "verify"
 
 -- an option with one value, `--name value` or `--name=value`, given at most once
 abbrev pub option_rule : Text → Bool → Rule
@@ -51,6 +53,10 @@ check_app = with_rule (bare_app (word_of Check)) files_rule
 abbrev pub batch_app : App
 batch_app = with_rule (with_limits (with_rule (bare_app (word_of Batch))
     (option_rule (codes "pairs") true))) files_rule
+
+-- `verify --cert NAME FILES`
+abbrev pub verify_app : App
+verify_app = with_rule (with_rule (bare_app (word_of Verify)) (option_rule (codes "cert") true)) files_rule
 
 -- the numbers of a plan: `gen --start N --side N --criteria D --pairs P`
 abbrev pub plan_app : App
@@ -91,3 +97,5 @@ app_for Batch = batch_app
 app_for Gen = gen_app
 app_for Lanes = lanes_app
 app_for Serve = serve_app
+app_for Prove = single_app (word_of Prove)
+app_for Verify = verify_app

@@ -6,6 +6,14 @@ use Rattle.cost_vector.specs.Costs.{max_criteria, min_criteria}
 abbrev pub default_budget : ℕ
 default_budget = 10000000
 
+-- the budget of a query whose labels are listed, where none is given
+abbrev pub default_listed : ℕ
+default_listed = 1000000
+
+-- the greatest budget of a query whose labels are listed
+abbrev pub max_listed : ℕ
+max_listed = 4000000
+
 -- the greatest number that may stand for a node
 abbrev pub max_node : ℕ
 max_node = 2 ^ 32 - 1

@@ -13,17 +13,19 @@ use Rattle.command_words.specs.declared.Command.TheVariants as command
 use Rattle.command_words.specs.declared.SearchLimits.{SearchLimits}
 use Rattle.command_words.specs.declared.GenWords.{GenWords}
 use Rattle.command_words.specs.declared.LanesWords.{LanesWords}
+use Rattle.command_words.specs.declared.ProveWords.{ProveWords}
 use Rattle.command_words.specs.declared.ServeWords.{ServeWords}
 use Rattle.command_words.specs.declared.SingleWords.{SingleWords}
+use Rattle.command_words.specs.declared.VerifyWords.{VerifyWords}
 use Rattle.command_words.specs.declared.apps.Name.{Name}
-use Rattle.command_words.specs.declared.apps.Name.TheVariants.{Batch, Check, Gen, Lanes, Serve, Single}
+use Rattle.command_words.specs.declared.apps.Name.TheVariants.{Batch, Check, Gen, Lanes, Prove, Serve, Single, Verify}
 use Rattle.line_text.specs.declared.numerals.Numeral.TheVariants.{Value}
 use Rattle.graph_gen.specs.declared.GenPlan.{GenPlan}
 use Rattle.graph_gen.specs.Plans.{IsPlan, max_pairs, max_side, min_pairs, min_side}
 use Rattle.road_network.specs.Limits.{max_budget, max_epoch}
 use Rattle.road_network.specs.declared.query.AnswerKind.{AnswerKind}
 use Rattle.road_network.specs.declared.query.Query.{Query}
-use Rattle.command_words.specs.Ranges.{default_budget, default_workers, max_node, max_start, max_workers, min_files, max_files}
+use Rattle.command_words.specs.Ranges.{default_budget, default_listed, default_workers, max_listed, max_node, max_start, max_workers, min_files, max_files}
 use Rattle.command_words.specs.Ranges.{default_epoch, default_lanes, default_links, max_lanes, max_links}
 
 -- ---- what a command may be asked for
@@ -33,6 +35,17 @@ pub record SingleAsked : Type 0 where
   pub kind : AnswerKind
   pub query : Query
   pub workers : ℕ
+  pub files : List Text
+
+-- one query over the network of the files whose labels are to be listed, and how many workers share the search
+pub record ProveAsked : Type 0 where
+  pub query : Query
+  pub workers : ℕ
+  pub files : List Text
+
+-- the check of the certificate of this name against the network of the files
+pub record VerifyAsked : Type 0 where
+  pub cert : Text
   pub files : List Text
 
 -- queries over the network of the files, between the pairs of a file
@@ -76,6 +89,8 @@ pub data Asked : Type 0 where
   generate : GenAsked → Asked
   lanes : LanesAsked → Asked
   serve : ServeAsked → Asked
+  prove : ProveAsked → Asked
+  verify : VerifyAsked → Asked
 
 -- the name of a session's script: the stem and the session's number
 abbrev pub session_name : Text → ℕ → Text
@@ -93,6 +108,8 @@ names_of (batch asked) = asked.files ++ asked.pairs ∷ []
 names_of (generate asked) = []
 names_of (lanes asked) = asked.files ++ scripts_of asked
 names_of (serve asked) = asked.files
+names_of (prove asked) = asked.files
+names_of (verify asked) = asked.files ++ asked.cert ∷ []
 
 -- as many weight files as a network may have criteria
 pub record CountInRange (files : List Text) : Type 0 where
@@ -107,6 +124,8 @@ FilesInRange (batch asked) = CountInRange asked.files
 FilesInRange (generate asked) = Unit {0}
 FilesInRange (lanes asked) = CountInRange asked.files
 FilesInRange (serve asked) = CountInRange asked.files
+FilesInRange (prove asked) = CountInRange asked.files
+FilesInRange (verify asked) = CountInRange asked.files
 
 -- a budget and a number of workers are within their ranges
 pub record AreSearchLimits (limits : SearchLimits) : Type 0 where
@@ -124,6 +143,14 @@ pub record SingleInRange (asked : SingleAsked) : Type 0 where
   pub unlimited : asked.query.limit ≡ None
   pub limits : AreSearchLimits (limits_of_single asked)
 
+-- a query whose labels are listed has no limit, and is searched within the ranges and for no more labels than may be listed
+pub record ProveInRange (asked : ProveAsked) : Type 0 where
+  pub unlimited : asked.query.limit ≡ None
+  pub some_budget : 1 ≤ asked.query.budget
+  pub budget : asked.query.budget ≤ max_listed
+  pub some_workers : 1 ≤ asked.workers
+  pub workers : asked.workers ≤ max_workers
+
 -- how a command searches is within the ranges
 abbrev pub LimitsInRange : Asked → Type 0
 LimitsInRange (single asked) = SingleInRange asked
@@ -132,6 +159,8 @@ LimitsInRange (batch asked) = AreSearchLimits asked.limits
 LimitsInRange (generate asked) = AreSearchLimits asked.limits
 LimitsInRange (lanes asked) = AreSearchLimits asked.limits
 LimitsInRange (serve asked) = AreSearchLimits asked.limits
+LimitsInRange (prove asked) = ProveInRange asked
+LimitsInRange (verify asked) = Unit {0}
 
 -- The plan is one, and the file that is asked for is one of its files.
 pub record GenInRange (asked : GenAsked) : Type 0 where
@@ -146,6 +175,8 @@ PlanInRange (batch asked) = Unit {0}
 PlanInRange (generate asked) = GenInRange asked
 PlanInRange (lanes asked) = Unit {0}
 PlanInRange (serve asked) = Unit {0}
+PlanInRange (prove asked) = Unit {0}
+PlanInRange (verify asked) = Unit {0}
 
 -- there are as many sessions as there may be lanes
 pub record AreLanes (count : ℕ) : Type 0 where
@@ -160,6 +191,8 @@ LanesInRange (batch asked) = Unit {0}
 LanesInRange (generate asked) = Unit {0}
 LanesInRange (lanes asked) = AreLanes asked.count
 LanesInRange (serve asked) = AreLanes asked.lanes
+LanesInRange (prove asked) = Unit {0}
+LanesInRange (verify asked) = Unit {0}
 
 -- the command waits for nobody
 abbrev pub IsStill : Asked → Type 0
@@ -169,6 +202,8 @@ IsStill (batch asked) = Unit {0}
 IsStill (generate asked) = Unit {0}
 IsStill (lanes asked) = ⊥
 IsStill (serve asked) = ⊥
+IsStill (prove asked) = Unit {0}
+IsStill (verify asked) = Unit {0}
 
 -- ---- the values that the words give, by rows that name the arguments
 
@@ -213,17 +248,28 @@ pub record AsksLimits (rows : List Row) (limits : SearchLimits) : Type 0 where
   pub budget : AsksBudget rows limits.budget
   pub workers : AsksWorkers rows limits.workers
 
--- the options give the query, which has no limit
-pub record AsksQuery (rows : List Row) (query : Query) : Type 0 where
+-- the options give the query, which has no limit; its budget is at most the greatest, and `other` where none is given
+pub record AsksQuery (other greatest : ℕ) (rows : List Row) (query : Query) : Type 0 where
   pub from : IsGiven 0 max_node (first_of (codes "from") rows) query.from
   pub to : IsGiven 0 max_node (first_of (codes "to") rows) query.to
   pub unlimited : query.limit ≡ None
-  pub budget : AsksBudget rows query.budget
+  pub budget : IsGivenOr other 1 greatest (first_of (codes "budget") rows) query.budget
 
 -- the values are those of one query
 pub record AsksSingle (rows : List Row) (asked : SingleAsked) : Type 0 where
-  pub query : AsksQuery rows asked.query
+  pub query : AsksQuery default_budget max_budget rows asked.query
   pub workers : AsksWorkers rows asked.workers
+  pub files : NamesFiles rows asked.files
+
+-- the values are those of `prove`
+pub record AsksProve (rows : List Row) (asked : ProveAsked) : Type 0 where
+  pub query : AsksQuery default_listed max_listed rows asked.query
+  pub workers : AsksWorkers rows asked.workers
+  pub files : NamesFiles rows asked.files
+
+-- the values are those of `verify`
+pub record AsksVerify (rows : List Row) (asked : VerifyAsked) : Type 0 where
+  pub cert : first_of (codes "cert") rows ≡ Some asked.cert
   pub files : NamesFiles rows asked.files
 
 -- the values are those of `batch`
@@ -272,6 +318,8 @@ AsksAs Batch rows (batch asked) = AsksBatch rows asked
 AsksAs Gen rows (generate asked) = AsksGen rows asked
 AsksAs Lanes rows (lanes asked) = AsksLanes rows asked
 AsksAs Serve rows (serve asked) = AsksServe rows asked
+AsksAs Prove rows (prove asked) = AsksProve rows asked
+AsksAs Verify rows (verify asked) = AsksVerify rows asked
 AsksAs _ rows _ = ⊥
 
 -- ---- the words
@@ -304,6 +352,14 @@ AreWords words = (asked : Asked) × Asks words asked
 -- the words of one query, as what they ask for
 abbrev pub single_asked : SingleWords → SingleAsked
 single_asked c = record { kind = c.kind; query = c.query; workers = c.workers; files = map (λ s. s.now) c.files.items }
+
+-- the words of `prove`, as what they ask for
+abbrev pub prove_asked : ProveWords → ProveAsked
+prove_asked p = record { query = p.query; workers = p.workers; files = map (λ s. s.now) p.files.items }
+
+-- the words of `verify`, as what they ask for
+abbrev pub verify_asked : VerifyWords → VerifyAsked
+verify_asked v = record { cert = v.cert.now; files = map (λ s. s.now) v.files.items }
 
 -- the words of `check`, as the names of the files that they ask for
 abbrev pub check_asked : CheckWords → List Text
@@ -348,3 +404,5 @@ asked_of (command.Batch b) = batch (batch_asked b)
 asked_of (command.Gen g) = generate (gen_asked g)
 asked_of (command.Lanes l) = lanes (lanes_asked l)
 asked_of (command.Serve s) = serve (serve_asked s)
+asked_of (command.Prove p) = prove (prove_asked p)
+asked_of (command.Verify v) = verify (verify_asked v)

@@ -2,7 +2,7 @@
 ghost use Rattle.std.specs.Prelude.{◌≡◌, IfOk};
 ghost use Rattle.clap.specs.Words.{app_of, with_rule};
 ghost use Rattle.command_words.specs.Apps.{bare_app, batch_app, check_app, files_rule};
-ghost use Rattle.command_words.specs.Apps.{gen_app, lanes_app, option_rule, scripts_app, serve_app, single_app, town_app, with_limits};
+ghost use Rattle.command_words.specs.Apps.{gen_app, lanes_app, option_rule, scripts_app, serve_app, single_app, town_app, verify_app, with_limits};
 
 use clap::{Arg, ArgAction, Command};
 use road_network::AnswerKind;
@@ -17,6 +17,8 @@ pub enum Name {
     Gen,
     Lanes,
     Serve,
+    Prove,
+    Verify,
 }
 
 impl Name {
@@ -34,6 +36,8 @@ impl Name {
             Name::Gen => generate(alloc),
             Name::Lanes => lanes(alloc),
             Name::Serve => serve(alloc),
+            Name::Prove => single(alloc, "prove"),
+            Name::Verify => verify(alloc),
         }
     }
 }
@@ -60,6 +64,14 @@ fn batch<'a>(alloc: Global) -> Result<Command<'a>, AllocError>
     let command = bare(alloc, "batch");
     let command = with_option(alloc, command, "pairs", true)?;
     let command = with_limits(alloc, command)?;
+    with_files(alloc, command)
+}
+
+fn verify<'a>(alloc: Global) -> Result<Command<'a>, AllocError>
+    ensures { IfOk result (λ c. app_of c ≡ verify_app) }
+{
+    let command = bare(alloc, "verify");
+    let command = with_option(alloc, command, "cert", true)?;
     with_files(alloc, command)
 }
 

@@ -22,6 +22,10 @@ use thiserror::Error;
 
 /// The budget of a query that gives none.
 pub const DEFAULT_BUDGET: u32 = 10_000_000;
+/// The budget of a query whose labels are listed, where none is given.
+pub const DEFAULT_LISTED: u32 = 1_000_000;
+/// The greatest budget of a query whose labels are listed.
+pub const MAX_LISTED: u32 = 4_000_000;
 /// The greatest number that may stand for a node.
 pub const MAX_NODE: u32 = u32::MAX;
 /// The greatest number that a plan may start with.
@@ -61,6 +65,24 @@ pub struct SingleWords<'a> {
     pub query: Query,
     /// How many workers share the search.
     pub workers: u32,
+    pub files: Vec<&'a str>,
+}
+
+/// The words of `prove`.
+#[derive(Debug, Drop)]
+pub struct ProveWords<'a> {
+    /// The query whose labels are listed.
+    pub query: Query,
+    /// How many workers share the search.
+    pub workers: u32,
+    pub files: Vec<&'a str>,
+}
+
+/// The words of `verify`.
+#[derive(Debug, Drop)]
+pub struct VerifyWords<'a> {
+    /// The name of the certificate.
+    pub cert: &'a str,
     pub files: Vec<&'a str>,
 }
 
@@ -138,6 +160,10 @@ pub enum Command<'a> {
     Lanes(LanesWords<'a>),
     /// Sessions and their operator, over links that come in.
     Serve(ServeWords<'a>),
+    /// A certificate of the answer to one query.
+    Prove(ProveWords<'a>),
+    /// The answer that a certificate shows.
+    Verify(VerifyWords<'a>),
 }
 
 /// Why no command was read.
@@ -207,6 +233,8 @@ fn name_of(words: &[String]) -> Option<Name>
         "gen" => Some(Name::Gen),
         "lanes" => Some(Name::Lanes),
         "serve" => Some(Name::Serve),
+        "prove" => Some(Name::Prove),
+        "verify" => Some(Name::Verify),
         _ => None,
     }
 }

@@ -1,18 +1,19 @@
 //! Reads the values that the words give to a command's arguments.
 ghost use Rattle.std.specs.Prelude.{◌≡◌, IfOk, IfNone, IfSome, codes, map, option_map};
 ghost use Rattle.clap.specs.Words.{all_of, first_of, found_of, rows_of};
-ghost use Rattle.command_words.specs.Words.{AsksAs, AsksBatch, AsksBudget, AsksLimits, AsksGen, AsksLanes, AsksPlan, AsksServe, AsksWorkers};
-ghost use Rattle.road_network.specs.Limits.{max_epoch};
-ghost use Rattle.command_words.specs.Ranges.{default_epoch, default_lanes, max_lanes};
+ghost use Rattle.command_words.specs.Words.{AsksAs, AsksBatch, AsksLimits, AsksGen, AsksLanes, AsksPlan, AsksProve, AsksServe, AsksVerify, AsksWorkers};
+ghost use Rattle.road_network.specs.Limits.{max_budget, max_epoch};
+ghost use Rattle.command_words.specs.Ranges.{default_budget, default_epoch, default_lanes, default_listed, max_lanes, max_listed};
 ghost use Rattle.command_words.specs.Words.{AsksQuery, AsksSingle, IsGivenOr, NamesFiles};
-ghost use Rattle.command_words.specs.Words.{asked_of, batch_asked, gen_asked, lanes_asked, serve_asked, single_asked};
+ghost use Rattle.command_words.specs.Words.{asked_of, batch_asked, gen_asked, lanes_asked, prove_asked, serve_asked, single_asked, verify_asked};
 
 use crate::apps::Name;
 use crate::numbers::{number_if, number_or, required_number, value};
 use crate::{
     BatchWords, CheckWords, Command, DEFAULT_BUDGET, DEFAULT_EPOCH, DEFAULT_LANES, DEFAULT_LINKS,
-    DEFAULT_WORKERS, GenWords, LanesWords, MAX_FILES, MAX_LANES, MAX_LINKS, MAX_NODE, MAX_START,
-    MAX_WORKERS, MIN_FILES, SearchLimits, ServeWords, SingleWords, WordsFault,
+    DEFAULT_LISTED, DEFAULT_WORKERS, GenWords, LanesWords, MAX_FILES, MAX_LANES, MAX_LINKS,
+    MAX_LISTED, MAX_NODE, MAX_START, MAX_WORKERS, MIN_FILES, ProveWords, SearchLimits, ServeWords,
+    SingleWords, VerifyWords, WordsFault,
 };
 use clap::ArgMatches;
 use graph_gen::{GenPlan, MAX_PAIRS, MAX_SIDE, MIN_PAIRS, MIN_SIDE};
@@ -38,6 +39,8 @@ pub(crate) fn read<'a>(
         Name::Gen => Ok(Command::Gen(read_gen(matches).ok_or(WordsFault::Refused)?)),
         Name::Lanes => Ok(Command::Lanes(read_lanes(alloc, matches)?)),
         Name::Serve => Ok(Command::Serve(read_serve(alloc, matches)?)),
+        Name::Prove => Ok(Command::Prove(read_prove(alloc, matches)?)),
+        Name::Verify => Ok(Command::Verify(read_verify(alloc, matches)?)),
     }
 }
 
@@ -52,7 +55,7 @@ fn read_single<'a>(
     ensures refused { result ≡ Err WordsFault.Refused
         → (asked : _) → ¬ AsksSingle (rows_of (found_of matches.now)) asked }
 {
-    let query = read_query(matches).ok_or(WordsFault::Refused)?;
+    let query = read_query(matches, DEFAULT_BUDGET, MAX_BUDGET).ok_or(WordsFault::Refused)?;
     let workers = read_workers(matches).ok_or(WordsFault::Refused)?;
     let files = read_files(alloc, matches)?;
     Ok(SingleWords {
@@ -63,16 +66,43 @@ fn read_single<'a>(
     })
 }
 
-fn read_query(matches: &ArgMatches) -> Option<Query>
-    ensures asked { IfSome result (AsksQuery (rows_of (found_of matches.now))) }
+fn read_prove<'a>(alloc: Global, matches: &ArgMatches<'a>) -> Result<ProveWords<'a>, WordsFault>
+    ensures asked { IfOk result (λ p. AsksProve (rows_of (found_of matches.now)) (prove_asked p)) }
+    ensures refused { result ≡ Err WordsFault.Refused
+        → (asked : _) → ¬ AsksProve (rows_of (found_of matches.now)) asked }
+{
+    let query = read_query(matches, DEFAULT_LISTED, MAX_LISTED).ok_or(WordsFault::Refused)?;
+    let workers = read_workers(matches).ok_or(WordsFault::Refused)?;
+    let files = read_files(alloc, matches)?;
+    Ok(ProveWords {
+        query,
+        workers,
+        files,
+    })
+}
+
+fn read_verify<'a>(alloc: Global, matches: &ArgMatches<'a>) -> Result<VerifyWords<'a>, WordsFault>
+    ensures asked { IfOk result (λ v.
+        AsksVerify (rows_of (found_of matches.now)) (verify_asked v)) }
+    ensures refused { result ≡ Err WordsFault.Refused
+        → (asked : _) → ¬ AsksVerify (rows_of (found_of matches.now)) asked }
+{
+    let cert = value(matches, "cert").ok_or(WordsFault::Refused)?;
+    let files = read_files(alloc, matches)?;
+    Ok(VerifyWords { cert, files })
+}
+
+/// The query, with a budget of at most `greatest`, and of `other` where none is given.
+fn read_query(matches: &ArgMatches, other: u32, greatest: u32) -> Option<Query>
+    ensures asked { IfSome result (AsksQuery other greatest (rows_of (found_of matches.now))) }
     ensures refused { IfNone result ((query : _) →
-        ¬ AsksQuery (rows_of (found_of matches.now)) query) }
+        ¬ AsksQuery other greatest (rows_of (found_of matches.now)) query) }
 {
     Some(Query {
         from: required_number(matches, "from", 0, MAX_NODE)?,
         to: required_number(matches, "to", 0, MAX_NODE)?,
         limit: None,
-        budget: read_budget(matches)?,
+        budget: number_or(other, matches, "budget", 1, greatest)?,
     })
 }
 
@@ -82,17 +112,9 @@ fn read_limits(matches: &ArgMatches) -> Option<SearchLimits>
         ¬ AsksLimits (rows_of (found_of matches.now)) limits) }
 {
     Some(SearchLimits {
-        budget: read_budget(matches)?,
+        budget: number_or(DEFAULT_BUDGET, matches, "budget", 1, MAX_BUDGET)?,
         workers: read_workers(matches)?,
     })
-}
-
-fn read_budget(matches: &ArgMatches) -> Option<u32>
-    ensures asked { IfSome result (AsksBudget (rows_of (found_of matches.now))) }
-    ensures refused { IfNone result ((n : _) →
-        ¬ AsksBudget (rows_of (found_of matches.now)) n) }
-{
-    number_or(DEFAULT_BUDGET, matches, "budget", 1, MAX_BUDGET)
 }
 
 fn read_workers(matches: &ArgMatches) -> Option<u32>

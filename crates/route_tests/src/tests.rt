@@ -9,6 +9,7 @@ use std::thread::Threads;
 use std::time::Clock;
 
 mod batches;
+mod certificates;
 mod generated;
 mod lanes;
 mod readers;
@@ -244,6 +245,7 @@ fn rows_have_their_output(rt: HostRuntime) {
     assert_tables(&rt, rt.alloc(), &rows::tables());
     assert_tables(&rt, rt.alloc(), &walks::tables());
     assert_tables(&rt, rt.alloc(), &batches::tables());
+    assert_tables(&rt, rt.alloc(), &certificates::tables());
 }
 
 #[test]

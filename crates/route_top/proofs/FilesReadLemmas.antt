@@ -2,7 +2,7 @@
 use Rattle.std.proofs.Common.{false, refl, sym, ap, subst, ◌∙◌, append_assoc, arith}
 use Rattle.std.proofs.Common.{◌≡◌, ℕ, ◌+◌, ◌<◌, ◌≤◌, List, [], ◌∷◌, ◌++◌, Option, Some, None, IfSome, take, drop, get_or, length, map}
 use Rattle.std.specs.Prelude.{◌==◌}
-use Rattle.std.specs.List.{All, AllZip}
+use Rattle.std.specs.List.{All}
 use Rattle.std.proofs.lemmas.List.{get_or-map, length-map, take_all, take_more, take-append-drop}
 use Rattle.std.proofs.lemmas.Slice.Zip.{all_zipped_more}
 use Rattle.route_io.specs.Files.{FileMap, Opens}
@@ -12,9 +12,7 @@ use Rattle.road_network.specs.Network.{Network}
 use Rattle.arc_graph.specs.declared.join.JoinFault.{JoinFault}
 use Rattle.arc_graph.specs.declared.join.JoinFault.TheVariants as join
 use Rattle.arc_graph.specs.Agreement.{IsFaultOf}
-use Rattle.arc_graph.specs.Files.{ArcFile}
 use Rattle.arc_graph.specs.Joiner.{Joiner}
-use Rattle.arc_graph.specs.JoinerHolds.{JoinerHolds}
 use Rattle.gr_reader.specs.Sinks.{JoinerHasTaken, TakesFile}
 use Rattle.gr_reader.specs.declared.fault.LineKind.{LineKind}
 use Rattle.route_top.specs.FilesRead.{Tells, Says, FileStop, ReadingStop, FilesStop, FilesEnd, ReadAs}

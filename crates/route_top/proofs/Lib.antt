@@ -1,9 +1,11 @@
 pub mod SentFirst
 pub mod RunsLemmas
 pub mod QueryLemmas
+mod ProveLemmas
 pub mod LanesSent
 pub mod LaneScripts
 pub mod FilesReadLemmas
+mod VerifyLemmas
 pub mod BatchLemmas
 mod AheadLemmas
 pub mod OutputLemmas

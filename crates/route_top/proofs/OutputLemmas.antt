@@ -4,15 +4,16 @@ use Rattle.std.specs.Prelude.{Option, Some, None, MatchOption}
 use Rattle.route_io.specs.Files.{FileMap}
 use Rattle.route_io.specs.Sinks.{SinkState}
 use Rattle.route_io.specs.Sources.{SourceState}
-use Rattle.command_words.specs.Words.{AreWords, Asked, Asks, GenAsked, LanesAsked, NamesWaiting, ServeAsked, batch, check, generate, lanes, serve, single}
+use Rattle.command_words.specs.Words.{AreWords, Asked, Asks, GenAsked, LanesAsked, NamesWaiting, ServeAsked, batch, check, generate, lanes, prove, serve, single, verify}
 use Rattle.command_words.proofs.StillLemmas.{named_still}
 use Rattle.route_top.specs.Batch.{pairs_read, pairs_stop}
 use Rattle.route_top.specs.FilesRead.{at_file, stops, goes_on}
 use Rattle.route_top.specs.Gen.{SendsFile, SendsSummary}
 use Rattle.route_top.specs.Lanes.{scripts_read, scripts_stop}
 use Rattle.route_top.specs.Outcome.{Outcome}
-use Rattle.route_top.specs.Outcome.{done, bad_words, folder_failed, out_failed, bad_file, bad_files, bad_pairs, script_too_long, refused, no_memory, out_wanted, status_of, town_failed}
+use Rattle.route_top.specs.Outcome.{done, bad_words, folder_failed, out_failed, bad_cert, bad_file, bad_files, bad_pairs, failed_rule, script_too_long, refused, no_memory, out_wanted, status_of, town_failed}
 use Rattle.route_top.specs.Output.{AreStillWords, AsksStill, Ends, EndsByWords, no_command, starved, asks, EndsOrCut, uncut, failed, wanted, Output, RunsCommand}
+use Rattle.route_top.specs.Verify.{cert_holds, cert_stops}
 use Rattle.route_top.proofs.RunsLemmas.{runs_then, stays}
 
 -- the words ask for the command that ran so
@@ -54,6 +55,11 @@ never_bad_words files (lanes asked) text (goes_on net read (scripts_stop why)) =
 never_bad_words files (lanes asked) text (goes_on net read (scripts_read scripts says replies)) = replies
 never_bad_words files (serve asked) text (stops (at_file name comes stop)) = elim stop [ ]
 never_bad_words files (serve asked) text (goes_on net read replies) = replies
+never_bad_words files (prove asked) text (stops (at_file name comes stop)) = elim stop [ ]
+never_bad_words files (prove asked) text (goes_on net read replies) = replies
+never_bad_words files (verify asked) text (stops (at_file name comes stop)) = elim stop [ ]
+never_bad_words files (verify asked) text (goes_on net read (cert_stops stop)) = elim stop [ ]
+never_bad_words files (verify asked) text (goes_on net read (cert_holds cert is says replies)) = replies
 
 is_bad_words : (outcome : Outcome) → status_of outcome ≡ 2 → outcome ≡ bad_words
 is_bad_words bad_words two = refl
@@ -68,6 +74,8 @@ is_bad_words refused two = cc
 is_bad_words no_memory two = cc
 is_bad_words out_wanted two = cc
 is_bad_words town_failed two = cc
+is_bad_words (bad_cert name line) two = cc
+is_bad_words (failed_rule name rule label) two = cc
 
 -- status 2 comes only where the words ask for nothing
 pub none_of_two : (IsAsked : Asked → Type 0) (files : Option FileMap) {outcome : Outcome} {text : List ℕ}
@@ -98,6 +106,11 @@ never_town files (lanes asked) text other (stops (at_file name comes stop)) = el
 never_town files (lanes asked) text other (goes_on net read (scripts_stop why)) = elim why.2 [ ]
 never_town files (lanes asked) text other (goes_on net read (scripts_read scripts says replies)) = replies
 never_town files (serve asked) text other ends = absurd (other asked refl)
+never_town files (prove asked) text other (stops (at_file name comes stop)) = elim stop [ ]
+never_town files (prove asked) text other (goes_on net read replies) = replies
+never_town files (verify asked) text other (stops (at_file name comes stop)) = elim stop [ ]
+never_town files (verify asked) text other (goes_on net read (cert_stops stop)) = elim stop [ ]
+never_town files (verify asked) text other (goes_on net read (cert_holds cert is says replies)) = replies
 
 is_town_failed : (outcome : Outcome) → status_of outcome ≡ 10 → outcome ≡ town_failed
 is_town_failed town_failed ten = refl
@@ -112,6 +125,8 @@ is_town_failed (script_too_long name) ten = cc
 is_town_failed refused ten = cc
 is_town_failed no_memory ten = cc
 is_town_failed out_wanted ten = cc
+is_town_failed (bad_cert name line) ten = cc
+is_town_failed (failed_rule name rule label) ten = cc
 
 -- a run ends with status 10 only where its words ask for `serve`
 pub never_ten : (IsAsked : Asked → Type 0) (files : Option FileMap) {outcome : Outcome} {text : List ℕ}

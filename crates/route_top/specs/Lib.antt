@@ -9,6 +9,8 @@ pub mod Summary
 pub mod Gen
 pub mod Lanes
 pub mod Serve
+pub mod Prove
+pub mod Verify
 pub mod Output
 pub mod Stops
 pub mod Scripts

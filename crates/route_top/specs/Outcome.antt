@@ -5,6 +5,8 @@ use Rattle.gr_reader.specs.Kinds.{kind_number}
 use Rattle.arc_graph.specs.declared.join.Disagreement.{Disagreement}
 use Rattle.arc_graph.specs.declared.join.Disagreement.TheVariants.{Sizes, Ends, ZeroArc}
 use Rattle.answer_writer.specs.Replies.{and_number, end_line}
+use Rattle.cert_rules.specs.Rules.{rule_number}
+use Rattle.cert_rules.specs.declared.rule.Rule.{Rule}
 
 -- the ways in which a run ends, each with what its note names
 pub data Outcome : Type 0 where
@@ -24,6 +26,10 @@ pub data Outcome : Type 0 where
   bad_pairs : List ℕ → ℕ → LineKind → Outcome
   -- this script has more bytes than a script may have
   script_too_long : List ℕ → Outcome
+  -- this certificate has a faulty line
+  bad_cert : List ℕ → ℕ → Outcome
+  -- a rule fails at a label of this certificate
+  failed_rule : List ℕ → Rule → ℕ → Outcome
   -- the town failed, or one of its doors
   town_failed : Outcome
   -- the query was refused by a reply of its own
@@ -45,6 +51,8 @@ status_of (bad_pairs name line kind) = 7
 status_of (script_too_long name) = 7
 status_of refused = 8
 status_of town_failed = 10
+status_of (bad_cert name line) = 11
+status_of (failed_rule name rule label) = 12
 status_of no_memory = 9
 status_of out_wanted = 9
 
@@ -64,6 +72,14 @@ abbrev pub fault_line : List ℕ → ℕ → LineKind → List ℕ
 fault_line name line kind =
     name ++ codes " line" ++ and_number line ++ codes " kind" ++ and_number (kind_number kind)
 
+-- the place of a certificate's fault
+abbrev pub cert_line : List ℕ → ℕ → List ℕ
+cert_line name line = name ++ codes " line" ++ and_number line
+
+-- the rule that fails at a label of a certificate
+abbrev pub cert_rule : List ℕ → Rule → ℕ → List ℕ
+cert_rule name rule label = name ++ codes " rule" ++ and_number (rule_number rule) ++ codes " label" ++ and_number label
+
 -- a note of these words, as a line
 abbrev pub noted : List ℕ → List ℕ
 noted words = codes "route: " ++ words ++ end_line
@@ -78,6 +94,8 @@ note_of (bad_file name line kind) = noted (codes "file " ++ fault_line name line
 note_of (bad_files way) = noted (codes "files " ++ disagreement way)
 note_of (bad_pairs name line kind) = noted (codes "pairs " ++ fault_line name line kind)
 note_of (script_too_long name) = noted (codes "script " ++ name ++ codes " too long")
+note_of (bad_cert name line) = noted (codes "cert " ++ cert_line name line)
+note_of (failed_rule name rule label) = noted (codes "cert " ++ cert_rule name rule label)
 note_of refused = []
 note_of town_failed = noted (codes "town")
 note_of no_memory = noted (codes "memory")

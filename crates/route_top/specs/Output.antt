@@ -5,7 +5,7 @@ use Rattle.route_io.specs.Files.{FileMap}
 use Rattle.route_io.specs.Sinks.{SinkState, Sends, WritesTo}
 use Rattle.route_io.specs.Sources.{SourceState, ReadsFrom}
 use Rattle.route_io.specs.declared.fault.WriteFault.{WriteFault}
-use Rattle.command_words.specs.Words.{Asked, Asks, IsStill, batch, check, generate, lanes, names_of, serve, single}
+use Rattle.command_words.specs.Words.{Asked, Asks, IsStill, batch, check, generate, lanes, names_of, prove, serve, single, verify}
 use Rattle.route_top.specs.Batch.{BatchReplies}
 use Rattle.route_top.specs.Check.{CheckReplies}
 use Rattle.route_top.specs.FilesRead.{FilesEnd}
@@ -13,8 +13,10 @@ use Rattle.route_top.specs.Gen.{GenEnds}
 use Rattle.route_top.specs.Lanes.{LanesEnd}
 use Rattle.route_top.specs.Outcome.{Outcome, bad_words, out_failed, no_memory, out_wanted}
 use Rattle.route_top.specs.Outcome.{status_of, note_of, out_has_wanted}
+use Rattle.route_top.specs.Prove.{ProveReplies}
 use Rattle.route_top.specs.Queries.{QueryReplies}
 use Rattle.route_top.specs.Serve.{ServeReplies}
+use Rattle.route_top.specs.Verify.{VerifyEnds}
 
 -- the words ask for this, and it is a command that waits for nobody
 pub record AsksStill (words : List (List ℕ)) (asked : Asked) : Type 0 where
@@ -37,6 +39,8 @@ Ends files (batch asked) = FilesEnd (BatchReplies files asked) files asked.files
 Ends files (generate asked) = GenEnds asked
 Ends files (lanes asked) = FilesEnd (LanesEnd files asked) files asked.files
 Ends files (serve asked) = FilesEnd (λ net. ServeReplies asked) files asked.files
+Ends files (prove asked) = FilesEnd (ProveReplies asked.query) files asked.files
+Ends files (verify asked) = FilesEnd (VerifyEnds files asked.cert) files asked.files
 
 -- the same of a run, by what its words ask for
 pub data EndsByWords (IsAsked : Asked → Type 0) (files : Option FileMap) : Outcome → List ℕ → Type 0 where

@@ -12,12 +12,14 @@ use Rattle.arc_graph.specs.Joiner.{Joiner}
 use Rattle.arc_graph.specs.JoinerHolds.{JoinerHolds}
 use Rattle.arc_graph.specs.Sizes.{sizes_of}
 use Rattle.road_network.specs.Network.{Network}
+use Rattle.front_cert.specs.Listing.{Listing}
 use Rattle.gr_reader.specs.Sinks.{JoinerHasTaken}
 use Rattle.query_reader.specs.declared.pairs.Pair.{Pair}
 use Rattle.route_top.specs.declared.stop.Stop.{Stop}
 use Rattle.route_top.specs.Batch.{PairsStop, SaysPairs}
-use Rattle.route_top.specs.FilesRead.{Says, ReadAs, FileStop, FilesStop}
+use Rattle.route_top.specs.FilesRead.{Says, ReadAs, FileStop, FilesStop, Tells}
 use Rattle.route_top.specs.Stops.{outcome_of}
+use Rattle.route_top.specs.Verify.{CertStop, HoldsAt}
 
 -- The joiner stands for the files of these names.
 pub record HasRead (files : Option FileMap) (names : List (List ℕ)) (joiner : Joiner) : Type 0 where
@@ -55,3 +57,8 @@ FileRead files name before now (Err stop) = FileStop files name (outcome_of stop
 abbrev pub PairsRead : Option FileMap → List ℕ → Result (Vec Pair) Stop → Type 0
 PairsRead files name (Ok pairs) = SaysPairs files name pairs.items
 PairsRead files name (Err stop) = PairsStop files name (outcome_of stop)
+
+-- the certificate of this name, at which no rule fails, or why there is none
+abbrev pub CertRead : Option FileMap → Network → List ℕ → Result Listing Stop → Type 0
+CertRead files net name (Ok listing) = Tells files name (HoldsAt net listing.cert)
+CertRead files net name (Err stop) = CertStop files net name (outcome_of stop)

@@ -18,7 +18,7 @@ use Rattle.route_top.specs.declared.script.ScriptFault.TheVariants as script
 use Rattle.route_top.specs.declared.stop.Stop.{Stop}
 use Rattle.route_top.specs.declared.stop.Stop.TheVariants as stop
 use Rattle.route_top.specs.Outcome.{Outcome, done, bad_words, folder_failed, out_failed, bad_file, bad_files}
-use Rattle.route_top.specs.Outcome.{bad_pairs, script_too_long, town_failed, refused, no_memory, out_wanted}
+use Rattle.route_top.specs.Outcome.{bad_pairs, bad_cert, failed_rule, script_too_long, town_failed, refused, no_memory, out_wanted}
 use Rattle.route_top.specs.Output.{RunsCommand}
 
 -- the name of a script
@@ -47,6 +47,8 @@ outcome_of (stop.File name line kind) = bad_file name.now line kind
 outcome_of (stop.Files way) = bad_files way
 outcome_of (stop.Pairs name line kind) = bad_pairs name.now line kind
 outcome_of (stop.Script one fault) = script_outcome (script_name one) fault
+outcome_of (stop.Cert name line) = bad_cert name.now line
+outcome_of (stop.Rule name rule label) = failed_rule name.now rule label
 outcome_of stop.Refused = refused
 outcome_of stop.Town = town_failed
 outcome_of stop.OutOfMemory = no_memory

@@ -20,6 +20,7 @@ mod generate;
 mod lanes;
 mod network;
 mod plan;
+mod prove;
 mod reply;
 mod script;
 mod serve;
@@ -27,6 +28,7 @@ mod single;
 mod status;
 mod stop;
 mod summary;
+mod verify;
 
 use command_words::{Command, WordsFault, read_words};
 use link_doors::Town;
@@ -58,6 +60,8 @@ pub const MAX_FILE_SIZE: u64 = 1 << 29;
 /// | 8 | an end of the query is no node, or the query passes its budget; a line on `out` says which |
 /// | 9 | memory ran out, in `serve` also where it did so in a link |
 /// | 10 | the town failed, or one of its doors |
+/// | 11 | the certificate has a faulty line |
+/// | 12 | no line is faulty, but a rule fails at a label of the certificate |
 pub fn route<R: Threads + Wait + Clock + Sync, G: Gate, F: Folder, K: Sink, E: Sink, T: Town>(
     rt: &R,
     alloc: Global,
@@ -214,8 +218,9 @@ fn is_still(command: &Command<'_>) -> bool
     ensures { IsTrue result ↔ IsStill (asked_of command.now) }
 {
     match command {
-        Command::Single(_) | Command::Check(_) | Command::Batch(_) | Command::Gen(_) => true,
         Command::Lanes(_) | Command::Serve(_) => false,
+        Command::Single(_) | Command::Check(_) | Command::Batch(_) | Command::Gen(_) => true,
+        Command::Prove(_) | Command::Verify(_) => true,
     }
 }
 
@@ -242,6 +247,8 @@ fn carry_out<'a, R: Threads + Sync, G: Gate, F: Folder, K: Sink>(
         Command::Check(asked) => check::run(alloc, asked, folder, out),
         Command::Batch(asked) => batch::run(rt, alloc, asked, folder, out, gate),
         Command::Gen(asked) => generate::run(rt, alloc, asked, out, gate),
+        Command::Prove(asked) => prove::run(rt, alloc, asked, folder, out, gate),
+        Command::Verify(asked) => verify::run(alloc, asked, folder, out),
         Command::Lanes(_) | Command::Serve(_) => unreachable!(),
     }
 }

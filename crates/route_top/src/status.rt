@@ -20,5 +20,9 @@ pub const LONG_SCRIPT: u8 = 7;
 pub const REFUSED: u8 = 8;
 /// The town failed, or one of its doors.
 pub const TOWN_FAILED: u8 = 10;
+/// The certificate has a faulty line.
+pub const BAD_CERT: u8 = 11;
+/// A rule fails at a label of the certificate.
+pub const FAILED_RULE: u8 = 12;
 /// Memory ran out.
 pub const WANT_OF_MEMORY: u8 = 9;

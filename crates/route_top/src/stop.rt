@@ -2,16 +2,17 @@
 ghost use Rattle.std.specs.Prelude.{◌≡◌, ◌++◌, ℕ, List};
 ghost use Rattle.route_io.specs.Sinks.{Sends};
 ghost use Rattle.answer_writer.specs.Replies.{end_line};
-ghost use Rattle.route_top.specs.Outcome.{bad_files, note_of, status_of, fault_line};
+ghost use Rattle.route_top.specs.Outcome.{bad_cert, bad_files, failed_rule, note_of, status_of, fault_line};
 ghost use Rattle.route_top.specs.Stops.{script_name, script_outcome};
 
 use crate::script::{Script, ScriptFault};
 use crate::status::{
-    BAD_FILE, BAD_FILES, BAD_PAIRS, BAD_WORDS, FOLDER_FAILED, LONG_SCRIPT, OUT_FAILED, REFUSED,
-    TOWN_FAILED, WANT_OF_MEMORY,
+    BAD_CERT, BAD_FILE, BAD_FILES, BAD_PAIRS, BAD_WORDS, FAILED_RULE, FOLDER_FAILED, LONG_SCRIPT,
+    OUT_FAILED, REFUSED, TOWN_FAILED, WANT_OF_MEMORY,
 };
 use answer_writer::{Piece, put_line};
 use arc_graph::{Disagreement, JoinFault};
+use cert_rules::Rule;
 use gr_reader::LineKind;
 use itoa::Buffer;
 use link_doors::TownFault;
@@ -50,6 +51,17 @@ pub(crate) enum Stop<'a> {
         script: Script<'a>,
         fault: ScriptFault,
     },
+    /// This certificate has a faulty line.
+    Cert {
+        name: &'a str,
+        line: u64,
+    },
+    /// A rule fails at a label of this certificate.
+    Rule {
+        name: &'a str,
+        rule: Rule,
+        label: u32,
+    },
     /// A line on `out` says why.
     Refused,
     /// The town failed, or one of its doors.
@@ -72,6 +84,8 @@ impl Stop<'_> {
             Stop::File { .. } => BAD_FILE,
             Stop::Files(_) => BAD_FILES,
             Stop::Pairs { .. } => BAD_PAIRS,
+            Stop::Cert { .. } => BAD_CERT,
+            Stop::Rule { .. } => FAILED_RULE,
             Stop::Refused => REFUSED,
             Stop::Town => TOWN_FAILED,
             Stop::Out(WriteFault::OutOfMemory) | Stop::OutOfMemory => WANT_OF_MEMORY,
@@ -112,6 +126,8 @@ impl Stop<'_> {
                 note_line(err, "route: pairs ", name, *line, *kind)
             }
             Stop::Script { script, fault } => note_script(err, script, *fault),
+            Stop::Cert { name, line } => note_cert(err, name, *line),
+            Stop::Rule { name, rule, label } => note_rule(err, name, *rule, *label),
             Stop::Refused => Ok(()),
             Stop::Town => put_all(err, b"route: town\n"),
             Stop::Out(WriteFault::OutOfMemory) | Stop::OutOfMemory => {
@@ -200,6 +216,44 @@ fn note_line<'x, E: Sink>(
             Number(line),
             Text(" kind"),
             Number(u64::from(kind.number())),
+            Text("\n"),
+        ],
+    )
+}
+
+/// Sends the note on a faulty line of a certificate.
+fn note_cert<E: Sink>(err: &mut E, name: &str, line: u64) -> Result<(), WriteFault>
+    ensures { Sends (E.state err.old) (E.state err.new)
+        (note_of (bad_cert name.now line)) result }
+{
+    use Piece::{Number, Text};
+    put_line(
+        err,
+        &[
+            Text("route: cert "),
+            Text(name),
+            Text(" line"),
+            Number(line),
+            Text("\n"),
+        ],
+    )
+}
+
+/// Sends the note on a rule that fails.
+fn note_rule<E: Sink>(err: &mut E, name: &str, rule: Rule, label: u32) -> Result<(), WriteFault>
+    ensures { Sends (E.state err.old) (E.state err.new)
+        (note_of (failed_rule name.now rule label)) result }
+{
+    use Piece::{Number, Text};
+    put_line(
+        err,
+        &[
+            Text("route: cert "),
+            Text(name),
+            Text(" rule"),
+            Number(u64::from(rule.number())),
+            Text(" label"),
+            Number(u64::from(label)),
             Text("\n"),
         ],
     )

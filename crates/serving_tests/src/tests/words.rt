@@ -1,5 +1,6 @@
 use command_words::{
-    BatchWords, Command, GenWords, ServeWords, SingleWords, WordsFault, read_words,
+    BatchWords, Command, GenWords, ProveWords, ServeWords, SingleWords, VerifyWords, WordsFault,
+    read_words,
 };
 use road_network::AnswerKind;
 use std::alloc::{AllocError, Global};
@@ -34,6 +35,8 @@ fn shown(alloc: Global, command: &Command) -> Result<String, AllocError> {
         Command::Gen(asked) => shown_gen(alloc, asked),
         Command::Lanes(asked) => String::from_str(alloc, asked.sessions),
         Command::Serve(asked) => shown_serve(alloc, asked),
+        Command::Prove(asked) => shown_prove(alloc, asked),
+        Command::Verify(asked) => shown_verify(alloc, asked),
     }
 }
 
@@ -97,6 +100,20 @@ fn shown_serve(alloc: Global, asked: &ServeWords) -> Result<String, AllocError> 
     let mut text = listed(alloc, "serve", &numbers, &asked.files)?;
     let (listen, operator) = (asked.listen, asked.operator);
     write!(text, " at {listen:?} {operator:?}")?;
+    Ok(text)
+}
+
+fn shown_prove(alloc: Global, asked: &ProveWords) -> Result<String, AllocError> {
+    let query = asked.query;
+    let numbers = [query.from, query.to, query.budget, asked.workers];
+    listed(alloc, "prove", &numbers, &asked.files)
+}
+
+/// The name of the certificate stands last.
+fn shown_verify(alloc: Global, asked: &VerifyWords) -> Result<String, AllocError> {
+    let mut text = listed(alloc, "verify", &[], &asked.files)?;
+    let cert = asked.cert;
+    write!(text, " of {cert:?}")?;
     Ok(text)
 }
 
@@ -265,6 +282,44 @@ const SERVE: &[(&str, &str)] = &[
 #[test]
 fn reads_the_words_of_serve(rt: HostRuntime) {
     assert_rows(&rt, rt.alloc(), "serve", "", SERVE);
+}
+
+/// Words behind `prove`, and what they ask for: the ends, the budget, the workers and the files.
+const PROVE: &[(&str, &str)] = &[
+    (
+        "--from 1 --to 4 A.gr B.gr",
+        r#"prove 1 4 1000000 1 "A.gr" "B.gr""#,
+    ),
+    (
+        "A --budget 4000000 B --to 4 C --workers=64 --from 1 D",
+        r#"prove 1 4 4000000 64 "A" "B" "C" "D""#,
+    ),
+    ("--from 1 --to 4 --budget 4000001 A B", REFUSED),
+    ("--from 1 --to 4 --budget 0 A B", REFUSED),
+    ("--from 1 --to 4 --cert C A B", REFUSED),
+    ("--from 1 A B", REFUSED),
+];
+
+#[test]
+fn reads_the_words_of_prove(rt: HostRuntime) {
+    assert_rows(&rt, rt.alloc(), "prove", "", PROVE);
+}
+
+/// Words behind `verify`, and what they ask for: the files and the certificate.
+const VERIFY: &[(&str, &str)] = &[
+    ("--cert C A.gr B.gr", r#"verify "A.gr" "B.gr" of "C""#),
+    ("A B --cert=x C D", r#"verify "A" "B" "C" "D" of "x""#),
+    ("--cert= -- A -B", r#"verify "A" "-B" of """#),
+    ("A B", REFUSED),
+    ("--cert C A", REFUSED),
+    ("--cert C --cert C A B", REFUSED),
+    ("--cert C --budget 1 A B", REFUSED),
+    ("--cert C --from 1 --to 4 A B", REFUSED),
+];
+
+#[test]
+fn reads_the_words_of_verify(rt: HostRuntime) {
+    assert_rows(&rt, rt.alloc(), "verify", "", VERIFY);
 }
 
 /// Words behind `gen` that are those of no command.

@@ -470,13 +470,23 @@ fn assert_changed(
     }
 }
 
+/// Whether the certificate with each of these lines at a place is refused as it is to be.
+fn assert_each_changed(
+    rt: &(impl Abort + Threads + Wait + Clock + Sync),
+    alloc: Global,
+    place: usize,
+    lines: &[(&str, &str)],
+) {
+    for (line, fault) in lines {
+        assert_changed(rt, alloc, place, line, fault);
+    }
+}
+
 #[test]
 fn each_number_of_a_certificate_counts(rt: HostRuntime) {
     let tables = changed();
     for place in 0..tables.len() {
-        for (line, fault) in tables[place] {
-            assert_changed(&rt, rt.alloc(), place, line, fault);
-        }
+        assert_each_changed(&rt, rt.alloc(), place, tables[place]);
     }
 }
 

@@ -2,7 +2,7 @@
 ghost use Rattle.std.specs.Prelude.{◌≡◌, IfOk};
 ghost use Rattle.clap.specs.Words.{app_of, with_rule};
 ghost use Rattle.command_words.specs.Apps.{bare_app, batch_app, check_app, files_rule};
-ghost use Rattle.command_words.specs.Apps.{gen_app, lanes_app, option_rule, scripts_app, serve_app, single_app, town_app, verify_app, with_limits};
+ghost use Rattle.command_words.specs.Apps.{feeds_app, follow_app, gen_app, lanes_app, option_rule, scripts_app, serve_app, single_app, town_app, verify_app, with_limits};
 
 use clap::{Arg, ArgAction, Command};
 use road_network::AnswerKind;
@@ -19,6 +19,7 @@ pub enum Name {
     Serve,
     Prove,
     Verify,
+    Follow,
 }
 
 impl Name {
@@ -38,6 +39,7 @@ impl Name {
             Name::Serve => serve(alloc),
             Name::Prove => single(alloc, "prove"),
             Name::Verify => verify(alloc),
+            Name::Follow => follow(alloc),
         }
     }
 }
@@ -119,6 +121,25 @@ fn town<'a>(alloc: Global) -> Result<Command<'a>, AllocError>
     let command = with_option(alloc, command, "operator", true)?;
     let command = with_option(alloc, command, "lanes", false)?;
     let command = with_option(alloc, command, "links", false)?;
+    with_option(alloc, command, "epoch", false)
+}
+
+fn follow<'a>(alloc: Global) -> Result<Command<'a>, AllocError>
+    ensures { IfOk result (λ c. app_of c ≡ follow_app) }
+{
+    let command = with_limits(alloc, feeds(alloc)?)?;
+    with_files(alloc, command)
+}
+
+fn feeds<'a>(alloc: Global) -> Result<Command<'a>, AllocError>
+    ensures { IfOk result (λ c. app_of c ≡ feeds_app) }
+{
+    let command = bare(alloc, "follow");
+    let command = with_option(alloc, command, "write", false)?;
+    let command = with_option(alloc, command, "feeds", false)?;
+    let command = with_option(alloc, command, "sessions", false)?;
+    let command = with_option(alloc, command, "links", false)?;
+    let command = with_option(alloc, command, "lanes", false)?;
     with_option(alloc, command, "epoch", false)
 }
 

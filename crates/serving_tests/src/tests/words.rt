@@ -1,6 +1,6 @@
 use command_words::{
-    BatchWords, Command, GenWords, ProveWords, ServeWords, SingleWords, VerifyWords, WordsFault,
-    read_words,
+    BatchWords, Command, FollowWords, GenWords, ProveWords, ServeWords, SingleWords, TakeWords,
+    VerifyWords, WordsFault, WriteWords, read_words,
 };
 use road_network::AnswerKind;
 use std::alloc::{AllocError, Global};
@@ -37,6 +37,8 @@ fn shown(alloc: Global, command: &Command) -> Result<String, AllocError> {
         Command::Serve(asked) => shown_serve(alloc, asked),
         Command::Prove(asked) => shown_prove(alloc, asked),
         Command::Verify(asked) => shown_verify(alloc, asked),
+        Command::Follow(FollowWords::Write(asked)) => shown_write(alloc, asked),
+        Command::Follow(FollowWords::Take(asked)) => shown_take(alloc, asked),
     }
 }
 
@@ -114,6 +116,24 @@ fn shown_verify(alloc: Global, asked: &VerifyWords) -> Result<String, AllocError
     let mut text = listed(alloc, "verify", &[], &asked.files)?;
     let cert = asked.cert;
     write!(text, " of {cert:?}")?;
+    Ok(text)
+}
+
+/// The operator's script stands last.
+fn shown_write(alloc: Global, asked: &WriteWords) -> Result<String, AllocError> {
+    let mut text = listed(alloc, "write", &[asked.epoch], &asked.files)?;
+    let operator = asked.operator;
+    write!(text, " of {operator:?}")?;
+    Ok(text)
+}
+
+/// The stems stand last, that of the feeds first.
+fn shown_take(alloc: Global, asked: &TakeWords) -> Result<String, AllocError> {
+    let (budget, workers) = (asked.limits.budget, asked.limits.workers);
+    let numbers = [asked.links, asked.lanes, asked.epoch, budget, workers];
+    let mut text = listed(alloc, "take", &numbers, &asked.files)?;
+    let (feeds, sessions) = (asked.feeds, asked.sessions);
+    write!(text, " of {feeds:?} {sessions:?}")?;
     Ok(text)
 }
 
@@ -320,6 +340,41 @@ const VERIFY: &[(&str, &str)] = &[
 #[test]
 fn reads_the_words_of_verify(rt: HostRuntime) {
     assert_rows(&rt, rt.alloc(), "verify", "", VERIFY);
+}
+
+/// Words behind `follow`, and what they ask for: the first epoch, the files and the script; or the feeds, the lanes, the
+/// first epoch, budget, workers, files and stems.
+const FOLLOW: &[(&str, &str)] = &[
+    ("--write op A B", r#"write 0 "A" "B" of "op""#),
+    ("A --epoch=7 B --write= C", r#"write 7 "A" "B" "C" of """#),
+    (
+        "--feeds f --sessions day A B",
+        r#"take 1 1 0 10000000 1 "A" "B" of "f" "day""#,
+    ),
+    (
+        "A --links 64 B --lanes=16 --epoch 5 --budget 3 --workers 2 --sessions= --feeds= C",
+        r#"take 64 16 5 3 2 "A" "B" "C" of "" """#,
+    ),
+    ("A B", REFUSED),
+    ("--feeds f A B", REFUSED),
+    ("--sessions day A B", REFUSED),
+    ("--feeds f --sessions day --links 65 A B", REFUSED),
+    ("--feeds f --sessions day --links 0 A B", REFUSED),
+    ("--feeds f --sessions day --lanes 17 A B", REFUSED),
+    ("--write op --feeds f --sessions day A B", REFUSED),
+    ("--write op --feeds f A B", REFUSED),
+    ("--write op --sessions day A B", REFUSED),
+    ("--write op --links 1 A B", REFUSED),
+    ("--write op --lanes 1 A B", REFUSED),
+    ("--write op --budget 1 A B", REFUSED),
+    ("--write op --workers 1 A B", REFUSED),
+    ("--write op --write op A B", REFUSED),
+    ("--write op A", REFUSED),
+];
+
+#[test]
+fn reads_the_words_of_follow(rt: HostRuntime) {
+    assert_rows(&rt, rt.alloc(), "follow", "", FOLLOW);
 }
 
 /// Words behind `gen` that are those of no command.

@@ -1,2 +1,4 @@
 pub mod Relaxing
 pub mod Rounds
+pub mod Findings
+pub mod Answers

@@ -4,8 +4,8 @@ use Rattle.std.specs.Prelude.{codes, if◌then◌else◌, option_and_then}
 use Rattle.std.specs.Str.{bytes_eq}
 use Rattle.clap.specs.Words.{App, Row, Text, fault_of, first_of, is_simple_and_free, matches_of}
 use Rattle.command_words.specs.Apps.{app_for, word_of}
-use Rattle.command_words.specs.Words.{AreWords, Asked, Asks, AsksAs, AsksBatch, AsksLimits, AsksGen, AsksLanes, AsksPlan, AsksProve, AsksQuery, AsksServe, AsksSingle, AsksTake, AsksVerify, AsksWrite, BatchAsked, FollowAsked, GenAsked, LanesAsked, TakeAsked, WriteAsked}
-use Rattle.command_words.specs.Words.{IsGiven, IsGivenIf, IsGivenOr, IsNamed, NamesFiles, ProveAsked, ServeAsked, SingleAsked, VerifyAsked, AsksFollow, batch, check, follow, generate, lanes, prove, serve, single, take, verify, write}
+use Rattle.command_words.specs.Words.{AreWords, Asked, Asks, AsksAs, AsksBatch, AsksLimits, AsksGen, AsksGoal, AsksLanes, AsksPlan, AsksProve, AsksQuery, AsksServe, AsksSingle, AsksTake, AsksVerify, AsksWrite, BatchAsked, FollowAsked, GenAsked, GoalAsked, LanesAsked, TakeAsked, WriteAsked}
+use Rattle.command_words.specs.Words.{IsGiven, IsGivenIf, IsGivenOr, IsNamed, NamesFiles, ProveAsked, ServeAsked, SingleAsked, VerifyAsked, AsksFollow, batch, check, follow, generate, goal, lanes, prove, serve, single, take, verify, write}
 use Rattle.graph_gen.specs.declared.GenPlan.{GenPlan}
 use Rattle.line_text.specs.declared.numerals.Numeral.TheVariants.{Value}
 use Rattle.command_words.specs.declared.apps.Name.{Name}
@@ -13,12 +13,13 @@ use Rattle.road_network.specs.declared.query.AnswerKind.{AnswerKind}
 use Rattle.road_network.specs.declared.query.AnswerKind.TheVariants.{Costs, Walks}
 use Rattle.command_words.specs.declared.SearchLimits.{SearchLimits}
 use Rattle.road_network.specs.declared.query.Query.{Query}
-use Rattle.command_words.specs.declared.apps.Name.TheVariants.{Batch, Check, Follow, Gen, Lanes, Prove, Serve, Single, Verify}
+use Rattle.command_words.specs.declared.apps.Name.TheVariants.{Batch, Check, Follow, Gen, Goal, Lanes, Prove, Serve, Single, Verify}
 
 -- each command's arguments are of the kind whose matches are a function of the words
 pub apps_simple : (name : Name) → is_simple_and_free (app_for name) ≡ true
 apps_simple (Single Costs) = refl
 apps_simple (Single Walks) = refl
+apps_simple Goal = refl
 apps_simple Check = refl
 apps_simple Batch = refl
 apps_simple Gen = refl
@@ -35,6 +36,7 @@ abbrev name_for : Text → Option Name
 name_for word =
     if bytes_eq word (codes "costs") then Some (Single Costs)
     else if bytes_eq word (codes "one") then Some (Single Walks)
+    else if bytes_eq word (codes "goal") then Some Goal
     else if bytes_eq word (codes "check") then Some Check
     else if bytes_eq word (codes "batch") then Some Batch
     else if bytes_eq word (codes "gen") then Some Gen
@@ -48,6 +50,7 @@ name_for word =
 named_back : (name : Name) → name_for (word_of name) ≡ Some name
 named_back (Single Costs) = refl
 named_back (Single Walks) = refl
+named_back Goal = refl
 named_back Check = refl
 named_back Batch = refl
 named_back Gen = refl
@@ -139,6 +142,13 @@ same_single rows a b kind x y =
     let files = same_files rows a.files b.files x.files y.files in
     let asked : AnswerKind → Query → ℕ → List Text → SingleAsked = λ k q w f. record { kind = k; query = q; workers = w; files = f } in
     let e : asked a.kind a.query a.workers a.files ≡ asked b.kind b.query b.workers b.files = cc in e
+
+same_goal : (rows : List Row) (a b : GoalAsked) → AsksGoal rows a → AsksGoal rows b → a ≡ b
+same_goal rows a b x y =
+    let query = same_query _ _ rows a.query b.query x.query y.query in
+    let files = same_files rows a.files b.files x.files y.files in
+    let asked : Query → List Text → GoalAsked = λ q f. record { query = q; files = f } in
+    let e : asked a.query a.files ≡ asked b.query b.files = cc in e
 
 same_prove : (rows : List Row) (a b : ProveAsked) → AsksProve rows a → AsksProve rows b → a ≡ b
 same_prove rows a b x y =
@@ -246,6 +256,11 @@ pub single_alone : (kind : AnswerKind) (rows : List Row) (asked : Asked) → Ask
 single_alone kind rows (single c) values = (c, refl, values.0, values.1)
 single_alone kind rows _ values = absurd values
 
+-- values of `goal` are of its own kind
+pub goal_alone : (rows : List Row) (asked : Asked) → AsksAs Goal rows asked → (g : GoalAsked) × (goal g ≡ asked) × AsksGoal rows g
+goal_alone rows (goal g) values = (g, refl, values)
+goal_alone rows _ values = absurd values
+
 -- values of `check` are of its own kind
 pub check_alone : (rows : List Row) (asked : Asked) → AsksAs Check rows asked → (files : List Text) × (check files ≡ asked) × NamesFiles rows files
 check_alone rows (check files) values = (files, refl, values)
@@ -291,6 +306,10 @@ same_values (Single kind) rows a b x y =
     let (c, is_a, kind_c, values) = single_alone kind rows a x in
     let (d, is_b, kind_d, others) = single_alone kind rows b y in
     sym is_a ∙ ap single (same_single rows c d (kind_c ∙ sym kind_d) values others) ∙ is_b
+same_values Goal rows a b x y =
+    let (g, is_a, values) = goal_alone rows a x in
+    let (h, is_b, others) = goal_alone rows b y in
+    sym is_a ∙ ap goal (same_goal rows g h values others) ∙ is_b
 same_values Check rows a b x y =
     let (c, is_a, values) = check_alone rows a x in
     let (d, is_b, others) = check_alone rows b y in

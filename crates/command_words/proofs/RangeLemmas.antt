@@ -7,10 +7,10 @@ use Rattle.line_text.specs.declared.numerals.Numeral.TheVariants.{NotDigits, Val
 use Rattle.road_network.specs.Limits.{max_budget}
 use Rattle.command_words.specs.declared.SearchLimits.{SearchLimits}
 use Rattle.command_words.specs.declared.apps.Name.{Name}
-use Rattle.command_words.specs.declared.apps.Name.TheVariants.{Batch, Check, Follow, Gen, Lanes, Prove, Serve, Single, Verify}
+use Rattle.command_words.specs.declared.apps.Name.TheVariants.{Batch, Check, Follow, Gen, Goal, Lanes, Prove, Serve, Single, Verify}
 use Rattle.command_words.specs.Ranges.{default_budget, default_listed, default_workers, max_listed, max_workers}
 use Rattle.command_words.specs.Words.{AreSearchLimits, Asked, AsksAs, AsksFollow, AsksBudget, AsksLimits, AsksWorkers, CountInRange, FilesInRange, FollowAsked, FollowLimitsInRange, IsGivenOr, LimitsInRange, NamesFiles, files_of_follow, take, write}
-use Rattle.command_words.proofs.AskLemmas.{batch_alone, check_alone, follow_alone, gen_alone, lanes_alone, prove_alone, serve_alone, single_alone, verify_alone}
+use Rattle.command_words.proofs.AskLemmas.{batch_alone, check_alone, follow_alone, gen_alone, goal_alone, lanes_alone, prove_alone, serve_alone, single_alone, verify_alone}
 
 -- a text that is read as a number of at most the greatest is one
 number_within : (digits above : Bool) (value greatest n : ℕ) → nat_lt greatest value ≡ above
@@ -47,6 +47,10 @@ pub limits_in_range : (name : Name) (rows : List Row) (asked : Asked) → AsksAs
 limits_in_range (Single kind) rows asked values =
     let (s, is, kind_is, asks) = single_alone kind rows asked values in
     subst LimitsInRange is (record { unlimited = asks.query.unlimited; limits = search_limits rows s.query.budget s.workers asks.query.budget asks.workers })
+limits_in_range Goal rows asked values =
+    let (g, is, asks) = goal_alone rows asked values in
+    let labels = in_range default_budget 1 max_budget (first_of (codes "budget") rows) g.query.budget (omega arith) (omega arith) asks.query.budget in
+    subst LimitsInRange is (record { unlimited = asks.query.unlimited; some_budget = labels.0; budget = labels.1 })
 limits_in_range Check rows asked values =
     let (files, is, asks) = check_alone rows asked values in
     subst LimitsInRange is tt
@@ -92,6 +96,9 @@ pub files_in_range : (name : Name) (rows : List Row) (asked : Asked) → AsksAs 
 files_in_range (Single kind) rows asked values =
     let (s, is, kind_is, asks) = single_alone kind rows asked values in
     subst FilesInRange is (count_in_range rows s.files asks.files)
+files_in_range Goal rows asked values =
+    let (g, is, asks) = goal_alone rows asked values in
+    subst FilesInRange is (count_in_range rows g.files asks.files)
 files_in_range Check rows asked values =
     let (files, is, asks) = check_alone rows asked values in
     subst FilesInRange is (count_in_range rows files asks)

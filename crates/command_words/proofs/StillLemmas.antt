@@ -2,8 +2,8 @@
 use Rattle.std.proofs.Common.{ℕ, List, inl, inr}
 use Rattle.clap.specs.Words.{Row}
 use Rattle.command_words.specs.declared.apps.Name.{Name}
-use Rattle.command_words.specs.declared.apps.Name.TheVariants.{Batch, Check, Follow, Gen, Lanes, Prove, Serve, Single, Verify}
-use Rattle.command_words.specs.Words.{Asked, Asks, AsksAs, FollowAsked, IsNamed, IsStill, LanesAsked, NamesWaiting, ServeAsked, batch, check, follow, generate, lanes, prove, serve, single, verify}
+use Rattle.command_words.specs.declared.apps.Name.TheVariants.{Batch, Check, Follow, Gen, Goal, Lanes, Prove, Serve, Single, Verify}
+use Rattle.command_words.specs.Words.{Asked, Asks, AsksAs, FollowAsked, IsNamed, IsStill, LanesAsked, NamesWaiting, ServeAsked, batch, check, follow, generate, goal, lanes, prove, serve, single, verify}
 use Rattle.command_words.proofs.AskLemmas.{under_name}
 
 lanes_wait : (rows : List Row) (asked : Asked) → AsksAs Lanes rows asked → ¬ IsStill asked
@@ -28,6 +28,7 @@ named_by_lanes : (words : List (List ℕ)) (rows : List Row) (name : Name) (aske
     → AsksAs name rows (lanes asked) → IsNamed words Lanes
 named_by_lanes words rows Lanes asked named values = named
 named_by_lanes words rows (Single kind) asked named values = absurd values
+named_by_lanes words rows Goal asked named values = absurd values
 named_by_lanes words rows Check asked named values = absurd values
 named_by_lanes words rows Batch asked named values = absurd values
 named_by_lanes words rows Gen asked named values = absurd values
@@ -40,6 +41,7 @@ named_by_serving : (words : List (List ℕ)) (rows : List Row) (name : Name) (as
     → AsksAs name rows (serve asked) → IsNamed words Serve
 named_by_serving words rows Serve asked named values = named
 named_by_serving words rows (Single kind) asked named values = absurd values
+named_by_serving words rows Goal asked named values = absurd values
 named_by_serving words rows Check asked named values = absurd values
 named_by_serving words rows Batch asked named values = absurd values
 named_by_serving words rows Gen asked named values = absurd values
@@ -52,6 +54,7 @@ named_by_following : (words : List (List ℕ)) (rows : List Row) (name : Name) (
     → AsksAs name rows (follow asked) → IsNamed words Follow
 named_by_following words rows Follow asked named values = named
 named_by_following words rows (Single kind) asked named values = absurd values
+named_by_following words rows Goal asked named values = absurd values
 named_by_following words rows Check asked named values = absurd values
 named_by_following words rows Batch asked named values = absurd values
 named_by_following words rows Gen asked named values = absurd values
@@ -63,6 +66,7 @@ named_by_following words rows Verify asked named values = absurd values
 -- words that name none ask for no command that waits
 pub named_still : (words : List (List ℕ)) (asked : Asked) → (¬ NamesWaiting words) → Asks words asked → IsStill asked
 named_still words (single asked) other a = tt
+named_still words (goal asked) other a = tt
 named_still words (check asked) other a = tt
 named_still words (batch asked) other a = tt
 named_still words (generate asked) other a = tt

@@ -4,12 +4,13 @@ use Rattle.clap.specs.Words.{App, Rule, Text, new_app, new_rule, with_rule}
 use Rattle.clap.specs.declared.builder.action.ArgAction.TheVariants.{Append, Set}
 use Rattle.road_network.specs.declared.query.AnswerKind.TheVariants.{Costs, Walks}
 use Rattle.command_words.specs.declared.apps.Name.{Name}
-use Rattle.command_words.specs.declared.apps.Name.TheVariants.{Batch, Check, Follow, Gen, Lanes, Prove, Serve, Single, Verify}
+use Rattle.command_words.specs.declared.apps.Name.TheVariants.{Batch, Check, Follow, Gen, Goal, Lanes, Prove, Serve, Single, Verify}
 
 -- the word that names a command
 abbrev pub word_of : Name → Text
 word_of (Single Costs) = codes "costs"
 word_of (Single Walks) = codes "one"
+word_of Goal = codes "goal"
 word_of Check = codes "check"
 word_of Batch = codes "batch"
 word_of Gen = codes "gen"
@@ -45,6 +46,12 @@ with_limits app = with_rule (with_rule app (option_rule (codes "budget") false))
 abbrev pub single_app : Text → App
 single_app word = with_rule (with_limits (with_rule (with_rule (bare_app word)
     (option_rule (codes "from") true)) (option_rule (codes "to") true))) files_rule
+
+-- `goal --from S --to T [--budget B] FILES`
+abbrev pub goal_app : App
+goal_app = with_rule (with_rule (with_rule (with_rule (bare_app (word_of Goal))
+    (option_rule (codes "from") true)) (option_rule (codes "to") true))
+    (option_rule (codes "budget") false)) files_rule
 
 -- `check FILES`
 abbrev pub check_app : App
@@ -105,6 +112,7 @@ follow_app = with_rule (with_limits feeds_app) files_rule
 -- the arguments of a command
 abbrev pub app_for : Name → App
 app_for (Single kind) = single_app (word_of (Single kind))
+app_for Goal = goal_app
 app_for Check = check_app
 app_for Batch = batch_app
 app_for Gen = gen_app

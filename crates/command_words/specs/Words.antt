@@ -14,6 +14,7 @@ use Rattle.command_words.specs.declared.SearchLimits.{SearchLimits}
 use Rattle.command_words.specs.declared.FollowWords.{FollowWords}
 use Rattle.command_words.specs.declared.FollowWords.TheVariants as follow_words
 use Rattle.command_words.specs.declared.GenWords.{GenWords}
+use Rattle.command_words.specs.declared.GoalWords.{GoalWords}
 use Rattle.command_words.specs.declared.LanesWords.{LanesWords}
 use Rattle.command_words.specs.declared.ProveWords.{ProveWords}
 use Rattle.command_words.specs.declared.ServeWords.{ServeWords}
@@ -22,7 +23,7 @@ use Rattle.command_words.specs.declared.TakeWords.{TakeWords}
 use Rattle.command_words.specs.declared.VerifyWords.{VerifyWords}
 use Rattle.command_words.specs.declared.WriteWords.{WriteWords}
 use Rattle.command_words.specs.declared.apps.Name.{Name}
-use Rattle.command_words.specs.declared.apps.Name.TheVariants.{Batch, Check, Follow, Gen, Lanes, Prove, Serve, Single, Verify}
+use Rattle.command_words.specs.declared.apps.Name.TheVariants.{Batch, Check, Follow, Gen, Goal, Lanes, Prove, Serve, Single, Verify}
 use Rattle.line_text.specs.declared.numerals.Numeral.TheVariants.{Value}
 use Rattle.graph_gen.specs.declared.GenPlan.{GenPlan}
 use Rattle.graph_gen.specs.Plans.{IsPlan, max_pairs, max_side, min_pairs, min_side}
@@ -39,6 +40,11 @@ pub record SingleAsked : Type 0 where
   pub kind : AnswerKind
   pub query : Query
   pub workers : ℕ
+  pub files : List Text
+
+-- one query over the network of the files, to be searched by a search that is directed to its target
+pub record GoalAsked : Type 0 where
+  pub query : Query
   pub files : List Text
 
 -- one query over the network of the files whose labels are to be listed, and how many workers share the search
@@ -110,6 +116,7 @@ pub data FollowAsked : Type 0 where
 -- one command and its values; `check` has the names of its files alone
 pub data Asked : Type 0 where
   single : SingleAsked → Asked
+  goal : GoalAsked → Asked
   check : List Text → Asked
   batch : BatchAsked → Asked
   generate : GenAsked → Asked
@@ -143,6 +150,7 @@ names_of_follow (take asked) = asked.files ++ feeds_of asked ++ sessions_of aske
 -- the names of all files that a command reads, in the order of its work
 abbrev pub names_of : Asked → List Text
 names_of (single asked) = asked.files
+names_of (goal asked) = asked.files
 names_of (check files) = files
 names_of (batch asked) = asked.files ++ asked.pairs ∷ []
 names_of (generate asked) = []
@@ -165,6 +173,7 @@ files_of_follow (take asked) = asked.files
 -- a command that reads weight files reads as many
 abbrev pub FilesInRange : Asked → Type 0
 FilesInRange (single asked) = CountInRange asked.files
+FilesInRange (goal asked) = CountInRange asked.files
 FilesInRange (check files) = CountInRange files
 FilesInRange (batch asked) = CountInRange asked.files
 FilesInRange (generate asked) = Unit {0}
@@ -190,6 +199,12 @@ pub record SingleInRange (asked : SingleAsked) : Type 0 where
   pub unlimited : asked.query.limit ≡ None
   pub limits : AreSearchLimits (limits_of_single asked)
 
+-- the same of a query whose search is directed to its target, which one worker does
+pub record GoalInRange (asked : GoalAsked) : Type 0 where
+  pub unlimited : asked.query.limit ≡ None
+  pub some_budget : 1 ≤ asked.query.budget
+  pub budget : asked.query.budget ≤ max_budget
+
 -- a query whose labels are listed has no limit, and is searched within the ranges and for no more labels than may be listed
 pub record ProveInRange (asked : ProveAsked) : Type 0 where
   pub unlimited : asked.query.limit ≡ None
@@ -206,6 +221,7 @@ FollowLimitsInRange (take asked) = AreSearchLimits asked.limits
 -- how a command searches is within the ranges
 abbrev pub LimitsInRange : Asked → Type 0
 LimitsInRange (single asked) = SingleInRange asked
+LimitsInRange (goal asked) = GoalInRange asked
 LimitsInRange (check files) = Unit {0}
 LimitsInRange (batch asked) = AreSearchLimits asked.limits
 LimitsInRange (generate asked) = AreSearchLimits asked.limits
@@ -223,6 +239,7 @@ pub record GenInRange (asked : GenAsked) : Type 0 where
 -- the plan of a command that has one is within its ranges
 abbrev pub PlanInRange : Asked → Type 0
 PlanInRange (single asked) = Unit {0}
+PlanInRange (goal asked) = Unit {0}
 PlanInRange (check files) = Unit {0}
 PlanInRange (batch asked) = Unit {0}
 PlanInRange (generate asked) = GenInRange asked
@@ -251,6 +268,7 @@ FollowLanesInRange (take asked) = AreFeeds asked
 -- a command that has lanes has as many
 abbrev pub LanesInRange : Asked → Type 0
 LanesInRange (single asked) = Unit {0}
+LanesInRange (goal asked) = Unit {0}
 LanesInRange (check files) = Unit {0}
 LanesInRange (batch asked) = Unit {0}
 LanesInRange (generate asked) = Unit {0}
@@ -263,6 +281,7 @@ LanesInRange (follow asked) = FollowLanesInRange asked
 -- the command waits for nobody
 abbrev pub IsStill : Asked → Type 0
 IsStill (single asked) = Unit {0}
+IsStill (goal asked) = Unit {0}
 IsStill (check files) = Unit {0}
 IsStill (batch asked) = Unit {0}
 IsStill (generate asked) = Unit {0}
@@ -326,6 +345,11 @@ pub record AsksQuery (other greatest : ℕ) (rows : List Row) (query : Query) : 
 pub record AsksSingle (rows : List Row) (asked : SingleAsked) : Type 0 where
   pub query : AsksQuery default_budget max_budget rows asked.query
   pub workers : AsksWorkers rows asked.workers
+  pub files : NamesFiles rows asked.files
+
+-- the values are those of `goal`
+pub record AsksGoal (rows : List Row) (asked : GoalAsked) : Type 0 where
+  pub query : AsksQuery default_budget max_budget rows asked.query
   pub files : NamesFiles rows asked.files
 
 -- the values are those of `prove`
@@ -412,6 +436,7 @@ AsksFollow rows (take asked) = AsksTake rows asked
 -- the values are those of the command
 abbrev pub AsksAs : Name → List Row → Asked → Type 0
 AsksAs (Single kind) rows (single asked) = (asked.kind ≡ kind) × AsksSingle rows asked
+AsksAs Goal rows (goal asked) = AsksGoal rows asked
 AsksAs Check rows (check files) = NamesFiles rows files
 AsksAs Batch rows (batch asked) = AsksBatch rows asked
 AsksAs Gen rows (generate asked) = AsksGen rows asked
@@ -452,6 +477,10 @@ AreWords words = (asked : Asked) × Asks words asked
 -- the words of one query, as what they ask for
 abbrev pub single_asked : SingleWords → SingleAsked
 single_asked c = record { kind = c.kind; query = c.query; workers = c.workers; files = map (λ s. s.now) c.files.items }
+
+-- the words of `goal`, as what they ask for
+abbrev pub goal_asked : GoalWords → GoalAsked
+goal_asked g = record { query = g.query; files = map (λ s. s.now) g.files.items }
 
 -- the words of `prove`, as what they ask for
 abbrev pub prove_asked : ProveWords → ProveAsked
@@ -520,6 +549,7 @@ follow_asked (follow_words.Take t) = take (take_asked t)
 -- a command, as what it asks for
 abbrev pub asked_of : Command → Asked
 asked_of (command.Single c) = single (single_asked c)
+asked_of (command.Goal g) = goal (goal_asked g)
 asked_of (command.Check c) = check (check_asked c)
 asked_of (command.Batch b) = batch (batch_asked b)
 asked_of (command.Gen g) = generate (gen_asked g)

@@ -2,7 +2,7 @@
 ghost use Rattle.std.specs.Prelude.{◌≡◌, IfOk};
 ghost use Rattle.clap.specs.Words.{app_of, with_rule};
 ghost use Rattle.command_words.specs.Apps.{bare_app, batch_app, check_app, files_rule};
-ghost use Rattle.command_words.specs.Apps.{feeds_app, follow_app, gen_app, lanes_app, option_rule, scripts_app, serve_app, single_app, town_app, verify_app, with_limits};
+ghost use Rattle.command_words.specs.Apps.{feeds_app, follow_app, gen_app, goal_app, lanes_app, option_rule, scripts_app, serve_app, single_app, town_app, verify_app, with_limits};
 
 use clap::{Arg, ArgAction, Command};
 use road_network::AnswerKind;
@@ -12,6 +12,7 @@ use std::alloc::{AllocError, Global};
 #[derive(Clone, Copy)]
 pub enum Name {
     Single(AnswerKind),
+    Goal,
     Check,
     Batch,
     Gen,
@@ -32,6 +33,7 @@ impl Name {
         match self {
             Name::Single(AnswerKind::Costs) => single(alloc, "costs"),
             Name::Single(AnswerKind::Walks) => single(alloc, "one"),
+            Name::Goal => goal(alloc),
             Name::Check => check(alloc),
             Name::Batch => batch(alloc),
             Name::Gen => generate(alloc),
@@ -51,6 +53,16 @@ fn single<'a>(alloc: Global, name: &'a str) -> Result<Command<'a>, AllocError>
     let command = with_option(alloc, command, "from", true)?;
     let command = with_option(alloc, command, "to", true)?;
     let command = with_limits(alloc, command)?;
+    with_files(alloc, command)
+}
+
+fn goal<'a>(alloc: Global) -> Result<Command<'a>, AllocError>
+    ensures { IfOk result (λ c. app_of c ≡ goal_app) }
+{
+    let command = bare(alloc, "goal");
+    let command = with_option(alloc, command, "from", true)?;
+    let command = with_option(alloc, command, "to", true)?;
+    let command = with_option(alloc, command, "budget", false)?;
     with_files(alloc, command)
 }
 

@@ -72,6 +72,13 @@ pub struct SingleWords<'a> {
     pub files: Vec<&'a str>,
 }
 
+/// The words of `goal`.
+#[derive(Debug, Drop)]
+pub struct GoalWords<'a> {
+    pub query: Query,
+    pub files: Vec<&'a str>,
+}
+
 /// The words of `prove`.
 #[derive(Debug, Drop)]
 pub struct ProveWords<'a> {
@@ -189,6 +196,8 @@ pub enum FollowWords<'a> {
 pub enum Command<'a> {
     /// The answer to one query.
     Single(SingleWords<'a>),
+    /// The answer to one query, found by a search that is directed to its target.
+    Goal(GoalWords<'a>),
     /// Whether the files make up a network.
     Check(CheckWords<'a>),
     /// The answers to many queries, with walks.
@@ -269,6 +278,7 @@ fn name_of(words: &[String]) -> Option<Name>
     match words.first()?.as_str() {
         "costs" => Some(Name::Single(AnswerKind::Costs)),
         "one" => Some(Name::Single(AnswerKind::Walks)),
+        "goal" => Some(Name::Goal),
         "check" => Some(Name::Check),
         "batch" => Some(Name::Batch),
         "gen" => Some(Name::Gen),

@@ -1,20 +1,20 @@
 //! Reads the values that the words give to a command's arguments.
 ghost use Rattle.std.specs.Prelude.{◌≡◌, ◌↔◌, IfOk, IfNone, IfSome, IsTrue, None, Some, codes, map, option_map};
 ghost use Rattle.clap.specs.Words.{all_of, first_of, found_of, rows_of};
-ghost use Rattle.command_words.specs.Words.{AsksAs, AsksBatch, AsksFollow, AsksLimits, AsksGen, AsksLanes, AsksPlan, AsksProve, AsksServe, AsksTake, AsksVerify, AsksWorkers, AsksWrite, TakesNone};
+ghost use Rattle.command_words.specs.Words.{AsksAs, AsksBatch, AsksFollow, AsksLimits, AsksGen, AsksGoal, AsksLanes, AsksPlan, AsksProve, AsksServe, AsksTake, AsksVerify, AsksWorkers, AsksWrite, TakesNone};
 ghost use Rattle.road_network.specs.Limits.{max_budget, max_epoch};
 ghost use Rattle.command_words.specs.Ranges.{default_budget, default_epoch, default_lanes, default_listed, max_lanes, max_listed};
 ghost use Rattle.command_words.specs.Words.{AsksQuery, AsksSingle, IsGivenOr, NamesFiles};
-ghost use Rattle.command_words.specs.Words.{asked_of, batch_asked, follow_asked, gen_asked, lanes_asked, prove_asked, serve_asked, single_asked, take_asked, verify_asked, write_asked};
+ghost use Rattle.command_words.specs.Words.{asked_of, batch_asked, follow_asked, gen_asked, goal_asked, lanes_asked, prove_asked, serve_asked, single_asked, take_asked, verify_asked, write_asked};
 
 use crate::apps::Name;
 use crate::numbers::{is_absent, number_if, number_or, required_number, value};
 use crate::{
     BatchWords, CheckWords, Command, DEFAULT_BUDGET, DEFAULT_EPOCH, DEFAULT_FEEDS, DEFAULT_LANES,
-    DEFAULT_LINKS, DEFAULT_LISTED, DEFAULT_WORKERS, FollowWords, GenWords, LanesWords, MAX_FEEDS,
-    MAX_FILES, MAX_LANES, MAX_LINKS, MAX_LISTED, MAX_NODE, MAX_START, MAX_WORKERS, MIN_FILES,
-    ProveWords, SearchLimits, ServeWords, SingleWords, TakeWords, VerifyWords, WordsFault,
-    WriteWords,
+    DEFAULT_LINKS, DEFAULT_LISTED, DEFAULT_WORKERS, FollowWords, GenWords, GoalWords, LanesWords,
+    MAX_FEEDS, MAX_FILES, MAX_LANES, MAX_LINKS, MAX_LISTED, MAX_NODE, MAX_START, MAX_WORKERS,
+    MIN_FILES, ProveWords, SearchLimits, ServeWords, SingleWords, TakeWords, VerifyWords,
+    WordsFault, WriteWords,
 };
 use clap::ArgMatches;
 use graph_gen::{GenPlan, MAX_PAIRS, MAX_SIDE, MIN_PAIRS, MIN_SIDE};
@@ -33,6 +33,7 @@ pub(crate) fn read<'a>(
 {
     match name {
         Name::Single(kind) => Ok(Command::Single(read_single(alloc, kind, matches)?)),
+        Name::Goal => Ok(Command::Goal(read_goal(alloc, matches)?)),
         Name::Check => Ok(Command::Check(CheckWords {
             files: read_files(alloc, matches)?,
         })),
@@ -66,6 +67,16 @@ fn read_single<'a>(
         workers,
         files,
     })
+}
+
+fn read_goal<'a>(alloc: Global, matches: &ArgMatches<'a>) -> Result<GoalWords<'a>, WordsFault>
+    ensures asked { IfOk result (λ g. AsksGoal (rows_of (found_of matches.now)) (goal_asked g)) }
+    ensures refused { result ≡ Err WordsFault.Refused
+        → (asked : _) → ¬ AsksGoal (rows_of (found_of matches.now)) asked }
+{
+    let query = read_query(matches, DEFAULT_BUDGET, MAX_BUDGET).ok_or(WordsFault::Refused)?;
+    let files = read_files(alloc, matches)?;
+    Ok(GoalWords { query, files })
 }
 
 fn read_prove<'a>(alloc: Global, matches: &ArgMatches<'a>) -> Result<ProveWords<'a>, WordsFault>

@@ -1,6 +1,6 @@
 use command_words::{
-    BatchWords, Command, FollowWords, GenWords, ProveWords, ServeWords, SingleWords, TakeWords,
-    VerifyWords, WordsFault, WriteWords, read_words,
+    BatchWords, Command, FollowWords, GenWords, GoalWords, ProveWords, ServeWords, SingleWords,
+    TakeWords, VerifyWords, WordsFault, WriteWords, read_words,
 };
 use road_network::AnswerKind;
 use std::alloc::{AllocError, Global};
@@ -30,6 +30,7 @@ fn read(alloc: Global, first: &str, line: &str) -> Result<String, AllocError> {
 fn shown(alloc: Global, command: &Command) -> Result<String, AllocError> {
     match command {
         Command::Single(asked) => shown_single(alloc, asked),
+        Command::Goal(asked) => shown_goal(alloc, asked),
         Command::Check(check) => listed(alloc, "check", &[], &check.files),
         Command::Batch(asked) => shown_batch(alloc, asked),
         Command::Gen(asked) => shown_gen(alloc, asked),
@@ -67,6 +68,12 @@ fn shown_single(alloc: Global, asked: &SingleWords) -> Result<String, AllocError
     let query = asked.query;
     let numbers = [query.from, query.to, query.budget, asked.workers];
     listed(alloc, name, &numbers, &asked.files)
+}
+
+fn shown_goal(alloc: Global, asked: &GoalWords) -> Result<String, AllocError> {
+    let query = asked.query;
+    let numbers = [query.from, query.to, query.budget];
+    listed(alloc, "goal", &numbers, &asked.files)
 }
 
 /// The name of the file of pairs stands last.
@@ -198,6 +205,28 @@ const ASKED_SINGLE: &[(&str, &str)] = &[
 fn reads_the_words_of_one_query(rt: HostRuntime) {
     assert_rows(&rt, rt.alloc(), "costs", "costs ", ASKED_SINGLE);
     assert_rows(&rt, rt.alloc(), "one", "walks ", ASKED_SINGLE);
+}
+
+/// Words behind `goal`, and what they ask for: the ends, the budget and the files.
+const GOAL: &[(&str, &str)] = &[
+    (
+        "--from 1 --to 4 A.gr B.gr",
+        r#"goal 1 4 10000000 "A.gr" "B.gr""#,
+    ),
+    (
+        "A --budget=50000000 B --to 4 C --from 01 D",
+        r#"goal 1 4 50000000 "A" "B" "C" "D""#,
+    ),
+    ("--from 1 --to 4 --budget 50000001 A B", REFUSED),
+    ("--from 1 --to 4 --budget 0 A B", REFUSED),
+    ("--from 1 --to 4 --workers 1 A B", REFUSED),
+    ("--from 1 --to 4 A", REFUSED),
+    ("--to 4 A B", REFUSED),
+];
+
+#[test]
+fn reads_the_words_of_goal(rt: HostRuntime) {
+    assert_rows(&rt, rt.alloc(), "goal", "", GOAL);
 }
 
 /// Words, and what they ask for.

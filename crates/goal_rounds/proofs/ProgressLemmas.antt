@@ -18,21 +18,21 @@ module _ (core : Core) where
   next_below zero x less is_open = absurd (omega (arith, less))
   next_below (suc n) x less is_open = elim (decidable_some (λ i. (¬ IsSpent core i.spot) × Dominates i.spot.cost x.cost)
       (λ i. decidable_both (decidable_not (decidable_spent core i.spot)) (cases_Dominates i.spot.cost x.cost)) core.queue) [
-    | inl better ↦
-        let i = better.0 in
-        next_below n i.spot (omega (arith, less, sum-Dominates i.spot.cost x.cost better.2.1))
-        (record { waits = (i, better.1, refl); unspent = better.2.0 })
-    | inr none ↦ (
-      x,
-      record {
-        is_open = is_open;
-        none_better = λ z open_z dominates.
-            let w = open_z.waits in
-            none w.0 w.1
-            (subst (λ y. ¬ IsSpent core y) (sym w.2) open_z.unspent, subst (λ (y : Spot). Dominates y.cost x.cost) (sym w.2) dominates);
-      },
-    )
-  ]
+        | inl better ↦
+            let i = better.0 in
+            next_below n i.spot (omega (arith, less, sum-Dominates i.spot.cost x.cost better.2.1))
+            (record { waits = (i, better.1, refl); unspent = better.2.0 })
+        | inr none ↦ (
+          x,
+          record {
+            is_open = is_open;
+            none_better = λ z open_z dominates.
+                let w = open_z.waits in
+                none w.0 w.1
+                (subst (λ y. ¬ IsSpent core y) (sym w.2) open_z.unspent, subst (λ (y : Spot). Dominates y.cost x.cost) (sym w.2) dominates);
+          },
+        )
+      ]
 
   pub some_next : SomeOpen core → (y : Spot) × IsNextIn core y
   some_next some = next_below (sum some.0.cost + 1) some.0 (omega arith) some.1

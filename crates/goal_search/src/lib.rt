@@ -1,6 +1,7 @@
 //! The search for the best costs of a query that is directed to its target by lower bounds: rounds over bounded costs.
 #![tactic(auto)]
 
+mod bare;
 mod findings;
 mod query;
 mod relaxing;

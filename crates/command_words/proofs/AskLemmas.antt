@@ -4,8 +4,8 @@ use Rattle.std.specs.Prelude.{codes, if◌then◌else◌, option_and_then}
 use Rattle.std.specs.Str.{bytes_eq}
 use Rattle.clap.specs.Words.{App, Row, Text, fault_of, first_of, is_simple_and_free, matches_of}
 use Rattle.command_words.specs.Apps.{app_for, word_of}
-use Rattle.command_words.specs.Words.{AreWords, Asked, Asks, AsksAs, AsksBatch, AsksLimits, AsksGen, AsksLanes, AsksPlan, AsksProve, AsksQuery, AsksServe, AsksSingle, AsksVerify, BatchAsked, GenAsked, LanesAsked}
-use Rattle.command_words.specs.Words.{IsGiven, IsGivenIf, IsGivenOr, IsNamed, NamesFiles, ProveAsked, ServeAsked, SingleAsked, VerifyAsked, batch, check, generate, lanes, prove, serve, single, verify}
+use Rattle.command_words.specs.Words.{AreWords, Asked, Asks, AsksAs, AsksBatch, AsksLimits, AsksGen, AsksGoal, AsksLanes, AsksPlan, AsksProve, AsksQuery, AsksServe, AsksSingle, AsksTake, AsksVerify, AsksWrite, BatchAsked, FollowAsked, GenAsked, GoalAsked, LanesAsked, TakeAsked, WriteAsked}
+use Rattle.command_words.specs.Words.{IsGiven, IsGivenIf, IsGivenOr, IsNamed, NamesFiles, ProveAsked, ServeAsked, SingleAsked, VerifyAsked, AsksFollow, batch, check, follow, generate, goal, lanes, prove, serve, single, take, verify, write}
 use Rattle.graph_gen.specs.declared.GenPlan.{GenPlan}
 use Rattle.line_text.specs.declared.numerals.Numeral.TheVariants.{Value}
 use Rattle.command_words.specs.declared.apps.Name.{Name}
@@ -13,12 +13,13 @@ use Rattle.road_network.specs.declared.query.AnswerKind.{AnswerKind}
 use Rattle.road_network.specs.declared.query.AnswerKind.TheVariants.{Costs, Walks}
 use Rattle.command_words.specs.declared.SearchLimits.{SearchLimits}
 use Rattle.road_network.specs.declared.query.Query.{Query}
-use Rattle.command_words.specs.declared.apps.Name.TheVariants.{Batch, Check, Gen, Lanes, Prove, Serve, Single, Verify}
+use Rattle.command_words.specs.declared.apps.Name.TheVariants.{Batch, Check, Follow, Gen, Goal, Lanes, Prove, Serve, Single, Verify}
 
 -- each command's arguments are of the kind whose matches are a function of the words
 pub apps_simple : (name : Name) → is_simple_and_free (app_for name) ≡ true
 apps_simple (Single Costs) = refl
 apps_simple (Single Walks) = refl
+apps_simple Goal = refl
 apps_simple Check = refl
 apps_simple Batch = refl
 apps_simple Gen = refl
@@ -26,6 +27,7 @@ apps_simple Lanes = refl
 apps_simple Serve = refl
 apps_simple Prove = refl
 apps_simple Verify = refl
+apps_simple Follow = refl
 
 -- ---- the words name one command at most
 
@@ -34,6 +36,7 @@ abbrev name_for : Text → Option Name
 name_for word =
     if bytes_eq word (codes "costs") then Some (Single Costs)
     else if bytes_eq word (codes "one") then Some (Single Walks)
+    else if bytes_eq word (codes "goal") then Some Goal
     else if bytes_eq word (codes "check") then Some Check
     else if bytes_eq word (codes "batch") then Some Batch
     else if bytes_eq word (codes "gen") then Some Gen
@@ -41,11 +44,13 @@ name_for word =
     else if bytes_eq word (codes "serve") then Some Serve
     else if bytes_eq word (codes "prove") then Some Prove
     else if bytes_eq word (codes "verify") then Some Verify
+    else if bytes_eq word (codes "follow") then Some Follow
     else None
 
 named_back : (name : Name) → name_for (word_of name) ≡ Some name
 named_back (Single Costs) = refl
 named_back (Single Walks) = refl
+named_back Goal = refl
 named_back Check = refl
 named_back Batch = refl
 named_back Gen = refl
@@ -53,6 +58,7 @@ named_back Lanes = refl
 named_back Serve = refl
 named_back Prove = refl
 named_back Verify = refl
+named_back Follow = refl
 
 same_name : (words : List Text) (m n : Name) → IsNamed words m → IsNamed words n → m ≡ n
 same_name words m n a b =
@@ -137,6 +143,13 @@ same_single rows a b kind x y =
     let asked : AnswerKind → Query → ℕ → List Text → SingleAsked = λ k q w f. record { kind = k; query = q; workers = w; files = f } in
     let e : asked a.kind a.query a.workers a.files ≡ asked b.kind b.query b.workers b.files = cc in e
 
+same_goal : (rows : List Row) (a b : GoalAsked) → AsksGoal rows a → AsksGoal rows b → a ≡ b
+same_goal rows a b x y =
+    let query = same_query _ _ rows a.query b.query x.query y.query in
+    let files = same_files rows a.files b.files x.files y.files in
+    let asked : Query → List Text → GoalAsked = λ q f. record { query = q; files = f } in
+    let e : asked a.query a.files ≡ asked b.query b.files = cc in e
+
 same_prove : (rows : List Row) (a b : ProveAsked) → AsksProve rows a → AsksProve rows b → a ≡ b
 same_prove rows a b x y =
     let query = same_query _ _ rows a.query b.query x.query y.query in
@@ -208,6 +221,33 @@ same_serve rows a b x y =
     λ s o l m k n f. record { listen = s; operator = o; lanes = l; links = m; epoch = k; limits = n; files = f } in
     let e : asked a.listen a.operator a.lanes a.links a.epoch a.limits a.files ≡ asked b.listen b.operator b.lanes b.links b.epoch b.limits b.files = cc in e
 
+same_write : (rows : List Row) (a b : WriteAsked) → AsksWrite rows a → AsksWrite rows b → a ≡ b
+same_write rows a b x y =
+    let operator : Some a.operator ≡ Some b.operator = sym x.operator ∙ y.operator in
+    let epoch = same_number_or _ _ _ a.epoch b.epoch _ x.epoch y.epoch in
+    let files = same_files rows a.files b.files x.files y.files in
+    let asked : Text → ℕ → List Text → WriteAsked = λ o k f. record { operator = o; epoch = k; files = f } in
+    let e : asked a.operator a.epoch a.files ≡ asked b.operator b.epoch b.files = cc in e
+
+same_take : (rows : List Row) (a b : TakeAsked) → AsksTake rows a → AsksTake rows b → a ≡ b
+same_take rows a b x y =
+    let feeds : Some a.feeds ≡ Some b.feeds = sym x.feeds ∙ y.feeds in
+    let links = same_number_or _ _ _ a.links b.links _ x.links y.links in
+    let stem : Some a.stem ≡ Some b.stem = sym x.stem ∙ y.stem in
+    let count = same_number_or _ _ _ a.count b.count _ x.count y.count in
+    let epoch = same_number_or _ _ _ a.epoch b.epoch _ x.epoch y.epoch in
+    let limits = same_limits rows a.limits b.limits x.limits y.limits in
+    let files = same_files rows a.files b.files x.files y.files in
+    let asked : Text → ℕ → Text → ℕ → ℕ → SearchLimits → List Text → TakeAsked =
+    λ d l s c k n f. record { feeds = d; links = l; stem = s; count = c; epoch = k; limits = n; files = f } in
+    let e : asked a.feeds a.links a.stem a.count a.epoch a.limits a.files ≡ asked b.feeds b.links b.stem b.count b.epoch b.limits b.files = cc in e
+
+same_follow : (rows : List Row) (a b : FollowAsked) → AsksFollow rows a → AsksFollow rows b → a ≡ b
+same_follow rows (write a) (write b) x y = ap write (same_write rows a b x y)
+same_follow rows (take a) (take b) x y = ap take (same_take rows a b x y)
+same_follow rows (write a) (take b) x y = let e : Some a.operator ≡ None = sym x.operator ∙ y.no_write in cc
+same_follow rows (take a) (write b) x y = let e : Some b.operator ≡ None = sym y.operator ∙ x.no_write in cc
+
 -- ---- a command's values are of its own kind
 
 -- values of `costs` and `one` are of its own kind
@@ -215,6 +255,11 @@ pub single_alone : (kind : AnswerKind) (rows : List Row) (asked : Asked) → Ask
     → (c : SingleAsked) × (single c ≡ asked) × (c.kind ≡ kind) × AsksSingle rows c
 single_alone kind rows (single c) values = (c, refl, values.0, values.1)
 single_alone kind rows _ values = absurd values
+
+-- values of `goal` are of its own kind
+pub goal_alone : (rows : List Row) (asked : Asked) → AsksAs Goal rows asked → (g : GoalAsked) × (goal g ≡ asked) × AsksGoal rows g
+goal_alone rows (goal g) values = (g, refl, values)
+goal_alone rows _ values = absurd values
 
 -- values of `check` are of its own kind
 pub check_alone : (rows : List Row) (asked : Asked) → AsksAs Check rows asked → (files : List Text) × (check files ≡ asked) × NamesFiles rows files
@@ -251,11 +296,20 @@ pub verify_alone : (rows : List Row) (asked : Asked) → AsksAs Verify rows aske
 verify_alone rows (verify v) values = (v, refl, values)
 verify_alone rows _ values = absurd values
 
+-- values of `follow` are of its own kind
+pub follow_alone : (rows : List Row) (asked : Asked) → AsksAs Follow rows asked → (f : FollowAsked) × (follow f ≡ asked) × AsksFollow rows f
+follow_alone rows (follow f) values = (f, refl, values)
+follow_alone rows _ values = absurd values
+
 same_values : (name : Name) (rows : List Row) (a b : Asked) → AsksAs name rows a → AsksAs name rows b → a ≡ b
 same_values (Single kind) rows a b x y =
     let (c, is_a, kind_c, values) = single_alone kind rows a x in
     let (d, is_b, kind_d, others) = single_alone kind rows b y in
     sym is_a ∙ ap single (same_single rows c d (kind_c ∙ sym kind_d) values others) ∙ is_b
+same_values Goal rows a b x y =
+    let (g, is_a, values) = goal_alone rows a x in
+    let (h, is_b, others) = goal_alone rows b y in
+    sym is_a ∙ ap goal (same_goal rows g h values others) ∙ is_b
 same_values Check rows a b x y =
     let (c, is_a, values) = check_alone rows a x in
     let (d, is_b, others) = check_alone rows b y in
@@ -284,6 +338,10 @@ same_values Verify rows a b x y =
     let (v, is_a, values) = verify_alone rows a x in
     let (w, is_b, others) = verify_alone rows b y in
     sym is_a ∙ ap verify (same_verify rows v w values others) ∙ is_b
+same_values Follow rows a b x y =
+    let (f, is_a, values) = follow_alone rows a x in
+    let (g, is_b, others) = follow_alone rows b y in
+    sym is_a ∙ ap follow (same_follow rows f g values others) ∙ is_b
 
 pub asks_one : (words : List Text) (a b : Asked) → Asks words a → Asks words b → a ≡ b
 asks_one words a b x y =

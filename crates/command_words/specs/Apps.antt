@@ -4,12 +4,13 @@ use Rattle.clap.specs.Words.{App, Rule, Text, new_app, new_rule, with_rule}
 use Rattle.clap.specs.declared.builder.action.ArgAction.TheVariants.{Append, Set}
 use Rattle.road_network.specs.declared.query.AnswerKind.TheVariants.{Costs, Walks}
 use Rattle.command_words.specs.declared.apps.Name.{Name}
-use Rattle.command_words.specs.declared.apps.Name.TheVariants.{Batch, Check, Gen, Lanes, Prove, Serve, Single, Verify}
+use Rattle.command_words.specs.declared.apps.Name.TheVariants.{Batch, Check, Follow, Gen, Goal, Lanes, Prove, Serve, Single, Verify}
 
 -- the word that names a command
 abbrev pub word_of : Name → Text
 word_of (Single Costs) = codes "costs"
 word_of (Single Walks) = codes "one"
+word_of Goal = codes "goal"
 word_of Check = codes "check"
 word_of Batch = codes "batch"
 word_of Gen = codes "gen"
@@ -17,6 +18,7 @@ word_of Lanes = codes "lanes"
 word_of Serve = codes "serve"
 word_of Prove = codes "prove"
 word_of Verify = codes "verify"
+word_of Follow = codes "follow"
 
 -- an option with one value, `--name value` or `--name=value`, given at most once
 abbrev pub option_rule : Text → Bool → Rule
@@ -44,6 +46,12 @@ with_limits app = with_rule (with_rule app (option_rule (codes "budget") false))
 abbrev pub single_app : Text → App
 single_app word = with_rule (with_limits (with_rule (with_rule (bare_app word)
     (option_rule (codes "from") true)) (option_rule (codes "to") true))) files_rule
+
+-- `goal --from S --to T [--budget B] FILES`
+abbrev pub goal_app : App
+goal_app = with_rule (with_rule (with_rule (with_rule (bare_app (word_of Goal))
+    (option_rule (codes "from") true)) (option_rule (codes "to") true))
+    (option_rule (codes "budget") false)) files_rule
 
 -- `check FILES`
 abbrev pub check_app : App
@@ -89,9 +97,22 @@ town_app = with_rule (with_rule (with_rule (with_rule (with_rule (bare_app (word
 abbrev pub serve_app : App
 serve_app = with_rule (with_limits town_app) files_rule
 
+-- where a follower's epochs come from or go to, and its lanes:
+-- `follow [--write NAME] [--feeds STEM] [--sessions STEM] [--links N] [--lanes N] [--epoch N]`
+abbrev pub feeds_app : App
+feeds_app = with_rule (with_rule (with_rule (with_rule (with_rule (with_rule (bare_app (word_of Follow))
+    (option_rule (codes "write") false)) (option_rule (codes "feeds") false))
+    (option_rule (codes "sessions") false)) (option_rule (codes "links") false))
+    (option_rule (codes "lanes") false)) (option_rule (codes "epoch") false)
+
+-- and then `[--budget B] [--workers W] FILES`
+abbrev pub follow_app : App
+follow_app = with_rule (with_limits feeds_app) files_rule
+
 -- the arguments of a command
 abbrev pub app_for : Name → App
 app_for (Single kind) = single_app (word_of (Single kind))
+app_for Goal = goal_app
 app_for Check = check_app
 app_for Batch = batch_app
 app_for Gen = gen_app
@@ -99,3 +120,4 @@ app_for Lanes = lanes_app
 app_for Serve = serve_app
 app_for Prove = single_app (word_of Prove)
 app_for Verify = verify_app
+app_for Follow = follow_app

@@ -46,6 +46,14 @@ max_links = 1000000000
 abbrev pub default_links : ℕ
 default_links = 1000000000
 
+-- the most feeds of a follower
+abbrev pub max_feeds : ℕ
+max_feeds = 64
+
+-- the feeds of a follower where no number is given
+abbrev pub default_feeds : ℕ
+default_feeds = 1
+
 -- the number of the first epoch where none is given
 abbrev pub default_epoch : ℕ
 default_epoch = 0

@@ -11,14 +11,19 @@ use Rattle.command_words.specs.declared.CheckWords.{CheckWords}
 use Rattle.command_words.specs.declared.Command.{Command}
 use Rattle.command_words.specs.declared.Command.TheVariants as command
 use Rattle.command_words.specs.declared.SearchLimits.{SearchLimits}
+use Rattle.command_words.specs.declared.FollowWords.{FollowWords}
+use Rattle.command_words.specs.declared.FollowWords.TheVariants as follow_words
 use Rattle.command_words.specs.declared.GenWords.{GenWords}
+use Rattle.command_words.specs.declared.GoalWords.{GoalWords}
 use Rattle.command_words.specs.declared.LanesWords.{LanesWords}
 use Rattle.command_words.specs.declared.ProveWords.{ProveWords}
 use Rattle.command_words.specs.declared.ServeWords.{ServeWords}
 use Rattle.command_words.specs.declared.SingleWords.{SingleWords}
+use Rattle.command_words.specs.declared.TakeWords.{TakeWords}
 use Rattle.command_words.specs.declared.VerifyWords.{VerifyWords}
+use Rattle.command_words.specs.declared.WriteWords.{WriteWords}
 use Rattle.command_words.specs.declared.apps.Name.{Name}
-use Rattle.command_words.specs.declared.apps.Name.TheVariants.{Batch, Check, Gen, Lanes, Prove, Serve, Single, Verify}
+use Rattle.command_words.specs.declared.apps.Name.TheVariants.{Batch, Check, Follow, Gen, Goal, Lanes, Prove, Serve, Single, Verify}
 use Rattle.line_text.specs.declared.numerals.Numeral.TheVariants.{Value}
 use Rattle.graph_gen.specs.declared.GenPlan.{GenPlan}
 use Rattle.graph_gen.specs.Plans.{IsPlan, max_pairs, max_side, min_pairs, min_side}
@@ -26,7 +31,7 @@ use Rattle.road_network.specs.Limits.{max_budget, max_epoch}
 use Rattle.road_network.specs.declared.query.AnswerKind.{AnswerKind}
 use Rattle.road_network.specs.declared.query.Query.{Query}
 use Rattle.command_words.specs.Ranges.{default_budget, default_listed, default_workers, max_listed, max_node, max_start, max_workers, min_files, max_files}
-use Rattle.command_words.specs.Ranges.{default_epoch, default_lanes, default_links, max_lanes, max_links}
+use Rattle.command_words.specs.Ranges.{default_epoch, default_feeds, default_lanes, default_links, max_feeds, max_lanes, max_links}
 
 -- ---- what a command may be asked for
 
@@ -35,6 +40,11 @@ pub record SingleAsked : Type 0 where
   pub kind : AnswerKind
   pub query : Query
   pub workers : ℕ
+  pub files : List Text
+
+-- one query over the network of the files, to be searched by a search that is directed to its target
+pub record GoalAsked : Type 0 where
+  pub query : Query
   pub files : List Text
 
 -- one query over the network of the files whose labels are to be listed, and how many workers share the search
@@ -81,9 +91,32 @@ pub record ServeAsked : Type 0 where
   pub limits : SearchLimits
   pub files : List Text
 
+-- the feed of what an operator's script publishes over the network of the files; the first epoch has this number
+pub record WriteAsked : Type 0 where
+  pub operator : Text
+  pub epoch : ℕ
+  pub files : List Text
+
+-- lanes of sessions beside a lane that takes so many feeds in order, over the network of the files; the names of the feeds
+-- begin with one stem, those of the sessions' scripts with another, and the first epoch has this number
+pub record TakeAsked : Type 0 where
+  pub feeds : Text
+  pub links : ℕ
+  pub stem : Text
+  pub count : ℕ
+  pub epoch : ℕ
+  pub limits : SearchLimits
+  pub files : List Text
+
+-- a follower writes a feed or takes feeds
+pub data FollowAsked : Type 0 where
+  write : WriteAsked → FollowAsked
+  take : TakeAsked → FollowAsked
+
 -- one command and its values; `check` has the names of its files alone
 pub data Asked : Type 0 where
   single : SingleAsked → Asked
+  goal : GoalAsked → Asked
   check : List Text → Asked
   batch : BatchAsked → Asked
   generate : GenAsked → Asked
@@ -91,6 +124,7 @@ pub data Asked : Type 0 where
   serve : ServeAsked → Asked
   prove : ProveAsked → Asked
   verify : VerifyAsked → Asked
+  follow : FollowAsked → Asked
 
 -- the name of a session's script: the stem and the session's number
 abbrev pub session_name : Text → ℕ → Text
@@ -100,9 +134,23 @@ session_name stem number = stem ++ decimal number
 abbrev pub scripts_of : LanesAsked → List Text
 scripts_of asked = asked.operator ∷ map (session_name asked.stem) (range_with_len 1 asked.count)
 
+-- the names of the feeds, from number 1 on
+abbrev pub feeds_of : TakeAsked → List Text
+feeds_of asked = map (session_name asked.feeds) (range_with_len 1 asked.links)
+
+-- the names of the sessions' scripts beside feeds, from number 1 on
+abbrev pub sessions_of : TakeAsked → List Text
+sessions_of asked = map (session_name asked.stem) (range_with_len 1 asked.count)
+
+-- the names of all files that a follower reads, in the order of its work
+abbrev pub names_of_follow : FollowAsked → List Text
+names_of_follow (write asked) = asked.files ++ asked.operator ∷ []
+names_of_follow (take asked) = asked.files ++ feeds_of asked ++ sessions_of asked
+
 -- the names of all files that a command reads, in the order of its work
 abbrev pub names_of : Asked → List Text
 names_of (single asked) = asked.files
+names_of (goal asked) = asked.files
 names_of (check files) = files
 names_of (batch asked) = asked.files ++ asked.pairs ∷ []
 names_of (generate asked) = []
@@ -110,15 +158,22 @@ names_of (lanes asked) = asked.files ++ scripts_of asked
 names_of (serve asked) = asked.files
 names_of (prove asked) = asked.files
 names_of (verify asked) = asked.files ++ asked.cert ∷ []
+names_of (follow asked) = names_of_follow asked
 
 -- as many weight files as a network may have criteria
 pub record CountInRange (files : List Text) : Type 0 where
   pub enough : min_files ≤ length files
   pub not_more : length files ≤ max_files
 
+-- the weight files of a follower
+abbrev pub files_of_follow : FollowAsked → List Text
+files_of_follow (write asked) = asked.files
+files_of_follow (take asked) = asked.files
+
 -- a command that reads weight files reads as many
 abbrev pub FilesInRange : Asked → Type 0
 FilesInRange (single asked) = CountInRange asked.files
+FilesInRange (goal asked) = CountInRange asked.files
 FilesInRange (check files) = CountInRange files
 FilesInRange (batch asked) = CountInRange asked.files
 FilesInRange (generate asked) = Unit {0}
@@ -126,6 +181,7 @@ FilesInRange (lanes asked) = CountInRange asked.files
 FilesInRange (serve asked) = CountInRange asked.files
 FilesInRange (prove asked) = CountInRange asked.files
 FilesInRange (verify asked) = CountInRange asked.files
+FilesInRange (follow asked) = CountInRange (files_of_follow asked)
 
 -- a budget and a number of workers are within their ranges
 pub record AreSearchLimits (limits : SearchLimits) : Type 0 where
@@ -143,6 +199,12 @@ pub record SingleInRange (asked : SingleAsked) : Type 0 where
   pub unlimited : asked.query.limit ≡ None
   pub limits : AreSearchLimits (limits_of_single asked)
 
+-- the same of a query whose search is directed to its target, which one worker does
+pub record GoalInRange (asked : GoalAsked) : Type 0 where
+  pub unlimited : asked.query.limit ≡ None
+  pub some_budget : 1 ≤ asked.query.budget
+  pub budget : asked.query.budget ≤ max_budget
+
 -- a query whose labels are listed has no limit, and is searched within the ranges and for no more labels than may be listed
 pub record ProveInRange (asked : ProveAsked) : Type 0 where
   pub unlimited : asked.query.limit ≡ None
@@ -151,9 +213,15 @@ pub record ProveInRange (asked : ProveAsked) : Type 0 where
   pub some_workers : 1 ≤ asked.workers
   pub workers : asked.workers ≤ max_workers
 
+-- a follower that takes feeds searches within the ranges
+abbrev pub FollowLimitsInRange : FollowAsked → Type 0
+FollowLimitsInRange (write asked) = Unit {0}
+FollowLimitsInRange (take asked) = AreSearchLimits asked.limits
+
 -- how a command searches is within the ranges
 abbrev pub LimitsInRange : Asked → Type 0
 LimitsInRange (single asked) = SingleInRange asked
+LimitsInRange (goal asked) = GoalInRange asked
 LimitsInRange (check files) = Unit {0}
 LimitsInRange (batch asked) = AreSearchLimits asked.limits
 LimitsInRange (generate asked) = AreSearchLimits asked.limits
@@ -161,6 +229,7 @@ LimitsInRange (lanes asked) = AreSearchLimits asked.limits
 LimitsInRange (serve asked) = AreSearchLimits asked.limits
 LimitsInRange (prove asked) = ProveInRange asked
 LimitsInRange (verify asked) = Unit {0}
+LimitsInRange (follow asked) = FollowLimitsInRange asked
 
 -- The plan is one, and the file that is asked for is one of its files.
 pub record GenInRange (asked : GenAsked) : Type 0 where
@@ -170,6 +239,7 @@ pub record GenInRange (asked : GenAsked) : Type 0 where
 -- the plan of a command that has one is within its ranges
 abbrev pub PlanInRange : Asked → Type 0
 PlanInRange (single asked) = Unit {0}
+PlanInRange (goal asked) = Unit {0}
 PlanInRange (check files) = Unit {0}
 PlanInRange (batch asked) = Unit {0}
 PlanInRange (generate asked) = GenInRange asked
@@ -177,15 +247,28 @@ PlanInRange (lanes asked) = Unit {0}
 PlanInRange (serve asked) = Unit {0}
 PlanInRange (prove asked) = Unit {0}
 PlanInRange (verify asked) = Unit {0}
+PlanInRange (follow asked) = Unit {0}
 
 -- there are as many sessions as there may be lanes
 pub record AreLanes (count : ℕ) : Type 0 where
   pub some : 1 ≤ count
   pub not_more : count ≤ max_lanes
 
+-- there are as many feeds as a follower may take, and as many sessions as there may be lanes
+pub record AreFeeds (asked : TakeAsked) : Type 0 where
+  pub some : 1 ≤ asked.links
+  pub not_more : asked.links ≤ max_feeds
+  pub lanes : AreLanes asked.count
+
+-- a follower that takes feeds has as many
+abbrev pub FollowLanesInRange : FollowAsked → Type 0
+FollowLanesInRange (write asked) = Unit {0}
+FollowLanesInRange (take asked) = AreFeeds asked
+
 -- a command that has lanes has as many
 abbrev pub LanesInRange : Asked → Type 0
 LanesInRange (single asked) = Unit {0}
+LanesInRange (goal asked) = Unit {0}
 LanesInRange (check files) = Unit {0}
 LanesInRange (batch asked) = Unit {0}
 LanesInRange (generate asked) = Unit {0}
@@ -193,10 +276,12 @@ LanesInRange (lanes asked) = AreLanes asked.count
 LanesInRange (serve asked) = AreLanes asked.lanes
 LanesInRange (prove asked) = Unit {0}
 LanesInRange (verify asked) = Unit {0}
+LanesInRange (follow asked) = FollowLanesInRange asked
 
 -- the command waits for nobody
 abbrev pub IsStill : Asked → Type 0
 IsStill (single asked) = Unit {0}
+IsStill (goal asked) = Unit {0}
 IsStill (check files) = Unit {0}
 IsStill (batch asked) = Unit {0}
 IsStill (generate asked) = Unit {0}
@@ -204,6 +289,7 @@ IsStill (lanes asked) = ⊥
 IsStill (serve asked) = ⊥
 IsStill (prove asked) = Unit {0}
 IsStill (verify asked) = Unit {0}
+IsStill (follow asked) = ⊥
 
 -- ---- the values that the words give, by rows that name the arguments
 
@@ -261,6 +347,11 @@ pub record AsksSingle (rows : List Row) (asked : SingleAsked) : Type 0 where
   pub workers : AsksWorkers rows asked.workers
   pub files : NamesFiles rows asked.files
 
+-- the values are those of `goal`
+pub record AsksGoal (rows : List Row) (asked : GoalAsked) : Type 0 where
+  pub query : AsksQuery default_budget max_budget rows asked.query
+  pub files : NamesFiles rows asked.files
+
 -- the values are those of `prove`
 pub record AsksProve (rows : List Row) (asked : ProveAsked) : Type 0 where
   pub query : AsksQuery default_listed max_listed rows asked.query
@@ -310,9 +401,42 @@ pub record AsksServe (rows : List Row) (asked : ServeAsked) : Type 0 where
   pub limits : AsksLimits rows asked.limits
   pub files : NamesFiles rows asked.files
 
+-- no option is given that only a follower which takes feeds has
+pub record TakesNone (rows : List Row) : Type 0 where
+  pub feeds : first_of (codes "feeds") rows ≡ None
+  pub sessions : first_of (codes "sessions") rows ≡ None
+  pub links : first_of (codes "links") rows ≡ None
+  pub lanes : first_of (codes "lanes") rows ≡ None
+  pub budget : first_of (codes "budget") rows ≡ None
+  pub workers : first_of (codes "workers") rows ≡ None
+
+-- the values are those of a follower that writes a feed
+pub record AsksWrite (rows : List Row) (asked : WriteAsked) : Type 0 where
+  pub operator : first_of (codes "write") rows ≡ Some asked.operator
+  pub none : TakesNone rows
+  pub epoch : IsGivenOr default_epoch 0 max_epoch (first_of (codes "epoch") rows) asked.epoch
+  pub files : NamesFiles rows asked.files
+
+-- the values are those of a follower that takes feeds, and no feed is to be written
+pub record AsksTake (rows : List Row) (asked : TakeAsked) : Type 0 where
+  pub no_write : first_of (codes "write") rows ≡ None
+  pub feeds : first_of (codes "feeds") rows ≡ Some asked.feeds
+  pub links : IsGivenOr default_feeds 1 max_feeds (first_of (codes "links") rows) asked.links
+  pub stem : first_of (codes "sessions") rows ≡ Some asked.stem
+  pub count : IsGivenOr default_lanes 1 max_lanes (first_of (codes "lanes") rows) asked.count
+  pub epoch : IsGivenOr default_epoch 0 max_epoch (first_of (codes "epoch") rows) asked.epoch
+  pub limits : AsksLimits rows asked.limits
+  pub files : NamesFiles rows asked.files
+
+-- the values are those of `follow`
+abbrev pub AsksFollow : List Row → FollowAsked → Type 0
+AsksFollow rows (write asked) = AsksWrite rows asked
+AsksFollow rows (take asked) = AsksTake rows asked
+
 -- the values are those of the command
 abbrev pub AsksAs : Name → List Row → Asked → Type 0
 AsksAs (Single kind) rows (single asked) = (asked.kind ≡ kind) × AsksSingle rows asked
+AsksAs Goal rows (goal asked) = AsksGoal rows asked
 AsksAs Check rows (check files) = NamesFiles rows files
 AsksAs Batch rows (batch asked) = AsksBatch rows asked
 AsksAs Gen rows (generate asked) = AsksGen rows asked
@@ -320,6 +444,7 @@ AsksAs Lanes rows (lanes asked) = AsksLanes rows asked
 AsksAs Serve rows (serve asked) = AsksServe rows asked
 AsksAs Prove rows (prove asked) = AsksProve rows asked
 AsksAs Verify rows (verify asked) = AsksVerify rows asked
+AsksAs Follow rows (follow asked) = AsksFollow rows asked
 AsksAs _ rows _ = ⊥
 
 -- ---- the words
@@ -334,7 +459,7 @@ IsNamed words name = slice_get words 0 ≡ Some (word_of name)
 
 -- the first word names a command that waits for others
 abbrev pub NamesWaiting : List Text → Type 0
-NamesWaiting words = IsNamed words Lanes ⊎ IsNamed words Serve
+NamesWaiting words = IsNamed words Lanes ⊎ (IsNamed words Serve ⊎ IsNamed words Follow)
 
 -- the words ask for this: they name a command, its arguments take them, and the values fit
 pub record Asks (words : List Text) (asked : Asked) : Type 0 where
@@ -352,6 +477,10 @@ AreWords words = (asked : Asked) × Asks words asked
 -- the words of one query, as what they ask for
 abbrev pub single_asked : SingleWords → SingleAsked
 single_asked c = record { kind = c.kind; query = c.query; workers = c.workers; files = map (λ s. s.now) c.files.items }
+
+-- the words of `goal`, as what they ask for
+abbrev pub goal_asked : GoalWords → GoalAsked
+goal_asked g = record { query = g.query; files = map (λ s. s.now) g.files.items }
 
 -- the words of `prove`, as what they ask for
 abbrev pub prove_asked : ProveWords → ProveAsked
@@ -396,9 +525,31 @@ serve_asked s = record {
   files = map (λ s. s.now) s.files.items;
 }
 
+-- the words of a follower that writes a feed, as what they ask for
+abbrev pub write_asked : WriteWords → WriteAsked
+write_asked w = record { operator = w.operator.now; epoch = w.epoch; files = map (λ s. s.now) w.files.items }
+
+-- the words of a follower that takes feeds, as what they ask for
+abbrev pub take_asked : TakeWords → TakeAsked
+take_asked t = record {
+  feeds = t.feeds.now;
+  links = t.links;
+  stem = t.sessions.now;
+  count = t.lanes;
+  epoch = t.epoch;
+  limits = t.limits;
+  files = map (λ s. s.now) t.files.items;
+}
+
+-- the words of `follow`, as what they ask for
+abbrev pub follow_asked : FollowWords → FollowAsked
+follow_asked (follow_words.Write w) = write (write_asked w)
+follow_asked (follow_words.Take t) = take (take_asked t)
+
 -- a command, as what it asks for
 abbrev pub asked_of : Command → Asked
 asked_of (command.Single c) = single (single_asked c)
+asked_of (command.Goal g) = goal (goal_asked g)
 asked_of (command.Check c) = check (check_asked c)
 asked_of (command.Batch b) = batch (batch_asked b)
 asked_of (command.Gen g) = generate (gen_asked g)
@@ -406,3 +557,4 @@ asked_of (command.Lanes l) = lanes (lanes_asked l)
 asked_of (command.Serve s) = serve (serve_asked s)
 asked_of (command.Prove p) = prove (prove_asked p)
 asked_of (command.Verify v) = verify (verify_asked v)
+asked_of (command.Follow f) = follow (follow_asked f)

@@ -2,7 +2,7 @@
 ghost use Rattle.std.specs.Prelude.{◌≡◌, IfOk};
 ghost use Rattle.clap.specs.Words.{app_of, with_rule};
 ghost use Rattle.command_words.specs.Apps.{bare_app, batch_app, check_app, files_rule};
-ghost use Rattle.command_words.specs.Apps.{gen_app, lanes_app, option_rule, scripts_app, serve_app, single_app, town_app, verify_app, with_limits};
+ghost use Rattle.command_words.specs.Apps.{feeds_app, follow_app, gen_app, goal_app, lanes_app, option_rule, scripts_app, serve_app, single_app, town_app, verify_app, with_limits};
 
 use clap::{Arg, ArgAction, Command};
 use road_network::AnswerKind;
@@ -12,6 +12,7 @@ use std::alloc::{AllocError, Global};
 #[derive(Clone, Copy)]
 pub enum Name {
     Single(AnswerKind),
+    Goal,
     Check,
     Batch,
     Gen,
@@ -19,6 +20,7 @@ pub enum Name {
     Serve,
     Prove,
     Verify,
+    Follow,
 }
 
 impl Name {
@@ -31,6 +33,7 @@ impl Name {
         match self {
             Name::Single(AnswerKind::Costs) => single(alloc, "costs"),
             Name::Single(AnswerKind::Walks) => single(alloc, "one"),
+            Name::Goal => goal(alloc),
             Name::Check => check(alloc),
             Name::Batch => batch(alloc),
             Name::Gen => generate(alloc),
@@ -38,6 +41,7 @@ impl Name {
             Name::Serve => serve(alloc),
             Name::Prove => single(alloc, "prove"),
             Name::Verify => verify(alloc),
+            Name::Follow => follow(alloc),
         }
     }
 }
@@ -49,6 +53,16 @@ fn single<'a>(alloc: Global, name: &'a str) -> Result<Command<'a>, AllocError>
     let command = with_option(alloc, command, "from", true)?;
     let command = with_option(alloc, command, "to", true)?;
     let command = with_limits(alloc, command)?;
+    with_files(alloc, command)
+}
+
+fn goal<'a>(alloc: Global) -> Result<Command<'a>, AllocError>
+    ensures { IfOk result (λ c. app_of c ≡ goal_app) }
+{
+    let command = bare(alloc, "goal");
+    let command = with_option(alloc, command, "from", true)?;
+    let command = with_option(alloc, command, "to", true)?;
+    let command = with_option(alloc, command, "budget", false)?;
     with_files(alloc, command)
 }
 
@@ -119,6 +133,25 @@ fn town<'a>(alloc: Global) -> Result<Command<'a>, AllocError>
     let command = with_option(alloc, command, "operator", true)?;
     let command = with_option(alloc, command, "lanes", false)?;
     let command = with_option(alloc, command, "links", false)?;
+    with_option(alloc, command, "epoch", false)
+}
+
+fn follow<'a>(alloc: Global) -> Result<Command<'a>, AllocError>
+    ensures { IfOk result (λ c. app_of c ≡ follow_app) }
+{
+    let command = with_limits(alloc, feeds(alloc)?)?;
+    with_files(alloc, command)
+}
+
+fn feeds<'a>(alloc: Global) -> Result<Command<'a>, AllocError>
+    ensures { IfOk result (λ c. app_of c ≡ feeds_app) }
+{
+    let command = bare(alloc, "follow");
+    let command = with_option(alloc, command, "write", false)?;
+    let command = with_option(alloc, command, "feeds", false)?;
+    let command = with_option(alloc, command, "sessions", false)?;
+    let command = with_option(alloc, command, "links", false)?;
+    let command = with_option(alloc, command, "lanes", false)?;
     with_option(alloc, command, "epoch", false)
 }
 

@@ -42,6 +42,10 @@ pub const MAX_LANES: u32 = 16;
 pub const DEFAULT_LINKS: u32 = 1_000_000_000;
 /// The most links of each lane of a server.
 pub const MAX_LINKS: u32 = 1_000_000_000;
+/// The feeds of a follower where no number is given.
+pub const DEFAULT_FEEDS: u32 = 1;
+/// The most feeds of a follower.
+pub const MAX_FEEDS: u32 = 64;
 /// The number of the first epoch where none is given, which is that of the files' weights.
 pub const DEFAULT_EPOCH: u32 = 0;
 /// The fewest weight files, of which each is one criterion.
@@ -65,6 +69,13 @@ pub struct SingleWords<'a> {
     pub query: Query,
     /// How many workers share the search.
     pub workers: u32,
+    pub files: Vec<&'a str>,
+}
+
+/// The words of `goal`.
+#[derive(Debug, Drop)]
+pub struct GoalWords<'a> {
+    pub query: Query,
     pub files: Vec<&'a str>,
 }
 
@@ -145,11 +156,48 @@ pub struct ServeWords<'a> {
     pub files: Vec<&'a str>,
 }
 
+/// The words of `follow` that write a feed.
+#[derive(Debug, Drop)]
+pub struct WriteWords<'a> {
+    /// The name of the operator's script.
+    pub operator: &'a str,
+    /// The number of the epoch of the files' weights.
+    pub epoch: u32,
+    pub files: Vec<&'a str>,
+}
+
+/// The words of `follow` that take feeds.
+#[derive(Debug, Drop)]
+pub struct TakeWords<'a> {
+    /// How the name of each feed begins; its number follows.
+    pub feeds: &'a str,
+    /// How many feeds there are.
+    pub links: u32,
+    /// How the name of each session's script begins; its number follows.
+    pub sessions: &'a str,
+    /// How many sessions there are.
+    pub lanes: u32,
+    /// The number of the epoch of the files' weights.
+    pub epoch: u32,
+    /// How each query is searched.
+    pub limits: SearchLimits,
+    pub files: Vec<&'a str>,
+}
+
+/// The words of `follow`.
+#[derive(Debug, Drop)]
+pub enum FollowWords<'a> {
+    Write(WriteWords<'a>),
+    Take(TakeWords<'a>),
+}
+
 /// What the words of a command line ask for.
 #[derive(Debug, Drop)]
 pub enum Command<'a> {
     /// The answer to one query.
     Single(SingleWords<'a>),
+    /// The answer to one query, found by a search that is directed to its target.
+    Goal(GoalWords<'a>),
     /// Whether the files make up a network.
     Check(CheckWords<'a>),
     /// The answers to many queries, with walks.
@@ -164,6 +212,8 @@ pub enum Command<'a> {
     Prove(ProveWords<'a>),
     /// The answer that a certificate shows.
     Verify(VerifyWords<'a>),
+    /// A feed of epochs, or sessions beside feeds that are taken.
+    Follow(FollowWords<'a>),
 }
 
 /// Why no command was read.
@@ -228,6 +278,7 @@ fn name_of(words: &[String]) -> Option<Name>
     match words.first()?.as_str() {
         "costs" => Some(Name::Single(AnswerKind::Costs)),
         "one" => Some(Name::Single(AnswerKind::Walks)),
+        "goal" => Some(Name::Goal),
         "check" => Some(Name::Check),
         "batch" => Some(Name::Batch),
         "gen" => Some(Name::Gen),
@@ -235,6 +286,7 @@ fn name_of(words: &[String]) -> Option<Name>
         "serve" => Some(Name::Serve),
         "prove" => Some(Name::Prove),
         "verify" => Some(Name::Verify),
+        "follow" => Some(Name::Follow),
         _ => None,
     }
 }

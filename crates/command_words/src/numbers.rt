@@ -1,5 +1,5 @@
 //! Options whose values are numbers.
-ghost use Rattle.std.specs.Prelude.{◌≡◌, IfNone, IfSome, option_map};
+ghost use Rattle.std.specs.Prelude.{◌≡◌, ◌↔◌, IfNone, IfSome, IsTrue, None, option_map};
 ghost use Rattle.clap.specs.Words.{first_of, found_of, rows_of};
 ghost use Rattle.command_words.specs.Words.{IsGiven, IsGivenIf, IsGivenOr, IsNumber};
 
@@ -63,6 +63,13 @@ pub(crate) fn value<'a>(matches: &ArgMatches<'a>, id: &str) -> Option<&'a str>
     ensures { option_map (λ s. s.now) result ≡ first_of id.now (rows_of (found_of matches.now)) }
 {
     matches.get_str(id)
+}
+
+/// Whether an option isn't given.
+pub(crate) fn is_absent(matches: &ArgMatches, id: &str) -> bool
+    ensures { IsTrue result ↔ (first_of id.now (rows_of (found_of matches.now)) ≡ None) }
+{
+    value(matches, id).is_none()
 }
 
 fn number(text: &str, least: u32, greatest: u32) -> Option<u32>

@@ -1,19 +1,20 @@
 //! Reads the values that the words give to a command's arguments.
-ghost use Rattle.std.specs.Prelude.{◌≡◌, IfOk, IfNone, IfSome, codes, map, option_map};
+ghost use Rattle.std.specs.Prelude.{◌≡◌, ◌↔◌, IfOk, IfNone, IfSome, IsTrue, None, Some, codes, map, option_map};
 ghost use Rattle.clap.specs.Words.{all_of, first_of, found_of, rows_of};
-ghost use Rattle.command_words.specs.Words.{AsksAs, AsksBatch, AsksLimits, AsksGen, AsksLanes, AsksPlan, AsksProve, AsksServe, AsksVerify, AsksWorkers};
+ghost use Rattle.command_words.specs.Words.{AsksAs, AsksBatch, AsksFollow, AsksLimits, AsksGen, AsksGoal, AsksLanes, AsksPlan, AsksProve, AsksServe, AsksTake, AsksVerify, AsksWorkers, AsksWrite, TakesNone};
 ghost use Rattle.road_network.specs.Limits.{max_budget, max_epoch};
 ghost use Rattle.command_words.specs.Ranges.{default_budget, default_epoch, default_lanes, default_listed, max_lanes, max_listed};
 ghost use Rattle.command_words.specs.Words.{AsksQuery, AsksSingle, IsGivenOr, NamesFiles};
-ghost use Rattle.command_words.specs.Words.{asked_of, batch_asked, gen_asked, lanes_asked, prove_asked, serve_asked, single_asked, verify_asked};
+ghost use Rattle.command_words.specs.Words.{asked_of, batch_asked, follow_asked, gen_asked, goal_asked, lanes_asked, prove_asked, serve_asked, single_asked, take_asked, verify_asked, write_asked};
 
 use crate::apps::Name;
-use crate::numbers::{number_if, number_or, required_number, value};
+use crate::numbers::{is_absent, number_if, number_or, required_number, value};
 use crate::{
-    BatchWords, CheckWords, Command, DEFAULT_BUDGET, DEFAULT_EPOCH, DEFAULT_LANES, DEFAULT_LINKS,
-    DEFAULT_LISTED, DEFAULT_WORKERS, GenWords, LanesWords, MAX_FILES, MAX_LANES, MAX_LINKS,
-    MAX_LISTED, MAX_NODE, MAX_START, MAX_WORKERS, MIN_FILES, ProveWords, SearchLimits, ServeWords,
-    SingleWords, VerifyWords, WordsFault,
+    BatchWords, CheckWords, Command, DEFAULT_BUDGET, DEFAULT_EPOCH, DEFAULT_FEEDS, DEFAULT_LANES,
+    DEFAULT_LINKS, DEFAULT_LISTED, DEFAULT_WORKERS, FollowWords, GenWords, GoalWords, LanesWords,
+    MAX_FEEDS, MAX_FILES, MAX_LANES, MAX_LINKS, MAX_LISTED, MAX_NODE, MAX_START, MAX_WORKERS,
+    MIN_FILES, ProveWords, SearchLimits, ServeWords, SingleWords, TakeWords, VerifyWords,
+    WordsFault, WriteWords,
 };
 use clap::ArgMatches;
 use graph_gen::{GenPlan, MAX_PAIRS, MAX_SIDE, MIN_PAIRS, MIN_SIDE};
@@ -32,6 +33,7 @@ pub(crate) fn read<'a>(
 {
     match name {
         Name::Single(kind) => Ok(Command::Single(read_single(alloc, kind, matches)?)),
+        Name::Goal => Ok(Command::Goal(read_goal(alloc, matches)?)),
         Name::Check => Ok(Command::Check(CheckWords {
             files: read_files(alloc, matches)?,
         })),
@@ -41,6 +43,7 @@ pub(crate) fn read<'a>(
         Name::Serve => Ok(Command::Serve(read_serve(alloc, matches)?)),
         Name::Prove => Ok(Command::Prove(read_prove(alloc, matches)?)),
         Name::Verify => Ok(Command::Verify(read_verify(alloc, matches)?)),
+        Name::Follow => Ok(Command::Follow(read_follow(alloc, matches)?)),
     }
 }
 
@@ -64,6 +67,16 @@ fn read_single<'a>(
         workers,
         files,
     })
+}
+
+fn read_goal<'a>(alloc: Global, matches: &ArgMatches<'a>) -> Result<GoalWords<'a>, WordsFault>
+    ensures asked { IfOk result (λ g. AsksGoal (rows_of (found_of matches.now)) (goal_asked g)) }
+    ensures refused { result ≡ Err WordsFault.Refused
+        → (asked : _) → ¬ AsksGoal (rows_of (found_of matches.now)) asked }
+{
+    let query = read_query(matches, DEFAULT_BUDGET, MAX_BUDGET).ok_or(WordsFault::Refused)?;
+    let files = read_files(alloc, matches)?;
+    Ok(GoalWords { query, files })
 }
 
 fn read_prove<'a>(alloc: Global, matches: &ArgMatches<'a>) -> Result<ProveWords<'a>, WordsFault>
@@ -180,6 +193,80 @@ fn read_serve<'a>(alloc: Global, matches: &ArgMatches<'a>) -> Result<ServeWords<
         operator,
         lanes,
         links,
+        epoch,
+        limits,
+        files,
+    })
+}
+
+fn read_follow<'a>(alloc: Global, matches: &ArgMatches<'a>) -> Result<FollowWords<'a>, WordsFault>
+    ensures asked { IfOk result (λ f.
+        AsksFollow (rows_of (found_of matches.now)) (follow_asked f)) }
+    ensures refused { result ≡ Err WordsFault.Refused
+        → (asked : _) → ¬ AsksFollow (rows_of (found_of matches.now)) asked }
+{
+    match value(matches, "write") {
+        Some(operator) => Ok(FollowWords::Write(read_write(alloc, operator, matches)?)),
+        None => Ok(FollowWords::Take(read_take(alloc, matches)?)),
+    }
+}
+
+/// The words that write the feed of an operator's script.
+fn read_write<'a>(
+    alloc: Global,
+    operator: &'a str,
+    matches: &ArgMatches<'a>,
+) -> Result<WriteWords<'a>, WordsFault>
+    requires { first_of (codes "write") (rows_of (found_of matches.now)) ≡ Some operator.now }
+    ensures asked { IfOk result (λ w. AsksWrite (rows_of (found_of matches.now)) (write_asked w)) }
+    ensures refused { result ≡ Err WordsFault.Refused
+        → (asked : _) → ¬ AsksWrite (rows_of (found_of matches.now)) asked }
+{
+    if !takes_none(matches) {
+        return Err(WordsFault::Refused);
+    }
+    let epoch = read_epoch(matches).ok_or(WordsFault::Refused)?;
+    let files = read_files(alloc, matches)?;
+    Ok(WriteWords {
+        operator,
+        epoch,
+        files,
+    })
+}
+
+/// Whether no option is given that only a follower which takes feeds has.
+fn takes_none(matches: &ArgMatches) -> bool
+    ensures { IsTrue result ↔ TakesNone (rows_of (found_of matches.now)) }
+{
+    is_absent(matches, "feeds")
+        && is_absent(matches, "sessions")
+        && is_absent(matches, "links")
+        && is_absent(matches, "lanes")
+        && is_absent(matches, "budget")
+        && is_absent(matches, "workers")
+}
+
+/// The words that take feeds.
+fn read_take<'a>(alloc: Global, matches: &ArgMatches<'a>) -> Result<TakeWords<'a>, WordsFault>
+    requires { first_of (codes "write") (rows_of (found_of matches.now)) ≡ None }
+    ensures asked { IfOk result (λ t. AsksTake (rows_of (found_of matches.now)) (take_asked t)) }
+    ensures refused { result ≡ Err WordsFault.Refused
+        → (asked : _) → ¬ AsksTake (rows_of (found_of matches.now)) asked }
+{
+    let feeds = value(matches, "feeds").ok_or(WordsFault::Refused)?;
+    let links = number_or(DEFAULT_FEEDS, matches, "links", 1, MAX_FEEDS).ok_or(
+        WordsFault::Refused,
+    )?;
+    let sessions = value(matches, "sessions").ok_or(WordsFault::Refused)?;
+    let lanes = read_count(matches).ok_or(WordsFault::Refused)?;
+    let epoch = read_epoch(matches).ok_or(WordsFault::Refused)?;
+    let limits = read_limits(matches).ok_or(WordsFault::Refused)?;
+    let files = read_files(alloc, matches)?;
+    Ok(TakeWords {
+        feeds,
+        links,
+        sessions,
+        lanes,
         epoch,
         limits,
         files,

@@ -4,7 +4,7 @@ use Rattle.std.specs.Prelude.{All, AllPairs, Contains}
 use Rattle.std.proofs.lemmas.List.{length-append, length-take-le}
 use Rattle.std.proofs.lemmas.List.Elements.{All-take, All-weaker}
 use Rattle.list_laws.proofs.Members.{all_from_in, cases_in, each_in, in_first, in_none, in_rest}
-use Rattle.list_laws.proofs.OnceLaws.{in_append, pairs_append}
+use Rattle.list_laws.proofs.OnceLaws.{in_append}
 use Rattle.list_laws.proofs.Pairs.{pair_with_first, pairs_cons, pairs_none, pairs_rest, pairs_take, pigeonhole}
 use Rattle.cost_vector.specs.Costs.{AtMost, Dominates, plus}
 use Rattle.cost_vector.proofs.Vectors.{AtMost-cancel, cases_same, plus-zeros}
@@ -18,12 +18,12 @@ use Rattle.goal_laws.specs.Goal.{GoalPasses, IsBound, IsGoalRelevant}
 use Rattle.goal_laws.proofs.BoundLaws.{bound_of_target, one_bound}
 use Rattle.bulk_rounds.specs.Begins.{FindsNone, WouldPass}
 use Rattle.bulk_rounds.specs.Cores.{Core, IsSettledIn, Spot}
-use Rattle.bulk_rounds.specs.Kept.{IsKept}
-use Rattle.bulk_rounds.proofs.KeptLemmas.{next_unsettled}
-use Rattle.bulk_rounds.proofs.SpentLemmas.{ascending_once, spot_by_parts}
+use Rattle.bulk_rounds.specs.Taking.{CountsSettled}
+use Rattle.bulk_rounds.proofs.SpentLemmas.{spot_by_parts}
 use Rattle.goal_rounds.specs.GoalCores.{IsBounded, IsGoalCore, IsOfRelevant, bounded_spot}
 use Rattle.goal_rounds.proofs.AheadLemmas.{ahead_of_walk, next_is_relevant}
 use Rattle.goal_rounds.proofs.KeepingLemmas.{one_cost}
+use Rattle.goal_rounds.proofs.ProgressLemmas.{settled_and_next}
 
 pub small_cost : (net : Network) → IsNetwork net → AreSmall net.states → net.nodes ≤ max_nodes → (s v : ℕ) (c : List ℕ) → IsBest net s v c → All (λ x. x < 2 ^ 55) c
 small_cost net is small nodes s v c best =
@@ -119,8 +119,8 @@ module _ (net : Network) (is : IsNetwork net) (s t : ℕ) (core : Core) (goal : 
               ]
         ])
 
-    pub none_more : (count : ℕ) → IsKept after count → ¬ GoalPasses net s t after.budget
-    none_more count kept passes =
+    pub none_more : (count : ℕ) → CountsSettled after count → count ≤ after.budget → ¬ GoalPasses net s t after.budget
+    none_more count counts within passes =
         let spots = side_by_side (IsPairOf net t) (λ p q x. one_pair net t p q x) passes.pairs passes.distinct
         (λ p there.
         let relevant = each_in (λ (q : ℕ × List ℕ). IsGoalRelevant net s t q.0 q.1) passes.pairs passes.relevant p there in
@@ -138,7 +138,7 @@ module _ (net : Network) (is : IsNetwork net) (s t : ℕ) (core : Core) (goal : 
             cost = refl;
           },
         )) in
-        let least = pigeonhole spots.0 kept.counted.spots spots.1.distinct
+        let least = pigeonhole spots.0 counts.spots spots.1.distinct
         (λ x there.
         let p = spots.1.from x there in
         let own = p.2.bounded in
@@ -147,8 +147,8 @@ module _ (net : Network) (is : IsNetwork net) (s t : ℕ) (core : Core) (goal : 
         let settled = found_all p.0.0 p.0.1 own.bound bound relevant in
         let same : bounded_spot p.0.0 p.0.1 own.bound ≡ x =
         spot_by_parts (bounded_spot p.0.0 p.0.1 own.bound) x (sym p.2.node) (ap (λ c. plus c own.bound) (sym p.2.cost) ∙ sym own.sum) in
-        (kept.counted.once.exact x).1 (subst (IsSettledIn after) same settled)) in
-        omega (arith, least, spots.1.as_many, passes.more, kept.counted.counted, kept.within)
+        (counts.once.exact x).1 (subst (IsSettledIn after) same settled)) in
+        omega (arith, least, spots.1.as_many, passes.more, counts.counted, within)
 
   -- ---- the next spots are too many
 
@@ -156,8 +156,7 @@ module _ (net : Network) (is : IsNetwork net) (s t : ℕ) (core : Core) (goal : 
   too_many would =
       let settled = would.counts.spots in
       let all = settled ++ would.next in
-      let distinct = pairs_append ◌≢◌ settled would.next would.counts.once.once (ascending_once would.next would.lists.ascending)
-      (λ x y x_in y_in same. next_unsettled core y ((would.lists.exact y).0 y_in) ((would.counts.once.exact y).0 (subst (Contains settled) same x_in))) in
+      let distinct = settled_and_next core would.count would.counts would.next would.lists in
       let relevant : (x : Spot) → Contains all x → IsOfRelevant net s t x = λ x there. elim ((in_append settled would.next x).0 there) [
         | inl old ↦ goal.relevant x ((would.counts.once.exact x).0 old)
         | inr new ↦ next_is_relevant net is s t core goal none x ((would.lists.exact x).0 new)

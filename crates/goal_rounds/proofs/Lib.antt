@@ -1,3 +1,4 @@
 pub mod AheadLemmas
 pub mod KeepingLemmas
 pub mod BudgetLemmas
+pub mod ProgressLemmas

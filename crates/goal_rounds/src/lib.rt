@@ -9,5 +9,6 @@ mod rounds;
 
 pub use rounds::{
     goal_candidates_are_kept, goal_relevant_costs_are_small, goal_rounds_begin, goal_rounds_end,
-    goal_searches_begin, goal_searches_find_all, goal_searches_tell_the_budget,
+    goal_rounds_settle_more, goal_searches_begin, goal_searches_find_all,
+    goal_searches_tell_the_budget,
 };

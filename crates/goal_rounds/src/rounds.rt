@@ -5,7 +5,8 @@ ghost use Rattle.goal_laws.specs.Goal.{GoalPasses, IsBound, IsGoalRelevant};
 ghost use Rattle.bulk_rounds.specs.Begins.{FindsNone, TakesNext, WouldPass};
 ghost use Rattle.bulk_rounds.specs.Cores.{Core, HasSpot, Item, IsCoveredIn, IsSettledIn, Spot};
 ghost use Rattle.bulk_rounds.specs.Finishes.{PutsAll};
-ghost use Rattle.bulk_rounds.specs.Kept.{IsKept, SparesSettled};
+ghost use Rattle.bulk_rounds.specs.Kept.{SparesSettled};
+ghost use Rattle.bulk_rounds.specs.Taking.{CountsSettled};
 ghost use Rattle.goal_rounds.specs.GoalCores.{AreGoalCandidates, IsGivenByArc, IsGoalCore, IsNewGoalSearch, IsOfRelevant, bounded_spot};
 
 /// A new search is one.
@@ -53,7 +54,16 @@ pub fn goal_searches_find_all()
         → IsOfRelevant net s t x }
     ensures within { (net : Network) (s t count : ℕ) (before after : Core) → IsNetwork net
         → IsGoalCore net s t before → before.taken ≡ [] → FindsNone before after
-        → IsKept after count → ¬ GoalPasses net s t after.budget }
+        → CountsSettled after count → count ≤ after.budget → ¬ GoalPasses net s t after.budget }
+{}
+
+/// A round that takes the next spots settles more, and no more than the budget. Where no spot is open, as many stay settled.
+pub fn goal_rounds_settle_more()
+    ensures more { (before after : Core) (count : ℕ) → TakesNext before after
+        → CountsSettled before count
+        → (more : ℕ) × CountsSettled after more × (count < more) × (more ≤ before.budget) }
+    ensures as_many { (before after : Core) (count : ℕ) → FindsNone before after
+        → CountsSettled before count → CountsSettled after count }
 {}
 
 /// Where the next spots would pass the budget, the query does.

@@ -65,3 +65,33 @@ moved_is_small c w g small_c small_w small_g =
     let d = All-weaker (λ x. x < 2 ^ 55) (λ x. x ≤ 2 ^ 55) (λ x below. omega (arith, below)) g small_g in
     All-weaker (λ x. x ≤ (2 ^ 55 + 2 ^ 32) + 2 ^ 55) (λ x. x < 2 ^ 57) (λ x below. omega (arith, below)) (plus (plus c w) g)
     (All-plus (2 ^ 55 + 2 ^ 32) (2 ^ 55) (plus c w) g (All-plus (2 ^ 55) (2 ^ 32) c w a b) d)
+
+-- ---- a cost without the bound that was added to it
+
+-- the components up to i are lowered by the bound's, and the others are as they were
+pub record IsLoweredUpTo (d : ℕ) (cost bound : List ℕ) (i : ℕ) (components : List ℕ) : Type 0 where
+  pub long : length components ≡ d
+  pub lowered : (k : ℕ) → k < i → get_or components k 0 + get_or bound k 0 ≡ get_or cost k 0
+  pub others : (k : ℕ) → i ≤ k → get_or components k 0 ≡ get_or cost k 0
+
+pub lowered_more : (d : ℕ) (cost bound : List ℕ) (i x : ℕ) (components : List ℕ) → IsLoweredUpTo d cost bound i components → i < d
+    → x + get_or bound i 0 ≡ get_or cost i 0 → IsLoweredUpTo d cost bound (i + 1) (set components i x)
+lowered_more d cost bound i x components so_far within here = record {
+  long = length-set components i x ∙ so_far.long;
+  lowered = λ k below. elim (cases_eq k i) [
+    | inl same ↦ subst (λ n. get_or (set components i x) n 0 + get_or bound n 0 ≡ get_or cost n 0) (sym same)
+        (omega (arith, get_or-set_same components i x 0 (omega (arith, within, so_far.long)), here))
+    | inr other ↦ omega (arith, get_or-set_other components i k x 0 other, so_far.lowered k (omega (arith, below, other)))
+  ];
+  others = λ k above.
+      let other : k ≢ i = λ e. omega (arith, above, e) in
+      get_or-set_other components i k x 0 other ∙ so_far.others k (omega (arith, above));
+}
+
+pub lowered_sum : (d : ℕ) (cost bound : List ℕ) (i : ℕ) (components : List ℕ) → length cost ≡ d → length bound ≡ d → IsLoweredUpTo d cost bound i components → d ≤ i
+    → plus components bound ≡ cost
+lowered_sum d cost bound i components cost_long bound_long all ended =
+    let as_long : length components ≡ length bound = all.long ∙ sym bound_long in
+    let whole : length (plus components bound) ≡ d = length-plus components bound as_long ∙ all.long in
+    same_number_lists (plus components bound) cost (whole ∙ sym cost_long)
+    (λ k within. omega (arith, get_or-plus components bound k as_long, all.lowered k (omega (arith, within, whole, ended))))

@@ -117,9 +117,9 @@ out_arc_at ends u arcs i d all within =
 
 -- ---- spot by spot
 
--- x is one of the first i spots
-abbrev pub IsFirst : List Spot → ℕ → Spot → Type 0
-IsFirst spots i x = (n : ℕ) × (n < i) × (n < length spots) × (get_or spots n x ≡ x)
+-- x is one of the first i of the list
+abbrev pub IsFirst : {X : Type 0} → List X → ℕ → X → Type 0
+IsFirst xs i x = (n : ℕ) × (n < i) × (n < length xs) × (get_or xs n x ≡ x)
 
 module _ (net : Network) (t : ℕ) where
   pub first_none : (spots : List Spot) → FollowsAll net t (IsFirst spots 0) []

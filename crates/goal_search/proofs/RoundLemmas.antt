@@ -15,7 +15,7 @@ use Rattle.goal_rounds.specs.GoalCores.{AreGoalCandidates, IsGivenByArc, IsGoalC
 use Rattle.goal_rounds.proofs.BudgetLemmas.{small_cost}
 use Rattle.goal_rounds.proofs.KeepingLemmas.{ended_is_goal, given_from, given_spares}
 use Rattle.goal_search.specs.Relaxing.{FollowsAll, IsSmallBounded}
-use Rattle.goal_search.specs.Rounds.{AreGoalRounds}
+use Rattle.goal_search.specs.Rounds.{AreGoalRounds, EndsToward}
 
 module _ (net : Network) (road : IsRoadNetwork net) (core : Core) (bounds : BoundSearch) (rounds : AreGoalRounds net core bounds) where
   abbrev is : IsNetwork net
@@ -52,6 +52,9 @@ module _ (net : Network) (road : IsRoadNetwork net) (core : Core) (bounds : Boun
           let found = follows.all given.from given.taken a.bounded a.arc y.node a.by a.bound a.leads a.is_bound in
           (found.0, found.1, found.2 ∙ spot_by_parts (record { cost = plus (plus a.bounded.cost a.by) a.bound; node = y.node }) y refl (sym a.cost)));
     }
+
+    pub ends_toward : (after : Core) → PutsAll candidates core after → EndsToward net core after
+    ends_toward after puts = record { candidates = candidates; are = are_candidates; puts = puts }
 
     pub ended_rounds : (after : Core) (later : BoundSearch) → PutsAll candidates core after → IsBoundSearch net core.target later → AreGoalRounds net after later
     ended_rounds after later puts search =

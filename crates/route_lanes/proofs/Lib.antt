@@ -8,3 +8,4 @@ pub mod ServingLemmas
 pub mod DoorLaneLemmas
 pub mod FeedLemmas
 pub mod FollowLemmas
+mod FollowedLemmas

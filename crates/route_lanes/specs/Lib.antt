@@ -5,5 +5,6 @@ pub mod Visits
 pub mod Serving
 pub mod DoorsServed
 pub mod Following
+pub mod Followed
 pub mod Taken
 pub mod Leading

@@ -5,6 +5,7 @@ mod door_lanes;
 mod feed_lane;
 mod follow;
 mod lanes;
+mod laws;
 mod leader;
 mod operator_lane;
 mod report;
@@ -16,6 +17,7 @@ mod visits;
 
 pub use feed_lane::FeedReport;
 pub use follow::{FollowReport, run_follow};
+pub use laws::{runs_catch_up, runs_keep_to_their_leader};
 pub use leader::write_feed;
 pub use report::LaneReport;
 pub use run::run_lanes;

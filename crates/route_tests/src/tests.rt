@@ -11,6 +11,7 @@ use std::time::Clock;
 mod batches;
 mod certificates;
 mod generated;
+mod goals;
 mod lanes;
 mod readers;
 mod rows;
@@ -246,6 +247,7 @@ fn rows_have_their_output(rt: HostRuntime) {
     assert_tables(&rt, rt.alloc(), &walks::tables());
     assert_tables(&rt, rt.alloc(), &batches::tables());
     assert_tables(&rt, rt.alloc(), &certificates::tables());
+    assert_tables(&rt, rt.alloc(), &goals::tables());
 }
 
 #[test]

@@ -2,6 +2,7 @@ pub mod SentFirst
 pub mod RunsLemmas
 pub mod QueryLemmas
 mod ProveLemmas
+mod GoalLemmas
 pub mod LanesSent
 pub mod LaneScripts
 pub mod FilesReadLemmas

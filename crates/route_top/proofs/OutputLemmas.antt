@@ -4,7 +4,7 @@ use Rattle.std.specs.Prelude.{Option, Some, None, MatchOption}
 use Rattle.route_io.specs.Files.{FileMap}
 use Rattle.route_io.specs.Sinks.{SinkState}
 use Rattle.route_io.specs.Sources.{SourceState}
-use Rattle.command_words.specs.Words.{AreWords, Asked, Asks, GenAsked, LanesAsked, NamesWaiting, ServeAsked, batch, check, generate, lanes, prove, serve, single, verify}
+use Rattle.command_words.specs.Words.{AreWords, Asked, Asks, GenAsked, LanesAsked, NamesWaiting, ServeAsked, batch, check, generate, goal, lanes, prove, serve, single, verify}
 use Rattle.command_words.proofs.StillLemmas.{named_still}
 use Rattle.route_top.specs.Batch.{pairs_read, pairs_stop}
 use Rattle.route_top.specs.FilesRead.{at_file, stops, goes_on}
@@ -44,6 +44,8 @@ never_bad_gen asked text None ends = ends
 never_bad_words : (files : Option FileMap) (asked : Asked) (text : List ℕ) → ¬ Ends files asked bad_words text
 never_bad_words files (single asked) text (stops (at_file name comes stop)) = elim stop [ ]
 never_bad_words files (single asked) text (goes_on net read replies) = replies
+never_bad_words files (goal asked) text (stops (at_file name comes stop)) = elim stop [ ]
+never_bad_words files (goal asked) text (goes_on net read replies) = replies
 never_bad_words files (check names) text (stops (at_file name comes stop)) = elim stop [ ]
 never_bad_words files (check names) text (goes_on net read replies) = replies
 never_bad_words files (batch asked) text (stops (at_file name comes stop)) = elim stop [ ]
@@ -96,6 +98,8 @@ never_town_by asked text None ends = ends
 never_town : (files : Option FileMap) (asked : Asked) (text : List ℕ) → ((s : ServeAsked) → asked ≢ serve s) → ¬ Ends files asked town_failed text
 never_town files (single asked) text other (stops (at_file name comes stop)) = elim stop [ ]
 never_town files (single asked) text other (goes_on net read replies) = replies
+never_town files (goal asked) text other (stops (at_file name comes stop)) = elim stop [ ]
+never_town files (goal asked) text other (goes_on net read replies) = replies
 never_town files (check names) text other (stops (at_file name comes stop)) = elim stop [ ]
 never_town files (check names) text other (goes_on net read replies) = replies
 never_town files (batch asked) text other (stops (at_file name comes stop)) = elim stop [ ]

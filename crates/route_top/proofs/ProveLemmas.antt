@@ -13,15 +13,13 @@ use Rattle.command_words.specs.Ranges.{max_listed}
 use Rattle.route_top.specs.Outcome.{Outcome, refused}
 use Rattle.route_top.specs.Prove.{HasCertificate, ProveReplies}
 use Rattle.route_top.specs.Stops.{IsReply, Replies}
-use Rattle.route_top.proofs.QueryLemmas.{asked_unlimited}
+use Rattle.route_top.proofs.QueryLemmas.{is_query_unlimited}
 use Rattle.route_top.proofs.RunsLemmas.{replies_so}
 
 module _ (query : Query) (net : Network) where
   -- a query without a limit that may be listed can be searched
   pub is_query : query.limit ≡ None → query.budget ≤ max_listed → HaveNodes net query → IsQuery net query
-  is_query unlimited most nodes =
-      let asked = asked_unlimited net.criteria query unlimited (omega (arith, most)) in
-      record { from = nodes.0; to = nodes.1; limit = asked.limit; budget = asked.budget }
+  is_query unlimited most nodes = is_query_unlimited query net unlimited (omega (arith, most)) nodes
 
   -- a list of the relevant pairs is the certificate
   pub has_certificate : (l : Listing) → HaveNodes net query → ¬ IsTooLarge net query → IsListingOf net l

@@ -2,7 +2,7 @@
 use Rattle.std.proofs.Common.{◌≡◌, ◌≤◌, ℕ, List, None, Ok, Err, length, refl, subst, sym}
 use Rattle.std.proofs.lemmas.List.{length-replicate}
 use Rattle.road_network.specs.Limits.{max_budget}
-use Rattle.road_network.specs.Queries.{IsAsked, limit_or_none}
+use Rattle.road_network.specs.Queries.{HaveNodes, IsAsked, IsQuery, limit_or_none}
 use Rattle.road_network.specs.Network.{Network}
 use Rattle.route_io.specs.Sinks.{SinkState}
 use Rattle.road_network.specs.declared.query.AnswerKind.{AnswerKind}
@@ -43,3 +43,9 @@ asked_unlimited criteria query unlimited most = record {
   limit = subst (λ l. length (limit_or_none criteria l) ≡ criteria) (sym unlimited) (length-replicate criteria None);
   budget = most;
 }
+
+-- and between nodes it can be searched
+pub is_query_unlimited : (query : Query) (net : Network) → query.limit ≡ None → query.budget ≤ max_budget → HaveNodes net query → IsQuery net query
+is_query_unlimited query net unlimited most nodes =
+    let asked = asked_unlimited net.criteria query unlimited most in
+    record { from = nodes.0; to = nodes.1; limit = asked.limit; budget = asked.budget }

@@ -5,11 +5,12 @@ use Rattle.route_io.specs.Files.{FileMap}
 use Rattle.route_io.specs.Sinks.{SinkState, Sends, WritesTo}
 use Rattle.route_io.specs.Sources.{SourceState, ReadsFrom}
 use Rattle.route_io.specs.declared.fault.WriteFault.{WriteFault}
-use Rattle.command_words.specs.Words.{Asked, Asks, IsStill, batch, check, generate, lanes, names_of, prove, serve, single, verify}
+use Rattle.command_words.specs.Words.{Asked, Asks, IsStill, batch, check, generate, goal, lanes, names_of, prove, serve, single, verify}
 use Rattle.route_top.specs.Batch.{BatchReplies}
 use Rattle.route_top.specs.Check.{CheckReplies}
 use Rattle.route_top.specs.FilesRead.{FilesEnd}
 use Rattle.route_top.specs.Gen.{GenEnds}
+use Rattle.route_top.specs.Goal.{GoalReplies}
 use Rattle.route_top.specs.Lanes.{LanesEnd}
 use Rattle.route_top.specs.Outcome.{Outcome, bad_words, out_failed, no_memory, out_wanted}
 use Rattle.route_top.specs.Outcome.{status_of, note_of, out_has_wanted}
@@ -34,6 +35,7 @@ IsAskedName IsAsked name = (asked : Asked) × IsAsked asked × Contains (names_o
 -- how a run of a command ends, and what it sends to `out`, where nothing cuts that short
 abbrev pub Ends : Option FileMap → Asked → Outcome → List ℕ → Type 0
 Ends files (single asked) = FilesEnd (QueryReplies asked.kind asked.query) files asked.files
+Ends files (goal asked) = FilesEnd (GoalReplies asked.query) files asked.files
 Ends files (check names) = FilesEnd CheckReplies files names
 Ends files (batch asked) = FilesEnd (BatchReplies files asked) files asked.files
 Ends files (generate asked) = GenEnds asked

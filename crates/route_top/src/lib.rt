@@ -17,6 +17,7 @@ mod batch;
 mod check;
 mod counting;
 mod generate;
+mod goal;
 mod lanes;
 mod network;
 mod plan;
@@ -31,6 +32,7 @@ mod summary;
 mod verify;
 
 use command_words::{Command, WordsFault, read_words};
+pub use goal::goal_answers_wherever_one_does;
 use link_doors::Town;
 use route_io::{Folder, Gate, Sink};
 use status::DONE;
@@ -220,7 +222,7 @@ fn is_still(command: &Command<'_>) -> bool
     match command {
         Command::Lanes(_) | Command::Serve(_) => false,
         Command::Single(_) | Command::Check(_) | Command::Batch(_) | Command::Gen(_) => true,
-        Command::Prove(_) | Command::Verify(_) => true,
+        Command::Goal(_) | Command::Prove(_) | Command::Verify(_) => true,
     }
 }
 
@@ -244,6 +246,7 @@ fn carry_out<'a, R: Threads + Sync, G: Gate, F: Folder, K: Sink>(
 {
     match command {
         Command::Single(asked) => single::run(rt, alloc, asked, folder, out, gate),
+        Command::Goal(asked) => goal::run(rt, alloc, asked, folder, out, gate),
         Command::Check(asked) => check::run(alloc, asked, folder, out),
         Command::Batch(asked) => batch::run(rt, alloc, asked, folder, out, gate),
         Command::Gen(asked) => generate::run(rt, alloc, asked, out, gate),

@@ -1,21 +1,18 @@
 //! The command `prove`.
-ghost use Rattle.std.specs.Prelude.{◌≡◌, ◌≤◌, ◌↔◌, All, IsTrue, None};
+ghost use Rattle.std.specs.Prelude.{◌≡◌, ◌≤◌, All, None};
 ghost use Rattle.road_network.specs.Queries.{HaveNodes, IsTooLarge, limit_of};
 ghost use Rattle.walk_readback.specs.Found.{HasAllRelevant, IsOf};
 ghost use Rattle.bulk_search.specs.Findings.{found_of};
 ghost use Rattle.command_words.specs.Ranges.{max_listed};
 ghost use Rattle.command_words.specs.Words.{FilesInRange, ProveInRange, names_of};
 ghost use Rattle.command_words.specs.Words.{prove, prove_asked};
-ghost use Rattle.answer_writer.specs.Replies.{refusal};
-ghost use Rattle.route_top.specs.Outcome.{refused};
 ghost use Rattle.route_top.specs.Output.{Ends, RunsCommand};
 ghost use Rattle.route_top.specs.Prove.{ProveReplies};
-ghost use Rattle.route_top.specs.Stops.{IsReply, Replies, run_outcome};
+ghost use Rattle.route_top.specs.Stops.{Replies, run_outcome};
 
 use crate::network::read_network;
-use crate::reply::EPOCH;
+use crate::reply::{has_nodes, refuse};
 use crate::stop::Stop;
-use answer_writer::put_refusal;
 use arc_graph::Network;
 use bulk_search::{Findings, find};
 use cert_writer::{list_labels, write_cert};
@@ -72,13 +69,6 @@ fn reply<'a, R: Threads + Sync, G: Gate, K: Sink>(
     }
 }
 
-/// Whether both ends of a query are nodes.
-fn has_nodes(network: &Network<'_>, query: &Query) -> bool
-    ensures { IsTrue result ↔ HaveNodes network.now query.now }
-{
-    network.has_node(query.from) && network.has_node(query.to)
-}
-
 /// Sends the certificate of what was found for a query. All its labels are listed before the first byte.
 fn put_cert<'a, K: Sink>(
     alloc: Global,
@@ -100,13 +90,4 @@ fn put_cert<'a, K: Sink>(
     let listing = list_labels(alloc, network, query, found)?;
     write_cert(out, &listing)?;
     Ok(())
-}
-
-/// Sends a refusal.
-fn refuse<'a, K: Sink>(out: &mut K, query: &Query, why: &str) -> Result<(), Stop<'a>>
-    ensures { Replies (IsReply refused (refusal 0 query.now.from query.now.to why.now))
-        (K.state out.old) (K.state out.new) (run_outcome result) }
-{
-    put_refusal(out, EPOCH, query.from, query.to, why)?;
-    Err(Stop::Refused)
 }

@@ -1,14 +1,17 @@
 //! The replies of the commands.
-ghost use Rattle.std.specs.Prelude.{◌≢◌, ◌↔◌, ◌≡◌, IsOk, Ok, Err};
+ghost use Rattle.std.specs.Prelude.{◌≢◌, ◌↔◌, ◌≡◌, IsOk, IsTrue, Ok, Err};
+ghost use Rattle.road_network.specs.Queries.{HaveNodes};
+ghost use Rattle.answer_writer.specs.Replies.{refusal};
 ghost use Rattle.route_io.specs.Sinks.{Sends};
-ghost use Rattle.route_top.specs.Outcome.{done};
+ghost use Rattle.route_top.specs.Outcome.{done, refused};
 ghost use Rattle.route_top.specs.Stops.{IsReply, Replies, reply_outcome, run_outcome};
 ghost use Rattle.route_top.specs.Texts.{check_reply};
 
 use crate::stop::Stop;
-use answer_writer::{Piece, put_line};
-use arc_graph::NetworkSizes;
+use answer_writer::{Piece, put_line, put_refusal};
+use arc_graph::{Network, NetworkSizes};
 use out_of_memory::OutOfMemory;
+use road_network::Query;
 use route_io::{Sink, WriteFault, put_all};
 use session_core::Reply;
 
@@ -23,6 +26,22 @@ pub(crate) fn end_of<'a>(reply: Reply) -> Result<(), Stop<'a>>
         Reply::Answer => Ok(()),
         Reply::Refusal => Err(Stop::Refused),
     }
+}
+
+/// Whether both ends of a query are nodes.
+pub(crate) fn has_nodes(network: &Network<'_>, query: &Query) -> bool
+    ensures { IsTrue result ↔ HaveNodes network.now query.now }
+{
+    network.has_node(query.from) && network.has_node(query.to)
+}
+
+/// Sends a refusal.
+pub(crate) fn refuse<'a, K: Sink>(out: &mut K, query: &Query, why: &str) -> Result<(), Stop<'a>>
+    ensures { Replies (IsReply refused (refusal 0 query.now.from query.now.to why.now))
+        (K.state out.old) (K.state out.new) (run_outcome result) }
+{
+    put_refusal(out, EPOCH, query.from, query.to, why)?;
+    Err(Stop::Refused)
 }
 
 /// Sends a reply that was made in memory.

@@ -3,10 +3,10 @@ use super::Row;
 use super::rows::{A, B, DRESSED, ONES, SIX_ARCS};
 
 /// Four arcs of equal weights, by which two walks of two arcs lead from 1 to 4.
-const TIE: &str = "p sp 4 4\na 1 2 1\na 1 3 1\na 3 4 1\na 2 4 1\n";
+pub(super) const TIE: &str = "p sp 4 4\na 1 2 1\na 1 3 1\na 3 4 1\na 2 4 1\n";
 
 /// Arcs of which each has one weight that is zero.
-const ZEROS: &[(&str, &str)] = &[
+pub(super) const ZEROS: &[(&str, &str)] = &[
     ("X.gr", "p sp 3 4\na 1 2 0\na 1 2 3\na 2 3 0\na 2 3 3\n"),
     ("Y.gr", "p sp 3 4\na 1 2 3\na 1 2 0\na 2 3 3\na 2 3 0\n"),
 ];

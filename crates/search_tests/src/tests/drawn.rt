@@ -1,3 +1,5 @@
+mod bounds;
+mod directed;
 mod examples;
 mod networks;
 mod searching;

@@ -1,6 +1,6 @@
 use command_words::{
-    BatchWords, Command, GenWords, ProveWords, ServeWords, SingleWords, VerifyWords, WordsFault,
-    read_words,
+    BatchWords, Command, FollowWords, GenWords, GoalWords, ProveWords, ServeWords, SingleWords,
+    TakeWords, VerifyWords, WordsFault, WriteWords, read_words,
 };
 use road_network::AnswerKind;
 use std::alloc::{AllocError, Global};
@@ -30,6 +30,7 @@ fn read(alloc: Global, first: &str, line: &str) -> Result<String, AllocError> {
 fn shown(alloc: Global, command: &Command) -> Result<String, AllocError> {
     match command {
         Command::Single(asked) => shown_single(alloc, asked),
+        Command::Goal(asked) => shown_goal(alloc, asked),
         Command::Check(check) => listed(alloc, "check", &[], &check.files),
         Command::Batch(asked) => shown_batch(alloc, asked),
         Command::Gen(asked) => shown_gen(alloc, asked),
@@ -37,6 +38,8 @@ fn shown(alloc: Global, command: &Command) -> Result<String, AllocError> {
         Command::Serve(asked) => shown_serve(alloc, asked),
         Command::Prove(asked) => shown_prove(alloc, asked),
         Command::Verify(asked) => shown_verify(alloc, asked),
+        Command::Follow(FollowWords::Write(asked)) => shown_write(alloc, asked),
+        Command::Follow(FollowWords::Take(asked)) => shown_take(alloc, asked),
     }
 }
 
@@ -65,6 +68,12 @@ fn shown_single(alloc: Global, asked: &SingleWords) -> Result<String, AllocError
     let query = asked.query;
     let numbers = [query.from, query.to, query.budget, asked.workers];
     listed(alloc, name, &numbers, &asked.files)
+}
+
+fn shown_goal(alloc: Global, asked: &GoalWords) -> Result<String, AllocError> {
+    let query = asked.query;
+    let numbers = [query.from, query.to, query.budget];
+    listed(alloc, "goal", &numbers, &asked.files)
 }
 
 /// The name of the file of pairs stands last.
@@ -114,6 +123,24 @@ fn shown_verify(alloc: Global, asked: &VerifyWords) -> Result<String, AllocError
     let mut text = listed(alloc, "verify", &[], &asked.files)?;
     let cert = asked.cert;
     write!(text, " of {cert:?}")?;
+    Ok(text)
+}
+
+/// The operator's script stands last.
+fn shown_write(alloc: Global, asked: &WriteWords) -> Result<String, AllocError> {
+    let mut text = listed(alloc, "write", &[asked.epoch], &asked.files)?;
+    let operator = asked.operator;
+    write!(text, " of {operator:?}")?;
+    Ok(text)
+}
+
+/// The stems stand last, that of the feeds first.
+fn shown_take(alloc: Global, asked: &TakeWords) -> Result<String, AllocError> {
+    let (budget, workers) = (asked.limits.budget, asked.limits.workers);
+    let numbers = [asked.links, asked.lanes, asked.epoch, budget, workers];
+    let mut text = listed(alloc, "take", &numbers, &asked.files)?;
+    let (feeds, sessions) = (asked.feeds, asked.sessions);
+    write!(text, " of {feeds:?} {sessions:?}")?;
     Ok(text)
 }
 
@@ -178,6 +205,28 @@ const ASKED_SINGLE: &[(&str, &str)] = &[
 fn reads_the_words_of_one_query(rt: HostRuntime) {
     assert_rows(&rt, rt.alloc(), "costs", "costs ", ASKED_SINGLE);
     assert_rows(&rt, rt.alloc(), "one", "walks ", ASKED_SINGLE);
+}
+
+/// Words behind `goal`, and what they ask for: the ends, the budget and the files.
+const GOAL: &[(&str, &str)] = &[
+    (
+        "--from 1 --to 4 A.gr B.gr",
+        r#"goal 1 4 10000000 "A.gr" "B.gr""#,
+    ),
+    (
+        "A --budget=50000000 B --to 4 C --from 01 D",
+        r#"goal 1 4 50000000 "A" "B" "C" "D""#,
+    ),
+    ("--from 1 --to 4 --budget 50000001 A B", REFUSED),
+    ("--from 1 --to 4 --budget 0 A B", REFUSED),
+    ("--from 1 --to 4 --workers 1 A B", REFUSED),
+    ("--from 1 --to 4 A", REFUSED),
+    ("--to 4 A B", REFUSED),
+];
+
+#[test]
+fn reads_the_words_of_goal(rt: HostRuntime) {
+    assert_rows(&rt, rt.alloc(), "goal", "", GOAL);
 }
 
 /// Words, and what they ask for.
@@ -320,6 +369,41 @@ const VERIFY: &[(&str, &str)] = &[
 #[test]
 fn reads_the_words_of_verify(rt: HostRuntime) {
     assert_rows(&rt, rt.alloc(), "verify", "", VERIFY);
+}
+
+/// Words behind `follow`, and what they ask for: the first epoch, the files and the script; or the feeds, the lanes, the
+/// first epoch, budget, workers, files and stems.
+const FOLLOW: &[(&str, &str)] = &[
+    ("--write op A B", r#"write 0 "A" "B" of "op""#),
+    ("A --epoch=7 B --write= C", r#"write 7 "A" "B" "C" of """#),
+    (
+        "--feeds f --sessions day A B",
+        r#"take 1 1 0 10000000 1 "A" "B" of "f" "day""#,
+    ),
+    (
+        "A --links 64 B --lanes=16 --epoch 5 --budget 3 --workers 2 --sessions= --feeds= C",
+        r#"take 64 16 5 3 2 "A" "B" "C" of "" """#,
+    ),
+    ("A B", REFUSED),
+    ("--feeds f A B", REFUSED),
+    ("--sessions day A B", REFUSED),
+    ("--feeds f --sessions day --links 65 A B", REFUSED),
+    ("--feeds f --sessions day --links 0 A B", REFUSED),
+    ("--feeds f --sessions day --lanes 17 A B", REFUSED),
+    ("--write op --feeds f --sessions day A B", REFUSED),
+    ("--write op --feeds f A B", REFUSED),
+    ("--write op --sessions day A B", REFUSED),
+    ("--write op --links 1 A B", REFUSED),
+    ("--write op --lanes 1 A B", REFUSED),
+    ("--write op --budget 1 A B", REFUSED),
+    ("--write op --workers 1 A B", REFUSED),
+    ("--write op --write op A B", REFUSED),
+    ("--write op A", REFUSED),
+];
+
+#[test]
+fn reads_the_words_of_follow(rt: HostRuntime) {
+    assert_rows(&rt, rt.alloc(), "follow", "", FOLLOW);
 }
 
 /// Words behind `gen` that are those of no command.

@@ -4,7 +4,7 @@ use Rattle.waiting_queue.specs.Waiting.{as_waiting, spot_in}
 use Rattle.bulk_rounds.specs.Cores.{Spot}
 use Rattle.goal_bounds.specs.Bounds.{IsBoundSearch}
 use Rattle.goal_search.specs.Relaxing.{FollowsAll, IsSmallBounded}
-use Rattle.goal_search.proofs.RoundLemmas.{are_kept, ended_rounds, taken_are_small}
+use Rattle.goal_search.proofs.RoundLemmas.{are_kept, ended_rounds, ends_toward, taken_are_small}
 use Rattle.goal_search.proofs.rounds.finish_toward.Goals as goal
 
 pub relax_toward-requires-clause-spots : goal.relax_toward-requires-clause-spots
@@ -35,3 +35,13 @@ returns-clause-rounds g c =
     let puts = rw (c.deref.ensures.value) at (c.in_ok-finish.ensures.put) in
     let search = subst (λ n. IsBoundSearch net n c.relax_toward.new.bounds) here c.in_ok-candidates.ensures.bounds in
     ended_rounds net c.nodes.ensures.network core c.args.bounds.now c.requires.rounds items follows c.finish.new.self c.relax_toward.new.bounds puts search
+
+pub returns-clause-ended : goal.returns-clause-ended
+returns-clause-ended g c =
+    let net = c.args.network.now in let core = c.args.core.now in
+    let items = map (as_waiting g.F.Cost.StoredCost.components) c.in_ok-candidates.candidates.items in
+    let first = subst (λ n. FollowsAll net n (Contains (map (spot_in g.F.Cost.StoredCost.components) c.taken.result.now)) items)
+    c.requires.rounds.bounds_are.target_is c.in_ok-candidates.ensures.follows in
+    let follows = subst (λ (xs : List Spot). FollowsAll net core.target (Contains xs) items) c.taken.ensures.spots first in
+    let puts = rw (c.deref.ensures.value) at (c.in_ok-finish.ensures.put) in
+    ends_toward net c.nodes.ensures.network core c.args.bounds.now c.requires.rounds items follows c.finish.new.self puts

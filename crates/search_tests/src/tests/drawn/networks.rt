@@ -87,6 +87,37 @@ pub(super) fn draw(alloc: Global, name: u64) -> Result<Drawn, AllocError> {
     })
 }
 
+/// With which weights a drawn network is searched.
+#[derive(Clone, Copy, Debug)]
+pub(super) enum Ties {
+    /// Its own.
+    AsDrawn,
+    /// 1 in place of each that isn't 0.
+    ZeroOrOne,
+    /// Under all criteria the same, 1 or 2.
+    AllAlike,
+}
+
+/// The network with such weights.
+pub(super) fn with_ties(mut drawn: Drawn, ties: Ties) -> Drawn {
+    for arc in drawn.arcs.iter_mut() {
+        tie(arc, ties);
+    }
+    drawn
+}
+
+/// Changes the weights of an arc, of which none that isn't 0 becomes 0.
+fn tie(arc: &mut DrawnArc, ties: Ties) {
+    let alike = arc[2] % 2 + 1;
+    for weight in arc[2..].iter_mut() {
+        *weight = match ties {
+            Ties::AsDrawn => *weight,
+            Ties::ZeroOrOne => (*weight).min(1),
+            Ties::AllAlike => alike,
+        };
+    }
+}
+
 pub(super) fn graph(rt: &impl Abort, alloc: Global, drawn: &Drawn) -> Result<(Graph, Weights), Fail>
     ensures { IfOk result (λ r. Match r.0 r.1) }
 {

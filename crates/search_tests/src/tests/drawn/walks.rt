@@ -10,7 +10,7 @@ pub(super) type Sums = [u64; 4];
 pub(super) struct Walk {
     pub arcs: Vec<u32>,
     nodes: Vec<u32>,
-    end: u32,
+    pub end: u32,
     pub cost: Sums,
 }
 
@@ -42,12 +42,12 @@ impl Walk {
     }
 }
 
-fn dominates(a: &Sums, b: &Sums) -> bool {
+pub(super) fn dominates(a: &Sums, b: &Sums) -> bool {
     a != b && a.iter().zip(b).all(|(x, y)| x <= y)
 }
 
 /// All walks from node 1 that come to no node twice.
-fn all_walks(alloc: Global, drawn: &Drawn) -> Result<Vec<Walk>, AllocError> {
+pub(super) fn all_walks(alloc: Global, drawn: &Drawn) -> Result<Vec<Walk>, AllocError> {
     let mut nodes = Vec::new(alloc);
     nodes.push(1)?;
     let mut last = Vec::new(alloc);
@@ -84,7 +84,7 @@ pub(super) struct Wanted {
 }
 
 /// Keeps the best walks: no walk to the same node costs less, or as much and comes before.
-fn best_walks(alloc: Global, all: Vec<Walk>) -> Result<Vec<Walk>, AllocError> {
+pub(super) fn best_walks(alloc: Global, all: Vec<Walk>) -> Result<Vec<Walk>, AllocError> {
     let mut kept = Vec::new(alloc);
     for walk in &all {
         let is_beaten = all.iter().any(|other| {

@@ -2,7 +2,7 @@ use Rattle.std.proofs.Common.{refl}
 use Rattle.std.proofs.lemmas.Result.{err_from_is_err_and}
 use Rattle.route_top.specs.Outcome.{refused}
 use Rattle.route_top.proofs.RunsLemmas.{sent_part, sent_whole}
-use Rattle.route_top.proofs.prove.refuse.Goals as goal
+use Rattle.route_top.proofs.reply.refuse.Goals as goal
 
 pub returns-in_err-put_refusal : goal.returns-in_err-put_refusal
 returns-in_err-put_refusal g c =

@@ -1,0 +1,6 @@
+use Rattle.goal_search.specs.Rounds.{IsAfter}
+use Rattle.goal_search.proofs.query.find.Given as goal
+
+-- so many rounds were made
+abbrev pub invariant-rounds : goal.invariant-rounds
+invariant-rounds g l = IsAfter l.network l.query l.counter l.rounds.core l.rounds.bounds

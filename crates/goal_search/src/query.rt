@@ -1,0 +1,125 @@
+ghost use Rattle.std.specs.Prelude.{◌≡◌, ◌^◌, ◌<◌, ◌≤◌, IfOk, IsErrOf, None, OnOk};
+ghost use Rattle.road_network.specs.Queries.{IsQuery};
+ghost use Rattle.goal_search.specs.Answers.{Answers, PassesBudget};
+ghost use Rattle.goal_search.specs.Findings.{found_of};
+ghost use Rattle.goal_search.specs.Rounds.{IsAfter, IsAnswer};
+
+use crate::findings::GoalFindings;
+use crate::rounds::{GoalRounds, finish_toward};
+use arc_graph::Network;
+use bulk_rounds::Begun;
+use found_fronts::{FoundAtWidth, FoundFronts};
+use out_of_memory::OutOfMemory;
+use road_network::{Query, SearchFault};
+use route_io::Gate;
+use settled_front::SettledFront;
+use std::alloc::Global;
+use std::marker::Brand;
+use std::sync::ledger::{Blank, Ledger};
+use std::thread::Threads;
+use stored_cost::StoredCost;
+use waiting_queue::Steps;
+use walk_readback::FoundCosts;
+use work_claim::Workers;
+
+/// Answers a query without a limit: the settled costs of what was found are exactly its goal-relevant pairs. The workers share
+/// the rounds of the search; its bounds are found by one.
+pub fn search_toward<R: Threads + Sync, G: Gate>(
+    workers: &Workers<'_, R, G>,
+    alloc: Global,
+    network: &Network<'_>,
+    query: &Query,
+) -> Result<GoalFindings, SearchFault>
+    requires query { IsQuery network.now query.now }
+    requires unlimited { query.now.limit ≡ None }
+    ensures { Answers network.now query.now result }
+{
+    counted::<R, G, Brand>(workers, alloc, network, query, Blank::new(1))
+}
+
+/// Answers a query over a counter of its own.
+fn counted<R: Threads + Sync, G: Gate, L: Ledger>(
+    workers: &Workers<'_, R, G>,
+    alloc: Global,
+    network: &Network<'_>,
+    query: &Query,
+    blank: Blank,
+) -> Result<GoalFindings, SearchFault>
+    requires query { IsQuery network.now query.now }
+    requires unlimited { query.now.limit ≡ None }
+    requires name { blank.name ≡ L.name }
+    requires parts { blank.parts ≡ L.parts }
+    requires some_parts { 0 < L.parts }
+    ensures { Answers network.now query.now result }
+{
+    prove!(network.nodes() >= 1);
+    let mut steps = Steps::<L>::new(blank);
+    let found = find_all(workers, alloc, network, query, &mut steps)?;
+    let _count = found.count();
+    Ok(found)
+}
+
+/// Finds all goal-relevant pairs of a query, whatever the number of criteria.
+fn find_all<R: Threads + Sync, G: Gate, L: Ledger>(
+    workers: &Workers<'_, R, G>,
+    alloc: Global,
+    network: &Network<'_>,
+    query: &Query,
+    steps: &mut Steps<L>,
+) -> Result<GoalFindings, SearchFault>
+    requires query { IsQuery network.now query.now }
+    ensures found { IfOk result (λ f. IsAnswer network.now query.now (found_of f)) }
+    ensures in_budget { OnOk result (¬ PassesBudget network.now query.now) }
+    ensures budget { IsErrOf result SearchFault.Budget → PassesBudget network.now query.now }
+{
+    match network.criteria() {
+        2 => {
+            let started = GoalRounds::new(alloc, network, query);
+            let found = find(workers, alloc, network, query, started, steps)?;
+            Ok(GoalFindings::Two(FoundAtWidth::Wide(found)))
+        }
+        3 => {
+            let started = GoalRounds::new(alloc, network, query);
+            let found = find(workers, alloc, network, query, started, steps)?;
+            Ok(GoalFindings::Three(FoundAtWidth::Wide(found)))
+        }
+        _ => {
+            let started = GoalRounds::new(alloc, network, query);
+            let found = find(workers, alloc, network, query, started, steps)?;
+            Ok(GoalFindings::Four(FoundAtWidth::Wide(found)))
+        }
+    }
+}
+
+/// Makes one round after another until all is found, in a search that was started.
+fn find<const D: usize, F: SettledFront<D> + Sync, R: Threads + Sync, G: Gate, L: Ledger>(
+    workers: &Workers<'_, R, G>,
+    alloc: Global,
+    network: &Network<'_>,
+    query: &Query,
+    started: Result<GoalRounds<D, F>, OutOfMemory>,
+    steps: &mut Steps<L>,
+) -> Result<FoundFronts<D, F>, SearchFault>
+where
+    F::Cost: Send + Sync,
+    <F::Cost as StoredCost<D>>::Part: Send + Sync,
+    requires query { IsQuery network.now query.now }
+    requires criteria { network.now.criteria ≡ D }
+    requires room { 2 ^ 57 ≤ F.Cost.Part.bound }
+    requires started { IfOk started (λ r. IsAfter network.now query.now 0 r.core r.bounds) }
+    ensures found { IfOk result (IsAnswer network.now query.now) }
+    ensures in_budget { OnOk result (¬ PassesBudget network.now query.now) }
+    ensures budget { IsErrOf result SearchFault.Budget → PassesBudget network.now query.now }
+{
+    prove!(network.nodes() >= 1);
+    prove!(network.criteria() == D);
+    let mut rounds = started?;
+    'rounds: for _ in 0..query.budget + 1 {
+        match rounds.begin(workers, alloc, steps)? {
+            Begun::Done => return Ok(rounds.into_found(alloc, network, query)?),
+            Begun::Budget => return Err(SearchFault::Budget),
+            Begun::Taken => finish_toward(alloc, network, &mut rounds.bounds, &mut rounds.core)?,
+        }
+    }
+    unreachable!()
+}

@@ -1,3 +1,4 @@
 pub mod ListedLaws
 pub mod SoundLaws
 pub mod CompleteLaws
+pub mod FirstLaws

@@ -7,5 +7,7 @@
 mod laws;
 mod rule;
 
-pub use laws::{certificates_show_answers, relevant_pairs_are_certificates};
+pub use laws::{
+    certificates_show_answers, first_failures_are_one, relevant_pairs_are_certificates,
+};
 pub use rule::Rule;

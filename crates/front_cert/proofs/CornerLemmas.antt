@@ -11,6 +11,7 @@ use Rattle.cost_vector.specs.Costs.{AtMost}
 use Rattle.cost_vector.specs.declared.label.Label.{Label as StoredLabel}
 use Rattle.cost_vector.proofs.Components.{IsMeet}
 use Rattle.cost_vector.proofs.Vectors.{AtMost-trans}
+use Rattle.front_cert.proofs.OffsetLemmas.{offsets_none}
 use Rattle.front_cert.specs.Listing.{AreCorners, AreKept, AreKeptWith, block_size}
 
 -- the first places have the lesser components
@@ -30,8 +31,8 @@ corners_none d labels = record {
   at_most = λ k j l there at low high. absurd (omega (arith, there));
 }
 
-pub kept_bare : (d : ℕ) (labels : List StoredLabel) → AreKept d labels → AreKeptWith d labels []
-kept_bare d labels kept = record { whole = kept.whole; ascending = kept.ascending; cornered = corners_none d labels }
+pub kept_bare : (d : ℕ) (labels : List StoredLabel) → AreKept d labels → AreKeptWith d labels [] []
+kept_bare d labels kept = record { whole = kept.whole; ascending = kept.ascending; cornered = corners_none d labels; ends = offsets_none labels }
 
 module _ (d : ℕ) (labels : List StoredLabel) (corners : List (List ℕ)) (are : AreCorners d labels corners) (corner : List ℕ) (long : length corner ≡ d)
     (first : ℕ) (is_first : first ≡ length corners * block_size) (within : first + block_size ≤ length labels)

@@ -6,3 +6,5 @@ pub mod DraftLemmas
 pub mod ReadLemmas
 pub mod FoundLemmas
 pub mod CornerLemmas
+pub mod OffsetLemmas
+pub mod PassedLemmas

@@ -257,6 +257,10 @@ module _ (net : Network) (cert : Certificate) where
   abbrev pub Holds : Label → Type 0
   Holds l = (rule : Rule) → ¬ FailsAt net cert rule l
 
+  -- where no rule is told none fails
+  pub none_told : (l : Label) (told : Option Rule) → told ≡ None → TellsLeast net cert l told → Holds l
+  none_told l told none tells = subst (TellsLeast net cert l) none tells
+
   -- the start isn't listed
   pub first_at_whole : ¬ Contains cert.labels (start_label net cert) → IsFirstFailure net cert Start 0
   first_at_whole missing = record { fails = (refl, missing); first = λ other j below. absurd (omega arith); least = λ other less. absurd (none_less other less) } where

@@ -1,3 +1,4 @@
+pub mod Offsets
 pub mod Listing
 pub mod Found
 pub mod Lookup

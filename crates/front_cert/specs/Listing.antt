@@ -6,6 +6,7 @@ use Rattle.road_network.specs.Labels.{Label}
 use Rattle.road_network.specs.Limits.{max_nodes}
 use Rattle.road_network.specs.Network.{Network, IsNode}
 use Rattle.cert_rules.specs.Certificates.{Certificate, IsBefore}
+use Rattle.front_cert.specs.Offsets.{AreOffsets}
 
 -- a label as it is kept
 abbrev pub line_of : StoredLabel → Label
@@ -46,8 +47,9 @@ pub record AreCorners (criteria : ℕ) (labels : List StoredLabel) (corners : Li
   pub at_most : (k j : ℕ) (l : StoredLabel) → k < length corners → slice_get labels j ≡ Some l → k * block_size ≤ j
       → j < k * block_size + block_size → AtMost (slice_index_or corners k []) l.cost
 
--- the same of labels with their corners
-pub record AreKeptWith (criteria : ℕ) (labels : List StoredLabel) (corners : List (List ℕ)) : Type 0 where
+-- the same of labels with their corners and the ends of each node's
+pub record AreKeptWith (criteria : ℕ) (labels : List StoredLabel) (corners : List (List ℕ)) (offsets : List ℕ) : Type 0 where
   pub whole : All (λ l. length l.cost ≡ criteria) labels
   pub ascending : AllPairs (λ x y. IsBefore (line_of x) (line_of y)) labels
   pub cornered : AreCorners criteria labels corners
+  pub ends : AreOffsets labels offsets

@@ -2,6 +2,7 @@ ghost use Rattle.std.specs.Prelude.{IfOk, IfSome};
 ghost use Rattle.route_io.specs.Sources.{ReadsFrom};
 ghost use Rattle.cert_rules.specs.Certificates.{IsCertificate};
 ghost use Rattle.cert_rules.specs.Meaning.{ShowsAnswer};
+ghost use Rattle.cert_rules.specs.Rules.{HasNoFailure};
 ghost use Rattle.cost_vector.specs.Costs.{no_limit};
 ghost use Rattle.walk_readback.specs.Found.{IsWellFound};
 ghost use Rattle.front_cert.specs.Found.{found_of};
@@ -28,6 +29,7 @@ pub fn check_cert<S: Source>(
     // Over every source what is answered is a certificate of the network, and shows the answer, as what a search has found does.
     ensures of { IfOk result (IsListingOf network.now) }
     ensures certificate { IfOk result (λ listing. IsCertificate network.now listing.cert) }
+    ensures no_failure { IfOk result (λ listing. HasNoFailure network.now listing.cert) }
     ensures shows { IfOk result (λ listing. ShowsAnswer network.now listing.cert) }
     ensures well_found { IfOk result (λ listing.
         IsWellFound network.now (no_limit network.now.criteria) (found_of listing)) }
@@ -37,8 +39,9 @@ pub fn check_cert<S: Source>(
 {
     prove!(network.nodes() >= 1);
     let mut listing = read_listing(alloc, source, network)?;
+    listing.lay_offsets(alloc)?;
     listing.lay_corners(alloc)?;
-    match listing.first_failure(network) {
+    match listing.first_failure(alloc, network)? {
         None => Ok(listing),
         Some((rule, label)) => Err(CertFault::Rule { rule, label }),
     }

@@ -161,6 +161,7 @@ impl Draft {
             target: self.target,
             labels: self.labels,
             corners: Vec::new(alloc),
+            offsets: Vec::new(alloc),
         }
     }
 }

@@ -11,6 +11,8 @@ mod fault;
 mod found;
 mod listing;
 mod lookup;
+mod offsets;
+mod passed;
 mod reader;
 mod rules;
 

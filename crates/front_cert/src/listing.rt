@@ -4,7 +4,9 @@ ghost use Rattle.road_network.specs.Network.{IsNode};
 ghost use Rattle.front_cert.specs.Listing.{AreKept, IsListingOf, line_of};
 
 use crate::corners::corners_of;
-use crate::lookup::{arc_at, is_beaten_at, place_of};
+use crate::draft::MAX_LABELS;
+use crate::lookup::{arc_at, is_beaten_at, place_by};
+use crate::offsets::offsets_of;
 use arc_graph::Network;
 use cost_vector::{ArcNo, Cost, Label, NodeNo};
 use out_of_memory::OutOfMemory;
@@ -21,6 +23,8 @@ pub struct Listing {
     pub(crate) labels: Vec<Label>,
     /// Of each of the first blocks of labels, a cost that is at most each of theirs.
     pub(crate) corners: Vec<Cost>,
+    /// The labels of node v stand from `offsets[v - 1]` to `offsets[v]`, where there are such offsets.
+    pub(crate) offsets: Vec<u32>,
 }
 
 impl Model for Listing {
@@ -39,7 +43,7 @@ impl Model for Listing {
       nodes = l.nodes;
       criteria = l.criteria;
       cert = record { start = l.start.0; target = l.target.0; labels = map line_of l.labels.items };
-    }) × AreKeptWith l.criteria l.labels.items l.corners.items };
+    }) × AreKeptWith l.criteria l.labels.items l.corners.items l.offsets.items };
 }
 
 impl Listing {
@@ -68,6 +72,7 @@ impl Listing {
             target,
             labels,
             corners: Vec::new(alloc),
+            offsets: Vec::new(alloc),
         }
     }
 
@@ -76,6 +81,17 @@ impl Listing {
         ensures { self.new ≡ self.old }
     {
         self.corners = corners_of(alloc, &self.labels, self.criteria)?;
+        Ok(())
+    }
+
+    /// Lays the ends of each node's labels, by which a label is found among those of its node. What has more labels than a
+    /// certificate may have goes without.
+    pub(crate) fn lay_offsets(&mut self, alloc: Global) -> Result<(), OutOfMemory>
+        ensures { self.new ≡ self.old }
+    {
+        if self.labels.len() <= MAX_LABELS as usize {
+            self.offsets = offsets_of(alloc, &self.labels, self.nodes)?;
+        }
         Ok(())
     }
 
@@ -106,7 +122,7 @@ impl Listing {
         ensures { (arc : ArcNo) → (result ≡ Some arc) ↔ Contains self.now.cert.labels
             (record { node = node.0; cost = cost.now; arc = arc.0 }) }
     {
-        let place = place_of(&self.labels, node, cost);
+        let place = place_by(&self.labels, &self.offsets, node, cost);
         arc_at(&self.labels, place, node, cost)
     }
 
@@ -115,7 +131,7 @@ impl Listing {
         requires { length cost.now ≡ self.now.criteria }
         ensures { IsTrue result ↔ IsBeaten self.now.cert.labels node.0 cost.now }
     {
-        let place = place_of(&self.labels, node, cost);
+        let place = place_by(&self.labels, &self.offsets, node, cost);
         is_beaten_at(&self.labels, &self.corners, place, node, cost)
     }
 }

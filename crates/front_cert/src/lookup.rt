@@ -1,14 +1,48 @@
 //! Where a node and a cost stand among labels that ascend.
-ghost use Rattle.std.specs.Prelude.{◌≡◌, ◌<◌, ◌≤◌, ◌↔◌, ◌⊎◌, ℕ, Some, length, map, All, AllPairs, Contains, IsTrue};
+ghost use Rattle.std.specs.Prelude.{◌≡◌, ◌<◌, ◌≤◌, ◌-◌, ◌↔◌, ◌⊎◌, ℕ, Some, length, map, take, drop, All, AllPairs, Contains, IsTrue};
 ghost use Rattle.cert_rules.specs.Certificates.{IsBeaten};
 ghost use Rattle.front_cert.specs.Listing.{AreCorners, line_of};
 ghost use Rattle.front_cert.specs.Lookup.{IsPassed, IsPlace, Precedes, is_before};
+ghost use Rattle.front_cert.specs.Offsets.{AreOffsets, IsSpan};
 
 use crate::corners::BLOCK;
 use cost_vector::{ArcNo, Cost, Label, NodeNo};
 
+/// How many labels stand before each of this node and this cost, as is found among those of the node alone.
+pub(crate) fn place_by(labels: &[Label], offsets: &[u32], node: NodeNo, cost: &Cost) -> usize
+    requires ascending { AllPairs Precedes labels.now }
+    requires offsets { AreOffsets labels.now offsets.now }
+    ensures within { result ≤ length labels.now }
+    ensures place { IsPlace labels.now node.0 cost.now result }
+{
+    let (first, end) = span_of(labels, offsets, node);
+    first + place_of(span(labels, first, end), node, cost)
+}
+
+/// From where to where the labels of a node stand; all labels for a number that has no offset.
+fn span_of(labels: &[Label], offsets: &[u32], node: NodeNo) -> (usize, usize)
+    requires { AreOffsets labels.now offsets.now }
+    ensures { IsSpan labels.now node.0 result.0 result.1 }
+{
+    let v = node.0 as usize;
+    if v == 0 || v >= offsets.len() {
+        return (0, labels.len());
+    }
+    (offsets[v - 1] as usize, offsets[v] as usize)
+}
+
+/// The labels from one place to another.
+fn span(labels: &[Label], first: usize, end: usize) -> &[Label]
+    requires order { first ≤ end }
+    requires within { end ≤ length labels.now }
+    ensures { result.now ≡ take (end - first) (drop first labels.now) }
+{
+    let left = &labels[first..];
+    &left[..end - first]
+}
+
 /// How many labels stand before each of this node and this cost.
-pub(crate) fn place_of(labels: &[Label], node: NodeNo, cost: &Cost) -> usize
+fn place_of(labels: &[Label], node: NodeNo, cost: &Cost) -> usize
     requires { AllPairs Precedes labels.now }
     ensures within { result ≤ length labels.now }
     ensures place { IsPlace labels.now node.0 cost.now result }

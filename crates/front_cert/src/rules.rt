@@ -1,36 +1,75 @@
 //! Which rule fails at a label.
-ghost use Rattle.std.specs.Prelude.{◌≡◌, ◌≢◌, ◌⊎◌, ◌<◌, ◌≤◌, ◌↔◌, ◌+◌, ℕ, Some, None, length, Contains, IsTrue, IfSome, slice_get};
+ghost use Rattle.std.specs.Prelude.{◌≡◌, ◌≢◌, ◌⊎◌, ◌<◌, ◌≤◌, ◌↔◌, ◌+◌, ℕ, Some, None, length, Contains, IsTrue, IfOk, IfSome, slice_get};
+ghost use Rattle.cost_vector.specs.Costs.{max_criteria, min_criteria};
 ghost use Rattle.road_network.specs.Network.{Network as NetworkState};
 ghost use Rattle.road_network.specs.Walks.{EndsBy};
 ghost use Rattle.arc_graph.specs.Graph.{IsRoadNetwork, out_arcs_of};
-ghost use Rattle.cert_rules.specs.Certificates.{IsBeaten, IsCertificate, IsLine, IsListed, start_label};
+ghost use Rattle.cert_rules.specs.Certificates.{IsBeaten, IsCertificate, IsLine, IsListed, max_component, start_label};
 ghost use Rattle.cert_rules.specs.Rules.{FailsAt, Fails};
 ghost use Rattle.front_cert.specs.Listing.{Listing, IsListingOf, line_of};
 ghost use Rattle.front_cert.specs.Checks.{ForArc, TellsArc, TellsArcs, TellsFirst, TellsLeast};
 
 use crate::Listing;
+use crate::passed::{covers, push, turn};
 use arc_graph::Network;
 use cert_rules::Rule;
 use cost_vector::{ArcNo, Cost, Label, NodeNo};
+use out_of_memory::OutOfMemory;
+use settled_front::{BlockFront, SettledFront, StairFront, WideBlock};
+use std::alloc::Global;
+use stored_cost::WideCost;
 
 impl Listing {
     /// The first label at which a rule fails, numbered from 1, and the least such rule; the number is 0 where the list as a
     /// whole has no start.
-    pub(crate) fn first_failure(&self, network: &Network<'_>) -> Option<(Rule, u32)>
+    pub(crate) fn first_failure(
+        &self,
+        alloc: Global,
+        network: &Network<'_>,
+    ) -> Result<Option<(Rule, u32)>, OutOfMemory>
         requires network { IsRoadNetwork network.now }
         requires of { IsListingOf network.now self.now }
         requires certificate { IsCertificate network.now self.now.cert }
-        ensures { TellsFirst network.now self.now.cert result }
+        ensures { IfOk result (TellsFirst network.now self.now.cert) }
+    {
+        match self.criteria {
+            2 => self.first_failure_by::<2, StairFront<WideCost<2>>>(alloc, network),
+            3 => self.first_failure_by::<3, BlockFront<3, WideBlock<3>>>(alloc, network),
+            _ => self.first_failure_by::<4, BlockFront<4, WideBlock<4>>>(alloc, network),
+        }
+    }
+
+    /// The same with a front of the costs of a node's labels so far, which tells whether one of these dominates the next.
+    fn first_failure_by<const D: usize, F: SettledFront<D>>(
+        &self,
+        alloc: Global,
+        network: &Network<'_>,
+    ) -> Result<Option<(Rule, u32)>, OutOfMemory>
+        requires two { min_criteria ≤ D }
+        requires four { D ≤ max_criteria }
+        requires criteria { D ≡ self.now.criteria }
+        requires room { max_component < F.Cost.Part.bound }
+        requires network { IsRoadNetwork network.now }
+        requires of { IsListingOf network.now self.now }
+        requires certificate { IsCertificate network.now self.now.cert }
+        ensures { IfOk result (TellsFirst network.now self.now.cert) }
     {
         if !self.lists_start() {
-            return Some((Rule::Start, 0));
+            return Ok(Some((Rule::Start, 0)));
         }
+        let mut node = NodeNo(0);
+        let mut costs = F::new(alloc);
         for i in 0..self.len() {
-            if let Some(rule) = self.failing_rule(network, &self.label(i)) {
-                return Some((rule, i as u32 + 1));
+            let label = self.label(i);
+            turn::<D, F>(alloc, &mut costs, node, label.node);
+            node = label.node;
+            let is_beaten = covers::<D, F>(&costs, &label.cost);
+            if let Some(rule) = self.failing_rule(network, &label, is_beaten) {
+                return Ok(Some((rule, i as u32 + 1)));
             }
+            push::<D, F>(&mut costs, &label.cost)?;
         }
-        None
+        Ok(None)
     }
 
     /// Whether the start at cost zero is listed without an arc.
@@ -45,8 +84,10 @@ impl Listing {
         }
     }
 
-    /// The least rule that fails at a label.
-    fn failing_rule(&self, network: &Network<'_>, label: &Label) -> Option<Rule>
+    /// The least rule that fails at a label, of which is known whether the last one does.
+    fn failing_rule(&self, network: &Network<'_>, label: &Label, is_beaten: bool) -> Option<Rule>
+        requires known { IsTrue is_beaten
+            ↔ IsBeaten self.now.cert.labels label.now.node.0 label.now.cost }
         requires network { IsRoadNetwork network.now }
         requires of { IsListingOf network.now self.now }
         requires certificate { IsCertificate network.now self.now.cert }
@@ -59,7 +100,7 @@ impl Listing {
         if let Some(rule) = self.departure_fault(network, label) {
             return Some(rule);
         }
-        if self.is_beaten(label.node, &label.cost) {
+        if is_beaten {
             return Some(Rule::Undominated);
         }
         None

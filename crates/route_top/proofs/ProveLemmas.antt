@@ -1,11 +1,15 @@
 -- The runs of `prove`.
-use Rattle.std.proofs.Common.{◌≡◌, ◌≤◌, None, ap, arith, inl, inr, refl}
+use Rattle.std.proofs.Common.{◌≡◌, ◌≤◌, None, ap, arith, inl, inr, refl, subst}
 use Rattle.road_network.specs.Network.{Network}
 use Rattle.road_network.specs.Queries.{HaveNodes, IsQuery, IsTooLarge}
 use Rattle.road_network.specs.declared.query.Query.{Query}
 use Rattle.cert_rules.specs.Certificates.{IsCertificate}
 use Rattle.cert_rules.specs.Meaning.{ListsRelevant}
+use Rattle.arc_graph.specs.Graph.{IsRoadNetwork}
+use Rattle.cert_rules.proofs.CompleteLaws.{no_failure}
 use Rattle.cert_writer.specs.Text.{cert_text}
+use Rattle.cert_writer.proofs.WrittenLemmas.{accepts, text_back}
+use Rattle.front_cert.specs.Reads.{ChecksText}
 use Rattle.front_cert.specs.Listing.{IsListingOf, Listing}
 use Rattle.route_io.specs.Sinks.{SinkState}
 use Rattle.answer_writer.specs.Replies.{budget_refusal, node_refusal}
@@ -22,10 +26,10 @@ module _ (query : Query) (net : Network) where
   is_query unlimited most nodes = is_query_unlimited query net unlimited (omega (arith, most)) nodes
 
   -- a list of the relevant pairs is the certificate
-  pub has_certificate : (l : Listing) → HaveNodes net query → ¬ IsTooLarge net query → IsListingOf net l
+  pub has_certificate : IsRoadNetwork net → (l : Listing) → HaveNodes net query → ¬ IsTooLarge net query → IsListingOf net l
       → (l.cert.start ≡ query.from) × (l.cert.target ≡ query.to) → IsCertificate net l.cert → ListsRelevant net l.cert
       → HasCertificate net query (cert_text l.criteria l.cert)
-  has_certificate l nodes within of ends is lists = record {
+  has_certificate road l nodes within of ends is lists = record {
     nodes = nodes;
     within = within;
     cert = l.cert;
@@ -34,6 +38,8 @@ module _ (query : Query) (net : Network) where
     is = is;
     lists = lists;
     reply = ap (λ d. cert_text d l.cert) of.criteria;
+    accepted = λ result checks. accepts net l.cert (text_back net road l.cert is) (no_failure net road.network l.cert lists is) result
+        (subst (λ d. ChecksText net (cert_text d l.cert) result) of.criteria checks);
   }
 
   module _ (out replied : SinkState) (outcome : Outcome) where

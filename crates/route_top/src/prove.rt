@@ -87,6 +87,7 @@ fn put_cert<'a, K: Sink>(
     ensures { Replies (ProveReplies query.now network.now)
         (K.state out.old) (K.state out.new) (run_outcome result) }
 {
+    prove!(network.nodes() >= 1);
     let listing = list_labels(alloc, network, query, found)?;
     write_cert(out, &listing)?;
     Ok(())

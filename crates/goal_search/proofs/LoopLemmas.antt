@@ -21,7 +21,7 @@ use Rattle.goal_rounds.specs.GoalCores.{IsGoalCore, IsNewGoalSearch}
 use Rattle.goal_rounds.proofs.BudgetLemmas.{found_all, none_more, too_many}
 use Rattle.goal_rounds.proofs.KeepingLemmas.{begun_is_goal, new_is_goal}
 use Rattle.goal_rounds.proofs.ProgressLemmas.{more_settled, none_settled_more}
-use Rattle.goal_search.specs.Answers.{PassesBudget}
+use Rattle.goal_search.specs.Answers.{IsTooLargeToward}
 use Rattle.goal_search.specs.Rounds.{AreGoalRounds, EndsToward, HasAllBounded, IsAfter}
 
 -- ---- the start
@@ -162,7 +162,7 @@ module _ (net : Network) (is : IsNetwork net) (query : Query) (rounds : ℕ) (co
   goal : IsGoalCore net query.from query.to core
   goal = subst (λ v. IsGoalCore net query.from v core) after.target (subst (λ v. IsGoalCore net v core.target core) after.start after.search.core_is)
 
-  pub budget_is_passed : WouldPass core → PassesBudget net query
+  pub budget_is_passed : WouldPass core → IsTooLargeToward net query
   budget_is_passed would =
       subst (GoalPasses net query.from query.to) after.budget (too_many net is query.from query.to core goal after.none_taken would)
 
@@ -174,7 +174,7 @@ module _ (net : Network) (is : IsNetwork net) (query : Query) (rounds : ℕ) (co
       relevant = λ x there. goal.relevant x ((finds.settled x).0 there);
     }
 
-    pub budget_is_kept : ¬ PassesBudget net query
+    pub budget_is_kept : ¬ IsTooLargeToward net query
     budget_is_kept passes =
         let budget : end.budget ≡ query.budget = finds.same_search.budget ∙ after.budget in
         none_more net is query.from query.to core goal after.none_taken end finds after.count (none_settled_more core end finds after.count after.counts)

@@ -8,16 +8,16 @@ use Rattle.road_network.specs.declared.query.SearchFault.{SearchFault}
 use Rattle.road_network.specs.declared.query.SearchFault.TheVariants.{Budget}
 use Rattle.goal_laws.specs.Goal.{GoalPasses}
 use Rattle.goal_laws.specs.FoundGoal.{HasAllGoalRelevant}
-use Rattle.goal_search.specs.declared.findings.GoalFindings.{GoalFindings}
-use Rattle.goal_search.specs.Findings.{found_of}
+use Rattle.bulk_search.specs.declared.findings.Findings.{Findings}
+use Rattle.bulk_search.specs.Findings.{found_of}
 
 -- the query has more goal-relevant pairs than its budget allows
-abbrev pub PassesBudget : Network → Query → Type 0
-PassesBudget net query = GoalPasses net query.from query.to query.budget
+abbrev pub IsTooLargeToward : Network → Query → Type 0
+IsTooLargeToward net query = GoalPasses net query.from query.to query.budget
 
 -- What such a search answers to a query without a limit: all of it exactly where the query doesn't pass its budget, but for want
 -- of memory.
-pub record Answers (net : Network) (query : Query) (result : Result GoalFindings SearchFault) : Type 0 where
+pub record AnswersToward (net : Network) (query : Query) (result : Result Findings SearchFault) : Type 0 where
   -- what was found is of this network, and leads from the one end of the query to the other
   pub of_query : IfOk result (λ f. IsOf net query (found_of f))
   -- its settled costs are exactly the goal-relevant pairs of the query
@@ -25,6 +25,6 @@ pub record Answers (net : Network) (query : Query) (result : Result GoalFindings
   -- so the walks of its costs can be read back
   pub well_found : IfOk result (λ f. IsWellFound net (limit_of net.criteria query) (found_of f))
   -- it comes only where the query doesn't pass its budget
-  pub in_budget : OnOk result (¬ PassesBudget net query)
+  pub in_budget : OnOk result (¬ IsTooLargeToward net query)
   -- and a refusal comes only where it does
-  pub refused : IsErrOf result Budget → PassesBudget net query
+  pub refused : IsErrOf result Budget → IsTooLargeToward net query

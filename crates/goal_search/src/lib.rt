@@ -2,12 +2,10 @@
 #![tactic(auto)]
 
 mod bare;
-mod findings;
 mod query;
 mod relaxing;
 mod rounds;
 
-pub use findings::GoalFindings;
 pub use query::search_toward;
 pub use relaxing::relax_toward;
 pub use rounds::finish_toward;

@@ -1,13 +1,13 @@
 ghost use Rattle.std.specs.Prelude.{◌≡◌, ◌^◌, ◌<◌, ◌≤◌, IfOk, IsErrOf, None, OnOk};
 ghost use Rattle.road_network.specs.Queries.{IsQuery};
-ghost use Rattle.goal_search.specs.Answers.{Answers, PassesBudget};
-ghost use Rattle.goal_search.specs.Findings.{found_of};
+ghost use Rattle.goal_search.specs.Answers.{AnswersToward, IsTooLargeToward};
+ghost use Rattle.bulk_search.specs.Findings.{found_of};
 ghost use Rattle.goal_search.specs.Rounds.{IsAfter, IsAnswer};
 
-use crate::findings::GoalFindings;
 use crate::rounds::{GoalRounds, finish_toward};
 use arc_graph::Network;
 use bulk_rounds::Begun;
+use bulk_search::Findings;
 use found_fronts::{FoundAtWidth, FoundFronts};
 use out_of_memory::OutOfMemory;
 use road_network::{Query, SearchFault};
@@ -29,10 +29,10 @@ pub fn search_toward<R: Threads + Sync, G: Gate>(
     alloc: Global,
     network: &Network<'_>,
     query: &Query,
-) -> Result<GoalFindings, SearchFault>
+) -> Result<Findings, SearchFault>
     requires query { IsQuery network.now query.now }
     requires unlimited { query.now.limit ≡ None }
-    ensures { Answers network.now query.now result }
+    ensures { AnswersToward network.now query.now result }
 {
     counted::<R, G, Brand>(workers, alloc, network, query, Blank::new(1))
 }
@@ -44,13 +44,13 @@ fn counted<R: Threads + Sync, G: Gate, L: Ledger>(
     network: &Network<'_>,
     query: &Query,
     blank: Blank,
-) -> Result<GoalFindings, SearchFault>
+) -> Result<Findings, SearchFault>
     requires query { IsQuery network.now query.now }
     requires unlimited { query.now.limit ≡ None }
     requires name { blank.name ≡ L.name }
     requires parts { blank.parts ≡ L.parts }
     requires some_parts { 0 < L.parts }
-    ensures { Answers network.now query.now result }
+    ensures { AnswersToward network.now query.now result }
 {
     prove!(network.nodes() >= 1);
     let mut steps = Steps::<L>::new(blank);
@@ -66,27 +66,27 @@ fn find_all<R: Threads + Sync, G: Gate, L: Ledger>(
     network: &Network<'_>,
     query: &Query,
     steps: &mut Steps<L>,
-) -> Result<GoalFindings, SearchFault>
+) -> Result<Findings, SearchFault>
     requires query { IsQuery network.now query.now }
     ensures found { IfOk result (λ f. IsAnswer network.now query.now (found_of f)) }
-    ensures in_budget { OnOk result (¬ PassesBudget network.now query.now) }
-    ensures budget { IsErrOf result SearchFault.Budget → PassesBudget network.now query.now }
+    ensures in_budget { OnOk result (¬ IsTooLargeToward network.now query.now) }
+    ensures budget { IsErrOf result SearchFault.Budget → IsTooLargeToward network.now query.now }
 {
     match network.criteria() {
         2 => {
             let started = GoalRounds::new(alloc, network, query);
             let found = find(workers, alloc, network, query, started, steps)?;
-            Ok(GoalFindings::Two(FoundAtWidth::Wide(found)))
+            Ok(Findings::Two(FoundAtWidth::Wide(found)))
         }
         3 => {
             let started = GoalRounds::new(alloc, network, query);
             let found = find(workers, alloc, network, query, started, steps)?;
-            Ok(GoalFindings::Three(FoundAtWidth::Wide(found)))
+            Ok(Findings::Three(FoundAtWidth::Wide(found)))
         }
         _ => {
             let started = GoalRounds::new(alloc, network, query);
             let found = find(workers, alloc, network, query, started, steps)?;
-            Ok(GoalFindings::Four(FoundAtWidth::Wide(found)))
+            Ok(Findings::Four(FoundAtWidth::Wide(found)))
         }
     }
 }
@@ -108,8 +108,8 @@ where
     requires room { 2 ^ 57 ≤ F.Cost.Part.bound }
     requires started { IfOk started (λ r. IsAfter network.now query.now 0 r.core r.bounds) }
     ensures found { IfOk result (IsAnswer network.now query.now) }
-    ensures in_budget { OnOk result (¬ PassesBudget network.now query.now) }
-    ensures budget { IsErrOf result SearchFault.Budget → PassesBudget network.now query.now }
+    ensures in_budget { OnOk result (¬ IsTooLargeToward network.now query.now) }
+    ensures budget { IsErrOf result SearchFault.Budget → IsTooLargeToward network.now query.now }
 {
     prove!(network.nodes() >= 1);
     prove!(network.criteria() == D);

@@ -1,5 +1,5 @@
 -- Where some spot is open, some spot is next; so each round settles more.
-use Rattle.std.proofs.Common.{◌≡◌, ◌≢◌, ℕ, zero, suc, ◌+◌, ◌<◌, ◌≤◌, List, [], ◌∷◌, ◌++◌, length, sum, inl, inr, ◌⊎◌, ◌↔◌, refl, sym, subst, arith}
+use Rattle.std.proofs.Common.{◌≢◌, ℕ, zero, suc, ◌+◌, ◌<◌, ◌≤◌, List, [], ◌∷◌, ◌++◌, length, sum, inl, inr, ◌⊎◌, ◌↔◌, refl, sym, subst, arith}
 use Rattle.std.specs.Prelude.{AllPairs, Contains}
 use Rattle.std.proofs.lemmas.List.{length-append}
 use Rattle.list_laws.proofs.Members.{in_none}
@@ -7,7 +7,7 @@ use Rattle.list_laws.proofs.OnceLaws.{decidable_both, decidable_not, decidable_s
 use Rattle.cost_vector.specs.Costs.{Dominates}
 use Rattle.cost_vector.proofs.Vectors.{cases_Dominates, sum-Dominates}
 use Rattle.bulk_rounds.specs.Begins.{FindsNone, SomeOpen, TakesNext}
-use Rattle.bulk_rounds.specs.Cores.{Core, IsSettledIn, IsSpent, Spot}
+use Rattle.bulk_rounds.specs.Cores.{Core, IsSpent, Spot}
 use Rattle.bulk_rounds.specs.Taking.{CountsSettled, IsNextIn, IsOpenIn, ListsNext}
 use Rattle.bulk_rounds.proofs.KeptLemmas.{next_unsettled, one_count}
 use Rattle.bulk_rounds.proofs.SpentLemmas.{ascending_once, decidable_spent}

@@ -1,4 +1,4 @@
-ghost use Rattle.std.specs.Prelude.{◌≡◌, ◌<◌, ◌≤◌, ◌↔◌, ℕ, Some, length, map, slice_get, slice_index, Contains, IsTrue, IfSome};
+ghost use Rattle.std.specs.Prelude.{◌≡◌, ◌<◌, ◌≤◌, ◌↔◌, ℕ, None, Some, length, map, slice_get, slice_index, Contains, IsTrue, IfSome};
 ghost use Rattle.cert_rules.specs.Certificates.{IsBeaten};
 ghost use Rattle.road_network.specs.Network.{IsNode};
 ghost use Rattle.front_cert.specs.Listing.{AreKept, IsListingOf, line_of};
@@ -124,6 +124,24 @@ impl Listing {
     {
         let place = place_by(&self.labels, &self.offsets, node, cost);
         arc_at(&self.labels, place, node, cost)
+    }
+
+    /// The same, and where there is none, whether a listed cost of the node dominates this one.
+    pub(crate) fn look(&self, node: NodeNo, cost: &Cost) -> (Option<ArcNo>, bool)
+        requires { length cost.now ≡ self.now.criteria }
+        ensures found { (arc : ArcNo) → (result.0 ≡ Some arc) ↔ Contains self.now.cert.labels
+            (record { node = node.0; cost = cost.now; arc = arc.0 }) }
+        ensures beaten { result.0 ≡ None
+            → (IsTrue result.1 ↔ IsBeaten self.now.cert.labels node.0 cost.now) }
+    {
+        let place = place_by(&self.labels, &self.offsets, node, cost);
+        match arc_at(&self.labels, place, node, cost) {
+            Some(arc) => (Some(arc), false),
+            None => (
+                None,
+                is_beaten_at(&self.labels, &self.corners, place, node, cost),
+            ),
+        }
     }
 
     /// Whether a listed cost of the node dominates this one.

@@ -193,21 +193,23 @@ impl Listing {
         let weight = network.weight(arc)?;
         let sum = label.cost.plus(&weight);
         let head = network.head(arc);
-        match self.find(head, &sum) {
+        let (found, is_beaten) = self.look(head, &sum);
+        match found {
             Some(listed) if listed.0 > arc.0 => Some(Rule::LeastArc),
             Some(_) => None,
-            None if self.is_useless(head, &sum) => None,
+            None if self.is_useless(head, is_beaten, &sum) => None,
             None => Some(Rule::Departure),
         }
     }
 
-    /// Whether a listed cost of the node or of the target dominates this one.
-    fn is_useless(&self, node: NodeNo, cost: &Cost) -> bool
-        requires { length cost.now ≡ self.now.criteria }
+    /// Whether a listed cost of the node or of the target dominates this one, of which is known whether one of the node does.
+    fn is_useless(&self, node: NodeNo, is_beaten: bool, cost: &Cost) -> bool
+        requires known { IsTrue is_beaten ↔ IsBeaten self.now.cert.labels node.0 cost.now }
+        requires whole { length cost.now ≡ self.now.criteria }
         ensures { IsTrue result ↔ (IsBeaten self.now.cert.labels node.0 cost.now
             ⊎ IsBeaten self.now.cert.labels self.now.cert.target cost.now) }
     {
-        self.is_beaten(node, cost) || self.is_beaten(self.target, cost)
+        is_beaten || self.is_beaten(self.target, cost)
     }
 }
 

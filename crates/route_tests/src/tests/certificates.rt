@@ -175,10 +175,76 @@ fn equal_rows() -> &'static [Row] {
     EQUAL
 }
 
+/// Six nodes, and from each to the next one arcs with (2^i, 0, 1) and (0, 2^i, 1): to node k lead 2^(k - 1) walks, and no cost of
+/// these dominates another. So there are 63 labels, which make blocks.
+const PAIRED: &[(&str, &str)] = &[
+    ("X.gr", PAIRED_FIRST),
+    ("Y.gr", PAIRED_SECOND),
+    ("Z.gr", PAIRED_THIRD),
+    ("C", PAIRED_CERT),
+];
+
+const PAIRED_FIRST: &str =
+    "p sp 6 10\na 1 2 1\na 1 2 0\na 2 3 2\na 2 3 0\na 3 4 4\na 3 4 0\na 4 5 8\na 4 5 0\na 5 6 16\n\
+a 5 6 0\n";
+
+const PAIRED_SECOND: &str =
+    "p sp 6 10\na 1 2 0\na 1 2 1\na 2 3 0\na 2 3 2\na 3 4 0\na 3 4 4\na 4 5 0\na 4 5 8\na 5 6 0\n\
+a 5 6 16\n";
+
+const PAIRED_THIRD: &str =
+    "p sp 6 10\na 1 2 1\na 1 2 1\na 2 3 1\na 2 3 1\na 3 4 1\na 3 4 1\na 4 5 1\na 4 5 1\na 5 6 1\n\
+a 5 6 1\n";
+
+const PAIRED_CERT: &str =
+    "z 3 1 6 63\nb 1 0 0 0 0\nb 2 2 0 1 1\nb 2 1 1 0 1\nb 3 4 0 3 2\nb 3 4 1 2 2\nb 3 3 2 1 2\n\
+b 3 3 3 0 2\nb 4 6 0 7 3\nb 4 6 1 6 3\nb 4 6 2 5 3\nb 4 6 3 4 3\nb 4 5 4 3 3\nb 4 5 5 2 3\n\
+b 4 5 6 1 3\nb 4 5 7 0 3\nb 5 8 0 15 4\nb 5 8 1 14 4\nb 5 8 2 13 4\nb 5 8 3 12 4\nb 5 8 4 11 4\n\
+b 5 8 5 10 4\nb 5 8 6 9 4\nb 5 8 7 8 4\nb 5 7 8 7 4\nb 5 7 9 6 4\nb 5 7 10 5 4\nb 5 7 11 4 4\n\
+b 5 7 12 3 4\nb 5 7 13 2 4\nb 5 7 14 1 4\nb 5 7 15 0 4\nb 6 10 0 31 5\nb 6 10 1 30 5\n\
+b 6 10 2 29 5\nb 6 10 3 28 5\nb 6 10 4 27 5\nb 6 10 5 26 5\nb 6 10 6 25 5\nb 6 10 7 24 5\n\
+b 6 10 8 23 5\nb 6 10 9 22 5\nb 6 10 10 21 5\nb 6 10 11 20 5\nb 6 10 12 19 5\nb 6 10 13 18 5\n\
+b 6 10 14 17 5\nb 6 10 15 16 5\nb 6 9 16 15 5\nb 6 9 17 14 5\nb 6 9 18 13 5\nb 6 9 19 12 5\n\
+b 6 9 20 11 5\nb 6 9 21 10 5\nb 6 9 22 9 5\nb 6 9 23 8 5\nb 6 9 24 7 5\nb 6 9 25 6 5\n\
+b 6 9 26 5 5\nb 6 9 27 4 5\nb 6 9 28 3 5\nb 6 9 29 2 5\nb 6 9 30 1 5\nb 6 9 31 0 5\n";
+
+const PAIRED_ANSWER: &str =
+    "r 0 1 6 32\np 0 31 5 5 2 4 6 8 10\np 1 30 5 5 1 4 6 8 10\np 2 29 5 5 2 3 6 8 10\n\
+p 3 28 5 5 1 3 6 8 10\np 4 27 5 5 2 4 5 8 10\np 5 26 5 5 1 4 5 8 10\np 6 25 5 5 2 3 5 8 10\n\
+p 7 24 5 5 1 3 5 8 10\np 8 23 5 5 2 4 6 7 10\np 9 22 5 5 1 4 6 7 10\np 10 21 5 5 2 3 6 7 10\n\
+p 11 20 5 5 1 3 6 7 10\np 12 19 5 5 2 4 5 7 10\np 13 18 5 5 1 4 5 7 10\np 14 17 5 5 2 3 5 7 10\n\
+p 15 16 5 5 1 3 5 7 10\np 16 15 5 5 2 4 6 8 9\np 17 14 5 5 1 4 6 8 9\np 18 13 5 5 2 3 6 8 9\n\
+p 19 12 5 5 1 3 6 8 9\np 20 11 5 5 2 4 5 8 9\np 21 10 5 5 1 4 5 8 9\np 22 9 5 5 2 3 5 8 9\n\
+p 23 8 5 5 1 3 5 8 9\np 24 7 5 5 2 4 6 7 9\np 25 6 5 5 1 4 6 7 9\np 26 5 5 5 2 3 6 7 9\n\
+p 27 4 5 5 1 3 6 7 9\np 28 3 5 5 2 4 5 7 9\np 29 2 5 5 1 4 5 7 9\np 30 1 5 5 2 3 5 7 9\n\
+p 31 0 5 5 1 3 5 7 9\n";
+
+/// Certificates of so many labels that they are looked at by blocks.
+const LARGE: &[Row] = &[
+    Row {
+        words: "prove --from 1 --to 6 X.gr Y.gr Z.gr",
+        files: PAIRED,
+        status: 0,
+        out: PAIRED_CERT,
+        err: "",
+    },
+    Row {
+        words: "verify --cert C X.gr Y.gr Z.gr",
+        files: PAIRED,
+        status: 0,
+        out: PAIRED_ANSWER,
+        err: "",
+    },
+];
+
+fn large_rows() -> &'static [Row] {
+    LARGE
+}
+
 /// The tables of these rows. The proof of a function takes in each table that it names, at a cost that grows with the
 /// square of its rows: so a table is short, and one function alone names it.
-pub(super) fn tables() -> [&'static [Row]; 3] {
-    [written_rows(), earlier_rows(), equal_rows()]
+pub(super) fn tables() -> [&'static [Row]; 4] {
+    [written_rows(), earlier_rows(), equal_rows(), large_rows()]
 }
 
 /// Certificates over the six arcs at which a rule fails, and which at which label.
@@ -213,6 +279,11 @@ const FAILING: &[(&str, &str)] = &[
         "rule 4 label 2",
     ),
     ("z 2 1 3 2\nb 1 0 0 0\nb 3 2 2 1\n", "rule 3 label 1"),
+    // A component of 2^58 may be listed.
+    (
+        "z 2 1 4 2\nb 1 0 0 0\nb 2 1 288230376151711744 4\n",
+        "rule 3 label 1",
+    ),
 ];
 
 fn failing() -> &'static [(&'static str, &'static str)] {

@@ -21,8 +21,17 @@ head-head-requires-clause-counted c = (of_out_arcs c.args.network.now c.args.lab
 pub head-head-requires-clause-there : goal.head-head-requires-clause-there
 head-head-requires-clause-there c = (of_out_arcs c.args.network.now c.args.label.now.node.0 c.args.arc c.requires.leads).1
 
-pub is_useless-requires : goal.is_useless-requires
-is_useless-requires c =
+pub is_useless-requires-clause-known : goal.is_useless-requires-clause-known
+is_useless-requires-clause-known c = c.look-found.ensures.beaten c.in-None.is
+
+pub is_useless-requires-clause-whole : goal.is_useless-requires-clause-whole
+is_useless-requires-clause-whole c =
+    ap length c.plus-sum.ensures
+    ∙ length-plus c.args.label.now.cost c.in_ok-weight.weight (c.requires.line.cost ∙ sym c.in_ok-weight.ensures.vector.whole)
+    ∙ c.requires.line.cost ∙ sym c.requires.of.criteria
+
+pub look-found-requires : goal.look-found-requires
+look-found-requires c =
     ap length c.plus-sum.ensures
     ∙ length-plus c.args.label.now.cost c.in_ok-weight.weight (c.requires.line.cost ∙ sym c.in_ok-weight.ensures.vector.whole)
     ∙ c.requires.line.cost ∙ sym c.requires.of.criteria
@@ -33,7 +42,7 @@ returns-in-Some c =
     let labels = c.args.self.now.cert.labels in
     tells_later c.args.network.now c.args.self.now.cert (line_of c.args.label.now) c.args.arc c.in_ok-weight.weight out.0 out.1 out.2
     (sym c.weight.ensures.state ∙ c.in_ok-weight.was) c.in-Some.listed
-    (subst₂ (λ v s. Finds labels v s (Some c.in-Some.listed)) c.head-head.ensures c.plus-sum.ensures c.in-Some.ensures) c.if-listed-arc.true
+    (subst₂ (λ v s. Finds labels v s (Some c.in-Some.listed)) c.head-head.ensures c.plus-sum.ensures (rw c.in-Some.is at c.look-found.ensures.found)) c.if-listed-arc.true
 
 pub returns-in-Some-2 : goal.returns-in-Some-2
 returns-in-Some-2 c =
@@ -41,7 +50,7 @@ returns-in-Some-2 c =
     let labels = c.args.self.now.cert.labels in
     tells_listed c.args.network.now c.args.self.now.cert (line_of c.args.label.now) c.args.arc c.in_ok-weight.weight out.0 out.1 out.2
     (sym c.weight.ensures.state ∙ c.in_ok-weight.was) c.in-Some.listed
-    (subst₂ (λ v s. Finds labels v s (Some c.in-Some.listed)) c.head-head.ensures c.plus-sum.ensures c.in-Some.ensures) (λ above. omega (arith, above, c.if-listed-arc.false))
+    (subst₂ (λ v s. Finds labels v s (Some c.in-Some.listed)) c.head-head.ensures c.plus-sum.ensures (rw c.in-Some.is at c.look-found.ensures.found)) (λ above. omega (arith, above, c.if-listed-arc.false))
 
 pub returns-in-None : goal.returns-in-None
 returns-in-None c =
@@ -49,7 +58,7 @@ returns-in-None c =
     let labels = c.args.self.now.cert.labels in
     tells_beaten c.args.network.now c.args.self.now.cert (line_of c.args.label.now) c.args.arc c.in_ok-weight.weight out.0 out.1 out.2
     (sym c.weight.ensures.state ∙ c.in_ok-weight.was)
-    (subst₂ (λ v s. Finds labels v s None) c.head-head.ensures c.plus-sum.ensures c.in-None.ensures)
+    (subst₂ (λ v s. Finds labels v s None) c.head-head.ensures c.plus-sum.ensures (rw c.in-None.is at c.look-found.ensures.found))
     (subst₂ (λ v s. IsBeaten labels v s ⊎ IsBeaten labels c.args.self.now.cert.target s) c.head-head.ensures c.plus-sum.ensures (c.is_useless.ensures.0 c.if-is_useless.true))
 
 pub returns-in-None-2 : goal.returns-in-None-2
@@ -58,7 +67,7 @@ returns-in-None-2 c =
     let labels = c.args.self.now.cert.labels in
     tells_astray c.args.network.now c.args.self.now.cert (line_of c.args.label.now) c.args.arc c.in_ok-weight.weight out.0 out.1 out.2
     (sym c.weight.ensures.state ∙ c.in_ok-weight.was)
-    (subst₂ (λ v s. Finds labels v s None) c.head-head.ensures c.plus-sum.ensures c.in-None.ensures)
+    (subst₂ (λ v s. Finds labels v s None) c.head-head.ensures c.plus-sum.ensures (rw c.in-None.is at c.look-found.ensures.found))
     (λ beaten.
     let back = subst₂ (λ v s. IsBeaten labels v s ⊎ IsBeaten labels c.args.self.now.cert.target s) (sym c.head-head.ensures) (sym c.plus-sum.ensures) beaten in
     let holds = c.is_useless.ensures.1 back in

@@ -58,6 +58,18 @@ firsts_rise f xs s = λ i j d up within. elim (cases_lt i j) [
   | inr same ↦ let e : i ≡ j = omega arith in rw e (omega arith)
 ]
 
+-- what some cost is at most isn't less than the first one in the first component
+pub covered_is_up_to : {X : Type 0} (f : X → List ℕ) (xs : List X) → IsStaircase (map f xs) → (x : X) → Some x ≡ slice_get xs 0 → (c : List ℕ)
+    → IsCovered (map f xs) c → first (f x) ≤ first c
+covered_is_up_to f xs s x is c h =
+    let k = h.contains.0 in
+    let inside : k < length xs = omega (arith, h.contains.1, length-map xs f) in
+    let at : get_or (map f xs) k [] ≡ f (get_or xs k x) = get_or-map f xs k x [] inside in
+    let same : get_or (map f xs) k [] ≡ h.by = get_or_default (map f xs) k [] h.by h.contains.1 ∙ h.contains.2 in
+    let below = first_at_most (get_or (map f xs) k []) c (s.components k [] h.contains.1) (subst (λ b. AtMost b c) (sym same) h.at_most) in
+    let least : get_or xs 0 x ≡ x = get_or_from_slice_get xs 0 x x (sym is) in
+    omega (arith, rw at at below, rw least at (firsts_rise f xs s 0 k x (omega arith) inside))
+
 module _ {X : Type 0} (f : X → List ℕ) (xs : List X) (s : IsStaircase (map f xs)) (x : X) (t : ℕ) where
   -- no first component is at most one that is less than the least
   pub none_up_to : Some x ≡ slice_get xs 0 → t < first (f x) → IsUpTo (map f xs) t 0

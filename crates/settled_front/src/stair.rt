@@ -1,4 +1,5 @@
-ghost use Rattle.std.specs.Prelude.{◌≡◌, ◌<◌, length, map};
+ghost use Rattle.std.specs.Prelude.{◌≡◌, ◌<◌, ◌≤◌, ◌↔◌, length, map, IsTrue};
+ghost use Rattle.settled_front.specs.Fronts.{IsCovered};
 ghost use Rattle.settled_front.specs.Staircase.{IsStaircase, IsUpTo, first};
 
 use crate::front::{NarrowFront, SettledFront};
@@ -10,20 +11,25 @@ use stored_cost::{NarrowCost, Part, StoredCost, WideCost};
 
 /// The settled costs of a node under 2 criteria, in ascending order of their first components, so that the second ones
 /// descend: of those whose first component is small enough the last one decides.
+///
+/// Mostly the first one tells: it is at most another cost, or exceeds its first component, and so do all. So it stands beside the
+/// list too, where it is read without another access to memory.
 #[derive(Drop)]
 pub struct StairFront<C: StoredCost<2>> {
     costs: Vec<C>,
+    first: Option<C>,
 }
 
 impl<C: StoredCost<2>> Model for StairFront<C> {
-    ghost use Rattle.std.specs.Prelude.{ℕ, List, map};
+    ghost use Rattle.std.specs.Prelude.{◌≡◌, ℕ, List, map, slice_get};
     ghost use Rattle.settled_front.specs.Staircase.{IsStaircase};
 
     ghost Value = { List (List ℕ) };
 
     ghost view = { λ f. map C.components f.costs.items };
 
-    ghost invariant = { λ f. IsStaircase (map C.components f.costs.items) };
+    ghost invariant = { λ f. IsStaircase (map C.components f.costs.items)
+        × (f.first ≡ slice_get f.costs.items 0) };
 }
 
 impl<C: StoredCost<2>> SettledFront<2> for StairFront<C> {
@@ -34,6 +40,7 @@ impl<C: StoredCost<2>> SettledFront<2> for StairFront<C> {
     fn new(alloc: Global) -> StairFront<C> {
         StairFront {
             costs: Vec::new(alloc),
+            first: None,
         }
     }
 
@@ -42,13 +49,16 @@ impl<C: StoredCost<2>> SettledFront<2> for StairFront<C> {
     }
 
     fn covers(&self, cost: &C) -> bool {
-        let place = up_to(&self.costs, cost);
-        place > 0 && self.costs[place - 1].at_most(cost)
+        let Some(first) = &self.first else {
+            return false;
+        };
+        first.at_most(cost) || (is_up_to(first, cost) && stairs_cover(&self.costs, cost))
     }
 
     fn push(&mut self, cost: &C) -> Result<(), OutOfMemory> {
         let place = up_to(&self.costs, cost);
         self.costs.insert(place, *cost)?;
+        self.first = self.costs.first().copied();
         Ok(())
     }
 
@@ -59,6 +69,22 @@ impl<C: StoredCost<2>> SettledFront<2> for StairFront<C> {
         }
         Ok(list)
     }
+}
+
+/// Whether the cost's first component isn't greater than the other's.
+fn is_up_to<C: StoredCost<2>>(cost: &C, other: &C) -> bool
+    ensures { IsTrue result ↔ (first (C.components cost.now) ≤ first (C.components other.now)) }
+{
+    cost.part(0).to_number() <= other.part(0).to_number()
+}
+
+/// Whether some cost is at most this one: the last of those whose first component isn't greater decides.
+fn stairs_cover<C: StoredCost<2>>(costs: &[C], cost: &C) -> bool
+    requires { IsStaircase (map C.components costs.now) }
+    ensures { IsTrue result ↔ IsCovered (map C.components costs.now) (C.components cost.now) }
+{
+    let place = up_to(costs, cost);
+    place > 0 && costs[place - 1].at_most(cost)
 }
 
 /// How many costs have a first component that isn't greater. It is often none, as at the target, or all.
@@ -106,6 +132,7 @@ impl NarrowFront<2> for StairFront<NarrowCost<2>> {
         for cost in &self.costs {
             costs.push(WideCost::of(&cost.to_compact().0))?;
         }
-        Ok(StairFront { costs })
+        let first = costs.first().copied();
+        Ok(StairFront { costs, first })
     }
 }

@@ -1,14 +1,13 @@
 -- The order of spots, and lists in this order.
-use Rattle.std.proofs.Common.{◌≡◌, ℕ, length-take-le, ◌+◌, ◌-◌, ◌*◌, ◌/◌, ◌<◌, ◌≤◌, Bool, true, false, List, take, drop, get_or, length, map, length-take, length-drop, ◌⊎◌, ◌↔◌, inl, inr, refl, sym, ap, ap₂, subst, ◌∙◌, arith, Less, Equal, Greater}
+use Rattle.std.proofs.Common.{◌≡◌, ℕ, ◌+◌, ◌-◌, ◌*◌, ◌/◌, ◌<◌, ◌≤◌, Bool, true, false, List, take, drop, get_or, length, map, length-take, length-drop, ◌⊎◌, ◌↔◌, inl, inr, refl, sym, ap, ap₂, subst, ◌∙◌, arith, Less, Equal, Greater}
 use Rattle.std.specs.declared.cmp.Ordering.{Ordering}
 use Rattle.std.specs.Ordering.{nat_cmp, ordering_then, ordering_reverse, is_lt, is_eq}
 use Rattle.std.specs.Cmp.{IsTotalOrder, nat_cmp_total}
 use Rattle.std.specs.Cmp.Lexicographic.{nat_list_cmp_total}
 use Rattle.std.specs.Prelude.{All, AllPairs, IsTrue}
 use Rattle.std.specs.List.Sorted.{IsSorted}
-use Rattle.std.proofs.Math.Nat.{add-zero}
 use Rattle.std.proofs.lemmas.Bool.{false≢true, cases_lt}
-use Rattle.std.proofs.lemmas.List.{take-take, get_or-map, get_or-take, get_or-drop, get_or_default, length-map}
+use Rattle.std.proofs.lemmas.List.{get_or-map, get_or-take, get_or-drop, get_or_default, length-map}
 use Rattle.std.proofs.lemmas.List.Sorted.{sorted_far, ranks_by}
 use Rattle.std.proofs.lemmas.Bool.Decides.{nat_tests}
 use Rattle.std.proofs.lemmas.Cmp.{tied_itself, then_total, on_total}
@@ -16,8 +15,6 @@ use Rattle.cost_vector.specs.Costs.{LexLess, lex_cmp}
 use Rattle.cost_vector.proofs.Vectors.{same_from_lex_cmp}
 use Rattle.list_laws.proofs.Pairs.{pairs_map}
 use Rattle.waiting_queue.specs.declared.item.Item.{Item}
-use Rattle.waiting_queue.specs.Passing.{IsSplit}
-use Rattle.waiting_queue.specs.Shadows.{SplitsAt}
 use Rattle.waiting_queue.specs.Taking.{AreSorted}
 use Rattle.waiting_queue.specs.Waiting.{Spot, SpotLess, spot_cmp, spot_in}
 
@@ -147,11 +144,6 @@ module _ {X : Type 0} (P Q : X → Type 0) (xs : List X) where
       let short : m + k < length xs = omega (arith, length-drop m xs, inside) in
       subst Q (get_or_default xs (m + k) d e short ∙ sym (get_or-drop m xs k e)) (last m (m + k) (omega arith) short holds)
 
-  -- the search has ended
-  pub splits_at : (i j : ℕ) → j ≤ i → i ≤ j → i ≤ length xs → All P (take i xs) → All Q (drop j xs) → SplitsAt P Q xs i
-  splits_at i j low high within before after =
-      let same : j ≡ i = omega arith in record { within = within; before = before; after = subst (λ n. All Q (drop n xs)) same after }
-
 -- Only so many elements from the start on are left to search: P holds of those before, and Q of those behind.
 pub record IsLeft {X : Type 0} (P Q : X → Type 0) (xs : List X) (start size : ℕ) : Type 0 where
   pub within : start + size ≤ length xs
@@ -219,25 +211,6 @@ module _ {C : Type 0} (components : C → List ℕ) (xs : List (Item C)) (sorted
         ]
         | inr same ↦ let e : j ≡ i = omega arith in subst (λ k. SpotLess (spot_in components (get_or xs k d)) s) e less
       ]
-
-  -- where the first items split before their end, all do
-  pub split_by_near : (n i : ℕ) → IsSplit (spot_in components) (take n xs) s i → i < length (take n xs) → IsSplit (spot_in components) xs s i
-  split_by_near n i near inside = record {
-    within = omega (arith, inside, length-take-le n xs, length-take n xs);
-    before = subst (All (λ x. SpotLess (spot_in components x) s)) (take-take i n xs (omega (arith, inside, length-take n xs))) near.before;
-    after = λ k d short less.
-        let within_too : i + k < length xs = omega (arith, short, length-drop i xs) in
-        first_not_less d (lesser_first i (i + k) d (omega arith) within_too (subst (λ y. SpotLess (spot_in components y) s) (get_or-drop i xs k d) less));
-  }
-    where
-      in_near : i < n
-      in_near = omega (arith, inside, length-take n xs)
-
-      first_not_less : (d : Item C) → ¬ SpotLess (spot_in components (get_or xs i d)) s
-      first_not_less d less =
-          near.after 0 d (omega (arith, inside, length-drop i (take n xs)))
-          (subst (λ y. SpotLess (spot_in components y) s)
-          (sym (get_or-drop i (take n xs) 0 d ∙ ap (λ j. get_or (take n xs) j d) (add-zero i) ∙ get_or-take n xs i d in_near)) less)
 
 -- where two lists are seen as the same ones, what holds of any two of the one holds of any two of the other
 pub pairs_as : {X Y Z : Type 0} (f : X → Z) (g : Y → Z) (R : Z → Z → Type 0) (xs : List X) (ys : List Y) → map g ys ≡ map f xs

@@ -7,8 +7,8 @@ use crate::Item;
 use out_of_memory::OutOfMemory;
 use stored_cost::StoredCost;
 
-/// So many items are searched before all are.
-const NEAR: usize = 64;
+/// How many items are gone by at once, where the last of them comes before the one whose place is sought.
+const STEP: usize = 16;
 
 /// Whether both have one cost and one node.
 pub(crate) fn is_same_spot<const D: usize, C: StoredCost<D>>(a: &Item<C>, b: &Item<C>) -> bool
@@ -35,7 +35,8 @@ pub(crate) fn is_last<const D: usize, C: StoredCost<D>>(items: &[Item<C>], item:
     }
 }
 
-/// How many of the items come before this one. It is found sooner where they are few.
+/// How many of the items come before this one. They are gone through, as whoever passes them does anyway, but most by steps: so
+/// only two comparisons, one that ends each loop, can't be foreseen.
 pub(crate) fn count_before<const D: usize, C: StoredCost<D>>(
     items: &[Item<C>],
     item: &Item<C>,
@@ -43,31 +44,14 @@ pub(crate) fn count_before<const D: usize, C: StoredCost<D>>(
     requires { AreSorted (spot_in C.components) items.now }
     ensures { IsSplit (spot_in C.components) items.now (spot_in C.components item.now) result }
 {
-    let (near, _) = items.split_at(items.len().min(NEAR));
-    let count = search_before(near, item);
-    if count < near.len() {
-        count
-    } else {
-        search_before(items, item)
+    let mut count = 0;
+    while STEP <= items.len() - count && is_before(&items[count + STEP - 1], item) {
+        count += STEP;
     }
-}
-
-/// How many of the items come before this one.
-fn search_before<const D: usize, C: StoredCost<D>>(items: &[Item<C>], item: &Item<C>) -> usize
-    requires { AreSorted (spot_in C.components) items.now }
-    ensures { IsSplit (spot_in C.components) items.now (spot_in C.components item.now) result }
-{
-    let mut low = 0;
-    let mut high = items.len();
-    while low < high {
-        let middle = low + (high - low) / 2;
-        if is_before(&items[middle], item) {
-            low = middle + 1;
-        } else {
-            high = middle;
-        }
+    while count < items.len() && is_before(&items[count], item) {
+        count += 1;
     }
-    low
+    count
 }
 
 /// Lists the items of both lists in order. What the list held before is gone.

@@ -1,6 +1,6 @@
 use Rattle.std.proofs.Common.{◌≡◌, ◌∷◌, map, subst, sym, ap, ◌∙◌}
 use Rattle.std.specs.Prelude.{IsPermutation}
-use Rattle.std.specs.List.{insert}
+use Rattle.std.specs.List.{insert, slice_get}
 use Rattle.std.proofs.lemmas.List.Sorted.{IsPermutation-insert}
 use Rattle.settled_front.specs.Staircase.{IsStaircase}
 use Rattle.settled_front.proofs.Stairs.{stairs_grow}
@@ -14,9 +14,11 @@ invariant_of-self-2 g c =
     let cost = f c.args.cost.now in
     let place = c.up_to-place.result in
     let same : map f c.insert.new.self.items ≡ insert (map f list) place cost =
-    ap (map f) c.in_ok-insert.ensures.items ∙ map-insert f list place c.args.cost.now in
-    subst IsStaircase (sym same) (stairs_grow c.self.invariant cost c.up_to-place.ensures.long place
-    (rw c.deref.ensures.value at c.up_to-place.ensures.cut) (rw (← c.self.view_is) at c.requires.uncovered) (rw (← c.self.view_is) at c.requires.spares))
+    ap (map f) c.in_ok-insert.ensures.items ∙ map-insert f list place c.args.cost.now in (
+      subst IsStaircase (sym same) (stairs_grow c.self.invariant.0 cost c.up_to-place.ensures.long place
+          (rw c.deref.ensures.value at c.up_to-place.ensures.cut) (rw (← c.self.view_is) at c.requires.uncovered) (rw (← c.self.view_is) at c.requires.spares)),
+      c.copied-self-inside.ensures ∙ c.first.ensures.value ∙ ap (λ items. slice_get items 0) c.deref-2.ensures.value,
+    )
 
 pub returns-clause-pushed : goal.returns-clause-pushed
 returns-clause-pushed g c =

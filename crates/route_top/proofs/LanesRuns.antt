@@ -1,7 +1,7 @@
 -- Runs of the command `lanes`.
 use Rattle.std.proofs.Common.{◌≡◌, ◌≤◌, ℕ, List, [], ◌∷◌, ◌++◌, length, map, false, refl, subst, arith, Ok, Err}
 use Rattle.std.specs.Prelude.{◌==◌, All, Option}
-use Rattle.std.proofs.lemmas.List.Elements.{All-cons, All-nil, All-tail}
+use Rattle.std.proofs.lemmas.List.Elements.{All-cons, All-head, All-nil, All-tail}
 use Rattle.std.specs.List.{AllZip}
 use Rattle.road_network.specs.Network.{Network}
 use Rattle.route_io.specs.declared.fault.WriteFault.{WriteFault}
@@ -23,6 +23,11 @@ pub of_scripts : (P : List ℕ → Type 0) (files scripts : List (List ℕ)) →
 of_scripts P [] scripts all = all
 of_scripts P (file ∷ files) scripts all = of_scripts P files scripts (All-tail P file (files ++ scripts) all)
 
+-- and of the first of two lists
+pub of_front : (P : List ℕ → Type 0) (names more : List (List ℕ)) → All P (names ++ more) → All P names
+of_front P [] more all = All-nil P
+of_front P (name ∷ names) more all = All-cons P name names (All-head P name (names ++ more) all) (of_front P names more (All-tail P name (names ++ more) all))
+
 module _ {L : Type 0} (script_of : L → List ℕ) (files : Option FileMap) where
   -- each script is short enough
   pub all_short : (names : List (List ℕ)) (links : List L) → AllZip (SaysScript files) names (map script_of links)
@@ -39,7 +44,7 @@ module _ {L : Type 0} (script_of : L → List ℕ) (files : Option FileMap) wher
   count_links (name ∷ names) [] says = absurd says
   count_links (name ∷ names) (link ∷ links) says = omega (arith, count_links names links says.1)
 
-script_leaves_out : {files : Option FileMap} {name : List ℕ} {outcome : Outcome} → ScriptStop files name outcome → LeavesOut outcome
+pub script_leaves_out : {files : Option FileMap} {name : List ℕ} {outcome : Outcome} → ScriptStop files name outcome → LeavesOut outcome
 script_leaves_out failed = record { no_fault = refl; no_want = refl }
 script_leaves_out (too_long exchanges) = record { no_fault = refl; no_want = refl }
 script_leaves_out starved = record { no_fault = refl; no_want = refl }

@@ -15,3 +15,9 @@ pub mod CountLemmas
 mod ServedScripts
 mod LanesRuns
 pub mod ServeLemmas
+pub mod NumberedFiles
+pub mod FeedLines
+pub mod FollowFeeds
+pub mod FollowedScripts
+pub mod FollowRuns
+mod LeaderFeeds

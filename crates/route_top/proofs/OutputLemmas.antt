@@ -4,7 +4,7 @@ use Rattle.std.specs.Prelude.{Option, Some, None, MatchOption}
 use Rattle.route_io.specs.Files.{FileMap}
 use Rattle.route_io.specs.Sinks.{SinkState}
 use Rattle.route_io.specs.Sources.{SourceState}
-use Rattle.command_words.specs.Words.{AreWords, Asked, Asks, GenAsked, LanesAsked, NamesWaiting, ServeAsked, batch, check, generate, goal, lanes, prove, serve, single, verify}
+use Rattle.command_words.specs.Words.{AreWords, Asked, Asks, FollowAsked, GenAsked, LanesAsked, NamesWaiting, ServeAsked, batch, check, follow, generate, goal, lanes, prove, serve, single, take, verify, write}
 use Rattle.command_words.proofs.StillLemmas.{named_still}
 use Rattle.route_top.specs.Batch.{pairs_read, pairs_stop}
 use Rattle.route_top.specs.FilesRead.{at_file, stops, goes_on}
@@ -62,6 +62,12 @@ never_bad_words files (prove asked) text (goes_on net read replies) = replies
 never_bad_words files (verify asked) text (stops (at_file name comes stop)) = elim stop [ ]
 never_bad_words files (verify asked) text (goes_on net read (cert_stops stop)) = elim stop [ ]
 never_bad_words files (verify asked) text (goes_on net read (cert_holds cert is says replies)) = replies
+never_bad_words files (follow (write asked)) text (stops (at_file name comes stop)) = elim stop [ ]
+never_bad_words files (follow (write asked)) text (goes_on net read (scripts_stop why)) = elim why.2 [ ]
+never_bad_words files (follow (write asked)) text (goes_on net read (scripts_read scripts says replies)) = replies
+never_bad_words files (follow (take asked)) text (stops (at_file name comes stop)) = elim stop [ ]
+never_bad_words files (follow (take asked)) text (goes_on net read (scripts_stop why)) = elim why.2 [ ]
+never_bad_words files (follow (take asked)) text (goes_on net read (scripts_read scripts says replies)) = replies
 
 is_bad_words : (outcome : Outcome) → status_of outcome ≡ 2 → outcome ≡ bad_words
 is_bad_words bad_words two = refl
@@ -115,6 +121,12 @@ never_town files (prove asked) text other (goes_on net read replies) = replies
 never_town files (verify asked) text other (stops (at_file name comes stop)) = elim stop [ ]
 never_town files (verify asked) text other (goes_on net read (cert_stops stop)) = elim stop [ ]
 never_town files (verify asked) text other (goes_on net read (cert_holds cert is says replies)) = replies
+never_town files (follow (write asked)) text other (stops (at_file name comes stop)) = elim stop [ ]
+never_town files (follow (write asked)) text other (goes_on net read (scripts_stop why)) = elim why.2 [ ]
+never_town files (follow (write asked)) text other (goes_on net read (scripts_read scripts says replies)) = replies
+never_town files (follow (take asked)) text other (stops (at_file name comes stop)) = elim stop [ ]
+never_town files (follow (take asked)) text other (goes_on net read (scripts_stop why)) = elim why.2 [ ]
+never_town files (follow (take asked)) text other (goes_on net read (scripts_read scripts says replies)) = replies
 
 is_town_failed : (outcome : Outcome) → status_of outcome ≡ 10 → outcome ≡ town_failed
 is_town_failed town_failed ten = refl
@@ -149,6 +161,14 @@ never_ten_of_lanes files l {outcome} {text} (uncut ends) = λ ten.
     never_town files (lanes l) text (λ s same. cc) (subst (λ o. Ends files (lanes l) o text) (is_town_failed outcome ten) ends)
 never_ten_of_lanes files l (failed cut) = λ ten. cc
 never_ten_of_lanes files l (wanted cut) = λ ten. cc
+
+-- nor one of `follow`
+pub never_ten_of_follow : (files : Option FileMap) (f : FollowAsked) {outcome : Outcome} {text : List ℕ} → EndsOrCut (Ends files (follow f)) outcome text
+    → status_of outcome ≢ 10
+never_ten_of_follow files f {outcome} {text} (uncut ends) = λ ten.
+    never_town files (follow f) text (λ s same. cc) (subst (λ o. Ends files (follow f) o text) (is_town_failed outcome ten) ends)
+never_ten_of_follow files f (failed cut) = λ ten. cc
+never_ten_of_follow files f (wanted cut) = λ ten. cc
 
 -- what ends a run of words that ask for no command that waits
 module _ (words : List (List ℕ)) (other : ¬ NamesWaiting words) where

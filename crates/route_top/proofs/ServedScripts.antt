@@ -100,7 +100,8 @@ module _ {State : Type 0} (Progresses : State → List Exchange → State → Ty
       absurd (omega (arith, short, takes.begun.0, ap length takes.takes, length-append takes.taken rest))
   has_replied OutOfMemory no_want serves = absurd (no_want refl)
 
-all_of_map : {A B : Type 0} (P : B → Type 0) (f : A → B) (xs : List A) → All P (map f xs) → All (λ x. P (f x)) xs
+-- what holds of what a list is mapped to
+pub all_of_map : {A B : Type 0} (P : B → Type 0) (f : A → B) (xs : List A) → All P (map f xs) → All (λ x. P (f x)) xs
 all_of_map P f [] each = All-nil (λ x. P (f x))
 all_of_map P f (x ∷ xs) each =
     All-cons (λ y. P (f y)) x xs (All-head P (f x) (map f xs) each) (all_of_map P f xs (All-tail P (f x) (map f xs) each))
@@ -167,7 +168,7 @@ module _ {L : Type 0} (script_of : L → List ℕ) (sink_of : L → SureSink) wh
       → RunsLanes g w asked.epoch asked.limits.budget most_taken (map state_of olds) (map state_of news) reports
       → All (λ link. length (script_of link) ≤ max_script) olds → All (λ link. sink_of link ≡ unsent_sink) olds
       → All (λ report. report.end ≢ OutOfMemory) reports → (net : Network) → net ≡ network g w
-      → RepliesToScripts asked net (map script_of olds) (lanes_reply (map (λ link. (sink_of link).sent) news))
+      → RepliesToScripts asked net (map script_of olds) (lanes_reply 0 (map (λ link. (sink_of link).sent) news))
   scripts_exchanged asked g w matched [] news reports runs short unsent no_want net is = let none = runs.links_before in absurd cc
   scripts_exchanged asked g w matched (old ∷ olds) [] reports runs short unsent no_want net is = let none = runs.links_after in absurd cc
   scripts_exchanged asked g w matched (old ∷ olds) (new ∷ news) reports runs short unsent no_want net is =
@@ -195,12 +196,12 @@ module _ {L : Type 0} (script_of : L → List ℕ) (sink_of : L → SureSink) wh
         operator_exchange = record { run = first.runs; lines = first.lines };
         sessions = rest.exchanges;
         sessions_exchange = rest.each;
-        text_is = ap lanes_reply (ap (λ sent. sent ∷ map (λ link. (sink_of link).sent) news) first.sent_is
+        text_is = ap (lanes_reply 0) (ap (λ sent. sent ∷ map (λ link. (sink_of link).sent) news) first.sent_is
             ∙ ap (λ sent. text_exchanged first.exchanges ∷ sent) rest.sent_is);
       })
 
   -- a slice that was lent out of a list, and is as long as it, is the list afterwards
-  lent_back : (n : ℕ) (news items : List L) → n ≡ length items → length news ≡ length items → take n (news ++ drop (length news) items) ≡ news
+  pub lent_back : (n : ℕ) (news items : List L) → n ≡ length items → length news ≡ length items → take n (news ++ drop (length news) items) ≡ news
   lent_back n news items all long =
       ap (λ rest. take n (news ++ rest)) (drop_all (length news) items (omega arith)) ∙ ap (take n) (append-nil news) ∙ take_all n news (omega arith)
 
@@ -210,9 +211,9 @@ module _ {L : Type 0} (script_of : L → List ℕ) (sink_of : L → SureSink) wh
       → RunsLanes g w asked.epoch asked.limits.budget most_taken (map state_of olds) (map state_of news) reports
       → All (λ link. length (script_of link) ≤ max_script) items → All (λ link. sink_of link ≡ unsent_sink) items
       → All (λ report. report.end ≢ OutOfMemory) kept
-      → RepliesToScripts asked (network g w) (map script_of items) (lanes_reply (map (λ link. (sink_of link).sent) after))
+      → RepliesToScripts asked (network g w) (map script_of items) (lanes_reply 0 (map (λ link. (sink_of link).sent) after))
   links_exchanged asked g w matched items olds news after n reports kept same count back same_reports runs short unsent no_want =
-      let Exchange : List L → Type 0 = λ links. RepliesToScripts asked (network g w) (map script_of items) (lanes_reply (map (λ link. (sink_of link).sent) links)) in
+      let Exchange : List L → Type 0 = λ links. RepliesToScripts asked (network g w) (map script_of items) (lanes_reply 0 (map (λ link. (sink_of link).sent) links)) in
       let lanes = runs.operator ∷ runs.sessions in
       let long : length news ≡ length items = omega (
         arith,

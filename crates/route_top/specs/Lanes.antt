@@ -1,6 +1,6 @@
 -- What the command `lanes` does over a network: it reads the scripts in order, and serves all lanes. What is said of a
 -- script's bytes holds where the folder tells its files.
-use Rattle.std.specs.Prelude.{◌≡◌, ◌⊎◌, ℕ, zero, suc, ◌^◌, ◌<◌, ◌≤◌, List, [], ◌∷◌, ◌++◌, Option, codes, length, map, get_or}
+use Rattle.std.specs.Prelude.{◌≡◌, ◌⊎◌, ℕ, zero, suc, ◌+◌, ◌^◌, ◌<◌, ◌≤◌, List, [], ◌∷◌, ◌++◌, Option, codes, length, map, get_or}
 use Rattle.std.specs.List.{AllZip, flat_map, range_with_len}
 use mathlib.Core.List.{IsPrefix}
 use Rattle.route_io.specs.Files.{FileMap}
@@ -78,9 +78,9 @@ abbrev pub heading : ℕ → List ℕ
 heading zero = codes "operator" ++ end_line
 heading (suc n) = codes "lane" ++ and_number (suc n) ++ end_line
 
--- the replies of all lanes, each below its heading, the operator's first
-abbrev pub lanes_reply : List (List ℕ) → List ℕ
-lanes_reply replies = flat_map (λ n. heading n ++ get_or replies n []) (range_with_len 0 (length replies))
+-- the replies of lanes, each below its heading, of which the first has this number
+abbrev pub lanes_reply : ℕ → List (List ℕ) → List ℕ
+lanes_reply first replies = flat_map (λ n. heading (first + n) ++ get_or replies n []) (range_with_len 0 (length replies))
 
 -- the graph of a network
 abbrev pub graph_of : Network → Graph
@@ -105,7 +105,7 @@ pub record RepliesToScripts (asked : LanesAsked) (net : Network) (scripts : List
   pub sessions : List (List Exchange)
   pub sessions_exchange : AllZip (IsSessionExchange (record { graph = graph_of net; origin = origin; budget = asked.limits.budget })
       (closed_history left)) session_scripts sessions
-  pub text_is : text ≡ lanes_reply (map text_exchanged (operator ∷ sessions))
+  pub text_is : text ≡ lanes_reply 0 (map text_exchanged (operator ∷ sessions))
 
 -- all scripts have their replies, unless memory runs out in a lane or before
 abbrev pub LanesReplies : LanesAsked → Network → List (List ℕ) → Outcome → List ℕ → Type 0

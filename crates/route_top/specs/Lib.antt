@@ -12,6 +12,8 @@ pub mod Lanes
 pub mod Serve
 pub mod Prove
 pub mod Verify
+pub mod Follow
+pub mod Followed
 pub mod Output
 pub mod Stops
 pub mod Scripts

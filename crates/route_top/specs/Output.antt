@@ -5,10 +5,11 @@ use Rattle.route_io.specs.Files.{FileMap}
 use Rattle.route_io.specs.Sinks.{SinkState, Sends, WritesTo}
 use Rattle.route_io.specs.Sources.{SourceState, ReadsFrom}
 use Rattle.route_io.specs.declared.fault.WriteFault.{WriteFault}
-use Rattle.command_words.specs.Words.{Asked, Asks, IsStill, batch, check, generate, goal, lanes, names_of, prove, serve, single, verify}
+use Rattle.command_words.specs.Words.{Asked, Asks, IsStill, batch, check, follow, generate, goal, lanes, names_of, prove, serve, single, verify}
 use Rattle.route_top.specs.Batch.{BatchReplies}
 use Rattle.route_top.specs.Check.{CheckReplies}
 use Rattle.route_top.specs.FilesRead.{FilesEnd}
+use Rattle.route_top.specs.Follow.{FollowEnds}
 use Rattle.route_top.specs.Gen.{GenEnds}
 use Rattle.route_top.specs.Goal.{GoalReplies}
 use Rattle.route_top.specs.Lanes.{LanesEnd}
@@ -43,6 +44,7 @@ Ends files (lanes asked) = FilesEnd (LanesEnd files asked) files asked.files
 Ends files (serve asked) = FilesEnd (λ net. ServeReplies asked) files asked.files
 Ends files (prove asked) = FilesEnd (ProveReplies asked.query) files asked.files
 Ends files (verify asked) = FilesEnd (VerifyEnds files asked.cert) files asked.files
+Ends files (follow asked) = FollowEnds files asked
 
 -- the same of a run, by what its words ask for
 pub data EndsByWords (IsAsked : Asked → Type 0) (files : Option FileMap) : Outcome → List ℕ → Type 0 where

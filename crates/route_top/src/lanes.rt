@@ -60,7 +60,7 @@ pub(crate) fn run<'a, R: Threads + Wait + Clock + Sync, G: Gate, F: Folder, K: S
     if has_starved(&reports) {
         return Err(Stop::OutOfMemory);
     }
-    put_lanes(out, &links)?;
+    put_lanes(out, 0, &links)?;
     Ok(())
 }
 
@@ -106,7 +106,7 @@ fn script_at<'a>(asked: &LanesWords<'a>, number: u32) -> Script<'a>
 }
 
 /// A link from which a script is read.
-fn link_of(alloc: Global, bytes: Vec<u8>) -> SureLink
+pub(crate) fn link_of(alloc: Global, bytes: Vec<u8>) -> SureLink
     ensures from { result.from ≡ bytes.items }
     ensures to { result.to ≡ record { sent = []; wants = 0 } }
 {
@@ -124,13 +124,18 @@ fn has_starved(reports: &[LaneReport]) -> bool
         .any(|report| report.end() == SessionEnd::OutOfMemory)
 }
 
-/// Sends the replies of all lanes.
-fn put_lanes<K: Sink>(out: &mut K, links: &[SureLink]) -> Result<(), WriteFault>
+/// Sends the replies of lanes, of which the first has this number: 0 is the operator's.
+pub(crate) fn put_lanes<K: Sink>(
+    out: &mut K,
+    first: usize,
+    links: &[SureLink],
+) -> Result<(), WriteFault>
+    requires first { first ≤ 1 }
     ensures { Sends (K.state out.old) (K.state out.new)
-        (lanes_reply (map (λ l. l.to.sent) links.now)) result }
+        (lanes_reply first (map (λ l. l.to.sent) links.now)) result }
 {
-    for number in 0..links.len() {
-        put_lane(out, number, &links[number])?;
+    for place in 0..links.len() {
+        put_lane(out, first + place, &links[place])?;
     }
     Ok(())
 }

@@ -16,9 +16,11 @@ ghost use Rattle.route_top.specs.Stops.{run_outcome};
 mod batch;
 mod check;
 mod counting;
+mod follow;
 mod generate;
 mod goal;
 mod lanes;
+mod laws;
 mod network;
 mod plan;
 mod prove;
@@ -33,6 +35,7 @@ mod verify;
 
 use command_words::{Command, WordsFault, read_words};
 pub use goal::goal_answers_wherever_one_does;
+pub use laws::{follow_keeps_to_its_leader, written_feeds_come_from_their_script};
 use link_doors::Town;
 use route_io::{Folder, Gate, Sink};
 use status::DONE;
@@ -58,7 +61,7 @@ pub const MAX_FILE_SIZE: u64 = 1 << 29;
 /// | 4 | `out` failed |
 /// | 5 | a weight file has a faulty line |
 /// | 6 | the weight files don't agree |
-/// | 7 | the file of pairs has a faulty line, or a script is too long |
+/// | 7 | the file of pairs has a faulty line, or a script or a feed is too long |
 /// | 8 | an end of the query is no node, or the query passes its budget; a line on `out` says which |
 /// | 9 | memory ran out, in `serve` also where it did so in a link |
 /// | 10 | the town failed, or one of its doors |
@@ -104,8 +107,8 @@ pub fn route<R: Threads + Wait + Clock + Sync, G: Gate, F: Folder, K: Sink, E: S
     )
 }
 
-/// Runs the command that the words ask for, as `route` does, where it is one that waits for nobody: `lanes` and `serve` are
-/// no commands here.
+/// Runs the command that the words ask for, as `route` does, where it is one that waits for nobody: `lanes`, `serve` and
+/// `follow` are no commands here.
 pub fn run_still<R: Threads + Sync, G: Gate, F: Folder, K: Sink, E: Sink>(
     rt: &R,
     alloc: Global,
@@ -155,7 +158,7 @@ fn names_waiting(words: &[String]) -> bool
         return false;
     };
     match name.as_str() {
-        "lanes" | "serve" => true,
+        "lanes" | "serve" | "follow" => true,
         _ => false,
     }
 }
@@ -183,6 +186,7 @@ fn run_waiting<'a, R: Threads + Wait + Clock + Sync, G: Gate, F: Folder, K: Sink
     match read_words(alloc, words) {
         Ok(Command::Lanes(asked)) => lanes::run(rt, alloc, &asked, folder, out, gate),
         Ok(Command::Serve(asked)) => serve::run(rt, alloc, &asked, folder, out, town, gate),
+        Ok(Command::Follow(asked)) => follow::run(rt, alloc, &asked, folder, out, gate),
         Ok(_) => unreachable!(),
         Err(WordsFault::Refused) => Err(Stop::Words),
         Err(WordsFault::OutOfMemory) => Err(Stop::OutOfMemory),
@@ -220,7 +224,7 @@ fn is_still(command: &Command<'_>) -> bool
     ensures { IsTrue result ↔ IsStill (asked_of command.now) }
 {
     match command {
-        Command::Lanes(_) | Command::Serve(_) => false,
+        Command::Lanes(_) | Command::Serve(_) | Command::Follow(_) => false,
         Command::Single(_) | Command::Check(_) | Command::Batch(_) | Command::Gen(_) => true,
         Command::Goal(_) | Command::Prove(_) | Command::Verify(_) => true,
     }
@@ -252,6 +256,6 @@ fn carry_out<'a, R: Threads + Sync, G: Gate, F: Folder, K: Sink>(
         Command::Gen(asked) => generate::run(rt, alloc, asked, out, gate),
         Command::Prove(asked) => prove::run(rt, alloc, asked, folder, out, gate),
         Command::Verify(asked) => verify::run(alloc, asked, folder, out),
-        Command::Lanes(_) | Command::Serve(_) => unreachable!(),
+        Command::Lanes(_) | Command::Serve(_) | Command::Follow(_) => unreachable!(),
     }
 }

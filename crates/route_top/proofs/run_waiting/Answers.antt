@@ -1,11 +1,11 @@
 use Rattle.std.proofs.Common.{refl, subst}
 use Rattle.command_words.specs.declared.Command.{Command}
-use Rattle.command_words.specs.Words.{Asks, asked_of, lanes, lanes_asked, serve, serve_asked, texts_of}
+use Rattle.command_words.specs.Words.{Asks, asked_of, follow, follow_asked, lanes, lanes_asked, serve, serve_asked, texts_of}
 use Rattle.route_top.specs.Outcome.{bad_words}
 use Rattle.route_top.specs.Output.{EndsByWords, no_command, starved}
 use Rattle.route_top.specs.Serve.{left_alone, serves, unread}
 use Rattle.command_words.proofs.AskLemmas.{asks_one}
-use Rattle.route_top.proofs.OutputLemmas.{never_ten_of_lanes, runs_asked}
+use Rattle.route_top.proofs.OutputLemmas.{never_ten_of_follow, never_ten_of_lanes, runs_asked}
 use Rattle.route_top.proofs.RunsLemmas.{nothing_sent, starves, stays}
 use Rattle.route_top.proofs.run_waiting.Goals as goal
 
@@ -30,6 +30,18 @@ pub returns-in-Ok-Serve-clause-town : goal.returns-in-Ok-Serve-clause-town
 returns-in-Ok-Serve-clause-town g c =
     let asks = subst (λ (k : Command). Asks (texts_of c.args.words.now) (asked_of k)) c.in-Ok-Serve.field-0-is c.in-Ok-Serve.ensures.asked in
     serves (serve_asked c.in-Ok-Serve.asked) asks c.run-in-Ok-Serve.ensures.town
+
+pub returns-in-Ok-Follow-clause-runs : goal.returns-in-Ok-Follow-clause-runs
+returns-in-Ok-Follow-clause-runs g c =
+    let asks = subst (λ (k : Command). Asks (texts_of c.args.words.now) (asked_of k)) c.in-Ok-Follow.field-0-is c.in-Ok-Follow.ensures.asked in
+    runs_asked (Asks (texts_of c.args.words.now)) (follow (follow_asked c.in-Ok-Follow.asked)) asks _ _ _ _ _ c.run-in-Ok-Follow.ensures
+
+pub returns-in-Ok-Follow-clause-town : goal.returns-in-Ok-Follow-clause-town
+returns-in-Ok-Follow-clause-town g c =
+    let words = texts_of c.args.words.now in
+    let asks = subst (λ (k : Command). Asks words (asked_of k)) c.in-Ok-Follow.field-0-is c.in-Ok-Follow.ensures.asked in
+    left_alone (λ s also. let same = asks_one words (serve s) (follow (follow_asked c.in-Ok-Follow.asked)) also asks in cc)
+    (never_ten_of_follow (g.F.Source.state c.args.folder.now).files (follow_asked c.in-Ok-Follow.asked) c.run-in-Ok-Follow.ensures.ends) refl
 
 pub returns-in-Err-Refused-clause-runs : goal.returns-in-Err-Refused-clause-runs
 returns-in-Err-Refused-clause-runs g c =

@@ -4,7 +4,7 @@ use Rattle.route_top.proofs.SentFirst.{SentFirst}
 use Rattle.route_top.proofs.lanes.put_lanes.Given as goal
 
 -- the lanes so far were sent
-abbrev pub invariant-loop-number : goal.invariant-loop-number
-invariant-loop-number g l =
-    SentFirst (part_of (map (λ link. link.to.sent) l.links)) (numbers (map (λ link. link.to.sent) l.links)) l.number (g.K.Sink.state l.fn.out)
+abbrev pub invariant-loop-place : goal.invariant-loop-place
+invariant-loop-place g l =
+    SentFirst (part_of l.first (map (λ link. link.to.sent) l.links)) (numbers (map (λ link. link.to.sent) l.links)) l.place (g.K.Sink.state l.fn.out)
     (g.K.Sink.state l.out)

@@ -10,6 +10,7 @@ use std::time::Clock;
 
 mod batches;
 mod certificates;
+mod feeds;
 mod generated;
 mod goals;
 mod lanes;
@@ -81,8 +82,8 @@ impl Outside {
         self.run_through(rt, alloc, words, &OpenGate)
     }
 
-    /// Runs the words, with this gate before each piece of work, and gives the status. Those of lanes may wait for others; all
-    /// other rows run by the call that waits for nobody.
+    /// Runs the words, with this gate before each piece of work, and gives the status. Those of lanes and of followers may wait
+    /// for others; all other rows run by the call that waits for nobody.
     fn run_through(
         &mut self,
         rt: &(impl Threads + Wait + Clock + Sync),
@@ -90,10 +91,10 @@ impl Outside {
         words: &str,
         gate: &impl Gate,
     ) -> Result<u8, AllocError> {
-        let is_of_lanes = words.starts_with("lanes ");
+        let may_wait = words.starts_with("lanes ") || words.starts_with("follow ");
         let words = words_of(alloc, words)?;
         let (folder, out, err) = (&mut self.folder, &mut self.out, &mut self.err);
-        Ok(if is_of_lanes {
+        Ok(if may_wait {
             let mut town = MemoryTown::new(alloc, Vec::new(alloc), Vec::new(alloc));
             route(rt, alloc, &words, folder, out, err, &mut town, gate)
         } else {
@@ -253,6 +254,11 @@ fn rows_have_their_output(rt: HostRuntime) {
 #[test]
 fn lanes_have_their_output(rt: HostRuntime) {
     assert_tables(&rt, rt.alloc(), &lanes::tables());
+}
+
+#[test]
+fn followers_have_their_output(rt: HostRuntime) {
+    assert_tables(&rt, rt.alloc(), &feeds::tables());
 }
 
 #[test]

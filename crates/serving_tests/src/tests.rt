@@ -1,4 +1,5 @@
 mod epochs;
+mod feeds;
 mod histories;
 mod lanes;
 mod requests;

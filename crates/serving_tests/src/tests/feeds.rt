@@ -66,7 +66,7 @@ fn follow<R: Wait + Abort>(
         &graph,
         weights,
         feeds,
-        wanted,
+        wanted.as_bytes(),
     )
 }
 
@@ -77,7 +77,7 @@ fn follow_in<S: Store, R: Wait + Abort>(
     graph: &Graph,
     weights: Weights,
     feeds: &[Feed<'_>],
-    wanted: &str,
+    wanted: &[u8],
 ) -> Result<(), Fail>
     requires chronicle { chronicle ≡ S.origin.chronicle }
     requires first { 0 ≡ S.origin.first }
@@ -91,8 +91,8 @@ fn follow_in<S: Store, R: Wait + Abort>(
     operator.close(rt).end(rt);
     taken?;
     assert!(rt;
-        sent.is_ok() && sink.sent() == wanted.as_bytes(),
-        "the feed {wanted:?}"
+        sent.is_ok() && sink.sent() == wanted,
+        "the feed of what was taken"
     );
     Ok(())
 }
@@ -412,7 +412,7 @@ fn draw_link(
     let text = feed_of(alloc, messages, from, to.min(epochs))?;
     let cut = match draws.below(3) {
         0 => text.len(),
-        _ => draws.below(text.len() as u32) as usize,
+        _ => draws.below(text.len().min(u32::MAX as usize) as u32) as usize,
     };
     Ok((text, cut))
 }

@@ -4,7 +4,6 @@ ghost use Rattle.bulk_core.specs.Settled.{IsSpentBy};
 ghost use Rattle.bulk_rounds.specs.Cores.{IsNewSearch, IsSpent, Spot};
 ghost use Rattle.bulk_rounds.specs.Kept.{IsFrom};
 ghost use Rattle.bulk_rounds.specs.Standing.{IsAt};
-ghost use Rattle.cost_vector.specs.Costs.{max_criteria, min_criteria};
 ghost use Rattle.event_machine.specs.Machine.{Task, SearchState};
 ghost use Rattle.road_network.specs.Answers.{IsRelevant};
 ghost use Rattle.road_network.specs.Limits.{max_budget, max_nodes};
@@ -70,8 +69,7 @@ impl<const D: usize, F: SettledFront<D>> Core<D, F> {
         limit: &Limit,
         budget: u32,
     ) -> Result<Core<D, F>, OutOfMemory>
-        requires two { min_criteria ≤ D }
-        requires four { D ≤ max_criteria }
+        requires criteria { AreCriteria D }
         requires nodes { nodes ≤ max_nodes }
         requires start { IsNode nodes start.0 }
         requires target { IsNode nodes target.0 }
@@ -102,8 +100,7 @@ impl<const D: usize, F: SettledFront<D>> Core<D, F> {
         limit: &Limit,
         budget: u32,
     ) -> Result<Core<D, F>, OutOfMemory>
-        requires two { min_criteria ≤ D }
-        requires four { D ≤ max_criteria }
+        requires criteria { AreCriteria D }
         requires nodes { nodes ≤ max_nodes }
         requires start { IsNode nodes start.0 }
         requires target { IsNode nodes target.0 }

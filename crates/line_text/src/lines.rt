@@ -1,5 +1,5 @@
 ghost use Rattle.std.specs.Prelude.{◌≡◌, ◌≢◌, ◌↔◌, ◌+◌, ◌-◌, ◌<◌, ◌≤◌, ◌++◌, List, [], length, take, drop, false, true};
-ghost use Rattle.std.specs.Prelude.{Ok, Err, Some, IfOk, OnOk, OnErr, IfSome, IfNone, IsSome, IsTrue, MatchOption, min};
+ghost use Rattle.std.specs.Prelude.{Ok, Err, Some, IfOk, OnOk, OnErr, IfSome, IfNone, IsTrue, MatchOption, min};
 ghost use Rattle.std.specs.Prelude.{None, IfErr, ◌||◌, nat_lt};
 ghost use Rattle.std.specs.Result.{result_err};
 ghost use Rattle.route_io.specs.Sources.{Reads, ReadsFrom};
@@ -96,9 +96,8 @@ impl Lines {
     /// the total stands. Where both are so, the byte that comes first decides, and at one byte it is `TooLong`.
     pub fn next_line<S: Source>(&mut self, source: &mut S) -> Result<bool, LineFault>
         // A kept fault is answered again, and nothing changes then. Nothing is read behind the end of input.
-        ensures again { IfSome self.old.fault (λ fault. result ≡ Err fault) }
-        ensures stays { IsSome self.old.fault
-            → (self.new ≡ self.old) × (source.new ≡ source.old) }
+        ensures again { IfSome self.old.fault (λ fault. (result ≡ Err fault)
+            × (self.new ≡ self.old) × (source.new ≡ source.old)) }
         ensures at_end { IsTrue self.old.ended → source.new ≡ source.old }
 
         // A fault is kept, and no other answer leaves one.
@@ -131,9 +130,8 @@ impl Lines {
     /// doesn't end within as many bytes as the total, which are all that is read.
     pub fn next_request<S: Source>(&mut self, source: &mut S) -> Result<Option<Request>, LineFault>
         // A kept fault is answered again, and nothing changes then. Nothing is read behind the end of input.
-        ensures again { IfSome self.old.fault (λ fault. result ≡ Err fault) }
-        ensures stays { IsSome self.old.fault
-            → (self.new ≡ self.old) × (source.new ≡ source.old) }
+        ensures again { IfSome self.old.fault (λ fault. (result ≡ Err fault)
+            × (self.new ≡ self.old) × (source.new ≡ source.old)) }
         ensures at_end { IsTrue self.old.ended → source.new ≡ source.old }
 
         // A fault is kept, and no other answer leaves one.

@@ -14,7 +14,7 @@ invariant_of-result g c =
     new_is_kept g.row.D c.args.start.0 c.args.budget c.in_ok-new.field-0 _ (map (spot_in g.F.Cost.StoredCost.components) c.new-3.result.items)
     c.in_ok-new.ensures.none (waits g c) (ap (map (spot_in g.F.Cost.StoredCost.components)) c.new-3.ensures.items)
     (map (as_waiting g.F.Cost.StoredCost.components) c.new-3.result.items)
-    (ap (map (as_waiting g.F.Cost.StoredCost.components)) c.new-3.ensures.items) (c.requires.two, c.requires.four) (rw c.in_ok-new.ensures.nodes c.requires.start)
+    (ap (map (as_waiting g.F.Cost.StoredCost.components)) c.new-3.ensures.items) c.requires.criteria (rw c.in_ok-new.ensures.nodes c.requires.start)
     (rw (c.in_ok-new.ensures.nodes, c.in_ok-new.ensures.target) c.requires.target) c.requires.budget
 
 pub returns : goal.returns

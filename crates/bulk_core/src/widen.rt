@@ -8,9 +8,9 @@ use waiting_queue::widen_items;
 
 impl<const D: usize, F: NarrowFront<D>> Core<D, F> {
     /// The same search, with room for greater costs. A round may be open.
-    pub fn widen(self, alloc: Global) -> Result<Core<D, F::Wide>, OutOfMemory>
+    pub fn widen(&self, alloc: Global) -> Result<Core<D, F::Wide>, OutOfMemory>
         requires { F.Cost.Part.bound ≤ F.Wide.Cost.Part.bound }
-        ensures { IfOk result (λ wide. wide ≡ self) }
+        ensures { IfOk result (λ wide. wide ≡ self.now) }
     {
         Ok(Core {
             start: self.start,

@@ -1,4 +1,3 @@
-pub mod Findings
 pub mod Answers
 pub mod Counting
 pub mod Rounds

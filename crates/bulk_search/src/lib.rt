@@ -4,13 +4,11 @@
 //! is spent, waits from then on. The answer is the same for every number of workers and whichever of them does which piece.
 #![tactic(auto)]
 
-mod findings;
 mod pieces;
 mod query;
 mod rounds;
 mod uncounted;
 
-pub use findings::Findings;
 pub use pieces::{closed_counters_hold_all_pieces, rounds_end_alike_for_all_pieces};
 pub use query::search;
 pub use uncounted::find;

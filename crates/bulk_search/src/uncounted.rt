@@ -2,9 +2,9 @@ ghost use Rattle.std.specs.Prelude.{◌≡◌, ◌<◌};
 ghost use Rattle.road_network.specs.Queries.{IsQuery};
 ghost use Rattle.bulk_search.specs.Answers.{Answers};
 
-use crate::findings::Findings;
 use crate::query::search;
 use arc_graph::Network;
+use query_findings::Findings;
 use road_network::{Query, SearchFault};
 use route_io::Gate;
 use std::alloc::Global;

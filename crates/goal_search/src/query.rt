@@ -1,15 +1,15 @@
 ghost use Rattle.std.specs.Prelude.{◌≡◌, ◌^◌, ◌<◌, ◌≤◌, IfOk, IsErrOf, None, OnOk};
 ghost use Rattle.road_network.specs.Queries.{IsQuery};
 ghost use Rattle.goal_search.specs.Answers.{AnswersToward, IsTooLargeToward};
-ghost use Rattle.bulk_search.specs.Findings.{found_of};
+ghost use Rattle.query_findings.specs.Findings.{found_of};
 ghost use Rattle.goal_search.specs.Rounds.{IsAfter, IsAnswer};
 
 use crate::rounds::{GoalRounds, finish_toward};
 use arc_graph::Network;
 use bulk_rounds::Begun;
-use bulk_search::Findings;
 use found_fronts::{FoundAtWidth, FoundFronts};
 use out_of_memory::OutOfMemory;
+use query_findings::Findings;
 use road_network::{Query, SearchFault};
 use route_io::Gate;
 use settled_front::SettledFront;

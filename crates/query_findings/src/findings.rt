@@ -15,7 +15,7 @@ pub enum Findings {
 }
 
 impl FoundCosts for Findings {
-    ghost use Rattle.bulk_search.specs.Findings.{found_of};
+    ghost use Rattle.query_findings.specs.Findings.{found_of};
 
     ghost state = { found_of };
 

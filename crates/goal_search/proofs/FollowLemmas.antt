@@ -12,14 +12,14 @@ use Rattle.cost_vector.specs.declared.label.ArcNo.{ArcNo}
 use Rattle.road_network.specs.Network.{Network, IsNetwork, IsNode, Leads}
 use Rattle.road_network.proofs.WalkLaws.{start_of_walk}
 use Rattle.road_network.proofs.Reached.{leads_alike}
-use Rattle.arc_graph.specs.Graph.{out_arcs_of, tail_of}
+use Rattle.arc_graph.specs.Graph.{out_arcs_of}
 use Rattle.arc_graph.proofs.NumbersLemmas.{in_numbers, of_numbers}
 use Rattle.goal_laws.specs.Goal.{IsBound}
 use Rattle.goal_laws.proofs.BoundLaws.{one_bound}
 use Rattle.bulk_rounds.specs.Cores.{Item, Spot}
 use Rattle.goal_rounds.specs.GoalCores.{IsBounded, IsGivenFrom, bounded_spot}
 use Rattle.goal_rounds.proofs.KeepingLemmas.{one_cost}
-use Rattle.goal_search.specs.Relaxing.{Follows, FollowsAll}
+use Rattle.goal_search.specs.Relaxing.{Follows, FollowsAll, IsOutOf}
 
 -- k is one of the first i arcs
 abbrev pub IsAmong : List ArcNo → ℕ → ℕ → Type 0
@@ -100,12 +100,6 @@ module _ (net : Network) (t : ℕ) (x : Spot) where
     named : (xs : List ArcNo) (k n : ℕ) → n < length xs → get_or xs n (record { 0 = k }) ≡ record { 0 = k } → (get_or xs n (record { 0 = 0 })).0 ≡ k
     named xs k n within is = ap (λ (y : ArcNo). y.0) (get_or_default xs n (record { 0 = 0 }) (record { 0 = k }) within ∙ is)
 
--- an arc that leads on from u
-pub record IsOutOf (ends : List (ℕ × ℕ)) (u : ℕ) (a : ArcNo) : Type 0 where
-  pub counted : 1 ≤ a.0
-  pub there : a.0 ≤ length ends
-  pub tail : tail_of ends a ≡ u
-
 pub out_arc_at : (ends : List (ℕ × ℕ)) (u : ℕ) (arcs : List ArcNo) (i : ℕ) (d : ArcNo) → arcs ≡ out_arcs_of ends u → i < length arcs → IsOutOf ends u (get_or arcs i d)
 out_arc_at ends u arcs i d all within =
     let a = get_or arcs i d in
@@ -161,6 +155,10 @@ module _ (net : Network) (t : ℕ) where
 -- the item at a place, as its list is seen
 pub item_at : {X Y : Type 0} (f : X → Y) (xs : List X) (i : ℕ) (x : X) → i < length xs → x ≡ get_or xs i x → (d : Y) → get_or (map f xs) i d ≡ f x
 item_at f xs i x within is d = get_or_default (map f xs) i d (f x) (omega (arith, within, length-map xs f)) ∙ get_or-map f xs i x ∙ ap f (sym is)
+
+-- the cost of a spot is that of a walk with whatever is the bound of its node added
+pub sum_with : (net : Network) (t : ℕ) (x : Spot) (b : IsBounded net t x) (own : List ℕ) → IsBound net x.node t own → x.cost ≡ plus b.cost own
+sum_with net t x b own is = b.sum ∙ ap (plus b.cost) (one_bound net x.node t b.bound own b.is_bound is)
 
 -- the spot of a bounded cost is of a node
 pub bounded_at_node : (net : Network) → IsNetwork net → (t : ℕ) (x : Spot) → IsBounded net t x → IsNode net.nodes x.node

@@ -1,9 +1,9 @@
-use Rattle.std.proofs.Common.{List, map, sym, subst, rules}
+use Rattle.std.proofs.Common.{List, Err, map, sym, ap, subst, rules}
 use Rattle.std.specs.Prelude.{All, Contains}
 use Rattle.waiting_queue.specs.Waiting.{as_waiting, spot_in}
 use Rattle.bulk_rounds.specs.Cores.{Spot}
 use Rattle.goal_bounds.specs.Bounds.{IsBoundSearch}
-use Rattle.goal_search.specs.Relaxing.{FollowsAll, IsSmallBounded}
+use Rattle.goal_search.specs.Relaxing.{FollowsAll, HasNoRoom, IsSmallBounded}
 use Rattle.goal_search.proofs.RoundLemmas.{are_kept, ended_rounds, ends_toward, taken_are_small}
 use Rattle.goal_search.proofs.rounds.finish_toward.Goals as goal
 
@@ -13,6 +13,12 @@ relax_toward-requires-clause-spots g c =
     let small = taken_are_small net c.nodes.ensures.network core c.args.bounds.now c.requires.rounds in
     subst (λ n. All (IsSmallBounded net n) (map (spot_in g.F.Cost.StoredCost.components) c.taken.result.now)) (sym c.requires.rounds.bounds_are.target_is)
     (subst (All (IsSmallBounded net core.target)) (sym c.taken.ensures.spots) small)
+
+pub returns-in_err-candidates-clause-too_wide : goal.returns-in_err-candidates-clause-too_wide
+returns-in_err-candidates-clause-too_wide g c = λ e.
+    let gives = rw e at c.from_residual.ensures.1 in
+    subst (λ n. HasNoRoom c.args.network.now n g.F.Cost.Part.Part.bound c.relax_toward.new.bounds) c.requires.rounds.bounds_are.target_is
+    (c.in_err-candidates.ensures.too_wide (ap (λ f. Err f) (sym gives)))
 
 pub finish-requires : goal.finish-requires
 finish-requires g c =

@@ -15,7 +15,8 @@ use std::alloc::Global;
 use stored_cost::StoredCost;
 use waiting_queue::Item;
 
-/// What follows the spots that a round has taken, along the arcs that lead on from them, with costs at the same width.
+/// What follows the spots that a round has taken, along the arcs that lead on from them and not straight back, with costs at the same
+/// width.
 pub fn relax_toward<const D: usize, C: StoredCost<D>>(
     alloc: Global,
     network: &Network<'_>,
@@ -28,7 +29,7 @@ pub fn relax_toward<const D: usize, C: StoredCost<D>>(
         (map (spot_in C.components) taken.now) }
     ensures bounds { OnOk result (IsBoundSearch network.now bounds.old.target bounds.new) }
     ensures follows { IfOk result (λ list. FollowsAll network.now bounds.old.target
-        (Contains (map (spot_in C.components) taken.now))
+        (Contains (map (as_waiting C.components) taken.now))
         (map (as_waiting C.components) list.items)) }
     ensures too_wide { result ≡ Err fault.TooWide
         → HasNoRoom network.now bounds.old.target C.Part.bound bounds.new }
@@ -43,8 +44,8 @@ pub fn relax_toward<const D: usize, C: StoredCost<D>>(
 }
 
 /// Lists behind the candidates what follows a spot, whose cost is that of a walk with the bound of its node added: for each
-/// passable arc that leads on to a node from which a walk leads to the target, that node at the walk's cost with the arc's vector
-/// and the node's bound added.
+/// passable arc that leads on, and not straight back, to a node from which a walk leads to the target, that node at the walk's cost
+/// with the arc's vector and the node's bound added.
 fn follow<const D: usize, C: StoredCost<D>>(
     network: &Network<'_>,
     bounds: &mut BoundSearch,
@@ -57,7 +58,7 @@ fn follow<const D: usize, C: StoredCost<D>>(
     requires spot { IsSmallBounded network.now bounds.old.target (spot_in C.components item.now) }
     ensures bounds { OnOk result (IsBoundSearch network.now bounds.old.target bounds.new) }
     ensures follows { OnOk result (Follows network.now bounds.old.target
-        (spot_in C.components item.now) (λ _. Unit {0})
+        (as_waiting C.components item.now) (λ _. Unit {0})
         (map (as_waiting C.components) candidates.old.items)
         (map (as_waiting C.components) candidates.new.items)) }
     ensures too_wide { result ≡ Err fault.TooWide
@@ -90,7 +91,7 @@ fn follow_arc<const D: usize, C: StoredCost<D>>(
     requires own { IsBound network.now item.now.node.0 bounds.old.target own.now }
     ensures bounds { OnOk result (IsBoundSearch network.now bounds.old.target bounds.new) }
     ensures follows { OnOk result (Follows network.now bounds.old.target
-        (spot_in C.components item.now) (λ k. k ≡ arc.0)
+        (as_waiting C.components item.now) (λ k. k ≡ arc.0)
         (map (as_waiting C.components) candidates.old.items)
         (map (as_waiting C.components) candidates.new.items)) }
     ensures too_wide { result ≡ Err fault.TooWide
@@ -98,10 +99,13 @@ fn follow_arc<const D: usize, C: StoredCost<D>>(
 {
     prove!(network.nodes() >= 1);
     prove!(network.criteria() == D);
+    let head = network.head(arc);
+    if head == item.from {
+        return Ok(());
+    }
     let Some(weight) = network.weight(arc) else {
         return Ok(());
     };
-    let head = network.head(arc);
     let Some(bound) = bounds.bound(network, head)? else {
         return Ok(());
     };

@@ -9,7 +9,7 @@ use Rattle.goal_search.proofs.relaxing.follow.Goals as goal
 pub loop-arc-init : goal.loop-arc-init
 loop-arc-init g c = record {
   search = c.in_ok-own.ensures.search;
-  follows = among_none c.args.network.now c.args.bounds.now.target (spot_in g.C.StoredCost.components c.args.item.now) c.out_arcs-arc-items.result.now
+  follows = among_none c.args.network.now c.args.bounds.now.target (as_waiting g.C.StoredCost.components c.args.item.now) c.out_arcs-arc-items.result.now
       (map (as_waiting g.C.StoredCost.components) c.args.candidates.now.items);
 }
 
@@ -41,7 +41,7 @@ pub loop-arc-preserved : goal.loop-arc-preserved
 loop-arc-preserved g c =
     let net = c.args.network.now in let t = c.args.bounds.now.target in let arcs = c.out_arcs-arc-items.result.now in let i = c.loop-arc.arc-index in
     let components = g.C.StoredCost.components in
-    let x = spot_in components c.args.item.now in
+    let x = as_waiting components c.args.item.now in
     let a = get_or arcs i (record { 0 = 0 }) in
     let between = map (as_waiting components) c.loop-arc.candidates.items in
     let after = map (as_waiting components) c.follow_arc.new.candidates.items in
@@ -57,11 +57,11 @@ returns-in_default-clause-follows g c =
     let net = c.args.network.now in let t = c.args.bounds.now.target in let v = c.args.item.now.node.0 in
     let none = subst (IsBoundIfAny net v t) c.in_default.is c.in_ok-own.ensures.exact in
     let walk = c.requires.spot.bounded.is_bound.least 0 (omega (arith, c.nodes.ensures.network.network.two)) in
-    nothing_follows net t (spot_in g.C.StoredCost.components c.args.item.now) (λ k. Unit {0})
-    (map (as_waiting g.C.StoredCost.components) c.args.candidates.now.items) (λ k u w h any arc bound. none walk.arcs walk.cost walk.walk)
+    nothing_follows net t (as_waiting g.C.StoredCost.components c.args.item.now) (λ k. Unit {0})
+    (map (as_waiting g.C.StoredCost.components) c.args.candidates.now.items) (λ k u w h any arc bound on. none walk.arcs walk.cost walk.walk)
 
 pub returns-clause-follows : goal.returns-clause-follows
 returns-clause-follows g c =
-    among_all c.args.network.now c.args.bounds.now.target (spot_in g.C.StoredCost.components c.args.item.now) c.out_arcs-arc-items.result.now
+    among_all c.args.network.now c.args.bounds.now.target (as_waiting g.C.StoredCost.components c.args.item.now) c.out_arcs-arc-items.result.now
     c.loop-arc.arc-index (map (as_waiting g.C.StoredCost.components) c.args.candidates.now.items)
     (map (as_waiting g.C.StoredCost.components) c.loop-arc.candidates.items) c.out_arcs-arc-items.ensures c.loop-arc-test.false c.loop-arc.invariant.follows

@@ -1,4 +1,4 @@
-use Rattle.std.proofs.Common.{◌≡◌, ◌∷◌, ◌++◌, [], ◌^◌, ◌<◌, length, map, refl, sym, ap, subst, ◌∙◌, rules}
+use Rattle.std.proofs.Common.{◌≡◌, ◌∷◌, ◌++◌, [], ◌^◌, ◌<◌, length, map, refl, sym, ap, subst, ◌∙◌, arith, rules}
 use Rattle.std.specs.Prelude.{All}
 use Rattle.std.proofs.lemmas.List.{map-append}
 use Rattle.cost_vector.specs.Costs.{plus}
@@ -14,8 +14,14 @@ use Rattle.goal_bounds.proofs.BoundLemmas.{bound_is_small}
 use Rattle.goal_rounds.specs.GoalCores.{bounded_spot}
 use Rattle.goal_search.specs.Relaxing.{Follows}
 use Rattle.goal_search.proofs.CostLemmas.{moved_is_small, no_room}
-use Rattle.goal_search.proofs.FollowLemmas.{one_follows, sum_with}
+use Rattle.goal_search.proofs.FollowLemmas.{none_back, one_follows, sum_with}
 use Rattle.goal_search.proofs.relaxing.follow_arc.Goals as goal
+
+pub returns-then-eq-clause-follows : goal.returns-then-eq-clause-follows
+returns-then-eq-clause-follows g c =
+    let components = g.C.StoredCost.components in let x = as_waiting components c.args.item.now in
+    let back : head_of c.args.network.now.ends c.args.arc ≡ x.from = grind (arith, c.head-head.ensures, c.eq.ensures, c.if-eq.true) in
+    none_back c.args.network.now c.args.bounds.now.target x c.args.arc (map (as_waiting components) c.args.candidates.now.items) back
 
 pub moved_on-moved-requires : goal.moved_on-moved-requires
 moved_on-moved-requires g c =
@@ -46,10 +52,10 @@ pub returns-clause-follows : goal.returns-clause-follows
 returns-clause-follows g c =
     let net = c.args.network.now in let t = c.args.bounds.now.target in let b = c.requires.spot.bounded in let a = c.args.arc in
     let components = g.C.StoredCost.components in
-    let x = spot_in components c.args.item.now in
+    let x = as_waiting components c.args.item.now in
     let head = subst (λ o. IsBoundIfAny net c.head-head.result.0 t o) c.in-Some-2.is c.in_ok-bound.ensures.exact in
     let bound = subst (λ v. IsBound net v t c.in-Some-2.bound) c.head-head.ensures head in
-    let sum = c.to_compact.ensures.same ∙ sum_with net t x b c.args.own.now c.requires.own in
+    let sum = c.to_compact.ensures.same ∙ sum_with net t x.spot b c.args.own.now c.requires.own in
     let moved = c.in-Some-stored.ensures.cost ∙ c.moved_on-moved.ensures b.cost (b.whole ∙ c.requires.criteria) sum in
     let over = leads_over net a c.requires.arc.counted c.requires.arc.there c.in-Some.weight (sym c.weight.ensures.state ∙ c.in-Some.is) in
     let arc = subst (λ u. Leads net a.0 u c.in-Some.weight (head_of net.ends a)) c.requires.arc.tail over in

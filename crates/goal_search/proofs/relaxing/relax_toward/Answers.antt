@@ -37,7 +37,7 @@ returns-in_err-follow-clause-too_wide g c = λ e.
 pub loop-item-preserved : goal.loop-item-preserved
 loop-item-preserved g c =
     let net = c.args.network.now in let t = c.args.bounds.now.target in let components = g.C.StoredCost.components in
-    let f = spot_in components in let taken = c.args.taken.now in let i = c.loop-item.item-index in let x = c.item-item.result in
+    let f = as_waiting components in let taken = c.args.taken.now in let i = c.loop-item.item-index in let x = c.item-item.result in
     let is : x ≡ get_or taken i x = cc in
     let before = map (as_waiting components) c.loop-item.candidates.items in
     let after = map (as_waiting components) c.follow.new.candidates.items in
@@ -51,6 +51,6 @@ loop-item-preserved g c =
 
 pub returns-clause-follows : goal.returns-clause-follows
 returns-clause-follows g c =
-    let components = g.C.StoredCost.components in let f = spot_in components in
+    let components = g.C.StoredCost.components in let f = as_waiting components in
     first_all c.args.network.now c.args.bounds.now.target (map f c.args.taken.now) c.loop-item.item-index
     (map (as_waiting components) c.loop-item.candidates.items) (omega (arith, c.loop-item-test.false, length-map c.args.taken.now f)) c.loop-item.invariant.follows

@@ -2,7 +2,7 @@
 use Rattle.std.proofs.Common.{◌≡◌, ◌≢◌, ℕ, ◌+◌, ◌^◌, ◌<◌, ◌≤◌, List, length, get_or, set, inl, inr, sym, subst, ◌∙◌, arith}
 use Rattle.std.specs.Prelude.{All}
 use Rattle.std.proofs.lemmas.Grind.{same_number_lists}
-use Rattle.std.proofs.lemmas.Bool.{cases_eq}
+use Rattle.std.proofs.lemmas.Bool.{cases_eq, cases_lt}
 use Rattle.std.proofs.lemmas.List.{get_or-set_other, get_or-set_same, length-set}
 use Rattle.std.proofs.lemmas.List.Elements.{All-get_or, All-weaker}
 use Rattle.cost_vector.specs.Costs.{plus}
@@ -65,6 +65,13 @@ moved_is_small c w g small_c small_w small_g =
     let d = All-weaker (λ x. x < 2 ^ 55) (λ x. x ≤ 2 ^ 55) (λ x below. omega (arith, below)) g small_g in
     All-weaker (λ x. x ≤ (2 ^ 55 + 2 ^ 32) + 2 ^ 55) (λ x. x < 2 ^ 57) (λ x below. omega (arith, below)) (plus (plus c w) g)
     (All-plus (2 ^ 55 + 2 ^ 32) (2 ^ 55) (plus c w) g (All-plus (2 ^ 55) (2 ^ 32) c w a b) d)
+
+-- where some component is too great for a width, though all are small, the width is less
+pub no_room : (most bound : ℕ) (xs : List ℕ) → All (λ x. x < most) xs → ¬ All (λ x. x < bound) xs → bound < most
+no_room most bound xs small none = elim (cases_lt bound most) [
+  | inl less ↦ less
+  | inr enough ↦ absurd (none (All-weaker (λ x. x < most) (λ x. x < bound) (λ x below. omega (arith, below, enough)) xs small))
+]
 
 -- ---- a cost without the bound that was added to it
 

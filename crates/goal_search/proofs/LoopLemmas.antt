@@ -22,7 +22,7 @@ use Rattle.goal_rounds.proofs.BudgetLemmas.{found_all, none_more, too_many}
 use Rattle.goal_rounds.proofs.KeepingLemmas.{begun_is_goal, new_is_goal}
 use Rattle.goal_rounds.proofs.ProgressLemmas.{more_settled, none_settled_more}
 use Rattle.goal_search.specs.Answers.{IsTooLargeToward}
-use Rattle.goal_search.specs.Rounds.{AreGoalRounds, EndsToward, HasAllBounded, IsAfter}
+use Rattle.goal_search.specs.Rounds.{AreGoalRounds, EndsToward, HasAllBounded, HasEnded, IsAfter, IsUnstarted}
 
 -- ---- the start
 
@@ -94,6 +94,12 @@ module _ (net : Network) (is : IsNetwork net) (d s t budget : ℕ) (criteria : n
         );
         none_taken = puts.none_taken;
       }
+
+-- a search is unstarted where the core is as it was, and the bounds can be searched on
+pub unstarted_on : (net : Network) (query : Query) (d : ℕ) (core after : Core) (bounds later : BoundSearch) → IsUnstarted net query d core bounds → after ≡ core
+    → IsBoundSearch net query.to later → IsUnstarted net query d after later
+unstarted_on net query d core after bounds later unstarted same search =
+    subst (λ c. IsUnstarted net query d c later) (sym same) (record { empty = unstarted.empty; bounds_are = search })
 
 -- no round was made
 pub after_none : (net : Network) (query : Query) (core : Core) (bounds : BoundSearch) → IsNode net.nodes query.from → core.nodes ≡ net.nodes
@@ -167,7 +173,7 @@ module _ (net : Network) (is : IsNetwork net) (query : Query) (rounds : ℕ) (co
       subst (GoalPasses net query.from query.to) after.budget (too_many net is query.from query.to core goal after.none_taken would)
 
   module _ (end : Core) (finds : FindsNone core end) where
-    pub all_bounded : HasAllBounded net query end
+    all_bounded : HasAllBounded net query end
     all_bounded = record {
       nodes = finds.same_search.nodes ∙ after.search.nodes;
       all = λ v c h bound relevant. found_all net is query.from query.to core goal after.none_taken end finds v c h bound relevant;
@@ -180,8 +186,13 @@ module _ (net : Network) (is : IsNetwork net) (query : Query) (rounds : ℕ) (co
         none_more net is query.from query.to core goal after.none_taken end finds after.count (none_settled_more core end finds after.count after.counts)
         (omega (arith, after.within, budget)) (subst (GoalPasses net query.from query.to) (sym budget) passes)
 
-  pub bounds_still : IsBoundSearch net query.to bounds
-  bounds_still = subst (λ v. IsBoundSearch net v bounds) after.target after.search.bounds_are
+    pub has_ended : (later : BoundSearch) → later ≡ bounds → HasEnded net query end later
+    has_ended later same = record {
+      all = all_bounded;
+      bounds_are = subst (IsBoundSearch net query.to) (sym same) (subst (λ v. IsBoundSearch net v bounds) after.target after.search.bounds_are);
+      none_waits = finds.none_waits;
+      none_taken = finds.none_taken;
+    }
 
   -- there are no more rounds than the budget
   pub no_round_more : ¬ (rounds ≡ query.budget + 1)

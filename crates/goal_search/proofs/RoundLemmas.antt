@@ -1,17 +1,21 @@
 -- What follows the spots of a round are candidates that the core may put.
-use Rattle.std.proofs.Common.{List, inl, refl, sym, subst, ◌∙◌}
+use Rattle.std.proofs.Common.{◌≡◌, ◌≢◌, List, map, inl, inr, ◌⊎◌, refl, sym, subst, ◌∙◌, arith}
 use Rattle.std.specs.Prelude.{All, Contains}
-use Rattle.list_laws.proofs.Members.{all_from_in}
+use Rattle.std.proofs.lemmas.Bool.{cases_eq}
+use Rattle.list_laws.proofs.Members.{all_from_in, each_in, in_map, of_map}
 use Rattle.road_network.specs.Network.{Network, IsNetwork, IsNode}
 use Rattle.road_network.proofs.WalkLaws.{leads_to_node}
 use Rattle.arc_graph.specs.Graph.{IsRoadNetwork}
-use Rattle.bulk_rounds.specs.Cores.{Core, IsCoveredIn, Item}
+use Rattle.waiting_queue.specs.Waiting.{spot_of}
+use Rattle.bulk_rounds.specs.Cores.{Core, HasSpot, IsCoveredIn, IsSpent, Item, Spot}
+use Rattle.bulk_rounds.proofs.FoundLemmas.{way_back_spent}
 use Rattle.bulk_rounds.proofs.SpentLemmas.{spot_by_parts}
-use Rattle.cost_vector.specs.Costs.{plus}
+use Rattle.cost_vector.specs.Costs.{AtMost, plus}
 use Rattle.bulk_rounds.specs.Finishes.{PutsAll}
-use Rattle.bulk_rounds.specs.Kept.{IsKeptItem}
+use Rattle.bulk_rounds.specs.Kept.{IsFrom, IsKeptItem}
+use Rattle.goal_laws.proofs.BoundLaws.{never_less}
 use Rattle.goal_bounds.specs.Bounds.{BoundSearch, IsBoundSearch}
-use Rattle.goal_rounds.specs.GoalCores.{AreGoalCandidates, IsGivenByArc, IsGoalCore}
+use Rattle.goal_rounds.specs.GoalCores.{AreGoalCandidates, IsGivenByArc, IsGivenFrom, IsGoalCore}
 use Rattle.goal_rounds.proofs.BudgetLemmas.{small_cost}
 use Rattle.goal_rounds.proofs.KeepingLemmas.{ended_is_goal, given_from, given_spares}
 use Rattle.goal_search.specs.Relaxing.{FollowsAll, IsSmallBounded}
@@ -29,28 +33,49 @@ module _ (net : Network) (road : IsRoadNetwork net) (core : Core) (bounds : Boun
         small = small_cost net is road.small road.nodes core.start x.node settled.bounded.cost settled.relevant.best;
       })
 
-  module _ (candidates : List Item) (follows : FollowsAll net core.target (Contains core.taken) candidates) where
+  -- what leads straight back to where an item came from is spent
+  back_is_spent : (w : Item) → IsFrom core w → (y : Spot) → IsGivenFrom net core.target w.spot y → y.node ≡ w.from → IsSpent core y
+  back_is_spent w from y given back =
+      let b = given.bounded in
+      let up = never_less net is given.arc w.spot.node y.node core.target b.cost given.by b.bound given.bound given.leads b.whole b.is_bound given.is_bound in
+      let below : AtMost w.spot.cost y.cost = subst (λ z. AtMost z y.cost) (sym b.sum) (subst (AtMost (plus b.cost b.bound)) (sym given.cost) up) in
+      let node = leads_to_node net is given.arc w.spot.node y.node given.by given.leads in
+      let some : w.from ≢ 0 = λ zero. omega (arith, node, back, zero) in
+      subst (IsSpent core) (spot_by_parts (record { cost = y.cost; node = w.from }) y (sym back) refl) (way_back_spent core w y.cost from some below)
+
+  module _ (ws : List Item) (spots : map spot_of ws ≡ core.taken) (came : All (IsFrom core) ws) (candidates : List Item)
+      (follows : FollowsAll net core.target (Contains ws) candidates) where
+    was_taken : (w : Item) → Contains ws w → Contains core.taken w.spot
+    was_taken w there = subst (λ xs. Contains xs w.spot) spots (in_map spot_of ws w there)
+
     given_by : (i : Item) → Contains candidates i → IsGivenByArc net core.target core i.spot
-    given_by i there = let from = follows.come i there in record { from = from.0; taken = from.1; along = from.2 }
+    given_by i there = let from = follows.come i there in record { from = from.0.spot; taken = was_taken from.0 from.1; along = from.2 }
 
     pub are_kept : All (IsKeptItem core) candidates
     are_kept = all_from_in (IsKeptItem core) candidates (λ i there.
         let from = follows.come i there in
-        let given : IsGivenByArc net core.target core i.spot = record { from = from.0; taken = from.1; along = from.2 } in
+        let given : IsGivenByArc net core.target core i.spot = record { from = from.0.spot; taken = was_taken from.0 from.1; along = from.2 } in
         record {
-          node = subst (λ n. IsNode n i.spot.node) (sym rounds.nodes) (leads_to_node net is from.2.arc from.0.node i.spot.node from.2.by from.2.leads);
+          node = subst (λ n. IsNode n i.spot.node) (sym rounds.nodes) (leads_to_node net is from.2.arc from.0.spot.node i.spot.node from.2.by from.2.leads);
           spares = given_spares net is core.start core.target core rounds.core_is i.spot given;
           from = λ told. subst (λ u. IsCoveredIn core (record { cost = i.spot.cost; node = u })) (sym from.3)
               (given_from net is core.start core.target core rounds.core_is i.spot given);
         })
 
+    follow_or_spent : (y : Spot) (w : Item) → Contains ws w → IsGivenFrom net core.target w.spot y → HasSpot candidates y ⊎ IsSpent core y
+    follow_or_spent y w there a = elim (cases_eq y.node w.from) [
+      | inl back ↦ inr (back_is_spent w (each_in (IsFrom core) ws came w there) y a back)
+      | inr on ↦
+          let found = follows.all w there a.bounded a.arc y.node a.by a.bound a.leads a.is_bound on in
+          inl (found.0, found.1, found.2 ∙ spot_by_parts (record { cost = plus (plus a.bounded.cost a.by) a.bound; node = y.node }) y refl (sym a.cost))
+    ]
+
     are_candidates : AreGoalCandidates net core.target core candidates
     are_candidates = record {
       given = λ y h. subst (IsGivenByArc net core.target core) h.2 (given_by h.0 h.1);
-      all = λ y given. inl (
-          let a = given.along in
-          let found = follows.all given.from given.taken a.bounded a.arc y.node a.by a.bound a.leads a.is_bound in
-          (found.0, found.1, found.2 ∙ spot_by_parts (record { cost = plus (plus a.bounded.cost a.by) a.bound; node = y.node }) y refl (sym a.cost)));
+      all = λ y given.
+          let of = of_map spot_of ws given.from (subst (λ xs. Contains xs given.from) (sym spots) given.taken) in
+          follow_or_spent y of.0 of.1 (subst (λ x. IsGivenFrom net core.target x y) of.2 given.along);
     }
 
     pub ends_toward : (after : Core) → PutsAll candidates core after → EndsToward net core after
@@ -65,3 +90,9 @@ module _ (net : Network) (road : IsRoadNetwork net) (core : Core) (bounds : Boun
               (subst (λ v. IsGoalCore net core.start v after) (sym puts.same_search.target) goal);
           bounds_are = subst (λ v. IsBoundSearch net v later) (sym puts.same_search.target) search;
         }
+
+-- they go on where the core is as it was, and the bounds can be searched on
+pub rounds_on : (net : Network) (core after : Core) (bounds later : BoundSearch) → AreGoalRounds net core bounds → after ≡ core → IsBoundSearch net core.target later
+    → AreGoalRounds net after later
+rounds_on net core after bounds later rounds same search =
+    subst (λ c. AreGoalRounds net c later) (sym same) (record { nodes = rounds.nodes; core_is = rounds.core_is; bounds_are = search })

@@ -1,23 +1,25 @@
-ghost use Rattle.std.specs.Prelude.{◌≡◌, ◌^◌, ◌<◌, ◌≤◌, IfOk, IsErrOf, None, OnOk};
+ghost use Rattle.std.specs.Prelude.{◌≡◌, ◌<◌, IfOk, IsErrOf, None, OnOk};
+ghost use Rattle.found_fronts.specs.FoundAtWidth.{found_of as found_at_width};
 ghost use Rattle.road_network.specs.Queries.{IsQuery};
 ghost use Rattle.goal_search.specs.Answers.{AnswersToward, IsTooLargeToward};
 ghost use Rattle.query_findings.specs.Findings.{found_of};
 ghost use Rattle.goal_search.specs.Rounds.{IsAfter, IsAnswer};
+ghost use Rattle.goal_search.specs.Widths.{bounds_of, core_of};
 
-use crate::rounds::{GoalRounds, finish_toward};
+use crate::rounds::GoalRounds;
 use arc_graph::Network;
 use bulk_rounds::Begun;
-use found_fronts::{FoundAtWidth, FoundFronts};
+use found_fronts::FoundAtWidth;
 use out_of_memory::OutOfMemory;
 use query_findings::Findings;
 use road_network::{Query, SearchFault};
 use route_io::Gate;
-use settled_front::SettledFront;
+use settled_front::{NarrowFront, SettledFront};
 use std::alloc::Global;
 use std::marker::Brand;
 use std::sync::ledger::{Blank, Ledger};
 use std::thread::Threads;
-use stored_cost::StoredCost;
+use stored_cost::{NarrowCost, StoredCost, WideCost};
 use waiting_queue::Steps;
 use walk_readback::FoundCosts;
 use work_claim::Workers;
@@ -76,38 +78,45 @@ fn find_all<R: Threads + Sync, G: Gate, L: Ledger>(
         2 => {
             let started = GoalRounds::new(alloc, network, query);
             let found = find(workers, alloc, network, query, started, steps)?;
-            Ok(Findings::Two(FoundAtWidth::Wide(found)))
+            Ok(Findings::Two(found))
         }
         3 => {
             let started = GoalRounds::new(alloc, network, query);
             let found = find(workers, alloc, network, query, started, steps)?;
-            Ok(Findings::Three(FoundAtWidth::Wide(found)))
+            Ok(Findings::Three(found))
         }
         _ => {
             let started = GoalRounds::new(alloc, network, query);
             let found = find(workers, alloc, network, query, started, steps)?;
-            Ok(Findings::Four(FoundAtWidth::Wide(found)))
+            Ok(Findings::Four(found))
         }
     }
 }
 
 /// Makes one round after another until all is found, in a search that was started.
-fn find<const D: usize, F: SettledFront<D> + Sync, R: Threads + Sync, G: Gate, L: Ledger>(
+fn find<
+    const D: usize,
+    F: NarrowFront<D> + SettledFront<D, Cost = NarrowCost<D>> + Sync,
+    R: Threads + Sync,
+    G: Gate,
+    L: Ledger,
+>(
     workers: &Workers<'_, R, G>,
     alloc: Global,
     network: &Network<'_>,
     query: &Query,
     started: Result<GoalRounds<D, F>, OutOfMemory>,
     steps: &mut Steps<L>,
-) -> Result<FoundFronts<D, F>, SearchFault>
+) -> Result<FoundAtWidth<D, F>, SearchFault>
 where
-    F::Cost: Send + Sync,
-    <F::Cost as StoredCost<D>>::Part: Send + Sync,
+    F::Cost: StoredCost<D, Part = u32> + Send + Sync,
+    F::Wide: SettledFront<D, Cost = WideCost<D>> + Sync,
+    <F::Wide as SettledFront<D>>::Cost: StoredCost<D, Part = u64> + Send + Sync,
     requires query { IsQuery network.now query.now }
     requires criteria { network.now.criteria ≡ D }
-    requires room { 2 ^ 57 ≤ F.Cost.Part.bound }
-    requires started { IfOk started (λ r. IsAfter network.now query.now 0 r.core r.bounds) }
-    ensures found { IfOk result (IsAnswer network.now query.now) }
+    requires started { IfOk started (λ r.
+        IsAfter network.now query.now 0 (core_of r) (bounds_of r)) }
+    ensures found { IfOk result (λ f. IsAnswer network.now query.now (found_at_width f)) }
     ensures in_budget { OnOk result (¬ IsTooLargeToward network.now query.now) }
     ensures budget { IsErrOf result SearchFault.Budget → IsTooLargeToward network.now query.now }
 {
@@ -118,7 +127,7 @@ where
         match rounds.begin(workers, alloc, steps)? {
             Begun::Done => return Ok(rounds.into_found(alloc, network, query)?),
             Begun::Budget => return Err(SearchFault::Budget),
-            Begun::Taken => finish_toward(alloc, network, &mut rounds.bounds, &mut rounds.core)?,
+            Begun::Taken => rounds = rounds.finish(alloc, network)?,
         }
     }
     unreachable!()

@@ -1,36 +1,38 @@
-ghost use Rattle.std.specs.Prelude.{◌≡◌, ℕ, ◌^◌, ◌<◌, ◌≤◌, List, length, map, All, Contains, IfOk, OnOk};
+ghost use Rattle.std.specs.Prelude.{◌≡◌, ℕ, ◌^◌, ◌<◌, List, length, map, All, Contains, Err, IfNone, IfOk, IfSome, OnOk};
 ghost use Rattle.cost_vector.specs.Costs.{plus};
 ghost use Rattle.road_network.specs.Network.{IsNode};
-ghost use Rattle.arc_graph.specs.Graph.{tail_of};
 ghost use Rattle.waiting_queue.specs.Waiting.{as_waiting, spot_in};
 ghost use Rattle.goal_laws.specs.Goal.{IsBound};
 ghost use Rattle.goal_bounds.specs.Bounds.{IsBoundSearch};
-ghost use Rattle.goal_search.specs.Relaxing.{Follows, FollowsAll, IsSmallBounded};
+ghost use Rattle.round_work.specs.declared.fault.RelaxFault.TheVariants as fault;
+ghost use Rattle.goal_search.specs.Relaxing.{Follows, FollowsAll, HasNoRoom, IsOutOf, IsSmallBounded};
 
 use arc_graph::Network;
 use cost_vector::{ArcNo, CompactCost, Cost, Weight};
 use goal_bounds::BoundSearch;
-use out_of_memory::OutOfMemory;
+use round_work::RelaxFault;
 use std::alloc::Global;
 use stored_cost::StoredCost;
 use waiting_queue::Item;
 
-/// What follows the spots that a round has taken, along the arcs that lead on from them.
+/// What follows the spots that a round has taken, along the arcs that lead on from them and not straight back, with costs at the same
+/// width.
 pub fn relax_toward<const D: usize, C: StoredCost<D>>(
     alloc: Global,
     network: &Network<'_>,
     bounds: &mut BoundSearch,
     taken: &[Item<C>],
-) -> Result<Vec<Item<C>>, OutOfMemory>
+) -> Result<Vec<Item<C>>, RelaxFault>
     requires criteria { network.now.criteria ≡ D }
-    requires room { 2 ^ 57 ≤ C.Part.bound }
     requires bounds { IsBoundSearch network.now bounds.old.target bounds.old }
     requires spots { All (IsSmallBounded network.now bounds.old.target)
         (map (spot_in C.components) taken.now) }
     ensures bounds { OnOk result (IsBoundSearch network.now bounds.old.target bounds.new) }
     ensures follows { IfOk result (λ list. FollowsAll network.now bounds.old.target
-        (Contains (map (spot_in C.components) taken.now))
+        (Contains (map (as_waiting C.components) taken.now))
         (map (as_waiting C.components) list.items)) }
+    ensures too_wide { result ≡ Err fault.TooWide
+        → HasNoRoom network.now bounds.old.target C.Part.bound bounds.new }
 {
     prove!(network.nodes() >= 1);
     prove!(network.criteria() == D);
@@ -42,24 +44,25 @@ pub fn relax_toward<const D: usize, C: StoredCost<D>>(
 }
 
 /// Lists behind the candidates what follows a spot, whose cost is that of a walk with the bound of its node added: for each
-/// passable arc that leads on to a node from which a walk leads to the target, that node at the walk's cost with the arc's vector
-/// and the node's bound added.
+/// passable arc that leads on, and not straight back, to a node from which a walk leads to the target, that node at the walk's cost
+/// with the arc's vector and the node's bound added.
 fn follow<const D: usize, C: StoredCost<D>>(
     network: &Network<'_>,
     bounds: &mut BoundSearch,
     item: &Item<C>,
     candidates: &mut Vec<Item<C>>,
-) -> Result<(), OutOfMemory>
+) -> Result<(), RelaxFault>
     requires criteria { network.now.criteria ≡ D }
-    requires room { 2 ^ 57 ≤ C.Part.bound }
     requires node { IsNode network.now.nodes item.now.node.0 }
     requires bounds { IsBoundSearch network.now bounds.old.target bounds.old }
     requires spot { IsSmallBounded network.now bounds.old.target (spot_in C.components item.now) }
     ensures bounds { OnOk result (IsBoundSearch network.now bounds.old.target bounds.new) }
     ensures follows { OnOk result (Follows network.now bounds.old.target
-        (spot_in C.components item.now) (λ _. Unit {0})
+        (as_waiting C.components item.now) (λ _. Unit {0})
         (map (as_waiting C.components) candidates.old.items)
         (map (as_waiting C.components) candidates.new.items)) }
+    ensures too_wide { result ≡ Err fault.TooWide
+        → HasNoRoom network.now bounds.old.target C.Part.bound bounds.new }
 {
     prove!(network.nodes() >= 1);
     prove!(network.criteria() == D);
@@ -80,34 +83,38 @@ fn follow_arc<const D: usize, C: StoredCost<D>>(
     own: &Cost,
     arc: ArcNo,
     candidates: &mut Vec<Item<C>>,
-) -> Result<(), OutOfMemory>
+) -> Result<(), RelaxFault>
     requires criteria { network.now.criteria ≡ D }
-    requires room { 2 ^ 57 ≤ C.Part.bound }
-    requires counted { 1 ≤ arc.0 }
-    requires there { arc.0 ≤ length network.now.ends }
+    requires arc { IsOutOf network.now.ends item.now.node.0 arc }
     requires bounds { IsBoundSearch network.now bounds.old.target bounds.old }
-    requires spot { IsSmallBounded network.now bounds.old.target
-        (record { cost = C.components item.now.cost; node = tail_of network.now.ends arc }) }
-    requires own { IsBound network.now (tail_of network.now.ends arc) bounds.old.target own.now }
-    requires from { item.now.node.0 ≡ tail_of network.now.ends arc }
+    requires spot { IsSmallBounded network.now bounds.old.target (spot_in C.components item.now) }
+    requires own { IsBound network.now item.now.node.0 bounds.old.target own.now }
     ensures bounds { OnOk result (IsBoundSearch network.now bounds.old.target bounds.new) }
     ensures follows { OnOk result (Follows network.now bounds.old.target
-        (record { cost = C.components item.now.cost; node = tail_of network.now.ends arc })
-        (λ k. k ≡ arc.0) (map (as_waiting C.components) candidates.old.items)
+        (as_waiting C.components item.now) (λ k. k ≡ arc.0)
+        (map (as_waiting C.components) candidates.old.items)
         (map (as_waiting C.components) candidates.new.items)) }
+    ensures too_wide { result ≡ Err fault.TooWide
+        → HasNoRoom network.now bounds.old.target C.Part.bound bounds.new }
 {
     prove!(network.nodes() >= 1);
     prove!(network.criteria() == D);
+    let head = network.head(arc);
+    if head == item.from {
+        return Ok(());
+    }
     let Some(weight) = network.weight(arc) else {
         return Ok(());
     };
-    let head = network.head(arc);
     let Some(bound) = bounds.bound(network, head)? else {
         return Ok(());
     };
-    let cost = moved_on(&item.cost.to_compact(), own, &weight, &bound);
+    let moved = moved_on(&item.cost.to_compact(), own, &weight, &bound);
+    let Some(cost) = stored(&moved) else {
+        return Err(RelaxFault::TooWide);
+    };
     candidates.push(Item {
-        cost: C::of(&cost.0),
+        cost,
         node: head,
         from: item.node,
     })?;
@@ -136,4 +143,16 @@ fn moved_on<const D: usize>(
         components[i] = components[i] - own.component(i) + onward;
     }
     CompactCost(components)
+}
+
+/// The cost as it is stored, if there is room for it at that width.
+pub(crate) fn stored<const D: usize, C: StoredCost<D>>(cost: &CompactCost<D>) -> Option<C>
+    ensures cost { IfSome result (λ c. C.components c ≡ cost.now.0) }
+    ensures room { IfNone result (¬ All (λ x. x < C.Part.bound) cost.now.0) }
+{
+    if C::fits(&cost.0) {
+        Some(C::of(&cost.0))
+    } else {
+        None
+    }
 }

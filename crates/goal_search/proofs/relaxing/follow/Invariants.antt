@@ -1,5 +1,5 @@
 use Rattle.std.proofs.Common.{map}
-use Rattle.waiting_queue.specs.Waiting.{as_waiting, spot_in}
+use Rattle.waiting_queue.specs.Waiting.{as_waiting}
 use Rattle.goal_bounds.specs.Bounds.{IsBoundSearch}
 use Rattle.goal_search.specs.Relaxing.{Follows}
 use Rattle.goal_search.proofs.FollowLemmas.{IsAmong}
@@ -9,6 +9,6 @@ use Rattle.goal_search.proofs.relaxing.follow.Given as goal
 abbrev pub invariant-loop-arc : goal.invariant-loop-arc
 invariant-loop-arc g l = record {
   search : IsBoundSearch l.network l.fn.bounds.target l.bounds;
-  follows : Follows l.network l.fn.bounds.target (spot_in g.C.StoredCost.components l.item) (IsAmong l.arc-items l.arc-index)
+  follows : Follows l.network l.fn.bounds.target (as_waiting g.C.StoredCost.components l.item) (IsAmong l.arc-items l.arc-index)
       (map (as_waiting g.C.StoredCost.components) l.fn.candidates.items) (map (as_waiting g.C.StoredCost.components) l.candidates.items);
 }

@@ -1,8 +1,8 @@
-use Rattle.std.proofs.Common.{◌≡◌, get_or, map, sym, subst, arith}
+use Rattle.std.proofs.Common.{◌≡◌, Err, get_or, map, sym, ap, subst, arith}
 use Rattle.std.proofs.lemmas.List.{length-map}
 use Rattle.waiting_queue.specs.Waiting.{as_waiting, spot_in}
 use Rattle.goal_bounds.specs.Bounds.{IsBoundSearch}
-use Rattle.goal_search.specs.Relaxing.{Follows, IsSmallBounded}
+use Rattle.goal_search.specs.Relaxing.{Follows, HasNoRoom, IsSmallBounded}
 use Rattle.goal_search.proofs.FollowLemmas.{bounded_at_node, first_all, first_more, item_at}
 use Rattle.goal_search.proofs.relaxing.relax_toward.Goals as goal
 
@@ -28,10 +28,16 @@ pub follow-requires-clause-bounds : goal.follow-requires-clause-bounds
 follow-requires-clause-bounds g c =
     subst (λ n. IsBoundSearch c.args.network.now n c.loop-item.bounds) (sym c.loop-item.invariant.search.target_is) c.loop-item.invariant.search
 
+pub returns-in_err-follow-clause-too_wide : goal.returns-in_err-follow-clause-too_wide
+returns-in_err-follow-clause-too_wide g c = λ e.
+    let gives = rw e at c.from_residual.ensures.1 in
+    subst (λ n. HasNoRoom c.args.network.now n g.C.Part.Part.bound c.follow.new.bounds) c.loop-item.invariant.search.target_is
+    (c.in_err-follow.ensures.too_wide (ap (λ f. Err f) (sym gives)))
+
 pub loop-item-preserved : goal.loop-item-preserved
 loop-item-preserved g c =
     let net = c.args.network.now in let t = c.args.bounds.now.target in let components = g.C.StoredCost.components in
-    let f = spot_in components in let taken = c.args.taken.now in let i = c.loop-item.item-index in let x = c.item-item.result in
+    let f = as_waiting components in let taken = c.args.taken.now in let i = c.loop-item.item-index in let x = c.item-item.result in
     let is : x ≡ get_or taken i x = cc in
     let before = map (as_waiting components) c.loop-item.candidates.items in
     let after = map (as_waiting components) c.follow.new.candidates.items in
@@ -45,6 +51,6 @@ loop-item-preserved g c =
 
 pub returns-clause-follows : goal.returns-clause-follows
 returns-clause-follows g c =
-    let components = g.C.StoredCost.components in let f = spot_in components in
+    let components = g.C.StoredCost.components in let f = as_waiting components in
     first_all c.args.network.now c.args.bounds.now.target (map f c.args.taken.now) c.loop-item.item-index
     (map (as_waiting components) c.loop-item.candidates.items) (omega (arith, c.loop-item-test.false, length-map c.args.taken.now f)) c.loop-item.invariant.follows

@@ -1,15 +1,14 @@
-use Rattle.std.proofs.Common.{subst}
+use Rattle.std.proofs.Common.{rules, arith, ◌≤◌, Err, sym, ap, subst, ◌∙◌}
 use Rattle.goal_bounds.specs.Bounds.{IsBoundSearch}
-use Rattle.goal_rounds.specs.GoalCores.{IsNewGoalSearch}
-use Rattle.goal_search.proofs.LoopLemmas.{after_none}
+use Rattle.goal_search.proofs.LoopLemmas.{unstarted_on}
 use Rattle.goal_search.proofs.rounds.GoalRounds.new.Goals as goal
 
-pub returns : goal.returns
-returns g c =
-    let net = c.args.network.now in let query = c.args.query.now in
-    let to = c.in_ok-bounds.ensures.target_is in
-    let first = subst (λ n. IsNewGoalSearch net query.from c.in_ok-bounds.bounds.target n c.put_start.new.core) c.in_ok-core.ensures.budget_is
-    c.in_ok-put_start.ensures.started in
-    let new = subst (λ n. IsNewGoalSearch net query.from n query.budget c.put_start.new.core) to first in
-    let bounds = subst (λ n. IsBoundSearch net n c.put_start.new.bounds) to c.in_ok-put_start.ensures.bounds in
-    after_none net query c.put_start.new.core c.put_start.new.bounds c.requires.query.from c.in_ok-put_start.ensures.nodes new bounds
+pub start_wide-requires : goal.start_wide-requires
+start_wide-requires g c =
+    let four : g.row.D ≤ 4 = omega (arith, c.criteria.ensures.four, c.if-prove.false) in
+    let wide = ap (λ e. Err e) c.in-Err-TooWide.field-0-is in
+    let same = c.in_ok-widen-in-Err-TooWide.ensures.core ∙ c.in-Err-TooWide.ensures.same wide in
+    let no_room = c.in-Err-TooWide.ensures.too_wide wide in
+    let bounds = subst (IsBoundSearch c.args.network.now c.args.query.now.to) (sym c.in_ok-widen-in-Err-TooWide.ensures.bounds) no_room.bounds_are in
+    let unstarted = unstarted_on _ _ _ _ _ _ _ c.in_ok-rounds.ensures same bounds in
+    (first_of (omega (arith, four), search rules), (first_of (omega (arith, four), search rules), (first_of (omega (arith, four), search rules), (c.requires.query, (c.requires.criteria, unstarted)))))

@@ -1,8 +1,15 @@
--- What a core keeps where nothing is settled more.
-use Rattle.std.proofs.Common.{◌≡◌, ℕ, Contains}
-use Rattle.bulk_rounds.specs.Cores.{Core, Item, SameSearch}
+-- What a core keeps where nothing is settled more, and the spots of its items.
+use Rattle.std.proofs.Common.{◌≡◌, ℕ, List, [], ◌∷◌, map, refl, ap, Contains}
+use Rattle.bulk_rounds.specs.Cores.{Core, Item, SameSearch, Spot}
 use Rattle.bulk_rounds.specs.Kept.{IsFrom, IsKept, IsKeptItem}
 use Rattle.bulk_rounds.specs.Taking.{CountsSettled}
+use Rattle.waiting_queue.specs.Waiting.{as_waiting, spot_in, spot_of}
+use Rattle.waiting_queue.specs.declared.item.Item.{Item as QueueItem}
+
+-- the spots of items
+pub spots_of_items : {C : Type 0} (components : C → List ℕ) (items : List (QueueItem C)) → map spot_of (map (as_waiting components) items) ≡ map (spot_in components) items
+spots_of_items components [] = refl
+spots_of_items components (i ∷ is) = ap (λ (xs : List Spot). spot_in components i ∷ xs) (spots_of_items components is)
 
 module _ {before after : Core} (same : after.settled ≡ before.settled) where
   -- where an item came from, and how many spots are settled

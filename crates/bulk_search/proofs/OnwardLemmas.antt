@@ -282,11 +282,6 @@ closed_is_spent core Spent agrees x closed = elim (decidable_spent core x) [
 
 -- ---- the items of an open round at some width
 
--- the spots of items
-pub spots_of_items : {C : Type 0} (components : C → List ℕ) (items : List (QueueItem C)) → map spot_of (map (as_waiting components) items) ≡ map (spot_in components) items
-spots_of_items components [] = refl
-spots_of_items components (i ∷ is) = ap (λ (xs : List Spot). spot_in components i ∷ xs) (spots_of_items components is)
-
 -- they are of nodes
 pub items_at_nodes : {C : Type 0} (components : C → List ℕ) (net : Network) (core : Core) (items : List (QueueItem C)) → IsOpen net core
     → map (spot_in components) items ≡ core.taken → All (λ i. IsNode net.nodes i.node.0) items

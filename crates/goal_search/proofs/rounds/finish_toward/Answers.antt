@@ -1,7 +1,7 @@
 use Rattle.std.proofs.Common.{◌≡◌, Err, map, sym, ap, subst, ◌∙◌, rules}
 use Rattle.std.specs.Prelude.{All, Contains}
 use Rattle.waiting_queue.specs.Waiting.{as_waiting, spot_in, spot_of}
-use Rattle.bulk_search.proofs.OnwardLemmas.{spots_of_items}
+use Rattle.bulk_core.proofs.KeptLemmas.{spots_of_items}
 use Rattle.goal_bounds.specs.Bounds.{IsBoundSearch}
 use Rattle.goal_search.specs.Relaxing.{FollowsAll, HasNoRoom, IsSmallBounded}
 use Rattle.goal_search.proofs.RoundLemmas.{are_kept, ended_rounds, ends_toward, taken_are_small}

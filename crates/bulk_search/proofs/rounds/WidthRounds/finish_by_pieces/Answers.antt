@@ -4,7 +4,8 @@ use Rattle.round_work.specs.declared.fault.RelaxFault.{RelaxFault}
 use Rattle.round_work.specs.declared.fault.RelaxFault.TheVariants as fault
 use Rattle.waiting_queue.specs.Waiting.{as_waiting, spot_of}
 use Rattle.bulk_core.specs.Settled.{IsSpentBy}
-use Rattle.bulk_search.proofs.OnwardLemmas.{closed_is_spent, ends_over, items_at_nodes, keeps_open, kept_items, spots_of_items, too_wide_below}
+use Rattle.bulk_core.proofs.KeptLemmas.{spots_of_items}
+use Rattle.bulk_search.proofs.OnwardLemmas.{closed_is_spent, ends_over, items_at_nodes, keeps_open, kept_items, too_wide_below}
 use Rattle.bulk_search.proofs.rounds.WidthRounds.finish_by_pieces.Goals as goal
 
 -- an error that was passed on is the one that came

@@ -67,7 +67,8 @@ impl<const D: usize, B: CostBlock<D>> CorneredBlocks<D, B> {
         ensures same { OnErr result (self.new ≡ self.old) }
     {
         self.blocks.reserve(1)?;
-        self.corners.reserve(1)?;
+        // A group takes as much memory as a block: room for one more is enough.
+        self.corners.reserve_exact(1)?;
         add_block(&mut self.blocks, &mut self.corners, costs);
         Ok(())
     }

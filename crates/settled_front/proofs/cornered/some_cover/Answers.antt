@@ -14,7 +14,7 @@ loop-i-preserved g c j from within h =
     elim (cases_lt j c.loop-i.i) [
       | inl low ↦
           let here : c.loop-i.i - 1 ≡ j = omega (arith, from, low) in
-          let at : place ≡ c.args.start + get_or lanes j 0 = ap (λ l. c.args.start + l) (c.lane.ensures ∙ ap (λ n. get_or lanes n 0) here) in
+          let at : place ≡ c.args.start + get_or lanes j 0 = omega (arith, c.lane.ensures, ap (λ n. get_or lanes n 0) here) in
           let inside : place < length blocks = omega (arith, at, c.requires j 0 within) in
           let is = read_at costs blocks place c.index-blocks-start.result inside c.index-blocks-start.is in
           let covered = subst (λ n. IsCovered (get_or (map costs blocks) n []) cost) (sym at) h in

@@ -1,20 +1,16 @@
 -- Blocks with their corners, as a block comes to them.
-use Rattle.std.proofs.Common.{◌≡◌, ℕ, ◌+◌, ◌*◌, ◌/◌, ◌<◌, ◌≤◌, List, [], ◌∷◌, ◌++◌, length, get_or, map, set, take, drop, inl, inr, refl, sym}
+use Rattle.std.proofs.Common.{◌≡◌, ℕ, ◌+◌, ◌*◌, ◌/◌, ◌%◌, ◌≢◌, ◌<◌, ◌≤◌, List, [], ◌∷◌, ◌++◌, length, get_or, map, set, take, drop, inl, inr, refl, sym}
 use Rattle.std.proofs.Common.{ap, subst, subst₂, ◌∙◌, append_assoc, length-append, length-take, length-take-le, take-append-drop, arith}
 use Rattle.std.specs.Prelude.{All, IsPermutation}
 use Rattle.std.proofs.lemmas.Bool.{cases_lt, cases_eq}
-use Rattle.std.proofs.lemmas.List.{append-nil, drop-take, get_or_append_left, get_or_push, get_or-set_same, get_or-set_other, get_or-take}
+use Rattle.std.proofs.lemmas.List.{append-nil, take_more, take_more_set, drop-take, get_or_append_left, get_or_push, get_or-set_same, get_or-set_other, get_or-take}
 use Rattle.std.proofs.lemmas.List.{length_push, length-set, map-append, take_all, take-take}
 use Rattle.std.proofs.lemmas.List.Concat.{flat_map-append}
 use Rattle.std.proofs.lemmas.List.Sorted.{IsPermutation-append_right, IsPermutation-map}
-use Rattle.std.proofs.lemmas.List.Elements.{All-head, All-map, All-more, All-tail, All-take, All-weaker}
+use Rattle.std.proofs.lemmas.List.Elements.{All-head, All-map, All-more, All-push, All-set, All-tail, All-take, All-weaker}
 use Rattle.cost_vector.specs.Costs.{AtMost}
-use Rattle.cost_vector.proofs.Vectors.{AtMost-refl, AtMost-trans}
-use Rattle.settled_front.specs.Corners.{AreCornered, HaveWideCorners, in_blocks}
-
--- a greater cost's costs are a lesser one's too
-all_above : (lesser corner : List ℕ) (costs : List (List ℕ)) → AtMost lesser corner → All (AtMost corner) costs → All (AtMost lesser) costs
-all_above lesser corner costs below = All-weaker (AtMost corner) (AtMost lesser) (λ x. AtMost-trans lesser corner x below) costs
+use Rattle.cost_vector.proofs.Vectors.{AtMost-trans}
+use Rattle.settled_front.specs.Corners.{AreCornered, HaveCorners, corner_at, in_blocks}
 
 -- a corner of the first costs, and of all of them
 module _ {C : Type 0} (f : C → List ℕ) (costs : List C) where
@@ -32,46 +28,77 @@ module _ {C : Type 0} (f : C → List ℕ) (costs : List C) where
   pub under_all : (corner : C) (n : ℕ) → length costs ≤ n → UnderFirst corner n → All (AtMost (f corner)) (map f costs)
   under_all corner n past under = All-map (AtMost (f corner)) f costs (subst (All (λ (c : C). AtMost (f corner) (f c))) (take_all n costs past) under)
 
-module _ {blocks : List (List (List ℕ))} {corners : List (List ℕ)} (block : List (List ℕ)) (have : HaveWideCorners blocks corners) where
-  -- wide corners of which none is above the old one, and one is at most each cost of the block
-  wide_more : (now : List (List ℕ)) → length now ≡ (length blocks + 1 + 7) / 8
-      → ((k : ℕ) → k < length corners → AtMost (get_or now k []) (get_or corners k []))
-      → All (AtMost (get_or now (length blocks / 8) [])) block → HaveWideCorners (blocks ++ block ∷ []) now
-  wide_more now as_many lower last = record {
+-- the costs of a block, written one by one
+pub written_more : {C : Type 0} (f : C → List ℕ) (costs : List C) (i : ℕ) (x : C) (block : List (List ℕ)) → i < length costs → i < length block
+    → x ≡ get_or costs i x → take i block ≡ map f (take i costs) → take (i + 1) (set block i (f x)) ≡ map f (take (i + 1) costs)
+written_more f costs i x block within inside is so_far = take_more_set block i (f x) inside ∙ ap (λ l. l ++ f x ∷ []) so_far
+    ∙ sym (ap (map f) (take_more costs i x within ∙ ap (λ e. take i costs ++ e ∷ []) (sym is)) ∙ map-append f (take i costs) (x ∷ []))
+
+module _ {blocks groups : List (List (List ℕ))} (block : List (List ℕ)) (have : HaveCorners blocks groups) where
+  -- groups in which the corners stay, and the next is at most each cost of the block
+  corner_more : (now : List (List (List ℕ))) → length now ≡ (length blocks + 1 + 15) / 16 → All (λ group. length group ≡ 16) now
+      → ((k : ℕ) → k < length blocks → corner_at now k ≡ corner_at groups k) → All (AtMost (corner_at now (length blocks))) block
+      → HaveCorners (blocks ++ block ∷ []) now
+  corner_more now as_many full stay last = record {
     as_many = rw (length_push blocks block) as_many;
+    full = full;
     at_most = λ k within. elim (cases_lt k (length blocks)) [
-      | inl old ↦
-          rw (get_or_append_left blocks (block ∷ []) [] k old) (all_above (get_or now (k / 8) []) (get_or corners (k / 8) []) (get_or blocks k [])
-          (lower (k / 8) (omega (arith, old, have.as_many))) (have.at_most k old))
+      | inl old ↦ rw (get_or_append_left blocks (block ∷ []) [] k old, stay k old) (have.at_most k old)
       | inr behind ↦
           let here : length blocks ≡ k = omega (arith, within, behind, length_push blocks block) in
-          rw (get_or_push blocks block [] k here) (subst (λ j. All (AtMost (get_or now (j / 8) [])) block) here last)
+          rw (get_or_push blocks block [] k here) (subst (λ j. All (AtMost (corner_at now j)) block) here last)
     ];
   }
 
-  -- the wide corner of its eight blocks is lowered
-  pub wide_met : (corner wide met : List ℕ) → All (AtMost corner) block → length blocks / 8 < length corners → get_or corners (length blocks / 8) [] ≡ wide
-      → AtMost met wide → AtMost met corner → HaveWideCorners (blocks ++ block ∷ []) (set corners (length blocks / 8) met)
-  wide_met corner wide met below within is under_wide under_corner =
-      wide_more (set corners b met) (omega (arith, have.as_many, length-set corners b met, within)) lower
-      (rw (get_or-set_same corners b met [] within) (all_above met corner block under_corner below))
+  -- the corner comes into a lane of the last group
+  pub corner_set : (corner : List ℕ) (group : List (List ℕ)) → All (AtMost corner) block → length blocks / 16 < length groups
+      → get_or groups (length blocks / 16) [] ≡ group → HaveCorners (blocks ++ block ∷ []) (set groups (length blocks / 16) (set group (length blocks % 16) corner))
+  corner_set corner group below within is =
+      corner_more now (length-set groups b written ∙ omega (arith, have.as_many, within))
+      (All-set (λ g. length g ≡ 16) groups b written (length-set group lane corner ∙ full) have.full)
+      stay
+      (subst (λ x. All (AtMost x) block) (sym (ap (λ g. get_or g lane []) (get_or-set_same groups b written [] within)
+      ∙ get_or-set_same group lane corner [] (omega (arith, full)))) below)
     where
       b : ℕ
-      b = length blocks / 8
+      b = length blocks / 16
 
-      lower : (k : ℕ) → k < length corners → AtMost (get_or (set corners b met) k []) (get_or corners k [])
-      lower k inside = elim (cases_eq k b) [
-        | inl here ↦ rw (here, get_or-set_same corners b met [] within, is) under_wide
-        | inr other ↦ rw (get_or-set_other corners b k met [] other) (AtMost-refl (get_or corners k []))
+      lane : ℕ
+      lane = length blocks % 16
+
+      written : List (List ℕ)
+      written = set group lane corner
+
+      now : List (List (List ℕ))
+      now = set groups b written
+
+      full : length group ≡ 16
+      full = subst (λ g. length g ≡ 16) is (have.full b [] within)
+
+      stay : (k : ℕ) → k < length blocks → corner_at now k ≡ corner_at groups k
+      stay k before = elim (cases_eq (k / 16) b) [
+        | inl here ↦
+            let other : k % 16 ≢ lane = λ e. absurd (omega (arith, here, e, before)) in
+            ap (λ j. get_or (get_or now j []) (k % 16) []) here ∙ ap (λ g. get_or g (k % 16) []) (get_or-set_same groups b written [] within)
+            ∙ get_or-set_other group lane (k % 16) corner [] other ∙ ap (λ g. get_or g (k % 16) []) (sym is)
+            ∙ ap (λ j. get_or (get_or groups j []) (k % 16) []) (sym here)
+        | inr other ↦ ap (λ g. get_or g (k % 16) []) (get_or-set_other groups b (k / 16) written [] other)
       ]
 
-  -- or it begins eight blocks
-  pub wide_begun : (corner : List ℕ) → All (AtMost corner) block → length corners ≤ length blocks / 8
-      → HaveWideCorners (blocks ++ block ∷ []) (corners ++ corner ∷ [])
-  wide_begun corner below none =
-      wide_more (corners ++ corner ∷ []) (omega (arith, have.as_many, length_push corners corner, none))
-      (λ k inside. rw (get_or_append_left corners (corner ∷ []) [] k inside) (AtMost-refl (get_or corners k [])))
-      (rw (get_or_push corners corner [] (length blocks / 8) (omega (arith, have.as_many, none))) below)
+  -- or it begins a group
+  pub corner_begins : (corner : List ℕ) (group : List (List ℕ)) → All (AtMost corner) block → length groups ≤ length blocks / 16 → length group ≡ 16
+      → get_or group 0 [] ≡ corner → HaveCorners (blocks ++ block ∷ []) (groups ++ group ∷ [])
+  corner_begins corner group below none full is =
+      corner_more (groups ++ group ∷ []) (length_push groups group ∙ omega (arith, have.as_many, none))
+      (All-push (λ g. length g ≡ 16) groups group have.full full)
+      (λ k before. ap (λ g. get_or g (k % 16) []) (get_or_append_left groups (group ∷ []) [] (k / 16) (omega (arith, have.as_many, before))))
+      (subst (λ x. All (AtMost x) block) (sym first) below)
+    where
+      first : corner_at (groups ++ group ∷ []) (length blocks) ≡ corner
+      first =
+          let lane : length blocks % 16 ≡ 0 = omega (arith, have.as_many, none) in
+          ap (λ g. get_or g (length blocks % 16) []) (get_or_push groups group [] (length blocks / 16) (omega (arith, have.as_many, none)))
+          ∙ ap (λ j. get_or group j []) lane ∙ is
 
 -- ---- blocks that are laid anew
 
@@ -96,32 +123,26 @@ blocks_more f costs n m before old new is so_far =
     ∙ ap (λ l. in_blocks before ++ l) (sym (map-append f (take n costs) (take m (drop n costs))) ∙ ap (map f) (take_split n m costs))
 
 -- the first blocks have their corners
-pub cornered_front : (d n : ℕ) {blocks : List (List (List ℕ))} {corners wide : List (List ℕ)} → AreCornered d blocks corners wide → n * 8 ≤ length blocks
-    → AreCornered d (take (n * 8) blocks) (take (n * 8) corners) (take n wide)
-cornered_front d n {blocks} {corners} {wide} have within = record {
+pub cornered_front : (d start n : ℕ) {blocks groups : List (List (List ℕ))} → AreCornered d blocks groups → start ≤ length blocks → n ≡ (start + 15) / 16
+    → AreCornered d (take start blocks) (take n groups)
+cornered_front d start n {blocks} {groups} have within is = record {
   two = have.two;
-  full = All-take (λ block. length block ≡ 16) (n * 8) blocks have.full;
+  full = All-take (λ block. length block ≡ 16) start blocks have.full;
   cornered = record {
-    as_many = omega (arith, within, have.cornered.as_many, long, length-take (n * 8) corners);
+    as_many = omega (arith, within, have.cornered.as_many, long, is, length-take n groups);
+    full = All-take (λ group. length group ≡ 16) n groups have.cornered.full;
     at_most = λ k inside.
-        let near : k < n * 8 = omega (arith, inside, long) in
-        rw (get_or-take (n * 8) blocks k [] near, get_or-take (n * 8) corners k [] near) (have.cornered.at_most k (omega (arith, near, within)));
-  };
-  wide_cornered = record {
-    as_many = omega (arith, within, have.wide_cornered.as_many, long, length-take n wide);
-    at_most = λ k inside.
-        let near : k < n * 8 = omega (arith, inside, long) in
-        rw (get_or-take (n * 8) blocks k [] near, get_or-take n wide (k / 8) [] (omega (arith, near)))
-        (have.wide_cornered.at_most k (omega (arith, near, within)));
+        let near : k < start = omega (arith, inside, long) in
+        rw (get_or-take start blocks k [] near, get_or-take n groups (k / 16) [] (omega (arith, near, is)))
+        (have.cornered.at_most k (omega (arith, near, within)));
   };
 } where
-  long : length (take (n * 8) blocks) ≡ n * 8
-  long = length-take-le (n * 8) blocks within
+  long : length (take start blocks) ≡ start
+  long = length-take-le start blocks within
 
-pub cornered_same : {d : ℕ} {blocks blocks-2 : List (List (List ℕ))} {corners corners-2 wide wide-2 : List (List ℕ)} → AreCornered d blocks corners wide
-    → blocks ≡ blocks-2 → corners ≡ corners-2 → wide ≡ wide-2 → AreCornered d blocks-2 corners-2 wide-2
-cornered_same {d} {blocks} {blocks-2} {corners} {corners-2} {wide} {wide-2} have e f h =
-    subst (λ w. AreCornered d blocks-2 corners-2 w) h (subst (λ k. AreCornered d blocks-2 k wide) f (subst (λ b. AreCornered d b corners wide) e have))
+pub cornered_same : {d : ℕ} {blocks blocks-2 groups groups-2 : List (List (List ℕ))} → AreCornered d blocks groups → blocks ≡ blocks-2 → groups ≡ groups-2
+    → AreCornered d blocks-2 groups-2
+cornered_same {d} have e f = subst₂ (AreCornered d) e f have
 
 -- the costs of the last blocks in another order
 pub laid_anew : {C : Type 0} (f : C → List ℕ) (blocks new : List (List (List ℕ))) (start : ℕ) (costs sorted : List C)

@@ -1,15 +1,16 @@
 -- Which costs are covered by lists of costs, and by blocks of them.
-use Rattle.std.proofs.Common.{◌≡◌, ◌↔◌, ◌⊎◌, ℕ, zero, suc, ◌+◌, ◌*◌, ◌/◌, ◌<◌, ◌≤◌, Bool, true, false, ◌||◌, List, [], ◌∷◌, ◌++◌, length}
+use Rattle.std.proofs.Common.{◌≡◌, ◌↔◌, ◌⊎◌, ℕ, zero, suc, ◌+◌, ◌*◌, ◌/◌, ◌%◌, ◌<◌, ◌≤◌, Bool, true, false, ◌||◌, List, [], ◌∷◌, ◌++◌, length}
 use Rattle.std.proofs.Common.{map, take, get_or, inl, inr, refl, sym, ap, subst, ◌∙◌, arith}
 use Rattle.std.specs.Prelude.{All, IsTrue}
 use Rattle.std.proofs.lemmas.Bool.{cases_lt, false≢true}
-use Rattle.std.proofs.lemmas.List.{map-append, take_more}
+use Rattle.std.proofs.lemmas.List.{get_or_default, map-append, take_more}
 use Rattle.std.proofs.lemmas.List.Elements.{Contains-append_left, Contains-append_right, Contains-append_cases}
 use Rattle.cost_vector.specs.Costs.{AtMost}
 use Rattle.cost_vector.proofs.Vectors.{AtMost-trans}
 use Rattle.list_laws.proofs.Members.{in_none, in_first, in_one, each_in}
 use Rattle.settled_front.specs.Fronts.{IsCovered}
-use Rattle.settled_front.specs.Corners.{CoversBetween, HaveCorners, HaveWideCorners, in_blocks}
+use Rattle.settled_front.specs.Blocks.{ListsAtMost}
+use Rattle.settled_front.specs.Corners.{CoversAmong, CoversBetween, HaveCorners, corner_at, in_blocks}
 
 -- nothing covers in an empty list
 covered_none : (c : List ℕ) → ¬ IsCovered [] c
@@ -52,10 +53,9 @@ covered_more f costs c i x any here within is before now =
       λ h. (either_true any here).1 (elim (either.0 h) [ inl old ↦ inl (before.1 old) | inr new ↦ inr (now.1 (one.0 new)) ]),
     )
 
--- a corner that isn't at most c rules out its costs
-ruled_out : (corner : List ℕ) (costs : List (List ℕ)) (c : List ℕ) → All (AtMost corner) costs → ¬ AtMost corner c → ¬ IsCovered costs c
-ruled_out corner costs c below not_below h =
-    not_below (AtMost-trans corner h.by c (each_in (AtMost corner) costs below h.by h.contains) h.at_most)
+-- where one of its costs is at most c, a corner is
+corner_below : (corner : List ℕ) (costs : List (List ℕ)) (c : List ℕ) → All (AtMost corner) costs → IsCovered costs c → AtMost corner c
+corner_below corner costs c below h = AtMost-trans corner h.by c (each_in (AtMost corner) costs below h.by h.contains) h.at_most
 
 -- blocks cover where one of them does
 pub covered_blocks : (blocks : List (List (List ℕ))) (c : List ℕ) → CoversBetween blocks 0 (length blocks) c ↔ IsCovered (in_blocks blocks) c
@@ -78,30 +78,29 @@ covered_blocks (b ∷ bs) c =
     first_or_rest behind (suc k) within covered =
         inr (behind (record { block = k; from = omega arith; before = omega (arith, within); covered = covered }))
 
-module _ {blocks : List (List (List ℕ))} {c : List ℕ} where
-  -- no block covers, where it doesn't before a place nor from there on
-  none_more : (start middle end : ℕ) → ¬ CoversBetween blocks start middle c → ¬ CoversBetween blocks middle end c → ¬ CoversBetween blocks start end c
-  none_more start middle end near far h = elim (cases_lt h.block middle) [
-    | inl before ↦ near (record { block = h.block; from = h.from; before = before; covered = h.covered })
-    | inr behind ↦ far (record { block = h.block; from = behind; before = h.before; covered = h.covered })
-  ]
+module _ (blocks : List (List (List ℕ))) (c : List ℕ) where
+  -- of the listed lanes none tells a block that covers, if none does at any place of the list
+  pub none_among : (start : ℕ) (lanes : List ℕ) → ((j : ℕ) → j < length lanes → ¬ IsCovered (get_or blocks (start + get_or lanes j 0) []) c)
+      → ¬ CoversAmong blocks start lanes c
+  none_among start lanes none h =
+      let is : get_or lanes h.listed.0 0 ≡ h.lane = get_or_default lanes h.listed.0 0 h.lane h.listed.1 ∙ h.listed.2 in
+      none h.listed.0 h.listed.1 (subst (λ l. IsCovered (get_or blocks (start + l) []) c) (sym is) h.covered)
 
-  -- none does from a block on that doesn't, where none behind it does
-  pub none_at : (k end : ℕ) → ¬ IsCovered (get_or blocks k []) c → ¬ CoversBetween blocks (k + 1) end c → ¬ CoversBetween blocks k end c
-  none_at k end here = none_more k (k + 1) end (λ h. here (subst (λ j. IsCovered (get_or blocks j []) c) (omega (arith, h.from, h.before)) h.covered))
-
-  -- a block whose corner isn't at most c doesn't cover
-  pub passed_over : {corners : List (List ℕ)} → HaveCorners blocks corners → (k : ℕ) → k < length blocks → ¬ AtMost (get_or corners k []) c
-      → ¬ IsCovered (get_or blocks k []) c
-  passed_over {corners} have k within = ruled_out (get_or corners k []) (get_or blocks k []) c (have.at_most k within)
-
-  -- nor do eight blocks whose wide corner isn't, where none behind them does
-  pub none_at_wide : {corners : List (List ℕ)} → HaveWideCorners blocks corners → (k end : ℕ) → end ≤ length blocks → ¬ AtMost (get_or corners k []) c
-      → ¬ CoversBetween blocks ((k + 1) * 8) end c → ¬ CoversBetween blocks (k * 8) end c
-  none_at_wide {corners} have k end within above behind h = elim (cases_lt h.block ((k + 1) * 8)) [
+  -- none of sixteen blocks covers, where none of those does whose corner is at most c; and none from there on, where none does behind them
+  pub none_at_group : {groups : List (List (List ℕ))} → HaveCorners blocks groups → (k count : ℕ) (lanes : List ℕ) → length blocks ≤ k * 16 + count ⊎ 16 ≤ count
+      → ListsAtMost (get_or groups k []) c count lanes → ¬ CoversAmong blocks (k * 16) lanes c
+      → ¬ CoversBetween blocks ((k + 1) * 16) (length blocks) c → ¬ CoversBetween blocks (k * 16) (length blocks) c
+  none_at_group {groups} have k count lanes whole lists among behind h = elim (cases_lt h.block ((k + 1) * 16)) [
     | inl near ↦
-        let of_this : h.block / 8 ≡ k = omega (arith, near, h.from) in
-        ruled_out (get_or corners (h.block / 8) []) (get_or blocks h.block []) c (have.at_most h.block (omega (arith, within, h.before)))
-        (subst (λ j. ¬ AtMost (get_or corners j []) c) (sym of_this) above) h.covered
+        let lane = h.block % 16 in
+        let of_this : h.block / 16 ≡ k = omega (arith, near, h.from) in
+        let here : h.block ≡ k * 16 + lane = omega (arith, near, h.from) in
+        let told : lane < count = elim whole [ inl to_end ↦ omega (arith, here, h.before, to_end) | inr all ↦ omega (arith, all) ] in
+        let below = corner_below (corner_at groups h.block) (get_or blocks h.block []) c (have.at_most h.block h.before) h.covered in
+        among (record {
+          lane = lane;
+          listed = (lists.exact lane told).1 (subst (λ j. AtMost (get_or (get_or groups j []) lane []) c) of_this below);
+          covered = subst (λ j. IsCovered (get_or blocks j []) c) here h.covered;
+        })
     | inr far ↦ behind (record { block = h.block; from = far; before = h.before; covered = h.covered })
   ]

@@ -1,6 +1,7 @@
 pub mod Stairs
 pub mod Views
-pub mod Lanes
+pub mod BlockLanes
 pub mod Covers
 pub mod Cornering
 pub mod Listing
+pub mod Listed

@@ -1,7 +1,8 @@
 -- How the front of a node under 3 or 4 criteria is laid out.
-use Rattle.std.specs.Prelude.{◌≡◌, ℕ, ◌<◌, ◌↔◌, ◌⊎◌, List, [], length, map, slice_index_or, All}
+use Rattle.std.specs.Prelude.{◌≡◌, ℕ, ◌<◌, ◌↔◌, ◌⊎◌, List, [], length, map, slice_index_or, All, Contains}
 use Rattle.std.specs.Int.{bit_at}
 use Rattle.std.specs.List.{range_with_len}
+use Rattle.cost_vector.specs.Costs.{AtMost}
 
 -- how many costs a block has
 abbrev pub block_size : ℕ
@@ -46,9 +47,17 @@ pub record Exceeds (rows : List (List ℕ)) (cost : List ℕ) (n lane : ℕ) : T
   pub before : row < n
   pub less : slice_index_or cost row 0 < in_row rows row lane
 
--- the row has the component at k of each of the costs, which have d components
-pub record IsRowOf (d bound : ℕ) (costs : List (List ℕ)) (k : ℕ) (row : List ℕ) : Type 0 where
-  pub full : length row ≡ block_size
-  pub fits : All (λ x. x < bound) row
-  pub long : All (λ c. length c ≡ d) costs
-  pub value : (lane : ℕ) → lane < block_size → slice_index_or row lane 0 ≡ slice_index_or (slice_index_or costs lane []) k 0
+-- marked are the lanes whose cost isn't at most this one
+abbrev pub MarksAbove : ℕ → List (List ℕ) → List ℕ → List ℕ → Type 0
+MarksAbove bit block cost marks = (lane : ℕ) → lane < block_size
+    → AtMost (slice_index_or block lane []) cost ↔ (¬ IsMarked bit (slice_index_or marks lane 0))
+
+-- of the lanes before the count those without a mark are listed, and no others
+pub record ListsUnmarked {P : Type 0} (HasMark : P → Type 0) (marks : List P) (count : ℕ) (lanes : List ℕ) : Type 0 where
+  pub before : All (λ lane. lane < count) lanes
+  pub exact : (lane : ℕ) (other : P) → lane < count → Contains lanes lane ↔ (¬ HasMark (slice_index_or marks lane other))
+
+-- of the lanes before the count those are listed whose cost is at most this one, and no others
+pub record ListsAtMost (block : List (List ℕ)) (cost : List ℕ) (count : ℕ) (lanes : List ℕ) : Type 0 where
+  pub before : All (λ lane. lane < count) lanes
+  pub exact : (lane : ℕ) → lane < count → Contains lanes lane ↔ AtMost (slice_index_or block lane []) cost

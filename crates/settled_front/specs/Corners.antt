@@ -1,40 +1,38 @@
 -- Blocks of costs with their corners, of which the front of a node under 3 or 4 criteria is made.
-use Rattle.std.specs.Prelude.{◌≡◌, ◌≢◌, ℕ, ◌+◌, ◌/◌, ◌<◌, ◌≤◌, ◌++◌, List, [], length, slice_index_or, All, AllPairs}
+use Rattle.std.specs.Prelude.{◌≡◌, ◌≢◌, ℕ, ◌+◌, ◌/◌, ◌%◌, ◌<◌, ◌≤◌, ◌++◌, List, [], length, slice_index_or, All, AllPairs, Contains}
 use Rattle.std.specs.List.{flat_map}
 use Rattle.cost_vector.specs.Costs.{AtMost, min_criteria}
 use Rattle.settled_front.specs.Blocks.{block_size}
 use Rattle.settled_front.specs.Fronts.{IsCovered}
 
--- how many blocks a wide corner speaks of
-abbrev pub wide_size : ℕ
-wide_size = 8
+-- how many blocks are laid anew at once
+abbrev pub laid_at_once : ℕ
+laid_at_once = 8
 
 -- all costs of the blocks
 abbrev pub in_blocks : List (List (List ℕ)) → List (List ℕ)
 in_blocks = flat_map (λ block. block)
 
--- each block has its corner, which is at most each of the block's costs
-pub record HaveCorners (blocks : List (List (List ℕ))) (corners : List (List ℕ)) : Type 0 where
-  pub as_many : length corners ≡ length blocks
-  pub at_most : (k : ℕ) → k < length blocks → All (AtMost (slice_index_or corners k [])) (slice_index_or blocks k [])
+-- the corner of a block, where the corners of each sixteen blocks are one group
+abbrev pub corner_at : List (List (List ℕ)) → ℕ → List ℕ
+corner_at groups k = slice_index_or (slice_index_or groups (k / block_size) []) (k % block_size) []
 
--- each eight blocks have their corner, which is at most each cost of theirs
-pub record HaveWideCorners (blocks : List (List (List ℕ))) (corners : List (List ℕ)) : Type 0 where
-  pub as_many : length corners ≡ (length blocks + 7) / wide_size
-  pub at_most : (k : ℕ) → k < length blocks → All (AtMost (slice_index_or corners (k / wide_size) [])) (slice_index_or blocks k [])
+-- each block has its corner in one of the groups, which is at most each of the block's costs
+pub record HaveCorners (blocks groups : List (List (List ℕ))) : Type 0 where
+  pub as_many : length groups ≡ (length blocks + 15) / block_size
+  pub full : All (λ group. length group ≡ block_size) groups
+  pub at_most : (k : ℕ) → k < length blocks → All (AtMost (corner_at groups k)) (slice_index_or blocks k [])
 
--- full blocks of costs of at least two components, with their corners of both kinds
-pub record AreCornered (d : ℕ) (blocks : List (List (List ℕ))) (corners wide_corners : List (List ℕ)) : Type 0 where
+-- full blocks of costs of at least two components, with their corners
+pub record AreCornered (d : ℕ) (blocks groups : List (List (List ℕ))) : Type 0 where
   pub two : min_criteria ≤ d
   pub full : All (λ block. length block ≡ block_size) blocks
-  pub cornered : HaveCorners blocks corners
-  pub wide_cornered : HaveWideCorners blocks wide_corners
+  pub cornered : HaveCorners blocks groups
 
--- there is room for so many blocks, by the capacities for them and for their corners of both kinds
-pub record HasRoom (total blocks corners wide_corners : ℕ) : Type 0 where
+-- there is room for so many blocks, by the capacities for them and for the groups of their corners
+pub record HasRoom (total blocks groups : ℕ) : Type 0 where
   pub for_blocks : total ≤ blocks
-  pub for_corners : total ≤ corners
-  pub for_wide_corners : (total + 7) / wide_size ≤ wide_corners
+  pub for_corners : (total + 15) / block_size ≤ groups
 
 -- some cost of the blocks from start on and before the end is at most c
 pub record CoversBetween (blocks : List (List (List ℕ))) (start end : ℕ) (c : List ℕ) : Type 0 where
@@ -42,6 +40,12 @@ pub record CoversBetween (blocks : List (List (List ℕ))) (start end : ℕ) (c 
   pub from : start ≤ block
   pub before : block < end
   pub covered : IsCovered (slice_index_or blocks block []) c
+
+-- some cost of the blocks that these lanes after start tell is at most c
+pub record CoversAmong (blocks : List (List (List ℕ))) (start : ℕ) (lanes : List ℕ) (c : List ℕ) : Type 0 where
+  pub lane : ℕ
+  pub listed : Contains lanes lane
+  pub covered : IsCovered (slice_index_or blocks (start + lane) []) c
 
 -- so many costs, in blocks and at most as many latest ones as a block has, and no cost twice
 pub record IsBlockFront (in_blocks latest : List (List ℕ)) (len : ℕ) : Type 0 where

@@ -1,14 +1,14 @@
-ghost use Rattle.std.specs.Prelude.{◌≡◌, ℕ, ◌<◌, ◌≤◌, ◌↔◌, List, [], length, map, replicate, slice_index_or, IsTrue};
-ghost use Rattle.cost_vector.specs.Costs.{min_criteria};
-ghost use Rattle.settled_front.specs.Blocks.{block_size};
+ghost use Rattle.std.specs.Prelude.{◌≡◌, ℕ, ◌<◌, ◌≤◌, ◌↔◌, List, [], replicate, slice_index_or, slice_set, IsTrue};
+ghost use Rattle.settled_front.specs.Blocks.{ListsAtMost, block_size};
 ghost use Rattle.settled_front.specs.Fronts.{IsCovered};
 
+use crate::lanes::Lanes;
 use stored_cost::StoredCost;
 
 /// How many costs a block has.
 pub(crate) const BLOCK: usize = 16;
 
-/// Sixteen costs, which are compared with one side by side, component by component and without a branch.
+/// Sixteen costs, each in a lane, which are compared with one side by side, component by component and without a branch.
 pub trait CostBlock<const D: usize>: Drop {
     /// How a cost is stored.
     type Cost: StoredCost<D>;
@@ -20,18 +20,22 @@ pub trait CostBlock<const D: usize>: Drop {
     fn blank() -> Self
         ensures { costs result ≡ replicate block_size (replicate D 0) };
 
-    /// Holds these costs from now on.
-    fn fill(&mut self, from: &[Self::Cost])
-        requires two { min_criteria ≤ D }
-        requires full { length from.now ≡ block_size }
-        ensures { costs self.new ≡ map Self.Cost.components from.now };
+    /// Writes the cost in a lane. The others stay.
+    fn set(&mut self, lane: usize, cost: &Self::Cost)
+        requires { lane < block_size }
+        ensures { costs self.new ≡ slice_set (costs self.old) lane (Self.Cost.components cost.now) };
 
     /// Whether some cost of the block is at most this one.
     fn covers(&self, cost: &Self::Cost) -> bool
         ensures { IsTrue result ↔ IsCovered (costs self.now) (Self.Cost.components cost.now) };
 
-    /// The cost at a place.
-    fn cost(&self, place: usize) -> Self::Cost
-        requires { place < block_size }
-        ensures { Self.Cost.components result ≡ slice_index_or (costs self.now) place [] };
+    /// The lanes before `count` whose cost is at most this one.
+    fn lanes_at_most(&self, cost: &Self::Cost, count: usize) -> Lanes
+        requires { count ≤ block_size }
+        ensures { ListsAtMost (costs self.now) (Self.Cost.components cost.now) count result };
+
+    /// The cost in a lane.
+    fn cost(&self, lane: usize) -> Self::Cost
+        requires { lane < block_size }
+        ensures { Self.Cost.components result ≡ slice_index_or (costs self.now) lane [] };
 }

@@ -1,10 +1,11 @@
-ghost use Rattle.std.specs.Prelude.{◌≡◌, ◌+◌, ◌*◌, ◌/◌, ◌%◌, ◌≤◌, ◌<◌, ◌↔◌, ◌++◌, ◌∷◌, ℕ, List, [], drop, length, map, All, IfOk, IsPermutation, IsTrue, OnErr, vec_len, vec_capacity};
+ghost use Rattle.std.specs.Prelude.{◌≡◌, ◌+◌, ◌*◌, ◌/◌, ◌≤◌, ◌<◌, ◌↔◌, ◌++◌, ◌∷◌, ℕ, List, [], drop, length, map, slice_index_or, All, IfOk, IsPermutation, IsTrue, OnErr, vec_len, vec_capacity};
 ghost use Rattle.cost_vector.specs.Costs.{AtMost, min_criteria};
 ghost use Rattle.settled_front.specs.Blocks.{block_size};
-ghost use Rattle.settled_front.specs.Corners.{AreCornered, CoversBetween, HasRoom, HaveCorners, HaveWideCorners, in_blocks, wide_size};
+ghost use Rattle.settled_front.specs.Corners.{AreCornered, CoversAmong, CoversBetween, HasRoom, HaveCorners, in_blocks, laid_at_once};
 ghost use Rattle.settled_front.specs.Fronts.{IsCovered};
 
 use crate::block::{BLOCK, CostBlock};
+use crate::lanes::Lanes;
 use crate::narrow_block::NarrowBlock;
 use crate::sorting::order;
 use crate::wide_block::WideBlock;
@@ -14,16 +15,15 @@ use std::alloc::Global;
 use std::marker::Model;
 use stored_cost::{StoredCost, WideCost};
 
-/// How many blocks a wide corner speaks of.
-const WIDTH: usize = 8;
+/// How many blocks are laid anew at once.
+const LAID_AT_ONCE: usize = 8;
 
-/// Full blocks of costs, to which further ones come. Each block, and each eight blocks, have their corner, a cost that is at
-/// most each of theirs: where it isn't at most a cost, they aren't looked into.
+/// Full blocks of costs, to which further ones come. Each block has its corner, a cost that is at most each of the block's: where
+/// it isn't at most a cost, the block isn't looked into. The corners of sixteen blocks stand side by side, in a block too.
 #[derive(Drop)]
 pub(crate) struct CorneredBlocks<const D: usize, B: CostBlock<D>> {
     blocks: Vec<B>,
-    corners: Vec<B::Cost>,
-    wide_corners: Vec<B::Cost>,
+    corners: Vec<B>,
     alloc: Global,
 }
 
@@ -36,8 +36,7 @@ impl<const D: usize, B: CostBlock<D>> Model for CorneredBlocks<D, B> {
     ghost view = { λ b. in_blocks (map B.costs b.blocks.items) };
 
     ghost invariant = { λ b. AreCornered D (map B.costs b.blocks.items)
-        (map B.Cost.components b.corners.items)
-        (map B.Cost.components b.wide_corners.items) };
+        (map B.costs b.corners.items) };
 }
 
 impl<const D: usize, B: CostBlock<D>> CorneredBlocks<D, B> {
@@ -49,7 +48,6 @@ impl<const D: usize, B: CostBlock<D>> CorneredBlocks<D, B> {
         CorneredBlocks {
             blocks: Vec::new(alloc),
             corners: Vec::new(alloc),
-            wide_corners: Vec::new(alloc),
             alloc,
         }
     }
@@ -58,7 +56,7 @@ impl<const D: usize, B: CostBlock<D>> CorneredBlocks<D, B> {
     pub(crate) fn covers(&self, cost: &B::Cost) -> bool
         ensures { IsTrue result ↔ IsCovered self.now (B.Cost.components cost.now) }
     {
-        blocks_cover(&self.blocks, &self.corners, &self.wide_corners, cost)
+        blocks_cover(&self.blocks, &self.corners, cost)
     }
 
     /// Adds a block of these costs.
@@ -69,14 +67,9 @@ impl<const D: usize, B: CostBlock<D>> CorneredBlocks<D, B> {
         ensures same { OnErr result (self.new ≡ self.old) }
     {
         self.blocks.reserve(1)?;
-        self.corners.reserve(1)?;
-        self.wide_corners.reserve(1)?;
-        add_block(
-            &mut self.blocks,
-            &mut self.corners,
-            &mut self.wide_corners,
-            costs,
-        );
+        // A group takes as much memory as a block: room for one more is enough.
+        self.corners.reserve_exact(1)?;
+        add_block(&mut self.blocks, &mut self.corners, costs);
         Ok(())
     }
 
@@ -86,12 +79,7 @@ impl<const D: usize, B: CostBlock<D>> CorneredBlocks<D, B> {
         ensures { IsPermutation self.old self.new }
     {
         if due {
-            order_last(
-                self.alloc,
-                &mut self.blocks,
-                &mut self.corners,
-                &mut self.wide_corners,
-            );
+            order_last(self.alloc, &mut self.blocks, &mut self.corners);
         }
     }
 
@@ -107,46 +95,40 @@ impl<const D: usize, B: CostBlock<D>> CorneredBlocks<D, B> {
     }
 }
 
-/// Whether some cost of the blocks, which have these corners of both kinds, is at most this one.
+/// Whether some cost of the blocks, which have these corners, is at most this one.
 fn blocks_cover<const D: usize, B: CostBlock<D>>(
     blocks: &[B],
-    corners: &[B::Cost],
-    wide_corners: &[B::Cost],
+    corners: &[B],
     cost: &B::Cost,
 ) -> bool
-    requires cornered { HaveCorners (map B.costs blocks.now) (map B.Cost.components corners.now) }
-    requires wide_cornered { HaveWideCorners (map B.costs blocks.now)
-        (map B.Cost.components wide_corners.now) }
+    requires { HaveCorners (map B.costs blocks.now) (map B.costs corners.now) }
     ensures { IsTrue result
         ↔ CoversBetween (map B.costs blocks.now) 0 (length blocks.now) (B.Cost.components cost.now) }
 {
-    for wide in (0..wide_corners.len()).rev() {
-        if wide_corners[wide].at_most(cost) {
-            let start = wide * WIDTH;
-            let end = start + (blocks.len() - start).min(WIDTH);
-            if part_covers(blocks, corners, start, end, cost) {
-                return true;
-            }
+    for group in (0..corners.len()).rev() {
+        let start = group * BLOCK;
+        let count = (blocks.len() - start).min(BLOCK);
+        let lanes = corners[group].lanes_at_most(cost, count);
+        if some_cover(blocks, start, &lanes, cost) {
+            return true;
         }
     }
     false
 }
 
-/// Whether some cost of the blocks from a place on, and before another, is at most this one.
-fn part_covers<const D: usize, B: CostBlock<D>>(
+/// Whether some cost of the blocks that these lanes after `start` tell is at most this one.
+fn some_cover<const D: usize, B: CostBlock<D>>(
     blocks: &[B],
-    corners: &[B::Cost],
     start: usize,
-    end: usize,
+    lanes: &Lanes,
     cost: &B::Cost,
 ) -> bool
-    requires cornered { HaveCorners (map B.costs blocks.now) (map B.Cost.components corners.now) }
-    requires within { end ≤ length blocks.now }
-    ensures { IsTrue result ↔ CoversBetween (map B.costs blocks.now)
-        start end (B.Cost.components cost.now) }
+    requires { All (λ lane. start + lane < length blocks.now) lanes.now }
+    ensures { IsTrue result
+        ↔ CoversAmong (map B.costs blocks.now) start lanes.now (B.Cost.components cost.now) }
 {
-    for i in (start..end).rev() {
-        if corners[i].at_most(cost) && blocks[i].covers(cost) {
+    for i in (0..lanes.count()).rev() {
+        if blocks[start + lanes.lane(i)].covers(cost) {
             return true;
         }
     }
@@ -165,64 +147,65 @@ fn corner_of<const D: usize, C: StoredCost<D>>(costs: &[C]) -> C
     corner
 }
 
-/// Adds a block of these costs, with its corners.
+/// Adds a block of these costs, with its corner.
 fn add_block<const D: usize, B: CostBlock<D>>(
     blocks: &mut Vec<B>,
-    corners: &mut Vec<B::Cost>,
-    wide_corners: &mut Vec<B::Cost>,
+    corners: &mut Vec<B>,
     costs: &[B::Cost],
 )
     requires full { length costs.now ≡ block_size }
     requires room { HasRoom (vec_len blocks.old + 1) (vec_capacity blocks.old)
-        (vec_capacity corners.old)
-        (vec_capacity wide_corners.old) }
-    requires before { AreCornered D (map B.costs blocks.old.items)
-        (map B.Cost.components corners.old.items)
-        (map B.Cost.components wide_corners.old.items) }
-    ensures after { AreCornered D (map B.costs blocks.new.items)
-        (map B.Cost.components corners.new.items)
-        (map B.Cost.components wide_corners.new.items) }
+        (vec_capacity corners.old) }
+    requires before { AreCornered D (map B.costs blocks.old.items) (map B.costs corners.old.items) }
+    ensures after { AreCornered D (map B.costs blocks.new.items) (map B.costs corners.new.items) }
     ensures added { map B.costs blocks.new.items
         ≡ map B.costs blocks.old.items ++ map B.Cost.components costs.now ∷ [] }
     ensures room { (total : ℕ) → HasRoom total (vec_capacity blocks.old) (vec_capacity corners.old)
-        (vec_capacity wide_corners.old)
-        → HasRoom total (vec_capacity blocks.new) (vec_capacity corners.new)
-        (vec_capacity wide_corners.new) }
+        → HasRoom total (vec_capacity blocks.new) (vec_capacity corners.new) }
 {
     let corner = corner_of(costs);
-    note_corner(wide_corners, blocks, &corner);
-    corners.push_reserved(corner);
+    note_corner(corners, blocks, &corner);
     blocks.push_reserved(block_of(costs));
 }
 
-/// Puts the corner of the next block under that of its eight blocks.
+/// Puts the corner of the next block into the lane that follows the others.
 fn note_corner<const D: usize, B: CostBlock<D>>(
-    corners: &mut Vec<B::Cost>,
+    corners: &mut Vec<B>,
     blocks: &[B],
     corner: &B::Cost,
 )
-    requires room { length blocks.now / wide_size < vec_capacity corners.old }
-    requires before { HaveWideCorners (map B.costs blocks.now)
-        (map B.Cost.components corners.old.items) }
+    requires room { length blocks.now / block_size < vec_capacity corners.old }
+    requires before { HaveCorners (map B.costs blocks.now) (map B.costs corners.old.items) }
     ensures after { (block : List (List ℕ)) → All (AtMost (B.Cost.components corner.now)) block
-        → HaveWideCorners (map B.costs blocks.now ++ block ∷ [])
-        (map B.Cost.components corners.new.items) }
+        → HaveCorners (map B.costs blocks.now ++ block ∷ []) (map B.costs corners.new.items) }
     ensures capacity { vec_capacity corners.new ≡ vec_capacity corners.old }
 {
-    match corners.get_mut(blocks.len() / WIDTH) {
-        Some(wide) => *wide = wide.meet(corner),
-        None => corners.push_reserved(*corner),
+    let count = blocks.len();
+    match corners.get_mut(count / BLOCK) {
+        Some(group) => group.set(count % BLOCK, corner),
+        None => corners.push_reserved(group_of(corner)),
     }
+}
+
+/// A group that begins with this corner.
+fn group_of<const D: usize, B: CostBlock<D>>(corner: &B::Cost) -> B
+    ensures long { length (B.costs result) ≡ block_size }
+    ensures first { slice_index_or (B.costs result) 0 [] ≡ B.Cost.components corner.now }
+{
+    let mut group = B::blank();
+    group.set(0, corner);
+    group
 }
 
 /// A block of sixteen costs.
 fn block_of<const D: usize, B: CostBlock<D>>(costs: &[B::Cost]) -> B
-    requires two { min_criteria ≤ D }
-    requires full { length costs.now ≡ block_size }
+    requires { length costs.now ≡ block_size }
     ensures { B.costs result ≡ map B.Cost.components costs.now }
 {
     let mut block = B::blank();
-    block.fill(costs);
+    for (lane, cost) in costs.iter().enumerate() {
+        block.set(lane, cost);
+    }
     block
 }
 
@@ -230,79 +213,61 @@ fn block_of<const D: usize, B: CostBlock<D>>(costs: &[B::Cost]) -> B
 fn order_last<const D: usize, B: CostBlock<D>>(
     alloc: Global,
     blocks: &mut Vec<B>,
-    corners: &mut Vec<B::Cost>,
-    wide_corners: &mut Vec<B::Cost>,
+    corners: &mut Vec<B>,
 )
-    requires { AreCornered D (map B.costs blocks.old.items)
-        (map B.Cost.components corners.old.items)
-        (map B.Cost.components wide_corners.old.items) }
-    ensures cornered { AreCornered D (map B.costs blocks.new.items)
-        (map B.Cost.components corners.new.items)
-        (map B.Cost.components wide_corners.new.items) }
+    requires { AreCornered D (map B.costs blocks.old.items) (map B.costs corners.old.items) }
+    ensures cornered { AreCornered D (map B.costs blocks.new.items) (map B.costs corners.new.items) }
     ensures moved { IsPermutation (in_blocks (map B.costs blocks.old.items))
         (in_blocks (map B.costs blocks.new.items)) }
 {
-    if blocks.is_empty() || blocks.len() % WIDTH != 0 {
+    if blocks.is_empty() || blocks.len() % LAID_AT_ONCE != 0 {
         return;
     }
-    let start = blocks.len() - WIDTH;
+    let start = blocks.len() - LAID_AT_ONCE;
     let (_, last) = blocks.split_at(start);
     if let Ok(mut costs) = costs_of(alloc, last) {
-        lay_anew(blocks, corners, wide_corners, start, &mut costs);
+        lay_anew(blocks, corners, start, &mut costs);
     }
 }
 
 /// Lays the last eight blocks anew, of their costs in another order.
 fn lay_anew<const D: usize, B: CostBlock<D>>(
     blocks: &mut Vec<B>,
-    corners: &mut Vec<B::Cost>,
-    wide_corners: &mut Vec<B::Cost>,
+    corners: &mut Vec<B>,
     start: usize,
     costs: &mut [B::Cost],
 )
-    requires cornered { AreCornered D (map B.costs blocks.old.items)
-        (map B.Cost.components corners.old.items)
-        (map B.Cost.components wide_corners.old.items) }
-    requires even { start % wide_size ≡ 0 }
-    requires last { start + wide_size ≡ vec_len blocks.old }
+    requires cornered { AreCornered D (map B.costs blocks.old.items) (map B.costs corners.old.items) }
+    requires last { start + laid_at_once ≡ vec_len blocks.old }
     requires costs { map B.Cost.components costs.old
         ≡ in_blocks (drop start (map B.costs blocks.old.items)) }
-    ensures cornered { AreCornered D (map B.costs blocks.new.items)
-        (map B.Cost.components corners.new.items)
-        (map B.Cost.components wide_corners.new.items) }
+    ensures cornered { AreCornered D (map B.costs blocks.new.items) (map B.costs corners.new.items) }
     ensures moved { IsPermutation (in_blocks (map B.costs blocks.old.items))
         (in_blocks (map B.costs blocks.new.items)) }
 {
     order(costs);
     blocks.truncate(start);
-    corners.truncate(start);
-    wide_corners.truncate(start / WIDTH);
-    add_blocks(blocks, corners, wide_corners, costs);
+    corners.truncate(start.div_ceil(BLOCK));
+    add_blocks(blocks, corners, costs);
 }
 
 /// Adds eight blocks of these costs.
 fn add_blocks<const D: usize, B: CostBlock<D>>(
     blocks: &mut Vec<B>,
-    corners: &mut Vec<B::Cost>,
-    wide_corners: &mut Vec<B::Cost>,
+    corners: &mut Vec<B>,
     costs: &[B::Cost],
 )
-    requires full { length costs.now ≡ wide_size * block_size }
-    requires room { HasRoom (vec_len blocks.old + wide_size) (vec_capacity blocks.old)
-        (vec_capacity corners.old)
-        (vec_capacity wide_corners.old) }
-    requires before { AreCornered D (map B.costs blocks.old.items)
-        (map B.Cost.components corners.old.items)
-        (map B.Cost.components wide_corners.old.items) }
-    ensures after { AreCornered D (map B.costs blocks.new.items)
-        (map B.Cost.components corners.new.items)
-        (map B.Cost.components wide_corners.new.items) }
+    requires full { length costs.now ≡ laid_at_once * block_size }
+    requires room { HasRoom (vec_len blocks.old + laid_at_once) (vec_capacity blocks.old)
+        (vec_capacity corners.old) }
+    requires before { AreCornered D (map B.costs blocks.old.items) (map B.costs corners.old.items) }
+    ensures after { AreCornered D (map B.costs blocks.new.items) (map B.costs corners.new.items) }
     ensures added { in_blocks (map B.costs blocks.new.items)
         ≡ in_blocks (map B.costs blocks.old.items) ++ map B.Cost.components costs.now }
 {
-    for i in 0..WIDTH {
+    for i in 0..LAID_AT_ONCE {
         let start = i * BLOCK;
-        add_block(blocks, corners, wide_corners, &costs[start..start + BLOCK]);
+        add_block(blocks, corners, &costs[start..start + BLOCK]);
     }
 }
 
@@ -331,8 +296,8 @@ fn take_costs<const D: usize, B: CostBlock<D>>(
     ensures { IfOk result (λ _. map B.Cost.components costs.new.items
         ≡ map B.Cost.components costs.old.items ++ B.costs block.now) }
 {
-    for place in 0..BLOCK {
-        costs.push(block.cost(place))?;
+    for lane in 0..BLOCK {
+        costs.push(block.cost(lane))?;
     }
     Ok(())
 }
@@ -346,8 +311,8 @@ fn list_block<const D: usize, B: CostBlock<D>>(
     ensures { IfOk result (λ _.
         map (λ c. c.0) list.new.items ≡ map (λ c. c.0) list.old.items ++ B.costs block.now) }
 {
-    for place in 0..BLOCK {
-        list.push(block.cost(place).to_compact())?;
+    for lane in 0..BLOCK {
+        list.push(block.cost(lane).to_compact())?;
     }
     Ok(())
 }
@@ -389,8 +354,8 @@ fn widen_block<const D: usize>(
     ensures { IfOk result (λ costs. costs.items ≡ block.now) }
 {
     let mut costs = Vec::new(alloc);
-    for place in 0..BLOCK {
-        costs.push(WideCost::of(&block.cost(place).to_compact().0))?;
+    for lane in 0..BLOCK {
+        costs.push(WideCost::of(&block.cost(lane).to_compact().0))?;
     }
     Ok(costs)
 }

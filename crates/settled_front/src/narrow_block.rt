@@ -1,7 +1,8 @@
 ghost use Rattle.std.specs.Prelude.{◌≡◌, ◌^◌, ◌<◌, ◌↔◌, length, All, IsTrue};
-ghost use Rattle.settled_front.specs.Blocks.{HasUnmarked, IsRowOf, MarksRow, block_size};
+ghost use Rattle.settled_front.specs.Blocks.{HasUnmarked, MarksAbove, MarksRow, block_size};
 
 use crate::block::{BLOCK, CostBlock};
+use crate::lanes::Lanes;
 use std::marker::Model;
 use stored_cost::{NarrowCost, Part, StoredCost};
 
@@ -33,42 +34,45 @@ impl<const D: usize> CostBlock<D> for NarrowBlock<D> {
         }
     }
 
-    fn fill(&mut self, from: &[NarrowCost<D>]) {
+    fn set(&mut self, lane: usize, cost: &NarrowCost<D>) {
+        // Whoever reads the components knows how many they are.
+        let _ = cost.to_compact();
         for k in 0..D {
-            self.rows[k] = row_of(from, k);
+            self.rows[k][lane] = cost.part(k);
         }
     }
 
     fn covers(&self, cost: &NarrowCost<D>) -> bool {
+        has_unmarked(&self.mark_above(cost))
+    }
+
+    fn lanes_at_most(&self, cost: &NarrowCost<D>, count: usize) -> Lanes {
+        Lanes::unmarked(&self.mark_above(cost), count)
+    }
+
+    fn cost(&self, lane: usize) -> NarrowCost<D> {
+        let mut numbers = [0; D];
+        for (k, number) in numbers.iter_mut().enumerate() {
+            *number = self.rows[k][lane].to_number();
+        }
+        NarrowCost::of(&numbers)
+    }
+}
+
+impl<const D: usize> NarrowBlock<D> {
+    /// Marks the lanes whose cost isn't at most this one.
+    fn mark_above(&self, cost: &NarrowCost<D>) -> [u32; BLOCK]
+        ensures above { MarksAbove 31 self.now cost.now result }
+        ensures full { length self.now ≡ block_size }
+    {
         // Whoever reads the components knows how many they are.
         let _ = cost.to_compact();
         let mut over = [0; BLOCK];
         for (k, row) in self.rows.iter().enumerate() {
             mark_row(&mut over, cost.part(k), row);
         }
-        has_unmarked(&over)
+        over
     }
-
-    fn cost(&self, place: usize) -> NarrowCost<D> {
-        let mut numbers = [0; D];
-        for (k, number) in numbers.iter_mut().enumerate() {
-            *number = self.rows[k][place].to_number();
-        }
-        NarrowCost::of(&numbers)
-    }
-}
-
-/// One component of each of the costs.
-fn row_of<const D: usize>(from: &[NarrowCost<D>], k: usize) -> [u32; BLOCK]
-    requires place { k < D }
-    requires full { length from.now ≡ block_size }
-    ensures { IsRowOf D (2 ^ 31) from.now k result }
-{
-    let mut row = [0; BLOCK];
-    for (lane, part) in row.iter_mut().enumerate() {
-        *part = from[lane].part(k);
-    }
-    row
 }
 
 /// Marks also where the component is less than that of the row.

@@ -1,4 +1,4 @@
-use Rattle.std.proofs.Common.{◌≡◌, ◌*◌, ◌/◌, ◌++◌, length, map, take, drop, ap, sym, ◌∙◌, length-drop, arith}
+use Rattle.std.proofs.Common.{◌≡◌, ◌++◌, length, map, drop, ap, sym, ◌∙◌, length-drop, arith}
 use Rattle.std.proofs.lemmas.List.{length-map, take-map}
 use Rattle.std.proofs.lemmas.List.Elements.{All-drop}
 use Rattle.std.proofs.lemmas.List.Sorted.{length_permutation}
@@ -27,16 +27,14 @@ add_blocks-requires-clause-full g c =
 pub add_blocks-requires-clause-before : goal.add_blocks-requires-clause-before
 add_blocks-requires-clause-before g c =
     let costs = g.B.CostBlock.costs in
-    let f = g.B.Cost.StoredCost.components in
+    let start = c.args.start in
     let blocks = c.args.blocks.now.items in
-    let corners = c.args.corners.now.items in
-    let wide = c.args.wide_corners.now.items in
-    let n = c.args.start / 8 in
-    let same : n * 8 ≡ c.args.start = omega (arith, c.requires.even) in
-    cornered_same (cornered_front g.row.D n c.requires.cornered (omega (arith, same, length-map blocks costs, c.args.blocks.now.ok.0, c.requires.last)))
-    (take-map costs (n * 8) blocks ∙ ap (λ k. map costs (take k blocks)) same ∙ ap (map costs) (sym c.truncate.ensures.items))
-    (take-map f (n * 8) corners ∙ ap (λ k. map f (take k corners)) same ∙ ap (map f) (sym c.truncate-2.ensures.items))
-    (take-map f n wide ∙ ap (map f) (sym c.truncate-3.ensures.items))
+    let groups = c.args.corners.now.items in
+    let n = c.div_ceil.result in
+    cornered_same (cornered_front g.row.D start n c.requires.cornered (omega (arith, length-map blocks costs, c.args.blocks.now.ok.0, c.requires.last))
+    (omega (arith, c.div_ceil.ensures)))
+    (take-map costs start blocks ∙ ap (map costs) (sym c.truncate.ensures.items))
+    (take-map costs n groups ∙ ap (map costs) (sym c.truncate-2.ensures.items))
 
 pub returns-clause-moved : goal.returns-clause-moved
 returns-clause-moved g c =

@@ -1,4 +1,4 @@
-use Rattle.settled_front.proofs.Lanes.{blank_lanes}
+use Rattle.settled_front.proofs.BlockLanes.{blank_lanes}
 use Rattle.settled_front.proofs.wide_block.WideBlockCostBlock.blank.Goals as goal
 
 pub returns : goal.returns

@@ -6,5 +6,5 @@ abbrev pub invariant-loop-k : goal.invariant-loop-k
 invariant-loop-k g l = record {
   long : length l.number-items ≡ g.row.D;
   fits : All (λ x. x < 2 ^ 63) l.number-items;
-  written : (j : ℕ) → j < l.k → get_or l.number-items j 0 ≡ in_row l.self-inside.rows j l.place;
+  written : (j : ℕ) → j < l.k → get_or l.number-items j 0 ≡ in_row l.self-inside.rows j l.lane;
 }

@@ -1,13 +1,7 @@
-use Rattle.std.proofs.Common.{◌≡◌, ◌↔◌, subst, arith, get_or}
-use Rattle.settled_front.specs.Blocks.{Exceeds, IsMarked}
-use Rattle.settled_front.proofs.Lanes.{covered_by_lane}
+use Rattle.settled_front.proofs.BlockLanes.{covered_by_lane}
 use Rattle.settled_front.proofs.wide_block.WideBlockCostBlock.covers.Goals as goal
 
 pub returns : goal.returns
 returns g c =
-    let rows = c.self.inside.rows in
-    let cost = c.args.cost.now in
-    let at_end : c.loop-k.k ≡ g.row.D = omega (arith, c.self.invariant.long) in
-    let decided = covered_by_lane rows cost g.row.D c.to_compact.ensures.long 63 c.loop-k.over
-    (λ lane within. subst (λ n. IsMarked 63 (get_or c.loop-k.over lane 0) ↔ Exceeds rows cost n lane) at_end (c.loop-k.invariant lane within)) in
-    rw (← c.self.view_is) (λ h. decided.0 (c.has_unmarked.ensures.0 h), λ h. c.has_unmarked.ensures.1 (decided.1 h))
+    let decided = covered_by_lane 63 c.args.self.now c.args.cost.now c.mark_above.result c.mark_above.ensures.above c.mark_above.ensures.full in
+    (λ h. decided.0 (c.has_unmarked.ensures.0 h), λ h. c.has_unmarked.ensures.1 (decided.1 h))

@@ -8,7 +8,7 @@ use Rattle.std.specs.declared.cmp.Ordering.TheVariants.{Less, Equal, Greater}
 use Rattle.std.proofs.lemmas.Bool.{cases_eq, cases_lt}
 use Rattle.std.proofs.lemmas.Bool.Decides.{nat_tests}
 use Rattle.std.proofs.lemmas.Option.{slice_get_within, slice_get-get_or, get_or_from_slice_get}
-use Rattle.cost_vector.specs.Costs.{AtMost, LexLess, lex_cmp}
+use Rattle.cost_vector.specs.Costs.{AtMost, Dominates, LexLess, lex_cmp}
 use Rattle.cost_vector.specs.declared.label.ArcNo.{ArcNo}
 use Rattle.cost_vector.specs.declared.label.Label.{Label as StoredLabel}
 use Rattle.cert_rules.proofs.ListedLaws.{one_label}
@@ -73,6 +73,19 @@ partitioned labels v c ascending i j d at_most within e = elim (cases_eq i j) [
   | inr other ↦ before_test v c (get_or labels i d) (get_or labels j d) (ascending i j d (omega arith) within) e
 ]
 
+-- a kept label is listed
+pub listed_at : (labels : List StoredLabel) (k : ℕ) (x : StoredLabel) → slice_get labels k ≡ Some x → Contains (map line_of labels) (line_of x)
+listed_at labels k x at = in_map line_of labels x (k, slice_get_within labels k x at, get_or_from_slice_get labels k x x at)
+
+-- a kept label of the node whose cost dominates another beats it
+pub dominated_by : (labels : List StoredLabel) (k : ℕ) (x : StoredLabel) → slice_get labels k ≡ Some x → (v : ℕ) (c : List ℕ) → x.node.0 ≡ v → Dominates x.cost c
+    → IsBeaten (map line_of labels) v c
+dominated_by labels k x at v c node better = record {
+  cost = x.cost;
+  listed = record { arc = x.arc.0; listed = subst (λ u. Contains (map line_of labels) (record { node = u; cost = x.cost; arc = x.arc.0 })) node (listed_at labels k x at) };
+  better = better;
+}
+
 module _ (labels : List StoredLabel) (v : ℕ) (c : List ℕ) (i : ℕ) (ascending : AllPairs Precedes labels) (place : IsPlace labels v c i) where
   -- where a label stands
   precedes : (k j : ℕ) (x y : StoredLabel) → slice_get labels k ≡ Some x → slice_get labels j ≡ Some y → k < j → Precedes x y
@@ -122,9 +135,6 @@ module _ (labels : List StoredLabel) (v : ℕ) (c : List ℕ) (i : ℕ) (ascendi
       let k = found.1.0 in
       (k, record { label = x; at = slice_get-get_or labels k x found.1.1 ∙ ap Some found.1.2; is = sym found.2 })
 
-  pub listed_at : (k : ℕ) (x : StoredLabel) → slice_get labels k ≡ Some x → Contains (map line_of labels) (line_of x)
-  listed_at k x at = in_map line_of labels x (k, slice_get_within labels k x at, get_or_from_slice_get labels k x x at)
-
   -- a label of this node and this cost is the one at their place
   pub found_at : (a : ℕ) → Contains (map line_of labels) (record { node = v; cost = c; arc = a })
       → (x : StoredLabel) × (slice_get labels i ≡ Some x) × (line_of x ≡ record { node = v; cost = c; arc = a })
@@ -141,7 +151,7 @@ module _ (labels : List StoredLabel) (v : ℕ) (c : List ℕ) (i : ℕ) (ascendi
     λ e.
         let same : x.arc ≡ arc = cc in
         let one : line_of x ≡ record { node = v; cost = c; arc = arc.0 } = one_label x.node.0 v x.cost c x.arc.0 arc.0 node cost (ap (λ (a : ArcNo). a.0) same) in
-        subst (Contains (map line_of labels)) one (listed_at i x here),
+        subst (Contains (map line_of labels)) one (listed_at labels i x here),
     λ there.
         let (y, at, is) = found_at arc.0 there in
         let one : Some x ≡ Some y = sym here ∙ at in
@@ -164,17 +174,13 @@ module _ (labels : List StoredLabel) (v : ℕ) (c : List ℕ) (i : ℕ) (ascendi
 
   -- a label before their place that is of the node and at most the cost dominates it
   pub beaten_by : (k : ℕ) (x : StoredLabel) → slice_get labels k ≡ Some x → k < i → Beats v c x → IsBeaten (map line_of labels) v c
-  beaten_by k x here below beats = record {
-    cost = x.cost;
-    listed = record { arc = x.arc.0; listed = subst (λ u. Contains (map line_of labels) (record { node = u; cost = x.cost; arc = x.arc.0 })) beats.0 (listed_at k x here) };
-    better = record {
-      at_most = beats.1;
-      differs = λ same. elim (of_test v c x (test_before k x here below)) [
-        | inl less ↦ omega (arith, beats.0)
-        | inr less ↦ LexLess-irrefl c (subst (λ b. LexLess b c) same less.1)
-      ];
-    };
-  }
+  beaten_by k x here below beats = dominated_by labels k x here v c beats.0 (record {
+    at_most = beats.1;
+    differs = λ same. elim (of_test v c x (test_before k x here below)) [
+      | inl less ↦ omega (arith, beats.0)
+      | inr less ↦ LexLess-irrefl c (subst (λ b. LexLess b c) same less.1)
+    ];
+  })
 
   beating : IsBeaten (map line_of labels) v c → (k : ℕ) × (x : StoredLabel) × (slice_get labels k ≡ Some x) × (k < i) × Beats v c x
   beating beaten =

@@ -1,14 +1,14 @@
 -- Labels of one node, and where they end.
-use Rattle.std.proofs.Common.{◌≡◌, ℕ, ◌+◌, ◌-◌, ◌<◌, ◌≤◌, true, false, List, [], ◌∷◌, ◌++◌, length, take, drop, Some, inl, inr, sym, ap, subst, subst₂, ◌∙◌, arith, get_or}
-use Rattle.std.specs.Prelude.{AllPairs, slice_get}
+use Rattle.std.proofs.Common.{◌≡◌, ℕ, ◌+◌, ◌-◌, ◌<◌, ◌≤◌, true, false, List, [], ◌∷◌, ◌++◌, length, take, drop, Some, inl, inr, refl, sym, ap, subst, subst₂, ◌∙◌, arith, get_or}
+use Rattle.std.specs.Prelude.{AllPairs, Bool, slice_get}
 use Rattle.std.proofs.lemmas.Bool.{cases_eq, cases_lt}
 use Rattle.std.proofs.lemmas.Bool.Decides.{nat_tests}
 use Rattle.std.proofs.lemmas.List.{get_or-drop, get_or-take, get_or_append_left, get_or_push, length-drop, length-take-le, length_push}
 use Rattle.std.proofs.lemmas.Option.{slice_get_within, slice_get-get_or, get_or_from_slice_get}
 use Rattle.cost_vector.specs.declared.label.Label.{Label as StoredLabel}
-use Rattle.front_cert.specs.Lookup.{IsPlace, Precedes, is_before}
+use Rattle.front_cert.specs.Lookup.{Encloses, IsPlace, Precedes, is_before}
 use Rattle.front_cert.specs.Offsets.{AreBeyond, AreOffsets, AreUpTo, IsEnd, IsSpan}
-use Rattle.front_cert.proofs.LookupLemmas.{by_test}
+use Rattle.front_cert.proofs.LookupLemmas.{by_test, partitioned}
 
 -- a label of a greater node doesn't stand before this node and this cost
 beyond_test : (v : ℕ) (c : List ℕ) (l : StoredLabel) → v < l.node.0 → is_before v c l ≡ false
@@ -33,13 +33,11 @@ module _ (labels : List StoredLabel) (first end : ℕ) (order : first ≤ end) (
       subst₂ Precedes (sym (part_at i d (omega (arith, less, last)))) (sym (part_at j d last))
       (ascending (first + i) (first + j) d (omega (arith, less)) (omega (arith, last, within, order)))
 
-  -- a place among them is one among all, if all others are of other nodes
-  pub part_place : (v : ℕ) (c : List ℕ) (r : ℕ) → IsSpan labels v first end → IsPlace part v c r → r ≤ length part → IsPlace labels v c (first + r)
-  part_place v c r span place inside = (
+  -- a place among them is one among all, if they enclose it
+  pub part_place : (v : ℕ) (c : List ℕ) (r : ℕ) → Encloses labels v c first end → IsPlace part v c r → r ≤ length part → IsPlace labels v c (first + r)
+  part_place v c r encloses place inside = (
     λ k d low high. elim (cases_lt k first) [
-      | inl before ↦
-          let x = get_or labels k d in
-          by_test v c x (inl (span.below k x (slice_get-get_or labels k d (omega (arith, before, order, within))) before))
+      | inl before ↦ encloses.before k (get_or labels k d) (slice_get-get_or labels k d (omega (arith, before, order, within))) before
       | inr later ↦
           let i = k - first in
           let back : first + i ≡ k = omega (arith, later) in
@@ -54,11 +52,51 @@ module _ (labels : List StoredLabel) (first end : ℕ) (order : first ≤ end) (
           subst (λ n. is_before v c (get_or labels n d) ≡ false) back
           (subst (λ x. is_before v c x ≡ false) (part_at i d (omega (arith, before, back)))
           (place.1 i d (omega (arith, low, back)) (omega (arith, part_length, before, back))))
-      | inr later ↦
-          let x = get_or labels k d in
-          beyond_test v c x (span.beyond k x (slice_get-get_or labels k d high) later)
+      | inr later ↦ encloses.behind k (get_or labels k d) (slice_get-get_or labels k d high) later
     ],
   )
+
+-- ---- where a place is enclosed
+
+-- the labels of a node enclose the place of each of its costs
+pub encloses_span : (labels : List StoredLabel) (v : ℕ) (c : List ℕ) (first end : ℕ) → IsSpan labels v first end → Encloses labels v c first end
+encloses_span labels v c first end span = record {
+  order = span.order;
+  within = span.within;
+  before = λ k x here below. by_test v c x (inl (span.below k x here below));
+  behind = λ k x here above. beyond_test v c x (span.beyond k x here above);
+}
+
+not_true : (b : Bool) → (b ≡ true → ⊥) → b ≡ false
+not_true true not = absurd (not refl)
+not_true false not = refl
+
+module _ (labels : List StoredLabel) (v : ℕ) (c : List ℕ) (ascending : AllPairs Precedes labels) (first end : ℕ) (encloses : Encloses labels v c first end)
+    (i : ℕ) (x : StoredLabel) (here : slice_get labels i ≡ Some x) where
+  -- a label up to one that stands before stands before
+  before_up_to : (k j : ℕ) (y z : StoredLabel) → slice_get labels k ≡ Some y → slice_get labels j ≡ Some z → k ≤ j → is_before v c z ≡ true → is_before v c y ≡ true
+  before_up_to k j y z at_k at_j up_to test =
+      subst (λ l. is_before v c l ≡ true) (get_or_from_slice_get labels k y y at_k)
+      (partitioned labels v c ascending k j y up_to (slice_get_within labels j z at_j)
+      (subst (λ l. is_before v c l ≡ true) (sym (get_or_from_slice_get labels j z y at_j)) test))
+
+  -- it is behind each label that stands before
+  pub encloses_behind : i < end → is_before v c x ≡ true → Encloses labels v c (i + 1) end
+  encloses_behind below test = record {
+    order = omega arith;
+    within = encloses.within;
+    before = λ k y there less. before_up_to k i y x there here (omega (arith, less)) test;
+    behind = encloses.behind;
+  }
+
+  -- it isn't behind a label that doesn't stand before
+  pub encloses_up_to : first ≤ i → is_before v c x ≡ false → Encloses labels v c first i
+  encloses_up_to low test = record {
+    order = low;
+    within = omega (arith, slice_get_within labels i x here);
+    before = encloses.before;
+    behind = λ k y there above. not_true (is_before v c y) (λ holds. let other = before_up_to i k x y here there above holds in absurd cc);
+  }
 
 -- ---- ends of the labels of each node
 

@@ -1,5 +1,5 @@
 -- The costs of a node's labels so far.
-use Rattle.std.proofs.Common.{◌≡◌, ◌≢◌, ℕ, ◌+◌, ◌<◌, ◌≤◌, List, [], ◌∷◌, Some, inl, inr, refl, sym, ap, subst, subst₂, ◌∙◌, ◌↔◌, arith}
+use Rattle.std.proofs.Common.{◌≡◌, ◌≢◌, ℕ, ◌+◌, ◌<◌, ◌≤◌, List, [], ◌∷◌, length, Option, Some, None, is_none, true, inl, inr, refl, sym, ap, subst, subst₂, ◌∙◌, ◌↔◌, arith}
 use Rattle.std.specs.Prelude.{All, AllPairs, Contains, IsPermutation, slice_get}
 use Rattle.std.proofs.lemmas.Bool.{cases_eq, cases_lt}
 use Rattle.std.proofs.lemmas.List.Elements.{All-weaker}
@@ -9,29 +9,29 @@ use Rattle.cost_vector.proofs.Vectors.{LexLess-irrefl, LexLess-trans, LexLess_fr
 use Rattle.list_laws.proofs.Members.{all_from_in, in_none}
 use Rattle.list_laws.proofs.SetLaws.{gains_by_permutation}
 use Rattle.road_network.specs.Labels.{Label}
-use Rattle.cert_rules.specs.Certificates.{IsBeaten, IsBefore, max_component}
+use Rattle.road_network.specs.Network.{Network}
+use Rattle.cert_rules.specs.Certificates.{Certificate, IsBeaten, IsBefore, IsCertificate, IsLine, max_component}
 use Rattle.cert_rules.proofs.ListedLaws.{one_label}
 use Rattle.settled_front.specs.Fronts.{IsCovered as IsCoveredBy}
+use Rattle.front_cert.specs.Checks.{AreUnbeaten, TellsBeaten}
+use Rattle.front_cert.specs.Passed.{ArePassed, IsPassedBy}
 
 -- what is within the greatest component has room
 pub fits_within : (bound : ℕ) → max_component < bound → (c : List ℕ) → All (λ x. x ≤ max_component) c → All (λ x. x < bound) c
 fits_within bound room c small = All-weaker (λ x. x ≤ max_component) (λ x. x < bound) (λ x at_most. omega (arith, at_most, room)) c small
 
--- a label of node v before the place i has this cost
-pub record IsPassedBy (labels : List Label) (i v : ℕ) (c : List ℕ) : Type 0 where
-  pub place : ℕ
-  pub label : Label
-  pub at : slice_get labels place ≡ Some label
-  pub before : place < i
-  pub node : label.node ≡ v
-  pub cost : label.cost ≡ c
+-- each line of a certificate has a cost in so many criteria
+pub whole_lines : (net : Network) (cert : Certificate) → IsCertificate net cert → (d : ℕ) → d ≡ net.criteria → All (λ l. length l.cost ≡ d) cert.labels
+whole_lines net cert good d criteria = All-weaker (IsLine net) (λ l. length l.cost ≡ d) (λ l line. line.cost ∙ sym criteria) cert.labels good.lines
 
--- the labels before the place i are of nodes up to v, those from it on of nodes from v on, and the costs are those of v before it
-pub record ArePassed (labels : List Label) (i v : ℕ) (costs : List (List ℕ)) : Type 0 where
-  pub up_to : (k : ℕ) (l : Label) → slice_get labels k ≡ Some l → k < i → l.node ≤ v
-  pub behind : (k : ℕ) (l : Label) → slice_get labels k ≡ Some l → i ≤ k → v ≤ l.node
-  pub here : (k : ℕ) (l : Label) → slice_get labels k ≡ Some l → k < i → l.node ≡ v → Contains costs l.cost
-  pub only : (c : List ℕ) → Contains costs c → IsPassedBy labels i v c
+-- within the greatest component
+pub small_lines : (net : Network) (cert : Certificate) → IsCertificate net cert → All (λ l. All (λ x. x ≤ max_component) l.cost) cert.labels
+small_lines net cert good = All-weaker (IsLine net) (λ l. All (λ x. x ≤ max_component) l.cost) (λ l line. line.small) cert.labels good.lines
+
+-- where no cost is the first that a listed one dominates none is dominated
+pub unbeaten_if_none : (labels : List Label) (beaten : Option ℕ) → TellsBeaten labels beaten → is_none beaten ≡ true → AreUnbeaten labels
+unbeaten_if_none labels None unbeaten none = unbeaten
+unbeaten_if_none labels (Some i) is none = absurd cc
 
 pub passed_none : (labels : List Label) (v : ℕ) (costs : List (List ℕ)) → v ≡ 0 → costs ≡ [] → ArePassed labels 0 v costs
 passed_none labels v costs zero none = record {

@@ -1,13 +1,16 @@
 -- Which rule fails at a label.
 use Rattle.std.proofs.Common.{◌≡◌, ◌≢◌, ℕ, zero, suc, true, ◌+◌, ◌^◌, ◌<◌, ◌≤◌, List, length, Option, Some, None, is_some, ◌⊎◌, ◌↔◌, inl, inr, refl, sym, ap, subst, subst₂, ◌∙◌, arith}
-use Rattle.std.specs.Prelude.{All, Bool, false, ◌||◌, Contains, IfSome, IsSomeAnd, MatchBool, slice_get}
+use Rattle.std.specs.Prelude.{All, Bool, false, ◌||◌, Contains, IfSome, IsSomeAnd, MatchBool, nat_eq, slice_get, sum}
 use Rattle.std.proofs.lemmas.List.Elements.{All-weaker}
-use Rattle.std.proofs.lemmas.Option.{slice_get_within}
+use Rattle.std.specs.Option.{option_eq}
+use Rattle.std.proofs.lemmas.Bool.{cases_lt}
+use Rattle.std.proofs.lemmas.Bool.Decides.{nat_tests}
+use Rattle.std.proofs.lemmas.Option.{get_or_from_slice_get, slice_get_within}
 use Rattle.cost_vector.specs.Costs.{AtMost, plus}
 use Rattle.cost_vector.specs.declared.label.ArcNo.{ArcNo}
-use Rattle.cost_vector.proofs.Vectors.{AtMost-plus_other, AtMost-refl, All-plus, cases_same, plus_cancel}
+use Rattle.cost_vector.proofs.Vectors.{AtMost-plus_other, AtMost-plus_self, AtMost-refl, AtMost-trans, All-plus, cases_same, plus_cancel, sum-AtMost, sum-plus}
 use Rattle.road_network.specs.Labels.{Label}
-use Rattle.road_network.specs.Network.{Network, IsNetwork, Leads}
+use Rattle.road_network.specs.Network.{Network, IsNetwork, IsVector, Leads}
 use Rattle.road_network.specs.Walks.{EndsBy}
 use Rattle.road_network.proofs.WalkLaws.{leads_by_vector}
 use Rattle.arc_graph.specs.Graph.{arc_state, head_of, out_arcs_of, tail_of}
@@ -16,7 +19,7 @@ use Rattle.cert_rules.specs.Rules.{FailsAt, Fails, ForSomeArc, HasNoFailure, IsF
 use Rattle.cert_rules.specs.declared.rule.Rule.{Rule}
 use Rattle.cert_rules.specs.declared.rule.Rule.TheVariants.{Start, Arrival, Departure, LeastArc, Undominated}
 use Rattle.cert_rules.proofs.ListedLaws.{length_of_listed}
-use Rattle.front_cert.specs.Checks.{ForArc, IsListedLater, LeadsAstray, TellsArc, TellsArcs, TellsLeast}
+use Rattle.front_cert.specs.Checks.{AreUnbeaten, Comes, ForArc, IsListedLater, LeadsAstray, TellsArc, TellsArcs, TellsBeaten, TellsLeast}
 use Rattle.front_cert.proofs.ArcLemmas.{leads_over, leads_is, in_out_arcs}
 use Rattle.front_cert.proofs.SeenLemmas.{Seen, seen_all, seen_more}
 
@@ -157,6 +160,39 @@ module _ (net : Network) (cert : Certificate) (l : Label) (a : ArcNo) (w : List 
     only = tt;
   }
 
+  -- the sum is dominated at the head, where no listed cost is dominated
+  pub tells_needless : AreUnbeaten cert.labels → IsBeaten cert.labels head (plus l.cost w) → TellsArc net cert l a.0 None
+  tells_needless unbeaten beaten = record {
+    departure = λ e. absurd cc;
+    least_arc = λ e. absurd cc;
+    astray = λ over.
+        let free = over_this (λ k v c. (¬ IsCovered cert.labels v c) × (¬ IsBeaten cert.labels cert.target c)) over in
+        absurd (free.0 (record { cost = beaten.cost; listed = beaten.listed; at_most = beaten.better.at_most }));
+    later = λ over.
+        let above = over_this (IsListedAbove cert.labels) over in
+        absurd (unbeaten (record { node = head; cost = plus l.cost w; arc = above.arc }) above.listed beaten);
+    only = tt;
+  }
+
+  -- the sum is dominated at the head where the label comes from it
+  pub beaten_back : IsNetwork net → IsCertificate net cert → Comes net cert.labels l → (b : ArcNo) → l.arc ≡ b.0 → 1 ≤ b.0 → tail_of net.ends b ≡ head
+      → length l.cost ≡ net.criteria → IsVector net.criteria w → IsBeaten cert.labels head (plus l.cost w)
+  beaten_back is good comes b by some back whole vector =
+      let ends = subst (λ k. EndsBy net k l.node (IsListed cert.labels) l.cost) by (comes (omega (arith, by, some))) in
+      let at : ends.at ≡ head = sym (leads_is net b ends.at l.node ends.by ends.leads).0 ∙ back in
+      let long = length_of_listed net is cert good ends.at ends.before ends.walk in
+      let whole_by = (leads_by_vector net is b.0 ends.at l.node ends.by ends.leads).whole in
+      let first : AtMost ends.before l.cost = subst (AtMost ends.before) (sym ends.cost) (AtMost-plus_self ends.before ends.by (long ∙ sym whole_by)) in
+      let second : AtMost l.cost (plus l.cost w) = AtMost-plus_self l.cost w (whole ∙ sym vector.whole) in
+      record {
+        cost = ends.before;
+        listed = subst (λ u. IsListed cert.labels u ends.before) at ends.walk;
+        better = record {
+          at_most = AtMost-trans ends.before l.cost (plus l.cost w) first second;
+          differs = λ same. omega (arith, ap sum same, sum-AtMost ends.before l.cost first, sum-plus l.cost w (whole ∙ sym vector.whole), vector.nonzero);
+        };
+      }
+
   -- neither
   pub tells_astray : Finds cert.labels head (plus l.cost w) None → ¬ (IsBeaten cert.labels head (plus l.cost w) ⊎ IsBeaten cert.labels cert.target (plus l.cost w))
       → TellsArc net cert l a.0 (Some Departure)
@@ -257,9 +293,38 @@ module _ (net : Network) (cert : Certificate) where
   abbrev pub Holds : Label → Type 0
   Holds l = (rule : Rule) → ¬ FailsAt net cert rule l
 
-  -- where no rule is told none fails
-  pub none_told : (l : Label) (told : Option Rule) → told ≡ None → TellsLeast net cert l told → Holds l
-  none_told l told none tells = subst (TellsLeast net cert l) none tells
+  -- where no rule is answered none fails
+  pub none_answered : (l : Label) (answer : Option Rule) → answer ≡ None → TellsLeast net cert l answer → Holds l
+  none_answered l answer none tells = subst (TellsLeast net cert l) none tells
+
+  -- where no rule fails before a label the last one fails there just if it is the first at which that fails
+  at_first_beaten : (beaten : Option ℕ) → TellsBeaten cert.labels beaten → (i : ℕ) (l : Label) → slice_get cert.labels i ≡ Some l → Seen Holds cert.labels i
+      → (option_eq nat_eq beaten (Some i) ≡ true) ↔ IsBeaten cert.labels l.node l.cost
+  at_first_beaten None unbeaten i l at seen = (
+    λ e. absurd cc,
+    λ dominated. absurd (unbeaten l (i, slice_get_within cert.labels i l at, get_or_from_slice_get cert.labels i l l at) dominated),
+  )
+  at_first_beaten (Some j) is i l at seen = (
+    λ e.
+        let place : j ≡ i = grind (arith, nat_tests) in
+        let here = subst (λ n. slice_get cert.labels n ≡ Some is.label) place is.at in
+        let one : Some is.label ≡ Some l = sym here ∙ at in
+        let same : is.label ≡ l = cc in
+        subst (λ (m : Label). IsBeaten cert.labels m.node m.cost) same is.beaten,
+    λ dominated. elim (cases_lt i j) [
+      | inl before ↦ absurd (is.first i l at before dominated)
+      | inr from ↦ elim (cases_lt j i) [
+        | inl behind ↦ absurd (seen j is.label is.at behind Undominated is.beaten)
+        | inr up_to ↦ let place : j ≡ i = omega (arith, from, up_to) in grind (arith, nat_tests)
+      ]
+    ],
+  )
+
+  pub known_beaten : (beaten : Option ℕ) → TellsBeaten cert.labels beaten → (i : ℕ) (l : Label) → slice_get cert.labels i ≡ Some l → Seen Holds cert.labels i
+      → (test : Bool) → test ≡ option_eq nat_eq beaten (Some i) → (test ≡ true) ↔ IsBeaten cert.labels l.node l.cost
+  known_beaten beaten tells i l at seen test is =
+      let fails = at_first_beaten beaten tells i l at seen in
+      (λ e. fails.0 (sym is ∙ e), λ dominated. is ∙ fails.1 dominated)
 
   -- the start isn't listed
   pub first_at_whole : ¬ Contains cert.labels (start_label net cert) → IsFirstFailure net cert Start 0

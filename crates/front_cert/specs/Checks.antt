@@ -1,12 +1,33 @@
 -- What a check tells of a label and of a whole certificate.
-use Rattle.std.specs.Prelude.{◌≡◌, ◌⊎◌, ◌↔◌, ◌<◌, ℕ, List, Option, Some, None, IfSome}
+use Rattle.std.specs.Prelude.{◌≡◌, ◌⊎◌, ◌↔◌, ◌<◌, ◌≤◌, ℕ, List, Option, Some, None, Contains, IfSome, slice_get}
 use Rattle.road_network.specs.Labels.{Label}
 use Rattle.road_network.specs.Network.{Network, Leads}
 use Rattle.cost_vector.specs.Costs.{plus}
-use Rattle.cert_rules.specs.Certificates.{Certificate, IsCovered, IsBeaten}
+use Rattle.road_network.specs.Walks.{EndsBy}
+use Rattle.cert_rules.specs.Certificates.{Certificate, IsCovered, IsBeaten, IsListed}
 use Rattle.cert_rules.specs.Rules.{FailsAt, HasNoFailure, IsFirstFailure, IsListedAbove, rule_number}
 use Rattle.cert_rules.specs.declared.rule.Rule.{Rule}
 use Rattle.cert_rules.specs.declared.rule.Rule.TheVariants.{Departure, LeastArc}
+
+-- a label that has an arc comes of a listed one by it
+abbrev pub Comes : Network → List Label → Label → Type 0
+Comes net labels l = 1 ≤ l.arc → EndsBy net l.arc l.node (IsListed labels) l.cost
+
+-- no listed cost dominates another of its node
+abbrev pub AreUnbeaten : List Label → Type 0
+AreUnbeaten labels = (l : Label) → Contains labels l → ¬ IsBeaten labels l.node l.cost
+
+-- The label at the place i is the first whose cost a listed one of its node dominates.
+pub record IsFirstBeaten (labels : List Label) (i : ℕ) : Type 0 where
+  pub label : Label
+  pub at : slice_get labels i ≡ Some label
+  pub beaten : IsBeaten labels label.node label.cost
+  pub first : (k : ℕ) (l : Label) → slice_get labels k ≡ Some l → k < i → ¬ IsBeaten labels l.node l.cost
+
+-- this is the first such place, if there is one
+abbrev pub TellsBeaten : List Label → Option ℕ → Type 0
+TellsBeaten labels None = AreUnbeaten labels
+TellsBeaten labels (Some i) = IsFirstBeaten labels i
 
 -- for arc k, which leads on from the label's node, this holds of its number, its head and the cost there
 pub record ForArc (net : Network) (l : Label) (k : ℕ) (P : ℕ → ℕ → List ℕ → Type 0) : Type 0 where

@@ -4,4 +4,5 @@ pub mod Found
 pub mod Lookup
 pub mod Text
 pub mod Checks
+pub mod Passed
 pub mod Reads

@@ -38,7 +38,7 @@ pub record AreKept (criteria : ℕ) (labels : List StoredLabel) : Type 0 where
 
 -- how many labels stand in a block
 abbrev pub block_size : ℕ
-block_size = 16
+block_size = 32
 
 -- Each of the first blocks of labels has a corner, which is at most each cost of the block.
 pub record AreCorners (criteria : ℕ) (labels : List StoredLabel) (corners : List (List ℕ)) : Type 0 where

@@ -41,7 +41,8 @@ pub fn check_cert<S: Source>(
     let mut listing = read_listing(alloc, source, network)?;
     listing.lay_offsets(alloc)?;
     listing.lay_corners(alloc)?;
-    match listing.first_failure(alloc, network)? {
+    let beaten = listing.seek_beaten(alloc)?;
+    match listing.first_failure(alloc, network, beaten)? {
         None => Ok(listing),
         Some((rule, label)) => Err(CertFault::Rule { rule, label }),
     }

@@ -8,7 +8,7 @@ use out_of_memory::OutOfMemory;
 use std::alloc::Global;
 
 /// How many labels stand in a block.
-pub(crate) const BLOCK: usize = 16;
+pub(crate) const BLOCK: usize = 32;
 
 /// The corners of all full blocks.
 pub(crate) fn corners_of(

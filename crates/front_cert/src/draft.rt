@@ -162,6 +162,7 @@ impl Draft {
             labels: self.labels,
             corners: Vec::new(alloc),
             offsets: Vec::new(alloc),
+            unbeaten: false,
         }
     }
 }

@@ -9,6 +9,7 @@ mod corners;
 mod draft;
 mod fault;
 mod found;
+mod hints;
 mod listing;
 mod lookup;
 mod offsets;

@@ -1,11 +1,13 @@
 ghost use Rattle.std.specs.Prelude.{◌≡◌, ◌<◌, ◌≤◌, ◌↔◌, ℕ, None, Some, length, map, slice_get, slice_index, Contains, IsTrue, IfSome};
 ghost use Rattle.cert_rules.specs.Certificates.{IsBeaten};
 ghost use Rattle.road_network.specs.Network.{IsNode};
+ghost use Rattle.front_cert.specs.Checks.{AreUnbeaten};
 ghost use Rattle.front_cert.specs.Listing.{AreKept, IsListingOf, line_of};
 
 use crate::corners::corners_of;
 use crate::draft::MAX_LABELS;
-use crate::lookup::{arc_at, is_beaten_at, place_by};
+use crate::hints::{Hint, in_32_bits};
+use crate::lookup::{arc_at, is_beaten_at, is_beaten_by, place_by};
 use crate::offsets::offsets_of;
 use arc_graph::Network;
 use cost_vector::{ArcNo, Cost, Label, NodeNo};
@@ -25,10 +27,13 @@ pub struct Listing {
     pub(crate) corners: Vec<Cost>,
     /// The labels of node v stand from `offsets[v - 1]` to `offsets[v]`, where there are such offsets.
     pub(crate) offsets: Vec<u32>,
+    /// Whether no listed cost dominates another of its node; false where that isn't known.
+    pub(crate) unbeaten: bool,
 }
 
 impl Model for Listing {
-    ghost use Rattle.std.specs.Prelude.{map};
+    ghost use Rattle.std.specs.Prelude.{◌≡◌, map, true};
+    ghost use Rattle.front_cert.specs.Checks.{AreUnbeaten};
     ghost use Rattle.front_cert.specs.Listing.{Listing, AreKeptWith, IsKept, line_of};
 
     ghost Value = { Listing };
@@ -43,7 +48,8 @@ impl Model for Listing {
       nodes = l.nodes;
       criteria = l.criteria;
       cert = record { start = l.start.0; target = l.target.0; labels = map line_of l.labels.items };
-    }) × AreKeptWith l.criteria l.labels.items l.corners.items l.offsets.items };
+    }) × AreKeptWith l.criteria l.labels.items l.corners.items l.offsets.items
+        × (l.unbeaten ≡ true → AreUnbeaten (map line_of l.labels.items)) };
 }
 
 impl Listing {
@@ -73,6 +79,7 @@ impl Listing {
             labels,
             corners: Vec::new(alloc),
             offsets: Vec::new(alloc),
+            unbeaten: false,
         }
     }
 
@@ -93,6 +100,14 @@ impl Listing {
             self.offsets = offsets_of(alloc, &self.labels, self.nodes)?;
         }
         Ok(())
+    }
+
+    /// Takes down that no listed cost dominates another of its node, or that this isn't known.
+    pub(crate) fn set_unbeaten(&mut self, unbeaten: bool)
+        requires { IsTrue unbeaten → AreUnbeaten self.old.cert.labels }
+        ensures { self.new ≡ self.old }
+    {
+        self.unbeaten = unbeaten;
     }
 
     /// The number of criteria.
@@ -122,26 +137,64 @@ impl Listing {
         ensures { (arc : ArcNo) → (result ≡ Some arc) ↔ Contains self.now.cert.labels
             (record { node = node.0; cost = cost.now; arc = arc.0 }) }
     {
-        let place = place_by(&self.labels, &self.offsets, node, cost);
+        let mut hint = Hint::NONE;
+        self.find_near(node, cost, &mut hint)
+    }
+
+    /// The same, found from the place of the hint on, which is where it would stand from then on.
+    pub(crate) fn find_near(&self, node: NodeNo, cost: &Cost, hint: &mut Hint) -> Option<ArcNo>
+        ensures { (arc : ArcNo) → (result ≡ Some arc) ↔ Contains self.now.cert.labels
+            (record { node = node.0; cost = cost.now; arc = arc.0 }) }
+    {
+        let place = place_by(&self.labels, &self.offsets, hint.place, node, cost);
+        hint.place = in_32_bits(place);
         arc_at(&self.labels, place, node, cost)
     }
 
     /// The same, and where there is none, whether a listed cost of the node dominates this one.
-    pub(crate) fn look(&self, node: NodeNo, cost: &Cost) -> (Option<ArcNo>, bool)
+    pub(crate) fn look_near(
+        &self,
+        node: NodeNo,
+        cost: &Cost,
+        hint: &mut Hint,
+    ) -> (Option<ArcNo>, bool)
         requires { length cost.now ≡ self.now.criteria }
         ensures found { (arc : ArcNo) → (result.0 ≡ Some arc) ↔ Contains self.now.cert.labels
             (record { node = node.0; cost = cost.now; arc = arc.0 }) }
         ensures beaten { result.0 ≡ None
             → (IsTrue result.1 ↔ IsBeaten self.now.cert.labels node.0 cost.now) }
     {
-        let place = place_by(&self.labels, &self.offsets, node, cost);
+        let place = place_by(&self.labels, &self.offsets, hint.place, node, cost);
+        hint.place = in_32_bits(place);
         match arc_at(&self.labels, place, node, cost) {
             Some(arc) => (Some(arc), false),
             None => (
                 None,
-                is_beaten_at(&self.labels, &self.corners, place, node, cost),
+                is_beaten_at(
+                    &self.labels,
+                    &self.corners,
+                    place,
+                    node,
+                    cost,
+                    &mut hint.better,
+                ),
             ),
         }
+    }
+
+    /// Whether the label at a place is of the node and dominates this cost.
+    pub(crate) fn is_beaten_by(&self, place: u32, node: NodeNo, cost: &Cost) -> bool
+        requires { length cost.now ≡ self.now.criteria }
+        ensures { IsTrue result → IsBeaten self.now.cert.labels node.0 cost.now }
+    {
+        is_beaten_by(&self.labels, place, node, cost)
+    }
+
+    /// Whether it is known that no listed cost dominates another of its node.
+    pub(crate) fn is_unbeaten(&self) -> bool
+        ensures { IsTrue result → AreUnbeaten self.now.cert.labels }
+    {
+        self.unbeaten
     }
 
     /// Whether a listed cost of the node dominates this one.
@@ -149,7 +202,15 @@ impl Listing {
         requires { length cost.now ≡ self.now.criteria }
         ensures { IsTrue result ↔ IsBeaten self.now.cert.labels node.0 cost.now }
     {
-        let place = place_by(&self.labels, &self.offsets, node, cost);
-        is_beaten_at(&self.labels, &self.corners, place, node, cost)
+        let mut hint = Hint::NONE;
+        let place = place_by(&self.labels, &self.offsets, hint.place, node, cost);
+        is_beaten_at(
+            &self.labels,
+            &self.corners,
+            place,
+            node,
+            cost,
+            &mut hint.better,
+        )
     }
 }

@@ -2,20 +2,29 @@
 ghost use Rattle.std.specs.Prelude.{◌≡◌, ◌<◌, ◌≤◌, ◌-◌, ◌↔◌, ◌⊎◌, ℕ, Some, length, map, take, drop, All, AllPairs, Contains, IsTrue};
 ghost use Rattle.cert_rules.specs.Certificates.{IsBeaten};
 ghost use Rattle.front_cert.specs.Listing.{AreCorners, line_of};
-ghost use Rattle.front_cert.specs.Lookup.{IsPassed, IsPlace, Precedes, is_before};
+ghost use Rattle.front_cert.specs.Lookup.{Encloses, IsPassed, IsPlace, Precedes, is_before};
 ghost use Rattle.front_cert.specs.Offsets.{AreOffsets, IsSpan};
 
 use crate::corners::BLOCK;
+use crate::hints::in_32_bits;
 use cost_vector::{ArcNo, Cost, Label, NodeNo};
 
-/// How many labels stand before each of this node and this cost, as is found among those of the node alone.
-pub(crate) fn place_by(labels: &[Label], offsets: &[u32], node: NodeNo, cost: &Cost) -> usize
+/// How many labels stand before each of this node and this cost, as is found among those of the node alone, and from the place
+/// of the hint on.
+pub(crate) fn place_by(
+    labels: &[Label],
+    offsets: &[u32],
+    hint: u32,
+    node: NodeNo,
+    cost: &Cost,
+) -> usize
     requires ascending { AllPairs Precedes labels.now }
     requires offsets { AreOffsets labels.now offsets.now }
     ensures within { result ≤ length labels.now }
     ensures place { IsPlace labels.now node.0 cost.now result }
 {
-    let (first, end) = span_of(labels, offsets, node);
+    let (least, greatest) = span_of(labels, offsets, node);
+    let (first, end) = narrowed(labels, least, greatest, hint as usize, node, cost);
     first + place_of(span(labels, first, end), node, cost)
 }
 
@@ -29,6 +38,55 @@ fn span_of(labels: &[Label], offsets: &[u32], node: NodeNo) -> (usize, usize)
         return (0, labels.len());
     }
     (offsets[v - 1] as usize, offsets[v] as usize)
+}
+
+/// A part of the places from one to another in which the place of this node and this cost is still, near the hint where that is
+/// one of them.
+fn narrowed(
+    labels: &[Label],
+    first: usize,
+    end: usize,
+    hint: usize,
+    node: NodeNo,
+    cost: &Cost,
+) -> (usize, usize)
+    requires ascending { AllPairs Precedes labels.now }
+    requires encloses { Encloses labels.now node.0 cost.now first end }
+    ensures { Encloses labels.now node.0 cost.now result.0 result.1 }
+{
+    if hint < first || hint >= end {
+        return (first, end);
+    }
+    if is_before(&labels[hint], node, cost) {
+        return onward(labels, hint + 1, end, node, cost);
+    }
+    if hint == first {
+        return (first, first);
+    }
+    if is_before(&labels[hint - 1], node, cost) {
+        (hint, hint)
+    } else {
+        (first, hint - 1)
+    }
+}
+
+/// A part of the places from one to another in which the place of this node and this cost is still, by steps that double.
+fn onward(labels: &[Label], least: usize, end: usize, node: NodeNo, cost: &Cost) -> (usize, usize)
+    requires ascending { AllPairs Precedes labels.now }
+    requires encloses { Encloses labels.now node.0 cost.now least end }
+    ensures { Encloses labels.now node.0 cost.now result.0 result.1 }
+{
+    let mut first = least;
+    let mut step = 1;
+    'steps: while step <= end - first {
+        let last = first + step - 1;
+        if !is_before(&labels[last], node, cost) {
+            return (first, last);
+        }
+        first = last + 1;
+        step = step.saturating_mul(2);
+    }
+    (first, end)
 }
 
 /// The labels from one place to another.
@@ -86,13 +144,26 @@ fn is_of(label: &Label, node: NodeNo, cost: &Cost) -> bool
     label.node == node && label.cost == *cost
 }
 
-/// Whether a cost of the node dominates this one, which would stand at this place: what dominates stands before it.
+/// Whether the label at a place is of the node and dominates this cost.
+pub(crate) fn is_beaten_by(labels: &[Label], place: u32, node: NodeNo, cost: &Cost) -> bool
+    requires { All (λ l. length l.cost ≡ length cost.now) labels.now }
+    ensures { IsTrue result → IsBeaten (map line_of labels.now) node.0 cost.now }
+{
+    match labels.get(place as usize) {
+        Some(label) => label.node == node && label.cost.dominates(cost),
+        None => false,
+    }
+}
+
+/// Whether a cost of the node dominates this one, which would stand at this place: what dominates stands before it. Where one
+/// does, its place is `better` from then on.
 pub(crate) fn is_beaten_at(
     labels: &[Label],
     corners: &[Cost],
     place: usize,
     node: NodeNo,
     cost: &Cost,
+    better: &mut u32,
 ) -> bool
     requires ascending { AllPairs Precedes labels.now }
     requires within { place ≤ length labels.now }
@@ -108,6 +179,7 @@ pub(crate) fn is_beaten_at(
             return false;
         }
         if label.cost.at_most(cost) {
+            *better = in_32_bits(left - 1);
             return true;
         }
         left -= passed_over(corners, left, cost);

@@ -8,11 +8,11 @@ use Rattle.front_cert.proofs.corners.corners_of.Goals as goal
 pub loop-block-preserved : goal.loop-block-preserved
 loop-block-preserved c =
     let labels = c.args.labels.now in let d = c.args.criteria in let corners = c.loop-block.corners.items in
-    let first = c.loop-block.block * 16 in
+    let first = c.loop-block.block * 32 in
     let corner = c.corner_of.result in
-    let is_first : first ≡ length corners * 16 = omega (arith, c.loop-block.invariant.count) in
-    let within : first + 16 ≤ length labels = omega (arith, c.loop-block-test.true) in
-    let size : first + 16 - first ≡ 16 = omega arith in
+    let is_first : first ≡ length corners * 32 = omega (arith, c.loop-block.invariant.count) in
+    let within : first + 32 ≤ length labels = omega (arith, c.loop-block-test.true) in
+    let size : first + 32 - first ≡ 32 = omega arith in
     record {
       count = ap length c.in_ok-push.ensures.items ∙ length-append corners (corner ∷ []) ∙ ap (λ n. n + 1) c.loop-block.invariant.count;
       are = subst (AreCorners d labels) (sym c.in_ok-push.ensures.items)

@@ -5,8 +5,8 @@ use Rattle.front_cert.proofs.lookup.passed_over.Goals as goal
 
 pub returns-then-not-at_most-clause-block : goal.returns-then-not-at_most-clause-block
 returns-then-not-at_most-clause-block c =
-    let block = (c.args.end - 1) / 16 in
-    let ends : block * 16 + 16 ≡ c.args.end = omega (arith, c.requires.some, c.if-end-eq0.true) in
+    let block = (c.args.end - 1) / 32 in
+    let ends : block * 32 + 32 ≡ c.args.end = omega (arith, c.requires.some, c.if-end-eq0.true) in
     inr (record {
       block = block;
       there = c.if-block-corners.true;

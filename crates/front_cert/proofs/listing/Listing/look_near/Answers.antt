@@ -1,4 +1,4 @@
-use Rattle.front_cert.proofs.listing.Listing.look.Goals as goal
+use Rattle.front_cert.proofs.listing.Listing.look_near.Goals as goal
 
 pub returns-in-Some-clause-found : goal.returns-in-Some-clause-found
 returns-in-Some-clause-found c arc = rw (← c.self.view_is) (rw c.deref-3.ensures.value at (c.in-Some.ensures arc))

@@ -7,15 +7,15 @@ use Rattle.route_io.specs.declared.fault.WriteFault.{WriteFault}
 use Rattle.route_io.specs.Files.{FileMap}
 use Rattle.route_io.specs.Sinks.{SinkState, Sends}
 use Rattle.route_io.specs.Sources.{SourceState, ReadsFrom}
-use Rattle.route_top.specs.declared.stop.Stop.TheVariants as stop
-use Rattle.route_top.specs.FilesRead.{FilesEnd, ReadAs}
+use Rattle.still_commands.specs.declared.stop.Stop.TheVariants as stop
+use Rattle.still_commands.specs.FilesRead.{FilesEnd, ReadAs}
+use Rattle.still_commands.specs.Outcome.{Outcome, done, no_memory, status_of}
+use Rattle.still_commands.specs.Output.{RunsCommand}
+use Rattle.still_commands.specs.Stops.{Replies, outcome_of}
+use Rattle.still_commands.proofs.FilesReadLemmas.{ends_over}
+use Rattle.still_commands.proofs.RunsLemmas.{nothing_sent, replies_so, runs_then, sent_done, sent_part}
 use Rattle.route_top.specs.Lanes.{SaysScript, ScriptStop, ScriptsEnd, ScriptsStop, scripts_read, scripts_stop, starved}
-use Rattle.route_top.specs.Outcome.{Outcome, done, no_memory, status_of}
-use Rattle.route_top.specs.Output.{RunsCommand}
-use Rattle.route_top.specs.Stops.{Replies, outcome_of}
-use Rattle.route_top.proofs.FilesReadLemmas.{ends_over}
 use Rattle.route_top.proofs.LanesRuns.{script_leaves_out}
-use Rattle.route_top.proofs.RunsLemmas.{nothing_sent, replies_so, runs_then, sent_done, sent_part}
 
 -- scripts behind one another
 pub says_append : (files : Option FileMap) (names more : List (List ℕ)) (scripts others : List (List ℕ)) → AllZip (SaysScript files) names scripts

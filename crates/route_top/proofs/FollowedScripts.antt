@@ -22,15 +22,15 @@ use Rattle.route_lanes.specs.Following.{FollowReport, RunsFollow}
 use Rattle.route_lanes.specs.Lanes.{Lane, LaneReport}
 use Rattle.route_lanes.specs.Leading.{IsFeedWritten, WritesFeed}
 use Rattle.route_lanes.specs.declared.feed_lane.FeedReport.{FeedReport}
-use Rattle.route_top.specs.Follow.{FeedOfScript, RepliesBesideFeeds, WriteReplies, feed_lines}
-use Rattle.route_top.specs.Lanes.{SaysScript, lanes_reply, max_script}
 use Rattle.route_io.specs.Files.{FileMap}
 use Rattle.std.specs.List.{AllZip}
-use Rattle.route_top.specs.Outcome.{done, no_memory}
-use Rattle.route_top.specs.Stops.{Replies, outcome_of, stop_at}
+use Rattle.still_commands.specs.Outcome.{done, no_memory}
+use Rattle.still_commands.specs.Stops.{Replies, outcome_of, stop_at}
+use Rattle.still_commands.proofs.RunsLemmas.{starves}
+use Rattle.route_top.specs.Follow.{FeedOfScript, RepliesBesideFeeds, WriteReplies, feed_lines}
+use Rattle.route_top.specs.Lanes.{SaysScript, lanes_reply, max_script}
 use Rattle.route_top.proofs.FollowFeeds.{FeedsRun, feeds_run}
 use Rattle.route_top.proofs.FollowRuns.{sends_part, sends_whole}
-use Rattle.route_top.proofs.RunsLemmas.{starves}
 use Rattle.route_top.proofs.ServedScripts.{all_of_map, has_replied, lent_back, most_taken, sessions_exchange, state_of, unsent_sink}
 
 -- there is a feed for each name

@@ -7,13 +7,13 @@ use Rattle.std.specs.Global.{Vec}
 use Rattle.std.proofs.lemmas.List.FromFn.{get_or-map-range_with_len, length-map-range_with_len}
 use Rattle.route_io.specs.Files.{FileMap, Opens}
 use Rattle.command_words.specs.Words.{LanesAsked, scripts_of, session_name}
-use Rattle.route_top.specs.declared.script.ScriptFault.{ScriptFault}
-use Rattle.route_top.specs.declared.script.ScriptFault.TheVariants as fault
+use Rattle.still_commands.specs.declared.stop.ScriptFault.{ScriptFault}
+use Rattle.still_commands.specs.declared.stop.ScriptFault.TheVariants as fault
+use Rattle.still_commands.specs.Outcome.{Outcome}
+use Rattle.still_commands.specs.Stops.{script_outcome}
+use Rattle.still_commands.proofs.FilesReadLemmas.{tells}
 use Rattle.route_top.specs.Lanes.{SaysScript, ScriptStop, ScriptsStop, failed, max_script, starved, too_long}
-use Rattle.route_top.specs.Outcome.{Outcome}
 use Rattle.route_top.specs.Scripts.{WholeRead}
-use Rattle.route_top.specs.Stops.{script_outcome}
-use Rattle.route_top.proofs.FilesReadLemmas.{tells}
 
 -- the script behind the operator's and those of the sessions before is that of the next session
 pub session_at : (asked : LanesAsked) (n : ℕ) → 1 ≤ n → n ≤ asked.count → session_name asked.stem n ≡ get_or (scripts_of asked) n []

@@ -9,14 +9,15 @@ use Rattle.route_io.specs.Files.{FileMap}
 use Rattle.route_io.specs.Sinks.{SinkState, Sends}
 use Rattle.route_io.specs.Sources.{SourceState, ReadsFrom}
 use Rattle.command_words.specs.Words.{LanesAsked, lanes, scripts_of}
-use Rattle.route_top.specs.declared.stop.Stop.TheVariants as stop
-use Rattle.route_top.specs.FilesRead.{ReadAs}
+use Rattle.still_commands.specs.declared.stop.Stop.TheVariants as stop
+use Rattle.still_commands.specs.FilesRead.{ReadAs}
+use Rattle.still_commands.specs.Outcome.{Outcome, done, no_memory, status_of}
+use Rattle.still_commands.specs.Output.{RunsCommand}
+use Rattle.still_commands.specs.Stops.{Replies, outcome_of}
+use Rattle.still_commands.proofs.FilesReadLemmas.{ends_over}
+use Rattle.still_commands.proofs.RunsLemmas.{LeavesOut, nothing_sent, replies_so, runs_then, sent_done, sent_part, starves}
 use Rattle.route_top.specs.Lanes.{LanesEnd, LanesReplies, RepliesToScripts, SaysScript, ScriptStop, ScriptsEnd, ScriptsStop, failed, max_script, scripts_read, scripts_stop, starved, too_long}
-use Rattle.route_top.specs.Outcome.{Outcome, done, no_memory, status_of}
-use Rattle.route_top.specs.Output.{Ends, RunsCommand}
-use Rattle.route_top.specs.Stops.{Replies, outcome_of}
-use Rattle.route_top.proofs.FilesReadLemmas.{ends_over}
-use Rattle.route_top.proofs.RunsLemmas.{LeavesOut, nothing_sent, replies_so, runs_then, sent_done, sent_part, starves}
+use Rattle.route_top.specs.Ends.{Ends}
 
 -- what holds of all names that are read holds of those of the scripts
 pub of_scripts : (P : List ℕ → Type 0) (files scripts : List (List ℕ)) → All P (files ++ scripts) → All P scripts

@@ -20,14 +20,13 @@ use Rattle.command_words.specs.Words.{Asked, ServeAsked}
 use Rattle.route_lanes.proofs.VisitLemmas.{count_first}
 use Rattle.route_lanes.specs.Serving.{DoorLane, IsDoorLane, ServesLanes}
 use Rattle.route_lanes.specs.declared.serve.Served.{Served}
-use Rattle.route_top.specs.FilesRead.{FilesStop, at_file, disagree, failed, faulty, starved, unjoined}
+use Rattle.still_commands.specs.FilesRead.{FilesStop, at_file, disagree, failed, faulty, starved, unjoined}
+use Rattle.still_commands.specs.declared.stop.Stop.TheVariants as stop
+use Rattle.still_commands.specs.Outcome.{Outcome, done, no_memory, status_of, town_failed}
+use Rattle.still_commands.specs.Stops.{Replies, outcome_of, stop_of_town}
+use Rattle.still_commands.proofs.RunsLemmas.{nothing_sent, replies_so, sent_part, sent_whole, starves, stays}
 use Rattle.route_top.specs.Lanes.{graph_of, weights_of}
-use Rattle.route_top.specs.declared.stop.Stop.TheVariants as stop
-use Rattle.route_top.specs.Outcome.{Outcome, done, no_memory, status_of, town_failed}
-use Rattle.route_top.specs.Serve.{ServeReplies, ServesDoors, ServesTown, EndsTown, TownByWords, asks, left_alone, listened, max_taken, refused, served, served_by, served_outcome, serves, unasked, unheard, unread, unready}
-use Rattle.route_top.specs.Stops.{Replies, outcome_of, stop_of_town}
-use Rattle.route_top.specs.Texts.{ready_reply}
-use Rattle.route_top.proofs.RunsLemmas.{nothing_sent, replies_so, sent_part, sent_whole, starves, stays}
+use Rattle.route_top.specs.Serve.{ServeReplies, ServesDoors, ServesTown, EndsTown, TownByWords, asks, left_alone, listened, max_taken, ready_reply, refused, served, served_by, served_outcome, serves, unasked, unheard, unread, unready}
 
 -- ---- what is sent
 

@@ -16,9 +16,9 @@ use Rattle.session_core.specs.Exchanges.{Exchange, text_exchanged}
 use Rattle.command_words.specs.Words.{FollowAsked, TakeAsked, WriteAsked, feeds_of, session_name, sessions_of, take, write}
 use Rattle.route_lanes.specs.Following.{max_feed}
 use Rattle.route_lanes.specs.declared.feed_lane.FeedReport.{FeedReport}
-use Rattle.route_top.specs.FilesRead.{FilesEnd}
+use Rattle.still_commands.specs.FilesRead.{FilesEnd}
+use Rattle.still_commands.specs.Outcome.{Outcome, done, no_memory}
 use Rattle.route_top.specs.Lanes.{IsOperatorExchange, IsSessionExchange, ScriptsEnd, graph_of, lanes_reply, weights_of}
-use Rattle.route_top.specs.Outcome.{Outcome, done, no_memory}
 
 -- the names of files that begin with a stem, from number 1 on
 abbrev pub numbered : List ℕ → ℕ → List (List ℕ)

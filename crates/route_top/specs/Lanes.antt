@@ -14,8 +14,8 @@ use Rattle.session_core.specs.Operators.{IsOperatorBye, OperatorRun}
 use Rattle.session_core.specs.Sessions.{IsSessionBye, Scene, SessionRun}
 use Rattle.session_core.specs.Exchanges.{Exchange, lines_exchanged, text_exchanged}
 use Rattle.command_words.specs.Words.{LanesAsked, scripts_of}
-use Rattle.route_top.specs.FilesRead.{Tells}
-use Rattle.route_top.specs.Outcome.{Outcome, done, folder_failed, no_memory, script_too_long}
+use Rattle.still_commands.specs.FilesRead.{Tells}
+use Rattle.still_commands.specs.Outcome.{Outcome, done, folder_failed, no_memory, script_too_long}
 
 -- the most bytes of a script
 abbrev pub max_script : ℕ

@@ -1,12 +1,17 @@
--- The names of scripts, and what reading one answers.
-use Rattle.std.specs.Prelude.{◌≡◌, ℕ, ◌<◌, ◌≤◌, List, Option, Result, Ok, Err, IfSome, length}
+-- What the reading of a script answers.
+use Rattle.std.specs.Prelude.{◌≡◌, ℕ, ◌<◌, ◌≤◌, List, Bool, true, false, Option, Result, Ok, Err, IfSome, length}
 use Rattle.std.specs.Global.{Vec}
 use Rattle.route_io.specs.Files.{FileMap}
-use Rattle.route_top.specs.declared.script.ScriptFault.{ScriptFault}
-use Rattle.route_top.specs.declared.script.ScriptFault.TheVariants as fault
-use Rattle.route_top.specs.declared.stop.Stop.{Stop}
+use Rattle.still_commands.specs.declared.stop.ScriptFault.{ScriptFault}
+use Rattle.still_commands.specs.declared.stop.ScriptFault.TheVariants as fault
+use Rattle.still_commands.specs.declared.stop.Stop.{Stop}
+use Rattle.still_commands.specs.Stops.{outcome_of}
 use Rattle.route_top.specs.Lanes.{SaysScript, ScriptStop, max_script}
-use Rattle.route_top.specs.Stops.{outcome_of}
+
+-- the test that the source of a script failed
+abbrev pub script_failed : {T : Type 0} → Result T ScriptFault → Bool
+script_failed (Err fault.Folder) = true
+script_failed other = false
 
 -- all that was left of a source was read, or it is too long for a script
 abbrev pub WholeRead : Option (List ℕ) → Result (Vec ℕ) ScriptFault → Type 0

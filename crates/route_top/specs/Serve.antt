@@ -1,5 +1,5 @@
 -- What the command `serve` does over a network: it has the town listen, says so, and serves the links of its doors.
-use Rattle.std.specs.Prelude.{◌≡◌, ◌≢◌, ◌⊎◌, ℕ, ◌^◌, ltb, Bool, true, false, List, [], Option, Result, Ok, Err}
+use Rattle.std.specs.Prelude.{◌≡◌, ◌≢◌, ◌⊎◌, ℕ, ◌^◌, ltb, Bool, true, false, List, [], ◌++◌, Option, Result, Ok, Err, codes}
 use Rattle.route_io.specs.Causes.{Rose}
 use Rattle.route_io.specs.Files.{FileMap}
 use Rattle.route_io.specs.Sinks.{SinkState, Sends}
@@ -7,19 +7,23 @@ use Rattle.route_io.specs.declared.fault.WriteFault.{WriteFault}
 use Rattle.route_io.specs.declared.fault.WriteFault.TheVariants as write
 use Rattle.link_doors.specs.Doors.{DoorState}
 use Rattle.link_doors.specs.Towns.{HandsOut, TakesBack, TownState}
+use Rattle.answer_writer.specs.Replies.{and_number, end_line}
 use Rattle.out_of_memory.specs.declared.OutOfMemory.{OutOfMemory}
 use Rattle.road_network.specs.Network.{Network}
 use Rattle.command_words.specs.Words.{Asked, ServeAsked, serve}
 use Rattle.route_lanes.specs.Serving.{ServesLanes}
 use Rattle.route_lanes.specs.declared.serve.Served.{Served}
-use Rattle.route_top.specs.FilesRead.{FilesStop, ReadAs}
+use Rattle.still_commands.specs.FilesRead.{FilesStop, ReadAs}
+use Rattle.still_commands.specs.Outcome.{Outcome, done, no_memory, out_failed, out_wanted, status_of, town_failed}
 use Rattle.route_top.specs.Lanes.{graph_of, weights_of}
-use Rattle.route_top.specs.Outcome.{Outcome, done, no_memory, out_failed, out_wanted, status_of, town_failed}
-use Rattle.route_top.specs.Texts.{ready_reply}
 
 -- the most bytes that are taken from a link
 abbrev pub max_taken : ℕ
 max_taken = 2 ^ 40
+
+-- `ready L`: links may come in, for L lanes of sessions
+abbrev pub ready_reply : ℕ → List ℕ
+ready_reply lanes = codes "ready" ++ and_number lanes ++ end_line
 
 -- what is sent: that links may come in, unless the town failed or memory ran out before
 abbrev pub ServeReplies : ServeAsked → Outcome → List ℕ → Type 0

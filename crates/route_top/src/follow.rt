@@ -10,16 +10,14 @@ ghost use Rattle.command_words.specs.Ranges.{max_feeds};
 ghost use Rattle.command_words.specs.Words.{AreFeeds, AreSearchLimits, CountInRange, FollowLanesInRange, FollowLimitsInRange};
 ghost use Rattle.command_words.specs.Words.{feeds_of, files_of_follow, follow_asked, names_of_follow, sessions_of};
 ghost use Rattle.command_words.specs.Words.{take, take_asked, write, write_asked};
+ghost use Rattle.still_commands.specs.Outcome.{status_of};
+ghost use Rattle.still_commands.specs.Output.{RunsCommand};
+ghost use Rattle.still_commands.specs.Stops.{outcome_of, run_outcome};
 ghost use Rattle.route_top.specs.Follow.{FollowEnds, feed_line, feed_lines, numbered};
 ghost use Rattle.route_top.specs.Lanes.{SaysScript, ScriptsStop, lanes_reply};
-ghost use Rattle.route_top.specs.Outcome.{status_of};
-ghost use Rattle.route_top.specs.Output.{RunsCommand};
-ghost use Rattle.route_top.specs.Stops.{outcome_of, run_outcome};
 
 use crate::lanes::{MAX_TAKEN, link_of, put_lanes};
-use crate::network::read_network;
-use crate::script::{Script, read_script};
-use crate::stop::Stop;
+use crate::script::read_script;
 use answer_writer::{Piece, put_line};
 use command_words::{FollowWords, TakeWords, WriteWords};
 use epoch_follow::FeedEnd;
@@ -32,6 +30,7 @@ use std::alloc::Global;
 use std::sync::Wait;
 use std::thread::Threads;
 use std::time::Clock;
+use still_commands::{Script, Stop, read_network};
 use work_claim::Workers;
 
 /// Writes the feed of an operator's script, or takes feeds and serves sessions beside them, over the named files.

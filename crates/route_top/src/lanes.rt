@@ -6,14 +6,13 @@ ghost use Rattle.route_io.specs.Sources.{ReadsFrom};
 ghost use Rattle.session_core.specs.declared.end.SessionEnd.TheVariants as ended;
 ghost use Rattle.command_words.specs.Words.{FilesInRange, AreLanes, AreSearchLimits, lanes};
 ghost use Rattle.command_words.specs.Words.{lanes_asked, names_of, scripts_of};
+ghost use Rattle.still_commands.specs.Outcome.{status_of};
+ghost use Rattle.still_commands.specs.Output.{RunsCommand};
+ghost use Rattle.still_commands.specs.Stops.{outcome_of, run_outcome, script_name};
 ghost use Rattle.route_top.specs.Lanes.{SaysScript, ScriptsStop, heading, lanes_reply};
-ghost use Rattle.route_top.specs.Outcome.{status_of};
-ghost use Rattle.route_top.specs.Output.{Ends, RunsCommand};
-ghost use Rattle.route_top.specs.Stops.{outcome_of, run_outcome, script_name};
+ghost use Rattle.route_top.specs.Ends.{Ends};
 
-use crate::network::read_network;
-use crate::script::{Script, read_script};
-use crate::stop::Stop;
+use crate::script::read_script;
 use answer_writer::{Piece, put_line};
 use command_words::LanesWords;
 use route_io::sure::{SureSink, SureSource};
@@ -24,6 +23,7 @@ use std::alloc::Global;
 use std::sync::Wait;
 use std::thread::Threads;
 use std::time::Clock;
+use still_commands::{Script, Stop, read_network};
 use work_claim::Workers;
 
 /// The most bytes that are taken from a link. No script has as many.

@@ -1,53 +1,31 @@
 //! The top call: it does all that the program does, from the words of the command line to the exit status.
 #![tactic(auto)]
 
-ghost use Rattle.std.specs.Prelude.{◌≡◌, ◌==◌, ◌⊎◌, ◌↔◌, ℕ, List, All, IsTrue};
+ghost use Rattle.std.specs.Prelude.{◌≡◌, ◌==◌, ◌⊎◌, ◌↔◌, ℕ, List, IsTrue};
 ghost use Rattle.route_io.specs.Causes.{IsCounted};
 ghost use Rattle.route_io.specs.Sources.{ReadsFrom};
-ghost use Rattle.command_words.specs.Words.{AreWords, Asks, LimitsInRange, FilesInRange, IsStill, NamesWaiting};
-ghost use Rattle.command_words.specs.Words.{PlanInRange};
-ghost use Rattle.command_words.specs.Words.{asked_of, names_of, texts_of};
-ghost use Rattle.route_top.specs.Outcome.{note_of, status_of};
-ghost use Rattle.route_top.specs.Output.{AreStillWords, AsksStill, Ends, EndsByWords, IsAskedName, Output};
-ghost use Rattle.route_top.specs.Output.{RunsCommand, TookNote};
+ghost use Rattle.command_words.specs.Words.{AreWords, Asks, NamesWaiting, texts_of};
+ghost use Rattle.still_commands.specs.Output.{EndsByWords, IsAskedName, Output, RunsCommand};
+ghost use Rattle.still_commands.specs.Stops.{run_outcome};
+ghost use Rattle.route_top.specs.Ends.{Ends};
 ghost use Rattle.route_top.specs.Serve.{EndsTown, IsReadyTown, TownByWords};
-ghost use Rattle.route_top.specs.Stops.{run_outcome};
 
-mod batch;
-mod check;
-mod counting;
 mod follow;
-mod generate;
-mod goal;
 mod lanes;
 mod laws;
-mod network;
-mod plan;
-mod prove;
-mod reply;
 mod script;
 mod serve;
-mod single;
-mod status;
-mod stop;
-mod summary;
-mod verify;
 
 use command_words::{Command, WordsFault, read_words};
-pub use goal::goal_answers_wherever_one_does;
 pub use laws::{follow_keeps_to_its_leader, written_feeds_come_from_their_script};
 use link_doors::Town;
 use route_io::{Folder, Gate, Sink};
-use status::DONE;
-pub use status::WANT_OF_MEMORY;
 use std::alloc::Global;
 use std::sync::Wait;
 use std::thread::Threads;
 use std::time::Clock;
-use stop::Stop;
-
-/// The most bytes of a file.
-pub const MAX_FILE_SIZE: u64 = 1 << 29;
+pub use still_commands::{WANT_OF_MEMORY, run_still};
+use still_commands::{Stop, end};
 
 /// Runs the command that the words ask for over the folder's files, and answers the exit status. Replies go to `out`.
 /// On each status but 0 and 8 one line goes to `err`, whose faults only cut that line. `serve` asks the town for doors, and
@@ -81,7 +59,7 @@ pub fn route<R: Threads + Wait + Clock + Sync, G: Gate, F: Folder, K: Sink, E: S
     requires town { IsReadyTown (Asks (texts_of words.now)) T.admits (T.state town.old) }
 
     // One outcome says all: what was read and sent, what the folder and the sinks counted, the note and the status.
-    ensures output { Output (Asks (texts_of words.now)) (F.state folder.old) (F.state folder.new)
+    ensures output { Output Ends (Asks (texts_of words.now)) (F.state folder.old) (F.state folder.new)
         (K.state out.old) (K.state out.new) (E.state err.old) (E.state err.new) result }
 
     // The words alone make status 2, unless memory runs out.
@@ -105,49 +83,6 @@ pub fn route<R: Threads + Wait + Clock + Sync, G: Gate, F: Folder, K: Sink, E: S
         run_waiting(rt, alloc, words, folder, out, town, gate),
         err,
     )
-}
-
-/// Runs the command that the words ask for, as `route` does, where it is one that waits for nobody: `lanes`, `serve` and
-/// `follow` are no commands here.
-pub fn run_still<R: Threads + Sync, G: Gate, F: Folder, K: Sink, E: Sink>(
-    rt: &R,
-    alloc: Global,
-    words: &[String],
-    folder: &mut F,
-    out: &mut K,
-    err: &mut E,
-    gate: &G,
-) -> u8
-    requires { (name : List ℕ) → IsAskedName (AsksStill (texts_of words.now)) name → F.admits name }
-
-    // One outcome says all.
-    ensures output { Output (AsksStill (texts_of words.now)) (F.state folder.old) (F.state folder.new)
-        (K.state out.old) (K.state out.new) (E.state err.old) (E.state err.new) result }
-
-    // The words alone make status 2, unless memory runs out.
-    ensures bad_words { result ≡ 2 → ¬ AreStillWords (texts_of words.now) }
-    ensures only_bad_words { ¬ AreStillWords (texts_of words.now) → (result ≡ 2) ⊎ (result ≡ 9) }
-
-    // The folder's failures alone make status 3, and those of `out` status 4.
-    ensures folder { ReadsFrom (F.state folder.old) (F.state folder.new) (result == 3) }
-    ensures out { IsCounted (result == 4) (K.state out.old).faults (K.state out.new).faults }
-{
-    end(alloc, run(rt, alloc, words, folder, out, gate), err)
-}
-
-/// Sends the note of a run that has ended, and answers its status.
-fn end<E: Sink>(alloc: Global, done: Result<(), Stop<'_>>, err: &mut E) -> u8
-    ensures note { TookNote (E.state err.old) (E.state err.new)
-        (note_of (run_outcome done.entry)) }
-    ensures status { result ≡ status_of (run_outcome done.entry) }
-{
-    match done {
-        Ok(()) => DONE,
-        Err(stop) => {
-            let _ = stop.note(alloc, err);
-            stop.status()
-        }
-    }
 }
 
 /// Whether the words name a command that waits.
@@ -179,7 +114,8 @@ fn run_waiting<'a, R: Threads + Wait + Clock + Sync, G: Gate, F: Folder, K: Sink
     ensures town { TownByWords (Asks (texts_of words.entry.now)) (F.state folder.old).files
         (T.state town.old) (T.state town.new) (K.state out.old) (K.state out.new)
         (run_outcome result) }
-    ensures runs { RunsCommand (EndsByWords (Asks (texts_of words.entry.now)) (F.state folder.old).files)
+    ensures runs { RunsCommand
+        (EndsByWords Ends (Asks (texts_of words.entry.now)) (F.state folder.old).files)
         (F.state folder.old) (F.state folder.new) (K.state out.old) (K.state out.new)
         (run_outcome result) }
 {
@@ -190,72 +126,5 @@ fn run_waiting<'a, R: Threads + Wait + Clock + Sync, G: Gate, F: Folder, K: Sink
         Ok(_) => unreachable!(),
         Err(WordsFault::Refused) => Err(Stop::Words),
         Err(WordsFault::OutOfMemory) => Err(Stop::OutOfMemory),
-    }
-}
-
-/// Runs a command that waits for nobody, and says why where it isn't done.
-fn run<'a, R: Threads + Sync, G: Gate, F: Folder, K: Sink>(
-    rt: &R,
-    alloc: Global,
-    words: &'a [String],
-    folder: &mut F,
-    out: &mut K,
-    gate: &G,
-) -> Result<(), Stop<'a>>
-    requires { (name : List ℕ) → IsAskedName (AsksStill (texts_of words.now)) name → F.admits name }
-    ensures { RunsCommand (EndsByWords (AsksStill (texts_of words.entry.now)) (F.state folder.old).files)
-        (F.state folder.old) (F.state folder.new) (K.state out.old) (K.state out.new)
-        (run_outcome result) }
-{
-    match read_words(alloc, words) {
-        Ok(command) => {
-            if !is_still(&command) {
-                return Err(Stop::Words);
-            }
-            carry_out(rt, alloc, &command, folder, out, gate)
-        }
-        Err(WordsFault::Refused) => Err(Stop::Words),
-        Err(WordsFault::OutOfMemory) => Err(Stop::OutOfMemory),
-    }
-}
-
-/// Whether a command waits for nobody.
-fn is_still(command: &Command<'_>) -> bool
-    ensures { IsTrue result ↔ IsStill (asked_of command.now) }
-{
-    match command {
-        Command::Lanes(_) | Command::Serve(_) | Command::Follow(_) => false,
-        Command::Single(_) | Command::Check(_) | Command::Batch(_) | Command::Gen(_) => true,
-        Command::Goal(_) | Command::Prove(_) | Command::Verify(_) => true,
-    }
-}
-
-/// Carries out a command that waits for nobody.
-fn carry_out<'a, R: Threads + Sync, G: Gate, F: Folder, K: Sink>(
-    rt: &R,
-    alloc: Global,
-    command: &Command<'a>,
-    folder: &mut F,
-    out: &mut K,
-    gate: &G,
-) -> Result<(), Stop<'a>>
-    requires still { IsStill (asked_of command.now) }
-    requires admitted { All F.admits (names_of (asked_of command.now)) }
-    requires files { FilesInRange (asked_of command.now) }
-    requires limits { LimitsInRange (asked_of command.now) }
-    requires plan { PlanInRange (asked_of command.now) }
-    ensures { RunsCommand (Ends (F.state folder.old).files (asked_of command.now))
-        (F.state folder.old) (F.state folder.new) (K.state out.old) (K.state out.new)
-        (run_outcome result) }
-{
-    match command {
-        Command::Single(asked) => single::run(rt, alloc, asked, folder, out, gate),
-        Command::Goal(asked) => goal::run(rt, alloc, asked, folder, out, gate),
-        Command::Check(asked) => check::run(alloc, asked, folder, out),
-        Command::Batch(asked) => batch::run(rt, alloc, asked, folder, out, gate),
-        Command::Gen(asked) => generate::run(rt, alloc, asked, out, gate),
-        Command::Prove(asked) => prove::run(rt, alloc, asked, folder, out, gate),
-        Command::Verify(asked) => verify::run(alloc, asked, folder, out),
-        Command::Lanes(_) | Command::Serve(_) | Command::Follow(_) => unreachable!(),
     }
 }

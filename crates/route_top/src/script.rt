@@ -2,47 +2,19 @@
 ghost use Rattle.std.specs.Prelude.{◌≡◌, ◌==◌, IfOk};
 ghost use Rattle.std.specs.String.{string_bytes};
 ghost use Rattle.route_io.specs.Sources.{ReadsFrom};
-ghost use Rattle.route_top.specs.Outcome.{status_of};
-ghost use Rattle.route_top.specs.Scripts.{ScriptRead, WholeRead};
-ghost use Rattle.route_top.specs.Stops.{run_outcome, script_failed, script_name};
+ghost use Rattle.still_commands.specs.Outcome.{status_of};
+ghost use Rattle.still_commands.specs.Stops.{run_outcome, script_name};
+ghost use Rattle.route_top.specs.Scripts.{ScriptRead, WholeRead, script_failed};
 
-use crate::stop::Stop;
 use out_of_memory::OutOfMemory;
 use route_io::{Folder, Source};
 use std::alloc::Global;
+use still_commands::{Script, ScriptFault, Stop};
 
 /// The most bytes of a script.
 const MAX_SCRIPT: usize = 1 << 24;
 /// The most bytes of one read.
 const PIECE: usize = 1 << 13;
-
-/// A script: the operator's by its name, or a session's by how its name begins and by its number.
-#[derive(Clone, Copy, Debug)]
-pub(crate) enum Script<'a> {
-    Operator { name: &'a str },
-    Session { stem: &'a str, number: u32 },
-}
-
-/// Why a script wasn't read.
-#[derive(Clone, Copy, Debug, PartialEq, Eq)]
-pub(crate) enum ScriptFault {
-    Folder,
-    /// It has more bytes than a script may have.
-    TooLong,
-    OutOfMemory,
-}
-
-impl Script<'_> {
-    /// Its name.
-    fn name(self, alloc: Global) -> Result<String, OutOfMemory>
-        ensures { IfOk result (λ name. string_bytes name ≡ script_name self.entry) }
-    {
-        match self {
-            Script::Operator { name } => Ok(String::from_str(alloc, name)?),
-            Script::Session { stem, number } => Ok(format!(in alloc; "{stem}{number}")?),
-        }
-    }
-}
 
 /// Reads a script whole.
 pub(crate) fn read_script<'a, F: Folder>(
@@ -55,7 +27,7 @@ pub(crate) fn read_script<'a, F: Folder>(
     ensures folder { ReadsFrom (F.state folder.old) (F.state folder.new)
         (status_of (run_outcome result) == 3) }
 {
-    let name = script.name(alloc)?;
+    let name = name_of(alloc, script)?;
     let Ok(()) = folder.select(name.as_str()) else {
         let fault = ScriptFault::Folder;
         return Err(Stop::Script { script, fault });
@@ -63,6 +35,16 @@ pub(crate) fn read_script<'a, F: Folder>(
     match read_whole(alloc, folder) {
         Ok(bytes) => Ok(bytes),
         Err(fault) => Err(Stop::Script { script, fault }),
+    }
+}
+
+/// The name of a script.
+fn name_of(alloc: Global, script: Script<'_>) -> Result<String, OutOfMemory>
+    ensures { IfOk result (λ name. string_bytes name ≡ script_name script.entry) }
+{
+    match script {
+        Script::Operator { name } => Ok(String::from_str(alloc, name)?),
+        Script::Session { stem, number } => Ok(format!(in alloc; "{stem}{number}")?),
     }
 }
 

@@ -3,14 +3,12 @@ ghost use Rattle.std.specs.Prelude.{◌≡◌, ◌≤◌, All, false, length, ma
 ghost use Rattle.arc_graph.specs.Graph.{Match, network};
 ghost use Rattle.route_io.specs.Sinks.{Sends};
 ghost use Rattle.command_words.specs.Words.{AreLanes, AreSearchLimits, FilesInRange, names_of, serve, serve_asked};
-ghost use Rattle.route_top.specs.Output.{Ends, RunsCommand};
-ghost use Rattle.route_top.specs.Serve.{AsksTown, ServesDoors, ServesTown, max_taken, served_outcome};
-ghost use Rattle.route_top.specs.Stops.{run_outcome};
-ghost use Rattle.route_top.specs.Texts.{ready_reply};
+ghost use Rattle.still_commands.specs.Output.{RunsCommand};
+ghost use Rattle.still_commands.specs.Stops.{run_outcome};
+ghost use Rattle.route_top.specs.Ends.{Ends};
+ghost use Rattle.route_top.specs.Serve.{AsksTown, ServesDoors, ServesTown, max_taken, ready_reply, served_outcome};
 
 use crate::lanes::MAX_TAKEN;
-use crate::network::read_network;
-use crate::stop::Stop;
 use answer_writer::{Piece, put_line};
 use arc_graph::Weights;
 use command_words::ServeWords;
@@ -23,6 +21,7 @@ use std::alloc::Global;
 use std::sync::Wait;
 use std::thread::Threads;
 use std::time::Clock;
+use still_commands::{Stop, read_network};
 use work_claim::Workers;
 
 /// Has the town listen over the network of the named files, and serves what its doors give until they give no more.

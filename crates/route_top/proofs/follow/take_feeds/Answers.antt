@@ -4,13 +4,13 @@ use Rattle.route_io.specs.declared.link.Link.{Link}
 use Rattle.route_io.specs.declared.sure.SureSink.{SureSink}
 use Rattle.route_io.specs.declared.sure.SureSource.{SureSource}
 use Rattle.command_words.specs.Words.{feeds_of, sessions_of, take_asked}
+use Rattle.still_commands.proofs.FilesReadLemmas.{ends_at_files}
+use Rattle.still_commands.proofs.RunsLemmas.{starves}
 use Rattle.route_top.specs.Follow.{TakeEnd, TakeReplies}
-use Rattle.route_top.proofs.FilesReadLemmas.{ends_at_files}
 use Rattle.route_top.proofs.FollowRuns.{ends_at_named, ends_over_named, says_append, sends_part, sends_whole}
 use Rattle.route_top.proofs.FollowedScripts.{count_feeds, followed_over}
 use Rattle.route_top.proofs.LanesRuns.{all_short, count_links, of_front, of_scripts}
 use Rattle.route_top.proofs.NumberedFiles.{count_numbered}
-use Rattle.route_top.proofs.RunsLemmas.{starves}
 use Rattle.route_top.proofs.follow.take_feeds.Goals as goal
 
 -- a link in memory that never fails

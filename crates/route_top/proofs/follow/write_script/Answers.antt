@@ -1,8 +1,8 @@
 use Rattle.std.proofs.Common.{◌≡◌, [], ◌∷◌}
 use Rattle.std.proofs.lemmas.Result.{err_from_is_err_and}
 use Rattle.command_words.specs.Words.{write_asked}
+use Rattle.still_commands.proofs.FilesReadLemmas.{ends_at_files}
 use Rattle.route_top.specs.Follow.{WriteEnd, WriteReplies}
-use Rattle.route_top.proofs.FilesReadLemmas.{ends_at_files}
 use Rattle.route_top.proofs.FollowRuns.{ends_at_named, ends_over_named, stops_only}
 use Rattle.route_top.proofs.FollowedScripts.{feed_cut, feed_sent}
 use Rattle.route_top.proofs.follow.write_script.Goals as goal

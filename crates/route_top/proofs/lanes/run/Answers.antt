@@ -4,8 +4,8 @@ use Rattle.route_io.specs.declared.sure.SureSink.{SureSink}
 use Rattle.route_io.specs.declared.sure.SureSource.{SureSource}
 use Rattle.std.proofs.lemmas.Result.{err_from_is_err_and}
 use Rattle.command_words.specs.Words.{lanes_asked, scripts_of}
+use Rattle.still_commands.proofs.FilesReadLemmas.{ends_at_files}
 use Rattle.route_top.specs.Lanes.{LanesEnd}
-use Rattle.route_top.proofs.FilesReadLemmas.{ends_at_files}
 use Rattle.route_top.proofs.LaneScripts.{count_scripts}
 use Rattle.route_top.proofs.LanesRuns.{all_short, count_links, ends_at_scripts, ends_over_scripts, lanes_cut, lanes_replied, lanes_starve, of_scripts}
 use Rattle.route_top.proofs.ServedScripts.{links_exchanged}

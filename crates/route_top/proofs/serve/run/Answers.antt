@@ -1,8 +1,8 @@
 use Rattle.std.proofs.Common.{refl}
 use Rattle.std.proofs.lemmas.Result.{err_from_is_err_and}
 use Rattle.command_words.specs.Words.{serve_asked}
+use Rattle.still_commands.proofs.FilesReadLemmas.{ends_at_files, ends_over}
 use Rattle.route_top.specs.Serve.{ServeReplies, asks, unasked}
-use Rattle.route_top.proofs.FilesReadLemmas.{ends_at_files, ends_over}
 use Rattle.route_top.proofs.ServeLemmas.{town_replies}
 use Rattle.route_top.proofs.serve.run.Goals as goal
 

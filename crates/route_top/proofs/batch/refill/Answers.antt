@@ -1,6 +1,0 @@
-use Rattle.route_top.proofs.AheadLemmas.{made_for_first}
-use Rattle.route_top.proofs.batch.refill.Goals as goal
-
-pub returns-in-Ok : goal.returns-in-Ok
-returns-in-Ok g c =
-    made_for_first c.args.limits c.args.answerer.now.network.now c.args.pairs.now _ _ c.count_ahead-count.ensures.within c.in-Ok.ensures

@@ -1,5 +1,0 @@
-use Rattle.route_top.proofs.RunsLemmas.{takes_nothing}
-use Rattle.route_top.proofs.end.Goals as goal
-
-pub returns-in-Ok-clause-note : goal.returns-in-Ok-clause-note
-returns-in-Ok-clause-note g c = rw c.in-Ok.is (takes_nothing _)

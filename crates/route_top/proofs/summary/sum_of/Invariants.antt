@@ -1,6 +1,0 @@
-use Rattle.std.proofs.Common.{◌≡◌, take, sum}
-use Rattle.route_top.proofs.summary.sum_of.Given as goal
-
--- the components so far are added up
-abbrev pub invariant-loop-i : goal.invariant-loop-i
-invariant-loop-i l = l.total ≡ sum (take l.i l.cost)

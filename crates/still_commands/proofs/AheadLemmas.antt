@@ -1,0 +1,59 @@
+-- Replies that were made before their turn: how they are made of queries, and how the next of them is taken.
+use Rattle.std.proofs.Common.{◌≡◌, ℕ, suc, ◌+◌, ◌-◌, ◌<◌, ◌≤◌, List, [], ◌∷◌, ◌++◌, Option, Some, None, map, length, take, drop, get_or}
+use Rattle.std.proofs.Common.{sym, subst, ◌∙◌, arith}
+use Rattle.std.specs.Prelude.{reverse, option_to_list}
+use Rattle.std.specs.Option.{MatchOption, option_flatten}
+use Rattle.std.specs.List.{AllZip}
+use Rattle.std.proofs.lemmas.List.{drop_more, length-append, length-drop, length-reverse, length-take-le, reverse-append, take_all}
+use Rattle.std.proofs.lemmas.Slice.Zip.{AllZip-long}
+use Rattle.road_network.specs.Network.{Network}
+use Rattle.road_network.specs.declared.query.AnswerKind.TheVariants.{Walks}
+use Rattle.query_reader.specs.declared.pairs.Pair.{Pair}
+use Rattle.session_core.specs.declared.made.MadeReply.{MadeReply}
+use Rattle.session_core.specs.Making.{AreMade}
+use Rattle.command_words.specs.declared.SearchLimits.{SearchLimits}
+use Rattle.still_commands.specs.Ahead.{AreAhead, IsAhead}
+use Rattle.still_commands.specs.Batch.{query_between}
+
+module _ (limits : SearchLimits) (net : Network) where
+  -- the replies that were made to the queries of the pairs, in their order
+  pub made_for_pairs : (pairs : List Pair) (made : List (Option MadeReply))
+      → AreMade net 0 Walks (map (query_between limits) pairs) made → AllZip (IsAhead limits net) pairs made
+  made_for_pairs [] [] all = tt
+  made_for_pairs [] (m ∷ ms) all = all
+  made_for_pairs (p ∷ ps) [] all = all
+  made_for_pairs (p ∷ ps) (m ∷ ms) all = (all.0, made_for_pairs ps ms all.1)
+
+  -- those that were made for the first so many pairs
+  pub made_for_first : (pairs : List Pair) (count : ℕ) (ahead : List (Option MadeReply)) → count ≤ length pairs
+      → AllZip (IsAhead limits net) (take count pairs) (reverse ahead) → AreAhead limits net pairs ahead
+  made_for_first pairs count ahead within all =
+      let long = AllZip-long (IsAhead limits net) (take count pairs) (reverse ahead) all in
+      let many : length ahead ≡ count = sym (length-reverse ahead) ∙ long ∙ length-take-le count pairs within in
+      subst (λ n. AllZip (IsAhead limits net) (take n pairs) (reverse ahead)) (sym many) all
+
+  module _ (pair : Pair) (pairs : List Pair) where
+    -- the next of them is the last
+    next_of : (next : Option MadeReply) (rest : List (Option MadeReply)) → AreAhead limits net (pair ∷ pairs) (rest ++ next ∷ [])
+        → IsAhead limits net pair next × AreAhead limits net pairs rest
+    next_of next rest ahead =
+        let many : length (rest ++ next ∷ []) ≡ suc (length rest) = omega (arith, length-append rest (next ∷ [])) in
+        rw (many, reverse-append rest (next ∷ [])) at ahead
+
+    -- the last is taken off their end, if one is left
+    pub taken_ahead : (last : Option (Option MadeReply)) (ahead rest : List (Option MadeReply)) (many left : ℕ)
+        → ahead ≡ rest ++ option_to_list last → left ≡ length rest → MatchOption last ((many ≡ 0) × (left ≡ 0)) (λ _. left + 1 ≡ many)
+        → AreAhead limits net (pair ∷ pairs) ahead → IsAhead limits net pair (option_flatten last) × AreAhead limits net pairs rest
+    taken_ahead (Some next) ahead rest many left is long cases all = next_of next rest (subst (AreAhead limits net (pair ∷ pairs)) is all)
+    taken_ahead None ahead [] many left is long cases all = (tt, tt)
+    taken_ahead None ahead (r ∷ rs) many left is long cases all = absurd (omega (arith, long, cases.1))
+
+  -- what takes that to the first of some pairs takes that to the pair behind so many
+  pub taken_behind : (pairs : List Pair) (i : ℕ) (d : Pair) (made : Option MadeReply) (ahead rest : List (Option MadeReply)) → i < length pairs
+      → AreAhead limits net (take (length pairs - i) (drop i pairs)) ahead
+      → ((pair : Pair) (left : List Pair) → AreAhead limits net (pair ∷ left) ahead → IsAhead limits net pair made × AreAhead limits net left rest)
+      → IsAhead limits net (get_or pairs i d) made × AreAhead limits net (drop (i + 1) pairs) rest
+  taken_behind pairs i d made ahead rest inside all takes =
+      let whole = take_all (length pairs - i) (drop i pairs) (omega (arith, length-drop i pairs)) in
+      let left = whole ∙ drop_more pairs i d inside in
+      takes (get_or pairs i d) (drop (i + 1) pairs) (subst (λ l. AreAhead limits net l ahead) left all)

@@ -1,0 +1,11 @@
+pub mod RunsLemmas
+pub mod QueryLemmas
+mod ProveLemmas
+mod GoalLemmas
+pub mod FilesReadLemmas
+mod VerifyLemmas
+pub mod BatchLemmas
+mod AheadLemmas
+pub mod OutputLemmas
+pub mod PlanLemmas
+pub mod CountLemmas

@@ -1,0 +1,19 @@
+use Rattle.std.proofs.lemmas.Result.{err_from_is_err_and}
+use Rattle.still_commands.proofs.FilesReadLemmas.{not_joined}
+use Rattle.still_commands.proofs.network.read_network.Goals as goal
+
+pub returns-in_err-finish-clause-read : goal.returns-in_err-finish-clause-read
+returns-in_err-finish-clause-read g c =
+    let p = err_from_is_err_and c.from_residual-in_err-finish.result c.from_residual-in_err-finish.ensures.1 in
+    let has = c.in_ok-joiner.ensures.read in
+    rw (p.1, p.2) (not_joined _ _ c.in_ok-joiner.joiner has c.in_err-finish.field-0.0 (c.in_err-finish.ensures.fault has.contents has.stands))
+
+pub returns-clause-read : goal.returns-clause-read
+returns-clause-read g c =
+    let has = c.in_ok-joiner.ensures.read in
+    record {
+      contents = has.contents;
+      read = has.read;
+      agree = c.in_ok-finish.ensures.agree has.contents has.stands;
+      network = c.in_ok-finish.ensures.joined has.contents has.stands;
+    }

@@ -1,0 +1,15 @@
+pub mod Texts
+pub mod Outcome
+pub mod FilesRead
+pub mod Queries
+pub mod Goal
+pub mod Check
+pub mod Batch
+pub mod Ahead
+pub mod Summary
+pub mod Gen
+pub mod Prove
+pub mod Verify
+pub mod Output
+pub mod Stops
+pub mod ReadResults

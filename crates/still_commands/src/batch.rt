@@ -1,0 +1,188 @@
+//! The command `batch`.
+ghost use Rattle.std.specs.Prelude.{◌≡◌, ◌==◌, ◌≤◌, ◌<◌, ◌^◌, ℕ, List, ◌∷◌, All, IfOk, length, reverse};
+ghost use Rattle.std.specs.List.{AllZip};
+ghost use Rattle.road_network.specs.Network.{Network};
+ghost use Rattle.road_network.specs.Queries.{IsAsked};
+ghost use Rattle.command_words.specs.Words.{FilesInRange, AreSearchLimits, batch, batch_asked, names_of};
+ghost use Rattle.route_io.specs.Sources.{ReadsFrom};
+ghost use Rattle.still_commands.specs.Ahead.{AreAhead, IsAhead};
+ghost use Rattle.still_commands.specs.Batch.{PairsReplies, query_between};
+ghost use Rattle.still_commands.specs.Outcome.{status_of};
+ghost use Rattle.still_commands.specs.Output.{RunsCommand, StillEnds};
+ghost use Rattle.still_commands.specs.ReadResults.{PairsRead};
+ghost use Rattle.still_commands.specs.Stops.{Replies, run_outcome};
+
+use crate::network::{LIMITS, read_network};
+use crate::reply::EPOCH;
+use crate::stop::Stop;
+use arc_graph::Network;
+use command_words::{BatchWords, SearchLimits};
+use gr_reader::FileFault;
+use out_of_memory::OutOfMemory;
+use query_reader::{Pair, read_p2p};
+use road_network::{AnswerKind, Query};
+use route_io::{Folder, Gate, Sink};
+use session_core::{Answerer, MadeReply};
+use std::alloc::Global;
+use std::thread::Threads;
+use walk_readback::Room;
+use work_claim::Workers;
+
+/// How many pairs a window has for each worker.
+const PAIRS_FOR_EACH: usize = 16;
+
+/// Answers a query for each pair of the file of pairs over the named files.
+pub(crate) fn run<'a, R: Threads + Sync, G: Gate, F: Folder, K: Sink>(
+    rt: &R,
+    alloc: Global,
+    asked: &BatchWords<'a>,
+    folder: &mut F,
+    out: &mut K,
+    gate: &G,
+) -> Result<(), Stop<'a>>
+    requires admitted { All F.admits (names_of (batch (batch_asked asked.now))) }
+    requires files { FilesInRange (batch (batch_asked asked.now)) }
+    requires limits { AreSearchLimits asked.now.limits }
+    ensures { RunsCommand (StillEnds (F.state folder.old).files (batch (batch_asked asked.now)))
+        (F.state folder.old) (F.state folder.new) (K.state out.old) (K.state out.new)
+        (run_outcome result) }
+{
+    let (graph, weights) = read_network(alloc, folder, &asked.files)?;
+    let mut room = Room::with(alloc, 0)?;
+    let pairs = read_pairs(alloc, folder, asked.pairs)?;
+    let network = Network::new(&graph, &weights);
+    let workers = Workers::new(rt, asked.limits.workers, gate);
+    let answerer = Answerer {
+        workers: &workers,
+        alloc,
+        network: &network,
+    };
+    reply_each(&answerer, asked.limits, &pairs, &mut room, out)
+}
+
+/// Reads the file of pairs.
+fn read_pairs<'a, F: Folder>(
+    alloc: Global,
+    folder: &mut F,
+    name: &'a str,
+) -> Result<Vec<Pair>, Stop<'a>>
+    requires { F.admits name.now }
+    ensures read { PairsRead (F.state folder.old).files name.now result }
+    ensures folder { ReadsFrom (F.state folder.old) (F.state folder.new)
+        (status_of (run_outcome result) == 3) }
+{
+    let Ok(()) = folder.select(name) else {
+        return Err(Stop::Folder { name });
+    };
+    match read_p2p(alloc, folder, LIMITS) {
+        Ok(pairs) => Ok(pairs),
+        Err(FileFault::Line { kind, line }) => Err(Stop::Pairs { name, line, kind }),
+        Err(FileFault::Read) => Err(Stop::Folder { name }),
+        Err(FileFault::OutOfMemory) => Err(Stop::OutOfMemory),
+    }
+}
+
+/// Sends the reply to each pair in order. A refused pair ends nothing, and the room serves all pairs.
+fn reply_each<'a, R: Threads + Sync, G: Gate, K: Sink>(
+    answerer: &Answerer<'_, R, G>,
+    limits: SearchLimits,
+    pairs: &[Pair],
+    room: &mut Room,
+    out: &mut K,
+) -> Result<(), Stop<'a>>
+    requires limits { AreSearchLimits limits }
+    ensures { Replies (PairsReplies limits answerer.now.network.now pairs.now)
+        (K.state out.old) (K.state out.new) (run_outcome result) }
+{
+    let mut ahead = Vec::new(answerer.alloc);
+    for i in 0..pairs.len() {
+        refill(answerer, limits, &pairs[i..], &mut ahead);
+        let query = query_between(limits, pairs[i]);
+        let made = take_next(&mut ahead);
+        answerer.reply_as_made(EPOCH, AnswerKind::Walks, &query, made, room, out)?;
+    }
+    Ok(())
+}
+
+/// The reply that was made ahead to the next pair, if it was.
+fn take_next(ahead: &mut Vec<Option<MadeReply>>) -> Option<MadeReply>
+    ensures { (limits : SearchLimits) (net : Network) (pair : Pair) (pairs : List Pair)
+        → AreAhead limits net (pair ∷ pairs) ahead.old.items
+        → IsAhead limits net pair result × AreAhead limits net pairs ahead.new.items }
+{
+    ahead.pop().flatten()
+}
+
+/// Where no reply is left that was made ahead, has the workers make those to the first of these pairs side by side. None are
+/// made by one worker, nor to a last pair, whose search the workers share, nor where memory runs out.
+fn refill<R: Threads + Sync, G: Gate>(
+    answerer: &Answerer<'_, R, G>,
+    limits: SearchLimits,
+    pairs: &[Pair],
+    ahead: &mut Vec<Option<MadeReply>>,
+)
+    requires limits { AreSearchLimits limits }
+    requires ahead { AreAhead limits answerer.now.network.now pairs.now ahead.old.items }
+    ensures { AreAhead limits answerer.now.network.now pairs.now ahead.new.items }
+{
+    if !ahead.is_empty() {
+        return;
+    }
+    let count = count_ahead(answerer, limits, pairs.len());
+    if let Ok(made) = make_ahead(answerer, limits, &pairs[..count]) {
+        *ahead = made;
+    }
+}
+
+/// How many of so many pairs are searched side by side: a window of some for each worker, so that who is done early takes
+/// the next. A search is counted as a label for each node, or as its budget.
+fn count_ahead<R, G: Gate>(
+    answerer: &Answerer<'_, R, G>,
+    limits: SearchLimits,
+    left: usize,
+) -> usize
+    ensures within { result ≤ left }
+    ensures few { result < 2 ^ 32 }
+{
+    let workers = answerer.workers.count() as usize;
+    let window = left.min(workers * PAIRS_FOR_EACH);
+    let labels = window * answerer.network.nodes().min(limits.budget) as usize;
+    if left < 2 || answerer.workers.for_labels(labels).count() == 1 {
+        return 0;
+    }
+    window
+}
+
+/// The replies to these pairs, made in memory, the first of them last.
+fn make_ahead<R: Threads + Sync, G: Gate>(
+    answerer: &Answerer<'_, R, G>,
+    limits: SearchLimits,
+    pairs: &[Pair],
+) -> Result<Vec<Option<MadeReply>>, OutOfMemory>
+    requires limits { AreSearchLimits limits }
+    requires few { length pairs.now < 2 ^ 32 }
+    ensures { IfOk result (λ ahead. AllZip (IsAhead limits answerer.now.network.now) pairs.now
+        (reverse ahead.items)) }
+{
+    let mut queries = Vec::with_capacity(answerer.alloc, pairs.len())?;
+    for pair in pairs {
+        queries.push(query_between(limits, *pair))?;
+    }
+    let mut made = answerer.make_replies(EPOCH, AnswerKind::Walks, &queries)?;
+    made.reverse();
+    Ok(made)
+}
+
+/// The query from one node of a pair to the other, without a limit.
+pub(crate) fn query_between(limits: SearchLimits, pair: Pair) -> Query
+    requires { AreSearchLimits limits }
+    ensures value { result ≡ query_between limits pair }
+    ensures asked { (criteria : ℕ) → IsAsked criteria result }
+{
+    Query {
+        from: pair.from,
+        to: pair.to,
+        limit: None,
+        budget: limits.budget,
+    }
+}

@@ -1,0 +1,153 @@
+//! The commands that wait for nobody: from the words of the command line to the exit status.
+#![tactic(auto)]
+
+ghost use Rattle.std.specs.Prelude.{◌≡◌, ◌==◌, ◌⊎◌, ◌↔◌, ℕ, List, All, IsTrue};
+ghost use Rattle.route_io.specs.Causes.{IsCounted};
+ghost use Rattle.route_io.specs.Sources.{ReadsFrom};
+ghost use Rattle.command_words.specs.Words.{FilesInRange, IsStill, LimitsInRange, PlanInRange};
+ghost use Rattle.command_words.specs.Words.{asked_of, names_of, texts_of};
+ghost use Rattle.still_commands.specs.Outcome.{note_of, status_of};
+ghost use Rattle.still_commands.specs.Output.{AreStillWords, AsksStill, EndsByWords, IsAskedName, Output};
+ghost use Rattle.still_commands.specs.Output.{RunsCommand, StillEnds, TookNote};
+ghost use Rattle.still_commands.specs.Stops.{run_outcome};
+
+mod batch;
+mod check;
+mod counting;
+mod generate;
+mod goal;
+mod network;
+mod plan;
+mod prove;
+mod reply;
+mod single;
+mod status;
+mod stop;
+mod summary;
+mod verify;
+
+use command_words::{Command, WordsFault, read_words};
+pub use goal::goal_answers_wherever_one_does;
+pub use network::read_network;
+use route_io::{Folder, Gate, Sink};
+use status::DONE;
+pub use status::WANT_OF_MEMORY;
+use std::alloc::Global;
+use std::thread::Threads;
+pub use stop::{Script, ScriptFault, Stop};
+
+/// The most bytes of a file.
+pub const MAX_FILE_SIZE: u64 = 1 << 29;
+
+/// Runs the command that the words ask for over the folder's files, where it is one that waits for nobody, and answers the
+/// exit status; `lanes`, `serve` and `follow` are no commands here. Replies go to `out`. On each status but 0 and 8 one line
+/// goes to `err`, whose faults only cut that line.
+pub fn run_still<R: Threads + Sync, G: Gate, F: Folder, K: Sink, E: Sink>(
+    rt: &R,
+    alloc: Global,
+    words: &[String],
+    folder: &mut F,
+    out: &mut K,
+    err: &mut E,
+    gate: &G,
+) -> u8
+    requires { (name : List ℕ) → IsAskedName (AsksStill (texts_of words.now)) name → F.admits name }
+
+    // One outcome says all.
+    ensures output { Output StillEnds (AsksStill (texts_of words.now))
+        (F.state folder.old) (F.state folder.new) (K.state out.old) (K.state out.new)
+        (E.state err.old) (E.state err.new) result }
+
+    // The words alone make status 2, unless memory runs out.
+    ensures bad_words { result ≡ 2 → ¬ AreStillWords (texts_of words.now) }
+    ensures only_bad_words { ¬ AreStillWords (texts_of words.now) → (result ≡ 2) ⊎ (result ≡ 9) }
+
+    // The folder's failures alone make status 3, and those of `out` status 4.
+    ensures folder { ReadsFrom (F.state folder.old) (F.state folder.new) (result == 3) }
+    ensures out { IsCounted (result == 4) (K.state out.old).faults (K.state out.new).faults }
+{
+    end(alloc, run(rt, alloc, words, folder, out, gate), err)
+}
+
+/// Sends the note of a run that has ended, and answers its status.
+pub fn end<E: Sink>(alloc: Global, done: Result<(), Stop<'_>>, err: &mut E) -> u8
+    ensures note { TookNote (E.state err.old) (E.state err.new)
+        (note_of (run_outcome done.entry)) }
+    ensures status { result ≡ status_of (run_outcome done.entry) }
+{
+    match done {
+        Ok(()) => DONE,
+        Err(stop) => {
+            let _ = stop.note(alloc, err);
+            stop.status()
+        }
+    }
+}
+
+/// Runs a command that waits for nobody, and says why where it isn't done.
+fn run<'a, R: Threads + Sync, G: Gate, F: Folder, K: Sink>(
+    rt: &R,
+    alloc: Global,
+    words: &'a [String],
+    folder: &mut F,
+    out: &mut K,
+    gate: &G,
+) -> Result<(), Stop<'a>>
+    requires { (name : List ℕ) → IsAskedName (AsksStill (texts_of words.now)) name → F.admits name }
+    ensures { RunsCommand
+        (EndsByWords StillEnds (AsksStill (texts_of words.entry.now)) (F.state folder.old).files)
+        (F.state folder.old) (F.state folder.new) (K.state out.old) (K.state out.new)
+        (run_outcome result) }
+{
+    match read_words(alloc, words) {
+        Ok(command) => {
+            if !is_still(&command) {
+                return Err(Stop::Words);
+            }
+            carry_out(rt, alloc, &command, folder, out, gate)
+        }
+        Err(WordsFault::Refused) => Err(Stop::Words),
+        Err(WordsFault::OutOfMemory) => Err(Stop::OutOfMemory),
+    }
+}
+
+/// Whether a command waits for nobody.
+fn is_still(command: &Command<'_>) -> bool
+    ensures { IsTrue result ↔ IsStill (asked_of command.now) }
+{
+    match command {
+        Command::Lanes(_) | Command::Serve(_) | Command::Follow(_) => false,
+        Command::Single(_) | Command::Check(_) | Command::Batch(_) | Command::Gen(_) => true,
+        Command::Goal(_) | Command::Prove(_) | Command::Verify(_) => true,
+    }
+}
+
+/// Carries out a command that waits for nobody.
+fn carry_out<'a, R: Threads + Sync, G: Gate, F: Folder, K: Sink>(
+    rt: &R,
+    alloc: Global,
+    command: &Command<'a>,
+    folder: &mut F,
+    out: &mut K,
+    gate: &G,
+) -> Result<(), Stop<'a>>
+    requires still { IsStill (asked_of command.now) }
+    requires admitted { All F.admits (names_of (asked_of command.now)) }
+    requires files { FilesInRange (asked_of command.now) }
+    requires limits { LimitsInRange (asked_of command.now) }
+    requires plan { PlanInRange (asked_of command.now) }
+    ensures { RunsCommand (StillEnds (F.state folder.old).files (asked_of command.now))
+        (F.state folder.old) (F.state folder.new) (K.state out.old) (K.state out.new)
+        (run_outcome result) }
+{
+    match command {
+        Command::Single(asked) => single::run(rt, alloc, asked, folder, out, gate),
+        Command::Goal(asked) => goal::run(rt, alloc, asked, folder, out, gate),
+        Command::Check(asked) => check::run(alloc, asked, folder, out),
+        Command::Batch(asked) => batch::run(rt, alloc, asked, folder, out, gate),
+        Command::Gen(asked) => generate::run(rt, alloc, asked, out, gate),
+        Command::Prove(asked) => prove::run(rt, alloc, asked, folder, out, gate),
+        Command::Verify(asked) => verify::run(alloc, asked, folder, out),
+        Command::Lanes(_) | Command::Serve(_) | Command::Follow(_) => unreachable!(),
+    }
+}

@@ -1,0 +1,95 @@
+//! The command `prove`.
+ghost use Rattle.std.specs.Prelude.{◌≡◌, ◌≤◌, All, None};
+ghost use Rattle.road_network.specs.Queries.{HaveNodes, IsTooLarge, limit_of};
+ghost use Rattle.walk_readback.specs.Found.{HasAllRelevant, IsOf};
+ghost use Rattle.query_findings.specs.Findings.{found_of};
+ghost use Rattle.command_words.specs.Ranges.{max_listed};
+ghost use Rattle.command_words.specs.Words.{FilesInRange, ProveInRange, names_of};
+ghost use Rattle.command_words.specs.Words.{prove, prove_asked};
+ghost use Rattle.still_commands.specs.Output.{RunsCommand, StillEnds};
+ghost use Rattle.still_commands.specs.Prove.{ProveReplies};
+ghost use Rattle.still_commands.specs.Stops.{Replies, run_outcome};
+
+use crate::network::read_network;
+use crate::reply::{has_nodes, refuse};
+use crate::stop::Stop;
+use arc_graph::Network;
+use bulk_search::find;
+use cert_writer::{list_labels, write_cert};
+use command_words::ProveWords;
+use query_findings::Findings;
+use road_network::{Query, SearchFault};
+use route_io::{Folder, Gate, Sink};
+use std::alloc::Global;
+use std::thread::Threads;
+use work_claim::Workers;
+
+/// Sends a certificate of the answer to one query over the named files.
+pub(crate) fn run<'a, R: Threads + Sync, G: Gate, F: Folder, K: Sink>(
+    rt: &R,
+    alloc: Global,
+    asked: &ProveWords<'a>,
+    folder: &mut F,
+    out: &mut K,
+    gate: &G,
+) -> Result<(), Stop<'a>>
+    requires admitted { All F.admits (names_of (prove (prove_asked asked.now))) }
+    requires files { FilesInRange (prove (prove_asked asked.now)) }
+    requires limits { ProveInRange (prove_asked asked.now) }
+    ensures { RunsCommand (StillEnds (F.state folder.old).files (prove (prove_asked asked.now)))
+        (F.state folder.old) (F.state folder.new) (K.state out.old) (K.state out.new)
+        (run_outcome result) }
+{
+    let (graph, weights) = read_network(alloc, folder, &asked.files)?;
+    let network = Network::new(&graph, &weights);
+    let workers = Workers::new(rt, asked.workers, gate);
+    reply(&workers, alloc, &network, &asked.query, out)
+}
+
+/// Sends the certificate of a query, or why it is refused.
+fn reply<'a, R: Threads + Sync, G: Gate, K: Sink>(
+    workers: &Workers<'_, R, G>,
+    alloc: Global,
+    network: &Network<'_>,
+    query: &Query,
+    out: &mut K,
+) -> Result<(), Stop<'a>>
+    requires unlimited { query.now.limit ≡ None }
+    requires budget { query.now.budget ≤ max_listed }
+    ensures { Replies (ProveReplies query.now network.now)
+        (K.state out.old) (K.state out.new) (run_outcome result) }
+{
+    if !has_nodes(network, query) {
+        return refuse(out, query, " node");
+    }
+    prove!(network.nodes() >= 1);
+    match find(workers, alloc, network, query) {
+        Ok(found) => put_cert(alloc, network, query, &found, out),
+        Err(SearchFault::Budget) => refuse(out, query, " budget"),
+        Err(SearchFault::OutOfMemory) => Err(Stop::OutOfMemory),
+    }
+}
+
+/// Sends the certificate of what was found for a query. All its labels are listed before the first byte.
+fn put_cert<'a, K: Sink>(
+    alloc: Global,
+    network: &Network<'_>,
+    query: &Query,
+    found: &Findings,
+    out: &mut K,
+) -> Result<(), Stop<'a>>
+    requires of_query { IsOf network.now query.now (found_of found.now) }
+    requires unlimited { query.now.limit ≡ None }
+    requires relevant { HasAllRelevant network.now (limit_of network.now.criteria query.now)
+        (found_of found.now) }
+    requires nodes { HaveNodes network.now query.now }
+    requires budget { query.now.budget ≤ max_listed }
+    requires in_budget { ¬ IsTooLarge network.now query.now }
+    ensures { Replies (ProveReplies query.now network.now)
+        (K.state out.old) (K.state out.new) (run_outcome result) }
+{
+    prove!(network.nodes() >= 1);
+    let listing = list_labels(alloc, network, query, found)?;
+    write_cert(out, &listing)?;
+    Ok(())
+}

@@ -1,0 +1,64 @@
+//! The commands `costs` and `one`.
+ghost use Rattle.std.specs.Prelude.{◌≤◌, All};
+ghost use Rattle.road_network.specs.Queries.{IsAsked};
+ghost use Rattle.command_words.specs.Words.{FilesInRange, SingleInRange, names_of};
+ghost use Rattle.command_words.specs.Words.{single, single_asked};
+ghost use Rattle.still_commands.specs.Output.{RunsCommand, StillEnds};
+ghost use Rattle.still_commands.specs.Queries.{QueryReplies};
+ghost use Rattle.still_commands.specs.Stops.{Replies, run_outcome};
+
+use crate::network::read_network;
+use crate::reply::{EPOCH, end_of};
+use crate::stop::Stop;
+use arc_graph::Network;
+use command_words::SingleWords;
+use road_network::{AnswerKind, Query};
+use route_io::{Folder, Gate, Sink};
+use session_core::Answerer;
+use std::alloc::Global;
+use std::thread::Threads;
+use walk_readback::Room;
+use work_claim::Workers;
+
+/// Answers one query over the named files.
+pub(crate) fn run<'a, R: Threads + Sync, G: Gate, F: Folder, K: Sink>(
+    rt: &R,
+    alloc: Global,
+    asked: &SingleWords<'a>,
+    folder: &mut F,
+    out: &mut K,
+    gate: &G,
+) -> Result<(), Stop<'a>>
+    requires admitted { All F.admits (names_of (single (single_asked asked.now))) }
+    requires files { FilesInRange (single (single_asked asked.now)) }
+    requires limits { SingleInRange (single_asked asked.now) }
+    ensures { RunsCommand (StillEnds (F.state folder.old).files (single (single_asked asked.now)))
+        (F.state folder.old) (F.state folder.new) (K.state out.old) (K.state out.new)
+        (run_outcome result) }
+{
+    let (graph, weights) = read_network(alloc, folder, &asked.files)?;
+    let network = Network::new(&graph, &weights);
+    let workers = Workers::new(rt, asked.workers, gate);
+    let answerer = Answerer {
+        workers: &workers,
+        alloc,
+        network: &network,
+    };
+    reply_once(&answerer, asked.kind, &asked.query, out)
+}
+
+/// Sends the reply to the only query of a run.
+fn reply_once<'a, R: Threads + Sync, G: Gate, K: Sink>(
+    answerer: &Answerer<'_, R, G>,
+    kind: AnswerKind,
+    query: &Query,
+    out: &mut K,
+) -> Result<(), Stop<'a>>
+    requires { IsAsked answerer.now.network.now.criteria query.now }
+    ensures { Replies (QueryReplies kind query.now answerer.now.network.now)
+        (K.state out.old) (K.state out.new) (run_outcome result) }
+{
+    let mut room = Room::with(answerer.alloc, 0)?;
+    let reply = answerer.reply(EPOCH, kind, query, &mut room, out)?;
+    end_of(reply)
+}

@@ -6,8 +6,8 @@ use Rattle.road_network.specs.Queries.{IsTooLarge, limit_of}
 use Rattle.road_network.specs.declared.query.Query.{Query}
 use Rattle.road_network.specs.declared.query.SearchFault.{SearchFault}
 use Rattle.road_network.specs.declared.query.SearchFault.TheVariants.{Budget}
-use Rattle.query_findings.specs.declared.findings.Findings.{Findings}
-use Rattle.query_findings.specs.Findings.{found_of}
+use Rattle.found_fronts.specs.declared.findings.Findings.{Findings}
+use Rattle.found_fronts.specs.Findings.{found_of}
 
 -- What a search answers to a query over a network: all of it exactly where the query doesn't pass its budget, but for want
 -- of memory.

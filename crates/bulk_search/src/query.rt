@@ -5,16 +5,15 @@ ghost use Rattle.road_network.specs.Answers.{IsRelevant};
 ghost use Rattle.road_network.specs.Queries.{IsQuery, IsTooLarge, limit_of};
 ghost use Rattle.bulk_search.specs.Answers.{Answers};
 ghost use Rattle.bulk_search.specs.Counting.{CountsRounds, task_of};
-ghost use Rattle.query_findings.specs.Findings.{found_of};
+ghost use Rattle.found_fronts.specs.Findings.{found_of};
 ghost use Rattle.bulk_search.specs.Rounds.{IsAnswer};
 ghost use Rattle.bulk_search.specs.Widths.{core_of};
 
 use crate::rounds::Rounds;
 use arc_graph::Network;
 use bulk_rounds::Begun;
-use found_fronts::FoundAtWidth;
+use found_fronts::{Findings, FoundAtWidth};
 use out_of_memory::OutOfMemory;
-use query_findings::Findings;
 use road_network::{Query, SearchFault};
 use route_io::Gate;
 use settled_front::{NarrowFront, SettledFront, StairFront};

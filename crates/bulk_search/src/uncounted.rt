@@ -4,7 +4,7 @@ ghost use Rattle.bulk_search.specs.Answers.{Answers};
 
 use crate::query::search;
 use arc_graph::Network;
-use query_findings::Findings;
+use found_fronts::Findings;
 use road_network::{Query, SearchFault};
 use route_io::Gate;
 use std::alloc::Global;

@@ -1,3 +1,4 @@
 pub mod FoundFronts
 pub mod FoundAtWidth
 pub mod SettledCosts
+pub mod Findings

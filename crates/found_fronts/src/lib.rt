@@ -1,10 +1,12 @@
 //! What a search has found, in the fronts of all nodes: its costs, and what a walk is read back from.
 #![tactic(auto)]
 
+mod findings;
 mod found;
 mod settled;
 mod width;
 
+pub use findings::Findings;
 pub use found::FoundFronts;
 pub use settled::SettledCosts;
 pub use width::FoundAtWidth;

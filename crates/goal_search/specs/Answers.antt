@@ -8,8 +8,8 @@ use Rattle.road_network.specs.declared.query.SearchFault.{SearchFault}
 use Rattle.road_network.specs.declared.query.SearchFault.TheVariants.{Budget}
 use Rattle.goal_laws.specs.Goal.{GoalPasses}
 use Rattle.goal_laws.specs.FoundGoal.{HasAllGoalRelevant}
-use Rattle.query_findings.specs.declared.findings.Findings.{Findings}
-use Rattle.query_findings.specs.Findings.{found_of}
+use Rattle.found_fronts.specs.declared.findings.Findings.{Findings}
+use Rattle.found_fronts.specs.Findings.{found_of}
 
 -- the query has more goal-relevant pairs than its budget allows
 abbrev pub IsTooLargeToward : Network → Query → Type 0

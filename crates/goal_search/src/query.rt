@@ -2,16 +2,15 @@ ghost use Rattle.std.specs.Prelude.{◌≡◌, ◌<◌, IfOk, IsErrOf, None, OnO
 ghost use Rattle.found_fronts.specs.FoundAtWidth.{found_of as found_at_width};
 ghost use Rattle.road_network.specs.Queries.{IsQuery};
 ghost use Rattle.goal_search.specs.Answers.{AnswersToward, IsTooLargeToward};
-ghost use Rattle.query_findings.specs.Findings.{found_of};
+ghost use Rattle.found_fronts.specs.Findings.{found_of};
 ghost use Rattle.goal_search.specs.Rounds.{IsAfter, IsAnswer};
 ghost use Rattle.goal_search.specs.Widths.{bounds_of, core_of};
 
 use crate::rounds::GoalRounds;
 use arc_graph::Network;
 use bulk_rounds::Begun;
-use found_fronts::FoundAtWidth;
+use found_fronts::{Findings, FoundAtWidth};
 use out_of_memory::OutOfMemory;
-use query_findings::Findings;
 use road_network::{Query, SearchFault};
 use route_io::Gate;
 use settled_front::{NarrowFront, SettledFront};

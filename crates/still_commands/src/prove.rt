@@ -2,7 +2,7 @@
 ghost use Rattle.std.specs.Prelude.{◌≡◌, ◌≤◌, All, None};
 ghost use Rattle.road_network.specs.Queries.{HaveNodes, IsTooLarge, limit_of};
 ghost use Rattle.walk_readback.specs.Found.{HasAllRelevant, IsOf};
-ghost use Rattle.query_findings.specs.Findings.{found_of};
+ghost use Rattle.found_fronts.specs.Findings.{found_of};
 ghost use Rattle.command_words.specs.Ranges.{max_listed};
 ghost use Rattle.command_words.specs.Words.{FilesInRange, ProveInRange, names_of};
 ghost use Rattle.command_words.specs.Words.{prove, prove_asked};
@@ -17,7 +17,7 @@ use arc_graph::Network;
 use bulk_search::find;
 use cert_writer::{list_labels, write_cert};
 use command_words::ProveWords;
-use query_findings::Findings;
+use found_fronts::Findings;
 use road_network::{Query, SearchFault};
 use route_io::{Folder, Gate, Sink};
 use std::alloc::Global;

@@ -1,6 +1,6 @@
 use Rattle.std.proofs.Common.{rules}
 use Rattle.goal_laws.proofs.FoundGoalLaws.{well_found_by_goal}
-use Rattle.query_findings.specs.Findings.{found_of}
+use Rattle.found_fronts.specs.Findings.{found_of}
 use Rattle.goal_search.proofs.query.counted.Goals as goal
 
 pub returns : goal.returns

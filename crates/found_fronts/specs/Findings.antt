@@ -1,8 +1,8 @@
 -- What a query found.
 use Rattle.walk_readback.specs.Found.{FoundCosts}
 use Rattle.found_fronts.specs.FoundAtWidth.{found_of as found_at_width}
-use Rattle.query_findings.specs.declared.findings.Findings.{Findings}
-use Rattle.query_findings.specs.declared.findings.Findings.TheVariants.{Two, Three, Four}
+use Rattle.found_fronts.specs.declared.findings.Findings.{Findings}
+use Rattle.found_fronts.specs.declared.findings.Findings.TheVariants.{Two, Three, Four}
 
 -- what was found, whatever the number of criteria
 abbrev pub found_of : Findings → FoundCosts

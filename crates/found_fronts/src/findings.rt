@@ -1,5 +1,5 @@
+use crate::{FoundAtWidth, SettledCosts};
 use cost_vector::{Cost, NodeNo};
-use found_fronts::{FoundAtWidth, SettledCosts};
 use out_of_memory::OutOfMemory;
 use settled_front::{BlockFront, NarrowBlock, StairFront};
 use std::alloc::Global;
@@ -15,7 +15,7 @@ pub enum Findings {
 }
 
 impl FoundCosts for Findings {
-    ghost use Rattle.query_findings.specs.Findings.{found_of};
+    ghost use Rattle.found_fronts.specs.Findings.{found_of};
 
     ghost state = { found_of };
 

@@ -87,7 +87,9 @@ fn find_shadowing<'a, const D: usize, C: StoredCost<D>>(
     search_shadowing(shadow, cost)
 }
 
-/// How many of the items the shadow dominates, up to the first that it doesn't.
+/// How many of the items the shadow dominates, up to the first that it doesn't. It is always part of its caller: called for each run,
+/// it took a tenth more of the whole time.
+#[inline(always)]
 pub(crate) fn count_shadowed<const D: usize, C: StoredCost<D>>(
     shadow: &[C],
     items: &[Item<C>],

@@ -95,11 +95,11 @@ module _ (blocks : List (List (List ℕ))) (c : List ℕ) where
         let lane = h.block % 16 in
         let of_this : h.block / 16 ≡ k = omega (arith, near, h.from) in
         let here : h.block ≡ k * 16 + lane = omega (arith, near, h.from) in
-        let told : lane < count = elim whole [ inl to_end ↦ omega (arith, here, h.before, to_end) | inr all ↦ omega (arith, all) ] in
+        let before_end : lane < count = elim whole [ inl to_end ↦ omega (arith, here, h.before, to_end) | inr all ↦ omega (arith, all) ] in
         let below = corner_below (corner_at groups h.block) (get_or blocks h.block []) c (have.at_most h.block h.before) h.covered in
         among (record {
           lane = lane;
-          listed = (lists.exact lane told).1 (subst (λ j. AtMost (get_or (get_or groups j []) lane []) c) of_this below);
+          listed = (lists.exact lane before_end).1 (subst (λ j. AtMost (get_or (get_or groups j []) lane []) c) of_this below);
           covered = subst (λ j. IsCovered (get_or blocks j []) c) here h.covered;
         })
     | inr far ↦ behind (record { block = h.block; from = far; before = h.before; covered = h.covered })

@@ -1,4 +1,4 @@
-ghost use Rattle.std.specs.Prelude.{◌≡◌, ℕ, ◌^◌, ◌<◌, ◌≤◌, ◌↔◌, ◌⊎◌, IfSome, IsSome, IsTrue};
+ghost use Rattle.std.specs.Prelude.{◌≡◌, ℕ, ◌+◌, ◌^◌, ◌<◌, ◌≤◌, ◌↔◌, ◌⊎◌, IfSome, IsSome, IsTrue};
 ghost use Rattle.std.specs.Int.{bit_at};
 
 use std::fmt::Debug;
@@ -25,6 +25,18 @@ pub trait Part: Copy + Drop + Debug {
     /// The number.
     fn to_number(self) -> u64
         ensures { result ≡ value self };
+
+    /// The greatest component.
+    fn greatest() -> Self
+        ensures { value result + 1 ≡ bound };
+
+    /// What no component comes to.
+    fn beyond() -> Self
+        ensures { value result ≡ bound };
+
+    /// Whether it is at most this, which either may be: a component, or what none comes to.
+    fn is_at_most(self, other: Self) -> bool
+        ensures { IsTrue result ↔ (value self ≤ value other) };
 
     /// What bears no mark.
     fn unmarked() -> Self
@@ -71,6 +83,18 @@ impl Part for u32 {
         u64::from(self)
     }
 
+    fn greatest() -> u32 {
+        (1 << 31) - 1
+    }
+
+    fn beyond() -> u32 {
+        1 << 31
+    }
+
+    fn is_at_most(self, other: u32) -> bool {
+        self <= other
+    }
+
     fn unmarked() -> u32 {
         0
     }
@@ -105,6 +129,18 @@ impl Part for u64 {
 
     fn to_number(self) -> u64 {
         self
+    }
+
+    fn greatest() -> u64 {
+        (1 << 63) - 1
+    }
+
+    fn beyond() -> u64 {
+        1 << 63
+    }
+
+    fn is_at_most(self, other: u64) -> bool {
+        self <= other
     }
 
     fn unmarked() -> u64 {

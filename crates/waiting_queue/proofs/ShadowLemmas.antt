@@ -48,7 +48,7 @@ pairs_insert R trans xs y i pairs fits =
     ])
 
 -- where c comes no later than y, and each component of b but the first is at least c's, c is at most what b is at most
-covers_on : (c b y : List ℕ) → ¬ LexLess y c → AtMost (grounded c) b → AtMost b y → AtMost c y
+pub covers_on : (c b y : List ℕ) → ¬ LexLess y c → AtMost (grounded c) b → AtMost b y → AtMost c y
 covers_on [] [] [] later below k = tt
 covers_on [] [] (z ∷ zs) later below k = absurd k
 covers_on [] (x ∷ xs) y later below k = absurd below
@@ -63,7 +63,7 @@ covers_on (c ∷ cs) (x ∷ xs) (z ∷ zs) later below k = elim (cases_lt z c) [
     nat_less x y h = grind (arith, nat_tests)
 
 -- the second component of a cost that is at most another
-second_at_most : (a b : List ℕ) → AtMost a b → second_of a ≤ second_of b
+pub second_at_most : (a b : List ℕ) → AtMost a b → second_of a ≤ second_of b
 second_at_most [] [] h = omega arith
 second_at_most [] (y ∷ ys) h = absurd h
 second_at_most (x ∷ xs) [] h = absurd h

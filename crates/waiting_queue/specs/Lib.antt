@@ -4,3 +4,5 @@ pub mod Taking
 pub mod Waiting
 pub mod Joining
 pub mod Ranges
+pub mod Runs
+pub mod Forms

@@ -4,13 +4,17 @@
 
 mod item;
 mod joining;
+mod list_queue;
 mod look;
 mod order;
 mod passing;
 mod queue;
 mod ranges;
+mod run;
+mod run_queue;
 mod shadow;
 mod steps;
+mod two_runs;
 mod widen;
 
 pub use item::Item;

@@ -18,7 +18,7 @@ pub(crate) fn is_same_spot<const D: usize, C: StoredCost<D>>(a: &Item<C>, b: &It
 }
 
 /// Whether the one's spot comes before the other's.
-fn is_before<const D: usize, C: StoredCost<D>>(a: &Item<C>, b: &Item<C>) -> bool
+pub(crate) fn is_before<const D: usize, C: StoredCost<D>>(a: &Item<C>, b: &Item<C>) -> bool
     ensures { IsTrue result ↔ SpotLess (spot_in C.components a.now) (spot_in C.components b.now) }
 {
     a.cost.compare(&b.cost).then(a.node.cmp(&b.node)).is_lt()

@@ -1,70 +1,40 @@
-ghost use Rattle.std.specs.Prelude.{◌≡◌, ◌≢◌, ◌+◌, ◌<◌, ◌≤◌, ◌↔◌, [], ◌++◌, IfOk, IsTrue, OnErr, map};
-ghost use Rattle.waiting_queue.specs.Taking.{AreSorted, Counts, TakesOpenSpots};
-ghost use Rattle.waiting_queue.specs.Waiting.{AreCriteria, as_waiting, spot_in, spot_of};
+ghost use Rattle.std.specs.Prelude.{◌≡◌, ◌≤◌, [], ◌++◌, IfOk, OnErr, map};
+ghost use Rattle.waiting_queue.specs.Taking.{Counts, TakesOpenSpots};
+ghost use Rattle.waiting_queue.specs.Waiting.{AreCriteria, as_waiting, spot_of};
 
-use crate::joining::join_parts;
-use crate::order::list_sorted;
-use crate::passing::pass_anew;
-use crate::ranges::pass_ranges;
-use crate::{Item, Look, Steps, widen_items};
+use crate::list_queue::ListQueue;
+use crate::run_queue::RunQueue;
+use crate::{Item, Look, Steps};
 use out_of_memory::OutOfMemory;
 use route_io::Gate;
 use std::alloc::Global;
 use std::marker::Model;
-use std::mem;
 use std::sync::ledger::Ledger;
 use std::thread::Threads;
 use stored_cost::StoredCost;
 use work_claim::Workers;
 
-/// Where so many items come in, passing is as much work as a label of whole queries that are shared.
-const ITEMS_OF_A_LABEL: usize = 2;
-
 /// What waits. Some of it may be stale, barred or there more than once.
-///
-/// Most items stand in one ascending list, and each call that takes some goes through it once, workers in as many ranges as
-/// they are where it is long.
 #[derive(Drop)]
 pub struct Queue<const D: usize, C: StoredCost<D>> {
-    items: Vec<Item<C>>,
-    /// What was taken in a range of the list though an item of an earlier range dominates it. It comes in again.
-    late: Vec<Item<C>>,
-    /// Room for the items that come in, in order.
-    order: Vec<Item<C>>,
-    left: Left<C>,
+    form: Form<D, C>,
 }
 
-/// Room for what a call leaves.
+/// How it waits: by the number of criteria.
 #[derive(Drop)]
-struct Left<C> {
-    items: Vec<Item<C>>,
-    late: Vec<Item<C>>,
-    shadow: Vec<C>,
-}
-
-impl<C> Left<C> {
-    fn new(alloc: Global) -> Left<C>
-        ensures { result.items.items ≡ [] }
-    {
-        Left {
-            items: Vec::new(alloc),
-            late: Vec::new(alloc),
-            shadow: Vec::new(alloc),
-        }
-    }
+enum Form<const D: usize, C: StoredCost<D>> {
+    Runs(RunQueue<D, C>),
+    List(ListQueue<D, C>),
 }
 
 impl<const D: usize, C: StoredCost<D>> Model for Queue<D, C> {
-    ghost use Rattle.std.specs.Prelude.{List, ◌≤◌, ◌++◌, map};
-    ghost use Rattle.waiting_queue.specs.Taking.{AreSorted};
-    ghost use Rattle.waiting_queue.specs.Waiting.{AreCriteria, Waiting, spot_in, as_waiting};
+    ghost use Rattle.std.specs.Prelude.{List};
+    ghost use Rattle.waiting_queue.specs.Forms.{waiting_in};
+    ghost use Rattle.waiting_queue.specs.Waiting.{Waiting};
 
     ghost Value = { List Waiting };
 
-    ghost view = { λ q. map (as_waiting C.components) (q.items.items ++ q.late.items) };
-
-    ghost invariant = { λ q. (AreCriteria D)
-        × AreSorted (spot_in C.components) q.items.items };
+    ghost view = { λ q. waiting_in q.form };
 }
 
 impl<const D: usize, C: StoredCost<D>> Queue<D, C> {
@@ -73,18 +43,12 @@ impl<const D: usize, C: StoredCost<D>> Queue<D, C> {
         requires { AreCriteria D }
         ensures { result ≡ [] }
     {
-        Queue {
-            items: Vec::new(alloc),
-            late: Vec::new(alloc),
-            order: Vec::new(alloc),
-            left: Left::new(alloc),
-        }
-    }
-
-    pub fn is_empty(&self) -> bool
-        ensures { IsTrue result ↔ (self.now ≡ []) }
-    {
-        self.items.as_slice().is_empty() && self.late.as_slice().is_empty()
+        let form = if D == 2 {
+            Form::Runs(RunQueue::new(alloc))
+        } else {
+            Form::List(ListQueue::new(alloc))
+        };
+        Queue { form }
     }
 
     /// The same queue, with room for greater costs.
@@ -92,12 +56,11 @@ impl<const D: usize, C: StoredCost<D>> Queue<D, C> {
         requires { C.Part.bound ≤ W.Part.bound }
         ensures { IfOk result (λ wide. wide ≡ self.now) }
     {
-        Ok(Queue {
-            items: widen_items(alloc, &self.items)?,
-            late: widen_items(alloc, &self.late)?,
-            order: Vec::new(alloc),
-            left: Left::new(alloc),
-        })
+        let form = match &self.form {
+            Form::Runs(queue) => Form::Runs(queue.widen(alloc)?),
+            Form::List(queue) => Form::List(queue.widen(alloc)?),
+        };
+        Ok(Queue { form })
     }
 }
 
@@ -123,71 +86,13 @@ where
         ensures same { OnErr result (self.new ≡ self.old) }
         ensures uncounted { OnErr result (steps.new ≡ steps.old) }
     {
-        list_sorted(&self.late, fresh, &mut self.order)?;
-        let workers = &sharing::<D, R, G>(workers, fresh.len());
-        pass_lists(
-            workers,
-            alloc,
-            look,
-            &self.items,
-            &self.order,
-            taken,
-            &mut self.left,
-        )?;
-        mem::swap(&mut self.items, &mut self.left.items);
-        mem::swap(&mut self.late, &mut self.left.late);
+        match &mut self.form {
+            Form::Runs(queue) => queue.pass(fresh, look, taken)?,
+            Form::List(queue) => queue.pass(workers, alloc, fresh, look, taken)?,
+        }
         if !taken.as_slice().is_empty() {
             steps.tick();
         }
         Ok(())
     }
-}
-
-/// Those who share a pass to which so many items come. Under 2 criteria the shadow is one cost, and one worker passes the list in
-/// less time than several take to put its ranges together.
-fn sharing<'w, const D: usize, R, G: Gate>(
-    workers: &Workers<'w, R, G>,
-    fresh: usize,
-) -> Workers<'w, R, G>
-    ensures { result.rt ≡ workers.now.rt }
-{
-    if D == 2 {
-        workers.for_labels(0)
-    } else {
-        workers.for_labels(fresh / ITEMS_OF_A_LABEL)
-    }
-}
-
-/// Takes the open ones of two sorted lists of items whose cost no open one dominates, and lists apart what is left. What the
-/// lists held before is gone.
-fn pass_lists<
-    const D: usize,
-    C: StoredCost<D> + Send + Sync,
-    K: Look<D, C> + Sync,
-    R: Threads + Sync,
-    G,
->(
-    workers: &Workers<'_, R, G>,
-    alloc: Global,
-    look: &K,
-    items: &[Item<C>],
-    fresh: &[Item<C>],
-    taken: &mut Vec<Item<C>>,
-    left: &mut Left<C>,
-) -> Result<(), OutOfMemory>
-where
-    C::Part: Send + Sync,
-    requires criteria { AreCriteria D }
-    requires sorted { AreSorted (spot_in C.components) items.now }
-    requires fresh_sorted { AreSorted (spot_in C.components) fresh.now }
-    ensures taken { IfOk result (λ _. TakesOpenSpots (spot_in C.components) (K.IsOpen look.now)
-        (items.now ++ fresh.now) taken.new.items (left.new.items.items ++ left.new.late.items)) }
-    ensures sorted { IfOk result (λ _. AreSorted (spot_in C.components) left.new.items.items) }
-{
-    left.late.clear();
-    if workers.count() == 1 {
-        return pass_anew(look, items, fresh, &mut left.shadow, taken, &mut left.items);
-    }
-    let parts = pass_ranges(workers, alloc, look, items, fresh)?;
-    join_parts(&parts, taken, &mut left.late, &mut left.items)
 }

@@ -1,5 +1,5 @@
 //! What passes take of a queue, of which some isn't open.
-ghost use Rattle.std.specs.Prelude.{◌≡◌, ◌<◌, ◌≤◌, ◌%◌};
+ghost use Rattle.std.specs.Prelude.{Unit, ◌≡◌, ◌<◌, ◌≤◌, ◌%◌};
 ghost use Rattle.waiting_queue.specs.Waiting.{AreCriteria};
 
 use crate::tests::drawing::{cost_of, draw_cost};
@@ -35,6 +35,18 @@ impl<const D: usize, C: StoredCost<D>> Look<D, C> for EvenNodes {
 
     fn is_open(&self, item: &Item<C>) -> bool {
         item.node.0 % 2 == 0
+    }
+}
+
+/// Lets all spots be open.
+#[derive(Drop)]
+struct AllNodes;
+
+impl<const D: usize, C: StoredCost<D>> Look<D, C> for AllNodes {
+    ghost IsOpen = { λ _ _. Unit {0} };
+
+    fn is_open(&self, _item: &Item<C>) -> bool {
+        true
     }
 }
 
@@ -116,6 +128,21 @@ where
     Ok(taken)
 }
 
+/// Whether nothing waits: where all spots are open, a pass takes some of what does.
+fn is_spent<const D: usize, C: StoredCost<D> + Send + Sync, R: Threads + Sync, G: Gate, L: Ledger>(
+    workers: &Workers<'_, R, G>,
+    alloc: Global,
+    queue: &mut Queue<D, C>,
+    steps: &mut Steps<L>,
+) -> Result<bool, OutOfMemory>
+where
+    C::Part: Send + Sync,
+{
+    let mut taken = Vec::new(alloc);
+    queue.pass(workers, alloc, &[], &AllNodes, &mut taken, steps)?;
+    Ok(taken.is_empty())
+}
+
 /// After how many rounds a queue is empty, if each takes what comparing all pairs gives.
 fn rounds<const D: usize, C: StoredCost<D> + Send + Sync, R: Threads + Sync, G: Gate, L: Ledger>(
     workers: &Workers<'_, R, G>,
@@ -137,7 +164,11 @@ where
             return Ok(None);
         }
         if parts.free.is_empty() {
-            return Ok(if queue.is_empty() { Some(round) } else { None });
+            return Ok(if is_spent(workers, alloc, &mut queue, steps)? {
+                Some(round)
+            } else {
+                None
+            });
         }
         waiting = parts.others;
         taken = take(workers, alloc, &mut queue, &none, steps)?;
@@ -209,7 +240,12 @@ fn two_passes<L: Ledger>(
     queue.pass(workers, alloc, items, &EvenNodes, &mut taken, &mut steps)?;
     let first = taken.len();
     queue.pass(workers, alloc, &[], &EvenNodes, &mut taken, &mut steps)?;
-    Ok((first, taken.len(), queue.is_empty()))
+    let second = taken.len();
+    Ok((
+        first,
+        second,
+        is_spent(workers, alloc, &mut queue, &mut steps)?,
+    ))
 }
 
 #[test]

@@ -4,7 +4,7 @@ use Rattle.std.proofs.lemmas.Result.{IfOk-weaker}
 use Rattle.waiting_queue.specs.Waiting.{spot_in}
 use Rattle.waiting_queue.proofs.RangeLemmas.{are_parts, joined_take, rest_sorted}
 use Rattle.waiting_queue.proofs.TakingLemmas.{spots_alone}
-use Rattle.waiting_queue.proofs.queue.pass_lists.Goals as goal
+use Rattle.waiting_queue.proofs.list_queue.pass_lists.Goals as goal
 
 -- where it went well, both hold
 both_ok : {T E : Type 0} (r : Result T E) (P Q R : Type 0) → (P → Q → R) → IfOk r (λ _. P) → IfOk r (λ _. Q) → IfOk r (λ _. R)

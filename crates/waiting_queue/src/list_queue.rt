@@ -1,0 +1,166 @@
+ghost use Rattle.std.specs.Prelude.{◌≡◌, ◌≤◌, [], ◌++◌, IfOk, OnErr, map};
+ghost use Rattle.waiting_queue.specs.Taking.{AreSorted, TakesOpenSpots};
+ghost use Rattle.waiting_queue.specs.Waiting.{AreCriteria, as_waiting, spot_in, spot_of};
+
+use crate::joining::join_parts;
+use crate::order::list_sorted;
+use crate::passing::pass_anew;
+use crate::ranges::pass_ranges;
+use crate::{Item, Look, widen_items};
+use out_of_memory::OutOfMemory;
+use route_io::Gate;
+use std::alloc::Global;
+use std::marker::Model;
+use std::mem;
+use std::thread::Threads;
+use stored_cost::StoredCost;
+use work_claim::Workers;
+
+/// Where so many items come in, passing is as much work as a label of whole queries that are shared.
+const ITEMS_OF_A_LABEL: usize = 2;
+
+/// What waits under 3 or 4 criteria: most of it in one ascending list, and each call that takes some goes through it once, workers
+/// in as many ranges as they are where it is long.
+#[derive(Drop)]
+pub(crate) struct ListQueue<const D: usize, C: StoredCost<D>> {
+    items: Vec<Item<C>>,
+    /// What was taken in a range of the list though an item of an earlier range dominates it. It comes in again.
+    late: Vec<Item<C>>,
+    /// Room for the items that come in, in order.
+    order: Vec<Item<C>>,
+    left: Left<C>,
+}
+
+/// Room for what a call leaves.
+#[derive(Drop)]
+struct Left<C> {
+    items: Vec<Item<C>>,
+    late: Vec<Item<C>>,
+    shadow: Vec<C>,
+}
+
+impl<C> Left<C> {
+    fn new(alloc: Global) -> Left<C>
+        ensures { result.items.items ≡ [] }
+    {
+        Left {
+            items: Vec::new(alloc),
+            late: Vec::new(alloc),
+            shadow: Vec::new(alloc),
+        }
+    }
+}
+
+impl<const D: usize, C: StoredCost<D>> Model for ListQueue<D, C> {
+    ghost use Rattle.std.specs.Prelude.{List, ◌≤◌, ◌++◌, map};
+    ghost use Rattle.waiting_queue.specs.Taking.{AreSorted};
+    ghost use Rattle.waiting_queue.specs.Waiting.{AreCriteria, Waiting, spot_in, as_waiting};
+
+    ghost Value = { List Waiting };
+
+    ghost view = { λ q. map (as_waiting C.components) (q.items.items ++ q.late.items) };
+
+    ghost invariant = { λ q. (AreCriteria D)
+        × AreSorted (spot_in C.components) q.items.items };
+}
+
+impl<const D: usize, C: StoredCost<D>> ListQueue<D, C> {
+    /// A queue in which nothing waits.
+    pub(crate) fn new(alloc: Global) -> ListQueue<D, C>
+        requires { AreCriteria D }
+        ensures { result ≡ [] }
+    {
+        ListQueue {
+            items: Vec::new(alloc),
+            late: Vec::new(alloc),
+            order: Vec::new(alloc),
+            left: Left::new(alloc),
+        }
+    }
+
+    /// The same queue, with room for greater costs.
+    pub(crate) fn widen<W: StoredCost<D>>(
+        &self,
+        alloc: Global,
+    ) -> Result<ListQueue<D, W>, OutOfMemory>
+        requires { C.Part.bound ≤ W.Part.bound }
+        ensures { IfOk result (λ wide. wide ≡ self.now) }
+    {
+        Ok(ListQueue {
+            items: widen_items(alloc, &self.items)?,
+            late: widen_items(alloc, &self.late)?,
+            order: Vec::new(alloc),
+            left: Left::new(alloc),
+        })
+    }
+}
+
+impl<const D: usize, C: StoredCost<D> + Send + Sync> ListQueue<D, C>
+where
+    C::Part: Send + Sync,
+{
+    /// Lets these items in, in any order, and takes those that are open and whose cost no open one dominates, each spot
+    /// once, for every number of workers. What `taken` held before is gone.
+    pub(crate) fn pass<K: Look<D, C> + Sync, R: Threads + Sync, G: Gate>(
+        &mut self,
+        workers: &Workers<'_, R, G>,
+        alloc: Global,
+        fresh: &[Item<C>],
+        look: &K,
+        taken: &mut Vec<Item<C>>,
+    ) -> Result<(), OutOfMemory>
+        ensures taken { IfOk result (λ _. TakesOpenSpots spot_of (K.IsOpen look.now)
+            (self.old ++ map (as_waiting C.components) fresh.now)
+            (map (as_waiting C.components) taken.new.items) self.new) }
+        ensures same { OnErr result (self.new ≡ self.old) }
+    {
+        list_sorted(&self.late, fresh, &mut self.order)?;
+        let workers = &workers.for_labels(fresh.len() / ITEMS_OF_A_LABEL);
+        pass_lists(
+            workers,
+            alloc,
+            look,
+            &self.items,
+            &self.order,
+            taken,
+            &mut self.left,
+        )?;
+        mem::swap(&mut self.items, &mut self.left.items);
+        mem::swap(&mut self.late, &mut self.left.late);
+        Ok(())
+    }
+}
+
+/// Takes the open ones of two sorted lists of items whose cost no open one dominates, and lists apart what is left. What the
+/// lists held before is gone.
+fn pass_lists<
+    const D: usize,
+    C: StoredCost<D> + Send + Sync,
+    K: Look<D, C> + Sync,
+    R: Threads + Sync,
+    G,
+>(
+    workers: &Workers<'_, R, G>,
+    alloc: Global,
+    look: &K,
+    items: &[Item<C>],
+    fresh: &[Item<C>],
+    taken: &mut Vec<Item<C>>,
+    left: &mut Left<C>,
+) -> Result<(), OutOfMemory>
+where
+    C::Part: Send + Sync,
+    requires criteria { AreCriteria D }
+    requires sorted { AreSorted (spot_in C.components) items.now }
+    requires fresh_sorted { AreSorted (spot_in C.components) fresh.now }
+    ensures taken { IfOk result (λ _. TakesOpenSpots (spot_in C.components) (K.IsOpen look.now)
+        (items.now ++ fresh.now) taken.new.items (left.new.items.items ++ left.new.late.items)) }
+    ensures sorted { IfOk result (λ _. AreSorted (spot_in C.components) left.new.items.items) }
+{
+    left.late.clear();
+    if workers.count() == 1 {
+        return pass_anew(look, items, fresh, &mut left.shadow, taken, &mut left.items);
+    }
+    let parts = pass_ranges(workers, alloc, look, items, fresh)?;
+    join_parts(&parts, taken, &mut left.late, &mut left.items)
+}

@@ -9,7 +9,7 @@ use Rattle.std.proofs.lemmas.List.Elements.{AllZip-get_or, Contains-get_or}
 use Rattle.cost_vector.specs.Costs.{AtMost}
 use Rattle.cost_vector.proofs.Components.{AtMost_from_places}
 use Rattle.settled_front.specs.Fronts.{IsCovered}
-use Rattle.settled_front.specs.Blocks.{Exceeds, HasUnmarked, IsMarked, ListsAtMost, ListsUnmarked, MarksAbove, block_size, in_row, lane_cost, lane_costs}
+use Rattle.settled_front.specs.Blocks.{AreAtMost, AreUnmarked, Exceeds, HasUnmarked, IsMarked, MarksAbove, block_size, in_row, lane_cost, lane_costs}
 
 module _ (rows : List (List ℕ)) (cost : List ℕ) where
   -- no row exceeds, if there is none
@@ -89,13 +89,10 @@ module _ (bit : ℕ) (block : List (List ℕ)) (cost marks : List ℕ) (above : 
   )
 
   -- and the lanes without one are those whose cost is
-  pub listed_by_mark : (count : ℕ) (lanes : List ℕ) → count ≤ block_size → ListsUnmarked (IsMarked bit) marks count lanes → ListsAtMost block cost count lanes
-  listed_by_mark count lanes few lists = record {
-    before = lists.before;
-    exact = λ lane low.
-        let listed = lists.exact lane 0 low in
-        let below = above lane (omega (arith, few, low)) in (λ h. below.1 (listed.0 h), λ h. listed.1 (below.0 h));
-  }
+  pub at_most_unmarked : (lanes : ℕ) → AreUnmarked bit marks lanes → AreAtMost block cost lanes
+  at_most_unmarked lanes are lane within =
+      let unmarked = are lane within in
+      let below = above lane within in (λ h. below.1 (unmarked.0 h), λ h. unmarked.1 (below.0 h))
 
 module _ (d : ℕ) (rows : List (List ℕ)) where
   pub length_lanes : length (lane_costs d rows) ≡ block_size
@@ -138,18 +135,18 @@ pub lane_read : (d : ℕ) (rows : List (List ℕ)) (numbers : List ℕ) (lane : 
     → ((k : ℕ) → k < d → get_or numbers k 0 ≡ in_row rows k lane) → numbers ≡ get_or (lane_costs d rows) lane []
 lane_read d rows numbers lane within long each = lane_equals d rows lane numbers long each ∙ sym (lane_is d rows lane within)
 
--- rows of zeros are costs of standing still
-pub blank_lanes : (d : ℕ) → lane_costs d (replicate d (replicate block_size 0)) ≡ replicate block_size (replicate d 0)
-blank_lanes d = ext_get_or [] (lane_costs d rows) (replicate block_size (replicate d 0)) (lanes ∙ sym as_many) (λ lane within.
+-- rows of the same number are costs of that number
+pub same_lanes : (d x : ℕ) → lane_costs d (replicate d (replicate block_size x)) ≡ replicate block_size (replicate d x)
+same_lanes d x = ext_get_or [] (lane_costs d rows) (replicate block_size (replicate d x)) (lanes ∙ sym as_many) (λ lane within.
     let inside : lane < block_size = omega (arith, within, lanes) in
-    get_or-map-range_with_len (lane_cost d rows) 0 block_size lane lane [] inside (omega arith) ∙ still lane inside
-    ∙ sym (get_or-replicate {A = List ℕ} block_size lane (replicate d 0) [] inside))
+    get_or-map-range_with_len (lane_cost d rows) 0 block_size lane lane [] inside (omega arith) ∙ same lane inside
+    ∙ sym (get_or-replicate {A = List ℕ} block_size lane (replicate d x) [] inside))
   where
     rows : List (List ℕ)
-    rows = replicate d (replicate block_size 0)
+    rows = replicate d (replicate block_size x)
 
-    as_many : length (replicate {A = List ℕ} block_size (replicate d 0)) ≡ block_size
-    as_many = length-replicate {A = List ℕ} block_size (replicate d 0)
+    as_many : length (replicate {A = List ℕ} block_size (replicate d x)) ≡ block_size
+    as_many = length-replicate {A = List ℕ} block_size (replicate d x)
 
     lanes : length (lane_costs d rows) ≡ block_size
     lanes = length-map (range_with_len 0 block_size) (lane_cost d rows) ∙ length-range_with_len 0 block_size
@@ -157,10 +154,10 @@ blank_lanes d = ext_get_or [] (lane_costs d rows) (replicate block_size (replica
     lane_long : (lane : ℕ) → length (lane_cost d rows lane) ≡ d
     lane_long lane = length-map (range_with_len 0 d) (λ k. in_row rows k lane) ∙ length-range_with_len 0 d
 
-    still : (lane : ℕ) → lane < block_size → lane_cost d rows lane ≡ replicate d 0
-    still lane inside = same_number_lists (lane_cost d rows lane) (replicate d 0) (lane_long lane ∙ sym (length-replicate {A = ℕ} d 0)) (λ k there.
+    same : (lane : ℕ) → lane < block_size → lane_cost d rows lane ≡ replicate d x
+    same lane inside = same_number_lists (lane_cost d rows lane) (replicate d x) (lane_long lane ∙ sym (length-replicate {A = ℕ} d x)) (λ k there.
         let low : k < d = omega (arith, there, lane_long lane) in
         get_or-map-range_with_len (λ j. in_row rows j lane) 0 d k k 0 low (omega arith)
-        ∙ ap (λ row. get_or row lane 0) (get_or-replicate {A = List ℕ} d k (replicate block_size 0) [] low)
-        ∙ get_or-replicate {A = ℕ} block_size lane 0 0 inside
-        ∙ sym (get_or-replicate {A = ℕ} d k 0 0 low))
+        ∙ ap (λ row. get_or row lane 0) (get_or-replicate {A = List ℕ} d k (replicate block_size x) [] low)
+        ∙ get_or-replicate {A = ℕ} block_size lane x 0 inside
+        ∙ sym (get_or-replicate {A = ℕ} d k x 0 low))

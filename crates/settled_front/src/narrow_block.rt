@@ -1,9 +1,10 @@
 ghost use Rattle.std.specs.Prelude.{◌≡◌, ◌^◌, ◌<◌, ◌↔◌, length, All, IsTrue};
-ghost use Rattle.settled_front.specs.Blocks.{HasUnmarked, MarksAbove, MarksRow, block_size};
+ghost use Rattle.settled_front.specs.Blocks.{AreUnmarked, HasUnmarked, MarksAbove, MarksRow, block_size};
 
 use crate::block::{BLOCK, CostBlock};
 use crate::lanes::Lanes;
 use std::marker::Model;
+use std::simd::prelude::*;
 use stored_cost::{NarrowCost, Part, StoredCost};
 
 /// Sixteen costs in 32 bits a component, laid out in one row for each component.
@@ -30,7 +31,7 @@ impl<const D: usize> CostBlock<D> for NarrowBlock<D> {
 
     fn blank() -> NarrowBlock<D> {
         NarrowBlock {
-            rows: [[0; BLOCK]; D],
+            rows: [[(1 << 31) - 1; BLOCK]; D],
         }
     }
 
@@ -46,8 +47,8 @@ impl<const D: usize> CostBlock<D> for NarrowBlock<D> {
         has_unmarked(&self.mark_above(cost))
     }
 
-    fn lanes_at_most(&self, cost: &NarrowCost<D>, count: usize) -> Lanes {
-        Lanes::unmarked(&self.mark_above(cost), count)
+    fn lanes_at_most(&self, cost: &NarrowCost<D>) -> Lanes {
+        unmarked_lanes(&self.mark_above(cost))
     }
 
     fn cost(&self, lane: usize) -> NarrowCost<D> {
@@ -84,6 +85,14 @@ fn mark_row(over: &mut [u32; BLOCK], component: u32, row: &[u32; BLOCK])
     for lane in 0..BLOCK {
         over[lane] = over[lane].mark_less(component, row[lane]);
     }
+}
+
+/// The lanes that bear no mark.
+fn unmarked_lanes(marks: &[u32; BLOCK]) -> Lanes
+    ensures { AreUnmarked 31 marks.now result }
+{
+    let unmarked = u32x16::from_array(*marks).simd_lt(u32x16::splat(1 << 31));
+    Lanes::of(unmarked.to_bitmask() as u16)
 }
 
 /// Whether some place isn't marked.

@@ -1,9 +1,10 @@
 ghost use Rattle.std.specs.Prelude.{◌≡◌, ◌^◌, ◌<◌, ◌↔◌, length, All, IsTrue};
-ghost use Rattle.settled_front.specs.Blocks.{HasUnmarked, MarksAbove, MarksRow, block_size};
+ghost use Rattle.settled_front.specs.Blocks.{AreUnmarked, HasUnmarked, MarksAbove, MarksRow, block_size};
 
 use crate::block::{BLOCK, CostBlock};
 use crate::lanes::Lanes;
 use std::marker::Model;
+use std::simd::prelude::*;
 use stored_cost::{Part, StoredCost, WideCost};
 
 /// Sixteen costs in 64 bits a component, laid out in one row for each component.
@@ -30,7 +31,7 @@ impl<const D: usize> CostBlock<D> for WideBlock<D> {
 
     fn blank() -> WideBlock<D> {
         WideBlock {
-            rows: [[0; BLOCK]; D],
+            rows: [[(1 << 63) - 1; BLOCK]; D],
         }
     }
 
@@ -46,8 +47,8 @@ impl<const D: usize> CostBlock<D> for WideBlock<D> {
         has_unmarked(&self.mark_above(cost))
     }
 
-    fn lanes_at_most(&self, cost: &WideCost<D>, count: usize) -> Lanes {
-        Lanes::unmarked(&self.mark_above(cost), count)
+    fn lanes_at_most(&self, cost: &WideCost<D>) -> Lanes {
+        unmarked_lanes(&self.mark_above(cost))
     }
 
     fn cost(&self, lane: usize) -> WideCost<D> {
@@ -84,6 +85,14 @@ fn mark_row(over: &mut [u64; BLOCK], component: u64, row: &[u64; BLOCK])
     for lane in 0..BLOCK {
         over[lane] = over[lane].mark_less(component, row[lane]);
     }
+}
+
+/// The lanes that bear no mark.
+fn unmarked_lanes(marks: &[u64; BLOCK]) -> Lanes
+    ensures { AreUnmarked 63 marks.now result }
+{
+    let unmarked = u64x16::from_array(*marks).simd_lt(u64x16::splat(1 << 63));
+    Lanes::of(unmarked.to_bitmask() as u16)
 }
 
 /// Whether some place isn't marked.

@@ -9,7 +9,7 @@ use Rattle.std.proofs.lemmas.List.Elements.{AllZip-get_or, Contains-get_or}
 use Rattle.cost_vector.specs.Costs.{AtMost}
 use Rattle.cost_vector.proofs.Components.{AtMost_from_places}
 use Rattle.settled_front.specs.Fronts.{IsCovered}
-use Rattle.settled_front.specs.Blocks.{AreAtMost, AreUnmarked, Exceeds, HasUnmarked, IsMarked, MarksAbove, block_size, in_row, lane_cost, lane_costs}
+use Rattle.settled_front.specs.Blocks.{AreAtMost, AreUnmarked, Exceeds, HasSome, IsMarked, MarksAbove, block_size, in_row, lane_cost, lane_costs}
 
 module _ (rows : List (List ℕ)) (cost : List ℕ) where
   -- no row exceeds, if there is none
@@ -68,27 +68,23 @@ module _ (rows : List (List ℕ)) (cost : List ℕ) where
       λ unmarked. subst (λ x. AtMost x cost) (sym (lane_at lane within)) (at_most_lane lane (λ e. unmarked ((marked lane within).1 e))),
     )
 
-module _ (bit : ℕ) (block : List (List ℕ)) (cost marks : List ℕ) (above : MarksAbove bit block cost marks) where
-  -- a lane without a mark tells that some cost is at most this one
-  pub covered_by_lane : length block ≡ block_size → HasUnmarked bit marks ↔ IsCovered block cost
-  covered_by_lane full = (
-    λ h. record {
-      by = get_or block h.place [];
-      contains = Contains-get_or block h.place [] (omega (arith, h.within, full));
-      at_most = (above h.place h.within).1 h.unmarked;
-    },
-    λ h.
-        let lane = h.contains.0 in
-        let within : lane < block_size = omega (arith, h.contains.1, full) in
-        let is : get_or block lane [] ≡ h.by = get_or_default block lane [] h.by h.contains.1 ∙ h.contains.2 in
-        record {
-          place = lane;
-          within = within;
-          unmarked = (above lane within).0 (subst (λ x. AtMost x cost) (sym is) h.at_most);
-        },
-  )
+-- where there is a lane whose cost is at most this one, the block covers it
+pub covered_by_lane : (block : List (List ℕ)) (cost : List ℕ) (lanes : ℕ) → length block ≡ block_size → AreAtMost block cost lanes → HasSome lanes ↔ IsCovered block cost
+covered_by_lane block cost lanes full are = (
+  λ h. record {
+    by = get_or block h.lane [];
+    contains = Contains-get_or block h.lane [] (omega (arith, h.within, full));
+    at_most = (are h.lane h.within).0 h.has;
+  },
+  λ h.
+      let lane = h.contains.0 in
+      let within : lane < block_size = omega (arith, h.contains.1, full) in
+      let is : get_or block lane [] ≡ h.by = get_or_default block lane [] h.by h.contains.1 ∙ h.contains.2 in
+      record { lane = lane; within = within; has = (are lane within).1 (subst (λ x. AtMost x cost) (sym is) h.at_most) },
+)
 
-  -- and the lanes without one are those whose cost is
+module _ (bit : ℕ) (block : List (List ℕ)) (cost marks : List ℕ) (above : MarksAbove bit block cost marks) where
+  -- the lanes without a mark are those whose cost is at most this one
   pub at_most_unmarked : (lanes : ℕ) → AreUnmarked bit marks lanes → AreAtMost block cost lanes
   at_most_unmarked lanes are lane within =
       let unmarked = are lane within in

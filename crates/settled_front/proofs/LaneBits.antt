@@ -1,16 +1,16 @@
 -- Lanes as the bits of a number.
-use Rattle.std.proofs.Common.{◌≡◌, ◌↔◌, ◌≢◌, ℕ, ◌*◌, ◌<◌, ◌≤◌, ◌^◌, ◌%◌, List, length, get_or, map, replicate, Bool, true, false, cond, ltb, bit_and, ◌-◌, inl, inr, sym, ap, subst, refl, ◌∙◌, arith}
+use Rattle.std.proofs.Common.{◌≡◌, ◌↔◌, ℕ, zero, suc, ◌*◌, ◌<◌, ◌^◌, ◌%◌, List, length, get_or, map, replicate, Bool, true, false, cond, ltb, nat_eq, not, bit_and, ◌-◌, inl, inr, sym, ap, subst, refl, ◌∙◌, arith}
 use Rattle.std.specs.Prelude.{IsTrue}
 use Rattle.std.specs.Int.{bit_at, trailing_zeros, w16}
 use lib.Lanes.{mask_l, top, zip2}
 use mir.Val.{bits, hbits, Fits}
 use mir.Syntax.{Width}
-use Rattle.std.proofs.lemmas.Bool.{cases_lt, cases_eq, false≢true, lt-ltb, ltb-true}
+use Rattle.std.proofs.lemmas.Bool.{cases_lt, cases_eq, false≢true, lt-ltb, ne_eqb, ltb-true}
 use Rattle.std.proofs.lemmas.List.{get_or-map, length-map}
 use Rattle.std.proofs.lemmas.Nat.{and_le_l}
-use Rattle.std.proofs.lemmas.Nat.Bits.{bit_at-trailing_zeros, bit_at_clear_same, bit_at_clear_other}
+use Rattle.std.proofs.lemmas.Nat.Bits.{bit_at-trailing_zeros, bit_at-zero, bit_at_clear_same, bit_at_clear_other}
 use Rattle.std.proofs.lemmas.Simd.{bit_mask_l, bitmask_splat, mask_l-lt}
-use Rattle.settled_front.specs.Blocks.{AreUnmarked, HasLane, IsMarked, TakesLane, block_size}
+use Rattle.settled_front.specs.Blocks.{AreUnmarked, HasSome, IsMarked, TakesLane, block_size}
 
 -- the lowest bit is cleared: its lane is taken out
 pub lowest_taken : (n : ℕ) → 0 < n → n < 2 ^ 16
@@ -41,6 +41,16 @@ lowest_taken n some fits = record {
 
   cleared : bit_at after lane ≡ 0
   cleared = bit_at_clear_same w16 n lane lowest.0
+
+-- a number that isn't 0 has the lane of its lowest bit
+pub some_by_bits : (n : ℕ) → n < 2 ^ 16 → IsTrue (not (nat_eq n 0)) ↔ HasSome n
+some_by_bits zero fits = (λ h. absurd (false≢true h), λ h. absurd (omega (arith, h.has, bit_at-zero h.lane)))
+some_by_bits (suc m) fits = (
+  λ _.
+      let taken = lowest_taken (suc m) (omega arith) fits in
+      record { lane = trailing_zeros w16 (suc m); within = taken.within; has = taken.had },
+  λ _. ap not (ne_eqb (suc m) 0 (λ e. absurd (omega (arith, e)))),
+)
 
 one_if : (b : Bool) {A : Type 0} → b ≡ true ↔ A → ◌≡◌ {A = ℕ} (cond b 1 0) 1 ↔ A
 one_if true holds = (λ _. holds.0 refl, λ _. refl)

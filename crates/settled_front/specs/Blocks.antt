@@ -35,12 +35,6 @@ abbrev pub MarksRow : ℕ → List ℕ → ℕ → List ℕ → List ℕ → Typ
 MarksRow bit before component row after = (lane : ℕ) → lane < block_size
     → IsMarked bit (slice_index_or after lane 0) ↔ (IsMarked bit (slice_index_or before lane 0) ⊎ (component < slice_index_or row lane 0))
 
--- some place isn't marked
-pub record HasUnmarked (bit : ℕ) (marks : List ℕ) : Type 0 where
-  pub place : ℕ
-  pub within : place < block_size
-  pub unmarked : ¬ IsMarked bit (slice_index_or marks place 0)
-
 -- of the first n rows one has a greater component in this place than the cost
 pub record Exceeds (rows : List (List ℕ)) (cost : List ℕ) (n lane : ℕ) : Type 0 where
   pub row : ℕ
@@ -55,6 +49,12 @@ MarksAbove bit block cost marks = (lane : ℕ) → lane < block_size
 -- the lane is one of these: its bit is set
 abbrev pub HasLane : ℕ → ℕ → Type 0
 HasLane lanes lane = bit_at lanes lane ≡ 1
+
+-- there is one of these lanes
+pub record HasSome (lanes : ℕ) : Type 0 where
+  pub lane : ℕ
+  pub within : lane < block_size
+  pub has : HasLane lanes lane
 
 -- these lanes are those without a mark, and no others
 abbrev pub AreUnmarked : ℕ → List ℕ → ℕ → Type 0

@@ -1,5 +1,5 @@
-ghost use Rattle.std.specs.Prelude.{◌≡◌, ℕ, IfNone, IfSome};
-ghost use Rattle.settled_front.specs.Blocks.{HasLane, TakesLane};
+ghost use Rattle.std.specs.Prelude.{◌≡◌, ◌↔◌, ℕ, IfNone, IfSome, IsTrue};
+ghost use Rattle.settled_front.specs.Blocks.{HasLane, HasSome, TakesLane};
 
 use std::marker::Model;
 
@@ -23,6 +23,13 @@ impl Lanes {
         ensures { result ≡ bits }
     {
         Lanes { bits }
+    }
+
+    /// Whether there is one.
+    pub(crate) fn has_some(&self) -> bool
+        ensures { IsTrue result ↔ HasSome self.now }
+    {
+        self.bits != 0
     }
 
     /// Takes one of them out, as long as there is one.

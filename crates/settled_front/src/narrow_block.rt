@@ -1,5 +1,5 @@
 ghost use Rattle.std.specs.Prelude.{◌≡◌, ◌^◌, ◌<◌, ◌↔◌, length, All, IsTrue};
-ghost use Rattle.settled_front.specs.Blocks.{AreUnmarked, HasUnmarked, MarksAbove, MarksRow, block_size};
+ghost use Rattle.settled_front.specs.Blocks.{AreUnmarked, MarksAbove, MarksRow, block_size};
 
 use crate::block::{BLOCK, CostBlock};
 use crate::lanes::Lanes;
@@ -44,7 +44,7 @@ impl<const D: usize> CostBlock<D> for NarrowBlock<D> {
     }
 
     fn covers(&self, cost: &NarrowCost<D>) -> bool {
-        has_unmarked(&self.mark_above(cost))
+        unmarked_lanes(&self.mark_above(cost)).has_some()
     }
 
     fn lanes_at_most(&self, cost: &NarrowCost<D>) -> Lanes {
@@ -62,6 +62,7 @@ impl<const D: usize> CostBlock<D> for NarrowBlock<D> {
 
 impl<const D: usize> NarrowBlock<D> {
     /// Marks the lanes whose cost isn't at most this one.
+    #[inline(always)]
     fn mark_above(&self, cost: &NarrowCost<D>) -> [u32; BLOCK]
         ensures above { MarksAbove 31 self.now cost.now result }
         ensures full { length self.now ≡ block_size }
@@ -93,15 +94,4 @@ fn unmarked_lanes(marks: &[u32; BLOCK]) -> Lanes
 {
     let unmarked = u32x16::from_array(*marks).simd_lt(u32x16::splat(1 << 31));
     Lanes::of(unmarked.to_bitmask() as u16)
-}
-
-/// Whether some place isn't marked.
-fn has_unmarked(over: &[u32; BLOCK]) -> bool
-    ensures { IsTrue result ↔ HasUnmarked 31 over.now }
-{
-    let mut any = false;
-    for mark in over {
-        any |= !mark.has_mark();
-    }
-    any
 }

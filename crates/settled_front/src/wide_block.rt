@@ -1,5 +1,5 @@
 ghost use Rattle.std.specs.Prelude.{◌≡◌, ◌^◌, ◌<◌, ◌↔◌, length, All, IsTrue};
-ghost use Rattle.settled_front.specs.Blocks.{AreUnmarked, HasUnmarked, MarksAbove, MarksRow, block_size};
+ghost use Rattle.settled_front.specs.Blocks.{AreUnmarked, MarksAbove, MarksRow, block_size};
 
 use crate::block::{BLOCK, CostBlock};
 use crate::lanes::Lanes;
@@ -44,7 +44,7 @@ impl<const D: usize> CostBlock<D> for WideBlock<D> {
     }
 
     fn covers(&self, cost: &WideCost<D>) -> bool {
-        has_unmarked(&self.mark_above(cost))
+        unmarked_lanes(&self.mark_above(cost)).has_some()
     }
 
     fn lanes_at_most(&self, cost: &WideCost<D>) -> Lanes {
@@ -62,6 +62,7 @@ impl<const D: usize> CostBlock<D> for WideBlock<D> {
 
 impl<const D: usize> WideBlock<D> {
     /// Marks the lanes whose cost isn't at most this one.
+    #[inline(always)]
     fn mark_above(&self, cost: &WideCost<D>) -> [u64; BLOCK]
         ensures above { MarksAbove 63 self.now cost.now result }
         ensures full { length self.now ≡ block_size }
@@ -93,15 +94,4 @@ fn unmarked_lanes(marks: &[u64; BLOCK]) -> Lanes
 {
     let unmarked = u64x16::from_array(*marks).simd_lt(u64x16::splat(1 << 63));
     Lanes::of(unmarked.to_bitmask() as u16)
-}
-
-/// Whether some place isn't marked.
-fn has_unmarked(over: &[u64; BLOCK]) -> bool
-    ensures { IsTrue result ↔ HasUnmarked 63 over.now }
-{
-    let mut any = false;
-    for mark in over {
-        any |= !mark.has_mark();
-    }
-    any
 }

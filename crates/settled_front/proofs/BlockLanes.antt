@@ -1,15 +1,16 @@
 -- Blocks of costs, compared side by side.
-use Rattle.std.proofs.Common.{◌≡◌, ◌↔◌, ◌⊎◌, ℕ, ◌+◌, ◌<◌, ◌≤◌, List, [], length, get_or, set, replicate, inl, inr, sym, ap, subst, ◌∙◌, arith}
+use Rattle.std.proofs.Common.{◌≡◌, ◌↔◌, ◌⊎◌, ℕ, ◌+◌, ◌<◌, ◌≤◌, List, [], length, length-take-le, get_or, set, take, replicate, inl, inr, sym, ap, subst, ◌∙◌, arith}
+use Rattle.std.specs.Prelude.{Contains}
 use Rattle.std.specs.List.{range_with_len}
 use Rattle.std.proofs.lemmas.Bool.{cases_lt, cases_eq}
 use Rattle.std.proofs.lemmas.Grind.{same_number_lists}
-use Rattle.std.proofs.lemmas.List.{ext_get_or, get_or-replicate, get_or-set_same, get_or-set_other, get_or_default, length-map, length-replicate, length-set}
+use Rattle.std.proofs.lemmas.List.{ext_get_or, get_or-replicate, get_or-set_same, get_or-set_other, get_or-take, get_or_default, length-map, length-replicate, length-set}
 use Rattle.std.proofs.lemmas.List.FromFn.{length-range_with_len, get_or-map-range_with_len}
 use Rattle.std.proofs.lemmas.List.Elements.{AllZip-get_or, Contains-get_or}
 use Rattle.cost_vector.specs.Costs.{AtMost}
 use Rattle.cost_vector.proofs.Components.{AtMost_from_places}
 use Rattle.settled_front.specs.Fronts.{IsCovered}
-use Rattle.settled_front.specs.Blocks.{AreAtMost, AreUnmarked, Exceeds, HasSome, IsMarked, MarksAbove, block_size, in_row, lane_cost, lane_costs}
+use Rattle.settled_front.specs.Blocks.{AreAtMost, AreFirst, AreUnmarked, Exceeds, HasOneBefore, HasSome, IsMarked, MarksAbove, block_size, in_row, lane_cost, lane_costs}
 
 module _ (rows : List (List ℕ)) (cost : List ℕ) where
   -- no row exceeds, if there is none
@@ -82,6 +83,25 @@ covered_by_lane block cost lanes full are = (
       let is : get_or block lane [] ≡ h.by = get_or_default block lane [] h.by h.contains.1 ∙ h.contains.2 in
       record { lane = lane; within = within; has = (are lane within).1 (subst (λ x. AtMost x cost) (sym is) h.at_most) },
 )
+
+-- where there is one before the count, the first costs do
+pub covered_before : (block : List (List ℕ)) (cost : List ℕ) (lanes count : ℕ) → AreFirst count block → AreAtMost block cost lanes
+    → HasOneBefore lanes count ↔ IsCovered (take count block) cost
+covered_before block cost lanes count first are =
+    let long : length (take count block) ≡ count = length-take-le count block (omega (arith, first.few, first.full)) in (
+      λ h. record {
+        by = get_or block h.lane [];
+        contains = subst (Contains (take count block)) (get_or-take count block h.lane [] h.before)
+            (Contains-get_or (take count block) h.lane [] (omega (arith, h.before, long)));
+        at_most = (are h.lane (omega (arith, h.before, first.few))).0 h.has;
+      },
+      λ h.
+          let lane = h.contains.0 in
+          let before : lane < count = omega (arith, h.contains.1, long) in
+          let is : get_or block lane [] ≡ h.by = sym (get_or-take count block lane [] before)
+          ∙ get_or_default (take count block) lane [] h.by h.contains.1 ∙ h.contains.2 in
+          record { lane = lane; before = before; has = (are lane (omega (arith, before, first.few))).1 (subst (λ x. AtMost x cost) (sym is) h.at_most) },
+    )
 
 module _ (bit : ℕ) (block : List (List ℕ)) (cost marks : List ℕ) (above : MarksAbove bit block cost marks) where
   -- the lanes without a mark are those whose cost is at most this one

@@ -1,6 +1,7 @@
 -- Lanes as the bits of a number.
-use Rattle.std.proofs.Common.{◌≡◌, ◌↔◌, ℕ, zero, suc, ◌*◌, ◌<◌, ◌^◌, ◌%◌, List, length, get_or, map, replicate, Bool, true, false, cond, ltb, nat_eq, not, bit_and, ◌-◌, inl, inr, sym, ap, subst, refl, ◌∙◌, arith}
+use Rattle.std.proofs.Common.{◌≡◌, ◌↔◌, ℕ, zero, suc, ◌*◌, ◌<◌, ◌≤◌, ◌^◌, ◌%◌, List, length, get_or, map, replicate, Bool, true, false, cond, ltb, nat_eq, not, bit_and, ◌-◌, inl, inr, sym, ap, subst, refl, ◌∙◌, arith}
 use Rattle.std.specs.Prelude.{IsTrue}
+use Rattle.std.specs.Int.Count.{trailing_of_zero}
 use Rattle.std.specs.Int.{bit_at, trailing_zeros, w16}
 use lib.Lanes.{mask_l, top, zip2}
 use mir.Val.{bits, hbits, Fits}
@@ -10,7 +11,7 @@ use Rattle.std.proofs.lemmas.List.{get_or-map, length-map}
 use Rattle.std.proofs.lemmas.Nat.{and_le_l}
 use Rattle.std.proofs.lemmas.Nat.Bits.{bit_at-trailing_zeros, bit_at-zero, bit_at_clear_same, bit_at_clear_other}
 use Rattle.std.proofs.lemmas.Simd.{bit_mask_l, bitmask_splat, mask_l-lt}
-use Rattle.settled_front.specs.Blocks.{AreUnmarked, HasSome, IsMarked, TakesLane, block_size}
+use Rattle.settled_front.specs.Blocks.{AreUnmarked, HasOneBefore, HasSome, IsMarked, TakesLane, block_size}
 
 -- the lowest bit is cleared: its lane is taken out
 pub lowest_taken : (n : ℕ) → 0 < n → n < 2 ^ 16
@@ -51,6 +52,22 @@ some_by_bits (suc m) fits = (
       record { lane = trailing_zeros w16 (suc m); within = taken.within; has = taken.had },
   λ _. ap not (ne_eqb (suc m) 0 (λ e. absurd (omega (arith, e)))),
 )
+
+-- a lane before the count is there, if the first one stands before it
+pub one_before : (n count : ℕ) → n < 2 ^ 16 → count ≤ 16 → IsTrue (ltb (trailing_zeros w16 n) count) ↔ HasOneBefore n count
+one_before zero count fits few = (
+  λ h. absurd (omega (arith, ltb-true (trailing_zeros w16 0) count h, trailing_of_zero 16, few)),
+  λ h. absurd (omega (arith, h.has, bit_at-zero h.lane)),
+)
+one_before (suc m) count fits few =
+    let lowest = bit_at-trailing_zeros w16 (suc m) (omega arith) fits in
+    let first = trailing_zeros w16 (suc m) in (
+      λ h. record { lane = first; before = ltb-true first count h; has = lowest.1 },
+      λ h. elim (cases_lt h.lane first) [
+        | inl low ↦ absurd (omega (arith, h.has, lowest.2 h.lane low))
+        | inr high ↦ lt-ltb first count (omega (arith, high, h.before))
+      ],
+    )
 
 one_if : (b : Bool) {A : Type 0} → b ≡ true ↔ A → ◌≡◌ {A = ℕ} (cond b 1 0) 1 ↔ A
 one_if true holds = (λ _. holds.0 refl, λ _. refl)

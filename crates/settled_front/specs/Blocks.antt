@@ -1,5 +1,5 @@
 -- How the front of a node under 3 or 4 criteria is laid out.
-use Rattle.std.specs.Prelude.{◌≡◌, ◌≢◌, ℕ, ◌<◌, ◌↔◌, ◌⊎◌, List, [], length, map, slice_index_or, All}
+use Rattle.std.specs.Prelude.{◌≡◌, ◌≢◌, ℕ, ◌<◌, ◌≤◌, ◌↔◌, ◌⊎◌, List, [], length, map, slice_index_or, All}
 use Rattle.std.specs.Int.{bit_at}
 use Rattle.std.specs.List.{range_with_len}
 use Rattle.cost_vector.specs.Costs.{AtMost}
@@ -55,6 +55,17 @@ pub record HasSome (lanes : ℕ) : Type 0 where
   pub lane : ℕ
   pub within : lane < block_size
   pub has : HasLane lanes lane
+
+-- there is one of these lanes before the count
+pub record HasOneBefore (lanes count : ℕ) : Type 0 where
+  pub lane : ℕ
+  pub before : lane < count
+  pub has : HasLane lanes lane
+
+-- so many costs of a block, the first ones, are in use
+pub record AreFirst (count : ℕ) (block : List (List ℕ)) : Type 0 where
+  pub few : count ≤ block_size
+  pub full : length block ≡ block_size
 
 -- these lanes are those without a mark, and no others
 abbrev pub AreUnmarked : ℕ → List ℕ → ℕ → Type 0

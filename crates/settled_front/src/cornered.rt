@@ -6,6 +6,7 @@ ghost use Rattle.settled_front.specs.Fronts.{IsCovered};
 
 use crate::block::{BLOCK, CostBlock};
 use crate::lanes::Lanes;
+use crate::latest::LatestCosts;
 use crate::narrow_block::NarrowBlock;
 use crate::sorting::order;
 use crate::wide_block::WideBlock;
@@ -71,6 +72,17 @@ impl<const D: usize, B: CostBlock<D>> CorneredBlocks<D, B> {
         self.corners.reserve_exact(1)?;
         add_block(&mut self.blocks, &mut self.corners, costs);
         Ok(())
+    }
+
+    /// Adds a block of the latest costs, which fill one.
+    pub(crate) fn append_latest(&mut self, latest: &LatestCosts<D, B>) -> Result<(), OutOfMemory>
+        requires { length latest.now ≡ block_size }
+        ensures appended { IfOk result (λ _. self.new ≡ self.old ++ latest.now) }
+        ensures same { OnErr result (self.new ≡ self.old) }
+    {
+        let mut costs = Vec::new(self.alloc);
+        latest.take(&mut costs)?;
+        self.append(&costs)
     }
 
     /// Where it is due and the last eight blocks are full, lays their costs anew, so that those of a block are near one another

@@ -1,5 +1,5 @@
-ghost use Rattle.std.specs.Prelude.{◌≡◌, ◌↔◌, ℕ, IfNone, IfSome, IsTrue};
-ghost use Rattle.settled_front.specs.Blocks.{HasLane, HasSome, TakesLane};
+ghost use Rattle.std.specs.Prelude.{◌≡◌, ◌≤◌, ◌↔◌, ℕ, IfNone, IfSome, IsTrue};
+ghost use Rattle.settled_front.specs.Blocks.{HasLane, HasOneBefore, HasSome, TakesLane, block_size};
 
 use std::marker::Model;
 
@@ -30,6 +30,15 @@ impl Lanes {
         ensures { IsTrue result ↔ HasSome self.now }
     {
         self.bits != 0
+    }
+
+    /// Whether there is one before the lane `count`.
+    pub(crate) fn has_one_before(&self, count: usize) -> bool
+        requires { count ≤ block_size }
+        ensures { IsTrue result ↔ HasOneBefore self.now count }
+    {
+        // Where there is none, this is 16.
+        (self.bits.trailing_zeros() as usize) < count
     }
 
     /// Takes one of them out, as long as there is one.

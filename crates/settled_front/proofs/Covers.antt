@@ -2,14 +2,14 @@
 use Rattle.std.proofs.Common.{◌≡◌, ◌↔◌, ◌⊎◌, ℕ, zero, suc, ◌+◌, ◌*◌, ◌/◌, ◌%◌, ◌<◌, Bool, true, false, ◌||◌, List, [], ◌∷◌, ◌++◌, length}
 use Rattle.std.proofs.Common.{map, take, drop, get_or, inl, inr, refl, sym, ap, subst, ◌∙◌, arith}
 use Rattle.std.specs.Prelude.{All, IsTrue}
-use Rattle.std.proofs.lemmas.Bool.{cases_eq, cases_lt, false≢true}
+use Rattle.std.proofs.lemmas.Bool.{cases_lt, false≢true}
 use Rattle.std.proofs.lemmas.List.{get_or-drop, get_or_past, map-append, take_more}
 use Rattle.std.proofs.lemmas.List.Elements.{Contains-append_left, Contains-append_right, Contains-append_cases}
 use Rattle.cost_vector.specs.Costs.{AtMost}
 use Rattle.cost_vector.proofs.Vectors.{AtMost-trans}
 use Rattle.list_laws.proofs.Members.{in_none, in_first, in_one, each_in}
 use Rattle.settled_front.specs.Fronts.{IsCovered}
-use Rattle.settled_front.specs.Blocks.{AreAtMost, HasLane, TakesLane}
+use Rattle.settled_front.specs.Blocks.{AreAtMost, HasLane}
 use Rattle.settled_front.specs.Corners.{CoversAmong, CoversBetween, HaveCorners, corner_at, in_blocks}
 
 -- nothing covers in an empty list

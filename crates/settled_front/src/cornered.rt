@@ -127,11 +127,7 @@ fn blocks_cover<const D: usize, B: CostBlock<D>>(
 }
 
 /// Whether some cost of the blocks that stand in these lanes is at most this one. Lanes behind the last block tell of none.
-fn some_cover<const D: usize, B: CostBlock<D>>(
-    blocks: &[B],
-    lanes: Lanes,
-    cost: &B::Cost,
-) -> bool
+fn some_cover<const D: usize, B: CostBlock<D>>(blocks: &[B], lanes: Lanes, cost: &B::Cost) -> bool
     ensures { IsTrue result
         ↔ CoversAmong (map B.costs blocks.now) lanes (B.Cost.components cost.now) }
 {

@@ -51,9 +51,7 @@ impl<const D: usize, B: CostBlock<D>> LatestCosts<D, B> {
     pub(crate) fn covers(&self, cost: &B::Cost) -> bool
         ensures { IsTrue result ↔ IsCovered self.now (B.Cost.components cost.now) }
     {
-        self.block
-            .lanes_at_most(cost)
-            .has_one_before(self.count)
+        self.block.lanes_at_most(cost).has_one_before(self.count)
     }
 
     /// Adds one.
@@ -105,10 +103,7 @@ impl<const D: usize> LatestCosts<D, NarrowBlock<D>> {
 }
 
 /// So many costs of a block, the first ones, at 64 bits.
-fn widen_first<const D: usize>(
-    block: &NarrowBlock<D>,
-    count: usize,
-) -> LatestCosts<D, WideBlock<D>>
+fn widen_first<const D: usize>(block: &NarrowBlock<D>, count: usize) -> LatestCosts<D, WideBlock<D>>
     requires { AreFirst count block.now }
     ensures { result ≡ take count block.now }
 {

@@ -47,6 +47,7 @@ impl<const D: usize> CostBlock<D> for WideBlock<D> {
         unmarked_lanes(&self.mark_above(cost)).has_some()
     }
 
+    #[inline(always)]
     fn lanes_at_most(&self, cost: &WideCost<D>) -> Lanes {
         unmarked_lanes(&self.mark_above(cost))
     }

@@ -1,4 +1,4 @@
-use Rattle.std.proofs.Common.{◌↔◌, ◌-◌, ◌+◌, ◌*◌, drop, length, map, refl, sym, ap, subst, ◌∙◌, arith}
+use Rattle.std.proofs.Common.{◌↔◌, ◌-◌, ◌*◌, length, map, refl, sym, subst, ◌∙◌, arith}
 use Rattle.std.specs.Prelude.{IsTrue}
 use Rattle.std.proofs.lemmas.Bool.{false≢true}
 use Rattle.std.proofs.lemmas.List.{length-map}
@@ -29,8 +29,7 @@ returns-then-some_cover g c =
     let blocks = c.args.blocks.now in
     let k = c.loop-group.group - 1 in
     let lanes = c.lanes_at_most-lanes.result in
-    let among = subst (λ bs. CoversAmong bs lanes cost) (map-from costs blocks (k * 16)) (c.some_cover.ensures.0 c.if-some_cover.true) in
-    (
+    let among = subst (λ bs. CoversAmong bs lanes cost) (map-from costs blocks (k * 16)) (c.some_cover.ensures.0 c.if-some_cover.true) in (
       λ _. subst (λ n. CoversBetween (map costs blocks) 0 n cost) (length-map blocks costs) (covers_by_lane (map costs blocks) cost (k * 16) lanes among),
       λ _. refl,
     )

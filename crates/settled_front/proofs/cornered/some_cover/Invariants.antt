@@ -1,6 +1,4 @@
-use Rattle.std.proofs.Common.{◌↔◌, ℕ, ◌<◌, [], map, get_or}
-use Rattle.settled_front.specs.Blocks.{HasLane}
-use Rattle.settled_front.specs.Fronts.{IsCovered}
+use Rattle.std.proofs.Common.{map}
 use Rattle.settled_front.proofs.Covers.{LanesLeft}
 use Rattle.settled_front.proofs.cornered.some_cover.Given as goal
 

@@ -1,4 +1,4 @@
-use Rattle.std.proofs.Common.{◌<◌, arith, rules}
+use Rattle.std.proofs.Common.{◌<◌, arith}
 use Rattle.settled_front.proofs.LaneBits.{lowest_taken}
 use Rattle.settled_front.proofs.lanes.Lanes.take_one.Goals as goal
 

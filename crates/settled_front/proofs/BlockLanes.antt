@@ -1,15 +1,16 @@
 -- Blocks of costs, compared side by side.
-use Rattle.std.proofs.Common.{◌≡◌, ◌↔◌, ◌⊎◌, ℕ, ◌+◌, ◌<◌, ◌≤◌, List, [], length, get_or, set, replicate, inl, inr, sym, ap, subst, ◌∙◌, arith}
+use Rattle.std.proofs.Common.{◌≡◌, ◌↔◌, ◌⊎◌, ℕ, ◌+◌, ◌<◌, ◌≤◌, List, [], length, length-take-le, get_or, set, take, replicate, inl, inr, sym, ap, subst, ◌∙◌, arith}
+use Rattle.std.specs.Prelude.{Contains}
 use Rattle.std.specs.List.{range_with_len}
 use Rattle.std.proofs.lemmas.Bool.{cases_lt, cases_eq}
 use Rattle.std.proofs.lemmas.Grind.{same_number_lists}
-use Rattle.std.proofs.lemmas.List.{ext_get_or, get_or-replicate, get_or-set_same, get_or-set_other, get_or_default, length-map, length-replicate, length-set}
+use Rattle.std.proofs.lemmas.List.{ext_get_or, get_or-replicate, get_or-set_same, get_or-set_other, get_or-take, get_or_default, length-map, length-replicate, length-set}
 use Rattle.std.proofs.lemmas.List.FromFn.{length-range_with_len, get_or-map-range_with_len}
 use Rattle.std.proofs.lemmas.List.Elements.{AllZip-get_or, Contains-get_or}
 use Rattle.cost_vector.specs.Costs.{AtMost}
 use Rattle.cost_vector.proofs.Components.{AtMost_from_places}
 use Rattle.settled_front.specs.Fronts.{IsCovered}
-use Rattle.settled_front.specs.Blocks.{Exceeds, HasUnmarked, IsMarked, ListsAtMost, ListsUnmarked, MarksAbove, block_size, in_row, lane_cost, lane_costs}
+use Rattle.settled_front.specs.Blocks.{AreAtMost, AreFirst, AreUnmarked, Exceeds, HasOneBefore, HasSome, IsMarked, MarksAbove, block_size, in_row, lane_cost, lane_costs}
 
 module _ (rows : List (List ℕ)) (cost : List ℕ) where
   -- no row exceeds, if there is none
@@ -68,34 +69,46 @@ module _ (rows : List (List ℕ)) (cost : List ℕ) where
       λ unmarked. subst (λ x. AtMost x cost) (sym (lane_at lane within)) (at_most_lane lane (λ e. unmarked ((marked lane within).1 e))),
     )
 
-module _ (bit : ℕ) (block : List (List ℕ)) (cost marks : List ℕ) (above : MarksAbove bit block cost marks) where
-  -- a lane without a mark tells that some cost is at most this one
-  pub covered_by_lane : length block ≡ block_size → HasUnmarked bit marks ↔ IsCovered block cost
-  covered_by_lane full = (
-    λ h. record {
-      by = get_or block h.place [];
-      contains = Contains-get_or block h.place [] (omega (arith, h.within, full));
-      at_most = (above h.place h.within).1 h.unmarked;
-    },
-    λ h.
-        let lane = h.contains.0 in
-        let within : lane < block_size = omega (arith, h.contains.1, full) in
-        let is : get_or block lane [] ≡ h.by = get_or_default block lane [] h.by h.contains.1 ∙ h.contains.2 in
-        record {
-          place = lane;
-          within = within;
-          unmarked = (above lane within).0 (subst (λ x. AtMost x cost) (sym is) h.at_most);
-        },
-  )
+-- where there is a lane whose cost is at most this one, the block covers it
+pub covered_by_lane : (block : List (List ℕ)) (cost : List ℕ) (lanes : ℕ) → length block ≡ block_size → AreAtMost block cost lanes → HasSome lanes ↔ IsCovered block cost
+covered_by_lane block cost lanes full are = (
+  λ h. record {
+    by = get_or block h.lane [];
+    contains = Contains-get_or block h.lane [] (omega (arith, h.within, full));
+    at_most = (are h.lane h.within).0 h.has;
+  },
+  λ h.
+      let lane = h.contains.0 in
+      let within : lane < block_size = omega (arith, h.contains.1, full) in
+      let is : get_or block lane [] ≡ h.by = get_or_default block lane [] h.by h.contains.1 ∙ h.contains.2 in
+      record { lane = lane; within = within; has = (are lane within).1 (subst (λ x. AtMost x cost) (sym is) h.at_most) },
+)
 
-  -- and the lanes without one are those whose cost is
-  pub listed_by_mark : (count : ℕ) (lanes : List ℕ) → count ≤ block_size → ListsUnmarked (IsMarked bit) marks count lanes → ListsAtMost block cost count lanes
-  listed_by_mark count lanes few lists = record {
-    before = lists.before;
-    exact = λ lane low.
-        let listed = lists.exact lane 0 low in
-        let below = above lane (omega (arith, few, low)) in (λ h. below.1 (listed.0 h), λ h. listed.1 (below.0 h));
-  }
+-- where there is one before the count, the first costs do
+pub covered_before : (block : List (List ℕ)) (cost : List ℕ) (lanes count : ℕ) → AreFirst count block → AreAtMost block cost lanes
+    → HasOneBefore lanes count ↔ IsCovered (take count block) cost
+covered_before block cost lanes count first are =
+    let long : length (take count block) ≡ count = length-take-le count block (omega (arith, first.few, first.full)) in (
+      λ h. record {
+        by = get_or block h.lane [];
+        contains = subst (Contains (take count block)) (get_or-take count block h.lane [] h.before)
+            (Contains-get_or (take count block) h.lane [] (omega (arith, h.before, long)));
+        at_most = (are h.lane (omega (arith, h.before, first.few))).0 h.has;
+      },
+      λ h.
+          let lane = h.contains.0 in
+          let before : lane < count = omega (arith, h.contains.1, long) in
+          let is : get_or block lane [] ≡ h.by = sym (get_or-take count block lane [] before)
+          ∙ get_or_default (take count block) lane [] h.by h.contains.1 ∙ h.contains.2 in
+          record { lane = lane; before = before; has = (are lane (omega (arith, before, first.few))).1 (subst (λ x. AtMost x cost) (sym is) h.at_most) },
+    )
+
+module _ (bit : ℕ) (block : List (List ℕ)) (cost marks : List ℕ) (above : MarksAbove bit block cost marks) where
+  -- the lanes without a mark are those whose cost is at most this one
+  pub at_most_unmarked : (lanes : ℕ) → AreUnmarked bit marks lanes → AreAtMost block cost lanes
+  at_most_unmarked lanes are lane within =
+      let unmarked = are lane within in
+      let below = above lane within in (λ h. below.1 (unmarked.0 h), λ h. unmarked.1 (below.0 h))
 
 module _ (d : ℕ) (rows : List (List ℕ)) where
   pub length_lanes : length (lane_costs d rows) ≡ block_size
@@ -138,18 +151,18 @@ pub lane_read : (d : ℕ) (rows : List (List ℕ)) (numbers : List ℕ) (lane : 
     → ((k : ℕ) → k < d → get_or numbers k 0 ≡ in_row rows k lane) → numbers ≡ get_or (lane_costs d rows) lane []
 lane_read d rows numbers lane within long each = lane_equals d rows lane numbers long each ∙ sym (lane_is d rows lane within)
 
--- rows of zeros are costs of standing still
-pub blank_lanes : (d : ℕ) → lane_costs d (replicate d (replicate block_size 0)) ≡ replicate block_size (replicate d 0)
-blank_lanes d = ext_get_or [] (lane_costs d rows) (replicate block_size (replicate d 0)) (lanes ∙ sym as_many) (λ lane within.
+-- rows of the same number are costs of that number
+pub same_lanes : (d x : ℕ) → lane_costs d (replicate d (replicate block_size x)) ≡ replicate block_size (replicate d x)
+same_lanes d x = ext_get_or [] (lane_costs d rows) (replicate block_size (replicate d x)) (lanes ∙ sym as_many) (λ lane within.
     let inside : lane < block_size = omega (arith, within, lanes) in
-    get_or-map-range_with_len (lane_cost d rows) 0 block_size lane lane [] inside (omega arith) ∙ still lane inside
-    ∙ sym (get_or-replicate {A = List ℕ} block_size lane (replicate d 0) [] inside))
+    get_or-map-range_with_len (lane_cost d rows) 0 block_size lane lane [] inside (omega arith) ∙ same lane inside
+    ∙ sym (get_or-replicate {A = List ℕ} block_size lane (replicate d x) [] inside))
   where
     rows : List (List ℕ)
-    rows = replicate d (replicate block_size 0)
+    rows = replicate d (replicate block_size x)
 
-    as_many : length (replicate {A = List ℕ} block_size (replicate d 0)) ≡ block_size
-    as_many = length-replicate {A = List ℕ} block_size (replicate d 0)
+    as_many : length (replicate {A = List ℕ} block_size (replicate d x)) ≡ block_size
+    as_many = length-replicate {A = List ℕ} block_size (replicate d x)
 
     lanes : length (lane_costs d rows) ≡ block_size
     lanes = length-map (range_with_len 0 block_size) (lane_cost d rows) ∙ length-range_with_len 0 block_size
@@ -157,10 +170,10 @@ blank_lanes d = ext_get_or [] (lane_costs d rows) (replicate block_size (replica
     lane_long : (lane : ℕ) → length (lane_cost d rows lane) ≡ d
     lane_long lane = length-map (range_with_len 0 d) (λ k. in_row rows k lane) ∙ length-range_with_len 0 d
 
-    still : (lane : ℕ) → lane < block_size → lane_cost d rows lane ≡ replicate d 0
-    still lane inside = same_number_lists (lane_cost d rows lane) (replicate d 0) (lane_long lane ∙ sym (length-replicate {A = ℕ} d 0)) (λ k there.
+    same : (lane : ℕ) → lane < block_size → lane_cost d rows lane ≡ replicate d x
+    same lane inside = same_number_lists (lane_cost d rows lane) (replicate d x) (lane_long lane ∙ sym (length-replicate {A = ℕ} d x)) (λ k there.
         let low : k < d = omega (arith, there, lane_long lane) in
         get_or-map-range_with_len (λ j. in_row rows j lane) 0 d k k 0 low (omega arith)
-        ∙ ap (λ row. get_or row lane 0) (get_or-replicate {A = List ℕ} d k (replicate block_size 0) [] low)
-        ∙ get_or-replicate {A = ℕ} block_size lane 0 0 inside
-        ∙ sym (get_or-replicate {A = ℕ} d k 0 0 low))
+        ∙ ap (λ row. get_or row lane 0) (get_or-replicate {A = List ℕ} d k (replicate block_size x) [] low)
+        ∙ get_or-replicate {A = ℕ} block_size lane x 0 inside
+        ∙ sym (get_or-replicate {A = ℕ} d k x 0 low))

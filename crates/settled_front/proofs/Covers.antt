@@ -1,15 +1,15 @@
 -- Which costs are covered by lists of costs, and by blocks of them.
-use Rattle.std.proofs.Common.{◌≡◌, ◌↔◌, ◌⊎◌, ℕ, zero, suc, ◌+◌, ◌*◌, ◌/◌, ◌%◌, ◌<◌, ◌≤◌, Bool, true, false, ◌||◌, List, [], ◌∷◌, ◌++◌, length}
-use Rattle.std.proofs.Common.{map, take, get_or, inl, inr, refl, sym, ap, subst, ◌∙◌, arith}
+use Rattle.std.proofs.Common.{◌≡◌, ◌↔◌, ◌⊎◌, ℕ, zero, suc, ◌+◌, ◌*◌, ◌/◌, ◌%◌, ◌<◌, Bool, true, false, ◌||◌, List, [], ◌∷◌, ◌++◌, length}
+use Rattle.std.proofs.Common.{map, take, drop, get_or, inl, inr, refl, sym, ap, subst, ◌∙◌, arith}
 use Rattle.std.specs.Prelude.{All, IsTrue}
 use Rattle.std.proofs.lemmas.Bool.{cases_lt, false≢true}
-use Rattle.std.proofs.lemmas.List.{get_or_default, map-append, take_more}
+use Rattle.std.proofs.lemmas.List.{get_or-drop, get_or_past, map-append, take_more}
 use Rattle.std.proofs.lemmas.List.Elements.{Contains-append_left, Contains-append_right, Contains-append_cases}
 use Rattle.cost_vector.specs.Costs.{AtMost}
 use Rattle.cost_vector.proofs.Vectors.{AtMost-trans}
 use Rattle.list_laws.proofs.Members.{in_none, in_first, in_one, each_in}
 use Rattle.settled_front.specs.Fronts.{IsCovered}
-use Rattle.settled_front.specs.Blocks.{ListsAtMost}
+use Rattle.settled_front.specs.Blocks.{AreAtMost, HasLane}
 use Rattle.settled_front.specs.Corners.{CoversAmong, CoversBetween, HaveCorners, corner_at, in_blocks}
 
 -- nothing covers in an empty list
@@ -79,28 +79,40 @@ covered_blocks (b ∷ bs) c =
         inr (behind (record { block = k; from = omega arith; before = omega (arith, within); covered = covered }))
 
 module _ (blocks : List (List (List ℕ))) (c : List ℕ) where
-  -- of the listed lanes none tells a block that covers, if none does at any place of the list
-  pub none_among : (start : ℕ) (lanes : List ℕ) → ((j : ℕ) → j < length lanes → ¬ IsCovered (get_or blocks (start + get_or lanes j 0) []) c)
-      → ¬ CoversAmong blocks start lanes c
-  none_among start lanes none h =
-      let is : get_or lanes h.listed.0 0 ≡ h.lane = get_or_default lanes h.listed.0 0 h.lane h.listed.1 ∙ h.listed.2 in
-      none h.listed.0 h.listed.1 (subst (λ l. IsCovered (get_or blocks (start + l) []) c) (sym is) h.covered)
+  -- a block in one of the lanes behind the start is one of the blocks
+  pub covers_by_lane : (start lanes : ℕ) → CoversAmong (drop start blocks) lanes c → CoversBetween blocks 0 (length blocks) c
+  covers_by_lane start lanes h = record {
+    block = start + h.lane;
+    from = omega arith;
+    before = elim (cases_lt (start + h.lane) (length blocks)) [
+      | inl there ↦ there
+      | inr past ↦ absurd (covered_none c (subst (λ b. IsCovered b c) (get_or_past blocks (start + h.lane) [] past) here))
+    ];
+    covered = here;
+  } where
+    here : IsCovered (get_or blocks (start + h.lane) []) c
+    here = subst (λ b. IsCovered b c) (get_or-drop start blocks h.lane []) h.covered
 
   -- none of sixteen blocks covers, where none of those does whose corner is at most c; and none from there on, where none does behind them
-  pub none_at_group : {groups : List (List (List ℕ))} → HaveCorners blocks groups → (k count : ℕ) (lanes : List ℕ) → length blocks ≤ k * 16 + count ⊎ 16 ≤ count
-      → ListsAtMost (get_or groups k []) c count lanes → ¬ CoversAmong blocks (k * 16) lanes c
-      → ¬ CoversBetween blocks ((k + 1) * 16) (length blocks) c → ¬ CoversBetween blocks (k * 16) (length blocks) c
-  none_at_group {groups} have k count lanes whole lists among behind h = elim (cases_lt h.block ((k + 1) * 16)) [
+  pub none_at_group : {groups : List (List (List ℕ))} → HaveCorners blocks groups → (k lanes : ℕ) → AreAtMost (get_or groups k []) c lanes
+      → ¬ CoversAmong (drop (k * 16) blocks) lanes c → ¬ CoversBetween blocks ((k + 1) * 16) (length blocks) c → ¬ CoversBetween blocks (k * 16) (length blocks) c
+  none_at_group {groups} have k lanes are among behind h = elim (cases_lt h.block ((k + 1) * 16)) [
     | inl near ↦
         let lane = h.block % 16 in
         let of_this : h.block / 16 ≡ k = omega (arith, near, h.from) in
         let here : h.block ≡ k * 16 + lane = omega (arith, near, h.from) in
-        let before_end : lane < count = elim whole [ inl to_end ↦ omega (arith, here, h.before, to_end) | inr all ↦ omega (arith, all) ] in
+        let within : lane < 16 = omega arith in
         let below = corner_below (corner_at groups h.block) (get_or blocks h.block []) c (have.at_most h.block h.before) h.covered in
         among (record {
           lane = lane;
-          listed = (lists.exact lane before_end).1 (subst (λ j. AtMost (get_or (get_or groups j []) lane []) c) of_this below);
-          covered = subst (λ j. IsCovered (get_or blocks j []) c) here h.covered;
+          within = within;
+          has = (are lane within).1 (subst (λ j. AtMost (get_or (get_or groups j []) lane []) c) of_this below);
+          covered = subst (λ b. IsCovered b c) (ap (λ j. get_or blocks j []) here ∙ sym (get_or-drop (k * 16) blocks lane [])) h.covered;
         })
     | inr far ↦ behind (record { block = h.block; from = far; before = h.before; covered = h.covered })
   ]
+
+  -- of the lanes those that are left aren't looked into yet, and in the others no block covers
+  pub record LanesLeft (lanes left : ℕ) : Type 0 where
+    pub some : (lane : ℕ) → lane < 16 → HasLane left lane → HasLane lanes lane
+    pub others : (lane : ℕ) → lane < 16 → HasLane lanes lane → HasLane left lane ⊎ ¬ IsCovered (get_or blocks lane []) c

@@ -4,4 +4,4 @@ pub mod BlockLanes
 pub mod Covers
 pub mod Cornering
 pub mod Listing
-pub mod Listed
+pub mod LaneBits

@@ -5,7 +5,7 @@ use Rattle.std.specs.Prelude.{AllPairs, IsPermutation}
 use Rattle.std.specs.List.Sorted.{IsSorted}
 use Rattle.std.specs.Cmp.Lexicographic.{nat_list_cmp_total}
 use Rattle.std.proofs.lemmas.Bool.{false≢true}
-use Rattle.std.proofs.lemmas.List.{get_or-map, length-map, map-append}
+use Rattle.std.proofs.lemmas.List.{get_or-map, length-map}
 use Rattle.std.proofs.lemmas.List.Sorted.{IsPermutation-append_left, IsPermutation-map, IsPermutation-sym, IsPermutation-to_front, ranks_by, sorted_far}
 use Rattle.cost_vector.specs.Costs.{AtMost, LexLess, lex_cmp}
 use Rattle.cost_vector.specs.declared.compact_cost.CompactCost.{CompactCost}
@@ -29,11 +29,10 @@ module _ (costs : List (List ℕ)) (c : List ℕ) where
   }))
 
 -- a cost comes to the latest ones
-pub comes_late : {C : Type 0} (f : C → List ℕ) (before blocks : List (List ℕ)) (latest items : List C) (cost : C) → items ≡ latest ++ cost ∷ []
-    → blocks ++ map f latest ≡ before → blocks ++ map f items ≡ before ++ f cost ∷ []
-comes_late f before blocks latest items cost is same =
-    ap (λ l. blocks ++ map f l) is ∙ ap (λ l. blocks ++ l) (map-append f latest (cost ∷ [])) ∙ sym (append_assoc blocks (map f latest) (f cost ∷ []))
-    ∙ ap (λ l. l ++ f cost ∷ []) same
+pub comes_late : (before blocks latest after : List (List ℕ)) (c : List ℕ) → after ≡ latest ++ c ∷ [] → blocks ++ latest ≡ before
+    → blocks ++ after ≡ before ++ c ∷ []
+comes_late before blocks latest after c is same =
+    ap (λ l. blocks ++ l) is ∙ sym (append_assoc blocks latest (c ∷ [])) ∙ ap (λ l. l ++ c ∷ []) same
 
 -- costs that come, where those in blocks are moved
 pub moves_all : (before blocks after late : List (List ℕ)) (c : List ℕ) → blocks ++ late ≡ before ++ c ∷ [] → IsPermutation blocks after

@@ -1,12 +1,16 @@
 -- Lists of what is stored, and the lists that they are seen as.
-use Rattle.std.proofs.Common.{◌≡◌, ℕ, ◌<◌, List, ◌∷◌, ◌++◌, length, get_or, map, take, drop, [], sym, ap, ◌∙◌}
+use Rattle.std.proofs.Common.{◌≡◌, ℕ, ◌-◌, ◌<◌, List, ◌∷◌, ◌++◌, length, get_or, map, take, drop, [], length-drop, sym, ap, ◌∙◌, arith}
 use Rattle.std.specs.List.{insert}
-use Rattle.std.proofs.lemmas.List.{drop-map, get_or-map, map-append, take-map}
+use Rattle.std.proofs.lemmas.List.{drop-map, get_or-map, map-append, take-map, take_all}
 
 module _ {X Y : Type 0} (f : X → List Y) (xs : List X) where
   -- what was read at a place
   pub read_at : (k : ℕ) (x : X) → k < length xs → x ≡ get_or xs k x → get_or (map f xs) k [] ≡ f x
   read_at k x within is = get_or-map f xs k x [] within ∙ ap f (sym is)
+
+  -- what stands from a place on
+  pub map-from : (n : ℕ) → map f (take (length xs - n) (drop n xs)) ≡ drop n (map f xs)
+  map-from n = ap (map f) (take_all (length xs - n) (drop n xs) (omega (arith, length-drop n xs))) ∙ sym (drop-map f n xs)
 
   -- what was put in at a place
   pub map-insert : (i : ℕ) (x : X) → map f (insert xs i x) ≡ insert (map f xs) i (f x)

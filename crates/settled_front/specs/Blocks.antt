@@ -1,5 +1,5 @@
 -- How the front of a node under 3 or 4 criteria is laid out.
-use Rattle.std.specs.Prelude.{◌≡◌, ℕ, ◌<◌, ◌↔◌, ◌⊎◌, List, [], length, map, slice_index_or, All, Contains}
+use Rattle.std.specs.Prelude.{◌≡◌, ◌≢◌, ℕ, ◌<◌, ◌≤◌, ◌↔◌, ◌⊎◌, List, [], length, map, slice_index_or, All}
 use Rattle.std.specs.Int.{bit_at}
 use Rattle.std.specs.List.{range_with_len}
 use Rattle.cost_vector.specs.Costs.{AtMost}
@@ -35,12 +35,6 @@ abbrev pub MarksRow : ℕ → List ℕ → ℕ → List ℕ → List ℕ → Typ
 MarksRow bit before component row after = (lane : ℕ) → lane < block_size
     → IsMarked bit (slice_index_or after lane 0) ↔ (IsMarked bit (slice_index_or before lane 0) ⊎ (component < slice_index_or row lane 0))
 
--- some place isn't marked
-pub record HasUnmarked (bit : ℕ) (marks : List ℕ) : Type 0 where
-  pub place : ℕ
-  pub within : place < block_size
-  pub unmarked : ¬ IsMarked bit (slice_index_or marks place 0)
-
 -- of the first n rows one has a greater component in this place than the cost
 pub record Exceeds (rows : List (List ℕ)) (cost : List ℕ) (n lane : ℕ) : Type 0 where
   pub row : ℕ
@@ -52,12 +46,38 @@ abbrev pub MarksAbove : ℕ → List (List ℕ) → List ℕ → List ℕ → Ty
 MarksAbove bit block cost marks = (lane : ℕ) → lane < block_size
     → AtMost (slice_index_or block lane []) cost ↔ (¬ IsMarked bit (slice_index_or marks lane 0))
 
--- of the lanes before the count those without a mark are listed, and no others
-pub record ListsUnmarked {P : Type 0} (HasMark : P → Type 0) (marks : List P) (count : ℕ) (lanes : List ℕ) : Type 0 where
-  pub before : All (λ lane. lane < count) lanes
-  pub exact : (lane : ℕ) (other : P) → lane < count → Contains lanes lane ↔ (¬ HasMark (slice_index_or marks lane other))
+-- the lane is one of these: its bit is set
+abbrev pub HasLane : ℕ → ℕ → Type 0
+HasLane lanes lane = bit_at lanes lane ≡ 1
 
--- of the lanes before the count those are listed whose cost is at most this one, and no others
-pub record ListsAtMost (block : List (List ℕ)) (cost : List ℕ) (count : ℕ) (lanes : List ℕ) : Type 0 where
-  pub before : All (λ lane. lane < count) lanes
-  pub exact : (lane : ℕ) → lane < count → Contains lanes lane ↔ AtMost (slice_index_or block lane []) cost
+-- there is one of these lanes
+pub record HasSome (lanes : ℕ) : Type 0 where
+  pub lane : ℕ
+  pub within : lane < block_size
+  pub has : HasLane lanes lane
+
+-- there is one of these lanes before the count
+pub record HasOneBefore (lanes count : ℕ) : Type 0 where
+  pub lane : ℕ
+  pub before : lane < count
+  pub has : HasLane lanes lane
+
+-- so many costs of a block, the first ones, are in use
+pub record AreFirst (count : ℕ) (block : List (List ℕ)) : Type 0 where
+  pub few : count ≤ block_size
+  pub full : length block ≡ block_size
+
+-- these lanes are those without a mark, and no others
+abbrev pub AreUnmarked : ℕ → List ℕ → ℕ → Type 0
+AreUnmarked bit marks lanes = (lane : ℕ) → lane < block_size → HasLane lanes lane ↔ (¬ IsMarked bit (slice_index_or marks lane 0))
+
+-- these lanes are those whose cost is at most this one, and no others
+abbrev pub AreAtMost : List (List ℕ) → List ℕ → ℕ → Type 0
+AreAtMost block cost lanes = (lane : ℕ) → lane < block_size → HasLane lanes lane ↔ AtMost (slice_index_or block lane []) cost
+
+-- one of the lanes is taken out, and the others stay
+pub record TakesLane (before lane after : ℕ) : Type 0 where
+  pub within : lane < block_size
+  pub had : HasLane before lane
+  pub fewer : after < before
+  pub others : (other : ℕ) → other < block_size → HasLane after other ↔ (HasLane before other × (other ≢ lane))

@@ -1,8 +1,8 @@
 -- Blocks of costs with their corners, of which the front of a node under 3 or 4 criteria is made.
-use Rattle.std.specs.Prelude.{◌≡◌, ◌≢◌, ℕ, ◌+◌, ◌/◌, ◌%◌, ◌<◌, ◌≤◌, ◌++◌, List, [], length, slice_index_or, All, AllPairs, Contains}
+use Rattle.std.specs.Prelude.{◌≡◌, ◌≢◌, ℕ, ◌+◌, ◌/◌, ◌%◌, ◌<◌, ◌≤◌, ◌++◌, List, [], length, slice_index_or, All, AllPairs}
 use Rattle.std.specs.List.{flat_map}
 use Rattle.cost_vector.specs.Costs.{AtMost, min_criteria}
-use Rattle.settled_front.specs.Blocks.{block_size}
+use Rattle.settled_front.specs.Blocks.{HasLane, block_size}
 use Rattle.settled_front.specs.Fronts.{IsCovered}
 
 -- how many blocks are laid anew at once
@@ -41,11 +41,12 @@ pub record CoversBetween (blocks : List (List (List ℕ))) (start end : ℕ) (c 
   pub before : block < end
   pub covered : IsCovered (slice_index_or blocks block []) c
 
--- some cost of the blocks that these lanes after start tell is at most c
-pub record CoversAmong (blocks : List (List (List ℕ))) (start : ℕ) (lanes : List ℕ) (c : List ℕ) : Type 0 where
+-- some cost of the blocks that stand in these lanes is at most c
+pub record CoversAmong (blocks : List (List (List ℕ))) (lanes : ℕ) (c : List ℕ) : Type 0 where
   pub lane : ℕ
-  pub listed : Contains lanes lane
-  pub covered : IsCovered (slice_index_or blocks (start + lane) []) c
+  pub within : lane < block_size
+  pub has : HasLane lanes lane
+  pub covered : IsCovered (slice_index_or blocks lane []) c
 
 -- so many costs, in blocks and at most as many latest ones as a block has, and no cost twice
 pub record IsBlockFront (in_blocks latest : List (List ℕ)) (len : ℕ) : Type 0 where

@@ -1,5 +1,5 @@
-ghost use Rattle.std.specs.Prelude.{◌≡◌, ℕ, ◌<◌, ◌≤◌, ◌↔◌, List, [], replicate, slice_index_or, slice_set, IsTrue};
-ghost use Rattle.settled_front.specs.Blocks.{ListsAtMost, block_size};
+ghost use Rattle.std.specs.Prelude.{◌≡◌, ℕ, ◌-◌, ◌<◌, ◌↔◌, List, [], replicate, slice_index_or, slice_set, IsTrue};
+ghost use Rattle.settled_front.specs.Blocks.{AreAtMost, block_size};
 ghost use Rattle.settled_front.specs.Fronts.{IsCovered};
 
 use crate::lanes::Lanes;
@@ -16,9 +16,9 @@ pub trait CostBlock<const D: usize>: Drop {
     /// Its costs.
     ghost costs: { Self → List (List ℕ) };
 
-    /// A block that holds the cost of standing still sixteen times.
+    /// A block that holds the greatest cost of its width sixteen times.
     fn blank() -> Self
-        ensures { costs result ≡ replicate block_size (replicate D 0) };
+        ensures { costs result ≡ replicate block_size (replicate D (Self.Cost.Part.bound - 1)) };
 
     /// Writes the cost in a lane. The others stay.
     fn set(&mut self, lane: usize, cost: &Self::Cost)
@@ -29,10 +29,9 @@ pub trait CostBlock<const D: usize>: Drop {
     fn covers(&self, cost: &Self::Cost) -> bool
         ensures { IsTrue result ↔ IsCovered (costs self.now) (Self.Cost.components cost.now) };
 
-    /// The lanes before `count` whose cost is at most this one.
-    fn lanes_at_most(&self, cost: &Self::Cost, count: usize) -> Lanes
-        requires { count ≤ block_size }
-        ensures { ListsAtMost (costs self.now) (Self.Cost.components cost.now) count result };
+    /// The lanes whose cost is at most this one.
+    fn lanes_at_most(&self, cost: &Self::Cost) -> Lanes
+        ensures { AreAtMost (costs self.now) (Self.Cost.components cost.now) result };
 
     /// The cost in a lane.
     fn cost(&self, lane: usize) -> Self::Cost

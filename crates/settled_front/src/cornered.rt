@@ -6,6 +6,7 @@ ghost use Rattle.settled_front.specs.Fronts.{IsCovered};
 
 use crate::block::{BLOCK, CostBlock};
 use crate::lanes::Lanes;
+use crate::latest::LatestCosts;
 use crate::narrow_block::NarrowBlock;
 use crate::sorting::order;
 use crate::wide_block::WideBlock;
@@ -73,6 +74,17 @@ impl<const D: usize, B: CostBlock<D>> CorneredBlocks<D, B> {
         Ok(())
     }
 
+    /// Adds a block of the latest costs, which fill one.
+    pub(crate) fn append_latest(&mut self, latest: &LatestCosts<D, B>) -> Result<(), OutOfMemory>
+        requires { length latest.now ≡ block_size }
+        ensures appended { IfOk result (λ _. self.new ≡ self.old ++ latest.now) }
+        ensures same { OnErr result (self.new ≡ self.old) }
+    {
+        let mut costs = Vec::new(self.alloc);
+        latest.take(&mut costs)?;
+        self.append(&costs)
+    }
+
     /// Where it is due and the last eight blocks are full, lays their costs anew, so that those of a block are near one another
     /// and its corner rules out more. Where there is no memory for it they stay as they are.
     pub(crate) fn order_last(&mut self, due: bool)
@@ -106,33 +118,37 @@ fn blocks_cover<const D: usize, B: CostBlock<D>>(
         ↔ CoversBetween (map B.costs blocks.now) 0 (length blocks.now) (B.Cost.components cost.now) }
 {
     for group in (0..corners.len()).rev() {
-        let start = group * BLOCK;
-        let count = (blocks.len() - start).min(BLOCK);
-        let lanes = corners[group].lanes_at_most(cost, count);
-        if some_cover(blocks, start, &lanes, cost) {
+        let lanes = corners[group].lanes_at_most(cost);
+        if some_cover(&blocks[group * BLOCK..], lanes, cost) {
             return true;
         }
     }
     false
 }
 
-/// Whether some cost of the blocks that these lanes after `start` tell is at most this one.
-fn some_cover<const D: usize, B: CostBlock<D>>(
-    blocks: &[B],
-    start: usize,
-    lanes: &Lanes,
-    cost: &B::Cost,
-) -> bool
-    requires { All (λ lane. start + lane < length blocks.now) lanes.now }
+/// Whether some cost of the blocks that stand in these lanes is at most this one. Lanes behind the last block tell of none.
+fn some_cover<const D: usize, B: CostBlock<D>>(blocks: &[B], lanes: Lanes, cost: &B::Cost) -> bool
     ensures { IsTrue result
-        ↔ CoversAmong (map B.costs blocks.now) start lanes.now (B.Cost.components cost.now) }
+        ↔ CoversAmong (map B.costs blocks.now) lanes (B.Cost.components cost.now) }
 {
-    for i in (0..lanes.count()).rev() {
-        if blocks[start + lanes.lane(i)].covers(cost) {
+    let mut rest = lanes;
+    'lanes: while let Some(lane) = rest.take_one() {
+        if covers_at(blocks, lane, cost) {
             return true;
         }
     }
     false
+}
+
+/// Whether there is a block at this place, some cost of which is at most this one.
+fn covers_at<const D: usize, B: CostBlock<D>>(blocks: &[B], at: usize, cost: &B::Cost) -> bool
+    ensures { IsTrue result
+        ↔ IsCovered (slice_index_or (map B.costs blocks.now) at []) (B.Cost.components cost.now) }
+{
+    match blocks.get(at) {
+        Some(block) => block.covers(cost),
+        None => false,
+    }
 }
 
 /// The greatest cost that is at most each of these.

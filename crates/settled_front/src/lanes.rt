@@ -1,59 +1,56 @@
-ghost use Rattle.std.specs.Prelude.{◌≡◌, ◌<◌, ◌≤◌, length, slice_index};
-ghost use Rattle.settled_front.specs.Blocks.{ListsUnmarked, block_size};
+ghost use Rattle.std.specs.Prelude.{◌≡◌, ◌≤◌, ◌↔◌, ℕ, IfNone, IfSome, IsTrue};
+ghost use Rattle.settled_front.specs.Blocks.{HasLane, HasOneBefore, HasSome, TakesLane, block_size};
 
-use crate::block::BLOCK;
 use std::marker::Model;
-use stored_cost::Part;
 
-/// Some lanes of a block, in ascending order.
+/// Some of the sixteen lanes of a block. Each has a bit, which is set where it is one of them.
 #[derive(Drop)]
 pub struct Lanes {
-    lanes: [u8; BLOCK],
-    count: usize,
+    bits: u16,
 }
 
 impl Model for Lanes {
-    ghost use Rattle.std.specs.Prelude.{ℕ, ◌≤◌, List, take};
-    ghost use Rattle.settled_front.specs.Blocks.{block_size};
+    ghost use Rattle.std.specs.Prelude.{ℕ};
 
-    ghost Value = { List ℕ };
+    ghost Value = { ℕ };
 
-    ghost view = { λ l. take l.count l.lanes };
-
-    ghost invariant = { λ l. l.count ≤ block_size };
+    ghost view = { λ l. l.bits };
 }
 
 impl Lanes {
-    /// The lanes before `count` that bear no mark, listed without a branch between them.
-    pub(crate) fn unmarked<P: Part>(marks: &[P], count: usize) -> Lanes
-        requires full { length marks.now ≡ block_size }
-        requires within { count ≤ block_size }
-        ensures { ListsUnmarked P.is_marked marks.now count result }
+    /// The lanes whose bits are set.
+    pub(crate) fn of(bits: u16) -> Lanes
+        ensures { result ≡ bits }
     {
-        let mut lanes = [0; BLOCK];
-        let mut listed = 0;
-        for lane in 0..BLOCK {
-            lanes[listed] = lane as u8;
-            listed += usize::from((lane < count) & !marks[lane].has_mark());
-        }
-        Lanes {
-            lanes,
-            count: listed,
-        }
+        Lanes { bits }
     }
 
-    /// How many there are.
-    pub(crate) fn count(&self) -> usize
-        ensures { result ≡ length self.now }
+    /// Whether there is one.
+    pub(crate) fn has_some(&self) -> bool
+        ensures { IsTrue result ↔ HasSome self.now }
     {
-        self.count
+        self.bits != 0
     }
 
-    /// The one at `i`.
-    pub(crate) fn lane(&self, i: usize) -> usize
-        requires { i < length self.now }
-        ensures { result ≡ slice_index self.now i }
+    /// Whether there is one before the lane `count`.
+    pub(crate) fn has_one_before(&self, count: usize) -> bool
+        requires { count ≤ block_size }
+        ensures { IsTrue result ↔ HasOneBefore self.now count }
     {
-        usize::from(self.lanes[i])
+        // Where there is none, this is 16.
+        (self.bits.trailing_zeros() as usize) < count
+    }
+
+    /// Takes one of them out, as long as there is one.
+    pub(crate) fn take_one(&mut self) -> Option<usize>
+        ensures taken { IfSome result (λ lane. TakesLane self.old lane self.new) }
+        ensures none { IfNone result ((lane : ℕ) → ¬ HasLane self.old lane) }
+    {
+        if self.bits == 0 {
+            return None;
+        }
+        let lane = self.bits.trailing_zeros();
+        self.bits &= !(1 << lane);
+        Some(lane as usize)
     }
 }

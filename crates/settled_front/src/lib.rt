@@ -7,6 +7,7 @@ mod blocks;
 mod cornered;
 mod front;
 mod lanes;
+mod latest;
 mod narrow_block;
 mod sorting;
 mod stair;

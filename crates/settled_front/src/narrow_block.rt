@@ -1,9 +1,10 @@
 ghost use Rattle.std.specs.Prelude.{◌≡◌, ◌^◌, ◌<◌, ◌↔◌, length, All, IsTrue};
-ghost use Rattle.settled_front.specs.Blocks.{HasUnmarked, MarksAbove, MarksRow, block_size};
+ghost use Rattle.settled_front.specs.Blocks.{AreUnmarked, MarksAbove, MarksRow, block_size};
 
 use crate::block::{BLOCK, CostBlock};
 use crate::lanes::Lanes;
 use std::marker::Model;
+use std::simd::prelude::*;
 use stored_cost::{NarrowCost, Part, StoredCost};
 
 /// Sixteen costs in 32 bits a component, laid out in one row for each component.
@@ -30,7 +31,7 @@ impl<const D: usize> CostBlock<D> for NarrowBlock<D> {
 
     fn blank() -> NarrowBlock<D> {
         NarrowBlock {
-            rows: [[0; BLOCK]; D],
+            rows: [[(1 << 31) - 1; BLOCK]; D],
         }
     }
 
@@ -43,11 +44,12 @@ impl<const D: usize> CostBlock<D> for NarrowBlock<D> {
     }
 
     fn covers(&self, cost: &NarrowCost<D>) -> bool {
-        has_unmarked(&self.mark_above(cost))
+        unmarked_lanes(&self.mark_above(cost)).has_some()
     }
 
-    fn lanes_at_most(&self, cost: &NarrowCost<D>, count: usize) -> Lanes {
-        Lanes::unmarked(&self.mark_above(cost), count)
+    #[inline(always)]
+    fn lanes_at_most(&self, cost: &NarrowCost<D>) -> Lanes {
+        unmarked_lanes(&self.mark_above(cost))
     }
 
     fn cost(&self, lane: usize) -> NarrowCost<D> {
@@ -61,6 +63,7 @@ impl<const D: usize> CostBlock<D> for NarrowBlock<D> {
 
 impl<const D: usize> NarrowBlock<D> {
     /// Marks the lanes whose cost isn't at most this one.
+    #[inline(always)]
     fn mark_above(&self, cost: &NarrowCost<D>) -> [u32; BLOCK]
         ensures above { MarksAbove 31 self.now cost.now result }
         ensures full { length self.now ≡ block_size }
@@ -86,13 +89,10 @@ fn mark_row(over: &mut [u32; BLOCK], component: u32, row: &[u32; BLOCK])
     }
 }
 
-/// Whether some place isn't marked.
-fn has_unmarked(over: &[u32; BLOCK]) -> bool
-    ensures { IsTrue result ↔ HasUnmarked 31 over.now }
+/// The lanes that bear no mark.
+fn unmarked_lanes(marks: &[u32; BLOCK]) -> Lanes
+    ensures { AreUnmarked 31 marks.now result }
 {
-    let mut any = false;
-    for mark in over {
-        any |= !mark.has_mark();
-    }
-    any
+    let unmarked = u32x16::from_array(*marks).simd_lt(u32x16::splat(1 << 31));
+    Lanes::of(unmarked.to_bitmask() as u16)
 }

@@ -1,9 +1,10 @@
 ghost use Rattle.std.specs.Prelude.{◌≡◌, ◌^◌, ◌<◌, ◌↔◌, length, All, IsTrue};
-ghost use Rattle.settled_front.specs.Blocks.{HasUnmarked, MarksAbove, MarksRow, block_size};
+ghost use Rattle.settled_front.specs.Blocks.{AreUnmarked, MarksAbove, MarksRow, block_size};
 
 use crate::block::{BLOCK, CostBlock};
 use crate::lanes::Lanes;
 use std::marker::Model;
+use std::simd::prelude::*;
 use stored_cost::{Part, StoredCost, WideCost};
 
 /// Sixteen costs in 64 bits a component, laid out in one row for each component.
@@ -30,7 +31,7 @@ impl<const D: usize> CostBlock<D> for WideBlock<D> {
 
     fn blank() -> WideBlock<D> {
         WideBlock {
-            rows: [[0; BLOCK]; D],
+            rows: [[(1 << 63) - 1; BLOCK]; D],
         }
     }
 
@@ -43,11 +44,12 @@ impl<const D: usize> CostBlock<D> for WideBlock<D> {
     }
 
     fn covers(&self, cost: &WideCost<D>) -> bool {
-        has_unmarked(&self.mark_above(cost))
+        unmarked_lanes(&self.mark_above(cost)).has_some()
     }
 
-    fn lanes_at_most(&self, cost: &WideCost<D>, count: usize) -> Lanes {
-        Lanes::unmarked(&self.mark_above(cost), count)
+    #[inline(always)]
+    fn lanes_at_most(&self, cost: &WideCost<D>) -> Lanes {
+        unmarked_lanes(&self.mark_above(cost))
     }
 
     fn cost(&self, lane: usize) -> WideCost<D> {
@@ -61,6 +63,7 @@ impl<const D: usize> CostBlock<D> for WideBlock<D> {
 
 impl<const D: usize> WideBlock<D> {
     /// Marks the lanes whose cost isn't at most this one.
+    #[inline(always)]
     fn mark_above(&self, cost: &WideCost<D>) -> [u64; BLOCK]
         ensures above { MarksAbove 63 self.now cost.now result }
         ensures full { length self.now ≡ block_size }
@@ -86,13 +89,10 @@ fn mark_row(over: &mut [u64; BLOCK], component: u64, row: &[u64; BLOCK])
     }
 }
 
-/// Whether some place isn't marked.
-fn has_unmarked(over: &[u64; BLOCK]) -> bool
-    ensures { IsTrue result ↔ HasUnmarked 63 over.now }
+/// The lanes that bear no mark.
+fn unmarked_lanes(marks: &[u64; BLOCK]) -> Lanes
+    ensures { AreUnmarked 63 marks.now result }
 {
-    let mut any = false;
-    for mark in over {
-        any |= !mark.has_mark();
-    }
-    any
+    let unmarked = u64x16::from_array(*marks).simd_lt(u64x16::splat(1 << 63));
+    Lanes::of(unmarked.to_bitmask() as u16)
 }

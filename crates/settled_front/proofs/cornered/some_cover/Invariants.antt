@@ -1,8 +1,9 @@
-use Rattle.std.proofs.Common.{ℕ, ◌+◌, ◌<◌, ◌≤◌, [], length, map, get_or}
-use Rattle.settled_front.specs.Fronts.{IsCovered}
+use Rattle.std.proofs.Common.{map}
+use Rattle.settled_front.proofs.Covers.{LanesLeft}
 use Rattle.settled_front.proofs.cornered.some_cover.Given as goal
 
-abbrev pub invariant-loop-i : goal.invariant-loop-i
-invariant-loop-i g l =
-    (j : ℕ) → l.i ≤ j → j < length l.lanes
-    → ¬ IsCovered (get_or (map g.B.CostBlock.costs l.blocks) (l.start + get_or l.lanes j 0) []) (g.B.Cost.StoredCost.components l.cost)
+abbrev pub invariant-lanes : goal.invariant-lanes
+invariant-lanes g l = LanesLeft (map g.B.CostBlock.costs l.blocks) (g.B.Cost.StoredCost.components l.cost) l.fn.lanes l.rest
+
+abbrev pub decreases-lanes : goal.decreases-lanes
+decreases-lanes g l = l.rest

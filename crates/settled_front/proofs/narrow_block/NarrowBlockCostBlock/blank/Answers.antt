@@ -1,5 +1,6 @@
-use Rattle.settled_front.proofs.BlockLanes.{blank_lanes}
+use Rattle.std.proofs.Common.{◌-◌, ◌^◌}
+use Rattle.settled_front.proofs.BlockLanes.{same_lanes}
 use Rattle.settled_front.proofs.narrow_block.NarrowBlockCostBlock.blank.Goals as goal
 
 pub returns : goal.returns
-returns g c = blank_lanes g.row.D
+returns g c = same_lanes g.row.D (2 ^ 31 - 1)

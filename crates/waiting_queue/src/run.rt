@@ -51,7 +51,8 @@ pub(crate) fn lay_out<const D: usize, C: StoredCost<D>>(
     requires two { D ≡ 2 }
     requires sorted { AreSorted (spot_in C.components) run.old.items.items }
     ensures run { IfOk result (λ _. IsRun C.Part.value C.components C.Part.bound run.new) }
-    ensures live { IfOk result (λ _. live_in C.Part.value C.components C.Part.bound run.new ≡ run.old.items.items) }
+    ensures live { IfOk result (λ _.
+        live_in C.Part.value C.components C.Part.bound run.new ≡ run.old.items.items) }
 {
     run.seconds.clear();
     for item in &run.items {

@@ -22,7 +22,9 @@ use Rattle.goal_rounds.proofs.BudgetLemmas.{found_all, none_more, too_many}
 use Rattle.goal_rounds.proofs.KeepingLemmas.{begun_is_goal, new_is_goal}
 use Rattle.goal_rounds.proofs.ProgressLemmas.{more_settled, none_settled_more}
 use Rattle.goal_search.specs.Answers.{IsTooLargeToward}
-use Rattle.goal_search.specs.Rounds.{AreGoalRounds, EndsToward, HasAllBounded, HasEnded, IsAfter, IsUnstarted}
+use Rattle.goal_search.specs.Ends.{HasFoundAll, IsPending}
+use Rattle.goal_search.specs.declared.rounds.Pending.{Pending}
+use Rattle.goal_search.specs.Rounds.{AreGoalRounds, EndsToward, HasAllBounded, IsAfter, IsInRound, IsUnstarted}
 
 -- ---- the start
 
@@ -101,6 +103,13 @@ pub unstarted_on : (net : Network) (query : Query) (d : ℕ) (core after : Core)
 unstarted_on net query d core after bounds later unstarted same search =
     subst (λ c. IsUnstarted net query d c later) (sym same) (record { empty = unstarted.empty; bounds_are = search })
 
+-- what is pending is so in a search that is the same
+pub pending_in : (net : Network) (query : Query) (d : ℕ) (pending then : Pending) (core after : Core) (bounds later : BoundSearch) → then ≡ pending → after ≡ core
+    → later ≡ bounds → IsPending net query d pending core bounds → IsPending net query d then after later
+pending_in net query d pending then core after bounds later same_pending same_core same_bounds is =
+    subst (λ b. IsPending net query d then after b) (sym same_bounds)
+    (subst (λ c. IsPending net query d then c bounds) (sym same_core) (subst (λ p. IsPending net query d p core bounds) (sym same_pending) is))
+
 -- no round was made
 pub after_none : (net : Network) (query : Query) (core : Core) (bounds : BoundSearch) → IsNode net.nodes query.from → core.nodes ≡ net.nodes
     → IsNewGoalSearch net query.from query.to query.budget core → IsBoundSearch net query.to bounds → IsAfter net query 0 core bounds
@@ -128,37 +137,59 @@ after_none net query core bounds node nodes new search =
 
 -- ---- a round
 
-module _ (net : Network) (is : IsNetwork net) (query : Query) (rounds : ℕ) (core : Core) (bounds : BoundSearch) (after : IsAfter net query rounds core bounds) where
-  -- a round is open
-  pub open_round : (next : Core) → TakesNext core next → AreGoalRounds net next bounds
-  open_round next takes =
-      let goal = begun_is_goal net is core.start core.target core next after.search.core_is after.none_taken takes in
-      let same = takes.same_search in
-      record {
-        nodes = same.nodes ∙ after.search.nodes;
-        core_is = subst (λ v. IsGoalCore net v next.target next) (sym same.start) (subst (λ v. IsGoalCore net core.start v next) (sym same.target) goal);
-        bounds_are = subst (λ v. IsBoundSearch net v bounds) (sym same.target) after.search.bounds_are;
-      }
-
+module _ (net : Network) (query : Query) (rounds : ℕ) (core : Core) (bounds : BoundSearch) (opened : IsInRound net query rounds core bounds) where
   -- it has ended
-  pub at_next : (next end : Core) (later : BoundSearch) → TakesNext core next → EndsToward net next end → AreGoalRounds net end later
-      → IsAfter net query (rounds + 1) end later
-  at_next next end later takes ends search =
-      let more = more_settled core next takes after.count after.counts in
-      let first = takes.same_search in
-      let then = ends.puts.same_search in
+  pub after_round : (end : Core) (later : BoundSearch) → EndsToward net core end → AreGoalRounds net end later → IsAfter net query rounds end later
+  after_round end later ends search =
+      let same = ends.puts.same_search in
       record {
         search = search;
         none_taken = ends.puts.none_taken;
-        start = then.start ∙ first.start ∙ after.start;
-        target = then.target ∙ first.target ∙ after.target;
-        budget = then.budget ∙ first.budget ∙ after.budget;
-        count = more.0;
+        start = same.start ∙ opened.start;
+        target = same.target ∙ opened.target;
+        budget = same.budget ∙ opened.budget;
+        count = opened.count;
         counts = record {
-          spots = more.1.spots;
-          once = record { exact = λ x. rw ends.puts.settled (more.1.once.exact x); once = more.1.once.once };
-          counted = more.1.counted;
+          spots = opened.counts.spots;
+          once = record { exact = λ x. rw ends.puts.settled (opened.counts.once.exact x); once = opened.counts.once.once };
+          counted = opened.counts.counted;
         };
+        at_least = opened.at_least;
+        within = opened.within;
+      }
+
+  -- it is open still where the core is as it was, and the bounds can be searched on
+  pub open_still : (same_core : Core) (later : BoundSearch) → same_core ≡ core → IsBoundSearch net core.target later → IsInRound net query 0 same_core later
+  open_still same_core later same search =
+      subst (λ c. IsInRound net query 0 c later) (sym same) (record {
+        search = record { nodes = opened.search.nodes; core_is = opened.search.core_is; bounds_are = search };
+        start = opened.start;
+        target = opened.target;
+        budget = opened.budget;
+        count = opened.count;
+        counts = opened.counts;
+        at_least = omega arith;
+        within = opened.within;
+      })
+
+module _ (net : Network) (is : IsNetwork net) (query : Query) (rounds : ℕ) (core : Core) (bounds : BoundSearch) (after : IsAfter net query rounds core bounds) where
+  -- a round is open
+  pub in_round : (next : Core) → TakesNext core next → IsInRound net query (rounds + 1) next bounds
+  in_round next takes =
+      let goal = begun_is_goal net is core.start core.target core next after.search.core_is after.none_taken takes in
+      let same = takes.same_search in
+      let more = more_settled core next takes after.count after.counts in
+      record {
+        search = record {
+          nodes = same.nodes ∙ after.search.nodes;
+          core_is = subst (λ v. IsGoalCore net v next.target next) (sym same.start) (subst (λ v. IsGoalCore net core.start v next) (sym same.target) goal);
+          bounds_are = subst (λ v. IsBoundSearch net v bounds) (sym same.target) after.search.bounds_are;
+        };
+        start = same.start ∙ after.start;
+        target = same.target ∙ after.target;
+        budget = same.budget ∙ after.budget;
+        count = more.0;
+        counts = more.1;
         at_least = omega (arith, after.at_least, more.2);
         within = omega (arith, more.3, after.budget);
       }
@@ -180,18 +211,21 @@ module _ (net : Network) (is : IsNetwork net) (query : Query) (rounds : ℕ) (co
       relevant = λ x there. goal.relevant x ((finds.settled x).0 there);
     }
 
-    pub budget_is_kept : ¬ IsTooLargeToward net query
+    budget_is_kept : ¬ IsTooLargeToward net query
     budget_is_kept passes =
         let budget : end.budget ≡ query.budget = finds.same_search.budget ∙ after.budget in
         none_more net is query.from query.to core goal after.none_taken end finds after.count (none_settled_more core end finds after.count after.counts)
         (omega (arith, after.within, budget)) (subst (GoalPasses net query.from query.to) (sym budget) passes)
 
-    pub has_ended : (later : BoundSearch) → later ≡ bounds → HasEnded net query end later
-    has_ended later same = record {
-      all = all_bounded;
-      bounds_are = subst (IsBoundSearch net query.to) (sym same) (subst (λ v. IsBoundSearch net v bounds) after.target after.search.bounds_are);
-      none_waits = finds.none_waits;
-      none_taken = finds.none_taken;
+    pub has_found_all : HasFoundAll net query end bounds
+    has_found_all = record {
+      ended = record {
+        all = all_bounded;
+        bounds_are = subst (λ v. IsBoundSearch net v bounds) after.target after.search.bounds_are;
+        none_waits = finds.none_waits;
+        none_taken = finds.none_taken;
+      };
+      in_budget = budget_is_kept;
     }
 
   -- there are no more rounds than the budget

@@ -90,9 +90,3 @@ module _ (net : Network) (road : IsRoadNetwork net) (core : Core) (bounds : Boun
               (subst (λ v. IsGoalCore net core.start v after) (sym puts.same_search.target) goal);
           bounds_are = subst (λ v. IsBoundSearch net v later) (sym puts.same_search.target) search;
         }
-
--- they go on where the core is as it was, and the bounds can be searched on
-pub rounds_on : (net : Network) (core after : Core) (bounds later : BoundSearch) → AreGoalRounds net core bounds → after ≡ core → IsBoundSearch net core.target later
-    → AreGoalRounds net after later
-rounds_on net core after bounds later rounds same search =
-    subst (λ c. AreGoalRounds net c later) (sym same) (record { nodes = rounds.nodes; core_is = rounds.core_is; bounds_are = search })

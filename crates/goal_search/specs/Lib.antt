@@ -2,4 +2,4 @@ pub mod Relaxing
 pub mod Rounds
 pub mod Answers
 pub mod Bare
-pub mod Widths
+pub mod Ends

@@ -42,6 +42,17 @@ pub record IsAfter (net : Network) (query : Query) (rounds : ℕ) (core : Core) 
   pub at_least : rounds ≤ count
   pub within : count ≤ query.budget
 
+-- A round of the query is open, and its spots are settled: at least so many are by now, and no more than the budget.
+pub record IsInRound (net : Network) (query : Query) (rounds : ℕ) (core : Core) (bounds : BoundSearch) : Type 0 where
+  pub search : AreGoalRounds net core bounds
+  pub start : core.start ≡ query.from
+  pub target : core.target ≡ query.to
+  pub budget : core.budget ≡ query.budget
+  pub count : ℕ
+  pub counts : CountsSettled core count
+  pub at_least : rounds ≤ count
+  pub within : count ≤ query.budget
+
 -- what is settled is exactly the goal-relevant pairs of the query, with the bounds of their nodes added
 pub record HasAllBounded (net : Network) (query : Query) (core : Core) : Type 0 where
   pub nodes : core.nodes ≡ net.nodes

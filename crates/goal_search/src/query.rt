@@ -1,24 +1,26 @@
-ghost use Rattle.std.specs.Prelude.{◌≡◌, ◌<◌, IfOk, IsErrOf, None, OnOk};
+ghost use Rattle.std.specs.Prelude.{◌≡◌, ◌^◌, ◌<◌, ◌≤◌, IfOk, IsErrOf, None, OnOk};
 ghost use Rattle.found_fronts.specs.FoundAtWidth.{found_of as found_at_width};
+ghost use Rattle.goal_bounds.specs.Bounds.{IsBoundSearch};
 ghost use Rattle.road_network.specs.Queries.{IsQuery};
 ghost use Rattle.goal_search.specs.Answers.{AnswersToward, IsTooLargeToward};
 ghost use Rattle.found_fronts.specs.Findings.{found_of};
-ghost use Rattle.goal_search.specs.Rounds.{IsAfter, IsAnswer};
-ghost use Rattle.goal_search.specs.Widths.{bounds_of, core_of};
+ghost use Rattle.goal_search.specs.Ends.{IsPending};
+ghost use Rattle.goal_search.specs.Rounds.{IsAnswer};
 
-use crate::rounds::GoalRounds;
+use crate::rounds::WidthRounds;
 use arc_graph::Network;
-use bulk_rounds::Begun;
-use found_fronts::{Findings, FoundAtWidth};
-use out_of_memory::OutOfMemory;
+use cost_vector::NodeNo;
+use found_fronts::{Findings, FoundAtWidth, FoundFronts};
+use goal_bounds::BoundSearch;
 use road_network::{Query, SearchFault};
+use round_work::RelaxFault;
 use route_io::Gate;
 use settled_front::{NarrowFront, SettledFront};
 use std::alloc::Global;
 use std::marker::Brand;
 use std::sync::ledger::{Blank, Ledger};
 use std::thread::Threads;
-use stored_cost::{NarrowCost, StoredCost, WideCost};
+use stored_cost::StoredCost;
 use waiting_queue::Steps;
 use walk_readback::FoundCosts;
 use work_claim::Workers;
@@ -73,61 +75,88 @@ fn find_all<R: Threads + Sync, G: Gate, L: Ledger>(
     ensures in_budget { OnOk result (¬ IsTooLargeToward network.now query.now) }
     ensures budget { IsErrOf result SearchFault.Budget → IsTooLargeToward network.now query.now }
 {
+    let mut bounds = BoundSearch::new(alloc, network, NodeNo(query.to))?;
     match network.criteria() {
         2 => {
-            let started = GoalRounds::new(alloc, network, query);
-            let found = find(workers, alloc, network, query, started, steps)?;
+            let found = find(workers, alloc, network, query, &mut bounds, steps)?;
             Ok(Findings::Two(found))
         }
         3 => {
-            let started = GoalRounds::new(alloc, network, query);
-            let found = find(workers, alloc, network, query, started, steps)?;
+            let found = find(workers, alloc, network, query, &mut bounds, steps)?;
             Ok(Findings::Three(found))
         }
         _ => {
-            let started = GoalRounds::new(alloc, network, query);
-            let found = find(workers, alloc, network, query, started, steps)?;
+            let found = find(workers, alloc, network, query, &mut bounds, steps)?;
             Ok(Findings::Four(found))
         }
     }
 }
 
-/// Makes one round after another until all is found, in a search that was started.
-fn find<
-    const D: usize,
-    F: NarrowFront<D> + SettledFront<D, Cost = NarrowCost<D>> + Sync,
-    R: Threads + Sync,
-    G: Gate,
-    L: Ledger,
->(
+/// Finds all goal-relevant pairs of a query with costs in 32 bits a component, and goes on in 64 where there is no room.
+fn find<const D: usize, F: NarrowFront<D> + Sync, R: Threads + Sync, G: Gate, L: Ledger>(
     workers: &Workers<'_, R, G>,
     alloc: Global,
     network: &Network<'_>,
     query: &Query,
-    started: Result<GoalRounds<D, F>, OutOfMemory>,
+    bounds: &mut BoundSearch,
     steps: &mut Steps<L>,
 ) -> Result<FoundAtWidth<D, F>, SearchFault>
 where
-    F::Cost: StoredCost<D, Part = u32> + Send + Sync,
-    F::Wide: SettledFront<D, Cost = WideCost<D>> + Sync,
-    <F::Wide as SettledFront<D>>::Cost: StoredCost<D, Part = u64> + Send + Sync,
+    F::Cost: Send + Sync,
+    <F::Cost as StoredCost<D>>::Part: Send + Sync,
+    F::Wide: Sync,
+    <F::Wide as SettledFront<D>>::Cost: Send + Sync,
+    <<F::Wide as SettledFront<D>>::Cost as StoredCost<D>>::Part: Send + Sync,
     requires query { IsQuery network.now query.now }
     requires criteria { network.now.criteria ≡ D }
-    requires started { IfOk started (λ r.
-        IsAfter network.now query.now 0 (core_of r) (bounds_of r)) }
+    requires wider { F.Cost.Part.bound ≤ F.Wide.Cost.Part.bound }
+    requires room { 2 ^ 57 ≤ F.Wide.Cost.Part.bound }
+    requires bounds { IsBoundSearch network.now query.now.to bounds.old }
     ensures found { IfOk result (λ f. IsAnswer network.now query.now (found_at_width f)) }
     ensures in_budget { OnOk result (¬ IsTooLargeToward network.now query.now) }
     ensures budget { IsErrOf result SearchFault.Budget → IsTooLargeToward network.now query.now }
 {
-    prove!(network.nodes() >= 1);
     prove!(network.criteria() == D);
-    let mut rounds = started?;
-    'rounds: for _ in 0..query.budget + 1 {
-        match rounds.begin(workers, alloc, steps)? {
-            Begun::Done => return Ok(rounds.into_found(alloc, network, query)?),
-            Begun::Budget => return Err(SearchFault::Budget),
-            Begun::Taken => rounds = rounds.finish(alloc, network)?,
+    let mut rounds = WidthRounds::unstarted(alloc, network, query)?;
+    match rounds.run(workers, alloc, network, query, bounds, steps) {
+        Ok(end) => {
+            let found = rounds.into_answer(alloc, network, query, bounds, end)?;
+            Ok(FoundAtWidth::Narrow(found))
         }
+        Err(RelaxFault::TooWide) => {
+            let wide = rounds.widen(alloc)?;
+            let found = find_wide(workers, alloc, network, query, bounds, wide, steps)?;
+            Ok(FoundAtWidth::Wide(found))
+        }
+        Err(RelaxFault::OutOfMemory) => Err(SearchFault::OutOfMemory),
     }
-    unreachable!()
+}
+
+/// Goes on with costs in 64 bits a component: there is room for all of them.
+fn find_wide<const D: usize, F: SettledFront<D> + Sync, R: Threads + Sync, G: Gate, L: Ledger>(
+    workers: &Workers<'_, R, G>,
+    alloc: Global,
+    network: &Network<'_>,
+    query: &Query,
+    bounds: &mut BoundSearch,
+    mut rounds: WidthRounds<D, F>,
+    steps: &mut Steps<L>,
+) -> Result<FoundFronts<D, F>, SearchFault>
+where
+    F::Cost: Send + Sync,
+    <F::Cost as StoredCost<D>>::Part: Send + Sync,
+    requires query { IsQuery network.now query.now }
+    requires criteria { network.now.criteria ≡ D }
+    requires room { 2 ^ 57 ≤ F.Cost.Part.bound }
+    requires pending { IsPending network.now query.now D
+        rounds.pending rounds.core bounds.old }
+    ensures found { IfOk result (IsAnswer network.now query.now) }
+    ensures in_budget { OnOk result (¬ IsTooLargeToward network.now query.now) }
+    ensures budget { IsErrOf result SearchFault.Budget → IsTooLargeToward network.now query.now }
+{
+    match rounds.run(workers, alloc, network, query, bounds, steps) {
+        Ok(end) => rounds.into_answer(alloc, network, query, bounds, end),
+        Err(RelaxFault::OutOfMemory) => Err(SearchFault::OutOfMemory),
+        Err(RelaxFault::TooWide) => unreachable!(),
+    }
 }

@@ -1,12 +1,15 @@
-ghost use Rattle.std.specs.Prelude.{◌≡◌, ◌^◌, ◌<◌, [], length, All, Err, IfNone, IfOk, IfSome, OnOk};
-ghost use Rattle.bulk_rounds.specs.Begins.{BeginsAs};
-ghost use Rattle.found_fronts.specs.FoundAtWidth.{found_of as found_at_width};
+ghost use Rattle.std.specs.Prelude.{◌≡◌, ◌^◌, ◌<◌, ◌≤◌, length, All, Err, IfNone, IfOk, IfSome, IsErrOf, OnOk};
+ghost use Rattle.bulk_core.specs.Kept.{IsEmptySearch};
+ghost use Rattle.bulk_rounds.specs.Cores.{Core as CoreState};
+ghost use Rattle.cost_vector.specs.Costs.{no_limit};
+ghost use Rattle.goal_bounds.specs.Bounds.{IsBoundSearch};
 ghost use Rattle.road_network.specs.Queries.{IsQuery};
 ghost use Rattle.round_work.specs.declared.fault.RelaxFault.TheVariants as fault;
 ghost use Rattle.waiting_queue.specs.Waiting.{AreCriteria, as_waiting};
+ghost use Rattle.goal_search.specs.Answers.{IsTooLargeToward};
+ghost use Rattle.goal_search.specs.Ends.{EndsAs, IsPending};
 ghost use Rattle.goal_search.specs.Relaxing.{HasNoRoom};
-ghost use Rattle.goal_search.specs.Rounds.{AreGoalRounds, EndsToward, HasEnded, IsAfter, IsAnswer, IsUnstarted};
-ghost use Rattle.goal_search.specs.Widths.{bounds_of, core_of};
+ghost use Rattle.goal_search.specs.Rounds.{AreGoalRounds, EndsToward, HasAllBounded, IsAfter, IsAnswer, IsUnstarted};
 
 use crate::bare::without_bounds;
 use crate::relax_toward;
@@ -15,37 +18,56 @@ use arc_graph::Network;
 use bulk_core::Core;
 use bulk_rounds::Begun;
 use cost_vector::{CompactCost, Cost, Limit, NodeNo};
-use found_fronts::{FoundAtWidth, FoundFronts};
+use found_fronts::FoundFronts;
 use goal_bounds::BoundSearch;
 use out_of_memory::OutOfMemory;
-use road_network::Query;
+use road_network::{Query, SearchFault};
 use round_work::RelaxFault;
 use route_io::Gate;
 use settled_front::{NarrowFront, SettledFront};
+use settled_fronts::Fronts;
 use std::alloc::Global;
 use std::sync::ledger::Ledger;
 use std::thread::Threads;
-use stored_cost::{NarrowCost, StoredCost, WideCost};
+use stored_cost::StoredCost;
 use waiting_queue::{Item, Steps};
 use work_claim::Workers;
+
+/// What a search at one width has still to do.
+#[derive(Clone, Copy)]
+pub(crate) enum Pending {
+    /// To put its start.
+    Start,
+    /// To end the open round.
+    Round,
+}
+
+/// How the rounds of a search end.
+#[derive(Clone, Copy)]
+pub(crate) enum RoundsEnd {
+    AllFound,
+    OverBudget,
+}
 
 /// A search that is directed to its target, by rounds over costs with the bounds of their nodes added, at one width.
 #[derive(Drop)]
 pub(crate) struct WidthRounds<const D: usize, F: SettledFront<D>> {
     core: Core<D, F>,
-    bounds: BoundSearch,
+    pending: Pending,
 }
 
 impl<const D: usize, F: SettledFront<D>> WidthRounds<D, F> {
     /// A search in which nothing waits yet.
-    fn unstarted(
+    pub(crate) fn unstarted(
         alloc: Global,
         network: &Network<'_>,
         query: &Query,
     ) -> Result<WidthRounds<D, F>, OutOfMemory>
         requires query { IsQuery network.now query.now }
         requires criteria { network.now.criteria ≡ D }
-        ensures { IfOk result (λ r. IsUnstarted network.now query.now D r.core r.bounds) }
+        ensures core { IfOk result (λ r. IsEmptySearch network.now.nodes D query.now.from
+            query.now.to (no_limit network.now.criteria) query.now.budget r.core) }
+        ensures pending { IfOk result (λ r. r.pending ≡ Pending.Start) }
     {
         let (nodes, criteria) = (network.nodes(), network.criteria());
         prove!(criteria == D);
@@ -53,234 +75,163 @@ impl<const D: usize, F: SettledFront<D>> WidthRounds<D, F> {
         let limit = Limit::none(criteria);
         Ok(WidthRounds {
             core: Core::empty(alloc, nodes, from, to, &limit, query.budget)?,
-            bounds: BoundSearch::new(alloc, network, to)?,
+            pending: Pending::Start,
         })
     }
 
-    /// Puts the start at its bound, where a walk leads from it to the target.
-    fn start(
+    /// Does what is pending: puts the start, or ends the open round. Where a cost has no room, that is pending still.
+    fn resume(
         &mut self,
         alloc: Global,
         network: &Network<'_>,
         query: &Query,
+        bounds: &mut BoundSearch,
     ) -> Result<(), RelaxFault>
         requires query { IsQuery network.now query.now }
         requires criteria { network.now.criteria ≡ D }
-        requires unstarted { IsUnstarted network.now query.now D self.old.core self.old.bounds }
-        ensures started { OnOk result
-            (IsAfter network.now query.now 0 self.new.core self.new.bounds) }
-        ensures same { result ≡ Err fault.TooWide → self.new.core ≡ self.old.core }
-        ensures too_wide { result ≡ Err fault.TooWide
-            → HasNoRoom network.now query.now.to F.Cost.Part.bound self.new.bounds }
+        requires pending { IsPending network.now query.now D
+            self.old.pending self.old.core bounds.old }
+        ensures after { OnOk result (IsAfter network.now query.now 0 self.new.core bounds.new) }
+        ensures pending { result ≡ Err fault.TooWide
+            → IsPending network.now query.now D self.new.pending self.new.core bounds.new }
+        ensures narrow { result ≡ Err fault.TooWide → F.Cost.Part.bound < 2 ^ 57 }
     {
-        prove!(network.nodes() >= 1);
-        prove!(network.criteria() == D);
-        let from = NodeNo(query.from);
-        let Some(bound) = self.bounds.bound(network, from)? else {
-            return Ok(());
-        };
-        let Some(item) = start_at(from, &bound) else {
-            return Err(RelaxFault::TooWide);
-        };
-        let mut first = Vec::new(alloc);
-        first.push(item)?;
-        self.core.finish(&first)?;
-        Ok(())
+        match self.pending {
+            Pending::Start => put_start(alloc, network, query, bounds, &mut self.core),
+            Pending::Round => finish_toward(alloc, network, bounds, &mut self.core),
+        }
     }
 
-    /// What was found, once no spot is open any more.
-    fn into_found(
+    /// What was found by rounds that have ended.
+    pub(crate) fn into_answer(
         self,
         alloc: Global,
         network: &Network<'_>,
         query: &Query,
-    ) -> Result<FoundFronts<D, F>, OutOfMemory>
+        bounds: &mut BoundSearch,
+        end: RoundsEnd,
+    ) -> Result<FoundFronts<D, F>, SearchFault>
         requires query { IsQuery network.now query.now }
         requires criteria { network.now.criteria ≡ D }
-        requires ended { HasEnded network.now query.now self.core self.bounds }
-        ensures { IfOk result (IsAnswer network.now query.now) }
+        requires ended { EndsAs network.now query.now self.core bounds.old end }
+        ensures found { IfOk result (IsAnswer network.now query.now) }
+        ensures in_budget { OnOk result (¬ IsTooLargeToward network.now query.now) }
+        ensures budget { IsErrOf result SearchFault.Budget
+            → IsTooLargeToward network.now query.now }
     {
-        prove!(network.nodes() >= 1);
-        prove!(network.criteria() == D);
-        let WidthRounds { core, mut bounds } = self;
-        let fronts = core.into_found();
-        let bare = without_bounds(alloc, network, &mut bounds, &fronts)?;
-        let found = FoundFronts::new(alloc, bare, NodeNo(query.from), NodeNo(query.to))?;
-        Ok(found)
+        match end {
+            RoundsEnd::AllFound => {
+                let fronts = self.core.into_found();
+                let found = found_by(alloc, network, query, bounds, &fronts)?;
+                Ok(found)
+            }
+            RoundsEnd::OverBudget => Err(SearchFault::Budget),
+        }
     }
 }
 
-impl<const D: usize, F: NarrowFront<D> + SettledFront<D, Cost = NarrowCost<D>>> WidthRounds<D, F>
+impl<const D: usize, F: SettledFront<D> + Sync> WidthRounds<D, F>
 where
-    F::Cost: StoredCost<D, Part = u32>,
-    F::Wide: SettledFront<D, Cost = WideCost<D>>,
-    <F::Wide as SettledFront<D>>::Cost: StoredCost<D, Part = u64>,
+    F::Cost: Send + Sync,
+    <F::Cost as StoredCost<D>>::Part: Send + Sync,
 {
-    /// The same search, with room for greater costs.
-    fn widen(self, alloc: Global) -> Result<WidthRounds<D, F::Wide>, OutOfMemory>
-        ensures core { IfOk result (λ wide. wide.core ≡ self.core) }
-        ensures bounds { IfOk result (λ wide. wide.bounds ≡ self.bounds) }
+    /// Makes one round after another until all is found or the budget is passed, or a cost has no room.
+    pub(crate) fn run<R: Threads + Sync, G: Gate, L: Ledger>(
+        &mut self,
+        workers: &Workers<'_, R, G>,
+        alloc: Global,
+        network: &Network<'_>,
+        query: &Query,
+        bounds: &mut BoundSearch,
+        steps: &mut Steps<L>,
+    ) -> Result<RoundsEnd, RelaxFault>
+        requires query { IsQuery network.now query.now }
+        requires criteria { network.now.criteria ≡ D }
+        requires pending { IsPending network.now query.now D
+            self.old.pending self.old.core bounds.old }
+        ensures ended { IfOk result (EndsAs network.now query.now self.new.core bounds.new) }
+        ensures pending { result ≡ Err fault.TooWide
+            → IsPending network.now query.now D self.new.pending self.new.core bounds.new }
+        ensures narrow { result ≡ Err fault.TooWide → F.Cost.Part.bound < 2 ^ 57 }
     {
-        let core = self.core.widen(alloc)?;
+        prove!(network.nodes() >= 1);
+        self.resume(alloc, network, query, bounds)?;
+        self.pending = Pending::Round;
+        'rounds: for _ in 0..query.budget + 1 {
+            match self.core.begin(workers, alloc, steps)? {
+                Begun::Done => return Ok(RoundsEnd::AllFound),
+                Begun::Budget => return Ok(RoundsEnd::OverBudget),
+                Begun::Taken => finish_toward(alloc, network, bounds, &mut self.core)?,
+            }
+        }
+        unreachable!()
+    }
+}
+
+impl<const D: usize, F: NarrowFront<D>> WidthRounds<D, F> {
+    /// The same search, with room for greater costs.
+    pub(crate) fn widen(self, alloc: Global) -> Result<WidthRounds<D, F::Wide>, OutOfMemory>
+        requires { F.Cost.Part.bound ≤ F.Wide.Cost.Part.bound }
+        ensures core { IfOk result (λ wide. wide.core ≡ self.core) }
+        ensures pending { IfOk result (λ wide. wide.pending ≡ self.pending) }
+    {
         Ok(WidthRounds {
-            core,
-            bounds: self.bounds,
+            core: self.core.widen(alloc)?,
+            pending: self.pending,
         })
     }
 }
 
-/// Such a search, with costs in 32 bits a component as long as there is room.
-#[derive(Drop)]
-pub(crate) enum GoalRounds<const D: usize, F: NarrowFront<D>> {
-    Narrow(WidthRounds<D, F>),
-    Wide(WidthRounds<D, F::Wide>),
-}
-
-impl<const D: usize, F: NarrowFront<D> + SettledFront<D, Cost = NarrowCost<D>>> GoalRounds<D, F>
-where
-    F::Cost: StoredCost<D, Part = u32>,
-    F::Wide: SettledFront<D, Cost = WideCost<D>>,
-    <F::Wide as SettledFront<D>>::Cost: StoredCost<D, Part = u64>,
-{
-    /// A search in which no round was made.
-    pub(crate) fn new(
-        alloc: Global,
-        network: &Network<'_>,
-        query: &Query,
-    ) -> Result<GoalRounds<D, F>, OutOfMemory>
-        requires query { IsQuery network.now query.now }
-        requires criteria { network.now.criteria ≡ D }
-        ensures { IfOk result (λ r.
-            IsAfter network.now query.now 0 (core_of r) (bounds_of r)) }
-    {
-        prove!(network.criteria() == D);
-        let mut rounds = WidthRounds::unstarted(alloc, network, query)?;
-        match rounds.start(alloc, network, query) {
-            Ok(()) => Ok(GoalRounds::Narrow(rounds)),
-            Err(RelaxFault::TooWide) => start_wide(alloc, network, query, rounds.widen(alloc)?),
-            Err(RelaxFault::OutOfMemory) => Err(OutOfMemory),
-        }
-    }
-
-    /// Ends the open round, with wider costs where there is no room for what it gives.
-    pub(crate) fn finish(
-        self,
-        alloc: Global,
-        network: &Network<'_>,
-    ) -> Result<GoalRounds<D, F>, OutOfMemory>
-        requires criteria { network.now.criteria ≡ D }
-        requires rounds { AreGoalRounds network.now (core_of self) (bounds_of self) }
-        ensures rounds { IfOk result (λ r.
-            AreGoalRounds network.now (core_of r) (bounds_of r)) }
-        ensures ended { IfOk result (λ r. EndsToward network.now (core_of self) (core_of r)) }
-    {
-        prove!(network.criteria() == D);
-        match self {
-            GoalRounds::Narrow(mut rounds) => {
-                match finish_toward(alloc, network, &mut rounds.bounds, &mut rounds.core) {
-                    Ok(()) => Ok(GoalRounds::Narrow(rounds)),
-                    Err(RelaxFault::TooWide) => finish_wide(alloc, network, rounds.widen(alloc)?),
-                    Err(RelaxFault::OutOfMemory) => Err(OutOfMemory),
-                }
-            }
-            GoalRounds::Wide(rounds) => finish_wide(alloc, network, rounds),
-        }
-    }
-
-    /// What was found, once no spot is open any more.
-    pub(crate) fn into_found(
-        self,
-        alloc: Global,
-        network: &Network<'_>,
-        query: &Query,
-    ) -> Result<FoundAtWidth<D, F>, OutOfMemory>
-        requires query { IsQuery network.now query.now }
-        requires criteria { network.now.criteria ≡ D }
-        requires ended { HasEnded network.now query.now (core_of self) (bounds_of self) }
-        ensures { IfOk result (λ f. IsAnswer network.now query.now (found_at_width f)) }
-    {
-        prove!(network.criteria() == D);
-        match self {
-            GoalRounds::Narrow(rounds) => {
-                let found = rounds.into_found(alloc, network, query)?;
-                Ok(FoundAtWidth::Narrow(found))
-            }
-            GoalRounds::Wide(rounds) => {
-                let found = rounds.into_found(alloc, network, query)?;
-                Ok(FoundAtWidth::Wide(found))
-            }
-        }
-    }
-}
-
-impl<const D: usize, F: NarrowFront<D> + SettledFront<D, Cost = NarrowCost<D>> + Sync> GoalRounds<
-    D,
-    F,
->
-where
-    F::Cost: StoredCost<D, Part = u32> + Send + Sync,
-    F::Wide: SettledFront<D, Cost = WideCost<D>> + Sync,
-    <F::Wide as SettledFront<D>>::Cost: StoredCost<D, Part = u64> + Send + Sync,
-{
-    /// Begins a round.
-    pub(crate) fn begin<R: Threads + Sync, G: Gate, L: Ledger>(
-        &mut self,
-        workers: &Workers<'_, R, G>,
-        alloc: Global,
-        steps: &mut Steps<L>,
-    ) -> Result<Begun, OutOfMemory>
-        requires { (core_of self.old).taken ≡ [] }
-        ensures begun { IfOk result (BeginsAs (core_of self.old) (core_of self.new)) }
-        ensures bounds { bounds_of self.new ≡ bounds_of self.old }
-    {
-        match self {
-            GoalRounds::Narrow(rounds) => rounds.core.begin(workers, alloc, steps),
-            GoalRounds::Wide(rounds) => rounds.core.begin(workers, alloc, steps),
-        }
-    }
-}
-
-/// Starts a search with costs in 64 bits a component: there is room for the start's bound.
-fn start_wide<const D: usize, F: NarrowFront<D>>(
+/// What was found, without the bounds of the nodes.
+fn found_by<const D: usize, F: SettledFront<D>>(
     alloc: Global,
     network: &Network<'_>,
     query: &Query,
-    mut rounds: WidthRounds<D, F::Wide>,
-) -> Result<GoalRounds<D, F>, OutOfMemory>
-where
-    F::Wide: SettledFront<D, Cost = WideCost<D>>,
-    <F::Wide as SettledFront<D>>::Cost: StoredCost<D, Part = u64>,
+    bounds: &mut BoundSearch,
+    fronts: &Fronts<D, F>,
+) -> Result<FoundFronts<D, F>, OutOfMemory>
     requires query { IsQuery network.now query.now }
     requires criteria { network.now.criteria ≡ D }
-    requires unstarted { IsUnstarted network.now query.now D rounds.core rounds.bounds }
-    ensures { IfOk result (λ r. IsAfter network.now query.now 0 (core_of r) (bounds_of r)) }
+    requires bounds { IsBoundSearch network.now query.now.to bounds.old }
+    requires settled { (core : CoreState) × HasAllBounded network.now query.now core
+        × (fronts.now.nodes ≡ core.nodes) × (fronts.now.costs ≡ core.settled) }
+    ensures { IfOk result (IsAnswer network.now query.now) }
 {
-    match rounds.start(alloc, network, query) {
-        Ok(()) => Ok(GoalRounds::Wide(rounds)),
-        Err(RelaxFault::OutOfMemory) => Err(OutOfMemory),
-        Err(RelaxFault::TooWide) => unreachable!(),
-    }
+    prove!(network.nodes() >= 1);
+    prove!(network.criteria() == D);
+    let bare = without_bounds(alloc, network, bounds, fronts)?;
+    FoundFronts::new(alloc, bare, NodeNo(query.from), NodeNo(query.to))
 }
 
-/// Ends the open round where costs have 64 bits a component: there is room for all of them.
-fn finish_wide<const D: usize, F: NarrowFront<D>>(
+/// Puts the start at its bound, where a walk leads from it to the target.
+fn put_start<const D: usize, F: SettledFront<D>>(
     alloc: Global,
     network: &Network<'_>,
-    mut rounds: WidthRounds<D, F::Wide>,
-) -> Result<GoalRounds<D, F>, OutOfMemory>
-where
-    F::Wide: SettledFront<D, Cost = WideCost<D>>,
-    <F::Wide as SettledFront<D>>::Cost: StoredCost<D, Part = u64>,
+    query: &Query,
+    bounds: &mut BoundSearch,
+    core: &mut Core<D, F>,
+) -> Result<(), RelaxFault>
+    requires query { IsQuery network.now query.now }
     requires criteria { network.now.criteria ≡ D }
-    requires rounds { AreGoalRounds network.now rounds.core rounds.bounds }
-    ensures rounds { IfOk result (λ r. AreGoalRounds network.now (core_of r) (bounds_of r)) }
-    ensures ended { IfOk result (λ r. EndsToward network.now rounds.core (core_of r)) }
+    requires unstarted { IsUnstarted network.now query.now D core.old bounds.old }
+    ensures started { OnOk result (IsAfter network.now query.now 0 core.new bounds.new) }
+    ensures same { result ≡ Err fault.TooWide → core.new ≡ core.old }
+    ensures too_wide { result ≡ Err fault.TooWide
+        → HasNoRoom network.now query.now.to F.Cost.Part.bound bounds.new }
 {
-    match finish_toward(alloc, network, &mut rounds.bounds, &mut rounds.core) {
-        Ok(()) => Ok(GoalRounds::Wide(rounds)),
-        Err(RelaxFault::OutOfMemory) => Err(OutOfMemory),
-        Err(RelaxFault::TooWide) => unreachable!(),
-    }
+    prove!(network.nodes() >= 1);
+    prove!(network.criteria() == D);
+    let from = NodeNo(query.from);
+    let Some(bound) = bounds.bound(network, from)? else {
+        return Ok(());
+    };
+    let Some(item) = start_at(from, &bound) else {
+        return Err(RelaxFault::TooWide);
+    };
+    let mut first = Vec::new(alloc);
+    first.push(item)?;
+    core.finish(&first)?;
+    Ok(())
 }
 
 /// The start, reached at its bound from nowhere, if there is room for the bound.

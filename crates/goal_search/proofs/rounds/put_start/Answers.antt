@@ -1,4 +1,4 @@
-use Rattle.std.proofs.Common.{◌≡◌, ◌^◌, ◌<◌, [], None, ◌∷◌, ◌++◌, map, sym, ap, subst, ◌∙◌, arith, rules}
+use Rattle.std.proofs.Common.{◌≡◌, ◌^◌, [], None, ◌∷◌, ◌++◌, map, sym, ap, subst, ◌∙◌, arith, rules}
 use Rattle.std.specs.Prelude.{All}
 use Rattle.waiting_queue.specs.Waiting.{as_waiting}
 use Rattle.bulk_rounds.specs.Cores.{Item}
@@ -9,18 +9,18 @@ use Rattle.goal_bounds.specs.Bounds.{IsBoundIfAny, IsBoundSearch}
 use Rattle.goal_bounds.proofs.BoundLemmas.{bound_is_small}
 use Rattle.goal_search.proofs.CostLemmas.{no_room}
 use Rattle.goal_search.proofs.LoopLemmas.{after_none, first_is_kept, new_at_bound, new_without_walk}
-use Rattle.goal_search.proofs.rounds.WidthRounds.start.Goals as goal
+use Rattle.goal_search.proofs.rounds.put_start.Goals as goal
 
 pub bound-requires-clause-search : goal.bound-requires-clause-search
 bound-requires-clause-search g c =
     let bounds = c.requires.unstarted.bounds_are in
-    subst (λ n. IsBoundSearch c.args.network.now n c.args.self.now.bounds) (sym bounds.target_is) bounds
+    subst (λ n. IsBoundSearch c.args.network.now n c.args.bounds.now) (sym bounds.target_is) bounds
 
 pub returns-in_default-clause-started : goal.returns-in_default-clause-started
 returns-in_default-clause-started g c =
-    let net = c.args.network.now in let query = c.args.query.now in let core = c.args.self.now.core in
+    let net = c.args.network.now in let query = c.args.query.now in let core = c.args.core.now in
     let to = c.requires.unstarted.bounds_are.target_is in let empty = c.requires.unstarted.empty in
-    let exact = subst (IsBoundIfAny net query.from c.args.self.now.bounds.target) c.in_default.is c.in_ok-bound.ensures.exact in
+    let exact = subst (IsBoundIfAny net query.from c.args.bounds.now.target) c.in_default.is c.in_ok-bound.ensures.exact in
     let none = subst (λ t. IsBoundIfAny net query.from t None) to exact in
     let new = new_without_walk net c.nodes.ensures.network.network g.row.D query.from query.to query.budget c.requires.criteria core empty none in
     let bounds = subst (λ n. IsBoundSearch net n c.bound.new.self) to c.in_ok-bound.ensures.search in
@@ -30,8 +30,8 @@ pub returns-in_default-start_at-clause-too_wide : goal.returns-in_default-start_
 returns-in_default-start_at-clause-too_wide g c =
     let net = c.args.network.now in let query = c.args.query.now in
     let to = c.requires.unstarted.bounds_are.target_is in
-    let bound = subst (IsBoundIfAny net query.from c.args.self.now.bounds.target) c.in-Some.is c.in_ok-bound.ensures.exact in
-    let small = bound_is_small net c.nodes.ensures.network query.from c.args.self.now.bounds.target c.in-Some.bound bound in
+    let bound = subst (IsBoundIfAny net query.from c.args.bounds.now.target) c.in-Some.is c.in_ok-bound.ensures.exact in
+    let small = bound_is_small net c.nodes.ensures.network query.from c.args.bounds.now.target c.in-Some.bound bound in
     λ _. record {
       narrow = omega (arith, no_room (2 ^ 55) g.F.Cost.Part.Part.bound c.in-Some.bound small c.in_default-start_at.ensures.room);
       bounds_are = subst (λ n. IsBoundSearch net n c.bound.new.self) to c.in_ok-bound.ensures.search;
@@ -39,9 +39,9 @@ returns-in_default-start_at-clause-too_wide g c =
 
 pub finish-requires : goal.finish-requires
 finish-requires g c =
-    let net = c.args.network.now in let query = c.args.query.now in let core = c.args.self.now.core in
+    let net = c.args.network.now in let query = c.args.query.now in let core = c.args.core.now in
     let components = g.F.Cost.StoredCost.components in
-    let found = subst (IsBoundIfAny net query.from c.args.self.now.bounds.target) c.in-Some.is c.in_ok-bound.ensures.exact in
+    let found = subst (IsBoundIfAny net query.from c.args.bounds.now.target) c.in-Some.is c.in_ok-bound.ensures.exact in
     let bound = subst (λ n. IsBound net query.from n c.in-Some.bound) c.requires.unstarted.bounds_are.target_is found in
     let first : Item = record { spot = record { cost = c.in-Some.bound; node = query.from }; from = 0 } in
     let items : map (as_waiting components) c.deref.result.now ≡ first ∷ [] =
@@ -53,10 +53,10 @@ finish-requires g c =
 
 pub returns-clause-started : goal.returns-clause-started
 returns-clause-started g c =
-    let net = c.args.network.now in let query = c.args.query.now in let core = c.args.self.now.core in
+    let net = c.args.network.now in let query = c.args.query.now in let core = c.args.core.now in
     let components = g.F.Cost.StoredCost.components in
     let to = c.requires.unstarted.bounds_are.target_is in
-    let found = subst (IsBoundIfAny net query.from c.args.self.now.bounds.target) c.in-Some.is c.in_ok-bound.ensures.exact in
+    let found = subst (IsBoundIfAny net query.from c.args.bounds.now.target) c.in-Some.is c.in_ok-bound.ensures.exact in
     let bound = subst (λ n. IsBound net query.from n c.in-Some.bound) to found in
     let first : Item = record { spot = record { cost = c.in-Some.bound; node = query.from }; from = 0 } in
     let items : map (as_waiting components) c.deref.result.now ≡ first ∷ [] =

@@ -1,3 +1,7 @@
+ghost use Rattle.found_fronts.specs.Findings.{found_of};
+
+use crate::question::Question;
+use crate::questions::{CostAt, CostsOf, Count, Covers, Longest, Settled, Start, Target};
 use crate::{FoundAtWidth, SettledCosts};
 use cost_vector::{Cost, NodeNo};
 use out_of_memory::OutOfMemory;
@@ -14,74 +18,56 @@ pub enum Findings {
     Four(FoundAtWidth<4, BlockFront<4, NarrowBlock<4>>>),
 }
 
+impl Findings {
+    /// Asks what was found, whatever the number of criteria.
+    fn ask<Q: Question>(&self, question: &Q) -> Q::Answer
+        requires { Q.allows question.now (found_of self.now) }
+        ensures { Q.accepts question.now (found_of self.now) result }
+    {
+        match self {
+            Findings::Two(found) => question.ask(found),
+            Findings::Three(found) => question.ask(found),
+            Findings::Four(found) => question.ask(found),
+        }
+    }
+}
+
 impl FoundCosts for Findings {
     ghost use Rattle.found_fronts.specs.Findings.{found_of};
 
     ghost state = { found_of };
 
     fn start(&self) -> NodeNo {
-        match self {
-            Findings::Two(found) => found.start(),
-            Findings::Three(found) => found.start(),
-            Findings::Four(found) => found.start(),
-        }
+        self.ask(&Start)
     }
 
     fn target(&self) -> NodeNo {
-        match self {
-            Findings::Two(found) => found.target(),
-            Findings::Three(found) => found.target(),
-            Findings::Four(found) => found.target(),
-        }
+        self.ask(&Target)
     }
 
     fn count(&self) -> usize {
-        match self {
-            Findings::Two(found) => found.count(),
-            Findings::Three(found) => found.count(),
-            Findings::Four(found) => found.count(),
-        }
+        self.ask(&Count)
     }
 
     fn cost(&self, i: usize) -> Cost {
-        match self {
-            Findings::Two(found) => found.cost(i),
-            Findings::Three(found) => found.cost(i),
-            Findings::Four(found) => found.cost(i),
-        }
+        self.ask(&CostAt(i))
     }
 
     fn covers(&self, node: NodeNo, cost: &Cost) -> bool {
-        match self {
-            Findings::Two(found) => found.covers(node, cost),
-            Findings::Three(found) => found.covers(node, cost),
-            Findings::Four(found) => found.covers(node, cost),
-        }
+        self.ask(&Covers { node, cost })
     }
 
     fn longest(&self) -> u32 {
-        match self {
-            Findings::Two(found) => found.longest(),
-            Findings::Three(found) => found.longest(),
-            Findings::Four(found) => found.longest(),
-        }
+        self.ask(&Longest)
     }
 }
 
 impl SettledCosts for Findings {
     fn settled(&self) -> usize {
-        match self {
-            Findings::Two(found) => found.settled(),
-            Findings::Three(found) => found.settled(),
-            Findings::Four(found) => found.settled(),
-        }
+        self.ask(&Settled)
     }
 
     fn costs_of(&self, alloc: Global, node: NodeNo) -> Result<Vec<Cost>, OutOfMemory> {
-        match self {
-            Findings::Two(found) => found.costs_of(alloc, node),
-            Findings::Three(found) => found.costs_of(alloc, node),
-            Findings::Four(found) => found.costs_of(alloc, node),
-        }
+        self.ask(&CostsOf { alloc, node })
     }
 }

@@ -3,6 +3,8 @@
 
 mod findings;
 mod found;
+mod question;
+mod questions;
 mod settled;
 mod width;
 

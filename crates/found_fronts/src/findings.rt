@@ -25,9 +25,9 @@ impl Findings {
         ensures { Q.accepts question.now (found_of self.now) result }
     {
         match self {
-            Findings::Two(found) => question.ask(found),
-            Findings::Three(found) => question.ask(found),
-            Findings::Four(found) => question.ask(found),
+            Findings::Two(found) => found.ask(question),
+            Findings::Three(found) => found.ask(question),
+            Findings::Four(found) => found.ask(question),
         }
     }
 }

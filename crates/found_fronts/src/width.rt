@@ -1,3 +1,7 @@
+ghost use Rattle.found_fronts.specs.FoundAtWidth.{found_of};
+
+use crate::question::Question;
+use crate::questions::{CostAt, CostsOf, Count, Covers, Longest, Settled, Start, Target};
 use crate::{FoundFronts, SettledCosts};
 use cost_vector::{Cost, NodeNo};
 use out_of_memory::OutOfMemory;
@@ -12,66 +16,55 @@ pub enum FoundAtWidth<const D: usize, F: NarrowFront<D>> {
     Wide(FoundFronts<D, F::Wide>),
 }
 
+impl<const D: usize, F: NarrowFront<D>> FoundAtWidth<D, F> {
+    /// Asks what was found, whatever the width.
+    pub(crate) fn ask<Q: Question>(&self, question: &Q) -> Q::Answer
+        requires { Q.allows question.now (found_of self.now) }
+        ensures { Q.accepts question.now (found_of self.now) result }
+    {
+        match self {
+            FoundAtWidth::Narrow(found) => question.ask(found),
+            FoundAtWidth::Wide(found) => question.ask(found),
+        }
+    }
+}
+
 impl<const D: usize, F: NarrowFront<D>> FoundCosts for FoundAtWidth<D, F> {
     ghost use Rattle.found_fronts.specs.FoundAtWidth.{found_of};
 
     ghost state = { found_of };
 
     fn start(&self) -> NodeNo {
-        match self {
-            FoundAtWidth::Narrow(found) => found.start(),
-            FoundAtWidth::Wide(found) => found.start(),
-        }
+        self.ask(&Start)
     }
 
     fn target(&self) -> NodeNo {
-        match self {
-            FoundAtWidth::Narrow(found) => found.target(),
-            FoundAtWidth::Wide(found) => found.target(),
-        }
+        self.ask(&Target)
     }
 
     fn count(&self) -> usize {
-        match self {
-            FoundAtWidth::Narrow(found) => found.count(),
-            FoundAtWidth::Wide(found) => found.count(),
-        }
+        self.ask(&Count)
     }
 
     fn cost(&self, i: usize) -> Cost {
-        match self {
-            FoundAtWidth::Narrow(found) => found.cost(i),
-            FoundAtWidth::Wide(found) => found.cost(i),
-        }
+        self.ask(&CostAt(i))
     }
 
     fn covers(&self, node: NodeNo, cost: &Cost) -> bool {
-        match self {
-            FoundAtWidth::Narrow(found) => found.covers(node, cost),
-            FoundAtWidth::Wide(found) => found.covers(node, cost),
-        }
+        self.ask(&Covers { node, cost })
     }
 
     fn longest(&self) -> u32 {
-        match self {
-            FoundAtWidth::Narrow(found) => found.longest(),
-            FoundAtWidth::Wide(found) => found.longest(),
-        }
+        self.ask(&Longest)
     }
 }
 
 impl<const D: usize, F: NarrowFront<D>> SettledCosts for FoundAtWidth<D, F> {
     fn settled(&self) -> usize {
-        match self {
-            FoundAtWidth::Narrow(found) => found.settled(),
-            FoundAtWidth::Wide(found) => found.settled(),
-        }
+        self.ask(&Settled)
     }
 
     fn costs_of(&self, alloc: Global, node: NodeNo) -> Result<Vec<Cost>, OutOfMemory> {
-        match self {
-            FoundAtWidth::Narrow(found) => found.costs_of(alloc, node),
-            FoundAtWidth::Wide(found) => found.costs_of(alloc, node),
-        }
+        self.ask(&CostsOf { alloc, node })
     }
 }

@@ -1,5 +1,5 @@
 //! What passes take of a queue, of which some isn't open.
-ghost use Rattle.std.specs.Prelude.{Unit, ◌≡◌, ◌<◌, ◌≤◌, ◌%◌};
+ghost use Rattle.std.specs.Prelude.{◌≡◌, ◌<◌, ◌≤◌, ◌%◌};
 ghost use Rattle.waiting_queue.specs.Waiting.{AreCriteria};
 
 use crate::tests::drawing::{cost_of, draw_cost};
@@ -138,8 +138,9 @@ fn is_spent<const D: usize, C: StoredCost<D> + Send + Sync, R: Threads + Sync, G
 where
     C::Part: Send + Sync,
 {
+    let none = Vec::new(alloc);
     let mut taken = Vec::new(alloc);
-    queue.pass(workers, alloc, &[], &AllNodes, &mut taken, steps)?;
+    queue.pass(workers, alloc, &none, &AllNodes, &mut taken, steps)?;
     Ok(taken.is_empty())
 }
 
@@ -164,11 +165,7 @@ where
             return Ok(None);
         }
         if parts.free.is_empty() {
-            return Ok(if is_spent(workers, alloc, &mut queue, steps)? {
-                Some(round)
-            } else {
-                None
-            });
+            return Ok(Some(round));
         }
         waiting = parts.others;
         taken = take(workers, alloc, &mut queue, &none, steps)?;

@@ -53,7 +53,7 @@ module _ (head : FeedHead) (total : ℕ) (old : History) (before : Lines) (opera
   module _ (start rest : Option (List ℕ)) (known : IfSome start (λ bytes. IsSomeAnd rest (Run bytes))) (after : Option (List ℕ)) (new : Lines) where
     -- there is no next line for a fault
     pub stops_next : (end : FeedEnd) → IfSome rest (λ r. NextTells before new r after (Err end)) → IfSome start (Takes end operator.published)
-    stops_next end tells = through start rest known tells (λ bytes r run told. cut bytes r end after new run told)
+    stops_next end tells = through start rest known tells (λ bytes r run shown. cut bytes r end after new run shown)
 
     module _ (taken : IfSome rest (λ r. TakesLine before new r after)) (number : new.number ≡ before.number + 1) (operator' : Operator) where
       -- what the line says, where the rest is known

@@ -24,7 +24,7 @@ use Rattle.goal_rounds.proofs.ProgressLemmas.{more_settled, none_settled_more}
 use Rattle.goal_search.specs.Answers.{IsTooLargeToward}
 use Rattle.goal_search.specs.Ends.{HasFoundAll, IsPending}
 use Rattle.goal_search.specs.declared.rounds.Pending.{Pending}
-use Rattle.goal_search.specs.Rounds.{AreGoalRounds, EndsToward, HasAllBounded, IsAfter, IsInRound, IsUnstarted}
+use Rattle.goal_search.specs.Rounds.{AreGoalRounds, EndsToward, HasAllBounded, HasBegun, IsAfter, IsUnstarted}
 
 -- ---- the start
 
@@ -63,7 +63,7 @@ module _ (net : Network) (is : IsNetwork net) (d s t budget : ℕ) (criteria : n
         subst (IsKeptItem core) (sym (in_one first i there)) (record {
           node = subst (λ n. IsNode n s) (sym empty.nodes_are) node;
           spares = λ e settled. absurd (empty.none_settled (record { cost = e; node = s }) settled);
-          from = λ told. absurd (told refl);
+          from = λ shown. absurd (shown refl);
         }))
 
     -- else the start waits at its bound
@@ -116,52 +116,56 @@ pub after_none : (net : Network) (query : Query) (core : Core) (bounds : BoundSe
 after_none net query core bounds node nodes new search =
     let goal = new_is_goal net query.from query.to query.budget core node new in
     record {
-      search = record {
-        nodes = nodes;
-        core_is = subst (λ v. IsGoalCore net v core.target core) (sym new.start) (subst (λ v. IsGoalCore net query.from v core) (sym new.target) goal);
-        bounds_are = subst (λ v. IsBoundSearch net v bounds) (sym new.target) search;
+      begun = record {
+        search = record {
+          nodes = nodes;
+          core_is = subst (λ v. IsGoalCore net v core.target core) (sym new.start) (subst (λ v. IsGoalCore net query.from v core) (sym new.target) goal);
+          bounds_are = subst (λ v. IsBoundSearch net v bounds) (sym new.target) search;
+        };
+        start = new.start;
+        target = new.target;
+        budget = new.budget_is;
+        count = 0;
+        counts = record {
+          spots = [];
+          once = record { exact = λ x. (λ there. absurd (in_none x there), λ there. absurd (new.none_settled x there)); once = pairs_none ◌≢◌ };
+          counted = refl;
+        };
+        at_least = omega arith;
+        within = omega arith;
       };
       none_taken = new.none_taken;
-      start = new.start;
-      target = new.target;
-      budget = new.budget_is;
-      count = 0;
-      counts = record {
-        spots = [];
-        once = record { exact = λ x. (λ there. absurd (in_none x there), λ there. absurd (new.none_settled x there)); once = pairs_none ◌≢◌ };
-        counted = refl;
-      };
-      at_least = omega arith;
-      within = omega arith;
     }
 
 -- ---- a round
 
-module _ (net : Network) (query : Query) (rounds : ℕ) (core : Core) (bounds : BoundSearch) (opened : IsInRound net query rounds core bounds) where
+module _ (net : Network) (query : Query) (rounds : ℕ) (core : Core) (bounds : BoundSearch) (opened : HasBegun net query rounds core bounds) where
   -- it has ended
   pub after_round : (end : Core) (later : BoundSearch) → EndsToward net core end → AreGoalRounds net end later → IsAfter net query rounds end later
   after_round end later ends search =
       let same = ends.puts.same_search in
       record {
-        search = search;
-        none_taken = ends.puts.none_taken;
-        start = same.start ∙ opened.start;
-        target = same.target ∙ opened.target;
-        budget = same.budget ∙ opened.budget;
-        count = opened.count;
-        counts = record {
-          spots = opened.counts.spots;
-          once = record { exact = λ x. rw ends.puts.settled (opened.counts.once.exact x); once = opened.counts.once.once };
-          counted = opened.counts.counted;
+        begun = record {
+          search = search;
+          start = same.start ∙ opened.start;
+          target = same.target ∙ opened.target;
+          budget = same.budget ∙ opened.budget;
+          count = opened.count;
+          counts = record {
+            spots = opened.counts.spots;
+            once = record { exact = λ x. rw ends.puts.settled (opened.counts.once.exact x); once = opened.counts.once.once };
+            counted = opened.counts.counted;
+          };
+          at_least = opened.at_least;
+          within = opened.within;
         };
-        at_least = opened.at_least;
-        within = opened.within;
+        none_taken = ends.puts.none_taken;
       }
 
   -- it is open still where the core is as it was, and the bounds can be searched on
-  pub open_still : (same_core : Core) (later : BoundSearch) → same_core ≡ core → IsBoundSearch net core.target later → IsInRound net query 0 same_core later
+  pub open_still : (same_core : Core) (later : BoundSearch) → same_core ≡ core → IsBoundSearch net core.target later → HasBegun net query 0 same_core later
   open_still same_core later same search =
-      subst (λ c. IsInRound net query 0 c later) (sym same) (record {
+      subst (λ c. HasBegun net query 0 c later) (sym same) (record {
         search = record { nodes = opened.search.nodes; core_is = opened.search.core_is; bounds_are = search };
         start = opened.start;
         target = opened.target;
@@ -174,54 +178,54 @@ module _ (net : Network) (query : Query) (rounds : ℕ) (core : Core) (bounds : 
 
 module _ (net : Network) (is : IsNetwork net) (query : Query) (rounds : ℕ) (core : Core) (bounds : BoundSearch) (after : IsAfter net query rounds core bounds) where
   -- a round is open
-  pub in_round : (next : Core) → TakesNext core next → IsInRound net query (rounds + 1) next bounds
+  pub in_round : (next : Core) → TakesNext core next → HasBegun net query (rounds + 1) next bounds
   in_round next takes =
-      let goal = begun_is_goal net is core.start core.target core next after.search.core_is after.none_taken takes in
+      let goal = begun_is_goal net is core.start core.target core next after.begun.search.core_is after.none_taken takes in
       let same = takes.same_search in
-      let more = more_settled core next takes after.count after.counts in
+      let more = more_settled core next takes after.begun.count after.begun.counts in
       record {
         search = record {
-          nodes = same.nodes ∙ after.search.nodes;
+          nodes = same.nodes ∙ after.begun.search.nodes;
           core_is = subst (λ v. IsGoalCore net v next.target next) (sym same.start) (subst (λ v. IsGoalCore net core.start v next) (sym same.target) goal);
-          bounds_are = subst (λ v. IsBoundSearch net v bounds) (sym same.target) after.search.bounds_are;
+          bounds_are = subst (λ v. IsBoundSearch net v bounds) (sym same.target) after.begun.search.bounds_are;
         };
-        start = same.start ∙ after.start;
-        target = same.target ∙ after.target;
-        budget = same.budget ∙ after.budget;
+        start = same.start ∙ after.begun.start;
+        target = same.target ∙ after.begun.target;
+        budget = same.budget ∙ after.begun.budget;
         count = more.0;
         counts = more.1;
-        at_least = omega (arith, after.at_least, more.2);
-        within = omega (arith, more.3, after.budget);
+        at_least = omega (arith, after.begun.at_least, more.2);
+        within = omega (arith, more.3, after.begun.budget);
       }
 
   -- ---- the search ends
 
   goal : IsGoalCore net query.from query.to core
-  goal = subst (λ v. IsGoalCore net query.from v core) after.target (subst (λ v. IsGoalCore net v core.target core) after.start after.search.core_is)
+  goal = subst (λ v. IsGoalCore net query.from v core) after.begun.target (subst (λ v. IsGoalCore net v core.target core) after.begun.start after.begun.search.core_is)
 
   pub budget_is_passed : WouldPass core → IsTooLargeToward net query
   budget_is_passed would =
-      subst (GoalPasses net query.from query.to) after.budget (too_many net is query.from query.to core goal after.none_taken would)
+      subst (GoalPasses net query.from query.to) after.begun.budget (too_many net is query.from query.to core goal after.none_taken would)
 
   module _ (end : Core) (finds : FindsNone core end) where
     all_bounded : HasAllBounded net query end
     all_bounded = record {
-      nodes = finds.same_search.nodes ∙ after.search.nodes;
+      nodes = finds.same_search.nodes ∙ after.begun.search.nodes;
       all = λ v c h bound relevant. found_all net is query.from query.to core goal after.none_taken end finds v c h bound relevant;
       relevant = λ x there. goal.relevant x ((finds.settled x).0 there);
     }
 
     budget_is_kept : ¬ IsTooLargeToward net query
     budget_is_kept passes =
-        let budget : end.budget ≡ query.budget = finds.same_search.budget ∙ after.budget in
-        none_more net is query.from query.to core goal after.none_taken end finds after.count (none_settled_more core end finds after.count after.counts)
-        (omega (arith, after.within, budget)) (subst (GoalPasses net query.from query.to) (sym budget) passes)
+        let budget : end.budget ≡ query.budget = finds.same_search.budget ∙ after.begun.budget in
+        none_more net is query.from query.to core goal after.none_taken end finds after.begun.count (none_settled_more core end finds after.begun.count after.begun.counts)
+        (omega (arith, after.begun.within, budget)) (subst (GoalPasses net query.from query.to) (sym budget) passes)
 
     pub has_found_all : HasFoundAll net query end bounds
     has_found_all = record {
       ended = record {
         all = all_bounded;
-        bounds_are = subst (λ v. IsBoundSearch net v bounds) after.target after.search.bounds_are;
+        bounds_are = subst (λ v. IsBoundSearch net v bounds) after.begun.target after.begun.search.bounds_are;
         none_waits = finds.none_waits;
         none_taken = finds.none_taken;
       };
@@ -230,4 +234,4 @@ module _ (net : Network) (is : IsNetwork net) (query : Query) (rounds : ℕ) (co
 
   -- there are no more rounds than the budget
   pub no_round_more : ¬ (rounds ≡ query.budget + 1)
-  no_round_more full = omega (arith, full, after.at_least, after.within)
+  no_round_more full = omega (arith, full, after.begun.at_least, after.begun.within)

@@ -58,7 +58,7 @@ module _ (net : Network) (road : IsRoadNetwork net) (core : Core) (bounds : Boun
         record {
           node = subst (λ n. IsNode n i.spot.node) (sym rounds.nodes) (leads_to_node net is from.2.arc from.0.spot.node i.spot.node from.2.by from.2.leads);
           spares = given_spares net is core.start core.target core rounds.core_is i.spot given;
-          from = λ told. subst (λ u. IsCoveredIn core (record { cost = i.spot.cost; node = u })) (sym from.3)
+          from = λ shown. subst (λ u. IsCoveredIn core (record { cost = i.spot.cost; node = u })) (sym from.3)
               (given_from net is core.start core.target core rounds.core_is i.spot given);
         })
 

@@ -5,7 +5,7 @@ use Rattle.road_network.specs.declared.query.Query.{Query}
 use Rattle.bulk_rounds.specs.Cores.{Core}
 use Rattle.goal_bounds.specs.Bounds.{BoundSearch}
 use Rattle.goal_search.specs.Answers.{IsTooLargeToward}
-use Rattle.goal_search.specs.Rounds.{HasEnded, IsInRound, IsUnstarted}
+use Rattle.goal_search.specs.Rounds.{HasBegun, HasEnded, IsUnstarted}
 use Rattle.goal_search.specs.declared.rounds.Pending.{Pending}
 use Rattle.goal_search.specs.declared.rounds.Pending.TheVariants.{Start, Round}
 use Rattle.goal_search.specs.declared.rounds.RoundsEnd.{RoundsEnd}
@@ -14,7 +14,7 @@ use Rattle.goal_search.specs.declared.rounds.RoundsEnd.TheVariants.{AllFound, Ov
 -- this is to be done in a search of d components: its start is to be put, or its open round is to be ended
 abbrev pub IsPending : Network → Query → ℕ → Pending → Core → BoundSearch → Type 0
 IsPending net query d Start core bounds = IsUnstarted net query d core bounds
-IsPending net query d Round core bounds = IsInRound net query 0 core bounds
+IsPending net query d Round core bounds = HasBegun net query 0 core bounds
 
 -- all is found, and the budget allows it
 pub record HasFoundAll (net : Network) (query : Query) (core : Core) (bounds : BoundSearch) : Type 0 where

@@ -30,10 +30,9 @@ pub record EndsToward (net : Network) (before after : Core) : Type 0 where
   pub are : AreGoalCandidates net before.target before candidates
   pub puts : PutsAll candidates before after
 
--- So many rounds of the query were made, and none is open. At least as many spots are settled, and no more than the budget.
-pub record IsAfter (net : Network) (query : Query) (rounds : ℕ) (core : Core) (bounds : BoundSearch) : Type 0 where
+-- So many rounds of the query were begun: at least as many spots are settled, and no more than the budget.
+pub record HasBegun (net : Network) (query : Query) (rounds : ℕ) (core : Core) (bounds : BoundSearch) : Type 0 where
   pub search : AreGoalRounds net core bounds
-  pub none_taken : core.taken ≡ []
   pub start : core.start ≡ query.from
   pub target : core.target ≡ query.to
   pub budget : core.budget ≡ query.budget
@@ -42,16 +41,10 @@ pub record IsAfter (net : Network) (query : Query) (rounds : ℕ) (core : Core) 
   pub at_least : rounds ≤ count
   pub within : count ≤ query.budget
 
--- A round of the query is open, and its spots are settled: at least so many are by now, and no more than the budget.
-pub record IsInRound (net : Network) (query : Query) (rounds : ℕ) (core : Core) (bounds : BoundSearch) : Type 0 where
-  pub search : AreGoalRounds net core bounds
-  pub start : core.start ≡ query.from
-  pub target : core.target ≡ query.to
-  pub budget : core.budget ≡ query.budget
-  pub count : ℕ
-  pub counts : CountsSettled core count
-  pub at_least : rounds ≤ count
-  pub within : count ≤ query.budget
+-- So many were made: none is open.
+pub record IsAfter (net : Network) (query : Query) (rounds : ℕ) (core : Core) (bounds : BoundSearch) : Type 0 where
+  pub begun : HasBegun net query rounds core bounds
+  pub none_taken : core.taken ≡ []
 
 -- what is settled is exactly the goal-relevant pairs of the query, with the bounds of their nodes added
 pub record HasAllBounded (net : Network) (query : Query) (core : Core) : Type 0 where

@@ -35,17 +35,17 @@ module _ {T F L : Type 0} (show_feed : F → SourceState) (show : L → LinkStat
       let lane = lane_of show last in
       let services = served.services in
       let seen = subst (λ (h : History). All (λ (x : SessionLane T SessionEnd). IsPrefix x.session.seen h) lanes') closed begins in
-      let told = subst (λ (h : History). report ≡ record { feeds = one'.end.items; lanes = map (report_of (last_number o h)) lanes' }) closed exchanges in
+      let shown = subst (λ (h : History). report ≡ record { feeds = one'.end.items; lanes = map (report_of (last_number o h)) lanes' }) closed exchanges in
       record {
         origin = o;
         first_is = first_is;
         base_is = base_is;
         last = takes.last;
-        feeds_taken = rw told takes.takes;
+        feeds_taken = rw shown takes.takes;
         sessions = map lane services;
         links_before = ap (map show) served.links_are ∙ maps_agree show (λ s. s.link) (λ l. l.before) lane (λ s. refl) services;
         links_after = ap (map show) served.links_became ∙ maps_agree show (λ s. s.link_after) (λ l. l.after) lane (λ s. refl) services;
-        reported = ap (λ (r : FollowReport). r.lanes) told ∙ ap (map (report_of last)) served.parties_became
+        reported = ap (λ (r : FollowReport). r.lanes) shown ∙ ap (map (report_of last)) served.parties_became
             ∙ maps_agree (report_of last) (λ s. s.party_after) (λ l. l.report) lane (λ s. refl) services;
         session_lanes = session_lanes show scene bytes whole takes.published services served.each
             (subst (λ (xs : List (SessionLane T SessionEnd)). All (λ (x : SessionLane T SessionEnd). IsPrefix x.session.seen whole) xs) served.parties_became seen);

@@ -87,7 +87,7 @@ module _ {L : Type 0} (script_of : L → List ℕ) (sink_of : L → SureSink) wh
       → All (λ r. r.end ≢ feed.OutOfMemory) report.feeds → All (λ r. r.end ≢ ended.OutOfMemory) report.lanes
       → RepliesBesideFeeds asked (network g w) (feeds ++ map script_of items)
       (feed_lines 1 text ++ lanes_reply 1 (map (λ link. (sink_of link).sent) after))
-  followed_over asked g w matched feeds lent rests items olds news after n report text same_feeds same count back told runs some short unsent no_feed_wants no_lane_wants =
+  followed_over asked g w matched feeds lent rests items olds news after n report text same_feeds same count back shown runs some short unsent no_feed_wants no_lane_wants =
       let Replied : List FeedReport → List L → Type 0 = λ rs links. RepliesBesideFeeds asked (network g w) (feeds ++ map script_of items)
       (feed_lines 1 rs ++ lanes_reply 1 (map (λ link. (sink_of link).sent) links)) in
       let long : length news ≡ length items = omega (
@@ -104,7 +104,7 @@ module _ {L : Type 0} (script_of : L → List ℕ) (sink_of : L → SureSink) wh
       (map sure_source_state rests) (map (state_of script_of sink_of) ls) (map (state_of script_of sink_of) news) report in
       let over = subst (λ fs. Runs fs items) same_feeds (subst (Runs lent) same runs) in
       let whole = followed asked g w matched feeds rests items news report over some short unsent no_feed_wants no_lane_wants in
-      subst (λ rs. Replied rs after) (sym told) (subst (Replied report.feeds) (sym (back ∙ lent_back script_of sink_of n news items count long)) whole)
+      subst (λ rs. Replied rs after) (sym shown) (subst (Replied report.feeds) (sym (back ∙ lent_back script_of sink_of n news items count long)) whole)
 
 -- ---- the feed of a script
 

@@ -128,7 +128,7 @@ pub(crate) fn seek<P: Part>(seconds: &[P], from: usize, low: P) -> usize
 }
 
 /// The next place, from here on, of a component that is at most this one.
-pub(crate) fn walk<P: Part>(seconds: &[P], from: usize, low: P) -> usize
+fn walk<P: Part>(seconds: &[P], from: usize, low: P) -> usize
     requires { from ≤ length seconds.now }
     ensures { SkipsTo P.value (P.value low) seconds.now from result }
 {

@@ -22,9 +22,9 @@ returns-in_err-due-clause-takes g c =
     let state = g.S.Source.state in
     let head = head_of c.args.graph.now g.T.Store.origin.first in
     let end = c.in_err-due.field-0.0 in
-    let told : LineTells head c.number.result c.lines.operator c.lines.due (fields_of c.text.result.now) c.take.new.operator (Err end) = c.in_err-due.ensures.tells in
+    let shown : LineTells head c.number.result c.lines.operator c.lines.due (fields_of c.text.result.now) c.take.new.operator (Err end) = c.in_err-due.ensures.tells in
     let tells = subst (λ n. LineTells head n c.lines.operator c.lines.due (fields_of c.next_line.new.lines.text) c.take.new.operator (Err end)) c.number.ensures.value
-    (subst (λ t. LineTells head c.number.result c.lines.operator c.lines.due (fields_of t) c.take.new.operator (Err end)) c.text.ensures.value told) in
+    (subst (λ t. LineTells head c.number.result c.lines.operator c.lines.due (fields_of t) c.take.new.operator (Err end)) c.text.ensures.value shown) in
     rw (p.1, p.2) (stops_line head c.args.lines.limits.total c.args.operator.now.published c.lines.lines c.lines.operator
     c.lines.due c.lines.invariant.limits (state c.args.source.now).left (rest_of c.lines.lines (state c.lines.source)) c.lines.invariant.known
     (rest_of c.next_line.new.lines (state c.next_line.new.source)) c.next_line.new.lines (rw c.if-branch.true at c.in_ok-next_line.ensures.tells)
@@ -35,9 +35,9 @@ lines-preserved g c =
     let state = g.S.Source.state in
     let head = head_of c.args.graph.now g.T.Store.origin.first in
     let next = c.in_ok-due.due in
-    let told : LineTells head c.number.result c.lines.operator c.lines.due (fields_of c.text.result.now) c.take.new.operator (Ok next) = c.in_ok-due.ensures.tells in
+    let shown : LineTells head c.number.result c.lines.operator c.lines.due (fields_of c.text.result.now) c.take.new.operator (Ok next) = c.in_ok-due.ensures.tells in
     let tells = subst (λ n. LineTells head n c.lines.operator c.lines.due (fields_of c.next_line.new.lines.text) c.take.new.operator (Ok next)) c.number.ensures.value
-    (subst (λ t. LineTells head c.number.result c.lines.operator c.lines.due (fields_of t) c.take.new.operator (Ok next)) c.text.ensures.value told) in
+    (subst (λ t. LineTells head c.number.result c.lines.operator c.lines.due (fields_of t) c.take.new.operator (Ok next)) c.text.ensures.value shown) in
     let source = c.in_ok-next_line.ensures.source in
     let so_far = c.lines.invariant in
     record {

@@ -29,9 +29,9 @@ returns-in-Ok g c =
     let last = last_number o whole in
     let seen : List (SessionLane g.row.T.Denot SessionEnd) → Type 0 = λ xs. All (λ (x : SessionLane g.row.T.Denot SessionEnd). IsPrefix x.session.seen whole) xs in
     ok_with c.report_follow.result _ _
-    (λ report told begins.
+    (λ report shown begins.
     runs_follow g.F.Source.state show context.graph.now o context.budget context.bytes _ one _ _ _ lanes _ _ report c.args.weights c.args.first
     (sym c.requires.first) (sym c.requires.base) all.follower all.sessions
-    (told ∙ ap (λ (xs : List (SessionLane g.row.T.Denot SessionEnd)). record { feeds = one.end.items; lanes = map (report_of last) xs }) back)
+    (shown ∙ ap (λ (xs : List (SessionLane g.row.T.Denot SessionEnd)). record { feeds = one.end.items; lanes = map (report_of last) xs }) back)
     (subst seen back begins))
     c.report_follow.ensures.reports c.report_follow.ensures.begins

@@ -1,6 +1,6 @@
 use Rattle.std.proofs.Common.{Err, Ok, rules}
 use Rattle.std.specs.Prelude.{OnOk, Result}
-use Rattle.goal_search.specs.Rounds.{IsInRound, IsUnstarted}
+use Rattle.goal_search.specs.Rounds.{HasBegun, IsUnstarted}
 use Rattle.goal_search.proofs.LoopLemmas.{after_round, open_still, unstarted_on}
 use Rattle.goal_search.proofs.rounds.WidthRounds.resume.Goals as goal
 
@@ -20,17 +20,17 @@ returns-in-Start-clause-pending g c = λ e.
 
 pub finish_toward-requires : goal.finish_toward-requires
 finish_toward-requires g c =
-    let opened : IsInRound c.args.network.now c.args.query.now 0 c.args.self.now.core c.args.bounds.now = rw c.in-Round.is at c.requires.pending in
+    let opened : HasBegun c.args.network.now c.args.query.now 0 c.args.self.now.core c.args.bounds.now = rw c.in-Round.is at c.requires.pending in
     (search rules, (c.requires.criteria, opened.search))
 
 pub returns-in-Round-clause-after : goal.returns-in-Round-clause-after
 returns-in-Round-clause-after g c =
-    let opened : IsInRound c.args.network.now c.args.query.now 0 c.args.self.now.core c.args.bounds.now = rw c.in-Round.is at c.requires.pending in
+    let opened : HasBegun c.args.network.now c.args.query.now 0 c.args.self.now.core c.args.bounds.now = rw c.in-Round.is at c.requires.pending in
     on_ok_both c.finish_toward.result (after_round c.args.network.now c.args.query.now 0 c.args.self.now.core c.args.bounds.now opened c.finish_toward.new.core
     c.finish_toward.new.bounds) c.finish_toward.ensures.ended c.finish_toward.ensures.rounds
 
 pub returns-in-Round-clause-pending : goal.returns-in-Round-clause-pending
 returns-in-Round-clause-pending g c = λ e.
-    let opened : IsInRound c.args.network.now c.args.query.now 0 c.args.self.now.core c.args.bounds.now = rw c.in-Round.is at c.requires.pending in
+    let opened : HasBegun c.args.network.now c.args.query.now 0 c.args.self.now.core c.args.bounds.now = rw c.in-Round.is at c.requires.pending in
     rw c.in-Round.is (open_still c.args.network.now c.args.query.now 0 c.args.self.now.core c.args.bounds.now opened c.finish_toward.new.core
     c.finish_toward.new.bounds (c.finish_toward.ensures.same e) (c.finish_toward.ensures.too_wide e).bounds_are)

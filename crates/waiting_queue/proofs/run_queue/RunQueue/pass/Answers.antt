@@ -40,11 +40,11 @@ returns-clause-taken g c =
     c.deref.result.now c.deref-2.result.now (rw (sym c.swap.ensures.x_after, sym c.deref.ensures.value, sym c.deref-2.ensures.value) at c.in_ok-pass_runs.ensures)
     refl c.mark_gone.ensures refl c.mark_gone-2.ensures in
     let before = (there ++ live_in value numbers bound newer) ++ c.args.fresh.now in
-    let told = spots_told spot_of (as_waiting numbers) may before c.pass_runs.new.taken.items left
+    let shown = spots_told spot_of (as_waiting numbers) may before c.pass_runs.new.taken.items left
     (takes_spots_alike (spot_in numbers) may (there ++ live_in value numbers bound both) before c.pass_runs.new.taken.items left
     (same_let_in there (live_in value numbers bound newer) c.args.fresh.now (live_in value numbers bound c.sort_run.new.run) (live_in value numbers bound both)
     merges.has c.in_ok-sort_run.ensures.same) takes) in
     rw (← c.self.view_is) (subst (λ xs. TakesOpenSpots spot_of may xs (map (as_waiting numbers) c.pass_runs.new.taken.items) c.join_runs.new.self)
     (map-append (as_waiting numbers) (there ++ live_in value numbers bound newer) c.args.fresh.now)
     (spots_left_alike spot_of may (map (as_waiting numbers) before) (map (as_waiting numbers) c.pass_runs.new.taken.items)
-    (map (as_waiting numbers) left) c.join_runs.new.self c.join_runs.ensures told))
+    (map (as_waiting numbers) left) c.join_runs.new.self c.join_runs.ensures shown))

@@ -200,9 +200,9 @@ same_lanes : (rows : List Row) (a b : LanesAsked) → AsksLanes rows a → AsksL
 same_lanes rows a b x y =
     let operator : Some a.operator ≡ Some b.operator = sym x.operator ∙ y.operator in
     let stem : Some a.stem ≡ Some b.stem = sym x.stem ∙ y.stem in
-    let count = same_number_or _ _ _ a.count b.count _ x.count y.count in
-    let epoch = same_number_or _ _ _ a.epoch b.epoch _ x.epoch y.epoch in
-    let limits = same_limits rows a.limits b.limits x.limits y.limits in
+    let count = same_number_or _ _ _ a.count b.count _ x.sessions.count y.sessions.count in
+    let epoch = same_number_or _ _ _ a.epoch b.epoch _ x.sessions.epoch y.sessions.epoch in
+    let limits = same_limits rows a.limits b.limits x.sessions.limits y.sessions.limits in
     let files = same_files rows a.files b.files x.files y.files in
     let asked : Text → Text → ℕ → ℕ → SearchLimits → List Text → LanesAsked =
     λ o s l k n f. record { operator = o; stem = s; count = l; epoch = k; limits = n; files = f } in
@@ -212,10 +212,10 @@ same_serve : (rows : List Row) (a b : ServeAsked) → AsksServe rows a → AsksS
 same_serve rows a b x y =
     let listen : Some a.listen ≡ Some b.listen = sym x.listen ∙ y.listen in
     let operator : Some a.operator ≡ Some b.operator = sym x.operator ∙ y.operator in
-    let lanes = same_number_or _ _ _ a.lanes b.lanes _ x.lanes y.lanes in
+    let lanes = same_number_or _ _ _ a.lanes b.lanes _ x.sessions.count y.sessions.count in
     let links = same_number_or _ _ _ a.links b.links _ x.links y.links in
-    let epoch = same_number_or _ _ _ a.epoch b.epoch _ x.epoch y.epoch in
-    let limits = same_limits rows a.limits b.limits x.limits y.limits in
+    let epoch = same_number_or _ _ _ a.epoch b.epoch _ x.sessions.epoch y.sessions.epoch in
+    let limits = same_limits rows a.limits b.limits x.sessions.limits y.sessions.limits in
     let files = same_files rows a.files b.files x.files y.files in
     let asked : Text → Text → ℕ → ℕ → ℕ → SearchLimits → List Text → ServeAsked =
     λ s o l m k n f. record { listen = s; operator = o; lanes = l; links = m; epoch = k; limits = n; files = f } in
@@ -234,9 +234,9 @@ same_take rows a b x y =
     let feeds : Some a.feeds ≡ Some b.feeds = sym x.feeds ∙ y.feeds in
     let links = same_number_or _ _ _ a.links b.links _ x.links y.links in
     let stem : Some a.stem ≡ Some b.stem = sym x.stem ∙ y.stem in
-    let count = same_number_or _ _ _ a.count b.count _ x.count y.count in
-    let epoch = same_number_or _ _ _ a.epoch b.epoch _ x.epoch y.epoch in
-    let limits = same_limits rows a.limits b.limits x.limits y.limits in
+    let count = same_number_or _ _ _ a.count b.count _ x.sessions.count y.sessions.count in
+    let epoch = same_number_or _ _ _ a.epoch b.epoch _ x.sessions.epoch y.sessions.epoch in
+    let limits = same_limits rows a.limits b.limits x.sessions.limits y.sessions.limits in
     let files = same_files rows a.files b.files x.files y.files in
     let asked : Text → ℕ → Text → ℕ → ℕ → SearchLimits → List Text → TakeAsked =
     λ d l s c k n f. record { feeds = d; links = l; stem = s; count = c; epoch = k; limits = n; files = f } in

@@ -382,23 +382,25 @@ pub record AsksGen (rows : List Row) (asked : GenAsked) : Type 0 where
   pub file : IsGivenIf 0 asked.plan.criteria (first_of (codes "file") rows) asked.file
   pub limits : AsksLimits rows asked.limits
 
+-- the options give how many lanes of sessions there are, the number of the first epoch, and how each query is searched
+pub record AsksSessions (rows : List Row) (lanes first : ℕ) (how : SearchLimits) : Type 0 where
+  pub count : IsGivenOr default_lanes 1 max_lanes (first_of (codes "lanes") rows) lanes
+  pub epoch : IsGivenOr default_epoch 0 max_epoch (first_of (codes "epoch") rows) first
+  pub limits : AsksLimits rows how
+
 -- the values are those of `lanes`
 pub record AsksLanes (rows : List Row) (asked : LanesAsked) : Type 0 where
   pub operator : first_of (codes "operator") rows ≡ Some asked.operator
   pub stem : first_of (codes "sessions") rows ≡ Some asked.stem
-  pub count : IsGivenOr default_lanes 1 max_lanes (first_of (codes "lanes") rows) asked.count
-  pub epoch : IsGivenOr default_epoch 0 max_epoch (first_of (codes "epoch") rows) asked.epoch
-  pub limits : AsksLimits rows asked.limits
+  pub sessions : AsksSessions rows asked.count asked.epoch asked.limits
   pub files : NamesFiles rows asked.files
 
 -- the values are those of `serve`
 pub record AsksServe (rows : List Row) (asked : ServeAsked) : Type 0 where
   pub listen : first_of (codes "listen") rows ≡ Some asked.listen
   pub operator : first_of (codes "operator") rows ≡ Some asked.operator
-  pub lanes : IsGivenOr default_lanes 1 max_lanes (first_of (codes "lanes") rows) asked.lanes
   pub links : IsGivenOr default_links 1 max_links (first_of (codes "links") rows) asked.links
-  pub epoch : IsGivenOr default_epoch 0 max_epoch (first_of (codes "epoch") rows) asked.epoch
-  pub limits : AsksLimits rows asked.limits
+  pub sessions : AsksSessions rows asked.lanes asked.epoch asked.limits
   pub files : NamesFiles rows asked.files
 
 -- no option is given that only a follower which takes feeds has
@@ -423,9 +425,7 @@ pub record AsksTake (rows : List Row) (asked : TakeAsked) : Type 0 where
   pub feeds : first_of (codes "feeds") rows ≡ Some asked.feeds
   pub links : IsGivenOr default_feeds 1 max_feeds (first_of (codes "links") rows) asked.links
   pub stem : first_of (codes "sessions") rows ≡ Some asked.stem
-  pub count : IsGivenOr default_lanes 1 max_lanes (first_of (codes "lanes") rows) asked.count
-  pub epoch : IsGivenOr default_epoch 0 max_epoch (first_of (codes "epoch") rows) asked.epoch
-  pub limits : AsksLimits rows asked.limits
+  pub sessions : AsksSessions rows asked.count asked.epoch asked.limits
   pub files : NamesFiles rows asked.files
 
 -- the values are those of `follow`

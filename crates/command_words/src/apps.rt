@@ -1,8 +1,7 @@
 //! The commands by name, and what `clap` is told of each.
-ghost use Rattle.std.specs.Prelude.{◌≡◌, IfOk};
+ghost use Rattle.std.specs.Prelude.{◌≡◌, IfOk, map};
 ghost use Rattle.clap.specs.Words.{app_of, with_rule};
-ghost use Rattle.command_words.specs.Apps.{bare_app, batch_app, check_app, files_rule};
-ghost use Rattle.command_words.specs.Apps.{feeds_app, follow_app, gen_app, goal_app, lanes_app, option_rule, scripts_app, serve_app, single_app, town_app, verify_app, with_limits};
+ghost use Rattle.command_words.specs.Apps.{bare_app, files_rule, option_rule, with_options};
 
 use clap::{Arg, ArgAction, Command};
 use road_network::AnswerKind;
@@ -24,135 +23,77 @@ pub enum Name {
 }
 
 impl Name {
-    ghost use Rattle.command_words.specs.Apps.{app_for};
+    ghost use Rattle.command_words.specs.Apps.{app_for, needed_of, options_app, taken_of, word_of};
 
     /// The arguments of the command.
     pub(crate) fn app<'a>(self, alloc: Global) -> Result<Command<'a>, AllocError>
         ensures { IfOk result (λ c. app_of c ≡ app_for self) }
     {
+        let command = self.with_its_options(alloc)?;
         match self {
-            Name::Single(AnswerKind::Costs) => single(alloc, "costs"),
-            Name::Single(AnswerKind::Walks) => single(alloc, "one"),
-            Name::Goal => goal(alloc),
-            Name::Check => check(alloc),
-            Name::Batch => batch(alloc),
-            Name::Gen => generate(alloc),
-            Name::Lanes => lanes(alloc),
-            Name::Serve => serve(alloc),
-            Name::Prove => single(alloc, "prove"),
-            Name::Verify => verify(alloc),
-            Name::Follow => follow(alloc),
+            Name::Gen => Ok(command),
+            _ => with_files(alloc, command),
         }
     }
-}
 
-fn single<'a>(alloc: Global, name: &'a str) -> Result<Command<'a>, AllocError>
-    ensures { IfOk result (λ c. app_of c ≡ single_app name.entry.now) }
-{
-    let command = bare(alloc, name);
-    let command = with_option(alloc, command, "from", true)?;
-    let command = with_option(alloc, command, "to", true)?;
-    let command = with_limits(alloc, command)?;
-    with_files(alloc, command)
-}
+    fn with_its_options<'a>(self, alloc: Global) -> Result<Command<'a>, AllocError>
+        ensures { IfOk result (λ c. app_of c ≡ options_app self) }
+    {
+        let command = bare(alloc, self.word());
+        let command = with_options(alloc, command, self.needed(), true)?;
+        with_options(alloc, command, self.taken(), false)
+    }
 
-fn goal<'a>(alloc: Global) -> Result<Command<'a>, AllocError>
-    ensures { IfOk result (λ c. app_of c ≡ goal_app) }
-{
-    let command = bare(alloc, "goal");
-    let command = with_option(alloc, command, "from", true)?;
-    let command = with_option(alloc, command, "to", true)?;
-    let command = with_option(alloc, command, "budget", false)?;
-    with_files(alloc, command)
-}
+    /// The word that names the command.
+    fn word<'a>(self) -> &'a str
+        ensures { result.now ≡ word_of self }
+    {
+        match self {
+            Name::Single(AnswerKind::Costs) => "costs",
+            Name::Single(AnswerKind::Walks) => "one",
+            Name::Goal => "goal",
+            Name::Check => "check",
+            Name::Batch => "batch",
+            Name::Gen => "gen",
+            Name::Lanes => "lanes",
+            Name::Serve => "serve",
+            Name::Prove => "prove",
+            Name::Verify => "verify",
+            Name::Follow => "follow",
+        }
+    }
 
-fn check<'a>(alloc: Global) -> Result<Command<'a>, AllocError>
-    ensures { IfOk result (λ c. app_of c ≡ check_app) }
-{
-    with_files(alloc, bare(alloc, "check"))
-}
+    /// The options that must be given.
+    fn needed<'a>(self) -> &'a [&'a str]
+        ensures { map (λ s. s.now) result.now ≡ needed_of self }
+    {
+        match self {
+            Name::Single(_) | Name::Goal | Name::Prove => &["from", "to"],
+            Name::Batch => &["pairs"],
+            Name::Gen => &["start", "side", "criteria", "pairs"],
+            Name::Lanes => &["operator", "sessions"],
+            Name::Serve => &["listen", "operator"],
+            Name::Verify => &["cert"],
+            Name::Check | Name::Follow => &[],
+        }
+    }
 
-fn batch<'a>(alloc: Global) -> Result<Command<'a>, AllocError>
-    ensures { IfOk result (λ c. app_of c ≡ batch_app) }
-{
-    let command = bare(alloc, "batch");
-    let command = with_option(alloc, command, "pairs", true)?;
-    let command = with_limits(alloc, command)?;
-    with_files(alloc, command)
-}
-
-fn verify<'a>(alloc: Global) -> Result<Command<'a>, AllocError>
-    ensures { IfOk result (λ c. app_of c ≡ verify_app) }
-{
-    let command = bare(alloc, "verify");
-    let command = with_option(alloc, command, "cert", true)?;
-    with_files(alloc, command)
-}
-
-fn generate<'a>(alloc: Global) -> Result<Command<'a>, AllocError>
-    ensures { IfOk result (λ c. app_of c ≡ gen_app) }
-{
-    let command = bare(alloc, "gen");
-    let command = with_option(alloc, command, "start", true)?;
-    let command = with_option(alloc, command, "side", true)?;
-    let command = with_option(alloc, command, "criteria", true)?;
-    let command = with_option(alloc, command, "pairs", true)?;
-    let command = with_option(alloc, command, "file", false)?;
-    with_limits(alloc, command)
-}
-
-fn lanes<'a>(alloc: Global) -> Result<Command<'a>, AllocError>
-    ensures { IfOk result (λ c. app_of c ≡ lanes_app) }
-{
-    let command = with_limits(alloc, scripts(alloc)?)?;
-    with_files(alloc, command)
-}
-
-fn scripts<'a>(alloc: Global) -> Result<Command<'a>, AllocError>
-    ensures { IfOk result (λ c. app_of c ≡ scripts_app) }
-{
-    let command = bare(alloc, "lanes");
-    let command = with_option(alloc, command, "operator", true)?;
-    let command = with_option(alloc, command, "sessions", true)?;
-    let command = with_option(alloc, command, "lanes", false)?;
-    with_option(alloc, command, "epoch", false)
-}
-
-fn serve<'a>(alloc: Global) -> Result<Command<'a>, AllocError>
-    ensures { IfOk result (λ c. app_of c ≡ serve_app) }
-{
-    let command = with_limits(alloc, town(alloc)?)?;
-    with_files(alloc, command)
-}
-
-fn town<'a>(alloc: Global) -> Result<Command<'a>, AllocError>
-    ensures { IfOk result (λ c. app_of c ≡ town_app) }
-{
-    let command = bare(alloc, "serve");
-    let command = with_option(alloc, command, "listen", true)?;
-    let command = with_option(alloc, command, "operator", true)?;
-    let command = with_option(alloc, command, "lanes", false)?;
-    let command = with_option(alloc, command, "links", false)?;
-    with_option(alloc, command, "epoch", false)
-}
-
-fn follow<'a>(alloc: Global) -> Result<Command<'a>, AllocError>
-    ensures { IfOk result (λ c. app_of c ≡ follow_app) }
-{
-    let command = with_limits(alloc, feeds(alloc)?)?;
-    with_files(alloc, command)
-}
-
-fn feeds<'a>(alloc: Global) -> Result<Command<'a>, AllocError>
-    ensures { IfOk result (λ c. app_of c ≡ feeds_app) }
-{
-    let command = bare(alloc, "follow");
-    let command = with_option(alloc, command, "write", false)?;
-    let command = with_option(alloc, command, "feeds", false)?;
-    let command = with_option(alloc, command, "sessions", false)?;
-    let command = with_option(alloc, command, "links", false)?;
-    let command = with_option(alloc, command, "lanes", false)?;
-    with_option(alloc, command, "epoch", false)
+    /// The options that may be given besides.
+    fn taken<'a>(self) -> &'a [&'a str]
+        ensures { map (λ s. s.now) result.now ≡ taken_of self }
+    {
+        match self {
+            Name::Single(_) | Name::Batch | Name::Prove => &["budget", "workers"],
+            Name::Goal => &["budget"],
+            Name::Gen => &["file", "budget", "workers"],
+            Name::Lanes => &["lanes", "epoch", "budget", "workers"],
+            Name::Serve => &["lanes", "links", "epoch", "budget", "workers"],
+            Name::Follow => &[
+                "write", "feeds", "sessions", "links", "lanes", "epoch", "budget", "workers",
+            ],
+            Name::Check | Name::Verify => &[],
+        }
+    }
 }
 
 // A command with no flags for help and the version.
@@ -164,11 +105,21 @@ fn bare<'a>(alloc: Global, name: &'a str) -> Command<'a>
         .disable_version_flag(true)
 }
 
-fn with_limits<'a>(alloc: Global, command: Command<'a>) -> Result<Command<'a>, AllocError>
-    ensures { IfOk result (λ c. app_of c ≡ with_limits (app_of command.entry)) }
+// The command with options of these names besides, each of which must be given, or may be.
+fn with_options<'a>(
+    alloc: Global,
+    command: Command<'a>,
+    names: &[&'a str],
+    required: bool,
+) -> Result<Command<'a>, AllocError>
+    ensures { IfOk result (λ c. app_of c
+        ≡ with_options required (app_of command.entry) (map (λ s. s.now) names.now)) }
 {
-    let command = with_option(alloc, command, "budget", false)?;
-    with_option(alloc, command, "workers", false)
+    let mut command = command;
+    for name in names {
+        command = with_option(alloc, command, *name, required)?;
+    }
+    Ok(command)
 }
 
 fn with_option<'a>(

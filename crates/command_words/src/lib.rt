@@ -54,7 +54,7 @@ pub const MIN_FILES: usize = MIN_CRITERIA;
 pub const MAX_FILES: usize = MAX_CRITERIA;
 
 /// How a search is done.
-#[derive(Clone, Copy, Debug, PartialEq, Eq)]
+#[derive(Clone, Copy)]
 pub struct SearchLimits {
     /// The most labels that it may settle.
     pub budget: u32,
@@ -63,7 +63,7 @@ pub struct SearchLimits {
 }
 
 /// The words of `costs`, which asks for costs alone, and of `one`, which asks for walks.
-#[derive(Debug, Drop)]
+#[derive(Drop)]
 pub struct SingleWords<'a> {
     pub kind: AnswerKind,
     pub query: Query,
@@ -73,14 +73,14 @@ pub struct SingleWords<'a> {
 }
 
 /// The words of `goal`.
-#[derive(Debug, Drop)]
+#[derive(Drop)]
 pub struct GoalWords<'a> {
     pub query: Query,
     pub files: Vec<&'a str>,
 }
 
 /// The words of `prove`.
-#[derive(Debug, Drop)]
+#[derive(Drop)]
 pub struct ProveWords<'a> {
     /// The query whose labels are listed.
     pub query: Query,
@@ -90,7 +90,7 @@ pub struct ProveWords<'a> {
 }
 
 /// The words of `verify`.
-#[derive(Debug, Drop)]
+#[derive(Drop)]
 pub struct VerifyWords<'a> {
     /// The name of the certificate.
     pub cert: &'a str,
@@ -98,13 +98,13 @@ pub struct VerifyWords<'a> {
 }
 
 /// The words of `check`.
-#[derive(Debug, Drop)]
+#[derive(Drop)]
 pub struct CheckWords<'a> {
     pub files: Vec<&'a str>,
 }
 
 /// The words of `batch`.
-#[derive(Debug, Drop)]
+#[derive(Drop)]
 pub struct BatchWords<'a> {
     /// The name of the file of pairs.
     pub pairs: &'a str,
@@ -114,7 +114,7 @@ pub struct BatchWords<'a> {
 }
 
 /// The words of `gen`.
-#[derive(Clone, Copy, Debug, PartialEq, Eq)]
+#[derive(Clone, Copy)]
 pub struct GenWords {
     pub plan: GenPlan,
     /// The file of the plan that is to be sent, or none where the queries of all files are to be answered.
@@ -123,7 +123,7 @@ pub struct GenWords {
 }
 
 /// The words of `lanes`.
-#[derive(Debug, Drop)]
+#[derive(Drop)]
 pub struct LanesWords<'a> {
     /// The name of the operator's script.
     pub operator: &'a str,
@@ -139,7 +139,7 @@ pub struct LanesWords<'a> {
 }
 
 /// The words of `serve`.
-#[derive(Debug, Drop)]
+#[derive(Drop)]
 pub struct ServeWords<'a> {
     /// The address of sessions.
     pub listen: &'a str,
@@ -157,7 +157,7 @@ pub struct ServeWords<'a> {
 }
 
 /// The words of `follow` that write a feed.
-#[derive(Debug, Drop)]
+#[derive(Drop)]
 pub struct WriteWords<'a> {
     /// The name of the operator's script.
     pub operator: &'a str,
@@ -167,7 +167,7 @@ pub struct WriteWords<'a> {
 }
 
 /// The words of `follow` that take feeds.
-#[derive(Debug, Drop)]
+#[derive(Drop)]
 pub struct TakeWords<'a> {
     /// How the name of each feed begins; its number follows.
     pub feeds: &'a str,
@@ -185,14 +185,14 @@ pub struct TakeWords<'a> {
 }
 
 /// The words of `follow`.
-#[derive(Debug, Drop)]
+#[derive(Drop)]
 pub enum FollowWords<'a> {
     Write(WriteWords<'a>),
     Take(TakeWords<'a>),
 }
 
 /// What the words of a command line ask for.
-#[derive(Debug, Drop)]
+#[derive(Drop)]
 pub enum Command<'a> {
     /// The answer to one query.
     Single(SingleWords<'a>),

@@ -1,7 +1,7 @@
 //! Reads the values that the words give to a command's arguments.
-ghost use Rattle.std.specs.Prelude.{◌≡◌, ◌↔◌, IfOk, IfNone, IfSome, IsTrue, None, Some, codes, map, option_map};
+ghost use Rattle.std.specs.Prelude.{◌≡◌, ◌↔◌, ℕ, IfOk, IfNone, IfSome, IsTrue, None, Some, codes, map, option_map};
 ghost use Rattle.clap.specs.Words.{all_of, first_of, found_of, rows_of};
-ghost use Rattle.command_words.specs.Words.{AsksAs, AsksBatch, AsksFollow, AsksLimits, AsksGen, AsksGoal, AsksLanes, AsksPlan, AsksProve, AsksServe, AsksTake, AsksVerify, AsksWorkers, AsksWrite, TakesNone};
+ghost use Rattle.command_words.specs.Words.{AsksAs, AsksBatch, AsksFollow, AsksLimits, AsksGen, AsksGoal, AsksLanes, AsksPlan, AsksProve, AsksServe, AsksSessions, AsksTake, AsksVerify, AsksWorkers, AsksWrite, TakesNone};
 ghost use Rattle.road_network.specs.Limits.{max_budget, max_epoch};
 ghost use Rattle.command_words.specs.Ranges.{default_budget, default_epoch, default_lanes, default_listed, max_lanes, max_listed};
 ghost use Rattle.command_words.specs.Words.{AsksQuery, AsksSingle, IsGivenOr, NamesFiles};
@@ -160,9 +160,7 @@ fn read_lanes<'a>(alloc: Global, matches: &ArgMatches<'a>) -> Result<LanesWords<
 {
     let operator = value(matches, "operator").ok_or(WordsFault::Refused)?;
     let sessions = value(matches, "sessions").ok_or(WordsFault::Refused)?;
-    let lanes = read_count(matches).ok_or(WordsFault::Refused)?;
-    let epoch = read_epoch(matches).ok_or(WordsFault::Refused)?;
-    let limits = read_limits(matches).ok_or(WordsFault::Refused)?;
+    let (lanes, epoch, limits) = read_sessions(matches).ok_or(WordsFault::Refused)?;
     let files = read_files(alloc, matches)?;
     Ok(LanesWords {
         operator,
@@ -181,12 +179,10 @@ fn read_serve<'a>(alloc: Global, matches: &ArgMatches<'a>) -> Result<ServeWords<
 {
     let listen = value(matches, "listen").ok_or(WordsFault::Refused)?;
     let operator = value(matches, "operator").ok_or(WordsFault::Refused)?;
-    let lanes = read_count(matches).ok_or(WordsFault::Refused)?;
     let links = number_or(DEFAULT_LINKS, matches, "links", 1, MAX_LINKS).ok_or(
         WordsFault::Refused,
     )?;
-    let epoch = read_epoch(matches).ok_or(WordsFault::Refused)?;
-    let limits = read_limits(matches).ok_or(WordsFault::Refused)?;
+    let (lanes, epoch, limits) = read_sessions(matches).ok_or(WordsFault::Refused)?;
     let files = read_files(alloc, matches)?;
     Ok(ServeWords {
         listen,
@@ -258,9 +254,7 @@ fn read_take<'a>(alloc: Global, matches: &ArgMatches<'a>) -> Result<TakeWords<'a
         WordsFault::Refused,
     )?;
     let sessions = value(matches, "sessions").ok_or(WordsFault::Refused)?;
-    let lanes = read_count(matches).ok_or(WordsFault::Refused)?;
-    let epoch = read_epoch(matches).ok_or(WordsFault::Refused)?;
-    let limits = read_limits(matches).ok_or(WordsFault::Refused)?;
+    let (lanes, epoch, limits) = read_sessions(matches).ok_or(WordsFault::Refused)?;
     let files = read_files(alloc, matches)?;
     Ok(TakeWords {
         feeds,
@@ -271,6 +265,19 @@ fn read_take<'a>(alloc: Global, matches: &ArgMatches<'a>) -> Result<TakeWords<'a
         limits,
         files,
     })
+}
+
+/// How many lanes of sessions there are, the number of the first epoch, and how each query is searched.
+fn read_sessions(matches: &ArgMatches) -> Option<(u32, u32, SearchLimits)>
+    ensures asked { IfSome result (λ s.
+        AsksSessions (rows_of (found_of matches.now)) s.0 s.1 s.2) }
+    ensures refused { IfNone result ((count epoch : ℕ) (limits : _) →
+        ¬ AsksSessions (rows_of (found_of matches.now)) count epoch limits) }
+{
+    let lanes = read_count(matches)?;
+    let epoch = read_epoch(matches)?;
+    let limits = read_limits(matches)?;
+    Some((lanes, epoch, limits))
 }
 
 /// How many lanes of sessions there are.

@@ -3,7 +3,7 @@ use Rattle.std.proofs.lemmas.Result.{IfOk-weaker}
 use Rattle.clap.specs.Words.{app_of, fault_of, found_of, is_simple_and_free, rows_of}
 use Rattle.command_words.specs.Words.{IsNamed, asked_of, texts_of}
 use Rattle.command_words.proofs.AskLemmas.{apps_simple, asks_by, asks_one, none_accepted, none_fits}
-use Rattle.command_words.proofs.RangeLemmas.{files_in_range, limits_in_range}
+use Rattle.command_words.proofs.RangeLemmas.{files_in_range, lanes_in_range, limits_in_range, plan_in_range}
 use Rattle.command_words.proofs.read_words.Goals as goal
 
 pub matches_of-requires : goal.matches_of-requires
@@ -43,3 +43,13 @@ pub returns-clause-limits : goal.returns-clause-limits
 returns-clause-limits c =
     let rows = rows_of (found_of c.in_ok-matches.matches) in
     IfOk-weaker c.read.result _ _ (λ v values. limits_in_range c.in_ok-name.name rows (asked_of v) values) c.read.ensures.asked
+
+pub returns-clause-plan : goal.returns-clause-plan
+returns-clause-plan c =
+    let rows = rows_of (found_of c.in_ok-matches.matches) in
+    IfOk-weaker c.read.result _ _ (λ v values. plan_in_range c.in_ok-name.name rows (asked_of v) values) c.read.ensures.asked
+
+pub returns-clause-lanes : goal.returns-clause-lanes
+returns-clause-lanes c =
+    let rows = rows_of (found_of c.in_ok-matches.matches) in
+    IfOk-weaker c.read.result _ _ (λ v values. lanes_in_range c.in_ok-name.name rows (asked_of v) values) c.read.ensures.asked

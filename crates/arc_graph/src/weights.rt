@@ -72,7 +72,7 @@ impl Weights {
         if is_zero(&places) {
             return None;
         }
-        Some(Weight::of_numbers(&places[..self.criteria]))
+        Some(Weight::of_places(self.criteria, places))
     }
 
     /// Gives an arc another vector, or shuts it where there is none.

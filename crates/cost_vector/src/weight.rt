@@ -1,8 +1,9 @@
-ghost use Rattle.std.specs.Prelude.{◌≡◌, ℕ, ◌^◌, ◌<◌, ◌≤◌, ◌↔◌, List, length, replicate, slice_index, All, IsTrue, Some, ◌==◌, nat_eq, refl};
+ghost use Rattle.std.specs.Prelude.{◌≡◌, ℕ, ◌^◌, ◌<◌, ◌≤◌, ◌↔◌, List, length, replicate, slice_index, take, All, IsTrue, Some, ◌==◌, nat_eq, refl};
 ghost use Rattle.std.specs.Ordering.{nat_cmp};
 ghost use Rattle.std.specs.Cmp.{partial_equiv_from_equiv};
 ghost use Rattle.std.specs.Cmp.Lexicographic.{pointwise, slice_cmp, nat_list_eq_equiv, nat_list_cmp_total, texts_po, texts_ties};
 ghost use Rattle.cost_vector.specs.Costs.{AtMost, max_criteria, min_criteria};
+ghost use Rattle.cost_vector.specs.Places.{IsStored};
 
 use crate::{Cost, MAX_CRITERIA};
 use std::cmp::Ordering;
@@ -49,6 +50,14 @@ impl Weight {
             count: list.len(),
             places,
         }
+    }
+
+    /// The weight with the components at the first places, past which all hold 0.
+    pub fn of_places(count: usize, places: [u32; MAX_CRITERIA]) -> Weight
+        requires { IsStored 0 count places }
+        ensures { result ≡ take count places }
+    {
+        Weight { count, places }
     }
 
     /// How many components there are.

@@ -12,7 +12,7 @@ returns-then-is_zero-clause-state c =
 pub returns-clause-state : goal.returns-clause-state
 returns-clause-state c =
     let test = sym c.is_zero.ensures ∙ c.if-is_zero.false in
-    ap Some c.of_numbers.ensures ∙ sym (state_by_places _ _ _ c.args.a _ false c.self.view_is c.requires.counted c.requires.there c.index.ensures test)
+    ap Some c.of_places.ensures ∙ sym (state_by_places _ _ _ c.args.a _ false c.self.view_is c.requires.counted c.requires.there c.index.ensures test)
 
 pub returns-clause-vector : goal.returns-clause-vector
 returns-clause-vector c =

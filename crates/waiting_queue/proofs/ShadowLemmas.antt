@@ -19,7 +19,7 @@ use Rattle.list_laws.proofs.OnceLaws.{in_append, pairs_append}
 use Rattle.list_laws.proofs.Pairs.{pairs_cons, pairs_none, pairs_rest, pairs_take, pair_with_first}
 use Rattle.list_laws.proofs.SetLaws.{gains_by_permutation}
 use Rattle.waiting_queue.specs.declared.item.Item.{Item}
-use Rattle.waiting_queue.specs.Shadows.{grounded, second_of, Descends, ExceedsBefore, FallsTo, IsBelowSome, IsDominatedBy, IsLater, IsRun, IsShadow, Joins, SplitsAt}
+use Rattle.waiting_queue.specs.Shadows.{grounded, second_of, Descends, ExceedsBefore, FallsTo, IsBelowSome, IsDominatedBy, IsLater, IsRun, IsShadow, Joins, ReachesBefore, SplitsAt}
 use Rattle.waiting_queue.proofs.TakingLemmas.{in_push, last_in}
 
 -- the end of a list
@@ -212,6 +212,20 @@ module _ {C : Type 0} (components : C → List ℕ) where
     old = all_from_in (Contains costs) costs (λ x h. h);
     kept = all_from_in (λ x. AtMost c (components x) ⊎ Contains costs x) costs (λ x h. inr h);
     gone = all_from_in (λ x. ¬ AtMost c (components x)) costs (λ x h below. none (record { above = x; contains = h; at_most = below }));
+  }
+
+  -- what a cost is at most comes up to it in the second component
+  pub below_some_near : (costs : List C) (c : List ℕ) (i : ℕ) → ReachesBefore components costs c i → IsBelowSome components costs c
+      → IsBelowSome components (take i costs) c
+  below_some_near costs c i split some = record {
+    above = some.above;
+    contains = elim ((in_parts costs i some.above).0 some.contains) [
+      | inl near ↦ near
+      | inr far ↦
+          let less = each_in (λ x. second_of (components x) < second_of c) (drop i costs) split.after some.above far in
+          absurd (omega (arith, less, second_at_most c (components some.above) some.at_most))
+    ];
+    at_most = some.at_most;
   }
 
   -- a later cost, or the same, exceeds none in the second component

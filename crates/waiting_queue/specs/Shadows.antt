@@ -45,6 +45,11 @@ module _ {C : Type 0} (components : C → List ℕ) where
   ExceedsBefore shadow c =
       SplitsAt (λ x. second_of c < second_of (components x)) (λ x. second_of (components x) ≤ second_of c) shadow
 
+  -- the costs before the place i come up to c in the second component, and no other does
+  abbrev pub ReachesBefore : List C → List ℕ → ℕ → Type 0
+  ReachesBefore shadow c =
+      SplitsAt (λ x. second_of c ≤ second_of (components x)) (λ x. second_of (components x) < second_of c) shadow
+
   -- c joins the shadow, and those leave of which no component but the first is less than c's
   abbrev pub Joins : List C → C → List C → Type 0
   Joins before c after = (x : C)

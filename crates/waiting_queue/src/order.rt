@@ -5,6 +5,7 @@ ghost use Rattle.waiting_queue.specs.Waiting.{SpotLess, spot_in};
 
 use crate::Item;
 use out_of_memory::OutOfMemory;
+use std::cmp::Ordering;
 use stored_cost::StoredCost;
 
 /// How many items are gone by at once, where the last of them comes before the one whose place is sought.
@@ -21,7 +22,11 @@ pub(crate) fn is_same_spot<const D: usize, C: StoredCost<D>>(a: &Item<C>, b: &It
 pub(crate) fn is_before<const D: usize, C: StoredCost<D>>(a: &Item<C>, b: &Item<C>) -> bool
     ensures { IsTrue result ↔ SpotLess (spot_in C.components a.now) (spot_in C.components b.now) }
 {
-    a.cost.compare(&b.cost).then(a.node.cmp(&b.node)).is_lt()
+    match a.cost.compare(&b.cost) {
+        Ordering::Less => true,
+        Ordering::Equal => a.node < b.node,
+        Ordering::Greater => false,
+    }
 }
 
 /// Whether the last of the items has the spot of this one.

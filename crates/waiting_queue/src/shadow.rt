@@ -1,7 +1,7 @@
 ghost use Rattle.std.specs.Prelude.{◌≡◌, ◌+◌, ◌<◌, ◌≤◌, ◌↔◌, drop, length, nat_lt, slice_get, take, All, Contains, IfNone, IfOk, IfSome, IsTrue, Some};
 ghost use Rattle.cost_vector.specs.Costs.{AtMost, Dominates};
 ghost use Rattle.list_laws.specs.Without.{IsWithout};
-ghost use Rattle.waiting_queue.specs.Shadows.{Descends, ExceedsBefore, IsBelowSome, IsDominatedBy, IsRun, Joins, grounded};
+ghost use Rattle.waiting_queue.specs.Shadows.{Descends, ExceedsBefore, ReachesBefore, IsBelowSome, IsDominatedBy, IsRun, Joins, grounded};
 ghost use Rattle.waiting_queue.specs.Waiting.{AreCriteria};
 ghost use Rattle.waiting_queue.specs.declared.item.Item.{Item};
 
@@ -39,6 +39,23 @@ fn count_above<const D: usize, C: StoredCost<D>>(shadow: &[C], cost: &C) -> usiz
     while size > 0 {
         let half = size - size / 2;
         start += half * bound.less_bit(shadow[start + half - 1].part(1));
+        size -= half;
+    }
+    start
+}
+
+/// How many costs of the shadow come up to this one in the second component. The search has no branch that couldn't be foreseen.
+fn count_up_to<const D: usize, C: StoredCost<D>>(shadow: &[C], cost: &C) -> usize
+    requires criteria { AreCriteria D }
+    requires descends { Descends C.components shadow.now }
+    ensures { ReachesBefore C.components shadow.now (C.components cost.now) result }
+{
+    let bound = cost.part(1);
+    let mut start = 0;
+    let mut size = shadow.len();
+    while size > 0 {
+        let half = size - size / 2;
+        start += half * (1 - shadow[start + half - 1].part(1).less_bit(bound));
         size -= half;
     }
     start
@@ -162,14 +179,17 @@ fn is_below_any<const D: usize, C: StoredCost<D>>(low: &C, costs: &[C]) -> bool
     any
 }
 
-/// Takes out the costs that this one is at most. Mostly there are none.
+/// Takes out the costs that this one is at most. Mostly there are none. They come up to it in the second component, so the others
+/// aren't looked at.
 fn uncover<const D: usize, C: StoredCost<D>>(shadow: &mut Vec<C>, low: &C)
-    requires { Descends C.components shadow.old.items }
+    requires criteria { AreCriteria D }
+    requires descends { Descends C.components shadow.old.items }
     ensures descends { Descends C.components shadow.new.items }
     ensures without { IsWithout (λ x. AtMost (C.components low.now) (C.components x))
         shadow.old.items shadow.new.items }
 {
-    if is_below_any(low, shadow) {
+    let near = count_up_to(shadow, low);
+    if is_below_any(low, &shadow[..near]) {
         remove_above(shadow, low);
     }
 }

@@ -114,8 +114,8 @@ where
             (map (as_waiting C.components) taken.new.items) self.new) }
         ensures same { OnErr result (self.new ≡ self.old) }
     {
-        list_sorted(&self.late, fresh, &mut self.order)?;
         let workers = &workers.for_labels(fresh.len() / ITEMS_OF_A_LABEL);
+        list_sorted(workers, &self.late, fresh, &mut self.order)?;
         pass_lists(
             workers,
             alloc,

@@ -5,8 +5,11 @@ ghost use Rattle.waiting_queue.specs.Waiting.{SpotLess, spot_in};
 
 use crate::Item;
 use out_of_memory::OutOfMemory;
+use rayon::prelude::*;
 use std::cmp::Ordering;
+use std::thread::Threads;
 use stored_cost::StoredCost;
+use work_claim::Workers;
 
 /// How many items are gone by at once, where the last of them comes before the one whose place is sought.
 const STEP: usize = 16;
@@ -60,7 +63,8 @@ pub(crate) fn count_before<const D: usize, C: StoredCost<D>>(
 }
 
 /// Lists the items of both lists in order. What the list held before is gone.
-pub(crate) fn list_sorted<const D: usize, C: StoredCost<D>>(
+pub(crate) fn list_sorted<const D: usize, C: StoredCost<D> + Send, R: Threads + Sync, G>(
+    workers: &Workers<'_, R, G>,
     items: &[Item<C>],
     others: &[Item<C>],
     list: &mut Vec<Item<C>>,
@@ -71,6 +75,27 @@ pub(crate) fn list_sorted<const D: usize, C: StoredCost<D>>(
     list.clear();
     list.extend_from_slice(items)?;
     list.extend_from_slice(others)?;
-    list.sort_unstable();
+    sort_parts(workers, list);
+    sort_items(list);
     Ok(())
+}
+
+/// Sorts the parts of a long list side by side, where several workers are wanted.
+fn sort_parts<C: Ord + Send, R: Threads + Sync, G>(
+    workers: &Workers<'_, R, G>,
+    items: &mut Vec<Item<C>>,
+)
+    ensures { IsPermutation items.old.items items.new.items }
+{
+    if workers.count() > 1 {
+        par_sort_unstable(workers.rt(), items);
+    }
+}
+
+/// Sorts items. Those that are in order already are only gone through.
+fn sort_items<const D: usize, C: StoredCost<D>>(items: &mut Vec<Item<C>>)
+    ensures same { IsPermutation items.old.items items.new.items }
+    ensures sorted { AreSorted (spot_in C.components) items.new.items }
+{
+    items.sort_unstable();
 }

@@ -1,9 +1,9 @@
-ghost use Rattle.std.specs.Prelude.{◌≡◌, ℕ, ◌^◌, ◌<◌, ◌≤◌, ◌↔◌, List, [], All, Contains};
+ghost use Rattle.std.specs.Prelude.{◌≡◌, ℕ, ◌^◌, ◌<◌, ◌≤◌, List, [], All, Contains};
 ghost use Rattle.road_network.specs.Network.{AreSmall, Network, IsNetwork, IsNode};
 ghost use Rattle.road_network.specs.Limits.{max_nodes};
 ghost use Rattle.goal_laws.specs.Goal.{GoalPasses, IsBound, IsGoalRelevant};
 ghost use Rattle.bulk_rounds.specs.Begins.{FindsNone, TakesNext, WouldPass};
-ghost use Rattle.bulk_rounds.specs.Cores.{Core, HasSpot, Item, IsCoveredIn, IsSettledIn, Spot};
+ghost use Rattle.bulk_rounds.specs.Cores.{Core, Item, IsCoveredIn, IsSettledIn, Spot};
 ghost use Rattle.bulk_rounds.specs.Finishes.{PutsAll};
 ghost use Rattle.bulk_rounds.specs.Kept.{SparesSettled};
 ghost use Rattle.bulk_rounds.specs.Taking.{CountsSettled};

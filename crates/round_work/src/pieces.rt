@@ -1,8 +1,8 @@
-ghost use Rattle.std.specs.Prelude.{◌≡◌, ℕ, ◌*◌, ◌<◌, ◌≤◌, ◌∷◌, [], length, All, Err, IfOk};
+ghost use Rattle.std.specs.Prelude.{◌≡◌, ℕ, ◌*◌, ◌<◌, ◌≤◌, length, Err, IfOk};
 ghost use Rattle.road_network.specs.Network.{IsNode};
 ghost use Rattle.waiting_queue.specs.Waiting.{as_waiting};
 ghost use Rattle.round_work.specs.Onward.{IsTooWide, onward};
-ghost use Rattle.round_work.specs.Pieces.{Appends, AreReady, CanDo, items_of, onward_in, piece_size};
+ghost use Rattle.round_work.specs.Pieces.{Appends, CanDo, items_of, onward_in, piece_size};
 ghost use Rattle.round_work.specs.declared.fault.RelaxFault.TheVariants as fault;
 
 use crate::{RelaxFault, leave_out_closed};

@@ -6,7 +6,7 @@ ghost use Rattle.epoch_store.specs.Origin.{last_number};
 ghost use Rattle.link_doors.specs.Links.{state_of};
 ghost use Rattle.session_core.specs.Answering.{CanSearch, scene_of};
 ghost use Rattle.route_lanes.specs.Following.{RunsFollow};
-ghost use Rattle.route_lanes.specs.Served.{IsFresh, IsNew, SessionServes, report_of, whole_of};
+ghost use Rattle.route_lanes.specs.Served.{IsFresh, SessionServes, report_of, whole_of};
 ghost use Rattle.route_lanes.specs.Services.{AllServe};
 ghost use Rattle.route_lanes.specs.Taken.{CanTake, LaneTakes};
 

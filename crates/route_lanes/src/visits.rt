@@ -1,6 +1,5 @@
 //! Links that a door gives, served one after another.
 ghost use Rattle.std.specs.Prelude.{◌≡◌};
-ghost use Rattle.link_doors.specs.Doors.{DoorState};
 ghost use Rattle.link_doors.specs.Links.{LinkState, state_of};
 ghost use Rattle.session_core.specs.declared.end.SessionEnd.{SessionEnd};
 ghost use Rattle.route_lanes.specs.Visits.{AttendsEach, IsCallableIn, ServesDoor, ServesNext, is_starved};

@@ -1,5 +1,5 @@
 //! The command `follow`.
-ghost use Rattle.std.specs.Prelude.{◌≡◌, ◌==◌, ◌≢◌, ◌≤◌, ◌+◌, ◌++◌, [], IfErr, IfOk, All, codes, false, length, map};
+ghost use Rattle.std.specs.Prelude.{◌≡◌, ◌==◌, ◌≢◌, ◌≤◌, ◌+◌, ◌++◌, [], IfErr, IfOk, All, codes, false, map};
 ghost use Rattle.std.specs.List.{AllZip};
 ghost use Rattle.route_io.specs.Sinks.{Sends};
 ghost use Rattle.route_io.specs.Sources.{ReadsFrom};

@@ -1,5 +1,5 @@
 //! The command `lanes`.
-ghost use Rattle.std.specs.Prelude.{◌≡◌, ◌==◌, ◌≢◌, ◌≤◌, ◌++◌, ℕ, [], IfErr, IfOk, All, Contains, false, get_or, map};
+ghost use Rattle.std.specs.Prelude.{◌≡◌, ◌==◌, ◌≢◌, ◌≤◌, ◌++◌, [], IfErr, IfOk, All, false, get_or, map};
 ghost use Rattle.std.specs.List.{AllZip};
 ghost use Rattle.route_io.specs.Sinks.{Sends};
 ghost use Rattle.route_io.specs.Sources.{ReadsFrom};

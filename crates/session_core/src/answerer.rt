@@ -1,4 +1,4 @@
-ghost use Rattle.std.specs.Prelude.{◌≡◌, ◌≤◌, ℕ, List, length};
+ghost use Rattle.std.specs.Prelude.{List};
 ghost use Rattle.road_network.specs.Answers.{IsAnswer, Route};
 ghost use Rattle.walk_readback.specs.Found.{IsOf, IsWellFound};
 ghost use Rattle.road_network.specs.Queries.{IsAsked, limit_of};

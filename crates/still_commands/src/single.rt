@@ -1,5 +1,5 @@
 //! The commands `costs` and `one`.
-ghost use Rattle.std.specs.Prelude.{◌≤◌, All};
+ghost use Rattle.std.specs.Prelude.{All};
 ghost use Rattle.road_network.specs.Queries.{IsAsked};
 ghost use Rattle.command_words.specs.Words.{FilesInRange, SingleInRange, names_of};
 ghost use Rattle.command_words.specs.Words.{single, single_asked};

@@ -1,6 +1,5 @@
 //! Walks of small networks, told by hand.
-ghost use Rattle.std.specs.Prelude.{◌≡◌, ◌<◌, length, IfOk};
-ghost use Rattle.road_network.specs.Network.{IsNode};
+ghost use Rattle.std.specs.Prelude.{◌≡◌, ◌<◌, length};
 ghost use Rattle.cost_vector.specs.Costs.{no_limit};
 ghost use Rattle.walk_readback.specs.Found.{IsWellFound};
 

@@ -472,7 +472,7 @@ class Program:
             str(request.source),
             "--to",
             str(request.target),
-            *self._search_options(),
+            *(["--budget", str(self.budget)] if command == "goal" else self._search_options()),
         ]
         _, text = self._finish(command, options, files)
         return answered(_replies(text, files).reply_to(request))

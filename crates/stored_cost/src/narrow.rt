@@ -1,9 +1,11 @@
-ghost use Rattle.std.specs.Prelude.{refl};
+ghost use Rattle.std.specs.Prelude.{◌≡◌, ◌↔◌, length, IsTrue, refl};
+ghost use Rattle.cost_vector.specs.Costs.{AtMost};
 
 use crate::StoredCost;
 use cost_vector::{CompactCost, Weight};
 use std::cmp::Ordering;
 use std::marker::Model;
+use std::simd::prelude::*;
 
 /// A cost in 32 bits a component, each below 2^31. A contract sees the list of its components.
 #[derive(Clone, Copy, Debug, PartialEq, Eq, PartialOrd, Ord)]
@@ -68,6 +70,9 @@ impl<const D: usize> StoredCost<D> for NarrowCost<D> {
     }
 
     fn at_most(&self, other: &NarrowCost<D>) -> bool {
+        if D == 4 {
+            return four_at_most(&self.parts, &other.parts);
+        }
         // All are compared: where the first greater one stands can't be foreseen.
         let mut none_greater = true;
         for (i, part) in self.parts.iter().enumerate() {
@@ -91,4 +96,14 @@ impl<const D: usize> StoredCost<D> for NarrowCost<D> {
     ghost orders = { λ a b. refl };
 
     ghost same = { λ a b e. e };
+}
+
+/// Whether none of four components exceeds the other's. They are compared side by side.
+fn four_at_most(a: &[u32], b: &[u32]) -> bool
+    requires long { length a.now ≡ 4 }
+    requires other_long { length b.now ≡ 4 }
+    ensures { IsTrue result ↔ AtMost a.now b.now }
+{
+    let greater = u32x4::from_slice(b).simd_lt(u32x4::from_slice(a));
+    greater.to_bitmask() == 0
 }

@@ -1,5 +1,5 @@
-ghost use Rattle.std.specs.Prelude.{◌≡◌, ◌↔◌, length, IsTrue, refl};
-ghost use Rattle.cost_vector.specs.Costs.{AtMost};
+ghost use Rattle.std.specs.Prelude.{◌≡◌, ◌+◌, ◌*◌, ◌^◌, ◌↔◌, length, IsTrue, refl};
+ghost use Rattle.cost_vector.specs.Costs.{AtMost, lex_cmp};
 
 use crate::StoredCost;
 use cost_vector::{CompactCost, Weight};
@@ -66,6 +66,9 @@ impl<const D: usize> StoredCost<D> for NarrowCost<D> {
     }
 
     fn compare(&self, other: &NarrowCost<D>) -> Ordering {
+        if D == 2 {
+            return compare_two(&self.parts, &other.parts);
+        }
         self.parts.cmp(&other.parts)
     }
 
@@ -96,6 +99,22 @@ impl<const D: usize> StoredCost<D> for NarrowCost<D> {
     ghost orders = { λ a b. refl };
 
     ghost same = { λ a b e. e };
+}
+
+/// Compares the first of two components that differ: without a branch between them, as where it stands can't be foreseen.
+fn compare_two(a: &[u32], b: &[u32]) -> Ordering
+    requires long { length a.now ≡ 2 }
+    requires other_long { length b.now ≡ 2 }
+    ensures { result ≡ lex_cmp a.now b.now }
+{
+    as_one(a[0], a[1]).cmp(&as_one(b[0], b[1]))
+}
+
+/// Two components as one number, the first of them above the second.
+fn as_one(first: u32, second: u32) -> u64
+    ensures { result ≡ first * 2 ^ 32 + second }
+{
+    u64::from(first) * (1 << 32) + u64::from(second)
 }
 
 /// Whether none of four components exceeds the other's. They are compared side by side.

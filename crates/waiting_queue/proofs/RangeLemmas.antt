@@ -1,8 +1,9 @@
 -- A queue cut into ranges, and what the passes over them take together.
 use Rattle.std.proofs.Common.{◌≡◌, ℕ, zero, suc, ◌⊎◌, ◌↔◌, List, [], ◌∷◌, ◌++◌, append-nil, take, drop, length, get_or, inl, inr, refl, sym, ap, subst, subst₂, ◌∙◌, arith, Some, take_all}
-use Rattle.std.specs.Prelude.{All, AllPairs, Contains, flat_map, slice_get}
+use Rattle.std.specs.Prelude.{All, AllPairs, Contains, IfOk, IsTrue, Result, Ok, Err, flat_map, is_ok, slice_get}
+use Rattle.std.proofs.lemmas.Bool.{false≢true}
 use Rattle.std.specs.List.{AllZip}
-use Rattle.std.proofs.lemmas.List.{drop_all}
+use Rattle.std.proofs.lemmas.List.{drop_all, take_at}
 use Rattle.std.proofs.lemmas.List.Concat.{flat_map-append}
 use Rattle.list_laws.proofs.Members.{all_from_in, cases_in, cases_push, each_in, in_first, in_none, in_rest}
 use Rattle.list_laws.proofs.OnceLaws.{in_append, pairs_append}
@@ -11,7 +12,8 @@ use Rattle.waiting_queue.specs.declared.item.Item.{Item}
 use Rattle.waiting_queue.specs.declared.joining.Part.{Part}
 use Rattle.waiting_queue.specs.declared.ranges.Range.{Range}
 use Rattle.waiting_queue.specs.Joining.{AreJoined, AreParts, ComesBefore, IsPart, rest_of, taken_of}
-use Rattle.waiting_queue.specs.Ranges.{ArePassed, AreRanges, IsCut, IsRange, LiesBefore, PassesRange, items_in}
+use Rattle.waiting_queue.specs.Filling.{AreFilled}
+use Rattle.waiting_queue.specs.Ranges.{ArePassed, AreRanges, GivesPart, IsCut, IsRange, LiesBefore, PassesRange, items_in}
 use Rattle.waiting_queue.specs.Taking.{AreSorted, SetsApart, TakesOpenSpots}
 use Rattle.waiting_queue.specs.Waiting.{Spot, SpotLess, spot_in}
 use Rattle.waiting_queue.proofs.JoiningLemmas.{of_flat}
@@ -21,6 +23,11 @@ use Rattle.waiting_queue.proofs.OrderLemmas.{SpotLess-trans, less_unless}
 use Rattle.waiting_queue.proofs.PassingLemmas.{first_of}
 use Rattle.waiting_queue.proofs.ShadowLemmas.{in_parts, pairs_drop}
 use Rattle.waiting_queue.proofs.TakingLemmas.{apart_both, apart_if_taken, parts_take, takes_spots_alike}
+
+-- what a call that went well has made so
+pub if_ok : {T E P : Type 0} (r : Result T E) → IfOk r (λ _. P) → IsTrue (is_ok r) → P
+if_ok (Ok x) made ok = made
+if_ok (Err e) made ok = absurd (false≢true ok)
 
 -- a member of the front, and one that stands behind it
 pairs_parts : {X : Type 0} (R : X → X → Type 0) (k : ℕ) (xs : List X) (x y : X) → AllPairs R xs → Contains (take k xs) x → Contains (drop k xs) y → R x y
@@ -239,13 +246,26 @@ module _ {C : Type 0} (components : C → List ℕ) where
         (λ x. ((are.are.has x).1, (are.are.has x).0))
         (parts_take spot Open (flat_map items_in are.ranges) (taken_of ps) (rest_of ps) took back (apart_all are.ranges ps are.passed) joined)
 
-    -- the results of all pieces
-    pub zip_given : (rs : List (Range C)) (ps : List (Part C)) → length ps ≡ length rs
+    zip_given : (rs : List (Range C)) (ps : List (Part C)) → length ps ≡ length rs
         → ((k : ℕ) (p : Part C) → slice_get ps k ≡ Some p → (r : Range C) → slice_get rs k ≡ Some r → Passes r p) → AllZip Passes rs ps
     zip_given [] [] long each = tt
     zip_given [] (p ∷ ps) long each = absurd (omega (arith, long))
     zip_given (r ∷ rs) [] long each = absurd (omega (arith, long))
     zip_given (r ∷ rs) (p ∷ ps) long each = (each 0 p refl r refl, zip_given rs ps (omega (arith, long)) (λ k q at s at_too. each (suc k) q at s at_too))
+
+    -- all parts were filled, and memory sufficed
+    pub are_passed : (items : List (Item C)) (rs : List (Range C)) (before ps old after : List (Part C)) (n : ℕ) → AreRanges components items rs
+        → length before ≡ length rs → AreFilled (λ k p. IsTrue p.is_whole → GivesPart components Open rs k p) before ps → length ps ≡ n
+        → after ≡ take n (ps ++ drop (length ps) old) → All (λ p. IsTrue p.is_whole) after → ArePassed components Open items after
+    are_passed items rs before ps old after n are long filled size stand whole =
+        let same : after ≡ ps = stand ∙ take_at ps (drop (length ps) old) n size in
+        record {
+          ranges = rs;
+          are = are;
+          passed = subst (AllZip Passes rs) (sym same) (zip_given rs ps (filled.count ∙ long) (λ k p at r at_too. filled.each k p at
+              (subst (λ q. IsTrue q.is_whole) (get_or_from_slice_get ps k p p at)
+              (subst (All (λ q. IsTrue q.is_whole)) same whole k p (slice_get_within ps k p at))) r at_too));
+        }
 
   -- ---- where a cut is
 

@@ -5,4 +5,5 @@ pub mod Waiting
 pub mod Joining
 pub mod Ranges
 pub mod Runs
+pub mod Filling
 pub mod Forms

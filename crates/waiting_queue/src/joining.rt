@@ -8,14 +8,30 @@ use crate::Item;
 use crate::order::is_last;
 use crate::shadow::is_shadowed;
 use out_of_memory::OutOfMemory;
+use std::alloc::Global;
 use stored_cost::StoredCost;
 
-/// What a pass over a part of a queue has taken, what stays there, and the shadow of what was taken.
+/// What a pass over a part of a queue has taken, what stays there, and the shadow of what was taken: all of it, where memory
+/// sufficed.
 #[derive(Drop)]
 pub(crate) struct Part<C> {
     pub taken: Vec<Item<C>>,
     pub rest: Vec<Item<C>>,
     pub shadow: Vec<C>,
+    pub is_whole: bool,
+}
+
+impl<C> Part<C> {
+    pub(crate) fn new(alloc: Global) -> Part<C>
+        ensures { result.taken.items ≡ [] }
+    {
+        Part {
+            taken: Vec::new(alloc),
+            rest: Vec::new(alloc),
+            shadow: Vec::new(alloc),
+            is_whole: true,
+        }
+    }
 }
 
 /// Lists what the parts took but for what another part's dominates, each spot once, and apart what is dominated, and what

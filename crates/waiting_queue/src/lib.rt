@@ -2,6 +2,7 @@
 //! out at once all that are open and whose cost no open one dominates.
 #![tactic(auto)]
 
+mod filling;
 mod item;
 mod joining;
 mod list_queue;

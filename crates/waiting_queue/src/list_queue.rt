@@ -2,7 +2,7 @@ ghost use Rattle.std.specs.Prelude.{◌≡◌, ◌≤◌, [], ◌++◌, IfOk, On
 ghost use Rattle.waiting_queue.specs.Taking.{AreSorted, TakesOpenSpots};
 ghost use Rattle.waiting_queue.specs.Waiting.{AreCriteria, as_waiting, spot_in, spot_of};
 
-use crate::joining::join_parts;
+use crate::joining::{Part, join_parts};
 use crate::order::list_sorted;
 use crate::passing::pass_anew;
 use crate::ranges::pass_ranges;
@@ -37,6 +37,8 @@ struct Left<C> {
     items: Vec<Item<C>>,
     late: Vec<Item<C>>,
     shadow: Vec<C>,
+    /// Those of a call that workers shared: the next one uses their memory again.
+    parts: Vec<Part<C>>,
 }
 
 impl<C> Left<C> {
@@ -47,6 +49,7 @@ impl<C> Left<C> {
             items: Vec::new(alloc),
             late: Vec::new(alloc),
             shadow: Vec::new(alloc),
+            parts: Vec::new(alloc),
         }
     }
 }
@@ -161,6 +164,6 @@ where
     if workers.count() == 1 {
         return pass_anew(look, items, fresh, &mut left.shadow, taken, &mut left.items);
     }
-    let parts = pass_ranges(workers, alloc, look, items, fresh)?;
-    join_parts(&parts, taken, &mut left.late, &mut left.items)
+    pass_ranges(workers, alloc, look, items, fresh, &mut left.parts)?;
+    join_parts(&left.parts, taken, &mut left.late, &mut left.items)
 }

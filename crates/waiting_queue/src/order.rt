@@ -6,13 +6,15 @@ ghost use Rattle.waiting_queue.specs.Waiting.{SpotLess, spot_in};
 use crate::Item;
 use out_of_memory::OutOfMemory;
 use rayon::prelude::*;
-use std::cmp::Ordering;
 use std::thread::Threads;
 use stored_cost::StoredCost;
 use work_claim::Workers;
 
 /// How many items are gone by at once, where the last of them comes before the one whose place is sought.
 const STEP: usize = 16;
+
+/// So many items are worth to be sorted side by side.
+const MANY: usize = 4096;
 
 /// Whether both have one cost and one node.
 pub(crate) fn is_same_spot<const D: usize, C: StoredCost<D>>(a: &Item<C>, b: &Item<C>) -> bool
@@ -21,15 +23,12 @@ pub(crate) fn is_same_spot<const D: usize, C: StoredCost<D>>(a: &Item<C>, b: &It
     a.node == b.node && a.cost.compare(&b.cost).is_eq()
 }
 
-/// Whether the one's spot comes before the other's.
+/// Whether the one's spot comes before the other's. Nodes are compared in any case: whether costs are alike can't be foreseen.
 pub(crate) fn is_before<const D: usize, C: StoredCost<D>>(a: &Item<C>, b: &Item<C>) -> bool
     ensures { IsTrue result ↔ SpotLess (spot_in C.components a.now) (spot_in C.components b.now) }
 {
-    match a.cost.compare(&b.cost) {
-        Ordering::Less => true,
-        Ordering::Equal => a.node < b.node,
-        Ordering::Greater => false,
-    }
+    let order = a.cost.compare(&b.cost);
+    order.is_lt() | (order.is_eq() & (a.node < b.node))
 }
 
 /// Whether the last of the items has the spot of this one.
@@ -87,7 +86,7 @@ fn sort_parts<C: Ord + Send, R: Threads + Sync, G>(
 )
     ensures { IsPermutation items.old.items items.new.items }
 {
-    if workers.count() > 1 {
+    if workers.count() > 1 && items.len() >= MANY {
         par_sort_unstable(workers.rt(), items);
     }
 }

@@ -1,19 +1,19 @@
 //! A queue cut into ranges, which workers pass side by side, each with a shadow of its own.
-ghost use Rattle.std.specs.Prelude.{◌≡◌, ◌+◌, ◌*◌, ◌^◌, ◌<◌, ◌≤◌, ◌++◌, length, IfOk};
+ghost use Rattle.std.specs.Prelude.{◌≡◌, ◌≤◌, ◌↔◌, ◌++◌, length, All, IfOk, IsTrue};
 ghost use Rattle.waiting_queue.specs.Ranges.{ArePassed, AreRanges, IsCut};
 ghost use Rattle.waiting_queue.specs.Taking.{AreSorted};
 ghost use Rattle.waiting_queue.specs.Waiting.{AreCriteria, spot_in};
 
+use crate::filling::{Fills, fill_each};
 use crate::joining::Part;
 use crate::order::count_before;
 use crate::passing::pass_anew;
 use crate::{Item, Look};
 use out_of_memory::OutOfMemory;
-use route_io::{OpenGate, Phase};
 use std::alloc::Global;
 use std::thread::Threads;
 use stored_cost::StoredCost;
-use work_claim::{Job, Workers, run_pieces};
+use work_claim::Workers;
 
 /// A range of both lists of a queue: of what stands there, and of what comes in.
 #[derive(Drop)]
@@ -22,51 +22,8 @@ pub(crate) struct Range<'q, C> {
     pub fresh: &'q [Item<C>],
 }
 
-/// Ranges that are to be passed.
-#[derive(Drop)]
-pub(crate) struct Ranges<'q, const D: usize, C: StoredCost<D>, K: Look<D, C>> {
-    pub alloc: Global,
-    pub look: &'q K,
-    pub ranges: &'q [Range<'q, C>],
-}
-
-impl<'q, const D: usize, C: StoredCost<D> + Send + Sync, K: Look<D, C> + Sync> Job
-    for Ranges<'q, D, C, K>
-where
-    C::Part: Send + Sync,
-{
-    ghost use Rattle.waiting_queue.specs.Ranges.{CanPass, GivesPart};
-
-    type Out = Part<C>;
-
-    ghost accepts = { λ job piece. CanPass C.components D job.ranges.now piece };
-
-    ghost gives = { λ job piece out. GivesPart C.components (K.IsOpen job.look.now)
-        job.ranges.now piece out };
-
-    fn run(&self, piece: usize) -> Result<Part<C>, OutOfMemory> {
-        let range = &self.ranges[piece];
-        let mut shadow = Vec::new(self.alloc);
-        let mut taken = Vec::new(self.alloc);
-        let mut rest = Vec::new(self.alloc);
-        pass_anew(
-            self.look,
-            range.items,
-            range.fresh,
-            &mut shadow,
-            &mut taken,
-            &mut rest,
-        )?;
-        Ok(Part {
-            taken,
-            rest,
-            shadow,
-        })
-    }
-}
-
 /// Cuts two sorted lists into so many ranges, in order; the last ones may have nothing.
-pub(crate) fn cut_ranges<'q, const D: usize, C: StoredCost<D>>(
+fn cut_ranges<'q, const D: usize, C: StoredCost<D>>(
     alloc: Global,
     items: &'q [Item<C>],
     fresh: &'q [Item<C>],
@@ -75,9 +32,8 @@ pub(crate) fn cut_ranges<'q, const D: usize, C: StoredCost<D>>(
     requires some { 1 ≤ count }
     requires sorted { AreSorted (spot_in C.components) items.now }
     requires fresh_sorted { AreSorted (spot_in C.components) fresh.now }
-    ensures ranges { IfOk result (λ ranges.
+    ensures { IfOk result (λ ranges.
         AreRanges C.components (items.now ++ fresh.now) ranges.items) }
-    ensures few { IfOk result (λ ranges. length ranges.items ≤ count) }
 {
     let size = items.len() / count + 1;
     let mut ranges = Vec::new(alloc);
@@ -109,7 +65,8 @@ fn count_until<const D: usize, C: StoredCost<D>>(items: &[Item<C>], others: &[It
     }
 }
 
-/// Has the workers pass ranges of both sorted lists, as many as they are.
+/// Has the workers pass ranges of both sorted lists, as many as they are, side by side, each into a part, whose memory is used
+/// again. What the parts held before is gone.
 pub(crate) fn pass_ranges<
     const D: usize,
     C: StoredCost<D> + Send + Sync,
@@ -122,21 +79,82 @@ pub(crate) fn pass_ranges<
     look: &K,
     items: &[Item<C>],
     fresh: &[Item<C>],
-) -> Result<Vec<Part<C>>, OutOfMemory>
+    parts: &mut Vec<Part<C>>,
+) -> Result<(), OutOfMemory>
 where
     C::Part: Send + Sync,
     requires criteria { AreCriteria D }
     requires sorted { AreSorted (spot_in C.components) items.now }
     requires fresh_sorted { AreSorted (spot_in C.components) fresh.now }
-    ensures { IfOk result (λ parts. ArePassed C.components (K.IsOpen look.now)
-        (items.now ++ fresh.now) parts.items) }
+    ensures { IfOk result (λ _. ArePassed C.components (K.IsOpen look.now)
+        (items.now ++ fresh.now) parts.new.items) }
 {
     let ranges = cut_ranges(alloc, items, fresh, workers.count() as usize)?;
-    let job = Ranges {
-        alloc,
+    have_parts(alloc, parts, ranges.len())?;
+    let pass = RangePass {
         look,
         ranges: &ranges,
     };
-    let ungated = workers.with_gate(&OpenGate);
-    run_pieces(&ungated, alloc, ranges.len(), Phase::Relax, &job)
+    fill_each(workers, &pass, parts);
+    if are_whole(parts) {
+        Ok(())
+    } else {
+        Err(OutOfMemory)
+    }
+}
+
+/// Passes over ranges.
+#[derive(Drop)]
+struct RangePass<'q, const D: usize, C: StoredCost<D>, K: Look<D, C>> {
+    look: &'q K,
+    ranges: &'q [Range<'q, C>],
+}
+
+impl<'q, const D: usize, C: StoredCost<D> + Send + Sync, K: Look<D, C> + Sync> Fills<Part<C>>
+    for RangePass<'q, D, C, K>
+where
+    C::Part: Send + Sync,
+{
+    ghost use Rattle.std.specs.Prelude.{IsTrue};
+    ghost use Rattle.waiting_queue.specs.Ranges.{CanPass, GivesPart};
+
+    ghost accepts = { λ pass place. CanPass C.components D pass.ranges.now place };
+
+    ghost gives = { λ pass place part. IsTrue part.is_whole → GivesPart C.components
+        (K.IsOpen pass.look.now) pass.ranges.now place part };
+
+    fn fill(&self, place: usize, part: &mut Part<C>) {
+        let range = &self.ranges[place];
+        let passed = pass_anew(
+            self.look,
+            range.items,
+            range.fresh,
+            &mut part.shadow,
+            &mut part.taken,
+            &mut part.rest,
+        );
+        part.is_whole = passed.is_ok();
+    }
+}
+
+/// Whether memory sufficed for all parts.
+fn are_whole<C>(parts: &[Part<C>]) -> bool
+    ensures { IsTrue result ↔ All (λ p. IsTrue p.is_whole) parts.now }
+{
+    parts.iter().all(|part| part.is_whole)
+}
+
+/// Brings the parts to so many, whatever they hold.
+fn have_parts<C: Drop>(
+    alloc: Global,
+    parts: &mut Vec<Part<C>>,
+    count: usize,
+) -> Result<(), OutOfMemory>
+    ensures { IfOk result (λ _. length parts.new.items ≡ count) }
+{
+    parts.truncate(count);
+    while parts.len() < count {
+        parts.push(Part::new(alloc))?;
+    }
+    Ok(())
 }

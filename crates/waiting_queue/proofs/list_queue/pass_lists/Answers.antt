@@ -18,18 +18,18 @@ returns-then-count-eq1-clause-taken g c = IfOk-weaker c.pass_anew.result _ _ (λ
 
 pub join_parts-requires-clause-parts : goal.join_parts-requires-clause-parts
 join_parts-requires-clause-parts g c = rw c.deref.ensures.value
-    (are_parts g.C.StoredCost.components (g.K.Look.IsOpen c.args.look.now) (c.args.items.now ++ c.args.fresh.now) c.in_ok-parts.parts.items c.in_ok-parts.ensures)
+    (are_parts g.C.StoredCost.components (g.K.Look.IsOpen c.args.look.now) (c.args.items.now ++ c.args.fresh.now) c.pass_ranges.new.parts.items c.in_ok-pass_ranges.ensures)
 
 pub returns-clause-taken : goal.returns-clause-taken
 returns-clause-taken g c =
-    let passed = rw (sym c.deref.ensures.value) at c.in_ok-parts.ensures in
+    let passed = rw (sym c.deref.ensures.value) at c.in_ok-pass_ranges.ensures in
     both_ok c.join_parts.result _ _ _ (λ joined rest. rw rest
     (joined_take g.C.StoredCost.components (g.K.Look.IsOpen c.args.look.now) (c.args.items.now ++ c.args.fresh.now) c.deref.result.now
     c.join_parts.new.taken.items c.join_parts.new.back.items passed joined)) c.join_parts.ensures.joined c.join_parts.ensures.rest
 
 pub returns-clause-sorted : goal.returns-clause-sorted
 returns-clause-sorted g c =
-    let passed = rw (sym c.deref.ensures.value) at c.in_ok-parts.ensures in
+    let passed = rw (sym c.deref.ensures.value) at c.in_ok-pass_ranges.ensures in
     IfOk-weaker c.join_parts.result _ _ (λ _ rest. rw rest
     (rest_sorted g.C.StoredCost.components (g.K.Look.IsOpen c.args.look.now) (c.args.items.now ++ c.args.fresh.now) c.deref.result.now passed))
     c.join_parts.ensures.rest

@@ -1,10 +1,6 @@
-use Rattle.std.proofs.Common.{◌++◌, ◌≤◌, ◌+◌, length}
+use Rattle.std.proofs.Common.{◌++◌}
 use Rattle.waiting_queue.proofs.RangeLemmas.{IsCutting}
 use Rattle.waiting_queue.proofs.ranges.cut_ranges.Given as goal
 
 abbrev pub invariant-loop : goal.invariant-loop
-invariant-loop g l = record {
-  cutting : IsCutting g.C.StoredCost.components (l.fn.items ++ l.fn.fresh) l.ranges.items l.items l.fresh;
-  few : length l.ranges.items + 1 ≤ l.counter;
-  within : l.counter ≤ l.count;
-}
+invariant-loop g l = IsCutting g.C.StoredCost.components (l.fn.items ++ l.fn.fresh) l.ranges.items l.items l.fresh

@@ -1,22 +1,18 @@
-use Rattle.std.proofs.Common.{◌++◌, sym, arith}
-use Rattle.std.proofs.lemmas.Result.{IfOk-weaker}
-use Rattle.waiting_queue.specs.Ranges.{AreRanges}
-use Rattle.waiting_queue.proofs.RangeLemmas.{zip_given}
+use Rattle.std.proofs.Common.{◌++◌, refl, sym, arith}
+use Rattle.waiting_queue.proofs.RangeLemmas.{are_passed}
 use Rattle.waiting_queue.proofs.ranges.pass_ranges.Goals as goal
 
-pub run_pieces-requires-clause-accepted : goal.run_pieces-requires-clause-accepted
-run_pieces-requires-clause-accepted g c κs within = λ piece below. record {
-  criteria = c.requires.criteria;
-  there = omega (arith, below, c.len.ensures, c.deref.ensures.len);
-  each = (rw (sym c.deref.ensures.value) at c.in_ok-ranges.ensures.ranges).each;
-}
+pub returns-then-are_whole : goal.returns-then-are_whole
+returns-then-are_whole g c =
+    are_passed g.C.StoredCost.components (g.K.Look.IsOpen c.args.look.now) (c.args.items.now ++ c.args.fresh.now) c.deref.result.now c.deref_mut.result.now
+    c.fill_each.new.parts c.have_parts.new.parts.items _ c.have_parts.new.parts.len (rw (sym c.deref.ensures.value) at c.in_ok-ranges.ensures)
+    (omega (arith, c.deref_mut.ensures.len, c.in_ok-have_parts.ensures, c.len.ensures, c.deref.ensures.len)) c.fill_each.ensures
+    (omega (arith, c.fill_each.ensures.count, c.deref_mut.ensures.len)) refl
+    (rw c.deref-2.ensures.value at c.are_whole.ensures.0 c.if-are_whole.true)
 
-pub returns : goal.returns
-returns g c =
-    let ranges = c.deref.result.now in
-    let are : AreRanges g.C.StoredCost.components (c.args.items.now ++ c.args.fresh.now) ranges = rw c.deref.ensures.value c.in_ok-ranges.ensures.ranges in
-    IfOk-weaker c.run_pieces.result _ _ (λ parts given. record {
-      ranges = ranges;
-      are = are;
-      passed = zip_given g.C.StoredCost.components (g.K.Look.IsOpen c.args.look.now) ranges parts.items (omega (arith, given.count, c.len.ensures, c.deref.ensures.len)) given.each;
-    }) c.run_pieces.ensures
+pub fill_each-requires-after_bounds : goal.fill_each-requires-after_bounds
+fill_each-requires-after_bounds g c κs within = λ place below. record {
+  criteria = c.requires.criteria;
+  there = omega (arith, below, c.deref_mut.ensures.len, c.in_ok-have_parts.ensures, c.len.ensures, c.deref.ensures.len);
+  each = (rw (sym c.deref.ensures.value) at c.in_ok-ranges.ensures).each;
+}

@@ -1,6 +1,5 @@
-use Rattle.std.proofs.Common.{sym, subst, ◌∙◌}
+use Rattle.std.proofs.Common.{sym, ◌∙◌}
 use Rattle.std.proofs.lemmas.Bool.{false≢true}
-use Rattle.waiting_queue.specs.Shadows.{IsBelowSome}
 use Rattle.waiting_queue.proofs.ShadowLemmas.{below_some_near, without_none}
 use Rattle.waiting_queue.proofs.shadow.uncover.Goals as goal
 

@@ -8,9 +8,8 @@ loop-size-preserved g c =
     left_halved f c.args.costs.now c.requires.stairs (first (f c.args.cost.now)) c.loop-size.end c.loop-size.size c.index-costs-end.result c.less_bit.result
     c.loop-size.invariant c.loop-size-test.true c.index-costs-end.is (rw (c.part-first.ensures.value, c.part.ensures.value) at c.less_bit.ensures)
 
-pub returns : goal.returns
-returns g c =
-    let f = g.C.StoredCost.components in record {
-      cut = left_decides f c.args.costs.now c.requires.stairs (first (f c.args.cost.now)) c.loop-size.end c.loop-size.size c.index-costs-end-2.result c.less_bit-2.result
-          c.loop-size.invariant c.loop-size-test.false c.index-costs-end-2.is (rw (c.part-first.ensures.value, c.part-2.ensures.value) at c.less_bit-2.ensures);
-    }
+pub returns-clause-cut : goal.returns-clause-cut
+returns-clause-cut g c =
+    let f = g.C.StoredCost.components in
+    left_decides f c.args.costs.now c.requires.stairs (first (f c.args.cost.now)) c.loop-size.end c.loop-size.size c.index-costs-end-2.result c.less_bit-2.result
+    c.loop-size.invariant c.loop-size-test.false c.index-costs-end-2.is (rw (c.part-first.ensures.value, c.part-2.ensures.value) at c.less_bit-2.ensures)

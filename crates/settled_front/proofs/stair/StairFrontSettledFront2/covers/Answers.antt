@@ -9,5 +9,5 @@ returns-else-is_up_to g c =
     let list = c.self.inside.costs.items in
     rw (← c.self.view_is) (
       λ yes. absurd (false≢true (sym c.if-is_up_to.false ∙ yes)),
-      λ h. c.is_up_to.ensures.1 (covered_is_up_to f list c.self.invariant.0 c.in-Some.first (sym c.in-Some.is ∙ c.self.invariant.1) (f c.args.cost.now) h),
+      λ h. c.is_up_to.ensures.test.1 (covered_is_up_to f list c.self.invariant.0 c.in-Some.first (sym c.in-Some.is ∙ c.self.invariant.1.0) (f c.args.cost.now) h),
     )

@@ -1,4 +1,4 @@
-use Rattle.std.proofs.Common.{◌≡◌, ◌∷◌, map, subst, sym, ap, ◌∙◌}
+use Rattle.std.proofs.Common.{◌≡◌, ◌∷◌, ◌-◌, length, map, subst, sym, ap, ◌∙◌}
 use Rattle.std.specs.Prelude.{IsPermutation}
 use Rattle.std.specs.List.{insert, slice_get}
 use Rattle.std.proofs.lemmas.List.Sorted.{IsPermutation-insert}
@@ -17,7 +17,10 @@ invariant_of-self-2 g c =
     ap (map f) c.in_ok-insert.ensures.items ∙ map-insert f list place c.args.cost.now in (
       subst IsStaircase (sym same) (stairs_grow c.self.invariant.0 cost c.up_to-place.ensures.long place
           (rw c.deref.ensures.value at c.up_to-place.ensures.cut) (rw (← c.self.view_is) at c.requires.uncovered) (rw (← c.self.view_is) at c.requires.spares)),
-      c.copied-self-inside.ensures ∙ c.first.ensures.value ∙ ap (λ items. slice_get items 0) c.deref-2.ensures.value,
+      (
+        c.copied-self-inside.ensures ∙ c.first.ensures.value ∙ ap (λ items. slice_get items 0) c.deref-2.ensures.value,
+        c.copied-self-inside-2.ensures ∙ c.last.ensures.value ∙ ap (λ items. slice_get items (length items - 1)) c.deref-3.ensures.value,
+      ),
     )
 
 pub returns-clause-pushed : goal.returns-clause-pushed

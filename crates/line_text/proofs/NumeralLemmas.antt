@@ -1,8 +1,10 @@
 -- A text that is read digit by digit.
-use Rattle.std.proofs.Common.{◌≡◌, ℕ, ◌+◌, ◌-◌, ◌*◌, ◌<◌, ◌≤◌, true, false, cond, List, Option, Some, None, length, take, drop, get_or, refl, sym, ap, ◌∙◌, arith, ⊎_elim}
+use Rattle.std.proofs.Common.{◌≡◌, ℕ, ◌+◌, ◌-◌, ◌*◌, ◌^◌, ◌<◌, ◌≤◌, true, false, cond, List, Option, Some, None, length, take, drop, get_or, refl, sym, ap, ◌∙◌, arith, ⊎_elim}
 use Rattle.std.specs.Char.{is_ascii_digit, digit_value}
 use Rattle.std.specs.List.{AllPass, prefix_len}
 use Rattle.std.specs.Str.Parse.{digits_value}
+use Rattle.std.proofs.Math.Nat.{pow-le-pow_right}
+use Rattle.std.proofs.lemmas.Grind.{pow_more}
 use Rattle.std.proofs.lemmas.Bool.{and_from, and_right, both_ways, cases_lt, false_from_ne_true, lt-ltb, not_from_false, not_from_true}
 use Rattle.std.proofs.lemmas.Bool.Decides.{nat_tests}
 use Rattle.std.proofs.lemmas.Int.Digits.{digits_value_more}
@@ -48,6 +50,27 @@ module _ (text : List ℕ) (greatest i : ℕ) (within : i < length text) (digit 
 
   pub stays_above : ReadsFront text greatest i None → ReadsFront text greatest (i + 1) None
   stays_above front = record { digits = digits-more front.digits; number = more_above greatest _ _ _ front.number value_of-more }
+
+-- The first `i` bytes are digits, and this is their number, which isn't rounded.
+pub record ReadsFew (text : List ℕ) (i value : ℕ) : Type 0 where
+  pub digits : i ≤ prefix_len is_ascii_digit text
+  pub number : value ≡ value_of (take i text)
+  pub below : value < 10 ^ i
+
+-- fewer than 18 digits leave room for one more
+pub few_fit : (i value : ℕ) → value < 10 ^ i → i < 18 → value * 10 + 9 < 2 ^ 64
+few_fit i value below few =
+    let most : 10 ^ i ≤ 10 ^ 17 = pow-le-pow_right {n = 10} (omega arith) {i = i} {j = 17} (omega arith) in
+    omega arith
+
+-- one digit more is read
+pub few_more : (text : List ℕ) (i value digit : ℕ) → i < length text → is_ascii_digit (get_or text i 0) ≡ true
+    → digit ≡ get_or text i 0 - 48 → digit ≤ 9 → ReadsFew text i value → ReadsFew text (i + 1) (value * 10 + digit)
+few_more text i value digit within is e small front = record {
+  digits = digits-more text 0 i within is front.digits;
+  number = rw e (ap (λ n. n * 10 + (get_or text i 0 - 48)) front.number ∙ sym (value_of-more text 0 i within is));
+  below = let more : 10 ^ (i + 1) ≡ 10 ^ i * 10 = pow_more 10 i in omega (arith, front.below);
+}
 
 -- where the digits end
 pub ends_digits : (text : List ℕ) (i : ℕ) → i ≤ prefix_len is_ascii_digit text → is_ascii_digit (get_or text i 0) ≡ false

@@ -240,6 +240,7 @@ impl Lines {
     }
 
     /// Takes the first line that is held, if its LF is held. It isn't among the first `searched` bytes.
+    #[inline(always)]
     fn take_line(&mut self, searched: usize) -> Result<bool, LineFault>
         requires { searched ≤ first_lf self.old.held }
         ensures { TakesHeld self.old self.new result }
@@ -505,6 +506,7 @@ fn is_end(answer: &Result<bool, Failed>) -> bool
 }
 
 /// Where the first LF stands. It isn't among the first `searched` bytes.
+#[inline(always)]
 #[tactic(auto, using(crate::proofs::LineLemmas::lf_places))]
 fn find_lf(bytes: &[u8], searched: usize) -> Option<usize>
     requires { searched ≤ first_lf bytes.now }

@@ -1,5 +1,5 @@
-ghost use Rattle.std.specs.Prelude.{◌≡◌, ◌≤◌, ◌+◌, ◌*◌, [], length, take, decimal as decimal_text};
-ghost use Rattle.std.specs.Prelude.{MatchOption};
+ghost use Rattle.std.specs.Prelude.{◌≡◌, ◌<◌, ◌≤◌, ◌+◌, ◌-◌, ◌*◌, [], false, length, take, true, decimal as decimal_text};
+ghost use Rattle.std.specs.Prelude.{MatchOption, min};
 ghost use Rattle.std.specs.Char.{is_ascii_digit};
 ghost use Rattle.std.specs.List.{prefix_len};
 ghost use Rattle.route_io.specs.Sinks.{Sends};
@@ -10,6 +10,9 @@ ghost use Rattle.line_text.specs.Numerals.{value_of};
 use crate::fields::{begins_blank, behind_blanks, filled_len};
 use itoa::Buffer;
 use route_io::{Sink, WriteFault, put_all};
+
+/// As many digits write a number of at most 63 bits.
+const FEW: usize = 18;
 
 /// How a text reads as a number.
 #[derive(Clone, Copy, Debug, PartialEq, Eq)]
@@ -35,6 +38,7 @@ pub fn decimal(text: &[u8], greatest: u64) -> Numeral
 }
 
 /// What the first field of a text reads as, like `decimal`, and what stands behind the field.
+#[inline(always)]
 pub fn next_number(text: &[u8], greatest: u64) -> Option<(Numeral, &[u8])>
     ensures { MatchOption result (fields_of text.now ≡ [])
         (λ found. FirstNumeral text.now greatest found.0 found.1.now) }
@@ -52,7 +56,49 @@ pub fn next_number(text: &[u8], greatest: u64) -> Option<(Numeral, &[u8])>
 }
 
 /// How many digits a text begins with, and the number that they write, if it is at most `greatest`.
+#[inline(always)]
 fn digits(text: &[u8], greatest: u64) -> (usize, Option<u64>)
+    ensures count { result.0 ≡ prefix_len is_ascii_digit text.now }
+    ensures within { result.0 ≤ length text.now }
+    ensures number { result.1 ≡ at_most greatest (value_of (take result.0 text.now)) }
+{
+    let (size, value) = few_digits(text);
+    if size < FEW {
+        return (size, if value <= greatest { Some(value) } else { None });
+    }
+    all_digits(text, greatest)
+}
+
+/// How many digits a text begins with, but for those behind `FEW`, and the number that they write.
+#[inline(always)]
+fn few_digits(text: &[u8]) -> (usize, u64)
+    ensures count { result.0 ≡ min FEW (prefix_len is_ascii_digit text.now) }
+    ensures within { result.0 ≤ length text.now }
+    ensures number { result.1 ≡ value_of (take result.0 text.now) }
+{
+    let mut value = 0;
+    for size in 0..text.len().min(FEW) {
+        let digit = digit_of(text[size]);
+        if digit > 9 {
+            return (size, value);
+        }
+        value = value * 10 + digit;
+    }
+    (text.len().min(FEW), value)
+}
+
+/// The number that an ASCII digit writes. Of any other byte it is more than 9.
+#[inline(always)]
+fn digit_of(byte: u8) -> u64
+    ensures digit { result ≤ 9 → (is_ascii_digit byte ≡ true) × (result ≡ byte - 48) }
+    ensures other { 9 < result → is_ascii_digit byte ≡ false }
+{
+    u64::from(byte).wrapping_sub(u64::from(b'0'))
+}
+
+/// The same as `digits`, of any number of digits.
+#[inline(never)]
+fn all_digits(text: &[u8], greatest: u64) -> (usize, Option<u64>)
     ensures count { result.0 ≡ prefix_len is_ascii_digit text.now }
     ensures within { result.0 ≤ length text.now }
     ensures number { result.1 ≡ at_most greatest (value_of (take result.0 text.now)) }

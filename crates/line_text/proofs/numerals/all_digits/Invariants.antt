@@ -1,6 +1,6 @@
 use Rattle.std.proofs.Common.{◌≡◌}
 use Rattle.line_text.proofs.NumeralLemmas.{ReadsFront}
-use Rattle.line_text.proofs.numerals.digits.Given as goal
+use Rattle.line_text.proofs.numerals.all_digits.Given as goal
 
 abbrev pub invariant-loop-byte : goal.invariant-loop-byte
 invariant-loop-byte l = record {

@@ -2,8 +2,8 @@ use Rattle.std.proofs.Common.{sym, ◌∙◌, arith}
 use Rattle.std.specs.Char.{is_ascii_digit}
 use Rattle.std.proofs.lemmas.List.Sums.{prefix_len-le-length}
 use Rattle.line_text.proofs.NumeralLemmas.{ends_digits, reads_more, stays_above}
-use Rattle.line_text.proofs.numerals.digits.Goals as goal
-use Rattle.line_text.proofs.numerals.digits.Goals.{in-Some, in-None}
+use Rattle.line_text.proofs.numerals.all_digits.Goals as goal
+use Rattle.line_text.proofs.numerals.all_digits.Goals.{in-Some, in-None}
 
 pub loop-byte-preserved : goal.loop-byte-preserved
 loop-byte-preserved c = record {

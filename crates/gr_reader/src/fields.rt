@@ -36,6 +36,7 @@ pub fn number(field: &[u8]) -> Option<u64>
 }
 
 /// The number that the first field of a text writes, and what stands behind the field.
+#[inline(always)]
 pub fn front_number(text: &[u8]) -> Option<(u64, &[u8])>
     ensures { MatchOption result (front_number (fields_of text.now) ≡ None)
         (λ found. FirstCapped (fields_of text.now) found.0 (fields_of found.1.now)) }
@@ -48,6 +49,7 @@ pub fn front_number(text: &[u8]) -> Option<(u64, &[u8])>
 }
 
 /// The number that a text's only field writes.
+#[inline(always)]
 pub fn only_number(text: &[u8]) -> Option<u64>
     ensures { result ≡ option_map capped_number (only_number (fields_of text.now)) }
 {

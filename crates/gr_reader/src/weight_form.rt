@@ -24,12 +24,10 @@ pub(crate) fn form_of(line: &[u8]) -> WeightForm
 fn form_behind(word: &[u8], rest: &[u8]) -> Option<WeightForm>
     ensures { or_malformed result ≡ capped (weights_form (word.now ∷ fields_of rest.now)) }
 {
-    if word == b"a".as_slice() {
-        arc_behind(rest)
-    } else if word == b"p".as_slice() {
-        problem_behind(rest)
-    } else {
-        None
+    match word {
+        [b'a'] => arc_behind(rest),
+        [b'p'] => problem_behind(rest),
+        _ => None,
     }
 }
 

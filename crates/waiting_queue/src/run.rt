@@ -116,6 +116,7 @@ pub(crate) fn widen_run<const D: usize, C: StoredCost<D>, W: StoredCost<D>>(
 }
 
 /// The next place, from here on, of a component that is at most this one: most are gone by in steps.
+#[inline(always)]
 pub(crate) fn seek<P: Part>(seconds: &[P], from: usize, low: P) -> usize
     requires { from ≤ length seconds.now }
     ensures { SkipsTo P.value (P.value low) seconds.now from result }

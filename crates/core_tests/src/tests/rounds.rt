@@ -1,10 +1,10 @@
-ghost use Rattle.std.specs.Prelude.{◌≡◌, ◌<◌, [], IfOk};
+ghost use Rattle.std.specs.Prelude.{◌≡◌, ◌+◌, ◌<◌, [], length, IfOk};
 ghost use Rattle.bulk_rounds.specs.Begins.{TakesNext};
 ghost use Rattle.bulk_rounds.specs.Cores.{IsNewSearch};
 ghost use Rattle.bulk_search.specs.Rounds.{EndsOver, IsOpen};
 ghost use Rattle.road_network.specs.Queries.{IsQuery, limit_of};
 
-use super::networks::join;
+use super::networks::{ArcTable, SIX_ARCS, TWO_WALKS, join};
 use arc_graph::Network;
 use bulk_core::Core;
 use bulk_rounds::Begun;
@@ -33,8 +33,19 @@ struct Round {
     gives: usize,
 }
 
-/// The last node is reached twice at one cost, and is taken once.
-const ROUNDS: [Round; 3] = [
+/// A search from the first node to the last: over which network, by how many workers and within which budget; its rounds, and
+/// how one more begins.
+#[derive(Drop)]
+struct Example<'e> {
+    network: ArcTable,
+    workers: u32,
+    budget: u32,
+    rounds: &'e [Round],
+    then: Begun,
+}
+
+/// Over the two walks the last node is reached twice at one cost, and is taken once.
+const TWO_WALKS_ROUNDS: [Round; 3] = [
     Round {
         takes: &[(1, [0, 0])],
         gives: 2,
@@ -49,15 +60,33 @@ const ROUNDS: [Round; 3] = [
     },
 ];
 
+/// Over the six arcs the last node is reached at three costs, and is taken at the two that none of them dominates. The third node
+/// is reached again, at a cost that the one it was taken at dominates, and is taken once.
+const SIX_ARCS_ROUNDS: [Round; 3] = [
+    Round {
+        takes: &[(1, [0, 0])],
+        gives: 3,
+    },
+    Round {
+        takes: &[(2, [1, 4]), (3, [2, 1])],
+        gives: 3,
+    },
+    Round {
+        takes: &[(4, [2, 8]), (4, [4, 2])],
+        gives: 0,
+    },
+];
+
 /// From the first node to the last, without a limit.
 fn query_of(rt: &impl Abort, network: &Network<'_>, budget: u32) -> Query
     ensures query { IsQuery network.now result }
     ensures budget { result.budget ≡ budget }
 {
-    assert!(rt; network.has_node(1) && network.has_node(4) && budget <= MAX_BUDGET);
+    let last = network.nodes();
+    assert!(rt; network.has_node(1) && network.has_node(last) && budget <= MAX_BUDGET);
     Query {
         from: 1,
-        to: 4,
+        to: last,
         limit: None,
         budget,
     }
@@ -88,17 +117,18 @@ fn are(taken: &[Item<NarrowCost<2>>], wanted: &[(u32, [u64; 2])]) -> bool {
 
 /// Begins a round, and compares what it takes.
 fn begin<R: Threads + Sync + Abort, L: Ledger>(
-    rt: &R,
+    workers: &Workers<'_, R, OpenGate>,
     alloc: Global,
     search: &mut Search,
     steps: &mut Steps<L>,
     takes: &[(u32, [u64; 2])],
 ) -> Result<(), OutOfMemory>
     requires { search.old.taken ≡ [] }
-    ensures { IfOk result (λ _. TakesNext search.old search.new) }
+    ensures takes { IfOk result (λ _. TakesNext search.old search.new) }
+    ensures step { IfOk result (λ _. steps.new ≡ steps.old + 1) }
 {
-    let workers = Workers::new(rt, 1, &OpenGate);
-    let Begun::Taken = search.begin(&workers, alloc, steps)? else {
+    let rt = workers.rt();
+    let Begun::Taken = search.begin(workers, alloc, steps)? else {
         panic!(rt; "a round begins");
     };
     assert!(rt; are(search.taken(), takes), "what is taken");
@@ -107,7 +137,7 @@ fn begin<R: Threads + Sync + Abort, L: Ledger>(
 
 /// Ends a round with what it gives along the arcs, so many candidates.
 fn finish<R: Threads + Sync + Abort>(
-    rt: &R,
+    workers: &Workers<'_, R, OpenGate>,
     alloc: Global,
     network: &Network<'_>,
     search: &mut Search,
@@ -118,65 +148,121 @@ fn finish<R: Threads + Sync + Abort>(
     ensures { IfOk result (λ _. EndsOver network.now search.old search.new) }
 {
     prove!(network.nodes() >= 1);
-    let workers = Workers::new(rt, 1, &OpenGate);
+    let rt = workers.rt();
     let taken = search.taken();
     let mut candidates = Vec::new(alloc);
-    relax(&workers, alloc, network, taken, &mut candidates)?;
+    relax(workers, alloc, network, taken, &mut candidates)?;
     assert!(rt; candidates.len() == gives, "what is given");
     search.finish(&candidates)?;
     Ok(())
 }
 
-/// Makes these rounds, and tells how one more begins.
+/// Makes these rounds, and tells how one more begins. Where it finds nothing open, just these rounds were counted.
 fn begun_after<R: Threads + Sync + Abort, L: Ledger>(
-    rt: &R,
+    workers: &Workers<'_, R, OpenGate>,
     alloc: Global,
     network: &Network<'_>,
     query: &Query,
     rounds: &[Round],
-    blank: Blank,
+    steps: &mut Steps<L>,
 ) -> Result<Begun, Fail>
     requires query { IsQuery network.now query.now }
     requires criteria { network.now.criteria ≡ 2 }
+    ensures rounds { IfOk result (λ begun. begun ≡ Begun.Done
+        → steps.new ≡ steps.old + length rounds.now) }
+{
+    prove!(network.nodes() >= 1);
+    let mut search = start(alloc, network, query)?;
+    for round in rounds {
+        begin(workers, alloc, &mut search, steps, round.takes)?;
+        finish(workers, alloc, network, &mut search, round.gives)?;
+    }
+    Ok(search.begin(workers, alloc, steps)?)
+}
+
+/// Makes the rounds of an example, and compares how one more begins.
+fn run<R: Threads + Sync + Abort>(
+    rt: &R,
+    alloc: Global,
+    example: &Example<'_>,
+) -> Result<(), Fail> {
+    run_counted::<R, Brand>(rt, alloc, example, Blank::new(1))
+}
+
+/// The same over a counter of its own.
+fn run_counted<R: Threads + Sync + Abort, L: Ledger>(
+    rt: &R,
+    alloc: Global,
+    example: &Example<'_>,
+    blank: Blank,
+) -> Result<(), Fail>
     requires name { blank.name ≡ L.name }
     requires parts { blank.parts ≡ L.parts }
     requires some_parts { 0 < L.parts }
 {
-    prove!(network.nodes() >= 1);
-    let mut search = start(alloc, network, query)?;
-    let mut steps = Steps::<L>::new(blank);
-    for round in rounds {
-        begin(rt, alloc, &mut search, &mut steps, round.takes)?;
-        finish(rt, alloc, network, &mut search, round.gives)?;
-    }
-    let workers = Workers::new(rt, 1, &OpenGate);
-    Ok(search.begin(&workers, alloc, &mut steps)?)
-}
-
-/// The same over the network and within this budget.
-fn begun_within<R: Threads + Sync + Abort>(
-    rt: &R,
-    alloc: Global,
-    budget: u32,
-    rounds: &[Round],
-) -> Result<Begun, Fail> {
-    let (graph, weights) = join(rt, alloc)?;
+    let (graph, weights) = join(rt, alloc, &example.network)?;
     let network = Network::new(&graph, &weights);
     assert!(rt; network.criteria() == 2, "two criteria");
-    let query = query_of(rt, &network, budget);
-    begun_after::<R, Brand>(rt, alloc, &network, &query, rounds, Blank::new(1))
+    let query = query_of(rt, &network, example.budget);
+    assert!(rt;
+        1 <= example.workers && example.workers <= 64,
+        "some workers"
+    );
+    let workers = Workers::new(rt, example.workers, &OpenGate);
+    let mut steps = Steps::<L>::new(blank);
+    let begun = begun_after(
+        &workers,
+        alloc,
+        &network,
+        &query,
+        example.rounds,
+        &mut steps,
+    )?;
+    assert!(rt; begun == example.then, "how one more round begins");
+    Ok(())
 }
 
 #[test]
 fn takes_equal_costs_of_a_round_together(rt: HostRuntime) -> Result<(), Fail> {
-    let begun = begun_within(&rt, rt.alloc(), 1000, &ROUNDS)?;
-    assert!(rt; begun == Begun::Done, "nothing is open any more");
-    Ok(())
+    run(
+        &rt,
+        rt.alloc(),
+        &Example {
+            network: TWO_WALKS,
+            workers: 1,
+            budget: 1000,
+            rounds: &TWO_WALKS_ROUNDS,
+            then: Begun::Done,
+        },
+    )
 }
 
 #[test]
 fn tells_the_budget_that_a_round_would_pass(rt: HostRuntime) -> Result<(), Fail> {
-    let begun = begun_within(&rt, rt.alloc(), 3, &ROUNDS[..2])?;
-    assert!(rt; begun == Begun::Budget, "a fourth label is too many");
-    Ok(())
+    run(
+        &rt,
+        rt.alloc(),
+        &Example {
+            network: TWO_WALKS,
+            workers: 1,
+            budget: 3,
+            rounds: &TWO_WALKS_ROUNDS[..2],
+            then: Begun::Budget,
+        },
+    )
+}
+
+#[test]
+fn takes_the_six_arcs_in_three_rounds(rt: HostRuntime) -> Result<(), Fail> {
+    run(
+        &rt,
+        rt.alloc(),
+        &Example {
+            network: SIX_ARCS,
+            workers: 3,
+            budget: 1000,
+            rounds: &SIX_ARCS_ROUNDS,
+            then: Begun::Done,
+        },
+    )
 }

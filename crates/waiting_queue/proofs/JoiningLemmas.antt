@@ -177,10 +177,11 @@ module _ {C : Type 0} (components : C → List ℕ) where
       }
 
 -- what stays in one part more
-pub rest_more : {C : Type 0} (parts : List (Part C)) (i : ℕ) (p : Part C) → i < length parts → p ≡ get_or parts i p → (rest more after : List (Item C))
-    → rest ≡ rest_of (take i parts) → more ≡ p.rest.items → after ≡ rest ++ more → after ≡ rest_of (take (i + 1) parts)
-rest_more {C} parts i p within at rest more after was here is =
-    is ∙ ap (λ ys. ys ++ more) was ∙ ap (λ ys. rest_of (take i parts) ++ ys) here ∙ sym (flat_more (λ (q : Part C). q.rest.items) parts i p within at)
+pub rest_more : {C : Type 0} (parts : List (Part C)) (i : ℕ) (p : Part C) → i < length parts → p ≡ get_or parts i p → (front rest more after : List (Item C))
+    → rest ≡ front ++ rest_of (take i parts) → more ≡ p.rest.items → after ≡ rest ++ more → after ≡ front ++ rest_of (take (i + 1) parts)
+rest_more {C} parts i p within at front rest more after was here is =
+    is ∙ ap (λ ys. ys ++ more) was ∙ append_assoc front (rest_of (take i parts)) more ∙ ap (λ ys. front ++ (rest_of (take i parts) ++ ys)) here
+    ∙ ap (λ ys. front ++ ys) (sym (flat_more (λ (q : Part C). q.rest.items) parts i p within at))
 
 -- what one part more took is joined
 pub joined_more : {C : Type 0} (components : C → List ℕ) (parts : List (Part C)) (i : ℕ) (p : Part C) → i < length parts → p ≡ get_or parts i p

@@ -9,6 +9,7 @@ use crate::order::is_last;
 use crate::shadow::is_shadowed;
 use out_of_memory::OutOfMemory;
 use std::alloc::Global;
+use std::mem;
 use stored_cost::StoredCost;
 
 /// What a pass over a part of a queue has taken, what stays there, and the shadow of what was taken: all of it, where memory
@@ -34,24 +35,37 @@ impl<C> Part<C> {
     }
 }
 
-/// Lists what the parts took but for what another part's dominates, each spot once, and apart what is dominated, and what
-/// stays in the parts.
+/// Lists what the parts took but for what another part's dominates, each spot once, and apart what is dominated.
 pub(crate) fn join_parts<const D: usize, C: StoredCost<D>>(
     parts: &[Part<C>],
     taken: &mut Vec<Item<C>>,
     back: &mut Vec<Item<C>>,
-    rest: &mut Vec<Item<C>>,
 ) -> Result<(), OutOfMemory>
     requires criteria { AreCriteria D }
     requires parts { AreParts C.components parts.now }
-    ensures joined { IfOk result (λ _. AreJoined C.components parts.now taken.new.items back.new.items) }
-    ensures rest { IfOk result (λ _. rest.new.items ≡ rest_of parts.now) }
+    ensures { IfOk result (λ _. AreJoined C.components parts.now taken.new.items back.new.items) }
 {
     taken.clear();
     back.clear();
-    rest.clear();
     for (i, part) in parts.iter().enumerate() {
         join_part(&parts[..i], &part.taken, taken, back)?;
+    }
+    Ok(())
+}
+
+/// Lists what stays in the parts. The first one's list is taken over, so that only the others are copied.
+pub(crate) fn list_rests<C: Copy + Drop>(
+    parts: &mut [Part<C>],
+    rest: &mut Vec<Item<C>>,
+) -> Result<(), OutOfMemory>
+    ensures { IfOk result (λ _. rest.new.items ≡ rest_of parts.old) }
+{
+    rest.clear();
+    let Some((first, others)) = parts.split_first_mut() else {
+        return Ok(());
+    };
+    mem::swap(rest, &mut first.rest);
+    for part in others.iter() {
         rest.extend_from_slice(&part.rest)?;
     }
     Ok(())

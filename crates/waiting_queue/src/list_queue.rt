@@ -2,7 +2,7 @@ ghost use Rattle.std.specs.Prelude.{◌≡◌, ◌≤◌, [], ◌++◌, IfOk, On
 ghost use Rattle.waiting_queue.specs.Taking.{AreSorted, TakesOpenSpots};
 ghost use Rattle.waiting_queue.specs.Waiting.{AreCriteria, as_waiting, spot_in, spot_of};
 
-use crate::joining::{Part, join_parts};
+use crate::joining::{Part, join_parts, list_rests};
 use crate::order::list_sorted;
 use crate::passing::pass_anew;
 use crate::ranges::pass_ranges;
@@ -165,5 +165,6 @@ where
         return pass_anew(look, items, fresh, &mut left.shadow, taken, &mut left.items);
     }
     pass_ranges(workers, alloc, look, items, fresh, &mut left.parts)?;
-    join_parts(&left.parts, taken, &mut left.late, &mut left.items)
+    join_parts(&left.parts, taken, &mut left.late)?;
+    list_rests(&mut left.parts, &mut left.items)
 }

@@ -1,6 +1,6 @@
 use Rattle.std.proofs.Common.{take}
 use Rattle.waiting_queue.specs.Joining.{taken_of}
-use Rattle.waiting_queue.proofs.JoiningLemmas.{can_join, joined_more, rest_more}
+use Rattle.waiting_queue.proofs.JoiningLemmas.{can_join, joined_more}
 use Rattle.waiting_queue.proofs.joining.join_parts.Goals as goal
 
 pub loop-i-preserved : goal.loop-i-preserved
@@ -11,9 +11,5 @@ loop-i-preserved g c =
     let p = c.index-parts-i.result in
     let can = can_join numbers parts i p c.requires.parts c.loop-i-test.true c.index-parts-i.is in
     let joins = rw c.deref.ensures.value at c.in_ok-join_part.ensures in
-    record {
-      joined = joined_more numbers parts i p c.loop-i-test.true c.index-parts-i.is c.join_part.new.taken.items c.join_part.new.back.items
-          (joins (taken_of (take i parts)) can c.loop-i.invariant.joined);
-      rest = rest_more parts i p c.loop-i-test.true c.index-parts-i.is c.loop-i.rest.items c.deref-in-loop-i.result.now c.extend_from_slice.new.self.items
-          c.loop-i.invariant.rest c.deref-in-loop-i.ensures.value c.in_ok-extend_from_slice.ensures.items;
-    }
+    joined_more numbers parts i p c.loop-i-test.true c.index-parts-i.is c.join_part.new.taken.items c.join_part.new.back.items
+    (joins (taken_of (take i parts)) can c.loop-i.invariant)

@@ -1,15 +1,11 @@
-use Rattle.std.proofs.Common.{◌++◌, Result, Ok, Err, sym}
-use Rattle.std.specs.Prelude.{IfOk}
+use Rattle.std.proofs.Common.{◌++◌, ap, subst, sym, ◌∙◌}
 use Rattle.std.proofs.lemmas.Result.{IfOk-weaker}
+use Rattle.waiting_queue.specs.Joining.{rest_of}
+use Rattle.waiting_queue.specs.Taking.{AreSorted, TakesOpenSpots}
 use Rattle.waiting_queue.specs.Waiting.{spot_in}
 use Rattle.waiting_queue.proofs.RangeLemmas.{are_parts, joined_take, rest_sorted}
 use Rattle.waiting_queue.proofs.TakingLemmas.{spots_alone}
 use Rattle.waiting_queue.proofs.list_queue.pass_lists.Goals as goal
-
--- where it went well, both hold
-both_ok : {T E : Type 0} (r : Result T E) (P Q R : Type 0) → (P → Q → R) → IfOk r (λ _. P) → IfOk r (λ _. Q) → IfOk r (λ _. R)
-both_ok (Ok x) P Q R f p q = f p q
-both_ok (Err e) P Q R f p q = tt
 
 pub returns-then-count-eq1-clause-taken : goal.returns-then-count-eq1-clause-taken
 returns-then-count-eq1-clause-taken g c = IfOk-weaker c.pass_anew.result _ _ (λ _ takes.
@@ -23,13 +19,16 @@ join_parts-requires-clause-parts g c = rw c.deref.ensures.value
 pub returns-clause-taken : goal.returns-clause-taken
 returns-clause-taken g c =
     let passed = rw (sym c.deref.ensures.value) at c.in_ok-pass_ranges.ensures in
-    both_ok c.join_parts.result _ _ _ (λ joined rest. rw rest
+    IfOk-weaker c.list_rests.result _ _ (λ _ rest.
+    subst (λ xs. TakesOpenSpots (spot_in g.C.StoredCost.components) (g.K.Look.IsOpen c.args.look.now) (c.args.items.now ++ c.args.fresh.now)
+    c.join_parts.new.taken.items (xs ++ c.join_parts.new.back.items)) (sym (rest ∙ ap rest_of (c.deref_mut.ensures.value ∙ sym c.deref.ensures.value)))
     (joined_take g.C.StoredCost.components (g.K.Look.IsOpen c.args.look.now) (c.args.items.now ++ c.args.fresh.now) c.deref.result.now
-    c.join_parts.new.taken.items c.join_parts.new.back.items passed joined)) c.join_parts.ensures.joined c.join_parts.ensures.rest
+    c.join_parts.new.taken.items c.join_parts.new.back.items passed c.in_ok-join_parts.ensures)) c.list_rests.ensures
 
 pub returns-clause-sorted : goal.returns-clause-sorted
 returns-clause-sorted g c =
     let passed = rw (sym c.deref.ensures.value) at c.in_ok-pass_ranges.ensures in
-    IfOk-weaker c.join_parts.result _ _ (λ _ rest. rw rest
+    IfOk-weaker c.list_rests.result _ _ (λ _ rest.
+    subst (AreSorted (spot_in g.C.StoredCost.components)) (sym (rest ∙ ap rest_of (c.deref_mut.ensures.value ∙ sym c.deref.ensures.value)))
     (rest_sorted g.C.StoredCost.components (g.K.Look.IsOpen c.args.look.now) (c.args.items.now ++ c.args.fresh.now) c.deref.result.now passed))
-    c.join_parts.ensures.rest
+    c.list_rests.ensures

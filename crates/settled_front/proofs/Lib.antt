@@ -5,3 +5,4 @@ pub mod Covers
 pub mod Cornering
 pub mod Listing
 pub mod LaneBits
+pub mod Orders

@@ -26,14 +26,14 @@ pub record IsBlock (d bound : ℕ) (rows : List (List ℕ)) : Type 0 where
   pub full : All (λ row. length row ≡ block_size) rows
   pub fits : All (All (λ x. x < bound)) rows
 
--- the highest bit of the number is set
-abbrev pub IsMarked : ℕ → ℕ → Type 0
-IsMarked bit n = bit_at n bit ≡ 1
+-- the highest of the 32 bits of a number is set
+abbrev pub IsMarked : ℕ → Type 0
+IsMarked n = bit_at n 31 ≡ 1
 
 -- marked is what was, and where the component is less than the row's
-abbrev pub MarksRow : ℕ → List ℕ → ℕ → List ℕ → List ℕ → Type 0
-MarksRow bit before component row after = (lane : ℕ) → lane < block_size
-    → IsMarked bit (slice_index_or after lane 0) ↔ (IsMarked bit (slice_index_or before lane 0) ⊎ (component < slice_index_or row lane 0))
+abbrev pub MarksRow : List ℕ → ℕ → List ℕ → List ℕ → Type 0
+MarksRow before component row after = (lane : ℕ) → lane < block_size
+    → IsMarked (slice_index_or after lane 0) ↔ (IsMarked (slice_index_or before lane 0) ⊎ (component < slice_index_or row lane 0))
 
 -- of the first n rows one has a greater component in this place than the cost
 pub record Exceeds (rows : List (List ℕ)) (cost : List ℕ) (n lane : ℕ) : Type 0 where
@@ -41,20 +41,9 @@ pub record Exceeds (rows : List (List ℕ)) (cost : List ℕ) (n lane : ℕ) : T
   pub before : row < n
   pub less : slice_index_or cost row 0 < in_row rows row lane
 
--- marked are the lanes whose cost isn't at most this one
-abbrev pub MarksAbove : ℕ → List (List ℕ) → List ℕ → List ℕ → Type 0
-MarksAbove bit block cost marks = (lane : ℕ) → lane < block_size
-    → AtMost (slice_index_or block lane []) cost ↔ (¬ IsMarked bit (slice_index_or marks lane 0))
-
 -- the lane is one of these: its bit is set
 abbrev pub HasLane : ℕ → ℕ → Type 0
 HasLane lanes lane = bit_at lanes lane ≡ 1
-
--- there is one of these lanes
-pub record HasSome (lanes : ℕ) : Type 0 where
-  pub lane : ℕ
-  pub within : lane < block_size
-  pub has : HasLane lanes lane
 
 -- there is one of these lanes before the count
 pub record HasOneBefore (lanes count : ℕ) : Type 0 where
@@ -68,12 +57,16 @@ pub record AreFirst (count : ℕ) (block : List (List ℕ)) : Type 0 where
   pub full : length block ≡ block_size
 
 -- these lanes are those without a mark, and no others
-abbrev pub AreUnmarked : ℕ → List ℕ → ℕ → Type 0
-AreUnmarked bit marks lanes = (lane : ℕ) → lane < block_size → HasLane lanes lane ↔ (¬ IsMarked bit (slice_index_or marks lane 0))
+abbrev pub AreUnmarked : List ℕ → ℕ → Type 0
+AreUnmarked marks lanes = (lane : ℕ) → lane < block_size → HasLane lanes lane ↔ (¬ IsMarked (slice_index_or marks lane 0))
 
 -- these lanes are those whose cost is at most this one, and no others
 abbrev pub AreAtMost : List (List ℕ) → List ℕ → ℕ → Type 0
 AreAtMost block cost lanes = (lane : ℕ) → lane < block_size → HasLane lanes lane ↔ AtMost (slice_index_or block lane []) cost
+
+-- one of the lanes is added, and the others stay
+abbrev pub AddsLane : ℕ → ℕ → ℕ → Type 0
+AddsLane before lane after = (other : ℕ) → other < block_size → HasLane after other ↔ (HasLane before other ⊎ (other ≡ lane))
 
 -- one of the lanes is taken out, and the others stay
 pub record TakesLane (before lane after : ℕ) : Type 0 where

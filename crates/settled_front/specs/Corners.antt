@@ -1,5 +1,5 @@
 -- Blocks of costs with their corners, of which the front of a node under 3 or 4 criteria is made.
-use Rattle.std.specs.Prelude.{◌≡◌, ◌≢◌, ℕ, ◌+◌, ◌/◌, ◌%◌, ◌<◌, ◌≤◌, ◌++◌, List, [], length, slice_index_or, All, AllPairs}
+use Rattle.std.specs.Prelude.{◌≡◌, ◌≢◌, ℕ, ◌+◌, ◌*◌, ◌/◌, ◌%◌, ◌<◌, ◌≤◌, ◌++◌, List, [], length, slice_index_or, All, AllPairs}
 use Rattle.std.specs.List.{flat_map}
 use Rattle.cost_vector.specs.Costs.{AtMost, min_criteria}
 use Rattle.settled_front.specs.Blocks.{HasLane, block_size}
@@ -19,7 +19,8 @@ corner_at groups k = slice_index_or (slice_index_or groups (k / block_size) []) 
 
 -- each block has its corner in one of the groups, which is at most each of the block's costs
 pub record HaveCorners (blocks groups : List (List (List ℕ))) : Type 0 where
-  pub as_many : length groups ≡ (length blocks + 15) / block_size
+  pub enough : length blocks ≤ length groups * block_size
+  pub few : length groups * block_size ≤ length blocks + block_size
   pub full : All (λ group. length group ≡ block_size) groups
   pub at_most : (k : ℕ) → k < length blocks → All (AtMost (corner_at groups k)) (slice_index_or blocks k [])
 
@@ -33,13 +34,6 @@ pub record AreCornered (d : ℕ) (blocks groups : List (List (List ℕ))) : Type
 pub record HasRoom (total blocks groups : ℕ) : Type 0 where
   pub for_blocks : total ≤ blocks
   pub for_corners : (total + 15) / block_size ≤ groups
-
--- some cost of the blocks from start on and before the end is at most c
-pub record CoversBetween (blocks : List (List (List ℕ))) (start end : ℕ) (c : List ℕ) : Type 0 where
-  pub block : ℕ
-  pub from : start ≤ block
-  pub before : block < end
-  pub covered : IsCovered (slice_index_or blocks block []) c
 
 -- some cost of the blocks that stand in these lanes is at most c
 pub record CoversAmong (blocks : List (List (List ℕ))) (lanes : ℕ) (c : List ℕ) : Type 0 where

@@ -1,5 +1,5 @@
 -- How the front of a node under 2 criteria is laid out.
-use Rattle.std.specs.Prelude.{◌≡◌, ℕ, ◌<◌, ◌≤◌, List, length, slice_index, take, drop, All, AllPairs}
+use Rattle.std.specs.Prelude.{◌≡◌, ℕ, ◌+◌, ◌<◌, ◌≤◌, List, [], length, slice_index, slice_index_or, All, AllPairs}
 
 -- the two components of a cost
 abbrev pub first : List ℕ → ℕ
@@ -13,8 +13,14 @@ pub record IsStaircase (costs : List (List ℕ)) : Type 0 where
   pub components : All (λ c. length c ≡ 2) costs
   pub descends : AllPairs (λ a b. (first a < first b) × (second b < second a)) costs
 
+-- the costs from the end on have a first component above t, and those before it one of at most t, but for the last ones before
+-- it, the rest, of which nothing is said
+pub record IsCut (costs : List (List ℕ)) (t end rest : ℕ) : Type 0 where
+  pub left : rest ≤ end
+  pub within : end ≤ length costs
+  pub before : (k : ℕ) → k + rest < end → first (slice_index_or costs k []) ≤ t
+  pub after : (k : ℕ) → end ≤ k → k < length costs → t < first (slice_index_or costs k [])
+
 -- as many costs have a first component of at most t, and the others don't
-pub record IsUpTo (costs : List (List ℕ)) (t place : ℕ) : Type 0 where
-  pub within : place ≤ length costs
-  pub before : All (λ c. first c ≤ t) (take place costs)
-  pub after : All (λ c. t < first c) (drop place costs)
+abbrev pub IsUpTo : List (List ℕ) → ℕ → ℕ → Type 0
+IsUpTo costs t place = IsCut costs t place 0

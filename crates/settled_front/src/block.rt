@@ -8,7 +8,7 @@ use stored_cost::StoredCost;
 /// How many costs a block has.
 pub(crate) const BLOCK: usize = 16;
 
-/// Sixteen costs, each in a lane, which are compared with one side by side, component by component and without a branch.
+/// Sixteen costs, each in a lane, which are compared with one.
 pub trait CostBlock<const D: usize>: Drop {
     /// How a cost is stored.
     type Cost: StoredCost<D>;

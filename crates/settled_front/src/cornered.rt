@@ -1,12 +1,12 @@
 ghost use Rattle.std.specs.Prelude.{◌≡◌, ◌+◌, ◌*◌, ◌/◌, ◌≤◌, ◌<◌, ◌↔◌, ◌++◌, ◌∷◌, ℕ, List, [], drop, length, map, slice_index_or, All, IfOk, IsPermutation, IsTrue, OnErr, vec_len, vec_capacity};
 ghost use Rattle.cost_vector.specs.Costs.{AtMost, min_criteria};
 ghost use Rattle.settled_front.specs.Blocks.{block_size};
-ghost use Rattle.settled_front.specs.Corners.{AreCornered, CoversAmong, CoversBetween, HasRoom, HaveCorners, in_blocks, laid_at_once};
+ghost use Rattle.settled_front.specs.Corners.{AreCornered, CoversAmong, HasRoom, HaveCorners, in_blocks, laid_at_once};
 ghost use Rattle.settled_front.specs.Fronts.{IsCovered};
 
 use crate::block::{BLOCK, CostBlock};
 use crate::lanes::Lanes;
-use crate::latest::LatestCosts;
+use crate::latest::{LatestCosts, list_first, take_first, widen_first};
 use crate::narrow_block::NarrowBlock;
 use crate::sorting::order;
 use crate::wide_block::WideBlock;
@@ -14,7 +14,7 @@ use cost_vector::CompactCost;
 use out_of_memory::OutOfMemory;
 use std::alloc::Global;
 use std::marker::Model;
-use stored_cost::{StoredCost, WideCost};
+use stored_cost::StoredCost;
 
 /// How many blocks are laid anew at once.
 const LAID_AT_ONCE: usize = 8;
@@ -96,12 +96,13 @@ impl<const D: usize, B: CostBlock<D>> CorneredBlocks<D, B> {
     }
 
     /// Adds all costs to a list.
+    #[tactic(auto, using(crate::proofs::Cornering::full_read))]
     pub(crate) fn list(&self, list: &mut Vec<CompactCost<D>>) -> Result<(), OutOfMemory>
         ensures { IfOk result (λ _.
             map (λ c. c.0) list.new.items ≡ map (λ c. c.0) list.old.items ++ self.now) }
     {
         for block in &self.blocks {
-            list_block(block, list)?;
+            list_first(block, BLOCK, list)?;
         }
         Ok(())
     }
@@ -115,7 +116,7 @@ fn blocks_cover<const D: usize, B: CostBlock<D>>(
 ) -> bool
     requires { HaveCorners (map B.costs blocks.now) (map B.costs corners.now) }
     ensures { IsTrue result
-        ↔ CoversBetween (map B.costs blocks.now) 0 (length blocks.now) (B.Cost.components cost.now) }
+        ↔ IsCovered (in_blocks (map B.costs blocks.now)) (B.Cost.components cost.now) }
 {
     for group in (0..corners.len()).rev() {
         let lanes = corners[group].lanes_at_most(cost);
@@ -174,8 +175,9 @@ fn add_block<const D: usize, B: CostBlock<D>>(
         (vec_capacity corners.old) }
     requires before { AreCornered D (map B.costs blocks.old.items) (map B.costs corners.old.items) }
     ensures after { AreCornered D (map B.costs blocks.new.items) (map B.costs corners.new.items) }
-    ensures added { map B.costs blocks.new.items
-        ≡ map B.costs blocks.old.items ++ map B.Cost.components costs.now ∷ [] }
+    ensures more { vec_len blocks.new ≡ vec_len blocks.old + 1 }
+    ensures added { in_blocks (map B.costs blocks.new.items)
+        ≡ in_blocks (map B.costs blocks.old.items) ++ map B.Cost.components costs.now }
     ensures room { (total : ℕ) → HasRoom total (vec_capacity blocks.old) (vec_capacity corners.old)
         → HasRoom total (vec_capacity blocks.new) (vec_capacity corners.new) }
 {
@@ -196,21 +198,22 @@ fn note_corner<const D: usize, B: CostBlock<D>>(
         → HaveCorners (map B.costs blocks.now ++ block ∷ []) (map B.costs corners.new.items) }
     ensures capacity { vec_capacity corners.new ≡ vec_capacity corners.old }
 {
+    begin_group(corners, blocks);
     let count = blocks.len();
-    match corners.get_mut(count / BLOCK) {
-        Some(group) => group.set(count % BLOCK, corner),
-        None => corners.push_reserved(group_of(corner)),
-    }
+    corners[count / BLOCK].set(count % BLOCK, corner);
 }
 
-/// A group that begins with this corner.
-fn group_of<const D: usize, B: CostBlock<D>>(corner: &B::Cost) -> B
-    ensures long { length (B.costs result) ≡ block_size }
-    ensures first { slice_index_or (B.costs result) 0 [] ≡ B.Cost.components corner.now }
+/// Begins a group of corners, where the others have no lane left for the next block.
+fn begin_group<const D: usize, B: CostBlock<D>>(corners: &mut Vec<B>, blocks: &[B])
+    requires room { length blocks.now / block_size < vec_capacity corners.old }
+    requires before { HaveCorners (map B.costs blocks.now) (map B.costs corners.old.items) }
+    ensures after { HaveCorners (map B.costs blocks.now) (map B.costs corners.new.items) }
+    ensures more { length blocks.now / block_size < vec_len corners.new }
+    ensures capacity { vec_capacity corners.new ≡ vec_capacity corners.old }
 {
-    let mut group = B::blank();
-    group.set(0, corner);
-    group
+    if corners.len() <= blocks.len() / BLOCK {
+        corners.push_reserved(B::blank());
+    }
 }
 
 /// A block of sixteen costs.
@@ -226,6 +229,7 @@ fn block_of<const D: usize, B: CostBlock<D>>(costs: &[B::Cost]) -> B
 }
 
 /// Lays the costs of the last eight blocks anew, if they are full and there is memory for it.
+#[tactic(auto, using(crate::proofs::Cornering::full_behind))]
 fn order_last<const D: usize, B: CostBlock<D>>(
     alloc: Global,
     blocks: &mut Vec<B>,
@@ -288,6 +292,7 @@ fn add_blocks<const D: usize, B: CostBlock<D>>(
 }
 
 /// The costs of blocks, one after another.
+#[tactic(auto, using(crate::proofs::Cornering::full_read))]
 fn costs_of<const D: usize, B: CostBlock<D>>(
     alloc: Global,
     blocks: &[B],
@@ -298,39 +303,9 @@ fn costs_of<const D: usize, B: CostBlock<D>>(
 {
     let mut costs = Vec::new(alloc);
     for block in blocks {
-        take_costs(block, &mut costs)?;
+        take_first(block, BLOCK, &mut costs)?;
     }
     Ok(costs)
-}
-
-/// Adds the costs of a block to others.
-fn take_costs<const D: usize, B: CostBlock<D>>(
-    block: &B,
-    costs: &mut Vec<B::Cost>,
-) -> Result<(), OutOfMemory>
-    requires { length (B.costs block.now) ≡ block_size }
-    ensures { IfOk result (λ _. map B.Cost.components costs.new.items
-        ≡ map B.Cost.components costs.old.items ++ B.costs block.now) }
-{
-    for lane in 0..BLOCK {
-        costs.push(block.cost(lane))?;
-    }
-    Ok(())
-}
-
-/// Adds the costs of a block to a list.
-fn list_block<const D: usize, B: CostBlock<D>>(
-    block: &B,
-    list: &mut Vec<CompactCost<D>>,
-) -> Result<(), OutOfMemory>
-    requires { length (B.costs block.now) ≡ block_size }
-    ensures { IfOk result (λ _.
-        map (λ c. c.0) list.new.items ≡ map (λ c. c.0) list.old.items ++ B.costs block.now) }
-{
-    for lane in 0..BLOCK {
-        list.push(block.cost(lane).to_compact())?;
-    }
-    Ok(())
 }
 
 impl<const D: usize> CorneredBlocks<D, NarrowBlock<D>> {
@@ -356,22 +331,7 @@ fn widen_blocks<const D: usize>(
 {
     let mut wide = CorneredBlocks::new(alloc);
     for block in blocks {
-        wide.append(&widen_block(alloc, block)?)?;
+        wide.append_latest(&widen_first(block, BLOCK))?;
     }
     Ok(wide)
-}
-
-/// The costs of a block at 64 bits.
-fn widen_block<const D: usize>(
-    alloc: Global,
-    block: &NarrowBlock<D>,
-) -> Result<Vec<WideCost<D>>, OutOfMemory>
-    requires { length block.now ≡ block_size }
-    ensures { IfOk result (λ costs. costs.items ≡ block.now) }
-{
-    let mut costs = Vec::new(alloc);
-    for lane in 0..BLOCK {
-        costs.push(WideCost::of(&block.cost(lane).to_compact().0))?;
-    }
-    Ok(costs)
 }

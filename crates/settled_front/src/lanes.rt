@@ -1,5 +1,5 @@
-ghost use Rattle.std.specs.Prelude.{◌≡◌, ◌≤◌, ◌↔◌, ℕ, IfNone, IfSome, IsTrue};
-ghost use Rattle.settled_front.specs.Blocks.{HasLane, HasOneBefore, HasSome, TakesLane, block_size};
+ghost use Rattle.std.specs.Prelude.{◌≡◌, ◌<◌, ◌≤◌, ◌↔◌, ℕ, IfNone, IfSome, IsTrue};
+ghost use Rattle.settled_front.specs.Blocks.{AddsLane, HasLane, HasOneBefore, TakesLane, block_size};
 
 use std::marker::Model;
 
@@ -25,14 +25,16 @@ impl Lanes {
         Lanes { bits }
     }
 
-    /// Whether there is one.
-    pub(crate) fn has_some(&self) -> bool
-        ensures { IsTrue result ↔ HasSome self.now }
+    /// Adds one.
+    pub(crate) fn add(&mut self, lane: usize)
+        requires { lane < block_size }
+        ensures { AddsLane self.old lane self.new }
     {
-        self.bits != 0
+        self.bits |= 1 << lane;
     }
 
     /// Whether there is one before the lane `count`.
+    #[tactic(auto, using(crate::proofs::LaneBits::one_before))]
     pub(crate) fn has_one_before(&self, count: usize) -> bool
         requires { count ≤ block_size }
         ensures { IsTrue result ↔ HasOneBefore self.now count }
@@ -42,6 +44,7 @@ impl Lanes {
     }
 
     /// Takes one of them out, as long as there is one.
+    #[tactic(auto, using(crate::proofs::LaneBits::lowest_taken))]
     pub(crate) fn take_one(&mut self) -> Option<usize>
         ensures taken { IfSome result (λ lane. TakesLane self.old lane self.new) }
         ensures none { IfNone result ((lane : ℕ) → ¬ HasLane self.old lane) }

@@ -48,6 +48,7 @@ impl<const D: usize, B: CostBlock<D>> LatestCosts<D, B> {
     }
 
     /// Whether one of them is at most this one.
+    #[tactic(auto, using(crate::proofs::BlockLanes::covered_before))]
     pub(crate) fn covers(&self, cost: &B::Cost) -> bool
         ensures { IsTrue result ↔ IsCovered self.now (B.Cost.components cost.now) }
     {
@@ -75,10 +76,7 @@ impl<const D: usize, B: CostBlock<D>> LatestCosts<D, B> {
         ensures { IfOk result (λ _.
             map (λ c. c.0) list.new.items ≡ map (λ c. c.0) list.old.items ++ self.now) }
     {
-        for lane in 0..self.count {
-            list.push(self.block.cost(lane).to_compact())?;
-        }
-        Ok(())
+        list_first(&self.block, self.count, list)
     }
 
     /// Adds them to others.
@@ -86,11 +84,44 @@ impl<const D: usize, B: CostBlock<D>> LatestCosts<D, B> {
         ensures { IfOk result (λ _. map B.Cost.components costs.new.items
             ≡ map B.Cost.components costs.old.items ++ self.now) }
     {
-        for lane in 0..self.count {
-            costs.push(self.block.cost(lane))?;
-        }
-        Ok(())
+        take_first(&self.block, self.count, costs)
     }
+}
+
+/// Adds so many costs of a block, the first ones, to a list.
+pub(crate) fn list_first<const D: usize, B: CostBlock<D>>(
+    block: &B,
+    count: usize,
+    list: &mut Vec<CompactCost<D>>,
+) -> Result<(), OutOfMemory>
+    requires { AreFirst count (B.costs block.now) }
+    ensures first { IfOk result (λ _. map (λ c. c.0) list.new.items
+        ≡ map (λ c. c.0) list.old.items ++ take count (B.costs block.now)) }
+    ensures all { IfOk result (λ _. count ≡ block_size
+        → map (λ c. c.0) list.new.items ≡ map (λ c. c.0) list.old.items ++ B.costs block.now) }
+{
+    for lane in 0..count {
+        list.push(block.cost(lane).to_compact())?;
+    }
+    Ok(())
+}
+
+/// Adds so many costs of a block, the first ones, to others.
+pub(crate) fn take_first<const D: usize, B: CostBlock<D>>(
+    block: &B,
+    count: usize,
+    costs: &mut Vec<B::Cost>,
+) -> Result<(), OutOfMemory>
+    requires { AreFirst count (B.costs block.now) }
+    ensures first { IfOk result (λ _. map B.Cost.components costs.new.items
+        ≡ map B.Cost.components costs.old.items ++ take count (B.costs block.now)) }
+    ensures all { IfOk result (λ _. count ≡ block_size → map B.Cost.components costs.new.items
+        ≡ map B.Cost.components costs.old.items ++ B.costs block.now) }
+{
+    for lane in 0..count {
+        costs.push(block.cost(lane))?;
+    }
+    Ok(())
 }
 
 impl<const D: usize> LatestCosts<D, NarrowBlock<D>> {
@@ -103,7 +134,10 @@ impl<const D: usize> LatestCosts<D, NarrowBlock<D>> {
 }
 
 /// So many costs of a block, the first ones, at 64 bits.
-fn widen_first<const D: usize>(block: &NarrowBlock<D>, count: usize) -> LatestCosts<D, WideBlock<D>>
+pub(crate) fn widen_first<const D: usize>(
+    block: &NarrowBlock<D>,
+    count: usize,
+) -> LatestCosts<D, WideBlock<D>>
     requires { AreFirst count block.now }
     ensures { result ≡ take count block.now }
 {

@@ -1,5 +1,5 @@
-ghost use Rattle.std.specs.Prelude.{◌≡◌, ◌^◌, ◌<◌, ◌↔◌, length, All, IsTrue};
-ghost use Rattle.settled_front.specs.Blocks.{AreUnmarked, MarksAbove, MarksRow, block_size};
+ghost use Rattle.std.specs.Prelude.{◌≡◌, ◌^◌, ◌<◌, length, All};
+ghost use Rattle.settled_front.specs.Blocks.{AreAtMost, AreUnmarked, MarksRow, block_size};
 
 use crate::block::{BLOCK, CostBlock};
 use crate::lanes::Lanes;
@@ -29,6 +29,7 @@ impl<const D: usize> CostBlock<D> for NarrowBlock<D> {
 
     ghost costs = { λ b. b };
 
+    #[tactic(auto, using(crate::proofs::BlockLanes::same_lanes))]
     fn blank() -> NarrowBlock<D> {
         NarrowBlock {
             rows: [[(1 << 31) - 1; BLOCK]; D],
@@ -43,13 +44,14 @@ impl<const D: usize> CostBlock<D> for NarrowBlock<D> {
         }
     }
 
+    #[tactic(auto, using(crate::proofs::BlockLanes::covered_by_lane))]
     fn covers(&self, cost: &NarrowCost<D>) -> bool {
-        unmarked_lanes(&self.mark_above(cost)).has_some()
+        self.lanes(cost).has_one_before(BLOCK)
     }
 
     #[inline(always)]
     fn lanes_at_most(&self, cost: &NarrowCost<D>) -> Lanes {
-        unmarked_lanes(&self.mark_above(cost))
+        self.lanes(cost)
     }
 
     fn cost(&self, lane: usize) -> NarrowCost<D> {
@@ -62,10 +64,11 @@ impl<const D: usize> CostBlock<D> for NarrowBlock<D> {
 }
 
 impl<const D: usize> NarrowBlock<D> {
-    /// Marks the lanes whose cost isn't at most this one.
+    /// The lanes whose cost is at most this one.
+    #[tactic(auto, using(crate::proofs::BlockLanes::length_lanes))]
     #[inline(always)]
-    fn mark_above(&self, cost: &NarrowCost<D>) -> [u32; BLOCK]
-        ensures above { MarksAbove 31 self.now cost.now result }
+    fn lanes(&self, cost: &NarrowCost<D>) -> Lanes
+        ensures at_most { AreAtMost self.now cost.now result }
         ensures full { length self.now ≡ block_size }
     {
         // Whoever reads the components knows how many they are.
@@ -74,7 +77,7 @@ impl<const D: usize> NarrowBlock<D> {
         for (k, row) in self.rows.iter().enumerate() {
             mark_row(&mut over, cost.part(k), row);
         }
-        over
+        unmarked_lanes(&over)
     }
 }
 
@@ -82,7 +85,7 @@ impl<const D: usize> NarrowBlock<D> {
 fn mark_row(over: &mut [u32; BLOCK], component: u32, row: &[u32; BLOCK])
     requires component_fits { component < 2 ^ 31 }
     requires row_fits { All (λ x. x < 2 ^ 31) row.now }
-    ensures { MarksRow 31 over.old component row.now over.new }
+    ensures { MarksRow over.old component row.now over.new }
 {
     for lane in 0..BLOCK {
         over[lane] = over[lane].mark_less(component, row[lane]);
@@ -90,8 +93,9 @@ fn mark_row(over: &mut [u32; BLOCK], component: u32, row: &[u32; BLOCK])
 }
 
 /// The lanes that bear no mark.
+#[tactic(auto, using(crate::proofs::LaneBits::mask_unmarked))]
 fn unmarked_lanes(marks: &[u32; BLOCK]) -> Lanes
-    ensures { AreUnmarked 31 marks.now result }
+    ensures { AreUnmarked marks.now result }
 {
     let unmarked = u32x16::from_array(*marks).simd_lt(u32x16::splat(1 << 31));
     Lanes::of(unmarked.to_bitmask() as u16)

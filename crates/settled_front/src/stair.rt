@@ -101,6 +101,7 @@ fn stairs_cover<C: StoredCost<2>>(costs: &[C], last: &Option<C>, cost: &C) -> bo
 }
 
 /// Whether some cost is at most this one, by a search for the one that decides.
+#[tactic(auto, using(crate::proofs::Stairs::last_decides))]
 fn search_cover<C: StoredCost<2>>(costs: &[C], cost: &C) -> bool
     requires stairs { IsStaircase (map C.components costs.now) }
     requires some { 0 < length costs.now }
@@ -111,6 +112,7 @@ fn search_cover<C: StoredCost<2>>(costs: &[C], cost: &C) -> bool
 }
 
 /// How many costs have a first component that isn't greater. It is often none, as at the target, or all.
+#[tactic(auto, using(crate::proofs::Stairs::none_up_to))]
 fn up_to<C: StoredCost<2>>(costs: &[C], cost: &C) -> usize
     requires { IsStaircase (map C.components costs.now) }
     ensures long { length (C.components cost.now) ≡ 2 }

@@ -1,27 +1,27 @@
-ghost use Rattle.std.specs.Prelude.{◌≡◌, ◌^◌, ◌<◌, ◌↔◌, length, All, IsTrue};
-ghost use Rattle.settled_front.specs.Blocks.{AreUnmarked, MarksAbove, MarksRow, block_size};
+ghost use Rattle.std.specs.Prelude.{◌≡◌, length};
+ghost use Rattle.settled_front.specs.Blocks.{AreAtMost, block_size};
 
 use crate::block::{BLOCK, CostBlock};
 use crate::lanes::Lanes;
 use std::marker::Model;
-use std::simd::prelude::*;
-use stored_cost::{Part, StoredCost, WideCost};
+use stored_cost::{StoredCost, WideCost};
 
-/// Sixteen costs in 64 bits a component, laid out in one row for each component.
+/// Sixteen costs in 64 bits a component. They are rare, as they come only where a cost passes 2^31, so that they are compared one
+/// after another.
 #[derive(Drop)]
 pub struct WideBlock<const D: usize> {
-    rows: [[u64; BLOCK]; D],
+    costs: [WideCost<D>; BLOCK],
 }
 
 impl<const D: usize> Model for WideBlock<D> {
-    ghost use Rattle.std.specs.Prelude.{ℕ, ◌^◌, List};
-    ghost use Rattle.settled_front.specs.Blocks.{IsBlock, lane_costs};
+    ghost use Rattle.std.specs.Prelude.{◌≡◌, ℕ, List, length};
+    ghost use Rattle.settled_front.specs.Blocks.{block_size};
 
     ghost Value = { List (List ℕ) };
 
-    ghost view = { λ b. lane_costs D b.rows };
+    ghost view = { λ b. b.costs };
 
-    ghost invariant = { λ b. IsBlock D (2 ^ 63) b.rows };
+    ghost invariant = { λ b. length b.costs ≡ block_size };
 }
 
 impl<const D: usize> CostBlock<D> for WideBlock<D> {
@@ -31,68 +31,40 @@ impl<const D: usize> CostBlock<D> for WideBlock<D> {
 
     fn blank() -> WideBlock<D> {
         WideBlock {
-            rows: [[(1 << 63) - 1; BLOCK]; D],
+            costs: [WideCost::of(&[(1 << 63) - 1; D]); BLOCK],
         }
     }
 
     fn set(&mut self, lane: usize, cost: &WideCost<D>) {
-        // Whoever reads the components knows how many they are.
-        let _ = cost.to_compact();
-        for k in 0..D {
-            self.rows[k][lane] = cost.part(k);
-        }
+        self.costs[lane] = *cost;
     }
 
+    #[tactic(auto, using(crate::proofs::BlockLanes::covered_by_lane))]
     fn covers(&self, cost: &WideCost<D>) -> bool {
-        unmarked_lanes(&self.mark_above(cost)).has_some()
+        self.lanes(cost).has_one_before(BLOCK)
     }
 
-    #[inline(always)]
     fn lanes_at_most(&self, cost: &WideCost<D>) -> Lanes {
-        unmarked_lanes(&self.mark_above(cost))
+        self.lanes(cost)
     }
 
     fn cost(&self, lane: usize) -> WideCost<D> {
-        let mut numbers = [0; D];
-        for (k, number) in numbers.iter_mut().enumerate() {
-            *number = self.rows[k][lane].to_number();
-        }
-        WideCost::of(&numbers)
+        self.costs[lane]
     }
 }
 
 impl<const D: usize> WideBlock<D> {
-    /// Marks the lanes whose cost isn't at most this one.
-    #[inline(always)]
-    fn mark_above(&self, cost: &WideCost<D>) -> [u64; BLOCK]
-        ensures above { MarksAbove 63 self.now cost.now result }
+    /// The lanes whose cost is at most this one.
+    fn lanes(&self, cost: &WideCost<D>) -> Lanes
+        ensures at_most { AreAtMost self.now cost.now result }
         ensures full { length self.now ≡ block_size }
     {
-        // Whoever reads the components knows how many they are.
-        let _ = cost.to_compact();
-        let mut over = [0; BLOCK];
-        for (k, row) in self.rows.iter().enumerate() {
-            mark_row(&mut over, cost.part(k), row);
+        let mut lanes = Lanes::of(0);
+        for (lane, own) in self.costs.iter().enumerate() {
+            if own.at_most(cost) {
+                lanes.add(lane);
+            }
         }
-        over
+        lanes
     }
-}
-
-/// Marks also where the component is less than that of the row.
-fn mark_row(over: &mut [u64; BLOCK], component: u64, row: &[u64; BLOCK])
-    requires component_fits { component < 2 ^ 63 }
-    requires row_fits { All (λ x. x < 2 ^ 63) row.now }
-    ensures { MarksRow 63 over.old component row.now over.new }
-{
-    for lane in 0..BLOCK {
-        over[lane] = over[lane].mark_less(component, row[lane]);
-    }
-}
-
-/// The lanes that bear no mark.
-fn unmarked_lanes(marks: &[u64; BLOCK]) -> Lanes
-    ensures { AreUnmarked 63 marks.now result }
-{
-    let unmarked = u64x16::from_array(*marks).simd_lt(u64x16::splat(1 << 63));
-    Lanes::of(unmarked.to_bitmask() as u16)
 }

@@ -1,21 +1,19 @@
 -- What the stored parts of costs say of the costs.
-use Rattle.std.proofs.Common.{◌≡◌, ℕ, ◌<◌, ◌↔◌, List, length, get_or, min, subst}
-use Rattle.cost_vector.specs.Costs.{AtMost}
-use Rattle.cost_vector.proofs.Components.{below_this, below_other, greatest}
+use Rattle.std.proofs.Common.{◌≡◌, ℕ, ◌+◌, ◌^◌, ◌<◌, ◌≤◌, ◌↔◌, List, length, get_or, All, arith}
+use Rattle.std.proofs.lemmas.List.Elements.{All-weaker, AllZip-get_or}
+use Rattle.cost_vector.specs.Costs.{AtMost, plus}
+use Rattle.cost_vector.proofs.Components.{AtMost_from_places}
+use Rattle.cost_vector.proofs.Vectors.{All-plus}
 
-pub at_most-along : {R : Type 0} {xs ys a b : List ℕ} → xs ≡ a → ys ≡ b → R ↔ AtMost xs ys → R ↔ AtMost a b
-at_most-along {R} {xs} {ys} {a} {b} e f h = subst (λ zs. R ↔ AtMost a zs) f (subst (λ zs. R ↔ AtMost zs ys) e h)
+-- parts that are compared place by place
+pub at_most_by_places : {R : Type 0} (a b : List ℕ) (n : ℕ) → length a ≡ n → length b ≡ n → R ↔ ((k : ℕ) → k < n → get_or a k 0 ≤ get_or b k 0) → R ↔ AtMost a b
+at_most_by_places a b n long other_long tells = (
+  λ r. AtMost_from_places a b (omega arith) (λ k within. tells.0 r k (omega arith)),
+  λ below. tells.1 (λ k within. AllZip-get_or ◌≤◌ a b k 0 0 below (omega arith)),
+)
 
--- the lesser parts are the greatest cost that is at most both
-pub meets-along : {least xs ys a b : List ℕ} → xs ≡ a → ys ≡ b → length least ≡ length xs → length least ≡ length ys
-    → ((k : ℕ) → k < length least → get_or least k 0 ≡ min (get_or xs k 0) (get_or ys k 0))
-    → AtMost least a × (AtMost least b × ((c : List ℕ) → AtMost c a → AtMost c b → AtMost c least))
-meets-along {least} {xs} {ys} {a} {b} e f long other lesser =
-    subst (λ zs. AtMost least zs × (AtMost least b × ((c : List ℕ) → AtMost c zs → AtMost c b → AtMost c least))) e
-    (subst (λ zs. AtMost least xs × (AtMost least zs × ((c : List ℕ) → AtMost c xs → AtMost c zs → AtMost c least))) f (
-      below_this {least = least} {a = xs} {b = ys} (record { as_long = long; as_long_other = other; lesser = lesser }),
-      (
-        below_other {least = least} {a = xs} {b = ys} (record { as_long = long; as_long_other = other; lesser = lesser }),
-        greatest {least = least} {a = xs} {b = ys} (record { as_long = long; as_long_other = other; lesser = lesser }),
-      ),
-    ))
+-- a cost below a bound that a width has leaves room for a weight
+pub sums_fit : (bound : ℕ) (c w : List ℕ) → bound ≤ 2 ^ 63 → All (λ x. x < bound) c → All (λ x. x < 2 ^ 32) w → All (λ x. x < 2 ^ 64) (plus c w)
+sums_fit bound c w room below small =
+    All-weaker (λ x. x ≤ bound + 2 ^ 32) (λ x. x < 2 ^ 64) (λ x h. omega arith) (plus c w) (All-plus bound (2 ^ 32) c w
+    (All-weaker (λ x. x < bound) (λ x. x ≤ bound) (λ x h. omega arith) c below) (All-weaker (λ x. x < 2 ^ 32) (λ x. x ≤ 2 ^ 32) (λ x h. omega arith) w small))

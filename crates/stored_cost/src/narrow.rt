@@ -55,6 +55,7 @@ impl<const D: usize> StoredCost<D> for NarrowCost<D> {
         self.parts[i]
     }
 
+    #[tactic(auto, using(crate::proofs::Parts::sums_fit))]
     fn plus(&self, by: &Weight) -> Option<NarrowCost<D>> {
         prove!(by.count() == D);
         let sum = self.to_compact().plus(by);

@@ -103,6 +103,7 @@ impl Part for u32 {
         self | x.wrapping_sub(than)
     }
 
+    #[tactic(auto, using(crate::proofs::Marks::tells_narrow))]
     fn less_bit(self, than: u32) -> usize {
         (self.wrapping_sub(than) >> 31) as usize
     }
@@ -151,6 +152,7 @@ impl Part for u64 {
         self | x.wrapping_sub(than)
     }
 
+    #[tactic(auto, using(crate::proofs::Marks::tells_wide))]
     fn less_bit(self, than: u64) -> usize {
         (self.wrapping_sub(than) >> 63) as usize
     }

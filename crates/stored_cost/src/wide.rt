@@ -53,6 +53,7 @@ impl<const D: usize> StoredCost<D> for WideCost<D> {
         self.parts[i]
     }
 
+    #[tactic(auto, using(crate::proofs::Parts::sums_fit))]
     fn plus(&self, by: &Weight) -> Option<WideCost<D>> {
         prove!(by.count() == D);
         let sum = self.to_compact().plus(by);

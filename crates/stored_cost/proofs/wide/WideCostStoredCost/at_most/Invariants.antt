@@ -1,5 +1,4 @@
-use Rattle.std.proofs.Common.{ℕ, ◌<◌, ◌≤◌, ◌↔◌, get_or}
-use Rattle.std.specs.Prelude.{IsTrue}
+use Rattle.std.proofs.Common.{ℕ, ◌<◌, ◌≤◌, ◌↔◌, get_or, IsTrue}
 use Rattle.stored_cost.proofs.wide.WideCostStoredCost.at_most.Given as goal
 
 abbrev pub invariant-loop-i : goal.invariant-loop-i

@@ -1,6 +1,0 @@
-use Rattle.std.proofs.Common.{◌-◌, ◌^◌}
-use Rattle.settled_front.proofs.BlockLanes.{same_lanes}
-use Rattle.settled_front.proofs.wide_block.WideBlockCostBlock.blank.Goals as goal
-
-pub returns : goal.returns
-returns g c = same_lanes g.row.D (2 ^ 63 - 1)

@@ -1,5 +1,0 @@
-use Rattle.stored_cost.proofs.Marks.{less_or_not-wide}
-use Rattle.stored_cost.proofs.part.U64Part.less_bit.Goals as goal
-
-pub returns : goal.returns
-returns c = less_or_not-wide c.args.self c.args.than c.requires.fits c.requires.than_fits

@@ -1,3 +1,2 @@
-pub mod StoredLemmas
 pub mod PlacedLemmas
 pub mod PairLemmas

@@ -1,5 +1,6 @@
 -- The settled costs of all nodes, and how they are kept.
-use Rattle.std.specs.Prelude.{◌≡◌, ◌≢◌, ℕ, ◌+◌, ◌<◌, ◌≤◌, List, [], ◌∷◌, ◌++◌, length, map, slice_index, slice_index_or, All, AllPairs, Contains}
+use Rattle.std.specs.Prelude.{◌≡◌, ◌≢◌, ℕ, ◌+◌, ◌-◌, ◌<◌, ◌≤◌, List, [], ◌∷◌, ◌++◌, length, map, nat_lt, slice_index, slice_index_or, All, AllPairs}
+use Rattle.std.specs.List.{count_by, sum_by}
 use Rattle.cost_vector.specs.Costs.{min_criteria, max_criteria}
 use Rattle.road_network.specs.Limits.{max_nodes}
 
@@ -45,19 +46,20 @@ pub record AreFronts (d bound : ℕ) (f : Fronts) : Type 0 where
 abbrev pub costs_by : List ℕ → List (List (List ℕ)) → List (List (List ℕ))
 costs_by places begun = map (λ k. slice_index_or begun k []) places
 
--- The first list is that of all nodes that have no settled cost, and is empty. Each other one is a single node's.
-pub record IsPlaced (places : List ℕ) (begun : List (List (List ℕ))) : Type 0 where
-  pub some : 0 < length places
-  pub few : length places ≤ max_nodes + 1
-  pub no_node : slice_index places 0 ≡ 0
-  pub within : All (λ k. k < length begun) places
-  pub own : (v w : ℕ) → slice_index places v ≡ slice_index places w → slice_index places v ≢ 0 → v ≡ w
-  pub used : (k : ℕ) → 0 < k → k < length begun → Contains places k
-  pub first : slice_index_or begun 0 [] ≡ []
+-- the fronts that are kept so
+abbrev pub kept_fronts : List ℕ → List (List (List ℕ)) → Fronts
+kept_fronts places begun = record { nodes = length places - 1; costs = costs_by places begun }
 
--- the same, in 2 to 4 criteria, with room for components below the bound
+-- The places of so many lists. All nodes that have no settled cost share the first one, and each other one is a single node's.
+pub record IsPlaced (places : List ℕ) (lists : ℕ) : Type 0 where
+  pub some : 0 < length places
+  pub few : lists ≤ count_by (λ k. nat_lt 0 k) places + 1
+  pub within : All (λ k. k < lists) places
+  pub own : (v w : ℕ) → slice_index places v ≡ slice_index places w → slice_index places v ≢ 0 → v ≡ w
+
+-- Fronts in 2 to 4 criteria, with room for components below the bound. The first list is empty, and each other one counts once.
 pub record IsKept (d bound : ℕ) (places : List ℕ) (begun : List (List (List ℕ))) : Type 0 where
-  pub two : min_criteria ≤ d
-  pub four : d ≤ max_criteria
-  pub placed : IsPlaced places begun
-  pub stored : All (AreStored bound) begun
+  pub placed : IsPlaced places (length begun)
+  pub first : slice_index_or begun 0 [] ≡ []
+  pub counted : sum_by length (costs_by places begun) ≡ sum_by length begun
+  pub fronts : AreFronts d bound (kept_fronts places begun)

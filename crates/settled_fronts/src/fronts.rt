@@ -3,7 +3,7 @@ ghost use Rattle.cost_vector.specs.Costs.{Dominates, max_criteria, min_criteria}
 ghost use Rattle.road_network.specs.Limits.{max_nodes};
 ghost use Rattle.road_network.specs.Network.{IsNode};
 ghost use Rattle.settled_front.specs.Fronts.{IsCovered, ListsCosts};
-ghost use Rattle.settled_fronts.specs.NodeFronts.{AreFronts, IsKept, SameElsewhere, costs_at, costs_by, settled_pairs};
+ghost use Rattle.settled_fronts.specs.NodeFronts.{AreFronts, IsKept, SameElsewhere, costs_at, kept_fronts, settled_pairs};
 
 use cost_vector::{CompactCost, NodeNo};
 use out_of_memory::OutOfMemory;
@@ -23,15 +23,12 @@ pub struct Fronts<const D: usize, F: SettledFront<D>> {
 }
 
 impl<const D: usize, F: SettledFront<D>> Model for Fronts<D, F> {
-    ghost use Rattle.std.specs.Prelude.{◌-◌, length, map};
-    ghost use Rattle.settled_fronts.specs.NodeFronts.{Fronts, IsKept, costs_by};
+    ghost use Rattle.std.specs.Prelude.{map};
+    ghost use Rattle.settled_fronts.specs.NodeFronts.{Fronts, IsKept, kept_fronts};
 
     ghost Value = { Fronts };
 
-    ghost view = { λ f. record {
-      nodes = length f.places.items - 1;
-      costs = costs_by f.places.items (map F.costs f.fronts.items);
-    } };
+    ghost view = { λ f. kept_fronts f.places.items (map F.costs f.fronts.items) };
 
     ghost invariant = { λ f. IsKept D F.Cost.Part.bound f.places.items (map F.costs f.fronts.items) };
 }
@@ -164,8 +161,8 @@ fn reach<const D: usize, F: SettledFront<D>>(
     requires node { 0 < node.0 }
     requires within { node.0 < length places.old.items }
     ensures kept { IsKept D F.Cost.Part.bound places.new.items (map F.costs fronts.new.items) }
-    ensures same { costs_by places.new.items (map F.costs fronts.new.items)
-        ≡ costs_by places.old.items (map F.costs fronts.old.items) }
+    ensures same { kept_fronts places.new.items (map F.costs fronts.new.items)
+        ≡ kept_fronts places.old.items (map F.costs fronts.old.items) }
     ensures place { IfOk result (λ k. k ≡ slice_index places.new.items node.0) }
     ensures reached { IfOk result (λ k. k ≢ 0) }
 {

@@ -1,126 +1,140 @@
--- Each step at the counter keeps its rule.
-use Rattle.std.proofs.Common.{◌≡◌, ℕ, ◌+◌, ◌-◌, ◌/◌, ◌%◌, ◌^◌, ◌<◌, ◌≤◌, Bool, cond, eqb, ltb, leb, List, [], ◌∷◌, ◌++◌, length, set, refl, sym, ap, ap₂, ◌∙◌, subst, arith, length-append, div-le_self}
-use Rattle.std.specs.Prelude.{slice_index}
-use Rattle.std.specs.List.{sum_by, count_by}
+-- Each step at the counter keeps its rule, and at the end the last seat's list holds each piece once.
+use Rattle.std.proofs.Common.{◌≡◌, ◌≢◌, ℕ, zero, suc, ◌+◌, ◌-◌, ◌%◌, ◌^◌, ◌<◌, ◌≤◌, Bool, true, cond, eqb, ltb, leb, List, [], ◌∷◌, length, get_or, set, map-id, refl, sym, ap, ap₂, ◌∙◌, subst, arith, length-append, append-nil, add-zero, zero-add}
+use Rattle.std.specs.Prelude.{slice_index, Contains, IsPermutation, filter}
+use Rattle.std.specs.List.{sum_by, count_by, range_with_len}
+use Rattle.std.proofs.lemmas.Bool.{eqb-true, lt-ltb, ltb-true, leb-true}
 use Rattle.std.proofs.lemmas.Bool.Decides.{nat_tests}
-use Rattle.std.proofs.lemmas.List.Elements.{All-set, All-push}
-use Rattle.std.proofs.lemmas.List.Sums.{sum_by_push, sum_by-append}
-use mathlib.Core.Option.{some}
+use Rattle.std.proofs.lemmas.List.{get_or-set_same, length-set, nil_from_length}
+use Rattle.std.proofs.lemmas.List.Elements.{Contains-get_or}
+use Rattle.std.proofs.lemmas.List.FromFn.{length-range_with_len, map-range_with_len_more}
+use Rattle.std.proofs.lemmas.List.Kept.{AllPairs-filter}
+use Rattle.std.proofs.lemmas.List.Sorted.{IsPermutation-refl, IsPermutation-cons, IsPermutation-sym, IsPermutation-trans, sum_by-IsPermutation}
+use Rattle.std.proofs.lemmas.List.Sums.{sum_by-cons, sum_by_push, sum_by-append, sum_by-le, get_or-le-sum_by, length-filter}
+use mathlib.Core.Option.{some, some-injective, some-ne-none}
 use lib.ListN.{get_elem?}
-use Rattle.atomic_table.proofs.Lists.{set_else}
 use Rattle.atomic_table.specs.Table.{State, Me, Allows, Splits, Joins, keeps}
-use Rattle.work_claim.specs.Claims.{Draws, AreClaims, Claims, times, past, with_drawn, left_half, right_half, joined, spent}
-use Rattle.work_claim.proofs.SeatSums.{each_there, sum_set, part_within, sum_within}
+use Rattle.list_laws.proofs.Members.{in_filter, of_filter}
+use Rattle.list_laws.proofs.OnceLaws.{lists_in_any_order, range_once, taken_out}
+use Rattle.work_claim.specs.Claims.{AddsUp, AreClaims, Claims, Draws, HoldsEachPieceOnce, all_draws, for_nobody, joined, left_half, past, right_half, spent, times, unused, with_drawn}
 
--- a number more was drawn
-drawn_below : (x n : ℕ) → cond (ltb x n) 1 0 + cond (eqb n x) 1 0 ≡ cond (ltb x (n + 1)) 1 0
-drawn_below x n = grind (arith, nat_tests)
+-- ---- sums over the seats
 
-drawn_past : (pieces n : ℕ) → (n - pieces) + cond (leb pieces n) 1 0 ≡ (n + 1) - pieces
-drawn_past pieces n = grind (arith, nat_tests)
+-- the sum changes by what the seat does
+sum_set : (f : Draws → ℕ) (seats : List Draws) (i : ℕ) (s t : Draws) → get_elem? seats i ≡ some s → sum_by f (set seats i t) + f s ≡ sum_by f seats + f t
+sum_set f [] i s t e = absurd (some-ne-none s (sym e))
+sum_set f (u ∷ us) zero s t e = omega (arith, sum_by-cons f t us, sum_by-cons f u us, ap f (some-injective u s e))
+sum_set f (u ∷ us) (suc i) s t e = omega (arith, sum_by-cons f u (set us i t), sum_by-cons f u us, sum_set f us i s t e)
 
-module _ (pieces workers : ℕ) (words : List ℕ) (seats : List Draws) (rule : AreClaims pieces workers words seats) where
-  -- the counter goes no further than pieces and workers together
-  pub counter_within : rule.counter ≤ pieces + workers
-  counter_within =
-      let less = sum_within (λ s. past pieces s.numbers) (λ s. s.workers) seats rule.within in
-      omega (arith, less, rule.over, rule.shared)
+-- what adds up
+workers_add : AddsUp (λ s. s.workers)
+workers_add = record { none = refl; both = λ s t. refl }
 
-  -- the opening number is the counter
-  pub counter_found : slice_index words 0 ≡ rule.counter
-  counter_found = ap (λ ws. slice_index ws 0) rule.word
+lengths_add : AddsUp (λ s. length s.numbers)
+lengths_add = record { none = refl; both = λ s t. length-append s.numbers t.numbers }
 
-  module _ (id : ℕ) (s : Draws) (seated : get_elem? seats id ≡ some s) where
-    -- a seat has drawn no more numbers than the counter says
-    pub drawn_within : length s.numbers ≤ rule.counter
-    drawn_within = omega (arith, part_within (λ s. length s.numbers) seats id s seated, rule.count)
+counts_add : (p : ℕ → Bool) → AddsUp (λ s. count_by p s.numbers)
+counts_add p = record { none = refl; both = λ s t. sum_by-append (λ x. cond (p x) 1 0) s.numbers t.numbers }
 
-    module _ (small : pieces + workers < 2 ^ 64 - 1) (may : past pieces s.numbers < s.workers) where
-      one_more : (p : ℕ → Bool) → sum_by (λ t. count_by p t.numbers) (set seats id (with_drawn rule.counter s))
-          ≡ sum_by (λ t. count_by p t.numbers) seats + cond (p rule.counter) 1 0
-      one_more p =
-          let total = sum_set (λ t. count_by p t.numbers) seats id s (with_drawn rule.counter s) seated in
-          omega (arith, total, sum_by_push (λ x. cond (p x) 1 0) s.numbers rule.counter)
+-- one number more
+adds_drawn : (f : Draws → ℕ) → AddsUp f → (n : ℕ) (s : Draws) → f (with_drawn n s) ≡ f s + f (record { numbers = n ∷ []; workers = 0 })
+adds_drawn f adds n s = rw add-zero at (adds.both s (record { numbers = n ∷ []; workers = 0 }))
 
-      -- a claim
-      pub claim_kept : AreClaims pieces workers (set words 0 ((rule.counter + 1) % 2 ^ 64)) (set seats id (with_drawn rule.counter s))
-      claim_kept =
-          let n = rule.counter in
-          let within = counter_within in
-          let next : (n + 1) % 2 ^ 64 ≡ n + 1 = omega (arith, within, small) in
-          let last = sum_by_push (λ x. cond (leb pieces x) 1 0) s.numbers n in
-          let bound : cond (leb pieces n) 1 0 ≤ 1 = grind (arith, nat_tests) in record {
-            counter = n + 1;
-            word = rw next (ap (λ ws. set ws 0 (n + 1)) rule.word);
-            once = λ x. one_more (λ y. eqb y x) ∙ (ap (λ k. k + cond (eqb n x) 1 0) (rule.once x) ∙ drawn_below x n);
-            count = omega (arith, sum_set (λ t. length t.numbers) seats id s (with_drawn n s) seated, length-append s.numbers (n ∷ []), rule.count);
-            over = one_more (leb pieces) ∙ (ap (λ k. k + cond (leb pieces n) 1 0) rule.over ∙ drawn_past pieces n);
-            within = All-set (λ t. past pieces t.numbers ≤ t.workers) seats id (with_drawn n s) (omega (arith, last, bound, may)) rule.within;
-            shared = omega (arith, sum_set (λ t. t.workers) seats id s (with_drawn n s) seated, rule.shared);
-            idle = All-set (λ t. t.workers ≡ 0 → t.numbers ≡ []) seats id (with_drawn n s) (λ none. absurd (omega (arith, may, none))) rule.idle;
-          }
+-- ---- the steps
 
 -- a claim may be made by a seat that has a number past the pieces to draw
 pub claim_allowed : (pieces workers slots id : ℕ) (me : Me (Unit {0}) Draws) → pieces + workers < 2 ^ 64 - 1 → past pieces me.0.numbers < me.0.workers
     → Allows (λ (t : State (Unit {0}) Draws). AreClaims pieces workers t.words t.views) slots id me 0 (λ n. (n + 1) % 2 ^ 64) (Claims me)
 claim_allowed pieces workers slots id me small may t rule _ seated _ =
-    let found = counter_found pieces workers t.words t.views rule in (
-      with_drawn (slice_index t.words 0) me.0,
+    let n = slice_index t.words 0 in
+    let s = me.0 in
+    let drawn = λ (f : Draws → ℕ). sum_set f t.views id s (with_drawn n s) seated in
+    let next : get_or (set t.words 0 ((n + 1) % 2 ^ 64)) 0 0 ≡ n + 1 =
+    get_or-set_same t.words 0 ((n + 1) % 2 ^ 64) 0 (omega (arith, rule.one)) ∙ omega (arith, rule.left, small) in
+    let numbers = rw (map-id, map-id) at (map-range_with_len_more (λ (x : ℕ). x) 0 n n (zero-add n)) in
+    let before = sum_set (λ v. length v.numbers) t.views id s spent seated in (
+      with_drawn n s,
       keeps,
       tt,
-      subst (λ n. AreClaims pieces workers (set t.words 0 ((n + 1) % 2 ^ 64)) (set t.views id (with_drawn n me.0))) (sym found)
-          (claim_kept pieces workers t.words t.views rule id me.0 seated small may),
-      record { drawn = refl; ahead = subst (λ n. length me.0.numbers ≤ n) (sym found) (drawn_within pieces workers t.words t.views rule id me.0 seated) },
+      record {
+        one = length-set t.words 0 ((n + 1) % 2 ^ 64) ∙ rule.one;
+        shared = λ f adds. rw (next, numbers)
+            (omega (arith, drawn f, rule.shared f adds, adds_drawn f adds n s, adds_drawn f adds n (all_draws n workers)));
+        left = rw next (grind (arith, nat_tests, rule.left, may, sum_by_push (λ x. cond (leb pieces x) 1 0) s.numbers n, drawn (unused pieces)));
+        idle = grind (arith, nat_tests, rule.idle, may, drawn for_nobody);
+      },
+      record { drawn = refl; ahead = omega (arith, before, rule.shared (λ v. length v.numbers) lengths_add, length-range_with_len 0 n) },
     )
 
 -- a seat that has drawn nothing may be cut in two
 pub split_allowed : (pieces workers id : ℕ) (s : Draws) → s.numbers ≡ []
     → Splits (λ (t : State (Unit {0}) Draws). AreClaims pieces workers t.words t.views) id s (left_half s) (right_half s)
 split_allowed pieces workers id s fresh t rule seated =
-    let seats = set t.views id (left_half s) in
-    let none : past pieces s.numbers ≡ 0 = ap (past pieces) fresh in
-    let half : s.workers / 2 ≤ s.workers = div-le_self s.workers 2 in
-    let same : (f : List ℕ → ℕ) → f [] ≡ 0 → sum_by (λ u. f u.numbers) (seats ++ right_half s ∷ []) ≡ sum_by (λ u. f u.numbers) t.views = λ f zero_of.
-    omega (arith, zero_of, sum_set (λ u. f u.numbers) t.views id s (left_half s) seated, sum_by_push (λ u. f u.numbers) seats (right_half s)) in
+    let first = λ (f : Draws → ℕ). sum_set f t.views id s (left_half s) seated in
+    let second = λ (f : Draws → ℕ). sum_by_push f (set t.views id (left_half s)) (right_half s) in
+    let halves : s ≡ joined (left_half s) (right_half s) = ap₂ (λ ns w. record { numbers = ns; workers = w }) (sym (append-nil s.numbers)) (omega arith) in
     record {
-      counter = rule.counter;
-      word = rule.word;
-      once = λ x. same (times x) refl ∙ rule.once x;
-      count = same length refl ∙ rule.count;
-      over = same (past pieces) refl ∙ rule.over;
-      within = All-push (λ u. past pieces u.numbers ≤ u.workers) seats (right_half s)
-          (All-set (λ u. past pieces u.numbers ≤ u.workers) t.views id (left_half s) (omega (arith, none)) rule.within) (omega arith);
-      shared = omega (arith, half, rule.shared, sum_set (λ u. u.workers) t.views id s (left_half s) seated, sum_by_push (λ u. u.workers) seats (right_half s));
-      idle = All-push (λ u. u.workers ≡ 0 → u.numbers ≡ []) seats (right_half s)
-          (All-set (λ u. u.workers ≡ 0 → u.numbers ≡ []) t.views id (left_half s) (λ _. fresh) rule.idle) (λ _. refl);
+      one = rule.one;
+      shared = λ f adds. omega (arith, first f, second f, ap f halves, adds.both (left_half s) (right_half s), rule.shared f adds);
+      left = omega (arith, first (unused pieces), second (unused pieces), ap (past pieces) fresh, rule.left);
+      idle = grind (arith, nat_tests, first for_nobody, second for_nobody, ap length fresh, rule.idle);
     }
 
 -- a seat may take in another
 pub join_allowed : (pieces workers id other : ℕ) (s u : Draws)
     → Joins (λ (t : State (Unit {0}) Draws). AreClaims pieces workers t.words t.views) id s other u (joined s u) spent
 join_allowed pieces workers id other s u t rule seated apart beside =
-    let seats = set t.views id (joined s u) in
-    let seated_too : get_elem? t.views other ≡ some u = sym (set_else t.views id other (joined s u) apart) ∙ beside in
-    let same : (f : List ℕ → ℕ) → f [] ≡ 0 → f (s.numbers ++ u.numbers) ≡ f s.numbers + f u.numbers
-    → sum_by (λ v. f v.numbers) (set seats other spent) ≡ sum_by (λ v. f v.numbers) t.views = λ f zero_of both_of.
-    omega (arith, zero_of, both_of, sum_set (λ v. f v.numbers) t.views id s (joined s u) seated, sum_set (λ v. f v.numbers) seats other u spent beside) in
-    let counts : (p : ℕ → Bool) → count_by p (s.numbers ++ u.numbers) ≡ count_by p s.numbers + count_by p u.numbers =
-    λ p. sum_by-append (λ x. cond (p x) 1 0) s.numbers u.numbers in
-    let Within : Draws → Type 0 = λ v. past pieces v.numbers ≤ v.workers in
-    let Idle : Draws → Type 0 = λ v. v.workers ≡ 0 → v.numbers ≡ [] in
-    let within_s = each_there Within t.views id s seated rule.within in
-    let within_u = each_there Within t.views other u seated_too rule.within in
-    let idle_s = each_there Idle t.views id s seated rule.idle in
-    let idle_u = each_there Idle t.views other u seated_too rule.idle in
+    let first = λ (f : Draws → ℕ). sum_set f t.views id s (joined s u) seated in
+    let second = λ (f : Draws → ℕ). sum_set f (set t.views id (joined s u)) other u spent beside in
     record {
-      counter = rule.counter;
-      word = rule.word;
-      once = λ x. same (times x) refl (counts (λ y. eqb y x)) ∙ rule.once x;
-      count = same length refl (length-append s.numbers u.numbers) ∙ rule.count;
-      over = same (past pieces) refl (counts (leb pieces)) ∙ rule.over;
-      within = All-set Within seats other spent (omega arith)
-          (All-set Within t.views id (joined s u) (omega (arith, within_s, within_u, counts (leb pieces))) rule.within);
-      shared = omega (arith, rule.shared, sum_set (λ v. v.workers) t.views id s (joined s u) seated, sum_set (λ v. v.workers) seats other u spent beside);
-      idle = All-set Idle seats other spent (λ _. refl)
-          (All-set Idle t.views id (joined s u) (λ none. ap₂ ◌++◌ (idle_s (omega (arith, none))) (idle_u (omega (arith, none)))) rule.idle);
+      one = rule.one;
+      shared = λ f adds. omega (arith, first f, second f, adds.none, adds.both s u, rule.shared f adds);
+      left = omega (arith, first (unused pieces), second (unused pieces), (counts_add (leb pieces)).both s u, rule.left);
+      idle = grind (arith, nat_tests, first for_nobody, second for_nobody, length-append s.numbers u.numbers, rule.idle);
+    }
+
+-- ---- the end
+
+-- what is counted is there
+of_count : (p : ℕ → Bool) (xs : List ℕ) → 1 ≤ count_by p xs → (x : ℕ) × (Contains xs x × (p x ≡ true))
+of_count p xs counted =
+    let x = get_or (filter p xs) 0 0 in (x, of_filter p xs x (Contains-get_or (filter p xs) 0 0 (omega (arith, counted, length-filter p xs))))
+
+-- two lists in which each number stands as often are one in another order
+permuted : (xs ys : List ℕ) → ((x : ℕ) → times x xs ≡ times x ys) → IsPermutation xs ys
+permuted [] [] same = IsPermutation-refl []
+permuted [] (y ∷ ys) same = absurd (grind (arith, nat_tests, same y, sum_by-cons (λ z. cond (eqb z y) 1 0) y ys))
+permuted (x ∷ xs) ys same =
+    let (y, (y_in, is)) = of_count (λ z. eqb z x) ys (grind (arith, nat_tests, same x, sum_by-cons (λ z. cond (eqb z x) 1 0) x xs)) in
+    let (zs, out) = taken_out ys x (subst (Contains ys) (eqb-true y x is) y_in) in
+    IsPermutation-trans (x ∷ xs) (x ∷ zs) ys (IsPermutation-cons x xs zs (permuted xs zs (λ n.
+    let weight : ℕ → ℕ = λ z. cond (eqb z n) 1 0 in
+    omega (arith, same n, sum_by-cons weight x xs, sum_by-cons weight x zs, sum_by-IsPermutation weight ys (x ∷ zs) out)))) (IsPermutation-sym ys (x ∷ zs) out)
+
+-- what the last seat has drawn at the end
+pub closed_once : (pieces workers : ℕ) (words : List ℕ) (seats : List Draws) → AreClaims pieces workers words seats → (id : ℕ) (s : Draws)
+    → get_elem? seats id ≡ some s → 1 ≤ workers → s.workers ≡ workers → past pieces s.numbers ≡ workers → HoldsEachPieceOnce pieces s.numbers
+closed_once pieces workers words seats rule id s seated one all done =
+    let n = slice_index words 0 in
+    let others = set seats id spent in
+    let nobody = sum_set (λ v. v.workers) seats id s spent seated in
+    let idle = sum_set for_nobody seats id s spent seated in
+    let nothing : (v : Draws) → v.workers ≤ sum_by (λ u. u.workers) others → for_nobody v ≤ sum_by for_nobody others → v ≡ spent = λ v few none.
+    let away : v.workers ≡ 0 = omega (arith, few, nobody, all, rule.shared (λ u. u.workers) workers_add) in
+    let drawn : v.numbers ≡ [] = nil_from_length v.numbers (grind (arith, nat_tests, away, none, idle, rule.idle)) in
+    ap₂ (λ ns w. record { numbers = ns; workers = w }) drawn away in
+    let alone : (f : Draws → ℕ) → AddsUp f → f (all_draws n workers) ≡ f s = λ f adds.
+    let none = sum_by-le f 0 others (λ k d within.
+    let zero = nothing (get_or others k d) (get_or-le-sum_by (λ v. v.workers) others k d within) (get_or-le-sum_by for_nobody others k d within) in
+    omega (arith, adds.none, ap f zero)) in
+    omega (arith, none, adds.none, rule.shared f adds, sum_set f seats id s spent seated) in
+    let lists = lists_in_any_order (λ i. i < n) (range_with_len 0 n) s.numbers
+    (permuted (range_with_len 0 n) s.numbers (λ x. alone (λ v. times x v.numbers) (counts_add (λ y. eqb y x)))) (range_once n) in
+    let (last, (last_in, past_all)) = of_count (leb pieces) s.numbers (omega (arith, one, done)) in
+    let passed : pieces < n = omega (arith, leb-true pieces last past_all, (lists.exact last).0 last_in) in
+    record {
+      exact = λ i. (
+        λ h. ltb-true i pieces (of_filter (λ x. ltb x pieces) s.numbers i h).1,
+        λ below. in_filter (λ x. ltb x pieces) s.numbers i ((lists.exact i).1 (omega (arith, below, passed))) (lt-ltb i pieces below),
+      );
+      once = AllPairs-filter ◌≢◌ (λ x. ltb x pieces) s.numbers lists.once;
     }

@@ -1,4 +1,2 @@
-mod SeatSums
 mod ClaimLemmas
-mod EachOnce
 mod OrderLemmas

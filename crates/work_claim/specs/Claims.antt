@@ -1,7 +1,7 @@
 -- How the numbers of pieces are drawn from one counter: what always holds of the counter and of what was drawn.
-use Rattle.std.specs.Prelude.{◌≡◌, ℕ, ◌+◌, ◌-◌, ◌/◌, ◌<◌, ◌≤◌, ◌==◌, List, [], ◌∷◌, ◌++◌, Option, IfSome, IfNone, length, filter, All, if◌then◌else◌}
+use Rattle.std.specs.Prelude.{◌≡◌, ℕ, ◌+◌, ◌-◌, ◌/◌, ◌<◌, ◌≤◌, ◌==◌, List, [], ◌∷◌, ◌++◌, Option, IfSome, IfNone, length, slice_index, filter, if◌then◌else◌}
 use Rattle.std.specs.Bool.{nat_lt, nat_le}
-use Rattle.std.specs.List.{count_by, sum_by}
+use Rattle.std.specs.List.{count_by, range_with_len, sum_by}
 use Rattle.atomic_table.specs.Table.{Me}
 use Rattle.atomic_table.specs.Seated.{TableId}
 use Rattle.list_laws.specs.Sets.{ListsOnce}
@@ -31,19 +31,6 @@ EachOnce pieces = ListsOnce (λ i. i < pieces)
 abbrev pub HoldsEachPieceOnce : ℕ → List ℕ → Type 0
 HoldsEachPieceOnce pieces numbers = EachOnce pieces (pieces_among pieces numbers)
 
--- The rule: each number below the counter was drawn once, by one seat, and no other number by any. All seats together draw for
--- so many workers, and each for at most one number past the pieces per worker. So the counter goes no further than pieces
--- and workers together. A seat that draws for nobody has drawn nothing.
-pub record AreClaims (pieces workers : ℕ) (words : List ℕ) (seats : List Draws) : Type 0 where
-  pub counter : ℕ
-  pub word : words ≡ counter ∷ []
-  pub once : (x : ℕ) → sum_by (λ s. times x s.numbers) seats ≡ (if nat_lt x counter then 1 else 0)
-  pub count : sum_by (λ s. length s.numbers) seats ≡ counter
-  pub over : sum_by (λ s. past pieces s.numbers) seats ≡ counter - pieces
-  pub within : All (λ s. past pieces s.numbers ≤ s.workers) seats
-  pub shared : sum_by (λ s. s.workers) seats ≡ workers
-  pub idle : All (λ s. s.workers ≡ 0 → s.numbers ≡ []) seats
-
 -- the seat has drawn one number more
 abbrev pub with_drawn : ℕ → Draws → Draws
 with_drawn x s = record s { numbers = s.numbers ++ x ∷ [] }
@@ -68,6 +55,32 @@ joined s t = record { numbers = s.numbers ++ t.numbers; workers = s.workers + t.
 -- what is left of a seat that another took in
 abbrev pub spent : Draws
 spent = record { numbers = []; workers = 0 }
+
+-- what adds up over seats: how many numbers of a kind were drawn, and how many workers there are
+pub record AddsUp (f : Draws → ℕ) : Type 0 where
+  pub none : f spent ≡ 0
+  pub both : (s t : Draws) → f (joined s t) ≡ f s + f t
+
+-- the numbers below the counter, and all workers
+abbrev pub all_draws : ℕ → ℕ → Draws
+all_draws counter workers = record { numbers = range_with_len 0 counter; workers = workers }
+
+-- how many numbers past the pieces the seat may draw yet, one for each worker
+abbrev pub unused : ℕ → Draws → ℕ
+unused pieces s = s.workers - past pieces s.numbers
+
+-- how many numbers the seat has drawn for nobody
+abbrev pub for_nobody : Draws → ℕ
+for_nobody s = if s.workers == 0 then length s.numbers else 0
+
+-- The rule: all seats together have drawn the numbers below the counter, each once, and draw for so many workers. For each worker
+-- one number past the pieces may be drawn, so the counter goes no further than pieces and workers together. A seat that draws for
+-- nobody has drawn nothing.
+pub record AreClaims (pieces workers : ℕ) (words : List ℕ) (seats : List Draws) : Type 0 where
+  pub one : length words ≡ 1
+  pub shared : (f : Draws → ℕ) → AddsUp f → sum_by f seats ≡ f (all_draws (slice_index words 0) workers)
+  pub left : sum_by (unused pieces) seats + (slice_index words 0 - pieces) ≤ workers
+  pub idle : sum_by for_nobody seats ≡ 0
 
 -- a counter, as its callers see it: which one it is, how many pieces there are, and how many workers
 pub record Counter : Type 0 where

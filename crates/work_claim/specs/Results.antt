@@ -1,6 +1,7 @@
 -- What comes of numbered pieces of work.
-use Rattle.std.specs.Prelude.{◌≡◌, ℕ, List, Some, Contains, Result, IfOk, length, map, slice_get, All}
+use Rattle.std.specs.Prelude.{◌≡◌, ℕ, List, Some, IsPermutation, Result, IfOk, length, map, slice_get, All}
 use Rattle.std.specs.Global.{Vec}
+use Rattle.std.specs.List.Sorted.{IsNonDecreasingBy}
 use Rattle.out_of_memory.specs.declared.OutOfMemory.{OutOfMemory}
 use Rattle.work_claim.specs.declared.done.Done.{Done}
 use Rattle.work_claim.specs.Claims.{WorkerSeat, Counter, past, pieces_among}
@@ -20,9 +21,12 @@ module _ {Out : Type 0} where
     pub drawn : pieces_of done ≡ pieces_among pieces numbers
     pub each : All (λ d. gives d.piece d.out) done
 
-  -- the results stand in the order of their pieces
-  abbrev pub ArePlaced : ℕ → List (Done Out) → List Out → Type 0
-  ArePlaced pieces done = GivesAll (λ piece out. Contains done (record { piece = piece; out = out })) pieces
+  -- these results are those of what was done, in the order of its pieces
+  pub record AreInOrder (done : List (Done Out)) (outs : List Out) : Type 0 where
+    pub sorted : List (Done Out)
+    pub moved : IsPermutation done sorted
+    pub rises : IsNonDecreasingBy (λ d. d.piece) sorted
+    pub results : outs ≡ map (λ d. d.out) sorted
 
   -- So many workers have come to their end at this counter: each has drawn one number past the pieces, and what came of the
   -- pieces that they drew is there, unless memory ran out.

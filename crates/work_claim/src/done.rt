@@ -1,7 +1,6 @@
 //! What comes of pieces, with their numbers, before it is put in order.
-ghost use Rattle.std.specs.Prelude.{◌≡◌, ℕ, ◌++◌, IfOk, IsOkAnd};
-ghost use Rattle.work_claim.specs.Results.{ArePlaced, pieces_of};
-ghost use Rattle.work_claim.specs.Claims.{EachOnce};
+ghost use Rattle.std.specs.Prelude.{◌≡◌, ◌++◌, IfOk, IsOkAnd};
+ghost use Rattle.work_claim.specs.Results.{AreInOrder};
 
 use out_of_memory::OutOfMemory;
 use std::alloc::Global;
@@ -32,8 +31,7 @@ pub(crate) fn in_order<T: Drop>(
     alloc: Global,
     mut done: Vec<Done<T>>,
 ) -> Result<Vec<T>, OutOfMemory>
-    ensures { (pieces : ℕ) → EachOnce pieces (pieces_of done.items)
-        → IfOk result (λ outs. ArePlaced pieces done.items outs.items) }
+    ensures { IfOk result (λ outs. AreInOrder done.items outs.items) }
 {
     done.sort_by_key(|d| d.piece)?;
     let mut outs = Vec::with_capacity(alloc, done.len())?;

@@ -1,5 +1,5 @@
 use Rattle.std.proofs.Common.{rules, arith, sym}
-use Rattle.work_claim.proofs.EachOnce.{closed_once}
+use Rattle.work_claim.proofs.ClaimLemmas.{closed_once}
 use Rattle.work_claim.proofs.counter.Counter.close.Goals as goal
 
 pub free-requires : goal.free-requires
@@ -8,4 +8,5 @@ free-requires c = λ k within. absurd (omega (arith, within, c.close_with.ensure
 pub returns : goal.returns
 returns c =
     let end = c.close_with.ensures.values in
-    rw (sym c.self.view_is, sym c.seat.view_is) (closed_once _ _ _ _ end.2.1.0 _ _ end.2.1.1 (search rules) (search rules) (search rules))
+    rw (sym c.self.view_is, sym c.seat.view_is) (closed_once _ _ _ _ end.2.1.0 _ _ end.2.1.1 (search rules) (search rules)
+    (rw (sym c.self.view_is, sym c.seat.view_is) at c.requires.done))

@@ -1,16 +1,15 @@
 -- What several parts took, joined one member after another.
-use Rattle.std.proofs.Common.{◌≡◌, ℕ, zero, suc, ◌+◌, ◌<◌, List, [], ◌∷◌, ◌++◌, append-nil, append_assoc, take, length, get_or, inl, inr, refl, sym, ap, subst, ◌∙◌, arith}
+use Rattle.std.proofs.Common.{◌≡◌, ℕ, ◌+◌, ◌<◌, List, [], ◌∷◌, ◌++◌, add-zero, append-nil, append_assoc, take, drop, length, length-drop, length-take, get_or, inl, inr, refl, sym, ap, subst, subst₂, ◌∙◌, arith}
 use Rattle.std.specs.Prelude.{AllPairs, Contains, flat_map}
-use Rattle.std.proofs.lemmas.List.{take_more}
+use Rattle.std.proofs.lemmas.List.{get_or-drop, get_or-take, get_or_default, take_more}
 use Rattle.std.proofs.lemmas.List.Concat.{flat_map-append}
 use Rattle.cost_vector.specs.Costs.{Dominates}
 use Rattle.cost_vector.proofs.Vectors.{Dominates-trans}
 use Rattle.list_laws.proofs.Members.{cases_in, cases_push, each_in, in_front, in_none, in_rest}
 use Rattle.list_laws.proofs.OnceLaws.{in_append}
-use Rattle.list_laws.proofs.Pairs.{pairs_cons, pairs_none, pairs_rest, pair_with_first}
 use Rattle.waiting_queue.specs.declared.item.Item.{Item}
 use Rattle.waiting_queue.specs.declared.joining.Part.{Part}
-use Rattle.waiting_queue.specs.Joining.{AreParts, CanJoin, ComesBefore, IsPart, IsSeenBy, rest_of, taken_of}
+use Rattle.waiting_queue.specs.Joining.{AreParts, CanJoin, ComesBefore, IsPart, IsSeenBy, taken_of}
 use Rattle.waiting_queue.specs.Passing.{EndsAt}
 use Rattle.waiting_queue.specs.Shadows.{IsDominatedBy}
 use Rattle.waiting_queue.specs.Taking.{IsDominatedIn, TakesOpen}
@@ -18,26 +17,23 @@ use Rattle.waiting_queue.specs.Waiting.{Spot, SpotLess, spot_in}
 use Rattle.waiting_queue.proofs.OrderLemmas.{SpotLess-irrefl, SpotLess-trans, after_or_same, not_lex_less}
 use Rattle.waiting_queue.proofs.PassingLemmas.{ends_if_there, has_if_ends}
 use Rattle.waiting_queue.proofs.ShadowLemmas.{in_parts, shadow_tells}
-use Rattle.waiting_queue.proofs.TakingLemmas.{takes_more, takes_none, takes_not, takes_skip}
+use Rattle.waiting_queue.proofs.TakingLemmas.{takes_more, takes_not, takes_skip}
 
 -- ---- lists
 
 module _ {X : Type 0} where
+  -- a member of the front, and one that stands behind it
+  pub pairs_parts : (R : X → X → Type 0) (k : ℕ) (xs : List X) (x y : X) → AllPairs R xs → Contains (take k xs) x → Contains (drop k xs) y → R x y
+  pairs_parts R k xs x y pairs (i, before, here) (j, behind, there) =
+      let near : i < k = omega (arith, before, length-take k xs) in
+      let far : k + j < length xs = omega (arith, behind, length-drop k xs) in
+      subst₂ R (sym (get_or-take k xs i x near) ∙ here) (get_or_default xs (k + j) x y far ∙ sym (get_or-drop k xs j y) ∙ there)
+      (pairs i (k + j) x (omega arith) far)
+
   -- what stands before a member
   pub pair_at : (R : X → X → Type 0) (xs : List X) (i : ℕ) (x y : X) → AllPairs R xs → i < length xs → x ≡ get_or xs i x → Contains (take i xs) y → R y x
-  pair_at R [] i x y pairs within at there = absurd (omega (arith, within))
-  pair_at R (z ∷ zs) zero x y pairs within at there = absurd (in_none y there)
-  pair_at R (z ∷ zs) (suc i) x y pairs within at there =
-      let inside : i < length zs = omega (arith, within) in
-      elim (cases_in z (take i zs) y there) [
-        | inl same ↦ subst (λ w. R w x) (sym same) (pair_with_first R z zs pairs x (i, inside, sym at))
-        | inr later ↦ pair_at R zs i x y (pairs_rest R z zs pairs) inside at later
-      ]
-
-  -- what holds of two members one behind the other
-  pub pairs_weaker : (R S : X → X → Type 0) → ((x y : X) → R x y → S x y) → (xs : List X) → AllPairs R xs → AllPairs S xs
-  pairs_weaker R S f [] pairs = pairs_none S
-  pairs_weaker R S f (x ∷ xs) pairs = pairs_cons S x xs (λ y h. f x y (pair_with_first R x xs pairs y h)) (pairs_weaker R S f xs (pairs_rest R x xs pairs))
+  pair_at R xs i x y pairs within at there =
+      pairs_parts R i xs y x pairs there (0, omega (arith, within, length-drop i xs), (rw add-zero at (get_or-drop i xs 0 x)) ∙ sym at)
 
 module _ {X Y : Type 0} (f : X → List Y) where
   -- a list that is joined of the lists of each member has what these have
@@ -70,9 +66,6 @@ module _ {C : Type 0} (components : C → List ℕ) where
 
   -- ---- what a part's shadow tells
 
-  pub none_sees : (c : List ℕ) → ¬ IsSeenBy components [] c
-  none_sees c is = in_none is.part is.there
-
   pub unseen_more : (parts : List (Part C)) (i : ℕ) (p : Part C) (c : List ℕ) → i < length parts → p ≡ get_or parts i p
       → ¬ IsSeenBy components (take i parts) c → ¬ IsDominatedBy components p.shadow.items c → ¬ IsSeenBy components (take (i + 1) parts) c
   unseen_more parts i p c within at old new is =
@@ -82,13 +75,9 @@ module _ {C : Type 0} (components : C → List ℕ) where
         | inr same ↦ new (subst (λ (q : Part C). IsDominatedBy components q.shadow.items c) same is.by)
       ]
 
-  pub seen_at : (parts : List (Part C)) (i : ℕ) (p : Part C) (c : List ℕ) → i < length parts → p ≡ get_or parts i p
-      → IsDominatedBy components p.shadow.items c → IsSeenBy components parts c
-  seen_at parts i p c within at by = record { part = p; there = (i, within, sym at); by = by }
-
   -- ---- one member more
 
-  module _ (parts : List (Part C)) (seen items took back : List (Item C)) (can : CanJoin components parts seen items) (j : ℕ) (x : Item C)
+  module _ {parts : List (Part C)} {seen items took back : List (Item C)} (can : CanJoin components parts seen items) {j : ℕ} {x : Item C}
       (within : j < length items) (at : x ≡ get_or items j x) (is : Takes (seen ++ take j items) took back) where
     more : seen ++ take (j + 1) items ≡ (seen ++ take j items) ++ x ∷ []
     more = ap (λ ys. seen ++ ys) (take_more items j x within ∙ ap (λ y. take j items ++ y ∷ []) (sym at)) ∙ sym (append_assoc seen (take j items) (x ∷ []))
@@ -101,9 +90,6 @@ module _ {C : Type 0} (components : C → List ℕ) where
       | inl old ↦ can.next.behind y x old x_in
       | inr front ↦ pair_at (λ a b. ¬ SpotLess (spot b) (spot a)) items j x y can.next.sorted within at front
     ]
-
-    behind_took : (y : Item C) → Contains took y → ¬ SpotLess (spot x) (spot y)
-    behind_took y h = behind y (is.among y h)
 
     dominated : IsSeenBy components parts (components x.cost) → IsDominatedIn spot took (components x.cost)
     dominated sees =
@@ -118,18 +104,15 @@ module _ {C : Type 0} (components : C → List ℕ) where
 
     -- a part's shadow dominates it
     pub goes_back : IsSeenBy components parts (components x.cost) → Takes (seen ++ take (j + 1) items) took (back ++ x ∷ [])
-    goes_back sees = subst (λ ys. Takes ys took (back ++ x ∷ [])) (sym more)
-        (takes_skip spot (λ _. Unit {0}) (seen ++ take j items) took back is x behind (dominated sees))
+    goes_back sees = rw more (takes_skip spot (λ _. Unit {0}) (seen ++ take j items) took back is x behind (dominated sees))
 
     -- its spot was taken last
     pub is_there : EndsAt spot took (spot x) → Takes (seen ++ take (j + 1) items) took back
-    is_there ends = subst (λ ys. Takes ys took back) (sym more)
-        (takes_not spot (λ _. Unit {0}) (seen ++ take j items) took back is x behind (inl (has_if_ends components took (spot x) ends)))
+    is_there ends = rw more (takes_not spot (λ _. Unit {0}) (seen ++ take j items) took back is x behind (inl (has_if_ends components took (spot x) ends)))
 
     -- it is taken
     pub joins : ¬ IsSeenBy components parts (components x.cost) → ¬ EndsAt spot took (spot x) → Takes (seen ++ take (j + 1) items) (took ++ x ∷ []) back
-    joins unseen not_last = subst (λ ys. Takes ys (took ++ x ∷ []) back) (sym more)
-        (takes_more spot (λ _. Unit {0}) (seen ++ take j items) took back is x behind tt undominated before)
+    joins unseen not_last = rw more (takes_more spot (λ _. Unit {0}) (seen ++ take j items) took back is x behind tt undominated before)
       where
         undominated : ¬ IsDominatedIn spot took (components x.cost)
         undominated by = elim ((in_append seen (take j items) by.0).0 (is.among by.0 by.1)) [
@@ -138,15 +121,12 @@ module _ {C : Type 0} (components : C → List ℕ) where
         ]
 
         before : (y : Item C) → Contains took y → SpotLess (spot y) (spot x)
-        before y h = elim (after_or_same (spot y) (spot x) (behind_took y h)) [
+        before y h = elim (after_or_same (spot y) (spot x) (behind y (is.among y h))) [
           | inl less ↦ less
-          | inr same ↦ absurd (not_last (ends_if_there components took (spot x) is.ascending behind_took (y, h, same)))
+          | inr same ↦ absurd (not_last (ends_if_there components took (spot x) is.ascending (λ z k. behind z (is.among z k)) (y, h, same)))
         ]
 
   -- ---- one part more
-
-  pub none_taken : Takes [] [] []
-  none_taken = takes_none spot (λ _. Unit {0})
 
   pub can_join : (parts : List (Part C)) (i : ℕ) (p : Part C) → AreParts components parts → i < length parts → p ≡ get_or parts i p
       → CanJoin components (take i parts) (taken_of (take i parts)) p.taken.items
@@ -157,8 +137,9 @@ module _ {C : Type 0} (components : C → List ℕ) where
       λ q q_in. each_in (IsPart components) parts are.each q ((in_parts parts i q).1 (inl q_in)) in
       record {
         next = record {
-          sorted = pairs_weaker (λ a b. SpotLess (spot a) (spot b)) (λ a b. ¬ SpotLess (spot b) (spot a))
-              (λ a b less back. SpotLess-irrefl (spot a) (SpotLess-trans (spot a) (spot b) (spot a) less back)) p.taken.items is.ascending;
+          sorted = λ j k d before inside back. SpotLess-irrefl (spot (get_or p.taken.items j d))
+              (SpotLess-trans (spot (get_or p.taken.items j d)) (spot (get_or p.taken.items k d)) (spot (get_or p.taken.items j d))
+              (is.ascending j k d before inside) back);
           behind = λ x y h k.
               let (q, q_in, x_in) = of_flat (λ (q : Part C). q.taken.items) (take i parts) x h in
               pair_at (ComesBefore components) parts i p q are.ascending within at q_in x y x_in k;
@@ -175,17 +156,3 @@ module _ {C : Type 0} (components : C → List ℕ) where
             };
         apart = is.apart;
       }
-
--- what stays in one part more
-pub rest_more : {C : Type 0} (parts : List (Part C)) (i : ℕ) (p : Part C) → i < length parts → p ≡ get_or parts i p → (front rest more after : List (Item C))
-    → rest ≡ front ++ rest_of (take i parts) → more ≡ p.rest.items → after ≡ rest ++ more → after ≡ front ++ rest_of (take (i + 1) parts)
-rest_more {C} parts i p within at front rest more after was here is =
-    is ∙ ap (λ ys. ys ++ more) was ∙ append_assoc front (rest_of (take i parts)) more ∙ ap (λ ys. front ++ (rest_of (take i parts) ++ ys)) here
-    ∙ ap (λ ys. front ++ ys) (sym (flat_more (λ (q : Part C). q.rest.items) parts i p within at))
-
--- what one part more took is joined
-pub joined_more : {C : Type 0} (components : C → List ℕ) (parts : List (Part C)) (i : ℕ) (p : Part C) → i < length parts → p ≡ get_or parts i p
-    → (took back : List (Item C)) → TakesOpen (spot_in components) (λ _. Unit {0}) (taken_of (take i parts) ++ p.taken.items) took back
-    → TakesOpen (spot_in components) (λ _. Unit {0}) (taken_of (take (i + 1) parts)) took back
-joined_more {C} components parts i p within at took back = subst (λ ys. TakesOpen (spot_in components) (λ _. Unit {0}) ys took back)
-    (sym (flat_more (λ (q : Part C). q.taken.items) parts i p within at))

@@ -5,3 +5,4 @@ pub mod RangeLemmas
 pub mod ShadowLemmas
 pub mod TakingLemmas
 pub mod RunLemmas
+pub mod TwoRunLemmas

@@ -89,8 +89,8 @@ module _ {C : Type 0} (components : C → List ℕ) where
         sorted = pairs_push (λ a b. ¬ SpotLess (spot b) (spot a)) left s is.sorted (λ x h. behind x (is.takes.stays x h).0);
       }
 
-      -- it is looked at
-      passed_look : (more_costs : List C) (more_took : List (Item C)) → ¬ IsDominatedBy components costs (components s.cost) → Descends components more_costs
+      -- it is looked at, and leaves or is taken
+      pub passed_look : (more_costs : List C) (more_took : List (Item C)) → ¬ IsDominatedBy components costs (components s.cost) → Descends components more_costs
           → IsLookedAt components Open s costs took more_costs more_took → Passed (seen ++ s ∷ []) more_costs more_took left
       passed_look more_costs more_took free descends (inl (same_costs, same_took, why)) =
           rw (same_costs, same_took) (record {

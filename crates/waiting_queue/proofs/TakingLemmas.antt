@@ -1,13 +1,12 @@
 -- What is taken of a sorted list, as one more of its members is seen.
 use Rattle.std.proofs.Common.{◌≡◌, ℕ, List, [], ◌∷◌, ◌++◌, ◌⊎◌, ◌↔◌, inl, inr, map, refl, sym, ap, subst, ◌∙◌, append-nil, append_assoc}
-use Rattle.std.specs.Prelude.{Contains, IsPermutation}
+use Rattle.std.specs.Prelude.{Contains}
 use Rattle.std.proofs.lemmas.List.{map-append}
 use Rattle.cost_vector.specs.Costs.{Dominates}
 use Rattle.cost_vector.proofs.Vectors.{Dominates-irrefl, Dominates-trans, LexLess_from_Dominates}
 use Rattle.list_laws.proofs.Members.{cases_push, in_first, in_map, in_none, of_map}
 use Rattle.list_laws.proofs.OnceLaws.{in_append}
 use Rattle.list_laws.proofs.Pairs.{pairs_map, pairs_none, pairs_push}
-use Rattle.list_laws.proofs.SetLaws.{same_by_permutation}
 use Rattle.list_laws.specs.Sets.{SameMembers}
 use Rattle.waiting_queue.specs.Taking.{HasSpot, IsDominatedIn, IsUndominatedBy, SetsApart, TakesOpen, TakesOpenSpots}
 use Rattle.waiting_queue.specs.Waiting.{Spot, SpotLess}
@@ -142,6 +141,38 @@ module _ {X : Type 0} (spot : X → Spot) (Open : Spot → Type 0) where
           ]
         ]
 
+-- what is dominated anyway may have been there too, and stays
+pub takes_dominated : {X : Type 0} (spot : X → Spot) (Open : Spot → Type 0) (seen took : List X) → TakesOpen spot Open seen took [] → (rest : List X)
+    → ((x : X) → Contains rest x → IsDominatedIn spot took (spot x).cost) → TakesOpen spot Open (seen ++ rest) took rest
+takes_dominated {X} spot Open seen took is rest dominated = record {
+  taken = λ t. (
+    λ h.
+        let was = (is.taken t).0 h in (
+          (was.0.0, (in_append seen rest was.0.0).1 (inl was.0.1), was.0.2),
+          was.1,
+          λ z there held below. elim ((in_append seen rest z).0 there) [ inl met ↦ was.2 z met held below | inr by ↦ still t was.2 z (dominated z by) below ],
+        ),
+    λ h. elim ((in_append seen rest h.0.0).0 h.0.1) [
+      | inl met ↦ (is.taken t).1 ((h.0.0, met, h.0.2), h.1, λ z there. h.2 z ((in_append seen rest z).1 (inl there)))
+      | inr by ↦
+          let (y, there, below) = dominated h.0.0 by in
+          absurd (h.2 y ((in_append seen rest y).1 (inl (is.among y there))) ((is.taken (spot y)).0 (y, there, refl)).1
+          (subst (λ (z : Spot). Dominates (spot y).cost z.cost) h.0.2 below))
+    ],
+  );
+  among = λ x h. (in_append seen rest x).1 (inl (is.among x h));
+  ascending = is.ascending;
+  stays = λ x h. ((in_append seen rest x).1 (inr h), dominated x h);
+  leaves = λ x h. elim ((in_append seen rest x).0 h) [
+    | inl met ↦ elim (is.leaves x met) [ inl none ↦ absurd (in_none x none) | inr gone ↦ inr gone ]
+    | inr by ↦ inl by
+  ];
+}
+  where
+    still : (t : Spot) → IsUndominatedBy spot Open seen t.cost → (z : X) → IsDominatedIn spot took (spot z).cost → ¬ Dominates (spot z).cost t.cost
+    still t free z (y, there, above) below =
+        free y (is.among y there) ((is.taken (spot y)).0 (y, there, refl)).1 (Dominates-trans (spot y).cost (spot z).cost t.cost above below)
+
 -- only the members of what was there count
 pub takes_alike : {X : Type 0} (spot : X → Spot) (Open : Spot → Type 0) (xs ys took left : List X) → SameMembers xs ys
     → TakesOpen spot Open xs took left → TakesOpen spot Open ys took left
@@ -156,18 +187,18 @@ takes_alike {X} spot Open xs ys took left same is = record {
   leaves = λ x h. is.leaves x ((same x).1 h);
 }
 
--- the same of spots
-pub takes_spots_alike : {X : Type 0} (spot : X → Spot) (Open : Spot → Type 0) (xs ys took left : List X) → SameMembers xs ys
-    → TakesOpenSpots spot Open xs took left → TakesOpenSpots spot Open ys took left
-takes_spots_alike {X} spot Open xs ys took left same is = record {
+-- the same of spots, and of what stays
+pub takes_spots_alike : {X : Type 0} (spot : X → Spot) (Open : Spot → Type 0) (xs ys took left other : List X) → SameMembers xs ys → SameMembers left other
+    → TakesOpenSpots spot Open xs took left → TakesOpenSpots spot Open ys took other
+takes_spots_alike {X} spot Open xs ys took left other same alike is = record {
   taken = λ s. (
     λ h. let was = (is.taken s).0 h in ((was.0.0, (same was.0.0).0 was.0.1, was.0.2), was.1, λ z there. was.2 z ((same z).1 there)),
     λ h. (is.taken s).1 ((h.0.0, (same h.0.0).1 h.0.1, h.0.2), h.1, λ z there. h.2 z ((same z).0 there)),
   );
   among = λ x h. (same x).0 (is.among x h);
   ascending = is.ascending;
-  stays = λ x h. let was = is.stays x h in ((same x).0 was.0, was.1);
-  leaves = λ x h. is.leaves x ((same x).1 h);
+  stays = λ x h. let was = is.stays x ((alike x).1 h) in ((same x).0 was.0, was.1);
+  leaves = λ x h. elim (is.leaves x ((same x).1 h)) [ inl (y, there, at) ↦ inl (y, (alike y).0 there, at) | inr gone ↦ inr gone ];
 }
 
 -- a member that is still there has its spot there
@@ -326,21 +357,15 @@ module _ {X Y : Type 0} (spot : Y → Spot) (tell : X → Y) (Open : Spot → Ty
         ]);
   }
 
-  -- those that come are told in any order, behind those that are late
-  pub spots_let_in : (items late fresh order took after : List X) → IsPermutation (late ++ fresh) order
+  -- those that come are told in any order, with some that were there
+  pub spots_let_in : (items late fresh order took after : List X) → SameMembers (late ++ fresh) order
       → TakesOpenSpots (λ x. spot (tell x)) Open (items ++ order) took after
       → TakesOpenSpots spot Open (map tell (items ++ late) ++ map tell fresh) (map tell took) (map tell after)
-  spots_let_in items late fresh order took after moved is =
+  spots_let_in items late fresh order took after same is =
       subst (λ ys. TakesOpenSpots spot Open ys (map tell took) (map tell after))
       (ap (map tell) (sym (append_assoc items late fresh)) ∙ map-append tell (items ++ late) fresh)
-      (spots_told (items ++ (late ++ fresh)) took after (takes_spots_alike (λ x. spot (tell x)) Open (items ++ order) (items ++ (late ++ fresh)) took after
+      (spots_told (items ++ (late ++ fresh)) took after (takes_spots_alike (λ x. spot (tell x)) Open (items ++ order) (items ++ (late ++ fresh)) took after after
       (λ x. (
-        λ h. (in_append items (late ++ fresh) x).1 (elim ((in_append items order x).0 h) [
-          | inl old ↦ inl old
-          | inr new ↦ inr ((same_by_permutation (late ++ fresh) order moved x).0 new)
-        ]),
-        λ h. (in_append items order x).1 (elim ((in_append items (late ++ fresh) x).0 h) [
-          | inl old ↦ inl old
-          | inr new ↦ inr ((same_by_permutation (late ++ fresh) order moved x).1 new)
-        ]),
-      )) is))
+        λ h. (in_append items (late ++ fresh) x).1 (elim ((in_append items order x).0 h) [ inl old ↦ inl old | inr new ↦ inr ((same x).1 new) ]),
+        λ h. (in_append items order x).1 (elim ((in_append items (late ++ fresh) x).0 h) [ inl old ↦ inl old | inr new ↦ inr ((same x).0 new) ]),
+      )) (λ x. (λ h. h, λ h. h)) is))

@@ -1,12 +1,12 @@
 -- A queue cut into ranges, and what comes of a pass over each.
 use Rattle.std.specs.Prelude.{◌≡◌, ℕ, ◌<◌, ◌≤◌, List, ◌++◌, Some, All, AllPairs, Contains, length, take, drop, flat_map, slice_get}
-use Rattle.std.specs.List.{AllZip}
 use Rattle.list_laws.specs.Sets.{SameMembers}
 use Rattle.waiting_queue.specs.declared.item.Item.{Item}
 use Rattle.waiting_queue.specs.declared.joining.Part.{Part}
 use Rattle.waiting_queue.specs.declared.ranges.Range.{Range}
+use Rattle.waiting_queue.specs.Joining.{AreParts, rest_of, taken_of}
 use Rattle.waiting_queue.specs.Shadows.{Descends, IsShadow}
-use Rattle.waiting_queue.specs.Taking.{AreSorted, TakesOpen}
+use Rattle.waiting_queue.specs.Taking.{AreSorted, SetsApart, TakesOpen}
 use Rattle.waiting_queue.specs.Waiting.{AreCriteria, Spot, SpotLess, spot_in}
 
 -- what stands in a range
@@ -53,8 +53,8 @@ module _ {C : Type 0} (components : C → List ℕ) where
   abbrev pub GivesPart : (Spot → Type 0) → List (Range C) → ℕ → Part C → Type 0
   GivesPart Open ranges piece p = (r : Range C) → slice_get ranges piece ≡ Some r → PassesRange Open r p
 
-  -- these items were passed in ranges
+  -- These items were passed in ranges: what the parts took can be joined, they set apart what may be taken, and what stays is sorted.
   pub record ArePassed (Open : Spot → Type 0) (items : List (Item C)) (parts : List (Part C)) : Type 0 where
-    pub ranges : List (Range C)
-    pub are : AreRanges items ranges
-    pub passed : AllZip (PassesRange Open) ranges parts
+    pub are : AreParts components parts
+    pub apart : SetsApart (spot_in components) Open items (taken_of parts) (rest_of parts)
+    pub sorted : AreSorted (spot_in components) (rest_of parts)

@@ -92,7 +92,7 @@ fn sort_parts<C: Ord + Send, R: Threads + Sync, G>(
 }
 
 /// Sorts items. Those that are in order already are only gone through.
-fn sort_items<const D: usize, C: StoredCost<D>>(items: &mut Vec<Item<C>>)
+pub(crate) fn sort_items<const D: usize, C: StoredCost<D>>(items: &mut Vec<Item<C>>)
     ensures same { IsPermutation items.old.items items.new.items }
     ensures sorted { AreSorted (spot_in C.components) items.new.items }
 {

@@ -3,44 +3,43 @@ ghost use Rattle.list_laws.specs.Sets.{SameMembers};
 ghost use Rattle.waiting_queue.specs.Taking.{TakesOpenSpots};
 ghost use Rattle.waiting_queue.specs.Waiting.{as_waiting, spot_of};
 
-use crate::run::{Run, mark_gone, sort_run, widen_run};
-use crate::two_runs::{Places, merge, pass_runs};
+use crate::order::sort_items;
+use crate::run::Run;
+use crate::two_runs::{list_both, pass_runs};
 use crate::{Item, Look};
 use out_of_memory::OutOfMemory;
 use std::alloc::Global;
 use std::marker::Model;
-use std::mem;
 use stored_cost::StoredCost;
 
 /// The newer items join the older ones where they are this part of them.
 const FEW: usize = 4;
 
 /// What waits under 2 criteria: in two runs, of which what comes in joins the one, and which are put together from time to time.
-/// Each call goes through both by cursors, from one item to the next that what it took last doesn't dominate: so it copies
-/// none of those that stay.
+/// Each call goes through both, from one item to the next that what it took last doesn't dominate: so it copies none of those
+/// that stay in the older one.
 #[derive(Drop)]
 pub(crate) struct RunQueue<const D: usize, C: StoredCost<D>> {
-    older: Run<C, C::Part>,
-    newer: Run<C, C::Part>,
+    older: Run<D, C>,
+    newer: Run<D, C>,
     /// Room for the items that come in, in order.
-    fresh: Run<C, C::Part>,
+    fresh: Run<D, C>,
     /// Room for two runs in one.
-    both: Run<C, C::Part>,
-    gone: Places,
+    both: Vec<Item<C>>,
 }
 
 impl<const D: usize, C: StoredCost<D>> Model for RunQueue<D, C> {
     ghost use Rattle.std.specs.Prelude.{List, ◌≡◌, ◌++◌, map};
-    ghost use Rattle.waiting_queue.specs.Runs.{IsRun, live_in};
-    ghost use Rattle.waiting_queue.specs.Waiting.{Waiting, as_waiting};
+    ghost use Rattle.waiting_queue.specs.Runs.{all_of};
+    ghost use Rattle.waiting_queue.specs.Taking.{AreSorted};
+    ghost use Rattle.waiting_queue.specs.Waiting.{Waiting, as_waiting, spot_in};
 
     ghost Value = { List Waiting };
 
-    ghost view = { λ q. map (as_waiting C.components) (live_in C.Part.value C.components C.Part.bound q.older
-        ++ live_in C.Part.value C.components C.Part.bound q.newer) };
+    ghost view = { λ q. map (as_waiting C.components) (all_of q.older ++ all_of q.newer) };
 
-    ghost invariant = { λ q. (D ≡ 2) × (IsRun C.Part.value C.components C.Part.bound q.older
-        × IsRun C.Part.value C.components C.Part.bound q.newer) };
+    ghost invariant = { λ q. (D ≡ 2) × (AreSorted (spot_in C.components) (all_of q.older)
+        × AreSorted (spot_in C.components) (all_of q.newer)) };
 }
 
 impl<const D: usize, C: StoredCost<D>> RunQueue<D, C> {
@@ -53,8 +52,7 @@ impl<const D: usize, C: StoredCost<D>> RunQueue<D, C> {
             older: Run::new(alloc),
             newer: Run::new(alloc),
             fresh: Run::new(alloc),
-            both: Run::new(alloc),
-            gone: Places::new(alloc),
+            both: Vec::new(alloc),
         }
     }
 
@@ -67,11 +65,10 @@ impl<const D: usize, C: StoredCost<D>> RunQueue<D, C> {
         ensures { IfOk result (λ wide. wide ≡ self.now) }
     {
         Ok(RunQueue {
-            older: widen_run(alloc, &self.older)?,
-            newer: widen_run(alloc, &self.newer)?,
+            older: self.older.widen(alloc)?,
+            newer: self.newer.widen(alloc)?,
             fresh: Run::new(alloc),
-            both: Run::new(alloc),
-            gone: Places::new(alloc),
+            both: Vec::new(alloc),
         })
     }
 
@@ -88,12 +85,15 @@ impl<const D: usize, C: StoredCost<D>> RunQueue<D, C> {
             (map (as_waiting C.components) taken.new.items) self.new) }
         ensures same { OnErr result (self.new ≡ self.old) }
     {
-        sort_run(fresh, &mut self.fresh)?;
-        merge(&self.newer, &self.fresh, &mut self.both)?;
-        pass_runs(look, &self.older, &self.both, taken, &mut self.gone)?;
-        mem::swap(&mut self.newer, &mut self.both);
-        mark_gone(&mut self.older.seconds, &self.gone.older);
-        mark_gone(&mut self.newer.seconds, &self.gone.newer);
+        self.both.clear();
+        self.both.extend_from_slice(fresh)?;
+        sort_items(&mut self.both);
+        self.fresh.hold(&mut self.both)?;
+        list_both(&mut self.newer, &mut self.fresh, &mut self.both)?;
+        taken.clear();
+        taken.reserve(self.older.len().saturating_add(self.both.len()))?;
+        self.newer.hold(&mut self.both)?;
+        pass_runs(look, &mut self.older, &mut self.newer, taken);
         self.join_runs();
         Ok(())
     }
@@ -102,11 +102,12 @@ impl<const D: usize, C: StoredCost<D>> RunQueue<D, C> {
     fn join_runs(&mut self)
         ensures { SameMembers self.old self.new }
     {
-        if self.newer.items.len() < self.older.items.len() / FEW {
+        if self.newer.len() < self.older.len() / FEW {
             return;
         }
-        if merge(&self.older, &self.newer, &mut self.both).is_ok() {
-            mem::swap(&mut self.older, &mut self.both);
+        if list_both(&mut self.older, &mut self.newer, &mut self.both).is_ok()
+            && self.older.hold(&mut self.both).is_ok()
+        {
             self.newer.clear();
         }
     }

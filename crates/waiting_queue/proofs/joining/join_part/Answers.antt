@@ -9,25 +9,19 @@ use Rattle.waiting_queue.proofs.joining.join_part.Goals as goal
 pub loop-item-preserved : goal.loop-item-preserved
 loop-item-preserved g c = λ seen can at_start.
     let numbers = g.C.StoredCost.components in
-    let earlier = c.args.earlier.now in
-    let items = c.args.items.now in
-    let took = c.loop-item.taken.items in
-    let back = c.loop-item.back.items in
-    let j = c.loop-item.item-index in
-    let x = c.item-item.result in
+    let within = c.loop-item-test.true in
     let is = c.loop-item.invariant seen can at_start in
     elim c.if-is_shadowed_by.branch [
       | then-is_shadowed_by+in_ok-push w ↦ rw (w.taken-is, w.back-is, w.in_ok-push.ensures.items)
-          (goes_back numbers earlier seen items took back can j x c.loop-item-test.true c.item-item.is is (c.is_shadowed_by.ensures.0 w.if-is_shadowed_by.true))
+          (goes_back numbers can within c.item-item.is is (c.is_shadowed_by.ensures.0 w.if-is_shadowed_by.true))
       | else-is_shadowed_by+then-not-is_last+in_ok-push-2 w ↦ rw (w.taken-is, w.back-is, w.in_ok-push-2.ensures.items)
-          (joins numbers earlier seen items took back can j x c.loop-item-test.true c.item-item.is is (λ sees. false≢true (sym w.if-is_shadowed_by.false ∙ c.is_shadowed_by.ensures.1 sees))
+          (joins numbers can within c.item-item.is is (λ sees. false≢true (sym w.if-is_shadowed_by.false ∙ c.is_shadowed_by.ensures.1 sees))
           (λ ends. false≢true (sym w.if-not-is_last.true ∙ w.is_last.ensures.1 (rw (sym w.deref.ensures.value) at ends))))
       | else-is_shadowed_by+else-not-is_last w ↦ rw (w.taken-is, w.back-is)
-          (is_there numbers earlier seen items took back can j x c.loop-item-test.true c.item-item.is is (rw w.deref.ensures.value at (w.is_last.ensures.0 w.if-not-is_last.false)))
+          (is_there numbers can within c.item-item.is is (rw w.deref.ensures.value at (w.is_last.ensures.0 w.if-not-is_last.false)))
     ]
 
 pub returns : goal.returns
 returns g c = λ seen can at_start.
-    let items = c.args.items.now in
     subst (λ xs. TakesOpen (spot_in g.C.StoredCost.components) (λ _. Unit {0}) (seen ++ xs) c.loop-item.taken.items c.loop-item.back.items)
-    (take_all c.loop-item.item-index items (omega (arith, c.loop-item-test.false))) (c.loop-item.invariant seen can at_start)
+    (take_all c.loop-item.item-index c.args.items.now (omega (arith, c.loop-item-test.false))) (c.loop-item.invariant seen can at_start)

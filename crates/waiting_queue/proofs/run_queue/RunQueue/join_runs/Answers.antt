@@ -1,33 +1,28 @@
-use Rattle.std.proofs.Common.{◌++◌, sym, subst, ◌∙◌}
-use Rattle.waiting_queue.specs.Runs.{IsRun, Merges, live_in}
+use Rattle.std.proofs.Common.{Result, Ok, Err, ◌≡◌, ◌++◌, List, true, append-nil, map, sym, ap, subst, ◌∙◌}
+use Rattle.std.specs.Prelude.{Contains, IfOk, is_ok}
+use Rattle.std.proofs.lemmas.Bool.{false≢true}
+use Rattle.list_laws.specs.Sets.{SameMembers}
+use Rattle.list_laws.proofs.Members.{in_map, of_map}
+use Rattle.waiting_queue.specs.Runs.{all_of}
 use Rattle.waiting_queue.specs.Waiting.{as_waiting}
-use Rattle.waiting_queue.proofs.RunLemmas.{from_ok, joined_same, run_none, same_told}
 use Rattle.waiting_queue.proofs.run_queue.RunQueue.join_runs.Goals as goal
 
-pub invariant_of-self : goal.invariant_of-self
-invariant_of-self g c =
-    let value = g.C.Part.Part.value in
-    let bound = g.C.Part.Part.bound in
-    let numbers = g.C.StoredCost.components in
-    let merged = from_ok c.merge.result (Merges value numbers bound c.self.inside.older c.self.inside.newer c.merge.new.into) c.merge.ensures
-    (sym c.is_ok.ensures.value ∙ c.if-is_ok.true) in (
-      c.self.invariant.0,
-      (
-        subst (IsRun value numbers bound) (sym c.swap.ensures.x_after) merged.run,
-        run_none numbers value bound c.clear.new.self c.clear.ensures.items c.clear.ensures.seconds,
-      ),
-    )
+-- what an outcome that went well gives
+from_ok : {T E : Type 0} (r : Result T E) (Q : Type 0) → IfOk r (λ _. Q) → is_ok r ≡ true → Q
+from_ok (Ok x) Q q ok = q
+from_ok (Err e) Q q ok = absurd (false≢true ok)
 
-pub returns-then-is_ok : goal.returns-then-is_ok
-returns-then-is_ok g c =
-    let value = g.C.Part.Part.value in
-    let bound = g.C.Part.Part.bound in
-    let numbers = g.C.StoredCost.components in
-    let older = c.self.inside.older in
-    let newer = c.self.inside.newer in
-    let merged = from_ok c.merge.result (Merges value numbers bound older newer c.merge.new.into) c.merge.ensures
-    (sym c.is_ok.ensures.value ∙ c.if-is_ok.true) in
-    rw (c.swap.ensures.x_after, ← c.self.view_is)
-    (same_told (as_waiting numbers) (live_in value numbers bound older ++ live_in value numbers bound newer)
-    (live_in value numbers bound c.merge.new.into ++ live_in value numbers bound c.clear.new.self)
-    (joined_same numbers value bound older newer c.merge.new.into c.clear.new.self merged c.clear.ensures.items))
+same_told : {X Y : Type 0} (f : X → Y) (xs ys : List X) → SameMembers xs ys → SameMembers (map f xs) (map f ys)
+same_told f xs ys same y = (
+  λ h. let from = of_map f xs y h in subst (Contains (map f ys)) (sym from.2) (in_map f ys from.0 ((same from.0).0 from.1)),
+  λ h. let from = of_map f ys y h in subst (Contains (map f xs)) (sym from.2) (in_map f xs from.0 ((same from.0).1 from.1)),
+)
+
+pub returns-then-is_ok-2 : goal.returns-then-is_ok-2
+returns-then-is_ok-2 g c =
+    let old = all_of c.self.inside.older ++ all_of c.self.inside.newer in
+    let same = from_ok c.list_both.result (SameMembers old c.list_both.new.items.items) c.list_both.ensures.same (sym c.is_ok.ensures.value ∙ c.if-is_ok.true) in
+    let held = from_ok c.hold.result (all_of c.hold.new.self ≡ c.list_both.new.items.items) c.hold.ensures.held (sym c.is_ok-then-is_ok.ensures.value ∙ c.if-is_ok-2.true) in
+    let all : all_of c.hold.new.self ++ all_of c.clear.new.self ≡ c.list_both.new.items.items =
+    ap (λ xs. all_of c.hold.new.self ++ xs) c.clear.ensures ∙ append-nil (all_of c.hold.new.self) ∙ held in
+    rw (← c.self.view_is) (same_told (as_waiting g.C.StoredCost.components) old (all_of c.hold.new.self ++ all_of c.clear.new.self) (subst (SameMembers old) (sym all) same))

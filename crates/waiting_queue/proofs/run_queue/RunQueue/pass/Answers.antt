@@ -1,50 +1,34 @@
-use Rattle.std.proofs.Common.{◌++◌, map, refl, sym, subst}
-use Rattle.std.proofs.lemmas.List.{map-append}
-use Rattle.waiting_queue.specs.declared.run.Run.{Run}
-use Rattle.waiting_queue.specs.Runs.{IsRun, live_in}
-use Rattle.waiting_queue.specs.Taking.{TakesOpenSpots}
+use Rattle.std.proofs.Common.{List, ◌++◌, inl, inr, map}
+use Rattle.std.specs.Prelude.{IsPermutation}
+use Rattle.list_laws.specs.Sets.{SameMembers}
+use Rattle.list_laws.proofs.OnceLaws.{in_append}
+use Rattle.list_laws.proofs.SetLaws.{same_by_permutation}
+use Rattle.waiting_queue.specs.Runs.{all_of}
 use Rattle.waiting_queue.specs.Waiting.{as_waiting, spot_in, spot_of}
-use Rattle.waiting_queue.proofs.RunLemmas.{marked_run, runs_take, same_let_in, spots_left_alike}
-use Rattle.waiting_queue.proofs.TakingLemmas.{spots_told, takes_spots_alike}
+use Rattle.waiting_queue.proofs.TakingLemmas.{spots_if_taken, spots_let_in, takes_spots_alike}
 use Rattle.waiting_queue.proofs.run_queue.RunQueue.pass.Goals as goal
 
-pub invariant_of-self-2 : goal.invariant_of-self-2
-invariant_of-self-2 g c =
-    let value = g.C.Part.Part.value in
-    let bound = g.C.Part.Part.bound in
-    let numbers = g.C.StoredCost.components in (
-      c.self.invariant.0,
-      (
-        marked_run numbers value bound c.self.inside.older (record { items = c.self.inside.older.items; seconds = c.mark_gone.new.seconds }) c.self.invariant.1.0
-            c.deref.result.now refl c.mark_gone.ensures,
-        marked_run numbers value bound c.swap.new.x (record { items = c.swap.new.x.items; seconds = c.mark_gone-2.new.seconds })
-            (subst (IsRun value numbers bound) (sym c.swap.ensures.x_after) c.in_ok-merge.ensures.run) c.deref-2.result.now refl c.mark_gone-2.ensures,
-      ),
-    )
+-- the second of two lists in another order
+in_any_order : {X : Type 0} (xs ys order both : List X) → IsPermutation ys order → SameMembers (xs ++ order) both → SameMembers (xs ++ ys) both
+in_any_order xs ys order both moved same x = (
+  λ h. (same x).0 ((in_append xs order x).1 (elim ((in_append xs ys x).0 h) [ inl old ↦ inl old | inr new ↦ inr ((same_by_permutation ys order moved x).1 new) ])),
+  λ h. (in_append xs ys x).1 (elim ((in_append xs order x).0 ((same x).1 h)) [ inl old ↦ inl old | inr new ↦ inr ((same_by_permutation ys order moved x).0 new) ]),
+)
 
 pub returns-clause-taken : goal.returns-clause-taken
 returns-clause-taken g c =
-    let value = g.C.Part.Part.value in
-    let bound = g.C.Part.Part.bound in
     let numbers = g.C.StoredCost.components in
     let may = g.K.Look.IsOpen c.args.look.now in
-    let older = c.self.inside.older in
-    let newer = c.self.inside.newer in
-    let both = c.swap.new.x in
-    let older_after : Run g.row.C.Denot g.row.C-Part.Denot = record { items = older.items; seconds = c.mark_gone.new.seconds } in
-    let newer_after : Run g.row.C.Denot g.row.C-Part.Denot = record { items = both.items; seconds = c.mark_gone-2.new.seconds } in
-    let there = live_in value numbers bound older in
-    let left = live_in value numbers bound older_after ++ live_in value numbers bound newer_after in
-    let merges = rw (sym c.swap.ensures.x_after) at c.in_ok-merge.ensures in
-    let takes = runs_take numbers value bound may older both older_after newer_after c.self.invariant.1.0 merges.run c.pass_runs.new.taken.items
-    c.deref.result.now c.deref-2.result.now (rw (sym c.swap.ensures.x_after, sym c.deref.ensures.value, sym c.deref-2.ensures.value) at c.in_ok-pass_runs.ensures)
-    refl c.mark_gone.ensures refl c.mark_gone-2.ensures in
-    let before = (there ++ live_in value numbers bound newer) ++ c.args.fresh.now in
-    let shown = spots_told spot_of (as_waiting numbers) may before c.pass_runs.new.taken.items left
-    (takes_spots_alike (spot_in numbers) may (there ++ live_in value numbers bound both) before c.pass_runs.new.taken.items left
-    (same_let_in there (live_in value numbers bound newer) c.args.fresh.now (live_in value numbers bound c.sort_run.new.run) (live_in value numbers bound both)
-    merges.has c.in_ok-sort_run.ensures.same) takes) in
-    rw (← c.self.view_is) (subst (λ xs. TakesOpenSpots spot_of may xs (map (as_waiting numbers) c.pass_runs.new.taken.items) c.join_runs.new.self)
-    (map-append (as_waiting numbers) (there ++ live_in value numbers bound newer) c.args.fresh.now)
-    (spots_left_alike spot_of may (map (as_waiting numbers) before) (map (as_waiting numbers) c.pass_runs.new.taken.items)
-    (map (as_waiting numbers) left) c.join_runs.new.self c.join_runs.ensures shown))
+    let older = all_of c.self.inside.older in
+    let newer = all_of c.self.inside.newer in
+    let both = c.list_both.new.items.items in
+    let took = c.pass_runs.new.taken.items in
+    let left = all_of c.pass_runs.new.older ++ all_of c.pass_runs.new.newer in
+    let moved : IsPermutation c.args.fresh.now c.sort_items.new.items.items =
+    rw (c.in_ok-extend_from_slice.ensures.items, c.clear.ensures.items) at c.sort_items.ensures.same in
+    let same : SameMembers (newer ++ c.args.fresh.now) both =
+    in_any_order newer c.args.fresh.now c.sort_items.new.items.items both moved (rw c.in_ok-hold.ensures.held at c.in_ok-list_both.ensures.same) in
+    rw (← c.self.view_is) (takes_spots_alike spot_of may (map (as_waiting numbers) (older ++ newer) ++ map (as_waiting numbers) c.args.fresh.now)
+    (map (as_waiting numbers) (older ++ newer) ++ map (as_waiting numbers) c.args.fresh.now) (map (as_waiting numbers) took) (map (as_waiting numbers) left)
+    c.join_runs.new.self (λ x. (λ h. h, λ h. h)) c.join_runs.ensures (spots_let_in spot_of (as_waiting numbers) may older newer c.args.fresh.now both took left same
+    (spots_if_taken (spot_in numbers) may (older ++ both) took left (rw c.in_ok-hold-2.ensures.held at c.pass_runs.ensures.taken))))

@@ -1,3 +1,2 @@
 pub mod GoingBackLaws
 pub mod WellFoundLaws
-pub mod ReadbackLemmas

@@ -1,171 +1,172 @@
--- What lies on the way of an answer's walks, and what is relevant, can be read back; and walks go through settled pairs alone.
-use Rattle.std.proofs.Common.{◌≡◌, ◌≢◌, ℕ, ◌+◌, ◌<◌, ◌≤◌, List, [], ◌∷◌, ◌++◌, Option, length, reverse, ◌↔◌, inl, inr, sym, ap, subst, ◌∙◌, arith}
-use Rattle.std.specs.Prelude.{AllPairs, Contains}
-use Rattle.cost_vector.specs.Costs.{AtMost, Dominates, Within, plus}
-use Rattle.cost_vector.proofs.Vectors.{AtMost-plus_self, Dominates-AtMost, Dominates-irrefl, Dominates-trans, Within-AtMost}
-use Rattle.std.proofs.lemmas.List.{length-reverse, reverse-reverse, reverse-append, append-nil, append_assoc}
+-- Relevant pairs and what lies on the way of an answer's walks can be read back, arc by arc; and no such walk is longer than `longest_in` says.
+use Rattle.std.proofs.Common.{◌≡◌, ◌≢◌, ℕ, ◌≤◌, List, [], ◌∷◌, Option, length, reverse, inl, inr, refl, sym, subst, arith, ◌<◌, ◌++◌, Some, map}
+use Rattle.std.specs.Prelude.{AllPairs, Contains, slice_get}
+use Rattle.std.proofs.lemmas.List.{length-reverse, reverse-append, append_assoc, append-nil, length-append, length-map}
+use Rattle.cost_vector.specs.Costs.{Dominates}
+use Rattle.cost_vector.proofs.Vectors.{Dominates-AtMost, Dominates-irrefl, Dominates-trans, Within-AtMost}
 use Rattle.list_laws.proofs.Members.{in_none, cases_in}
 use Rattle.list_laws.proofs.Pairs.{pairs_none, pairs_cons, pigeonhole}
-use Rattle.road_network.specs.Network.{Network, IsNetwork, Leads}
+use Rattle.road_network.specs.Network.{Network, IsNetwork}
 use Rattle.road_network.specs.Walks.{IsWalk, Arrives}
-use Rattle.road_network.specs.Best.{IsBest}
-use Rattle.road_network.specs.Answers.{IsRelevant}
-use Rattle.road_network.proofs.WalkLaws.{length_of_walk, leads_by_vector, length_of_arrival, parts_of_walk, walk_on, walk_after, arrives_by_walk, walk_by_arrival}
-use Rattle.road_network.proofs.BestLaws.{first_part_is_best, best_before, grows_along}
+use Rattle.road_network.proofs.WalkLaws.{length_of_arrival, arrives_by_walk, walk_by_arrival}
+use Rattle.road_network.proofs.BestLaws.{grows_along}
 use Rattle.road_network.proofs.FiniteLaws.{best_is_short}
-use Rattle.road_network.proofs.BackwardLaws.{one_end}
 use Rattle.walk_readback.specs.Found.{FoundCosts, HasSettled, IsFound, IsOnTheWay, IsWellFound, HasAllRelevant, longest_in}
-use Rattle.walk_readback.specs.GoingBack.{IsClosedBack}
+use Rattle.walk_readback.specs.GoingBack.{IsReadable, GoesBack}
+use Rattle.walk_readback.proofs.GoingBackLaws.{front_below, front_is_best, front_is_readable, itself_settled, EndsWith, empty, last, cases_end, last_goes_back, readable_before}
+use Rattle.std.proofs.lemmas.Option.{slice_get_within, get_or_from_slice_get}
+use Rattle.list_laws.specs.Least.{IsLeastWith}
+use Rattle.cost_vector.specs.declared.label.ArcNo.{ArcNo}
+use Rattle.road_network.specs.Best.{IsBackwardLeast}
+use Rattle.road_network.proofs.BackwardLaws.{has_backward_least, with_last_arc}
 
 module _ (net : Network) (is : IsNetwork net) (limit : List (Option ℕ)) (f : FoundCosts) where
-  -- ---- relevant pairs
-
   module _ (all : HasAllRelevant net limit f) where
-    relevant_before : (p : List ℕ) (k u v : ℕ) (b w : List ℕ) → IsRelevant net f.start f.target limit v (plus b w) → IsWalk net f.start p u b
-        → Leads net k u w v → IsRelevant net f.start f.target limit u b
-    relevant_before p k u v b w relevant walk leads =
-        let long = length_of_walk net is p f.start u b walk ∙ sym (leads_by_vector net is k u v w leads).whole in
-        let below = AtMost-plus_self b w long in
-        record {
-          best = best_before net is p f.start u v k b w walk leads relevant.best;
-          within = Within-AtMost limit b (plus b w) below relevant.within;
-          undominated = λ d best beats. relevant.undominated d best (Dominates-AtMost d b (plus b w) beats below);
-        }
-
-    pub relevant_closed : IsClosedBack net f (IsRelevant net f.start f.target limit)
-    relevant_closed = record {
-      walked = λ v b settled. ((all.relevant v b).0 settled).best.reached;
-      best = λ v c relevant. relevant.best;
-      settled = λ v c relevant. (all.relevant v c).1 relevant;
-      back = relevant_before;
+    -- where the relevant pairs are settled, each of them can be read back
+    pub settled_is_readable : (v : ℕ) (c : List ℕ) → HasSettled f v c → IsReadable net f v c
+    settled_is_readable v c there = let relevant = (all.relevant v c).0 there in record {
+      network = is;
+      best = relevant.best;
+      settled = λ p q u b whole front.
+          let below = front_below net is f.start p q v c whole u b front in
+          (all.relevant u b).1 (record {
+            best = front_is_best net is f.start p q v c whole u b front relevant.best;
+            within = Within-AtMost limit b c below relevant.within;
+            undominated = λ d best beats. relevant.undominated d best (Dominates-AtMost d b c beats below);
+          });
+      walked = λ u b settled. ((all.relevant u b).0 settled).best.reached;
     }
 
-    module _ (found : IsFound f) where
-      costs_are_best : (c : List ℕ) → Contains f.costs c ↔ (IsBest net f.start f.target c × Within limit c)
-      costs_are_best c = (
+    -- and all is well found
+    pub well_found : IsFound f → IsWellFound net limit f
+    well_found found = record {
+      costs = λ c. (
         λ there. let relevant = (all.relevant f.target c).0 ((found.costs c).0 there) in (relevant.best, relevant.within),
-        λ both. (found.costs c).1 ((all.relevant f.target c).1 (record {
-          best = both.0;
-          within = both.1;
-          undominated = λ b best. both.0.nondominated best.reached.0 b best.reached.1;
+        λ (best, within). (found.costs c).1 ((all.relevant f.target c).1 (record {
+          best = best;
+          within = within;
+          undominated = λ b other. best.nondominated other.reached.0 b other.reached.1;
         })),
-      )
-
-      -- what lies on the way is relevant
-      relevant_on_the_way : (v : ℕ) (b : List ℕ) → IsOnTheWay net f v b → IsRelevant net f.start f.target limit v b
-      relevant_on_the_way v b way =
-          let goal = (costs_are_best way.cost).0 way.there in
-          let parts = parts_of_walk net is way.first way.rest f.start f.target way.cost way.whole in
-          let end = one_end net way.first f.start parts.at v parts.so_far b parts.first way.reaches in
-          let long : length parts.so_far ≡ length parts.onward =
-          length_of_walk net is way.first f.start parts.at parts.so_far parts.first ∙ sym (length_of_walk net is way.rest parts.at f.target parts.onward parts.second) in
-          let below : AtMost b way.cost =
-          subst (λ x. AtMost x way.cost) end.1 (subst (AtMost parts.so_far) (sym parts.cost) (AtMost-plus_self parts.so_far parts.onward long)) in
-          let best = first_part_is_best net is way.first way.rest f.start f.target way.cost way.whole goal.0 in
-          let same = one_end net way.first f.start best.at v best.cost b best.walk way.reaches in
-          record {
-            best = subst (IsBest net f.start v) same.1 (subst (λ x. IsBest net f.start x best.cost) same.0 best.best);
-            within = Within-AtMost limit b way.cost below goal.1;
-            undominated = λ d other beats. goal.0.nondominated other.reached.0 d other.reached.1 (Dominates-AtMost d b way.cost beats below);
-          }
-
-      -- where the relevant pairs are settled, all is well found
-      pub well_found : IsWellFound net limit f
-      well_found = record {
-        costs = costs_are_best;
-        walked = relevant_closed.walked;
-        on_the_way = λ v b way. (all.relevant v b).1 (relevant_on_the_way v b way);
-      }
-
-  -- ---- what lies on the way
+      );
+      walked = λ u b settled. ((all.relevant u b).0 settled).best.reached;
+      on_the_way = λ v b way.
+          let there = (found.costs way.cost).0 way.there in
+          (settled_is_readable f.target way.cost there).settled way.first way.rest v b way.whole way.reaches;
+    }
 
   module _ (well : IsWellFound net limit f) where
-    way_before : (p : List ℕ) (k u v : ℕ) (b w : List ℕ) → IsOnTheWay net f v (plus b w) → IsWalk net f.start p u b → Leads net k u w v → IsOnTheWay net f u b
-    way_before p k u v b w way walk leads =
-        let parts = parts_of_walk net is way.first way.rest f.start f.target way.cost way.whole in
-        let end = one_end net way.first f.start parts.at v parts.so_far (plus b w) parts.first way.reaches in
-        let here = subst (λ x. IsWalk net x way.rest f.target parts.onward) end.0 parts.second in
-        let other = walk_after net is (p ++ k ∷ []) way.rest f.start v f.target (plus b w) parts.onward (walk_on net is p f.start u v k b w walk leads) here in
-        let cost : plus (plus b w) parts.onward ≡ way.cost = ap (λ x. plus x parts.onward) (sym end.1) ∙ sym parts.cost in
-        record {
-          first = p;
-          rest = k ∷ way.rest;
-          cost = way.cost;
-          there = way.there;
-          whole = subst (λ r. IsWalk net f.start r f.target way.cost) (append_assoc p (k ∷ []) way.rest) (subst (IsWalk net f.start ((p ++ k ∷ []) ++ way.rest) f.target) cost other);
-          reaches = walk;
-        }
+    -- where all is well found, the costs can be read back
+    pub cost_is_readable : (c : List ℕ) → Contains f.costs c → IsReadable net f f.target c
+    cost_is_readable c there = record {
+      network = is;
+      best = ((well.costs c).0 there).0;
+      settled = λ p q u b whole front.
+          well.on_the_way u b (record { first = p; rest = q; cost = c; there = there; whole = whole; reaches = front });
+      walked = well.walked;
+    }
 
-    way_is_best : (v : ℕ) (b : List ℕ) → IsOnTheWay net f v b → IsBest net f.start v b
-    way_is_best v b way =
-        let best = first_part_is_best net is way.first way.rest f.start f.target way.cost way.whole ((well.costs way.cost).0 way.there).0 in
-        let same = one_end net way.first f.start best.at v best.cost b best.walk way.reaches in
-        subst (IsBest net f.start v) same.1 (subst (λ x. IsBest net f.start x best.cost) same.0 best.best)
-
-    pub way_closed : IsClosedBack net f (IsOnTheWay net f)
-    way_closed = record { walked = well.walked; best = way_is_best; settled = well.on_the_way; back = way_before }
+    -- so can what lies on the way
+    pub way_is_readable : (v : ℕ) (b : List ℕ) → IsOnTheWay net f v b → IsReadable net f v b
+    way_is_readable v b way = front_is_readable net f way.first way.rest f.target way.cost (cost_is_readable way.cost way.there) way.whole v b way.reaches
 
     -- ---- how long walks are
 
-    module _ (c p : List ℕ) (there : Contains f.costs c) (walk : IsWalk net f.start p f.target c) where
-      -- a settled pair of a greater cost
-      record IsLater (b : List ℕ) (x : ℕ × List ℕ) : Type 0 where
-        pub settled : Contains f.settled x
-        pub greater : Dominates b x.1
+    -- the pairs are settled, and their costs dominate b
+    abbrev AreEarlier : List ℕ → List (ℕ × List ℕ) → Type 0
+    AreEarlier b ends = (x : ℕ × List ℕ) → Contains ends x → Contains f.settled x × Dominates x.1 b
 
-      module _ (q r : List ℕ) (v : ℕ) (b : List ℕ) (others : List (ℕ × List ℕ)) (whole : reverse q ++ r ≡ p) (arrives : Arrives net f.start q v b)
-          (each : (x : ℕ × List ℕ) → Contains others x → IsLater b x) where
-        -- the pair at which a front of the walk ends is settled
-        front_settled : HasSettled f v b
-        front_settled = well.on_the_way v b (record {
-          first = reverse q;
-          rest = r;
-          cost = c;
-          there = there;
-          whole = subst (λ z. IsWalk net f.start z f.target c) (sym whole) walk;
-          reaches = walk_by_arrival net is q f.start v b arrives;
-        })
+    with_end : (v : ℕ) (b : List ℕ) (ends : List (ℕ × List ℕ)) → AreEarlier b ends → AllPairs ◌≢◌ ends → AllPairs ◌≢◌ ((v, b) ∷ ends)
+    with_end v b ends each =
+        pairs_cons ◌≢◌ (v, b) ends (λ x there same. Dominates-irrefl b (subst (λ (y : ℕ × List ℕ). Dominates y.1 b) (sym same) (each x there).1))
 
-        with_pair : AllPairs ◌≢◌ others → AllPairs ◌≢◌ ((v, b) ∷ others)
-        with_pair = pairs_cons ◌≢◌ (v, b) others
-            (λ x later same. Dominates-irrefl b (subst (λ (y : ℕ × List ℕ). Dominates b y.1) (sym same) (each x later).greater))
+    -- the fronts of a walk end at such pairs, each at its own
+    fronts_are_settled : (q : List ℕ) (v : ℕ) (b : List ℕ) → IsReadable net f v b → Arrives net f.start q v b
+        → (ends : List (ℕ × List ℕ)) × (length ends ≡ length q) × AllPairs ◌≢◌ ends × AreEarlier b ends
+    fronts_are_settled [] v b r walk = ([], refl, pairs_none ◌≢◌, λ x none. absurd (in_none x none))
+    fronts_are_settled (k ∷ q) v b r walk =
+        let u = walk.at in let a = walk.before in
+        let whole = rw (reverse-append (k ∷ []) q) at (walk_by_arrival net is (k ∷ q) f.start v b walk) in
+        let front = front_is_readable net f (reverse q) (k ∷ []) v b r whole u a (walk_by_arrival net is q f.start u a walk.walk) in
+        let (ends, count, distinct, each) = fronts_are_settled q u a front walk.walk in
+        let less : Dominates a b = rw walk.cost (grows_along net is k u v walk.by a walk.leads (length_of_arrival net is q f.start u a walk.walk)) in (
+          (u, a) ∷ ends,
+          omega (arith, count),
+          with_end u a ends each distinct,
+          λ x there. elim (cases_in (u, a) ends x there) [
+            | inl same ↦ rw same (itself_settled front, less)
+            | inr later ↦ ((each x later).0, Dominates-trans x.1 a b (each x later).1 less)
+          ],
+        )
 
-        each_settled : (x : ℕ × List ℕ) → Contains ((v, b) ∷ others) x → Contains f.settled x
-        each_settled x later = elim (cases_in (v, b) others x later) [
-          | inl same ↦ subst (Contains f.settled) (sym same) front_settled
-          | inr rest ↦ (each x rest).settled
-        ]
+    -- so a walk of an answer's cost has fewer arcs than there are settled pairs, and nodes, since it goes through none twice
+    pub is_within_longest : (c p : List ℕ) → Contains f.costs c → IsWalk net f.start p f.target c → f.nodes ≡ net.nodes → length p ≤ longest_in f
+    is_within_longest c p there walk nodes =
+        let r = cost_is_readable c there in
+        let (ends, count, distinct, each) = fronts_are_settled (reverse p) f.target c r (arrives_by_walk net is p f.start f.target c walk) in
+        let all = pigeonhole ((f.target, c) ∷ ends) f.settled (with_end f.target c ends each distinct) (λ x there. elim (cases_in (f.target, c) ends x there) [
+          | inl same ↦ rw same (itself_settled r)
+          | inr later ↦ (each x later).0
+        ]) in
+        let short = best_is_short net is p f.start f.target c walk r.best in
+        omega (arith, all, count, short, nodes, length-reverse p)
 
-      -- each front of the walk ends at a settled pair of its own
-      fronts_are_settled : (q r : List ℕ) (v : ℕ) (b : List ℕ) (others : List (ℕ × List ℕ)) → reverse q ++ r ≡ p → Arrives net f.start q v b
-          → AllPairs ◌≢◌ others → ((x : ℕ × List ℕ) → Contains others x → IsLater b x) → length q + length others < length f.settled
-      fronts_are_settled [] r v b others whole arrives distinct each =
-          let all = pigeonhole ((v, b) ∷ others) f.settled (with_pair [] r v b others whole arrives each distinct) (each_settled [] r v b others whole arrives each) in
-          omega (arith, all)
-      fronts_are_settled (k ∷ q) r v b others whole arrives distinct each =
-          let more : Dominates arrives.before b =
-          subst (Dominates arrives.before) (sym arrives.cost) (grows_along net is k arrives.at v arrives.by arrives.before arrives.leads (length_of_arrival net is q f.start arrives.at arrives.before arrives.walk)) in
-          let longer : reverse q ++ k ∷ r ≡ reverse (k ∷ q) ++ r = sym (append_assoc (reverse q) (k ∷ []) r) ∙ ap (λ z. z ++ r) (sym (reverse-append (k ∷ []) q)) in
-          let rest = fronts_are_settled q (k ∷ r) arrives.at arrives.before ((v, b) ∷ others) (longer ∙ whole) arrives.walk
-          (with_pair (k ∷ q) r v b others whole arrives each distinct)
-          (λ x later. record {
-            settled = each_settled (k ∷ q) r v b others whole arrives each x later;
-            greater = elim (cases_in (v, b) others x later) [
-              | inl same ↦ subst (λ (y : ℕ × List ℕ). Dominates arrives.before y.1) (sym same) more
-              | inr other ↦ Dominates-trans arrives.before b x.1 more (each x other).greater
-            ];
-          }) in
-          omega (arith, rest)
+-- ---- a walk that is read back
 
-      bounded_walk : length p < length f.settled
-      bounded_walk =
-          let all = fronts_are_settled (reverse p) [] f.target c [] (append-nil (reverse (reverse p)) ∙ reverse-reverse p) (arrives_by_walk net is p f.start f.target c walk)
-          (pairs_none ◌≢◌) (λ x none. absurd (in_none x none)) in
-          omega (arith, all, length-reverse p)
+-- the numbers of the arcs
+abbrev pub numbers : List ArcNo → List ℕ
+numbers = map (λ a. a.0)
 
-      -- and so has each walk of an answer's cost, since it goes through no node twice
-      pub is_within_longest : f.nodes ≡ net.nodes → length p ≤ longest_in f
-      is_within_longest nodes =
-          let settled = bounded_walk in
-          let short = best_is_short net is p f.start f.target c walk ((well.costs c).0 there).0 in
-          omega (arith, settled, short, nodes)
+-- A walk of this cost of the target is being read back, and none is longer than `longest_in` says. It comes to the node at the
+-- cost `left`, from where these arcs were read.
+pub record IsReading (net : Network) (f : FoundCosts) (cost : List ℕ) (node : ℕ) (left : List ℕ) (arcs : List ArcNo) : Type 0 where
+  pub short : (p : List ℕ) → IsWalk net f.start p f.target cost → length p ≤ longest_in f
+  pub readable : IsReadable net f node left
+  pub whole : (p : List ℕ) → IsBackwardLeast net f.start node left p → IsBackwardLeast net f.start f.target cost (p ++ numbers (reverse arcs))
+
+-- nothing is read yet
+pub reading_begins : (net : Network) (f : FoundCosts) → IsNetwork net → (limit : List (Option ℕ)) → IsWellFound net limit f → f.nodes ≡ net.nodes
+    → (i : ℕ) (c : List ℕ) → slice_get f.costs i ≡ Some c → IsReading net f c f.target c []
+reading_begins net f is limit well nodes i c at =
+    let there : Contains f.costs c = (i, slice_get_within f.costs i c at, get_or_from_slice_get f.costs i c c at) in
+    record {
+      short = λ p walk. is_within_longest net is limit f well c p there walk nodes;
+      readable = cost_is_readable net is limit f well c there;
+      whole = λ p least. rw append-nil least;
+    }
+
+module _ {net : Network} {f : FoundCosts} {cost : List ℕ} {node : ℕ} {left : List ℕ} {arcs : List ArcNo} (r : IsReading net f cost node left arcs) where
+  -- a walk comes to the node
+  abbrev so_far : (p : List ℕ) × IsBackwardLeast net f.start node left p
+  so_far = let (p, walk) = r.readable.best.reached in has_backward_least net r.readable.network p f.start node left walk
+
+  -- where no arc goes back, all is read
+  pub reading_ends : ((k : ℕ) → ¬ GoesBack net f node left k) → IsBackwardLeast net f.start f.target cost (numbers (reverse arcs))
+  reading_ends none = let (p, least) = so_far in by_end p least (cases_end p) where
+    by_end : (p : List ℕ) → IsBackwardLeast net f.start node left p → EndsWith p → IsBackwardLeast net f.start f.target cost (numbers (reverse arcs))
+    by_end p least (empty is) = rw is at (r.whole p least)
+    by_end p least (last front k is) = absurd (none k (last_goes_back r.readable front k (subst (λ q. IsWalk net f.start q node left) is least.walk)))
+
+  -- by the least arc that goes back it goes on
+  pub reading_goes_on : (arc : ArcNo) (least : IsLeastWith (GoesBack net f node left) arc.0)
+      → IsReading net f cost least.holds.from least.holds.before (arcs ++ arc ∷ [])
+  reading_goes_on arc least = record {
+    short = r.short;
+    readable = readable_before r.readable arc.0 back;
+    whole = λ p walk.
+        let longer = with_last_arc net r.readable.network p f.start back.from node arc.0 back.before back.by walk back.leads (λ q j other.
+        let not_below : ¬ (j < arc.0) = λ below. least.none_below j below (last_goes_back r.readable q j (rw back.cost other)) in
+        omega (arith, not_below)) in
+        let all = r.whole (p ++ arc.0 ∷ []) (rw back.cost longer) in
+        rw reverse-append (rw append_assoc at all);
+  } where
+    back : GoesBack net f node left arc.0
+    back = least.holds
+
+-- a walk of which an arc was read has room for it
+pub is_room : {net : Network} {f : FoundCosts} {cost : List ℕ} {node : ℕ} {left : List ℕ} (arcs : List ArcNo) (arc : ArcNo)
+    → IsReading net f cost node left (arcs ++ arc ∷ []) → length arcs < longest_in f
+is_room arcs arc r =
+    let (p, least) = so_far r in
+    let read = reverse (arcs ++ arc ∷ []) in
+    let most = r.short (p ++ numbers read) (r.whole p least).walk in
+    omega (arith, most, length-append p (numbers read), length-map {B = ℕ} read (λ a. a.0), length-reverse (arcs ++ arc ∷ []), length-append arcs (arc ∷ []))

@@ -1,11 +1,10 @@
-ghost use Rattle.std.specs.Prelude.{◌≡◌, ℕ, ◌<◌, ◌≤◌, List, Option, Some, length, map, slice_get, IfSome, ◌↔◌};
+ghost use Rattle.std.specs.Prelude.{◌≡◌, ℕ, ◌<◌, ◌≤◌, List, Option, None, length, map, slice_get, IfSome};
 ghost use Rattle.std.specs.Option.{option_map};
-ghost use Rattle.list_laws.specs.Least.{IsLeastIfAny};
+ghost use Rattle.list_laws.specs.Least.{IsLeastWith};
 ghost use Rattle.arc_graph.specs.Graph.{head_of};
-ghost use Rattle.road_network.specs.Network.{IsNode};
 ghost use Rattle.road_network.specs.Best.{IsBackwardLeast};
-ghost use Rattle.walk_readback.specs.Found.{HasAllRelevant, HasSettled, IsBelowSettled, IsWellFound, longest_in};
-ghost use Rattle.walk_readback.specs.GoingBack.{LeavesCovered, last_of};
+ghost use Rattle.walk_readback.specs.Found.{HasAllRelevant, HasSettled, IsWellFound, longest_in};
+ghost use Rattle.walk_readback.specs.GoingBack.{GoesBack, IsReadable, last_of};
 
 use crate::{FoundCosts, Room};
 use arc_graph::Network;
@@ -73,16 +72,14 @@ fn step_back<F: FoundCosts>(
     node: NodeNo,
     cost: &Cost,
 ) -> Option<Step>
-    requires node { IsNode network.now.nodes node.0 }
-    requires count { length cost.now ≡ network.now.criteria }
-    requires below { IsBelowSettled (F.state found.now) cost.now }
+    requires readable { IsReadable network.now (F.state found.now) node.0 cost.now }
     requires nodes { (F.state found.now).nodes ≡ network.now.nodes }
     requires criteria { (F.state found.now).criteria ≡ network.now.criteria }
-    ensures least { IsLeastIfAny
-        (λ k. (b : List ℕ) × LeavesCovered network.now (F.state found.now) node.0 cost.now k b)
-        (option_map (λ s. s.arc.0) result) }
-    ensures before { IfSome result (λ s.
-        LeavesCovered network.now (F.state found.now) node.0 cost.now s.arc.0 s.before) }
+    ensures some { IfSome result (λ s.
+        (least : IsLeastWith (GoesBack network.now (F.state found.now) node.0 cost.now) s.arc.0)
+        × (least.holds.before ≡ s.before)) }
+    ensures none { result ≡ None → (k : ℕ)
+        → ¬ GoesBack network.now (F.state found.now) node.0 cost.now k }
 {
     let arcs = network.in_arcs(node);
     for &arc in arcs {
@@ -103,13 +100,15 @@ fn cost_before<F: FoundCosts>(
     requires counted { 1 ≤ arc.0 }
     requires there { arc.0 ≤ length network.now.ends }
     requires count { length cost.now ≡ network.now.criteria }
-    requires below { IsBelowSettled (F.state found.now) cost.now }
+    requires readable { IsReadable network.now (F.state found.now)
+        (head_of network.now.ends arc) cost.now }
     requires nodes { (F.state found.now).nodes ≡ network.now.nodes }
     requires criteria { (F.state found.now).criteria ≡ network.now.criteria }
-    ensures { (b : List ℕ) → (result ≡ Some b) ↔ LeavesCovered network.now (F.state found.now)
-        (head_of network.now.ends arc) cost.now arc.0 b }
+    ensures some { IfSome result (λ b. (back : GoesBack network.now (F.state found.now)
+        (head_of network.now.ends arc) cost.now arc.0) × (back.before ≡ b)) }
+    ensures none { result ≡ None → ¬ GoesBack network.now (F.state found.now)
+        (head_of network.now.ends arc) cost.now arc.0 }
 {
-    prove!(network.nodes() >= 1);
     let by = network.weight(arc)?;
     let before = cost.minus(&by)?;
     if !found.covers(network.tail(arc), &before) {

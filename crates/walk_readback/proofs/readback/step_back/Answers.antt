@@ -1,42 +1,30 @@
 use Rattle.std.proofs.Common.{arith}
-use Rattle.arc_graph.proofs.InArcsLemmas.{arc_at}
-use Rattle.walk_readback.proofs.ReadbackLemmas.{none_leaves, first_is_least, none_more}
+use Rattle.arc_graph.proofs.InArcsLemmas.{arc_at, each_is_there}
+use Rattle.walk_readback.proofs.GoingBackLaws.{count_of, node_of, none_below, none_more}
 use Rattle.walk_readback.proofs.readback.step_back.Goals as goal
 
+pub in_arcs-arcs-requires : goal.in_arcs-arcs-requires
+in_arcs-arcs-requires g c = node_of c.requires.readable
+
 pub loop-arc-init : goal.loop-arc-init
-loop-arc-init g c = λ j d b below. omega arith
+loop-arc-init g c = λ k back. (rw c.in_arcs-arcs.ensures (each_is_there _ k _ _ _ back.leads), omega arith)
 
-pub cost_before-requires-clause-counted : goal.cost_before-requires-clause-counted
-cost_before-requires-clause-counted g c =
-    let net = c.args.network.now in
-    (arc_at net.ends c.args.node.0 c.in_arcs-arcs.result.now c.loop-arc.arc-index (record { 0 = 0 }) c.in_arcs-arcs.ensures c.loop-arc-test.true).counted
+pub cost_before-requires : goal.cost_before-requires
+cost_before-requires g c =
+    let at = arc_at c.args.network.now.ends c.args.node.0 _ _ (record { 0 = 0 }) c.in_arcs-arcs.ensures c.loop-arc-test.true in
+    let is = c.requires.readable in
+    record { counted = at.counted; there = at.there; count = count_of is; readable = rw at.head is; nodes = c.requires.nodes; criteria = c.requires.criteria }
 
-pub cost_before-requires-clause-there : goal.cost_before-requires-clause-there
-cost_before-requires-clause-there g c =
-    let net = c.args.network.now in
-    (arc_at net.ends c.args.node.0 c.in_arcs-arcs.result.now c.loop-arc.arc-index (record { 0 = 0 }) c.in_arcs-arcs.ensures c.loop-arc-test.true).there
-
-pub returns-in-Some-clause-least : goal.returns-in-Some-clause-least
-returns-in-Some-clause-least g c =
-    let net = c.args.network.now in let f = g.F.FoundCosts.state c.args.found.now in let arcs = c.in_arcs-arcs.result.now in let i = c.loop-arc.arc-index in
-    let head = (arc_at net.ends c.args.node.0 arcs i (record { 0 = 0 }) c.in_arcs-arcs.ensures c.loop-arc-test.true).head in
-    first_is_least net f c.args.node.0 c.args.cost.now arcs c.in_arcs-arcs.ensures i (record { 0 = 0 }) c.in-Some.before c.loop-arc-test.true c.loop-arc.invariant
-    (rw head at ((c.cost_before.ensures c.in-Some.before).0 c.in-Some.is))
-
-pub returns-in-Some-clause-before : goal.returns-in-Some-clause-before
-returns-in-Some-clause-before g c =
-    let net = c.args.network.now in let arcs = c.in_arcs-arcs.result.now in
-    let head = (arc_at net.ends c.args.node.0 arcs c.loop-arc.arc-index (record { 0 = 0 }) c.in_arcs-arcs.ensures c.loop-arc-test.true).head in
-    rw head at ((c.cost_before.ensures c.in-Some.before).0 c.in-Some.is)
+pub returns-in-Some-clause-some : goal.returns-in-Some-clause-some
+returns-in-Some-clause-some g c =
+    let into = arc_at c.args.network.now.ends c.args.node.0 _ _ (record { 0 = 0 }) c.in_arcs-arcs.ensures c.loop-arc-test.true in
+    let (back, same) = rw into.head at c.in-Some.ensures.some in
+    (record { holds = back; none_below = none_below _ _ _ _ c.loop-arc-test.true c.loop-arc.invariant c.args.network.now.ends _ c.in_arcs-arcs.ensures }, same)
 
 pub loop-arc-preserved : goal.loop-arc-preserved
 loop-arc-preserved g c =
-    let net = c.args.network.now in let f = g.F.FoundCosts.state c.args.found.now in let arcs = c.in_arcs-arcs.result.now in let i = c.loop-arc.arc-index in
-    let head = (arc_at net.ends c.args.node.0 arcs i (record { 0 = 0 }) c.in_arcs-arcs.ensures c.loop-arc-test.true).head in
-    none_more net f c.args.node.0 c.args.cost.now arcs c.in_arcs-arcs.ensures i (record { 0 = 0 }) c.loop-arc-test.true c.loop-arc.invariant
-    (λ b leaves. let some = (c.cost_before.ensures b).1 (rw head leaves) in let none = c.in_default.is in absurd cc)
+    let into = arc_at c.args.network.now.ends c.args.node.0 _ _ (record { 0 = 0 }) c.in_arcs-arcs.ensures c.loop-arc-test.true in
+    none_more _ _ _ _ c.loop-arc-test.true c.loop-arc.invariant (λ back. c.cost_before.ensures.none c.in_default.is (rw into.head back))
 
-pub returns-clause-least : goal.returns-clause-least
-returns-clause-least g c =
-    let net = c.args.network.now in let f = g.F.FoundCosts.state c.args.found.now in let arcs = c.in_arcs-arcs.result.now in
-    none_leaves net f c.args.node.0 c.args.cost.now arcs c.in_arcs-arcs.ensures c.loop-arc.arc-index (omega (arith, c.loop-arc-test.false)) c.loop-arc.invariant
+pub returns-clause-none : goal.returns-clause-none
+returns-clause-none g c = λ none k back. let at = c.loop-arc.invariant k back in omega (arith, at, c.loop-arc-test.false)

@@ -1,99 +1,70 @@
--- Candidates that ascend by node, and the groups into which they are cut.
-use Rattle.std.proofs.Common.{◌≡◌, ◌≢◌, ◌⊎◌, ℕ, ◌+◌, ◌<◌, ◌≤◌, List, [], ◌∷◌, ◌++◌, length, get_or, take, drop, inl, inr, refl, sym, ap, subst, ◌∙◌, arith, append_assoc, take-append-drop, length-take, length-drop}
-use Rattle.std.specs.Prelude.{All, Contains}
+-- Candidates that ascend by node, the groups into which they are cut, and what is kept of a group and of several.
+use Rattle.std.proofs.Common.{Bor, ◌≡◌, ◌≢◌, ◌⊎◌, ℕ, zero, suc, ◌+◌, ◌<◌, ◌≤◌, List, [], ◌∷◌, ◌++◌, length, map, get_or, take, drop, inl, inr, sym, ap, subst, ◌∙◌, arith, append_assoc, take-append-drop, length-take, length-drop}
+use Rattle.std.specs.Prelude.{AllPairs, Any, Contains}
+use Rattle.std.proofs.Math.Seq.{drop-append_seam}
 use Rattle.std.specs.List.{AllWithin, HoldsAt}
 use Rattle.std.proofs.lemmas.Bool.{cases_lt}
-use Rattle.std.proofs.lemmas.Grind.{flat_map-append}
-use Rattle.std.proofs.lemmas.List.{append-nil, get_or-take, get_or-drop}
-use Rattle.std.proofs.lemmas.List.Elements.{All-nil, All-push}
-use Rattle.list_laws.proofs.Members.{in_none, in_first, in_rest, cases_in, each_in, all_from_in}
-use Rattle.list_laws.proofs.Pairs.{pairs_none, pairs_push}
+use Rattle.std.proofs.lemmas.List.{drop-map, flat_map_more, map_push, take-map, get_or-take, get_or-drop, take_more}
+use Rattle.std.proofs.lemmas.List.Concat.{flat_map-append}
+use Rattle.std.proofs.lemmas.List.Elements.{All-push}
+use Rattle.cost_vector.specs.Costs.{AtMost}
+use Rattle.list_laws.proofs.Members.{cases_in, cases_push, found_in, in_first, in_none, in_rest}
 use Rattle.list_laws.proofs.OnceLaws.{in_append}
+use Rattle.list_laws.proofs.Pairs.{pair_with_first, pairs_push, pairs_rest, pairs_take}
 use Rattle.waiting_queue.specs.declared.item.Item.{Item}
-use Rattle.round_work.specs.Groups.{AreBefore, AreGroups, AscendByNode, HaveOneNode, SplitsGroup, joined}
+use Rattle.waiting_queue.specs.Taking.{AreSorted}
+use Rattle.waiting_queue.specs.Waiting.{Spot, SpotLess, spot_in}
+use Rattle.waiting_queue.proofs.ShadowLemmas.{in_parts, pairs_drop}
+use Rattle.round_work.specs.Groups.{AreApart, AreGroups, AscendByNode, HaveOneNode, SplitsGroup, joined}
+use Rattle.round_work.specs.Pieces.{Appends}
+use Rattle.round_work.specs.Survivors.{HasBelow, KeepsNeeded}
+use Rattle.round_work.proofs.SurvivorLemmas.{keeps_both, keeps_more, keeps_not}
+
+-- what stands in the front of a list is related to what stands in its back
+pairs_across : {X : Type 0} (R : X → X → Type 0) (xs ys : List X) → AllPairs R (xs ++ ys) → (x y : X) → Contains xs x → Contains ys y → R x y
+pairs_across R [] ys pairs x y h k = absurd (in_none x h)
+pairs_across R (w ∷ ws) ys pairs x y h k = elim (cases_in w ws x h) [
+  | inl same ↦ subst (λ z. R z y) (sym same) (pair_with_first R w (ws ++ ys) pairs y ((in_append ws ys y).1 (inr k)))
+  | inr later ↦ pairs_across R ws ys (pairs_rest R w (ws ++ ys) pairs) x y later k
+]
 
 module _ {C : Type 0} where
-  -- ---- candidates before others
-
-  pub before_each : (ls ms : List (Item C)) → AreBefore ls ms → (l m : Item C) → Contains ls l → Contains ms m → l.node.0 < m.node.0
-  before_each ls ms before l m l_in m_in = each_in (λ (k : Item C). l.node.0 < k.node.0) ms
-      (each_in (λ (k : Item C). All (λ (n : Item C). k.node.0 < n.node.0) ms) ls before l l_in) m m_in
-
-  pub before_from : (ls ms : List (Item C)) → ((l m : Item C) → Contains ls l → Contains ms m → l.node.0 < m.node.0) → AreBefore ls ms
-  before_from ls ms each = all_from_in (λ (l : Item C). All (λ (m : Item C). l.node.0 < m.node.0) ms) ls
-      (λ l l_in. all_from_in (λ (m : Item C). l.node.0 < m.node.0) ms (λ m. each l m l_in))
-
-  -- ---- the candidates of groups
-
-  pub in_joined : (gs : List (List (Item C))) (g : List (Item C)) (l : Item C) → Contains gs g → Contains g l → Contains (joined gs) l
-  in_joined [] g l g_in l_in = absurd (in_none g g_in)
-  in_joined (h ∷ hs) g l g_in l_in = (in_append h (joined hs) l).1 (elim (cases_in h hs g g_in) [
-    | inl first ↦ inl (subst (λ k. Contains k l) first l_in)
-    | inr later ↦ inr (in_joined hs g l later l_in)
-  ])
-
-  pub of_joined : (gs : List (List (Item C))) (l : Item C) → Contains (joined gs) l
-      → (g : List (Item C)) × Contains gs g × Contains g l
-  of_joined [] l there = absurd (in_none l there)
-  of_joined (h ∷ hs) l there = elim ((in_append h (joined hs) l).0 there) [
-    | inl here ↦ (h, in_first h hs, here)
-    | inr later ↦ let (g, g_in, l_in) = of_joined hs l later in (g, in_rest h hs g g_in, l_in)
-  ]
-
-  pub joined_push : (gs : List (List (Item C))) (g : List (Item C)) → joined (gs ++ g ∷ []) ≡ joined gs ++ g
-  joined_push gs g = flat_map-append (λ h. h) gs (g ∷ []) ∙ ap (λ ls. joined gs ++ ls) (append-nil g)
-
   -- ---- cutting off the first group
 
   module _ (list : List (Item C)) (sorted : AscendByNode list) (x : Item C) (some : 0 < length list) (read : x ≡ get_or list 0 x)
       (count : ℕ) (within : count ≤ length list) (at_node : AllWithin (λ (l : Item C). l.node.0 ≡ x.node.0) list 0 count)
       (no_more : count < length list → HoldsAt (λ (l : Item C). l.node.0 ≢ x.node.0) list count) where
-    some_first : 0 < count
-    some_first = elim (cases_lt 0 count) [
-      | inl more ↦ more
-      | inr none ↦
-          let zero : count ≡ 0 = omega (arith, none) in
-          absurd (subst (λ n. HoldsAt (λ (l : Item C). l.node.0 ≢ x.node.0) list n) zero (no_more (omega (arith, zero, some))) x
-          (ap (λ (l : Item C). l.node.0) (sym read)))
-    ]
+    some_first : (n : ℕ) → (n < length list → HoldsAt (λ (l : Item C). l.node.0 ≢ x.node.0) list n) → 0 < n
+    some_first zero differs = absurd (differs some x (ap (λ (l : Item C). l.node.0) (sym read)))
+    some_first (suc n) differs = omega arith
 
-    later : (k : ℕ) (d : Item C) → count ≤ k → k < length list → x.node.0 < (get_or list k d).node.0
-    later k d from inside =
-        let positive = some_first in
-        let first = at_node 0 d (omega arith) positive in
-        let rises = sorted 0 count d positive (omega (arith, from, inside)) in
-        let differs = no_more (omega (arith, from, inside)) d in
-        elim (cases_lt count k) [
-          | inl beyond ↦ let more = sorted count k d beyond inside in omega (arith, more, rises, first, differs)
-          | inr not_beyond ↦
-              let same : count ≡ k = omega (arith, from, not_beyond) in
-              subst (λ n. x.node.0 < (get_or list n d).node.0) same (omega (arith, rises, first, differs))
+    taken : (l : Item C) → Contains (take count list) l → l.node.0 ≡ x.node.0
+    taken l (k, inside, is) =
+        let below : k < count = omega (arith, inside, length-take count list) in
+        ap (λ (m : Item C). m.node.0) (sym is ∙ get_or-take count list k l below) ∙ at_node k l (omega arith) below
+
+    later : (l : Item C) → Contains (drop count list) l → x.node.0 < l.node.0
+    later l (k, inside, is) =
+        let there : count + k < length list = omega (arith, inside, length-drop count list) in
+        let same = ap (λ (m : Item C). m.node.0) (sym (get_or-drop count list k l) ∙ is) in
+        let positive = some_first count no_more in
+        let first = at_node 0 l (omega arith) positive in
+        let rises = sorted 0 count l positive (omega (arith, there)) in
+        let differs = no_more (omega (arith, there)) l in
+        elim (cases_lt 0 k) [
+          | inl beyond ↦ let more = sorted count (count + k) l (omega (arith, beyond)) there in omega (arith, more, rises, first, differs, same)
+          | inr none ↦ let here : count + k ≡ count = omega (arith, none) in let last = rw here at same in omega (arith, rises, first, differs, last)
         ]
 
-    taken : All (λ (l : Item C). l.node.0 ≡ x.node.0) (take count list)
-    taken k d inside =
-        let below : k < count = omega (arith, inside, length-take count list) in
-        ap (λ (l : Item C). l.node.0) (get_or-take count list k d below) ∙ at_node k d (omega arith) below
-
-    left : (k : ℕ) (d : Item C) → (get_or (drop count list) k d).node.0 ≡ (get_or list (count + k) d).node.0
-    left k d = ap (λ (l : Item C). l.node.0) (get_or-drop count list k d)
-
-    pub splits_group : SplitsGroup list (take count list) (drop count list)
-    splits_group = record {
+    -- so many candidates are the first group, and the others are of later nodes
+    pub splits_group : (group others : List (Item C)) → group ≡ take count list → others ≡ drop count list → SplitsGroup list group others
+    splits_group group others front back = rw (front, back) (record {
       whole = sym (take-append-drop count list);
-      first = record {
-        node = x.node.0;
-        some = let positive = some_first in omega (arith, positive, within, length-take count list);
-        at_node = taken;
-      };
-      behind = λ k d inside j e inside_too.
-          let here = taken k d inside in
-          let there = later (count + j) e (omega arith) (omega (arith, inside_too, length-drop count list)) in
-          omega (arith, here, there, left j e);
-      sorted = λ i j d before inside.
-          let pair = sorted (count + i) (count + j) d (omega arith) (omega (arith, inside, length-drop count list)) in
-          omega (arith, pair, left i d, left j d);
-    }
+      some = let positive = some_first count no_more in omega (arith, positive, within, length-take count list);
+      first = λ l m h k. taken l h ∙ sym (taken m k);
+      behind = λ l m h k same. let less = later m k in let here = taken l h in absurd (omega (arith, less, here, same));
+      sorted = pairs_drop (λ l m. l.node.0 ≤ m.node.0) count list sorted;
+    })
 
   -- ---- group by group
 
@@ -101,38 +72,107 @@ module _ {C : Type 0} where
   pub record IsCutting (list : List (Item C)) (cut : List (List (Item C))) (rest : List (Item C)) : Type 0 where
     pub groups : AreGroups cut
     pub whole : list ≡ joined cut ++ rest
-    pub behind : AreBefore (joined cut) rest
+    pub behind : (g : List (Item C)) → Contains cut g → AreApart g rest
     pub sorted : AscendByNode rest
 
-  pub cutting_none : (list : List (Item C)) → AscendByNode list → IsCutting list [] list
-  cutting_none list sorted = record {
-    groups = record { each = All-nil HaveOneNode; ascending = pairs_none AreBefore };
-    whole = refl;
-    behind = All-nil (λ (l : Item C). All (λ (m : Item C). l.node.0 < m.node.0) list);
-    sorted = sorted;
-  }
+  -- groups in memory
+  abbrev pub lists : List (Bor (List (Item C))) → List (List (Item C))
+  lists = map (λ group. group.now)
 
-  pub cutting_more : (list : List (Item C)) (groups : List (List (Item C))) (rest group others : List (Item C))
-      → IsCutting list groups rest → SplitsGroup rest group others → IsCutting list (groups ++ group ∷ []) others
-  cutting_more list groups rest group others cutting splits = record {
+  -- one group more
+  pub cutting_more : (list : List (Item C)) (cut after : List (Bor (List (Item C)))) (rest others : List (Item C)) (group : Bor (List (Item C)))
+      → after ≡ cut ++ group ∷ [] → IsCutting list (lists cut) rest → SplitsGroup rest group.now others → IsCutting list (lists after) others
+  cutting_more list cut after rest others group longer cutting splits = rw (longer, map_push) (record {
     groups = record {
-      each = All-push HaveOneNode groups group cutting.groups.each splits.first;
-      ascending = pairs_push AreBefore groups group cutting.groups.ascending
-          (λ g g_in. before_from g group (λ l m l_in m_in. later l m (in_joined groups g l g_in l_in) (inl m_in)));
+      each = All-push HaveOneNode (lists cut) group.now cutting.groups.each splits.first;
+      apart = pairs_push AreApart (lists cut) group.now cutting.groups.apart (λ g there l m h k. behind g there l m h (inl k));
     };
-    whole = cutting.whole ∙ ap (λ ls. joined groups ++ ls) splits.whole ∙ sym (append_assoc (joined groups) group others)
-        ∙ ap (λ ls. ls ++ others) (sym (joined_push groups group));
-    behind = before_from (joined (groups ++ group ∷ [])) others (λ l m l_in m_in.
-        elim ((in_append (joined groups) group l).0 (subst (λ ls. Contains ls l) (joined_push groups group) l_in)) [
-          | inl old ↦ later l m old (inr m_in)
-          | inr new ↦ before_each group others splits.behind l m new m_in
-        ]);
+    whole = cutting.whole ∙ ap (λ ls. joined (lists cut) ++ ls) splits.whole ∙ sym (append_assoc (joined (lists cut)) group.now others)
+        ∙ ap (λ ls. ls ++ others) (flat_map_more (λ g. g) [] (lists cut) group.now);
+    behind = λ g there. elim (cases_push (lists cut) group.now g there) [
+      | inl old ↦ λ l m h k. behind g old l m h (inr k)
+      | inr new ↦ subst (λ f. AreApart f others) (sym new) splits.behind
+    ];
     sorted = splits.sorted;
-  } where
-    later : (l m : Item C) → Contains (joined groups) l → Contains group m ⊎ Contains others m → l.node.0 < m.node.0
-    later l m l_in m_in = before_each (joined groups) rest cutting.behind l m l_in
-        (subst (λ ls. Contains ls m) (sym splits.whole) ((in_append group others m).1 m_in))
+  }) where
+    behind : (g : List (Item C)) → Contains (lists cut) g → (l m : Item C) → Contains g l → Contains group.now m ⊎ Contains others m → l.node.0 ≢ m.node.0
+    behind g there l m h k = cutting.behind g there l m h (subst (λ ls. Contains ls m) (sym splits.whole) ((in_append group.now others m).1 k))
 
-  pub cutting_all : (list : List (Item C)) (groups : List (List (Item C))) (rest : List (Item C)) → IsCutting list groups rest
-      → rest ≡ [] → list ≡ joined groups
-  cutting_all list groups rest cutting none = cutting.whole ∙ ap (λ ls. joined groups ++ ls) none ∙ append-nil (joined groups)
+module _ {C : Type 0} (components : C → List ℕ) (Open : Spot → Type 0) where
+  abbrev spot : Item C → Spot
+  spot = spot_in components
+
+  abbrev Keeps : List (Item C) → List (Item C) → Type 0
+  Keeps = KeepsNeeded spot Open
+
+  -- ---- within a group
+
+  module _ (xs : List (Item C)) (sorted : AreSorted spot xs) (i : ℕ) (x : Item C) (within : i < length xs) (at : x ≡ get_or xs i x)
+      (before now : List (Item C)) (is : Appends (Keeps (take i xs)) before now) where
+    next : take (i + 1) xs ≡ take i xs ++ x ∷ []
+    next = take_more xs i x within ∙ ap (λ y. take i xs ++ y ∷ []) (sym at)
+
+    own : drop (length before) now ≡ is.more
+    own = ap (drop (length before)) is.whole ∙ drop-append_seam before is.more
+
+    abbrev Next : List (Item C) → Type 0
+    Next = Appends (Keeps (take (i + 1) xs)) before
+
+    abbrev IsBelow : Item C → Type 0
+    IsBelow k = AtMost (spot k).cost (spot x).cost
+
+    -- an item is kept, or left out since it isn't open, or since one of its node that costs at most as much was kept
+    pub adds_next : HaveOneNode xs
+        → (Open (spot x) → AllWithin (λ k. ¬ IsBelow k) (drop (length before) now) 0 (length (drop (length before) now)) → Next (now ++ x ∷ []))
+        × ((¬ Open (spot x)) → Next now) × (Any IsBelow (drop (length before) now) → Next now)
+    adds_next one = (more, λ closed. none (inl closed), λ below. none (inr (low (found_in IsBelow is.more (rw own at below))))) where
+      none : (¬ Open (spot x)) ⊎ HasBelow spot is.more (spot x) → Next now
+      none why = record { more = is.more; whole = is.whole; gives = rw next (keeps_not spot Open (take i xs) is.more is.gives x why) }
+
+      low : (k : Item C) × Contains is.more k × IsBelow k → HasBelow spot is.more (spot x)
+      low (k, there, below) =
+          let here = (in_parts xs i k).1 (inl (is.gives.among k there).0) in
+          record { by = k; member = there; node = one k x here (i, within, sym at); at_most = below }
+
+      behind : (y : Item C) → Contains (take i xs) y → ¬ SpotLess (spot x) (spot y)
+      behind y h =
+          let R : Item C → Item C → Type 0 = λ a b. ¬ SpotLess (spot b) (spot a) in
+          pairs_across R (take i xs) (x ∷ []) (subst (AllPairs R) next (pairs_take R (i + 1) xs sorted)) y x h (in_first x [])
+
+      more : Open (spot x) → AllWithin (λ k. ¬ IsBelow k) (drop (length before) now) 0 (length (drop (length before) now)) → Next (now ++ x ∷ [])
+      more held free = record {
+        more = is.more ++ x ∷ [];
+        whole = ap (λ ks. ks ++ x ∷ []) is.whole ∙ append_assoc before is.more (x ∷ []);
+        gives = rw next (keeps_more spot Open (take i xs) is.more is.gives x behind held (λ k d inside. (rw own at free) k d (omega arith) inside));
+      }
+
+  -- ---- group by group
+
+  of_joined : (gs : List (List (Item C))) (l : Item C) → Contains (joined gs) l → (g : List (Item C)) × Contains gs g × Contains g l
+  of_joined [] l there = absurd (in_none l there)
+  of_joined (h ∷ hs) l there = elim ((in_append h (joined hs) l).0 there) [
+    | inl here ↦ (h, in_first h hs, here)
+    | inr later ↦ let (g, g_in, l_in) = of_joined hs l later in (g, in_rest h hs g g_in, l_in)
+  ]
+
+  -- what is kept of groups that are apart
+  abbrev pub KeepsOfGroups : List (List (Item C)) → List (Item C) → Type 0
+  KeepsOfGroups gs ks = AllPairs AreApart gs → Keeps (joined gs) ks
+
+  -- what is kept of all, from what is kept of the first groups and of the others
+  pub groups_both : (n : ℕ) (gs : List (List (Item C))) (ks ls : List (Item C)) → KeepsOfGroups (take n gs) ks → KeepsOfGroups (drop n gs) ls
+      → KeepsOfGroups gs (ks ++ ls)
+  groups_both n gs ks ls one two apart =
+      let front = take n gs in
+      let back = drop n gs in
+      let whole = take-append-drop n gs in
+      subst (λ xs. Keeps xs (ks ++ ls)) (sym (flat_map-append (λ h. h) front back) ∙ ap joined whole)
+      (keeps_both spot Open (joined front) (joined back) ks ls (one (pairs_take AreApart n gs apart)) (two (pairs_drop AreApart n gs apart)) (λ x y h k.
+      let (f, f_in, x_in) = of_joined front x h in
+      let (b, b_in, y_in) = of_joined back y k in
+      pairs_across AreApart front back (subst (AllPairs AreApart) (sym whole) apart) f b f_in b_in x y x_in y_in))
+
+  -- the same of groups in memory
+  pub listed_both : (n : ℕ) (gs : List (Bor (List (Item C)))) (ks ls : List (Item C)) → KeepsOfGroups (lists (take n gs)) ks
+      → KeepsOfGroups (lists (drop n gs)) ls → KeepsOfGroups (lists gs) (ks ++ ls)
+  listed_both n gs ks ls one two = groups_both n (lists gs) ks ls (rw take-map one) (rw drop-map two)

@@ -1,5 +1,5 @@
 pub mod GroupLemmas
 pub mod OnwardLemmas
 pub mod OpenLemmas
-pub mod RunLemmas
+pub mod PieceLemmas
 pub mod SurvivorLemmas

@@ -1,8 +1,6 @@
 -- Candidates cut into one group for each node, and runs of groups.
-use Rattle.std.specs.Prelude.{◌≡◌, ℕ, ◌*◌, ◌<◌, ◌≤◌, ◌++◌, List, length, take, drop, flat_map, All, AllPairs}
+use Rattle.std.specs.Prelude.{◌≡◌, ◌≢◌, ℕ, ◌*◌, ◌<◌, ◌≤◌, ◌++◌, List, length, take, drop, flat_map, All, AllPairs, Contains}
 use Rattle.waiting_queue.specs.declared.item.Item.{Item}
-use Rattle.waiting_queue.specs.Waiting.{Spot}
-use Rattle.round_work.specs.Survivors.{KeepsSurvivors}
 
 -- so many runs come to each worker at most, on the average
 abbrev pub runs_per_worker : ℕ
@@ -14,20 +12,18 @@ module _ {C : Type 0} where
   abbrev pub AscendByNode : List (Item C) → Type 0
   AscendByNode = AllPairs (λ l m. l.node.0 ≤ m.node.0)
 
-  -- each candidate's node is less than those of the others
-  abbrev pub AreBefore : List (Item C) → List (Item C) → Type 0
-  AreBefore candidates others = All (λ l. All (λ m. l.node.0 < m.node.0) others) candidates
+  -- no candidate is of the node of one of the others
+  abbrev pub AreApart : List (Item C) → List (Item C) → Type 0
+  AreApart candidates others = (l m : Item C) → Contains candidates l → Contains others m → l.node.0 ≢ m.node.0
 
-  -- some candidates of one node
-  pub record HaveOneNode (group : List (Item C)) : Type 0 where
-    pub node : ℕ
-    pub some : 0 < length group
-    pub at_node : All (λ l. l.node.0 ≡ node) group
+  -- candidates of one node
+  abbrev pub HaveOneNode : List (Item C) → Type 0
+  HaveOneNode group = (l m : Item C) → Contains group l → Contains group m → l.node.0 ≡ m.node.0
 
-  -- groups of candidates, each with all candidates of one node, by ascending node
+  -- groups of candidates, each with all candidates of one node
   pub record AreGroups (groups : List (List (Item C))) : Type 0 where
     pub each : All HaveOneNode groups
-    pub ascending : AllPairs AreBefore groups
+    pub apart : AllPairs AreApart groups
 
   -- the candidates of all groups
   abbrev pub joined : List (List (Item C)) → List (Item C)
@@ -36,8 +32,9 @@ module _ {C : Type 0} where
   -- the candidates are the first group and others, which are of later nodes
   pub record SplitsGroup (candidates group others : List (Item C)) : Type 0 where
     pub whole : candidates ≡ group ++ others
+    pub some : 0 < length group
     pub first : HaveOneNode group
-    pub behind : AreBefore group others
+    pub behind : AreApart group others
     pub sorted : AscendByNode others
 
   -- the groups of the run of this number, where so many are a run; the last run may have fewer
@@ -48,11 +45,3 @@ module _ {C : Type 0} where
   pub record CanMergeRun (size : ℕ) (list : List (List (Item C))) (run : ℕ) : Type 0 where
     pub there : run * size < length list
     pub groups : AreGroups list
-
--- each candidate has a spot
-module _ {X : Type 0} (spot : X → Spot) where
-  -- behind what was kept before stands what is kept of the group
-  pub record AppendsSurvivors (Open : Spot → Type 0) (group before after : List X) : Type 0 where
-    pub more : List X
-    pub whole : after ≡ before ++ more
-    pub keeps : KeepsSurvivors spot Open group more

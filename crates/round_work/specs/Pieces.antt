@@ -1,15 +1,42 @@
 -- The pieces into which taken items are cut, and what comes of one.
-use Rattle.std.specs.Prelude.{◌≡◌, ℕ, ◌*◌, ◌<◌, ◌++◌, List, [], Option, Some, None, length, map, take, drop, All}
+use Rattle.std.specs.Prelude.{◌≡◌, ◌≢◌, ℕ, ◌*◌, ◌<◌, ◌++◌, List, [], Option, Some, None, length, map, take, drop, flat_map, All}
 use Rattle.std.specs.Global.{Vec}
 use Rattle.road_network.specs.Network.{Network, IsNode}
 use Rattle.waiting_queue.specs.declared.item.Item.{Item}
 use Rattle.waiting_queue.specs.Waiting.{Spot, Waiting, as_waiting, spot_of}
-use Rattle.round_work.specs.Onward.{HaveRoom, IsTooWide, onward_of}
+use Rattle.round_work.specs.Onward.{HaveRoom, onward_of}
 use Rattle.round_work.specs.Survivors.{KeepsOpen}
 
 -- how many items are a piece; the last piece may have fewer
 abbrev pub piece_size : ℕ
 piece_size = 64
+
+-- lists of elements of some type
+module _ {X : Type 0} where
+  -- behind what was there stands such a list
+  pub record Appends (Gives : List X → Type 0) (before after : List X) : Type 0 where
+    pub more : List X
+    pub whole : after ≡ before ++ more
+    pub gives : Gives more
+
+  -- such a list, or none where there is no room
+  abbrev pub GivesIfRoom : Type 0 → (List X → Type 0) → Option (Vec X) → Type 0
+  GivesIfRoom TooWide Gives None = TooWide
+  GivesIfRoom TooWide Gives (Some list) = Gives list.items
+
+  -- a list joined of lists
+  abbrev pub all_of : List (Vec X) → List X
+  all_of = flat_map (λ list. list.items)
+
+  -- the list that was found, if any
+  abbrev pub found_in : Option (Vec X) → List X
+  found_in None = []
+  found_in (Some list) = list.items
+
+  -- each list was found, and all of them stand behind what was there
+  pub record AppendsFound (lists : List (Option (Vec X))) (before after : List X) : Type 0 where
+    pub each : All (λ list. list ≢ None) lists
+    pub whole : after ≡ before ++ flat_map found_in lists
 
 -- costs are of some type
 module _ {C : Type 0} where
@@ -33,23 +60,11 @@ module _ {C : Type 0} (components : C → List ℕ) where
   abbrev pub onward_in : Network → List (Item C) → List Waiting
   onward_in net items = onward_of net (map (as_waiting components) items)
 
-  -- these stand behind what was there, and there is room for each
-  pub record Appends (bound : ℕ) (ws : List Waiting) (before after : List (Item C)) : Type 0 where
-    pub exact : map (as_waiting components) after ≡ map (as_waiting components) before ++ ws
+  -- the items are these, and there is room for each
+  pub record AreWithRoom (bound : ℕ) (ws : List Waiting) (items : List (Item C)) : Type 0 where
+    pub exact : map (as_waiting components) items ≡ ws
     pub room : HaveRoom bound ws
 
-  -- the candidates of these items, or none where there is no room for one of them
-  abbrev pub GivesPiece : ℕ → Network → List (Item C) → Option (Vec (Item C)) → Type 0
-  GivesPiece bound net items None = IsTooWide bound (onward_in net items)
-  GivesPiece bound net items (Some candidates) = Appends bound (onward_in net items) [] candidates.items
-
-  -- the open ones of these stand behind what was there, in their order
-  pub record AppendsOpen (Open : Spot → Type 0) (ws : List Waiting) (before after : List (Item C)) : Type 0 where
-    pub kept : List Waiting
-    pub exact : map (as_waiting components) after ≡ map (as_waiting components) before ++ kept
-    pub keeps : KeepsOpen spot_of Open ws kept
-
-  -- the open candidates of these items, or none where there is no room for one of all
-  abbrev pub GivesOpenPiece : ℕ → (Spot → Type 0) → Network → List (Item C) → Option (Vec (Item C)) → Type 0
-  GivesOpenPiece bound Open net items None = IsTooWide bound (onward_in net items)
-  GivesOpenPiece bound Open net items (Some candidates) = AppendsOpen Open (onward_in net items) [] candidates.items
+  -- the items are the open ones of these, in their order
+  abbrev pub AreOpenOf : (Spot → Type 0) → List Waiting → List (Item C) → Type 0
+  AreOpenOf Open ws items = KeepsOpen spot_of Open ws (map (as_waiting components) items)

@@ -28,6 +28,17 @@ module _ {X : Type 0} (spot : X → Spot) where
     pub among : (x : X) → Contains kept x → Contains candidates x
     pub rest : (x : X) → Contains candidates x → (¬ Open (spot x)) ⊎ HasBelow kept (spot x)
 
+  -- if both are of one node, the earlier doesn't cost at most as much as the later, which doesn't dominate it
+  abbrev pub AreNeeded : X → X → Type 0
+  AreNeeded a b = (spot a).node ≡ (spot b).node → (¬ AtMost (spot a).cost (spot b).cost) × (¬ Dominates (spot b).cost (spot a).cost)
+
+  -- Open candidates are kept that are all needed, and each candidate isn't open, or one that is kept at its node costs at most as
+  -- much. So what is kept survives, and nothing else does.
+  pub record KeepsNeeded (Open : Spot → Type 0) (candidates kept : List X) : Type 0 where
+    pub among : (x : X) → Contains kept x → Contains candidates x × Open (spot x)
+    pub needed : AllPairs AreNeeded kept
+    pub rest : (x : X) → Contains candidates x → (¬ Open (spot x)) ⊎ HasBelow kept (spot x)
+
   -- the open candidates are kept, in their order
   pub record KeepsOpen (Open : Spot → Type 0) (candidates kept : List X) : Type 0 where
     pub marks : List Bool

@@ -37,39 +37,37 @@ impl Marks {
     pub fn pass_nodes<C, R, G: Gate>(&mut self, workers: &Workers<'_, R, G>, candidates: &[Item<C>])
         ensures { self.new ≡ self.old }
     {
-        self.pass_marked(workers, candidates);
-        self.clear(candidates);
+        pass_marked(&mut self.marked, workers, candidates);
+        clear(&mut self.marked, candidates);
     }
+}
 
-    /// Lets a piece pass for each node of these candidates, and marks it.
-    fn pass_marked<C, R, G: Gate>(&mut self, workers: &Workers<'_, R, G>, candidates: &[Item<C>])
-        ensures { self.new ≡ self.old }
-    {
-        let mut piece: u64 = 0;
-        for item in candidates {
-            if self.set(item.node, true) {
-                workers.gate().pass(Phase::Merge, piece);
-                piece = piece.wrapping_add(1);
-            }
+/// Lets a piece pass for each node of these candidates, and marks it.
+fn pass_marked<C, R, G: Gate>(
+    marked: &mut [bool],
+    workers: &Workers<'_, R, G>,
+    candidates: &[Item<C>],
+) {
+    let mut piece: u64 = 0;
+    for item in candidates {
+        if set(marked, item.node, true) {
+            workers.gate().pass(Phase::Merge, piece);
+            piece = piece.wrapping_add(1);
         }
     }
+}
 
-    /// Takes the marks of these candidates' nodes away.
-    fn clear<C>(&mut self, candidates: &[Item<C>])
-        ensures { self.new ≡ self.old }
-    {
-        for item in candidates {
-            self.set(item.node, false);
-        }
+/// Takes the marks of these candidates' nodes away.
+fn clear<C>(marked: &mut [bool], candidates: &[Item<C>]) {
+    for item in candidates {
+        set(marked, item.node, false);
     }
+}
 
-    /// Marks a node or takes its mark away, and answers whether that changed something.
-    fn set(&mut self, node: NodeNo, mark: bool) -> bool
-        ensures { self.new ≡ self.old }
-    {
-        match self.marked.get_mut(node.0 as usize) {
-            Some(old) => mem::replace(old, mark) != mark,
-            None => false,
-        }
+/// Marks a node or takes its mark away, and answers whether that changed something.
+fn set(marked: &mut [bool], node: NodeNo, mark: bool) -> bool {
+    match marked.get_mut(node.0 as usize) {
+        Some(old) => mem::replace(old, mark) != mark,
+        None => false,
     }
 }

@@ -1,7 +1,8 @@
 ghost use Rattle.std.specs.Prelude.{◌≡◌, ◌++◌, map, IfOk};
 ghost use Rattle.waiting_queue.specs.Waiting.{as_waiting, spot_in, spot_of};
-ghost use Rattle.round_work.specs.Groups.{AscendByNode, joined};
-ghost use Rattle.round_work.specs.Survivors.{KeepsOpen, KeepsSurvivors};
+ghost use Rattle.round_work.specs.Groups.{AscendByNode};
+ghost use Rattle.round_work.specs.Pieces.{all_of};
+ghost use Rattle.round_work.specs.Survivors.{KeepsNeeded, KeepsOpen, KeepsSurvivors};
 
 use crate::groups::{list_groups, sort_by_node};
 use crate::runs::{GroupRuns, run_size};
@@ -56,8 +57,8 @@ fn merge_sorted<
 where
     C::Part: Send + Sync,
     requires { AscendByNode sorted.now }
-    ensures { IfOk result (λ lists. KeepsSurvivors (spot_in C.components) (K.IsOpen look.now)
-        sorted.now (joined (map (λ list. list.items) lists.items))) }
+    ensures { IfOk result (λ lists. KeepsNeeded (spot_in C.components) (K.IsOpen look.now)
+        sorted.now (all_of lists.items)) }
 {
     let groups = list_groups(alloc, sorted)?;
     let size = run_size(groups.len(), workers);
@@ -76,8 +77,7 @@ where
 
 /// Appends all lists.
 fn append_all<C: Copy>(lists: &[Vec<Item<C>>], all: &mut Vec<Item<C>>) -> Result<(), OutOfMemory>
-    ensures { IfOk result (λ _. all.new.items
-        ≡ all.old.items ++ joined (map (λ list. list.items) lists.now)) }
+    ensures { IfOk result (λ _. all.new.items ≡ all.old.items ++ all_of lists.now) }
 {
     for list in lists {
         all.extend_from_slice(list)?;
@@ -86,6 +86,7 @@ fn append_all<C: Copy>(lists: &[Vec<Item<C>>], all: &mut Vec<Item<C>>) -> Result
 }
 
 /// Keeps the open candidates, in their order: less than merging them, and all that a search on one thread needs.
+#[tactic(auto, using(crate::proofs::OpenLemmas::sifting_none, crate::proofs::OpenLemmas::sifted))]
 pub fn leave_out_closed<const D: usize, C: StoredCost<D>, K: Look<D, C>>(
     look: &K,
     candidates: &mut Vec<Item<C>>,

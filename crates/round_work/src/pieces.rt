@@ -1,8 +1,8 @@
-ghost use Rattle.std.specs.Prelude.{◌≡◌, ℕ, ◌*◌, ◌<◌, ◌≤◌, length, Err, IfOk};
+ghost use Rattle.std.specs.Prelude.{◌≡◌, ℕ, ◌*◌, ◌<◌, ◌≤◌, length, take, drop, Err, IfOk};
 ghost use Rattle.road_network.specs.Network.{IsNode};
 ghost use Rattle.waiting_queue.specs.Waiting.{as_waiting};
 ghost use Rattle.round_work.specs.Onward.{IsTooWide, onward};
-ghost use Rattle.round_work.specs.Pieces.{Appends, CanDo, items_of, onward_in, piece_size};
+ghost use Rattle.round_work.specs.Pieces.{Appends, AreWithRoom, CanDo, items_of, onward_in, piece_size};
 ghost use Rattle.round_work.specs.declared.fault.RelaxFault.TheVariants as fault;
 
 use crate::{RelaxFault, leave_out_closed};
@@ -28,14 +28,17 @@ impl<'g, const D: usize, C: StoredCost<D> + Send + Sync> Job for TakenItems<'g, 
 where
     C::Part: Send + Sync,
 {
-    ghost use Rattle.round_work.specs.Pieces.{CanDo, GivesPiece, items_of};
+    ghost use Rattle.round_work.specs.Onward.{IsTooWide};
+    ghost use Rattle.round_work.specs.Pieces.{AreWithRoom, CanDo, GivesIfRoom, items_of, onward_in};
 
     type Out = Option<Vec<Item<C>>>;
 
     ghost accepts = { λ job piece. CanDo D job.network.now job.taken.now piece };
 
-    ghost gives = { λ job piece out. GivesPiece C.components C.Part.bound job.network.now
-        (items_of job.taken.now piece) out };
+    ghost gives = { λ job piece out. GivesIfRoom
+        (IsTooWide C.Part.bound (onward_in C.components job.network.now job.taken.now))
+        (AreWithRoom C.components C.Part.bound
+        (onward_in C.components job.network.now (items_of job.taken.now piece))) out };
 
     fn run(&self, piece: usize) -> Result<Option<Vec<Item<C>>>, OutOfMemory> {
         let mut candidates = Vec::new(self.alloc);
@@ -57,19 +60,20 @@ impl<'g, const D: usize, C: StoredCost<D>> TakenItems<'g, D, C> {
     }
 
     /// Appends the candidates that the items of a piece give.
+    #[tactic(auto, using(crate::proofs::PieceLemmas::appends_none, crate::proofs::OnwardLemmas::gives_none, crate::proofs::OnwardLemmas::item_more))]
     pub(crate) fn append_piece(
         &self,
         piece: usize,
         candidates: &mut Vec<Item<C>>,
     ) -> Result<(), RelaxFault>
         requires { CanDo D self.now.network.now self.now.taken.now piece }
-        ensures appends { IfOk result (λ _. Appends C.components C.Part.bound
-            (onward_in C.components self.now.network.now (items_of self.now.taken.now piece))
+        ensures appends { IfOk result (λ _. Appends (AreWithRoom C.components C.Part.bound
+            (onward_in C.components self.now.network.now (items_of self.now.taken.now piece)))
             candidates.old.items candidates.new.items) }
         ensures too_wide { result ≡ Err fault.TooWide → IsTooWide C.Part.bound
-            (onward_in C.components self.now.network.now (items_of self.now.taken.now piece)) }
+            (onward_in C.components self.now.network.now self.now.taken.now) }
     {
-        for item in piece_of(self.taken, piece) {
+        for item in cut(self.taken, piece * PIECE_SIZE, PIECE_SIZE) {
             relax_into(self.network, item, candidates)?;
         }
         Ok(())
@@ -88,15 +92,18 @@ impl<'g, const D: usize, C: StoredCost<D> + Send + Sync, K: Look<D, C> + Sync> J
 where
     C::Part: Send + Sync,
 {
-    ghost use Rattle.round_work.specs.Pieces.{CanDo, GivesOpenPiece, items_of};
+    ghost use Rattle.round_work.specs.Onward.{IsTooWide};
+    ghost use Rattle.round_work.specs.Pieces.{AreOpenOf, CanDo, GivesIfRoom, items_of, onward_in};
 
     type Out = Option<Vec<Item<C>>>;
 
     ghost accepts = { λ job piece. CanDo D job.items.now.network.now job.items.now.taken.now piece };
 
-    ghost gives = { λ job piece out. GivesOpenPiece C.components C.Part.bound
-        (K.IsOpen job.look.now) job.items.now.network.now
-        (items_of job.items.now.taken.now piece) out };
+    ghost gives = { λ job piece out. GivesIfRoom
+        (IsTooWide C.Part.bound
+        (onward_in C.components job.items.now.network.now job.items.now.taken.now))
+        (AreOpenOf C.components (K.IsOpen job.look.now) (onward_in C.components
+        job.items.now.network.now (items_of job.items.now.taken.now piece))) out };
 
     fn run(&self, piece: usize) -> Result<Option<Vec<Item<C>>>, OutOfMemory> {
         let Some(mut candidates) = self.items.run(piece)? else {
@@ -107,17 +114,17 @@ where
     }
 }
 
-/// The items of a piece.
-fn piece_of<C>(taken: &[Item<C>], piece: usize) -> &[Item<C>]
-    requires { piece * piece_size < length taken.now }
-    ensures { result.now ≡ items_of taken.now piece }
+/// So many elements from this place on, or all that are left.
+pub(crate) fn cut<T>(list: &[T], first: usize, count: usize) -> &[T]
+    requires { first ≤ length list.now }
+    ensures { result.now ≡ take count (drop first list.now) }
 {
-    let start = piece * PIECE_SIZE;
-    let end = taken.len().min(start + PIECE_SIZE);
-    &taken[start..end]
+    let left = &list[first..];
+    &left[..count.min(left.len())]
 }
 
 /// Appends the candidates that an item gives.
+#[tactic(auto, using(crate::proofs::PieceLemmas::appends_none, crate::proofs::OnwardLemmas::gives_none, crate::proofs::OnwardLemmas::counted, crate::proofs::OnwardLemmas::there, crate::proofs::OnwardLemmas::arc_leads_back))]
 fn relax_into<const D: usize, C: StoredCost<D>>(
     network: &Network<'_>,
     item: &Item<C>,
@@ -125,8 +132,8 @@ fn relax_into<const D: usize, C: StoredCost<D>>(
 ) -> Result<(), RelaxFault>
     requires criteria { network.now.criteria ≡ D }
     requires node { IsNode network.now.nodes item.now.node.0 }
-    ensures appends { IfOk result (λ _. Appends C.components C.Part.bound
-        (onward network.now (as_waiting C.components item.now))
+    ensures appends { IfOk result (λ _. Appends (AreWithRoom C.components C.Part.bound
+        (onward network.now (as_waiting C.components item.now)))
         candidates.old.items candidates.new.items) }
     ensures too_wide { result ≡ Err fault.TooWide → IsTooWide C.Part.bound
         (onward network.now (as_waiting C.components item.now)) }

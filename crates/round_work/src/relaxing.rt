@@ -1,8 +1,8 @@
-ghost use Rattle.std.specs.Prelude.{◌≡◌, ◌^◌, ◌<◌, [], length, map, All, Err, IfOk};
+ghost use Rattle.std.specs.Prelude.{◌≡◌, ◌^◌, ◌<◌, None, length, map, All, Contains, Err, IfOk};
 ghost use Rattle.road_network.specs.Network.{IsNode};
 ghost use Rattle.waiting_queue.specs.Waiting.{as_waiting, spot_of};
 ghost use Rattle.round_work.specs.Onward.{HaveRoom, IsTooWide, onward_of};
-ghost use Rattle.round_work.specs.Pieces.{Appends, AreReady, onward_in};
+ghost use Rattle.round_work.specs.Pieces.{Appends, AppendsFound, AreReady, AreWithRoom, onward_in};
 ghost use Rattle.round_work.specs.Survivors.{KeepsOpen};
 ghost use Rattle.round_work.specs.declared.fault.RelaxFault.TheVariants as fault;
 
@@ -47,18 +47,20 @@ where
     if workers.count() == 1 {
         return relax_alone(workers, &items, candidates);
     }
-    relax_together(workers, alloc, &items, candidates)
+    let lists = run_pieces(workers, alloc, items.pieces(), Phase::Relax, &items)?;
+    append_found(&lists, candidates)
 }
 
 /// Appends the candidates piece by piece.
+#[tactic(auto, using(crate::proofs::PieceLemmas::appends_none, crate::proofs::OnwardLemmas::gives_none, crate::proofs::OnwardLemmas::piece_more))]
 fn relax_alone<const D: usize, C: StoredCost<D>, R, G: Gate>(
     workers: &Workers<'_, R, G>,
     items: &TakenItems<'_, D, C>,
     candidates: &mut Vec<Item<C>>,
 ) -> Result<(), RelaxFault>
     requires ready { AreReady D items.now.network.now items.now.taken.now }
-    ensures appends { IfOk result (λ _. Appends C.components C.Part.bound
-        (onward_in C.components items.now.network.now items.now.taken.now)
+    ensures appends { IfOk result (λ _. Appends (AreWithRoom C.components C.Part.bound
+        (onward_in C.components items.now.network.now items.now.taken.now))
         candidates.old.items candidates.new.items) }
     ensures too_wide { result ≡ Err fault.TooWide → IsTooWide C.Part.bound
         (onward_in C.components items.now.network.now items.now.taken.now) }
@@ -70,29 +72,16 @@ fn relax_alone<const D: usize, C: StoredCost<D>, R, G: Gate>(
     Ok(())
 }
 
-/// Has the workers relax the pieces, and appends what comes of them.
-fn relax_together<const D: usize, C: StoredCost<D> + Send + Sync, R: Threads + Sync, G: Gate>(
-    workers: &Workers<'_, R, G>,
-    alloc: Global,
-    items: &TakenItems<'_, D, C>,
-    candidates: &mut Vec<Item<C>>,
-) -> Result<(), RelaxFault>
-where
-    C::Part: Send + Sync,
-    requires few { length items.now.taken.now < 2 ^ 32 }
-    requires ready { AreReady D items.now.network.now items.now.taken.now }
-    ensures appends { IfOk result (λ _. Appends C.components C.Part.bound
-        (onward_in C.components items.now.network.now items.now.taken.now)
-        candidates.old.items candidates.new.items) }
-    ensures too_wide { result ≡ Err fault.TooWide → IsTooWide C.Part.bound
-        (onward_in C.components items.now.network.now items.now.taken.now) }
+/// Appends what came of pieces that workers relaxed.
+fn append_found<X: Copy>(lists: &[Option<Vec<X>>], all: &mut Vec<X>) -> Result<(), RelaxFault>
+    ensures appends { IfOk result (λ _. AppendsFound lists.now all.old.items all.new.items) }
+    ensures too_wide { result ≡ Err fault.TooWide → Contains lists.now None }
 {
-    let lists = run_pieces(workers, alloc, items.pieces(), Phase::Relax, items)?;
-    for list in &lists {
+    for list in lists {
         let Some(list) = list else {
             return Err(RelaxFault::TooWide);
         };
-        candidates.extend_from_slice(list)?;
+        all.extend_from_slice(list)?;
     }
     Ok(())
 }
@@ -135,42 +124,11 @@ where
         leave_out_closed(look, candidates);
         return Ok(());
     }
-    relax_open_together(workers, alloc, look, &items, candidates)
-}
-
-/// Has the workers relax the pieces and leave out what isn't open, and appends what comes of them.
-fn relax_open_together<
-    const D: usize,
-    C: StoredCost<D> + Send + Sync,
-    K: Look<D, C> + Sync,
-    R: Threads + Sync,
-    G: Gate,
->(
-    workers: &Workers<'_, R, G>,
-    alloc: Global,
-    look: &K,
-    items: &TakenItems<'_, D, C>,
-    candidates: &mut Vec<Item<C>>,
-) -> Result<(), RelaxFault>
-where
-    C::Part: Send + Sync,
-    requires few { length items.now.taken.now < 2 ^ 32 }
-    requires ready { AreReady D items.now.network.now items.now.taken.now }
-    requires none { candidates.old.items ≡ [] }
-    ensures candidates { IfOk result (λ _. KeepsOpen spot_of (K.IsOpen look.now)
-        (onward_in C.components items.now.network.now items.now.taken.now)
-        (map (as_waiting C.components) candidates.new.items)) }
-    ensures too_wide { result ≡ Err fault.TooWide → IsTooWide C.Part.bound
-        (onward_in C.components items.now.network.now items.now.taken.now) }
-{
     let pieces = items.pieces();
-    let open_pieces = OpenPieces { items, look };
+    let open_pieces = OpenPieces {
+        items: &items,
+        look,
+    };
     let lists = run_pieces(workers, alloc, pieces, Phase::Relax, &open_pieces)?;
-    for list in &lists {
-        let Some(list) = list else {
-            return Err(RelaxFault::TooWide);
-        };
-        candidates.extend_from_slice(list)?;
-    }
-    Ok(())
+    append_found(&lists, candidates)
 }

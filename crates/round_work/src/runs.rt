@@ -1,10 +1,14 @@
 //! Runs of consecutive groups, which workers draw in place of single groups.
-ghost use Rattle.std.specs.Prelude.{◌≡◌, ℕ, ◌-◌, ◌*◌, ◌<◌, ◌≤◌, ◌↔◌, length, map, take, drop, All, IfOk, IsPermutation, IsTrue};
+ghost use Rattle.std.specs.Prelude.{◌≡◌, ℕ, ◌-◌, ◌*◌, ◌<◌, ◌≤◌, false, length, map, Any, IfOk, IsPermutation, IsTrue};
+ghost use Rattle.std.specs.List.{AllWithin};
+ghost use Rattle.cost_vector.specs.Costs.{AtMost};
 ghost use Rattle.waiting_queue.specs.Taking.{AreSorted};
 ghost use Rattle.waiting_queue.specs.Waiting.{spot_in};
-ghost use Rattle.round_work.specs.Groups.{AppendsSurvivors, CanMergeRun, HaveOneNode, joined, run_of, runs_per_worker};
-ghost use Rattle.round_work.specs.Survivors.{HasBelow, KeepsSurvivors};
+ghost use Rattle.round_work.specs.Groups.{CanMergeRun, HaveOneNode, joined, run_of, runs_per_worker};
+ghost use Rattle.round_work.specs.Pieces.{Appends};
+ghost use Rattle.round_work.specs.Survivors.{KeepsNeeded};
 
+use crate::pieces::cut;
 use out_of_memory::OutOfMemory;
 use route_io::{Gate, Phase};
 use std::alloc::Global;
@@ -58,7 +62,7 @@ where
 
     ghost accepts = { λ job run. CanMergeRun job.size (map (λ g. g.now) job.groups.now) run };
 
-    ghost gives = { λ job run out. KeepsSurvivors (spot_in C.components) (K.IsOpen job.look.now)
+    ghost gives = { λ job run out. KeepsNeeded (spot_in C.components) (K.IsOpen job.look.now)
         (joined (run_of job.size (map (λ g. g.now) job.groups.now) run)) out.items };
 
     fn run(&self, piece: usize) -> Result<Vec<Item<C>>, OutOfMemory> {
@@ -73,15 +77,6 @@ where
     }
 }
 
-/// So many elements from this place on, or all that are left.
-fn cut<T>(list: &[T], first: usize, count: usize) -> &[T]
-    requires { first ≤ length list.now }
-    ensures { result.now ≡ take count (drop first list.now) }
-{
-    let left = &list[first..];
-    &left[..count.min(left.len())]
-}
-
 /// Appends what is kept of a group. What the order held before is gone.
 fn merge_group<const D: usize, C: StoredCost<D>, K: Look<D, C>>(
     look: &K,
@@ -90,8 +85,8 @@ fn merge_group<const D: usize, C: StoredCost<D>, K: Look<D, C>>(
     kept: &mut Vec<Item<C>>,
 ) -> Result<(), OutOfMemory>
     requires { HaveOneNode group.now }
-    ensures { IfOk result (λ _. AppendsSurvivors (spot_in C.components) (K.IsOpen look.now)
-        group.now kept.old.items kept.new.items) }
+    ensures { IfOk result (λ _. Appends (KeepsNeeded (spot_in C.components) (K.IsOpen look.now)
+        group.now) kept.old.items kept.new.items) }
 {
     list_sorted(group, order)?;
     keep_survivors(look, order, kept)
@@ -112,6 +107,7 @@ fn list_sorted<const D: usize, C: StoredCost<D>>(
 }
 
 /// Appends what is kept of candidates of one node. Since they are sorted, none dominates an earlier one.
+#[tactic(auto, using(crate::proofs::PieceLemmas::appends_none, crate::proofs::SurvivorLemmas::keeps_none))]
 fn keep_survivors<const D: usize, C: StoredCost<D>, K: Look<D, C>>(
     look: &K,
     sorted: &[Item<C>],
@@ -119,8 +115,8 @@ fn keep_survivors<const D: usize, C: StoredCost<D>, K: Look<D, C>>(
 ) -> Result<(), OutOfMemory>
     requires one_node { HaveOneNode sorted.now }
     requires sorted { AreSorted (spot_in C.components) sorted.now }
-    ensures { IfOk result (λ _. AppendsSurvivors (spot_in C.components) (K.IsOpen look.now)
-        sorted.now kept.old.items kept.new.items) }
+    ensures { IfOk result (λ _. Appends (KeepsNeeded (spot_in C.components) (K.IsOpen look.now)
+        sorted.now) kept.old.items kept.new.items) }
 {
     let first = kept.len();
     for item in sorted {
@@ -131,11 +127,13 @@ fn keep_survivors<const D: usize, C: StoredCost<D>, K: Look<D, C>>(
     Ok(())
 }
 
-/// Whether one of the items, which are of this item's node, costs at most as much.
+/// Whether one of the items costs at most as much as this one.
 fn has_below<const D: usize, C: StoredCost<D>>(items: &[Item<C>], item: &Item<C>) -> bool
-    requires { All (λ i. i.node.0 ≡ item.now.node.0) items.now }
-    ensures { IsTrue result ↔ HasBelow (spot_in C.components) items.now
-        (spot_in C.components item.now) }
+    ensures some { IsTrue result
+        → Any (λ k. AtMost (C.components k.cost) (C.components item.now.cost)) items.now }
+    ensures none { result ≡ false
+        → AllWithin (λ k. ¬ AtMost (C.components k.cost) (C.components item.now.cost))
+        items.now 0 (length items.now) }
 {
     for other in items {
         if other.cost.at_most(&item.cost) {

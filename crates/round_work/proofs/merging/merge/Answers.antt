@@ -1,14 +1,11 @@
-use Rattle.std.proofs.Common.{List, ◌≡◌, ◌++◌, length, map, drop, arith, sym, ap, subst, subst₂, ◌∙◌}
+use Rattle.std.proofs.Common.{◌≡◌, ◌++◌, length, drop, arith, sym, ap, subst₂, ◌∙◌}
 use Rattle.std.specs.Prelude.{IsPermutation}
-use Rattle.std.specs.Global.{Vec}
 use Rattle.std.proofs.lemmas.List.{take_at}
 use Rattle.rayon.proofs.ListFacts.{IfOk-then}
 use Rattle.list_laws.proofs.SetLaws.{same_by_permutation}
-use Rattle.waiting_queue.specs.declared.item.Item.{Item}
 use Rattle.waiting_queue.specs.Waiting.{as_waiting, spot_in, spot_of}
-use Rattle.round_work.specs.Groups.{joined}
-use Rattle.round_work.specs.Survivors.{KeepsSurvivors}
-use Rattle.round_work.proofs.SurvivorLemmas.{keeps_alike, keeps_told}
+use Rattle.round_work.specs.Pieces.{all_of}
+use Rattle.round_work.proofs.SurvivorLemmas.{keeps_alike, keeps_survivors, keeps_told}
 use Rattle.round_work.proofs.merging.merge.Goals as goal
 
 pub returns : goal.returns
@@ -20,10 +17,8 @@ returns g c =
     let long : length sorted ≡ old.len = omega (arith, c.deref_mut.ensures.len, c.sort_by_node.auto.candidates) in
     let is_sorted = c.deref.ensures.value ∙ take_at sorted (drop (length sorted) old.items) old.len long in
     let moved = subst₂ IsPermutation c.deref_mut.ensures.value (sym is_sorted) c.sort_by_node.ensures.permutation in
-    let join = λ (ls : List (Vec (Item g.row.C.Denot))). joined (map (λ (v : Vec (Item g.row.C.Denot)). v.items) ls) in
     IfOk-then c.append_all.result _ _ c.append_all.ensures (λ u is.
-    let kept = is ∙ (ap (λ ks. ks ++ join c.deref-2.result.now) c.clear.ensures.items ∙ ap join c.deref-2.ensures.value) in
-    keeps_told spot_of (as_waiting parts) Open old.items c.append_all.new.all.items
-    (subst (KeepsSurvivors (spot_in parts) Open old.items) (sym kept)
-    (keeps_alike (spot_in parts) Open c.deref.result.now old.items (join c.in_ok-lists.lists.items) (same_by_permutation old.items c.deref.result.now moved)
-    c.in_ok-lists.ensures)))
+    let kept = is ∙ (ap (λ ks. ks ++ all_of c.deref-2.result.now) c.clear.ensures.items ∙ ap all_of c.deref-2.ensures.value) in
+    keeps_survivors spot_of Open _ _ (keeps_told spot_of (as_waiting parts) Open old.items c.append_all.new.all.items
+    (rw kept (keeps_alike (spot_in parts) Open c.deref.result.now old.items (all_of c.in_ok-lists.lists.items)
+    (same_by_permutation old.items c.deref.result.now moved) c.in_ok-lists.ensures))))

@@ -1,23 +1,30 @@
-use Rattle.std.proofs.Common.{◌≡◌, ◌*◌, ◌≤◌, length, map, sym, subst, arith}
+use Rattle.std.proofs.Common.{◌*◌, ◌<◌, sym, arith}
+use Rattle.std.specs.Global.{Vec}
 use Rattle.std.proofs.lemmas.List.{length-map}
 use Rattle.rayon.proofs.ListFacts.{IfOk-then}
+use Rattle.waiting_queue.specs.declared.item.Item.{Item}
+use Rattle.waiting_queue.specs.Waiting.{spot_in}
 use Rattle.round_work.specs.Groups.{runs_per_worker}
-use Rattle.round_work.proofs.RunLemmas.{all_runs, list, runs_few}
+use Rattle.round_work.proofs.GroupLemmas.{KeepsOfGroups, groups_both, lists}
+use Rattle.round_work.proofs.PieceLemmas.{all_pieces}
+use Rattle.round_work.proofs.SurvivorLemmas.{keeps_none}
 use Rattle.round_work.proofs.merging.merge_sorted.Goals as goal
 
 pub prove-unreachable-requires : goal.prove-unreachable-requires
 prove-unreachable-requires g c =
     let most = c.args.workers.now.count * runs_per_worker in
-    let long : c.len.result ≡ length c.deref.result.now = omega (arith, c.len.ensures, c.deref.ensures.len) in
-    let few = runs_few c.run_size-size.result most (length c.deref.result.now) c.count-pieces.result
-    (subst (λ n. n ≤ c.run_size-size.result * most) long c.run_size-size.ensures.enough) c.count-pieces.ensures.each in
-    omega (arith, few, c.run_size-size.ensures.workers, c.if-prove.true)
+    let size = c.run_size-size.result in
+    let below : most * size < c.len.result =
+    omega (arith, c.count-pieces.ensures.each most (omega (arith, c.run_size-size.ensures.workers, c.if-prove.true)), c.len.ensures, c.deref.ensures.len) in
+    grind (arith, below, c.run_size-size.ensures.enough)
 
 pub returns : goal.returns
 returns g c =
-    let refs = c.deref.result.now in
+    let parts = g.C.StoredCost.components in
+    let Open = g.K.Look.IsOpen c.args.look.now in
+    let gs = lists c.deref.result.now in
     let groups = rw (sym c.deref.ensures.value) at c.in_ok-groups.ensures.groups in
     rw (c.in_ok-groups.ensures.whole, sym c.deref.ensures.value)
-    (IfOk-then c.run_pieces.result _ _ c.run_pieces.ensures (λ lists given.
-    all_runs g.C.StoredCost.components (g.K.Look.IsOpen c.args.look.now) (map list refs) groups.ascending c.run_size-size.result lists.items given.each
-    (rw (length-map refs list, given.count) c.count-pieces.ensures.all)))
+    (IfOk-then c.run_pieces.result _ _ c.run_pieces.ensures (λ outs given.
+    all_pieces (KeepsOfGroups parts Open) (groups_both parts Open) (λ (list : Vec (Item g.row.C.Denot)). list.items) (λ apart. keeps_none (spot_in parts) Open)
+    c.run_size-size.result gs outs.items (rw (length-map, given.count) c.count-pieces.ensures.all) (λ i out is apart. given.each i out is) groups.apart))

@@ -1,22 +1,23 @@
+use Rattle.std.proofs.Common.{List, sym}
+use Rattle.std.proofs.lemmas.Result.{IfOk-weaker}
+use Rattle.waiting_queue.specs.declared.item.Item.{Item}
+use Rattle.waiting_queue.specs.Waiting.{spot_of}
+use Rattle.round_work.specs.Onward.{IsTooWide}
+use Rattle.round_work.specs.Pieces.{AreOpenOf, onward_in, piece_size}
+use Rattle.round_work.proofs.OnwardLemmas.{open_on_both}
+use Rattle.round_work.proofs.OpenLemmas.{open_none}
+use Rattle.round_work.proofs.PieceLemmas.{all_found}
 use Rattle.round_work.proofs.relaxing.relax_open.Goals as goal
 
-pub relax_open_together-requires-send-C : goal.relax_open_together-requires-send-C
-relax_open_together-requires-send-C g c κs within = c.type_bounds.send-C
-
-pub relax_open_together-requires-send-C-Part : goal.relax_open_together-requires-send-C-Part
-relax_open_together-requires-send-C-Part g c κs within = c.type_bounds.send-C-Part
-
-pub relax_open_together-requires-sync-C : goal.relax_open_together-requires-sync-C
-relax_open_together-requires-sync-C g c κs within = c.type_bounds.sync-C
-
-pub relax_open_together-requires-sync-K : goal.relax_open_together-requires-sync-K
-relax_open_together-requires-sync-K g c κs within = c.type_bounds.sync-K
-
-pub relax_open_together-requires-sync-R : goal.relax_open_together-requires-sync-R
-relax_open_together-requires-sync-R g c κs within = c.type_bounds.sync-R
-
-pub relax_open_together-requires-sync-G : goal.relax_open_together-requires-sync-G
-relax_open_together-requires-sync-G g c κs within = c.type_bounds.sync-G
-
-pub relax_open_together-requires-sync-C-Part : goal.relax_open_together-requires-sync-C-Part
-relax_open_together-requires-sync-C-Part g c κs within = c.type_bounds.sync-C-Part
+pub returns : goal.returns
+returns g c =
+    let components = g.C.StoredCost.components in
+    let Open = g.K.Look.IsOpen c.args.look.now in
+    let net = c.args.network.now in
+    let found = all_found (λ (items : List (Item g.row.C.Denot)). AreOpenOf components Open (onward_in components net items)) (open_on_both components net Open)
+    (IsTooWide g.C.Part.Part.bound (onward_in components net c.args.taken.now)) (open_none spot_of Open) piece_size c.args.taken.now c.pieces-pieces.result
+    c.deref.result.now c.pieces-pieces.ensures.all (rw (sym c.deref.ensures.value) at c.in_ok-lists.ensures) in
+    record {
+      candidates = IfOk-weaker c.append_found.result _ _ (λ u appends. found.0 _ _ c.clear.ensures.items appends) c.append_found.ensures.appends;
+      too_wide = λ e. found.1 (c.append_found.ensures.too_wide e);
+    }

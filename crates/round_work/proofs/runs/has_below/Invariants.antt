@@ -1,8 +1,8 @@
-use Rattle.std.proofs.Common.{take}
-use Rattle.std.specs.Prelude.{All}
+use Rattle.std.specs.List.{AllWithin}
 use Rattle.cost_vector.specs.Costs.{AtMost}
 use Rattle.waiting_queue.specs.declared.item.Item.{Item}
 use Rattle.round_work.proofs.runs.has_below.Given as goal
 
 abbrev pub invariant-loop-other : goal.invariant-loop-other
-invariant-loop-other g l = All (λ (k : Item g.row.C.Denot). ¬ AtMost (g.C.StoredCost.components k.cost) (g.C.StoredCost.components l.item.cost)) (take l.other-index l.items)
+invariant-loop-other g l =
+    AllWithin (λ (k : Item g.row.C.Denot). ¬ AtMost (g.C.StoredCost.components k.cost) (g.C.StoredCost.components l.item.cost)) l.items 0 l.other-index

@@ -1,38 +1,26 @@
--- What a core keeps where nothing is settled more, and the spots of its items.
-use Rattle.std.proofs.Common.{◌≡◌, ℕ, List, [], ◌∷◌, map, refl, ap, Contains}
-use Rattle.bulk_rounds.specs.Cores.{Core, Item, SameSearch, Spot}
-use Rattle.bulk_rounds.specs.Kept.{IsFrom, IsKept, IsKeptItem}
-use Rattle.bulk_rounds.specs.Taking.{CountsSettled}
+-- What a core of this crate keeps, and the spots of its items.
+use Rattle.std.proofs.Common.{◌≡◌, ◌⊎◌, ◌↔◌, ℕ, List, [], ◌∷◌, map, refl, ap, All, Contains}
+use Rattle.list_laws.proofs.Members.{all_from_in, each_in}
+use Rattle.bulk_rounds.specs.Cores.{Core, IsSettledIn, Item, SameSearch, Spot}
+use Rattle.bulk_rounds.specs.Kept.{IsFrom, IsKept}
+use Rattle.bulk_rounds.proofs.KeptLemmas.{from_on}
 use Rattle.waiting_queue.specs.Waiting.{as_waiting, spot_in, spot_of}
 use Rattle.waiting_queue.specs.declared.item.Item.{Item as QueueItem}
+use Rattle.bulk_core.specs.Kept.{IsKeptCore}
 
 -- the spots of items
-pub spots_of_items : {C : Type 0} (components : C → List ℕ) (items : List (QueueItem C)) → map spot_of (map (as_waiting components) items) ≡ map (spot_in components) items
+pub spots_of_items : {C : Type 0} (components : C → List ℕ) (items : List (QueueItem C))
+    → map spot_of (map (as_waiting components) items) ≡ map (spot_in components) items
 spots_of_items components [] = refl
 spots_of_items components (i ∷ is) = ap (λ (xs : List Spot). spot_in components i ∷ xs) (spots_of_items components is)
 
-module _ {before after : Core} (same : after.settled ≡ before.settled) where
-  -- where an item came from, and how many spots are settled
-  pub from_as : (i : Item) → IsFrom before i → IsFrom after i
-  from_as i was other = let h = was other in record { by = h.by; settled = rw same h.settled; at_most = h.at_most }
-
-  pub counts_as : (count : ℕ) → CountsSettled before count → CountsSettled after count
-  counts_as count counts = record {
-    spots = counts.spots;
-    once = record { exact = λ x. rw same (counts.once.exact x); once = counts.once.once };
-    counted = counts.counted;
-  }
-
-  module _ (search : SameSearch before after) where
-    pub item_as : (i : Item) → IsKeptItem before i → IsKeptItem after i
-    item_as i was = record { node = rw search.nodes was.node; spares = rw same was.spares; from = from_as i was.from }
-
-    -- what a core keeps stays so where what waits is such as it has to be
-    pub kept_as : (count : ℕ) → ((i : Item) → Contains after.queue i → IsKeptItem before i) → IsKept before count → IsKept after count
-    kept_as count each kept = record {
-      start_node = rw (search.nodes, search.start) kept.start_node;
-      target_node = rw (search.nodes, search.target) kept.target_node;
-      items = λ i there. item_as i (each i there);
-      counted = counts_as count kept.counted;
-      within = rw search.budget kept.within;
-    }
+-- where some spots are settled, the rest of what a core keeps stays so
+pub kept_core : {before after : Core} {count new : ℕ} {took others : List Item} (search : SameSearch before after) (spots : List Spot)
+    (settled : (x : Spot) → IsSettledIn after x ↔ (IsSettledIn before x ⊎ Contains spots x)) → IsKeptCore before count took → IsKept after new
+    → All (IsFrom before) others → IsKeptCore after new others
+kept_core {before} {after} {count} {new} {took} {others} search spots settled was kept from = record {
+  criteria = rw search.criteria was.criteria;
+  kept = kept;
+  most = rw search.budget was.most;
+  from = all_from_in (IsFrom after) others (λ i there. from_on search spots settled i (each_in (IsFrom before) others from i there));
+}

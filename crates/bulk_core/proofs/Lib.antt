@@ -1,10 +1,7 @@
 pub mod ListLemmas
-pub mod LimitLemmas
-pub mod DominatingLemmas
-pub mod OpenLemmas
+pub mod SpentLemmas
 pub mod StartLemmas
 pub mod SettlingLemmas
 pub mod KeptLemmas
 pub mod BeginLemmas
 pub mod FinishLemmas
-pub mod WidenLemmas

@@ -1,123 +1,66 @@
--- A new search, in which the start alone waits, and one that has ended.
-use Rattle.std.proofs.Common.{◌≡◌, ◌≢◌, ◌↔◌, ℕ, ◌≤◌, List, [], ◌∷◌, replicate, get_or, refl, sym, ap, subst, ◌∙◌, arith, All, Contains, Option}
-use Rattle.event_machine.specs.Machine.{Task, SearchState}
-use Rattle.list_laws.proofs.Members.{in_first, in_none, in_one}
+-- A new search, in which nothing waits or the start alone.
+use Rattle.std.proofs.Common.{◌≡◌, ◌≢◌, ℕ, ◌≤◌, List, [], ◌∷◌, replicate, refl, sym, ap, ◌∙◌, arith, All, Option}
+use Rattle.list_laws.proofs.Members.{all_from_in, in_first, in_none, in_one}
 use Rattle.list_laws.proofs.Pairs.{pairs_none}
-use Rattle.road_network.specs.Answers.{IsRelevant}
+use Rattle.list_laws.proofs.SetLaws.{none_of_empty}
 use Rattle.road_network.specs.Limits.{max_budget}
 use Rattle.road_network.specs.Network.{IsNode}
-use Rattle.settled_fronts.specs.NodeFronts.{costs_at}
-use Rattle.bulk_rounds.specs.Cores.{Core, IsNewSearch, IsSettledIn, Item, Spot}
-use Rattle.bulk_rounds.specs.Kept.{IsFrom, IsKeptItem}
-use Rattle.bulk_rounds.specs.Standing.{IsAt}
-use Rattle.bulk_rounds.specs.Taking.{IsOpenIn}
-use Rattle.bulk_rounds.proofs.FoundLemmas.{has_all}
+use Rattle.bulk_rounds.specs.Cores.{Core, IsNewSearch, Item, costs_at}
+use Rattle.bulk_rounds.specs.Kept.{IsKeptItem}
 use Rattle.waiting_queue.specs.Waiting.{AreCriteria}
-use Rattle.bulk_core.specs.Kept.{IsEmptySearch, IsKeptCore, core_of}
-use Rattle.bulk_core.specs.Settled.{Settled}
+use Rattle.bulk_core.specs.Kept.{IsEmptySearch, IsKeptCore}
+
+-- a search keeps what it has to where nothing is settled and nothing waits
+pub empty_is_kept : {core : Core} → ((v : ℕ) → costs_at core v ≡ []) → core.queue ≡ [] → AreCriteria core.criteria → IsNode core.nodes core.start
+    → IsNode core.nodes core.target → core.budget ≤ max_budget → IsKeptCore core 0 []
+empty_is_kept {core} none none_waits criteria start_node target_node most = record {
+  criteria = criteria;
+  kept = record {
+    start_node = start_node;
+    target_node = target_node;
+    items = λ i there. absurd (none_of_empty core.queue none_waits i there);
+    counted = record {
+      spots = [];
+      once = record {
+        exact = λ x. (λ h. absurd (in_none x h), λ h. absurd (none_of_empty (costs_at core x.node) (none x.node) x.cost h));
+        once = pairs_none ◌≢◌;
+      };
+      counted = refl;
+    };
+    within = omega arith;
+  };
+  most = most;
+  from = λ k d within. absurd (omega (arith, within));
+}
+
+-- ---- the start comes to wait
 
 -- the start, reached at no cost
 abbrev pub start_of : ℕ → ℕ → Item
 start_of criteria start = record { spot = record { cost = replicate criteria 0; node = start }; from = 0 }
 
-module _ (criteria start budget : ℕ) (s : Settled) (queue : List Item) (taken : List Spot) (none : (v : ℕ) → costs_at s.fronts v ≡ []) (none_waits : queue ≡ [])
-    (none_taken : taken ≡ []) where
-  abbrev empty_core : Core
-  empty_core = core_of criteria start budget s queue taken
+module _ {nodes criteria start target budget : ℕ} {limit : List (Option ℕ)} {core : Core}
+    (is : IsEmptySearch nodes criteria start target limit budget core) where
+  pub start_is_kept : IsNode nodes start → {i : Item} → i ≡ start_of criteria start → All (IsKeptItem core) (i ∷ [])
+  start_is_kept start_node {i} start_is = rw start_is (all_from_in (IsKeptItem core) (start_of criteria start ∷ []) (λ j there.
+      rw (in_one (start_of criteria start) j there) (record {
+        node = rw is.nodes_are start_node;
+        spares = λ e e_in. absurd (is.none_settled (record { cost = e; node = start }) e_in);
+        from = λ other. absurd (other refl);
+      })))
 
-  nothing_settled : (x : Spot) → ¬ IsSettledIn empty_core x
-  nothing_settled x there = in_none x.cost (subst (λ costs. Contains costs x.cost) (none x.node) there)
-
-  pub is_empty : (nodes target : ℕ) (limit : List (Option ℕ)) → s.fronts.nodes ≡ nodes → s.target ≡ target → s.limit ≡ limit
-      → IsEmptySearch nodes criteria start target limit budget empty_core
-  is_empty nodes target limit nodes_are target_is limit_is = record {
-    nodes_are = nodes_are;
-    criteria_are = refl;
-    start_is = refl;
-    target_is = target_is;
-    limit_is = limit_is;
-    budget_is = refl;
-    none_settled = nothing_settled;
-    none_waits = none_waits;
-    none_taken = none_taken;
-  }
-
-  pub empty_is_kept : (took : List Item) → took ≡ [] → AreCriteria criteria → IsNode s.fronts.nodes start → IsNode s.fronts.nodes s.target → budget ≤ max_budget
-      → IsKeptCore empty_core 0 took
-  empty_is_kept took none_took are_criteria start_node target_node most = record {
-    criteria = are_criteria;
-    kept = record {
-      start_node = start_node;
-      target_node = target_node;
-      items = λ i there. absurd (in_none i (subst (λ items. Contains items i) none_waits there));
-      counted = record {
-        spots = [];
-        once = record { exact = λ x. (λ h. absurd (in_none x h), λ h. absurd (nothing_settled x h)); once = pairs_none ◌≢◌ };
-        counted = refl;
-      };
-      within = omega arith;
-    };
-    most = most;
-    from = subst (All (IsFrom empty_core)) (sym none_took) (λ k d within. absurd (omega (arith, within)));
-  }
-
-module _ (criteria start budget : ℕ) (s : Settled) (queue : List Item) (taken : List Spot) (none : (v : ℕ) → costs_at s.fronts v ≡ [])
-    (waits : queue ≡ start_of criteria start ∷ []) (none_taken : taken ≡ []) where
-  abbrev core : Core
-  core = core_of criteria start budget s queue taken
-
-  none_settled : (x : Spot) → ¬ IsSettledIn core x
-  none_settled x there = in_none x.cost (subst (λ costs. Contains costs x.cost) (none x.node) there)
-
-  only_start : (i : Item) → Contains queue i → i ≡ start_of criteria start
-  only_start i there = in_one (start_of criteria start) i (subst (λ items. Contains items i) waits there)
-
-  pub is_new : (nodes target : ℕ) (limit : List (Option ℕ)) → s.fronts.nodes ≡ nodes → s.target ≡ target → s.limit ≡ limit
-      → IsNewSearch nodes criteria start target limit budget core
-  is_new nodes target limit nodes_are target_is limit_is = record {
-    nodes_are = nodes_are;
-    criteria_are = refl;
-    start_is = refl;
-    target_is = target_is;
-    limit_is = limit_is;
-    budget_is = refl;
-    none_settled = none_settled;
-    waiting = λ x. (
-      λ (i, there, is). sym is ∙ ap (λ (j : Item). j.spot) (only_start i there),
-      λ same. (start_of criteria start, subst (λ items. Contains items (start_of criteria start)) (sym waits) (in_first (start_of criteria start) []), sym same),
+  pub is_new : IsNewSearch nodes criteria start target limit budget (record core { queue = start_of criteria start ∷ [] })
+  is_new = record {
+    nodes_are = is.nodes_are;
+    criteria_are = is.criteria_are;
+    start_is = is.start_is;
+    target_is = is.target_is;
+    limit_is = is.limit_is;
+    budget_is = is.budget_is;
+    none_settled = is.none_settled;
+    waiting = λ x. rw (is.criteria_are, is.start_is) (
+      λ (i, there, i_is). sym i_is ∙ ap (λ (j : Item). j.spot) (in_one (start_of criteria start) i there),
+      λ x_is. (start_of criteria start, in_first (start_of criteria start) [], sym x_is),
     );
-    none_taken = none_taken;
+    none_taken = is.none_taken;
   }
-
-  start_kept : IsNode s.fronts.nodes start → IsKeptItem core (start_of criteria start)
-  start_kept start_node = record {
-    node = start_node;
-    spares = λ e there. absurd (none_settled (record { cost = e; node = start }) there);
-    from = λ other. absurd (other refl);
-  }
-
-  pub new_is_kept : (took : List Item) → took ≡ [] → AreCriteria criteria → IsNode s.fronts.nodes start → IsNode s.fronts.nodes s.target → budget ≤ max_budget
-      → IsKeptCore core 0 took
-  new_is_kept took none_took are_criteria start_node target_node most = record {
-    criteria = are_criteria;
-    kept = record {
-      start_node = start_node;
-      target_node = target_node;
-      items = λ i there. subst (IsKeptItem core) (sym (only_start i there)) (start_kept start_node);
-      counted = record {
-        spots = [];
-        once = record { exact = λ x. (λ h. absurd (in_none x h), λ h. absurd (none_settled x h)); once = pairs_none ◌≢◌ };
-        counted = refl;
-      };
-      within = omega arith;
-    };
-    most = most;
-    from = subst (All (IsFrom core)) (sym none_took) (λ k d within. absurd (omega (arith, within)));
-  }
-
--- where nothing waits and no round is open, the settled costs are exactly the relevant pairs
-pub ended_has_all : (core : Core) → core.queue ≡ [] → core.taken ≡ [] → (task : Task) (s : SearchState) (v : ℕ) (c : List ℕ) → IsAt task core s
-    → Contains (get_or core.settled v []) c ↔ IsRelevant task.network core.start core.target core.limit v c
-ended_has_all core none_waits none_taken task s v c at = has_all task core s at none_taken none_open v c where
-  none_open : (x : Spot) → ¬ IsOpenIn core x
-  none_open x is_open = let (i, there, is) = is_open.waits in in_none i (subst (λ items. Contains items i) none_waits there)

@@ -1,9 +1,11 @@
 -- What a core of this crate keeps, and what its steps change.
-use Rattle.std.specs.Prelude.{◌≡◌, ℕ, ◌+◌, ◌<◌, ◌≤◌, Bool, IsTrue, ◌⊎◌, ◌↔◌, List, [], Option, All, Contains, length, map}
-use Rattle.bulk_core.specs.Settled.{Settled}
-use Rattle.bulk_rounds.specs.Cores.{Core, IsSettledIn, IsSpent, Item, SameSearch, Spot}
+use Rattle.std.specs.Prelude.{◌≡◌, ◌≢◌, ℕ, ◌≤◌, List, [], Option, All, Contains, map}
+use Rattle.bulk_core.specs.Settled.{IsSpentBy, Settled}
+use Rattle.bulk_rounds.specs.declared.begin.Begun.{Begun}
+use Rattle.bulk_rounds.specs.declared.begin.Begun.TheVariants.{Done}
+use Rattle.bulk_rounds.specs.Begins.{BeginsAs}
+use Rattle.bulk_rounds.specs.Cores.{Core, IsSettledIn, Item, SameSearch, Spot}
 use Rattle.bulk_rounds.specs.Kept.{IsFrom, IsKept, IsKeptItem}
-use Rattle.bulk_rounds.specs.Taking.{CountsSettled}
 use Rattle.road_network.specs.Limits.{max_budget}
 use Rattle.waiting_queue.specs.Taking.{TakesOpenSpots}
 use Rattle.waiting_queue.specs.Waiting.{AreCriteria, spot_of}
@@ -41,32 +43,20 @@ pub record IsKeptCore (core : Core) (count : ℕ) (took : List Item) : Type 0 wh
   pub most : core.budget ≤ max_budget
   pub from : All (IsFrom core) took
 
+-- what is settled in the core, with its target and its limit
+abbrev pub settled_of : Core → Settled
+settled_of core = record { target = core.target; limit = core.limit; fronts = record { nodes = core.nodes; costs = core.settled } }
+
 -- The next spots are out of the queue, and nothing is settled yet.
 pub record TakesWaiting (before after : Core) : Type 0 where
   pub same_search : SameSearch before after
   pub settled : after.settled ≡ before.settled
   pub took : List Item
   pub taken : after.taken ≡ map spot_of took
-  pub queue : TakesOpenSpots spot_of (λ x. ¬ IsSpent before x) before.queue took after.queue
-  pub items : All (IsKeptItem before) took
+  pub queue : TakesOpenSpots spot_of (λ x. ¬ IsSpentBy (settled_of before) x) before.queue took after.queue
+  pub items : (i : Item) → Contains before.queue i → IsKeptItem before i
 
--- What was taken would be next, were it still in the queue, and with it no more are settled than the budget allows.
-pub record MaySettleTaken (core : Core) : Type 0 where
-  pub before : Core
-  pub takes : TakesWaiting before core
-  pub count : ℕ
-  pub counts : CountsSettled core count
-  pub within : count + length core.taken ≤ core.budget
-
--- it is told whether with what was taken more spots would be settled than the budget
-pub record TellsBudget (core : Core) (passes : Bool) : Type 0 where
-  pub count : ℕ
-  pub counts : CountsSettled core count
-  pub exact : IsTrue passes ↔ (core.budget < count + length core.taken)
-
--- the spots that were taken are settled
-pub record SettlesTaken (before after : Core) : Type 0 where
-  pub same_search : SameSearch before after
-  pub queue : after.queue ≡ before.queue
-  pub taken : after.taken ≡ before.taken
-  pub settled : (x : Spot) → IsSettledIn after x ↔ (IsSettledIn before x ⊎ Contains before.taken x)
+-- Where what was taken would be next, were it still in the queue, this is the answer of a round that begins; and some is.
+pub record SettlesWithin (before after : Core) (begun : Begun) : Type 0 where
+  pub some : begun ≢ Done
+  pub begins : (base : Core) → TakesWaiting base before → BeginsAs base after begun

@@ -1,5 +1,5 @@
 -- What is settled, and which spots it makes spent.
-use Rattle.std.specs.Prelude.{◌≡◌, ℕ, ◌^◌, ◌<◌, ◌≤◌, ◌⊎◌, ◌↔◌, List, ◌++◌, Option, None, length, slice_index, slice_index_or, take, All, AllPairs, Contains}
+use Rattle.std.specs.Prelude.{◌≡◌, ◌≢◌, ℕ, ◌+◌, ◌^◌, ◌<◌, ◌≤◌, ◌⊎◌, ◌↔◌, List, ◌++◌, Option, None, length, slice_index, slice_index_or, take, AllPairs, Contains}
 use Rattle.bulk_rounds.specs.Cores.{Spot}
 use Rattle.cost_vector.specs.Costs.{AtMost, Dominates, IsAllowed, Within, max_criteria, min_criteria}
 use Rattle.road_network.specs.Network.{IsNode}
@@ -12,8 +12,9 @@ pub record Settled : Type 0 where
   pub limit : List (Option ℕ)
   pub fronts : Fronts
 
--- target and limit have stayed
+-- target, limit and nodes have stayed
 pub record SameBounds (before after : Settled) : Type 0 where
+  pub nodes : after.fronts.nodes ≡ before.fronts.nodes
   pub target : after.target ≡ before.target
   pub limit : after.limit ≡ before.limit
 
@@ -41,31 +42,32 @@ IsSpentBy s x = IsCovered (costs_at s.fronts x.node) x.cost ⊎ IsBarredBy s x.c
 abbrev pub IsSettledBy : Settled → Spot → Type 0
 IsSettledBy s x = Contains (costs_at s.fronts x.node) x.cost
 
--- The spots are of nodes, no settled cost there is at most theirs, and they dominate none; nor is any of them so to a later one.
+-- The spots are different ones of nodes, no settled cost there is at most theirs, and they dominate none; nor is the cost of one
+-- of a node at most that of another.
 pub record CanSettle (s : Settled) (spots : List Spot) : Type 0 where
   pub nodes : (x : Spot) → Contains spots x → IsNode s.fronts.nodes x.node
   pub uncovered : (x : Spot) → Contains spots x → ¬ IsCovered (costs_at s.fronts x.node) x.cost
   pub spares : (x : Spot) → Contains spots x → (e : List ℕ) → Contains (costs_at s.fronts x.node) e → ¬ Dominates x.cost e
-  pub apart : AllPairs (λ x y. x.node ≡ y.node → (¬ AtMost x.cost y.cost) × (¬ Dominates y.cost x.cost)) spots
+  pub apart : (x y : Spot) → Contains spots x → Contains spots y → x.node ≡ y.node → AtMost x.cost y.cost → x ≡ y
+  pub once : AllPairs ◌≢◌ spots
 
 -- the first of the spots are settled now beside those that were
 pub record SettlesFirst (before after : Settled) (spots : List Spot) (many : ℕ) : Type 0 where
   pub bounds : SameBounds before after
-  pub nodes : after.fronts.nodes ≡ before.fronts.nodes
   pub settled : (x : Spot) → IsSettledBy after x ↔ (IsSettledBy before x ⊎ Contains (take many spots) x)
 
--- ---- what a list gets more
+-- so are some, and they are counted
+pub record SettlesSome (before after : Settled) (spots : List Spot) (old new : ℕ) : Type 0 where
+  pub many : ℕ
+  pub counted : new ≡ old + length (take many spots)
+  pub first : SettlesFirst before after spots many
 
--- behind what the list had stand some of the candidates
-pub record Appends {X : Type 0} (candidates before after : List X) : Type 0 where
+-- Behind what the list had stand some of the candidates: of those that were seen all that are open.
+pub record AppendsOpen {X : Type 0} (Open : X → Type 0) (candidates seen before after : List X) : Type 0 where
   pub added : List X
   pub appended : after ≡ before ++ added
-  pub among : All (Contains candidates) added
-
--- and all that are open
-pub record AppendsOpen {X : Type 0} (Open : X → Type 0) (candidates before after : List X) : Type 0 where
-  pub appends : Appends candidates before after
-  pub rest : (x : X) → Contains candidates x → Contains appends.added x ⊎ (¬ Open x)
+  pub among : (x : X) → Contains added x → Contains candidates x
+  pub rest : (x : X) → Contains seen x → Contains added x ⊎ (¬ Open x)
 
 -- ---- how it is kept
 

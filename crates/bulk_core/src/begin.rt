@@ -1,7 +1,7 @@
-ghost use Rattle.std.specs.Prelude.{◌≡◌, ◌++◌, [], length, map, IfOk, OnErr};
-ghost use Rattle.bulk_core.specs.Kept.{MaySettleTaken, SettlesTaken, TakesWaiting, TellsBudget};
+ghost use Rattle.std.specs.Prelude.{◌≡◌, ◌≢◌, ◌++◌, [], length, map, IfOk, OnErr};
+ghost use Rattle.bulk_core.specs.Kept.{SettlesWithin, TakesWaiting};
 ghost use Rattle.bulk_rounds.specs.Begins.{BeginsAs, CountsRound};
-ghost use Rattle.bulk_rounds.specs.Cores.{SameSearch};
+ghost use Rattle.bulk_rounds.specs.Cores.{Core as Value, SameSearch};
 ghost use Rattle.bulk_core.specs.Settled.{IsSpentBy};
 ghost use Rattle.waiting_queue.specs.Taking.{Counts, TakesOpenSpots};
 ghost use Rattle.waiting_queue.specs.Waiting.{as_waiting, spot_of};
@@ -41,11 +41,7 @@ where
         if self.count_taken() == 0 {
             return Ok(Begun::Done);
         }
-        if self.would_pass() {
-            return Ok(Begun::Budget);
-        }
-        self.settle_taken()?;
-        Ok(Begun::Taken)
+        self.settle_taken()
     }
 
     /// Takes the next spots out of the queue; they aren't settled yet.
@@ -91,20 +87,18 @@ impl<const D: usize, F: SettledFront<D>> Core<D, F> {
         self.taken().len()
     }
 
-    /// Whether with what was taken more spots would be settled than the budget allows.
-    fn would_pass(&self) -> bool
-        ensures { TellsBudget self.now result }
-    {
-        self.count_taken() > self.budget as usize - self.count
-    }
-
-    /// Settles what was taken.
-    fn settle_taken(&mut self) -> Result<(), OutOfMemory>
-        requires { MaySettleTaken self.old }
+    /// Settles what was taken, unless more spots would be settled then than the budget allows.
+    fn settle_taken(&mut self) -> Result<Begun, OutOfMemory>
+        requires some { length self.old.taken ≢ 0 }
+        requires takes { (base : Value) × TakesWaiting base self.old }
         ensures same_search { SameSearch self.old self.new }
-        ensures settled { IfOk result (λ _. SettlesTaken self.old self.new) }
+        ensures settled { IfOk result (SettlesWithin self.old self.new) }
     {
-        settle_all(&mut self.settled, &mut self.count, &self.taken)
+        if self.count_taken() > self.budget as usize - self.count {
+            return Ok(Begun::Budget);
+        }
+        settle_all(&mut self.settled, &mut self.count, &self.taken)?;
+        Ok(Begun::Taken)
     }
 }
 

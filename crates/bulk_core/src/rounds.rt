@@ -78,17 +78,9 @@ impl<const D: usize, F: SettledFront<D>> Core<D, F> {
         requires room { 0 < F.Cost.Part.bound }
         ensures { IfOk result (IsNewSearch nodes D start.0 target.0 limit.now budget) }
     {
-        let mut fresh = Vec::new(alloc);
-        fresh.push(start_item(start))?;
-        Ok(Core {
-            start,
-            budget,
-            settled: Settled::new(alloc, nodes, target, limit)?,
-            count: 0,
-            queue: Queue::new(alloc),
-            fresh,
-            taken: Vec::new(alloc),
-        })
+        let mut core = Core::empty(alloc, nodes, start, target, limit, budget)?;
+        core.fresh.push(start_item(start))?;
+        Ok(core)
     }
 
     /// A search in which nothing waits yet; `finish` puts its first spots.

@@ -1,5 +1,5 @@
 ghost use Rattle.std.specs.Prelude.{◌≡◌, ℕ, ◌+◌, ◌-◌, ◌^◌, ◌<◌, ◌≤◌, ◌↔◌, List, Option, [], ◌∷◌, length, map, All, IfOk, IsPermutation, IsTrue, OnErr};
-ghost use Rattle.bulk_core.specs.Settled.{Appends, AppendsOpen, CanSettle, IsBarredBy, HasDominating, HasDominatingAt, IsGreatestWithin, IsSpentBy, SameBounds, SettlesFirst};
+ghost use Rattle.bulk_core.specs.Settled.{AppendsOpen, CanSettle, IsBarredBy, HasDominating, HasDominatingAt, IsGreatestWithin, IsSpentBy, SameBounds, SettlesSome};
 ghost use Rattle.cost_vector.specs.Costs.{Dominates, Within, max_criteria, min_criteria};
 ghost use Rattle.road_network.specs.Limits.{max_budget, max_nodes};
 ghost use Rattle.road_network.specs.Network.{IsNode};
@@ -133,10 +133,8 @@ pub(crate) fn settle_all<const D: usize, F: SettledFront<D>>(
 ) -> Result<(), OutOfMemory>
     requires apart { CanSettle settled.old (map (spot_in F.Cost.components) items.now) }
     requires few { count.old + length items.now ≤ max_budget }
-    ensures some { SettlesFirst settled.old settled.new
-        (map (spot_in F.Cost.components) items.now) (count.new - count.old) }
-    ensures counted { count.old ≤ count.new }
-    ensures within { count.new ≤ count.old + length items.now }
+    ensures some { SettlesSome settled.old settled.new
+        (map (spot_in F.Cost.components) items.now) count.old count.new }
     ensures all { IfOk result (λ _. count.new ≡ count.old + length items.now) }
 {
     for item in items {
@@ -152,10 +150,11 @@ pub(crate) fn list_open<const D: usize, F: SettledFront<D>>(
     candidates: &[Item<F::Cost>],
     list: &mut Vec<Item<F::Cost>>,
 ) -> Result<(), OutOfMemory>
-    ensures some { Appends candidates.now list.old.items list.new.items }
+    ensures some { AppendsOpen (λ i. ¬ IsSpentBy settled.now (spot_in F.Cost.components i))
+        candidates.now [] list.old.items list.new.items }
     ensures all { IfOk result (λ _. AppendsOpen
         (λ i. ¬ IsSpentBy settled.now (spot_in F.Cost.components i))
-        candidates.now list.old.items list.new.items) }
+        candidates.now candidates.now list.old.items list.new.items) }
 {
     for item in candidates {
         if settled.is_open(item) {
@@ -168,7 +167,8 @@ pub(crate) fn list_open<const D: usize, F: SettledFront<D>>(
 /// Whether some cost of the front dominates this one: where it does, it is at most the cost that is by one less in some
 /// component.
 fn has_dominating<const D: usize, F: SettledFront<D>>(front: &F, cost: &F::Cost) -> bool
-    requires { AreCriteria D }
+    requires criteria { AreCriteria D }
+    requires long { length (F.Cost.components cost.now) ≡ D }
     ensures { IsTrue result ↔ HasDominating (F.costs front.now) (F.Cost.components cost.now) }
 {
     if !front.covers(cost) {
@@ -186,8 +186,7 @@ fn has_dominating<const D: usize, F: SettledFront<D>>(front: &F, cost: &F::Cost)
 fn covers_less<const D: usize, F: SettledFront<D>>(front: &F, cost: &F::Cost, k: usize) -> bool
     requires criteria { AreCriteria D }
     requires place { k < D }
-    ensures long { length (F.Cost.components cost.now) ≡ D }
-    ensures test { IsTrue result ↔ HasDominatingAt (F.costs front.now) (F.Cost.components cost.now) k }
+    ensures { IsTrue result ↔ HasDominatingAt (F.costs front.now) (F.Cost.components cost.now) k }
 {
     let mut numbers = cost.to_compact().0;
     if numbers[k] == 0 {
@@ -202,23 +201,14 @@ fn is_within<const D: usize>(most: &CompactCost<D>, cost: &CompactCost<D>) -> bo
     ensures { (limit : List (Option ℕ)) → IsGreatestWithin limit most.now.0
         → IsTrue result ↔ Within limit cost.now.0 }
 {
-    // Whoever reads the components knows how many they are.
-    let _ = most.0.iter();
-    let _ = cost.0.iter();
-    let mut none_greater = true;
-    for (i, component) in cost.0.iter().enumerate() {
-        none_greater &= is_at_most(*component, most.0[i]);
-    }
-    none_greater
+    have_64_bits(&cost.0);
+    cost.at_most(most)
 }
 
-/// Whether a component, which has 64 bits, isn't greater.
-fn is_at_most(component: u64, most: u64) -> bool
-    ensures test { IsTrue result ↔ (component ≤ most) }
-    ensures fits { component < 2 ^ 64 }
-{
-    component <= most
-}
+/// Components have 64 bits.
+fn have_64_bits(components: &[u64])
+    ensures { All (λ x. x < 2 ^ 64) components.now }
+{}
 
 /// The limit as a cost: where it has no bound, the component is as great as can be.
 fn greatest_within<const D: usize>(limit: &Limit) -> CompactCost<D>

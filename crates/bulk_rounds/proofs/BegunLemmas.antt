@@ -1,116 +1,92 @@
 -- How a round begins: what a core changes at its spots are the drops and takes of the machine.
-use Rattle.std.proofs.Common.{◌≡◌, ◌⊎◌, ◌↔◌, ℕ, List, [], map, inl, inr, refl, sym, ap, subst, ◌∙◌, arith, Contains}
-use Rattle.cost_vector.specs.Costs.{AtMost}
-use Rattle.cost_vector.proofs.Vectors.{AtMost-refl}
+use Rattle.std.proofs.Common.{◌≡◌, ◌⊎◌, ◌↔◌, ℕ, List, [], map, inl, inr, refl, sym, subst, ◌∙◌, arith, Contains}
 use Rattle.list_laws.proofs.OnceLaws.{alike_through, decidable_in, empty_if_none, list_all}
 use Rattle.list_laws.proofs.SetLaws.{none_of_empty, same_by_permutation}
-use Rattle.event_machine.specs.Machine.{Task, SearchState, HasSettled, LeadsOn, settled, waiting}
+use Rattle.event_machine.specs.Machine.{Task, SearchState, HasSettled, IsEntry, LeadsOn, settled, dropped, waiting}
 use Rattle.road_network.specs.Labels.{Label}
 use Rattle.event_machine.specs.Events.{drop, take, IsReached, MayDrop}
 use Rattle.event_machine.specs.Rounds.{IsBetweenRounds, NoneStays}
 use Rattle.event_machine.specs.Orders.{DropsAll, IsBegun, IsNext, Stays}
 use Rattle.event_machine.proofs.Sound.{cases_label}
 use Rattle.event_machine.proofs.Running.{reached_by_run}
-use Rattle.event_machine.proofs.BegunLaws.{all_drops, begins_is_begun, decidable_may_drop, left_waiting}
+use Rattle.event_machine.proofs.BegunLaws.{all_drops, begins_is_begun, decidable_may_drop}
 use Rattle.bulk_rounds.specs.Begins.{FindsNone, LosesSpent, SomeOpen, TakesNext}
-use Rattle.bulk_rounds.specs.Cores.{Core, IsBarred, IsCoveredIn, IsSettledIn, IsSpent, SameSearch, Spot, Waits, costs_at}
-use Rattle.bulk_rounds.specs.Standing.{HasWaitingBelow, IsAt, IsSearchOf, as_spot}
-use Rattle.bulk_rounds.specs.Taking.{IsOpenIn}
-use Rattle.bulk_rounds.proofs.SpentLemmas.{barred_below, barred_on, cases_spot, decidable_spent, spent_on, spot_by_parts}
-use Rattle.bulk_rounds.proofs.OpenLemmas.{drop_barred, next_spot, next_told, open_if_stays, settled_not_waiting, sound, stays_below_open, waiting_uncovered}
+use Rattle.bulk_rounds.specs.Cores.{Core, IsSettledIn, IsSpent, SameSearch, Spot, Waits, costs_at}
+use Rattle.bulk_rounds.specs.Standing.{IsAt, IsSearchOf, as_spot}
+use Rattle.bulk_rounds.specs.Taking.{IsNextIn, IsOpenIn}
+use Rattle.bulk_rounds.proofs.KeptLemmas.{next_unsettled}
+use Rattle.bulk_rounds.proofs.SpentLemmas.{barred_on, decidable_spent, next_spot, next_told, open_if_stays, settled_not_waiting, sound, spent_on}
+use Rattle.bulk_rounds.proofs.SpentLemmas.{spot_by_parts, stands_by, stays_below_open}
 
 -- a core of the same search searches for the same tasks
 pub same_task : (task : Task) (before after : Core) → SameSearch before after → IsSearchOf task before → IsSearchOf task after
 same_task task before after same is = grind arith
 
--- what states with the same settled labels have settled
-pub has_settled_alike : (a b : SearchState) → ((y : Label) → Contains a.settled y ↔ Contains b.settled y) → (v : ℕ) (c : List ℕ)
-    → HasSettled a v c ↔ HasSettled b v c
-has_settled_alike a b same v c = (
-  λ h. record { label = h.label; settled = (same h.label).0 h.settled; node = h.node; cost = h.cost },
-  λ h. record { label = h.label; settled = (same h.label).1 h.settled; node = h.node; cost = h.cost },
-)
+-- where settled labels stay, what is settled stays so
+has_on : {a b : SearchState} {v : ℕ} {c : List ℕ} → ((y : Label) → Contains a.settled y → Contains b.settled y) → HasSettled a v c → HasSettled b v c
+has_on kept h = record { label = h.label; settled = kept h.label h.settled; node = h.node; cost = h.cost }
 
--- ---- what is spent leaves
+-- ---- what is spent leaves, and entries stay
 
-module _ (task : Task) (before after : Core) (s : SearchState) (search : SameSearch before after)
-    (alike : (x : Spot) → IsSettledIn after x ↔ IsSettledIn before x) (same : after.taken ≡ before.taken) (loses : LosesSpent before after)
-    (at : IsAt task before s) where
-  spent_after : (x : Spot) → IsSpent before x → IsSpent after x
-  spent_after = spent_on before after search (λ x. (alike x).1)
+module _ (task : Task) (before after : Core) (s next : SearchState) (search : SameSearch before after) (loses : LosesSpent before after)
+    (at : IsAt task before s) (reached : IsReached task next) (settles : (v : ℕ) (c : List ℕ) → Contains (costs_at after v) c ↔ HasSettled next v c)
+    (kept : (x : Spot) → IsSettledIn before x → IsSettledIn after x) (old : (y : Label) → Contains next.waiting y → Contains s.waiting y)
+    (present : (y : Label) → Contains s.waiting y → IsEntry next y) where
+  stands_on : ((p : Label × ℕ) → Contains next.unrelaxed p
+      ↔ (Contains next.settled p.0 × Contains after.taken (as_spot p.0) × LeadsOn task.network p.0.node p.1)) → next.candidates ≡ [] → ((x : Spot) → Contains after.taken x → HasSettled next x.node x.cost) → IsAt task after next
+  stands_on = stands_by task after next (same_task task before after search at.search) settles reached
+      (λ y there. elim (at.stands.waiting_in y (old y there)) [
+        | inl waits ↦ loses.gone (as_spot y) waits
+        | inr barred ↦ inr (inr (barred_on before after search kept y.cost barred))
+      ])
+      (λ x (i, there, is). elim (at.stands.waiting_of x (i, loses.was i there, is)) [
+        | inl spent ↦ inl (spent_on before after search kept x spent)
+        | inr below ↦ inr (below.label, present below.label below.waits, below.node, below.at_most)
+      ])
 
-  covered_before : (x : Spot) → IsCoveredIn after x → IsCoveredIn before x
-  covered_before x h = record { by = h.by; settled = (alike (record { cost = h.by; node = x.node })).0 h.settled; at_most = h.at_most }
-
-  -- spent spots may leave the queue
-  pub queue_may_lose : IsAt task after s
-  queue_may_lose = record {
-    search = same_task task before after search at.search;
-    reached = at.reached;
-    stands = record {
-      settled = λ v c. alike_through (alike (record { cost = c; node = v })) (at.stands.settled v c);
-      waiting_in = λ y there. elim (at.stands.waiting_in y there) [
-        | inr barred ↦ inr (barred_on before after search (λ x. (alike x).1) y.cost barred)
-        | inl waits ↦ elim (loses.gone (as_spot y) waits) [
-          | inl still ↦ inl still
-          | inr (inr barred) ↦ inr barred
-          | inr (inl covered) ↦ absurd (waiting_uncovered task before s at y there (covered_before (as_spot y) covered))
-        ]
-      ];
-      waiting_of = λ x (i, there, is). elim (at.stands.waiting_of x (i, loses.was i there, is)) [
-        | inl spent ↦ inl (spent_after x spent)
-        | inr below ↦ inr below
-      ];
-      unrelaxed = λ p. rw same (at.stands.unrelaxed p);
-      candidates = at.stands.candidates;
-      taken = λ x there. at.stands.taken x (rw same at there);
-    };
-  }
-
--- ---- the drops
+-- spent spots may leave the queue
+pub queue_may_lose : (task : Task) (before after : Core) (s : SearchState) → SameSearch before after
+    → ((x : Spot) → IsSettledIn after x ↔ IsSettledIn before x) → after.taken ≡ before.taken → LosesSpent before after → IsAt task before s → IsAt task after s
+queue_may_lose task before after s search alike same loses at = stands_on task before after s s search loses at at.reached
+    (λ v c. alike_through (alike (record { cost = c; node = v })) (at.stands.settled v c)) (λ x. (alike x).1) (λ y there. there) (λ y there. (waiting, there))
+    (λ p. rw same (at.stands.unrelaxed p)) at.stands.candidates (λ x there. at.stands.taken x (rw same at there))
 
 module _ (task : Task) (core : Core) (s : SearchState) (at : IsAt task core s) where
+  unsettled_waits : (y : Label) → Contains s.settled y → ¬ Contains s.waiting y
+  unsettled_waits = settled_not_waiting task core s at.search at.stands.settled at.reached
+
+  -- ---- the drops
+
   module _ (left : SearchState) (all : DropsAll task s left) where
     left_settled : (y : Label) → Contains s.settled y ↔ Contains left.settled y
     left_settled y = (
-      λ there. (all.entries settled y).1 (inl (there, λ may. settled_not_waiting task core s at y there may.waits)),
+      λ there. (all.entries settled y).1 (inl (there, λ may. unsettled_waits y there may.waits)),
       λ there. elim ((all.entries settled y).0 there) [ inl old ↦ old.0 | inr (wrong, _) ↦ absurd cc ],
     )
 
     left_unrelaxed : (p : Label × ℕ) → Contains left.unrelaxed p
         ↔ (Contains left.settled p.0 × Contains core.taken (as_spot p.0) × LeadsOn task.network p.0.node p.1)
-    left_unrelaxed p = both (all.unrelaxed p) (at.stands.unrelaxed p) (left_settled p.0) where
-      both : {A U M S T L N : Type 0} → (A ↔ (U ⊎ (M × ⊥))) → (U ↔ (S × T × L)) → (S ↔ N) → (A ↔ (N × T × L))
-      both a u n = grind arith
+    left_unrelaxed p = let a = all.unrelaxed p in let u = at.stands.unrelaxed p in let n = left_settled p.0 in grind arith
 
     reached_by_drops : IsReached task left
     reached_by_drops =
         let (drops, each) = list_all cases_label (MayDrop task s) (decidable_may_drop task s) s.waiting (λ l may. may.waits) in
         reached_by_run task s left (map (λ l. drop l) drops) at.reached (((all_drops task s (sound task core s at) drops each).1 left).1 all)
 
-    waiting_below_left : (x : Spot) → HasWaitingBelow s x → IsSpent core x ⊎ HasWaitingBelow left x
-    waiting_below_left x below = elim (decidable_may_drop task s below.label) [
-      | inl may ↦ inl (inr (barred_below core below.label.cost x.cost below.at_most (drop_barred task core s at below.label may)))
-      | inr kept ↦
-          let waits = (left_waiting task s left all below.label).1 (record { waits = below.waits; kept = kept }) in
-          inr (record { label = below.label; waits = waits; node = below.node; at_most = below.at_most })
-    ]
-
     -- the core stands for the state without what may be dropped, too
     pub drops_need_nothing : IsAt task core left
-    drops_need_nothing = record {
-      search = at.search;
-      reached = reached_by_drops;
-      stands = record {
-        settled = λ v c. alike_through (at.stands.settled v c) (has_settled_alike s left left_settled v c);
-        waiting_in = λ y there. at.stands.waiting_in y ((left_waiting task s left all y).0 there).waits;
-        waiting_of = λ x waits. elim (at.stands.waiting_of x waits) [ inl spent ↦ inl spent | inr below ↦ waiting_below_left x below ];
-        unrelaxed = left_unrelaxed;
-        candidates = empty_if_none left.candidates (λ x there. none_of_empty s.candidates at.stands.candidates x
-            ((same_by_permutation s.candidates left.candidates all.candidates x).0 there));
-        taken = λ x there. (has_settled_alike s left left_settled x.node x.cost).0 (at.stands.taken x there);
-      };
-    }
+    drops_need_nothing = stands_on task core core s left (record { nodes = refl; criteria = refl; start = refl; target = refl; limit = refl; budget = refl })
+        (record { was = λ i there. there; gone = λ x waits. inl waits }) at reached_by_drops
+        (λ v c. alike_through (at.stands.settled v c) (has_on (λ y. (left_settled y).0), has_on (λ y. (left_settled y).1))) (λ x there. there)
+        (λ y there. elim ((all.entries waiting y).0 there) [ inl old ↦ old.0 | inr (wrong, _) ↦ absurd cc ])
+        (λ y waits. elim (decidable_may_drop task s y) [
+          | inl may ↦ (dropped, (all.entries dropped y).1 (inr (refl, may)))
+          | inr kept ↦ (waiting, (all.entries waiting y).1 (inl (waits, kept)))
+        ])
+        left_unrelaxed
+        (empty_if_none left.candidates (λ x there. none_of_empty s.candidates at.stands.candidates x
+        ((same_by_permutation s.candidates left.candidates all.candidates x).0 there)))
+        (λ x there. has_on (λ y. (left_settled y).0) (at.stands.taken x there))
 
   -- ---- what stays
 
@@ -126,145 +102,82 @@ module _ (task : Task) (core : Core) (s : SearchState) (at : IsAt task core s) w
   -- ---- between rounds
 
   module _ (none : core.taken ≡ []) where
-    none_unrelaxed : (p : Label × ℕ) → ¬ Contains s.unrelaxed p
-    none_unrelaxed p there = none_of_empty core.taken none (as_spot p.0) ((at.stands.unrelaxed p).0 there).1
-
     pub between : IsBetweenRounds s
-    between = record { unrelaxed = empty_if_none s.unrelaxed none_unrelaxed; candidates = at.stands.candidates }
+    between = record {
+      unrelaxed = empty_if_none s.unrelaxed (λ p there. none_of_empty core.taken none (as_spot p.0) ((at.stands.unrelaxed p).0 there).1);
+      candidates = at.stands.candidates;
+    }
 
     module _ (next : SearchState) (begun : IsBegun task s next) where
       -- the next labels are settled beside those that were
-      pub settled_by_begun : (y : Label) → Contains next.settled y ↔ (Contains s.settled y ⊎ IsNext task s y)
+      settled_by_begun : (y : Label) → Contains next.settled y ↔ (Contains s.settled y ⊎ IsNext task s y)
       settled_by_begun y = both (begun.entries settled y) (λ wrong. cc) refl
-          (λ there. let not = settled_not_waiting task core s at y there in (λ may. not may.waits, λ is. not is.stays.waits)) where
+          (λ there. let not = unsettled_waits y there in (λ may. not may.waits, λ is. not is.stays.waits)) where
             both : {A S M N Q R : Type 0} → (A ↔ ((S × (¬ M) × (¬ N)) ⊎ ((Q × M) ⊎ (R × N)))) → ¬ Q → R → (S → (¬ M) × (¬ N)) → (A ↔ (S ⊎ N))
             both a q r s = grind arith
+
+      -- and the next spots beside those that were
+      pub now_settled : (x : Spot) → HasSettled next x.node x.cost ↔ (IsSettledIn core x ⊎ IsNextIn core x)
+      now_settled x = (
+        λ h. elim ((settled_by_begun h.label).0 h.settled) [
+          | inl old ↦ inl ((at.stands.settled x.node x.cost).1 (record { label = h.label; settled = old; node = h.node; cost = h.cost }))
+          | inr is ↦ inr (subst (IsNextIn core) (spot_by_parts (as_spot h.label) x h.node h.cost) (next_spot task core s at h.label is))
+        ],
+        elim [
+          | inl old ↦ has_on (λ y there. (settled_by_begun y).1 (inl there)) ((at.stands.settled x.node x.cost).0 old)
+          | inr next_in ↦
+              let (y, is, same) = (next_told task core s at x).0 next_in in
+              subst (λ (z : Spot). HasSettled next z.node z.cost) same
+              (record { label = y; settled = (settled_by_begun y).1 (inr is); node = refl; cost = refl })
+        ],
+      )
 
       pub reached_by_begins : IsReached task next
       reached_by_begins =
           let h = (begins_is_begun task at.search.is_task s (sound task core s at) between next).1 begun in
           reached_by_run task h.left next (map (λ l. take l) h.takes) (reached_by_run task s h.left (map (λ l. drop l) h.drops) at.reached h.dropping) h.taking
 
--- ---- the takes
+      -- ---- the takes
 
-module _ (task : Task) (before after : Core) (s next : SearchState) (none : before.taken ≡ []) (takes : TakesNext before after)
-    (at : IsAt task before s) (begun : IsBegun task s next) where
-  now_settled : (y : Label) → Contains next.settled y ↔ (Contains s.settled y ⊎ IsNext task s y)
-  now_settled = settled_by_begun task before s at none next begun
+      module _ (after : Core) (takes : TakesNext core after) where
+        after_settled : (x : Spot) → IsSettledIn after x ↔ HasSettled next x.node x.cost
+        after_settled x = both (takes.settled x) (takes.taken.exact x) (now_settled x) where
+          both : {A O T N H : Type 0} → (A ↔ (O ⊎ T)) → (T ↔ N) → (H ↔ (O ⊎ N)) → (A ↔ H)
+          both a t h = grind arith
 
-  kept : (x : Spot) → IsSettledIn before x → IsSettledIn after x
-  kept x there = (takes.settled x).1 (inl there)
+        present : (y : Label) → Contains s.waiting y → IsEntry next y
+        present y waits = elim (decidable_may_drop task s y) [
+          | inl may ↦ (dropped, (begun.entries dropped y).1 (inr (inl (refl, may))))
+          | inr kept ↦ elim (decidable_in cases_label next.settled y) [
+            | inl there ↦ (settled, there)
+            | inr other ↦ (waiting, (begun.entries waiting y).1 (inl (waits, kept, λ is. other ((settled_by_begun y).1 (inr is)))))
+          ]
+        ]
 
-  taken_spot : (y : Label) → IsNext task s y → Contains after.taken (as_spot y)
-  taken_spot y is = (takes.taken.exact (as_spot y)).1 (next_spot task before s at y is)
+        is_next : (y : Label) → IsNext task s y ↔ (Contains next.settled y × Contains after.taken (as_spot y))
+        is_next y = (
+          λ is. ((settled_by_begun y).1 (inr is), (takes.taken.exact (as_spot y)).1 (next_spot task core s at y is)),
+          λ (there, taken). elim ((settled_by_begun y).0 there) [
+            | inr is ↦ is
+            | inl old ↦ absurd (next_unsettled core (as_spot y) ((takes.taken.exact (as_spot y)).0 taken)
+                ((at.stands.settled y.node y.cost).1 (record { label = y; settled = old; node = refl; cost = refl })))
+          ],
+        )
 
-  taken_label : (x : Spot) → Contains after.taken x → (y : Label) × IsNext task s y × (as_spot y ≡ x)
-  taken_label x there = (next_told task before s at x).0 ((takes.taken.exact x).0 there)
+        unrelaxed_after : (p : Label × ℕ) → Contains next.unrelaxed p
+            ↔ (Contains next.settled p.0 × Contains after.taken (as_spot p.0) × LeadsOn task.network p.0.node p.1)
+        unrelaxed_after p = let u = begun.unrelaxed p in let n = is_next p.0 in grind arith
 
-  -- what was taken is settled in the machine too
-  taken_settled : (x : Spot) → Contains after.taken x → HasSettled next x.node x.cost
-  taken_settled x there =
-      let (y, is, same) = taken_label x there in
-      record {
-        label = y;
-        settled = (now_settled y).1 (inr is);
-        node = ap (λ (z : Spot). z.node) same;
-        cost = ap (λ (z : Spot). z.cost) same;
-      }
+        stands_after : IsAt task after next
+        stands_after = stands_on task core after s next takes.same_search takes.queue at reached_by_begins
+            (λ v c. after_settled (record { cost = c; node = v })) (λ x there. (takes.settled x).1 (inl there))
+            (λ y there. elim ((begun.entries waiting y).0 there) [ inl old ↦ old.0 | inr (inl (wrong, _)) ↦ absurd cc | inr (inr (wrong, _)) ↦ absurd cc ])
+            present unrelaxed_after begun.candidates (λ x there. (now_settled x).1 (inr ((takes.taken.exact x).0 there)))
 
-  begun_settled : (v : ℕ) (c : List ℕ) → Contains (costs_at after v) c ↔ HasSettled next v c
-  begun_settled v c = (
-    λ there. elim ((takes.settled (record { cost = c; node = v })).0 there) [
-      | inr new ↦ taken_settled (record { cost = c; node = v }) new
-      | inl old ↦
-          let h = (at.stands.settled v c).0 old in
-          record { label = h.label; settled = (now_settled h.label).1 (inl h.settled); node = h.node; cost = h.cost }
-    ],
-    λ h. (takes.settled (record { cost = c; node = v })).1 (elim ((now_settled h.label).0 h.settled) [
-      | inl old ↦ inl ((at.stands.settled v c).1 (record { label = h.label; settled = old; node = h.node; cost = h.cost }))
-      | inr is ↦ inr (subst (Contains after.taken) (spot_by_parts (as_spot h.label) (record { cost = c; node = v }) h.node h.cost) (taken_spot h.label is))
-    ]),
-  )
-
-  -- a label that waits and isn't next is covered by nothing that was taken
-  uncovered_after : (y : Label) → Contains s.waiting y → ¬ IsNext task s y → ¬ IsCoveredIn after (as_spot y)
-  uncovered_after y waits other h = elim ((takes.settled (record { cost = h.by; node = y.node })).0 h.settled) [
-    | inl old ↦ waiting_uncovered task before s at y waits (record { by = h.by; settled = old; at_most = h.at_most })
-    | inr new ↦
-        let (l, is, same) = taken_label (record { cost = h.by; node = y.node }) new in
-        let below = subst (λ (z : Spot). AtMost z.cost y.cost) (sym same) h.at_most in
-        let one = (sound task before s at).apart.alone l y (waiting, is.stays.waits) (waiting, waits) (ap (λ (z : Spot). z.node) same) below in
-        other (subst (IsNext task s) one is)
-  ]
-
-  begun_waiting : (y : Label) → Contains next.waiting y ↔ (Contains s.waiting y × (¬ MayDrop task s y) × (¬ IsNext task s y))
-  begun_waiting y = both (begun.entries waiting y) (λ wrong. cc) (λ wrong. cc) where
-    both : {A S M N Q R : Type 0} → (A ↔ ((S × (¬ M) × (¬ N)) ⊎ ((Q × M) ⊎ (R × N)))) → ¬ Q → ¬ R → (A ↔ (S × (¬ M) × (¬ N)))
-    both a q r = grind arith
-
-  begun_waiting_in : (y : Label) → Contains next.waiting y → Waits after (as_spot y) ⊎ IsBarred after y.cost
-  begun_waiting_in y there =
-      let (waits, stays, other) = (begun_waiting y).0 there in
-      elim (takes.queue.gone (as_spot y) (open_if_stays task before s at y (record { waits = waits; kept = stays })).waits) [
-        | inl still ↦ inl still
-        | inr (inr barred) ↦ inr barred
-        | inr (inl covered) ↦ absurd (uncovered_after y waits other covered)
-      ]
-
-  below_after : (x : Spot) → HasWaitingBelow s x → IsSpent after x ⊎ HasWaitingBelow next x
-  below_after x below = elim (decidable_may_drop task s below.label) [
-    | inl may ↦
-        let barred = barred_below before below.label.cost x.cost below.at_most (drop_barred task before s at below.label may) in
-        inl (inr (barred_on before after takes.same_search kept x.cost barred))
-    | inr stays ↦ elim (decidable_in cases_spot after.taken (as_spot below.label)) [
-      | inl taken ↦ inl (inl (record {
-        by = below.label.cost;
-        settled = subst (λ v. Contains (costs_at after v) below.label.cost) below.node ((takes.settled (as_spot below.label)).1 (inr taken));
-        at_most = below.at_most;
-      }))
-      | inr other ↦ inr (record {
-        label = below.label;
-        waits = (begun_waiting below.label).1 (below.waits, stays, λ is. other (taken_spot below.label is));
-        node = below.node;
-        at_most = below.at_most;
-      })
-    ]
-  ]
-
-  begun_unrelaxed : (p : Label × ℕ) → Contains next.unrelaxed p
-      ↔ (Contains next.settled p.0 × Contains after.taken (as_spot p.0) × LeadsOn task.network p.0.node p.1)
-  begun_unrelaxed p = (
-    λ h. let (is, leads) = (begun.unrelaxed p).0 h in ((now_settled p.0).1 (inr is), taken_spot p.0 is, leads),
-    λ (there, taken, leads). (begun.unrelaxed p).1 (is_next there taken, leads),
-  ) where
-    is_next : Contains next.settled p.0 → Contains after.taken (as_spot p.0) → IsNext task s p.0
-    is_next there taken = elim ((now_settled p.0).0 there) [
-      | inr is ↦ is
-      | inl old ↦
-          let (y, is, same) = taken_label (as_spot p.0) taken in
-          let node = ap (λ (z : Spot). z.node) same in
-          let has : HasSettled s y.node y.cost = record { label = p.0; settled = old; node = sym node; cost = sym (ap (λ (z : Spot). z.cost) same) } in
-          absurd (waiting_uncovered task before s at y is.stays.waits
-          (record { by = y.cost; settled = (at.stands.settled y.node y.cost).1 has; at_most = AtMost-refl y.cost }))
-    ]
-
-  -- the core stands for the state to which they lead
-  pub begin_stands : IsAt task after next
-  begin_stands = record {
-    search = same_task task before after takes.same_search at.search;
-    reached = reached_by_begins task before s at none next begun;
-    stands = record {
-      settled = begun_settled;
-      waiting_in = begun_waiting_in;
-      waiting_of = λ x (i, there, is). elim (at.stands.waiting_of x (i, takes.queue.was i there, is)) [
-        | inl spent ↦ inl (spent_on before after takes.same_search kept x spent)
-        | inr below ↦ below_after x below
-      ];
-      unrelaxed = begun_unrelaxed;
-      candidates = begun.candidates;
-      taken = taken_settled;
-    };
-  }
+-- the core stands for the state to which drops and takes lead
+pub begin_stands : (task : Task) (before after : Core) (s next : SearchState) → before.taken ≡ [] → TakesNext before after → IsAt task before s
+    → IsBegun task s next → IsAt task after next
+begin_stands task before after s next none takes at begun = stands_after task before s at none next begun after takes
 
 -- ---- where none is open
 

@@ -1,6 +1,6 @@
 -- What follows for the spots of a core from the state for which it stands; the start of each search, and what is found at its end.
 use Rattle.std.proofs.Common.{◌≡◌, ◌≢◌, ◌↔◌, ℕ, List, [], Option, replicate, inl, inr, refl, sym, ap, subst, ◌∙◌, Contains}
-use Rattle.cost_vector.specs.Costs.{AtMost, Dominates}
+use Rattle.cost_vector.specs.Costs.{AtMost}
 use Rattle.cost_vector.proofs.Vectors.{AtMost-Dominates, AtMost-refl, AtMost-trans}
 use Rattle.list_laws.specs.Sets.{HasMoreThan}
 use Rattle.list_laws.proofs.Members.{in_first, in_none, in_one}
@@ -16,11 +16,10 @@ use Rattle.event_machine.specs.Orders.{IsArrival, IsGiven}
 use Rattle.event_machine.proofs.Sound.{all_settled, grown_from_settled, known_is_bounded}
 use Rattle.event_machine.proofs.Running.{same_itself}
 use Rattle.bulk_rounds.specs.Cores.{Core, IsNewSearch, IsSpent, Item, Spot, costs_at, start_spot}
-use Rattle.bulk_rounds.specs.Standing.{IsAt, IsSearchOf, as_spot}
+use Rattle.bulk_rounds.specs.Standing.{HasWaitingBelow, IsAt, IsSearchOf, as_spot}
 use Rattle.bulk_rounds.specs.Taking.{IsOpenIn}
 use Rattle.bulk_rounds.specs.Kept.{IsFrom, SparesSettled}
-use Rattle.bulk_rounds.proofs.SpentLemmas.{spot_by_parts}
-use Rattle.bulk_rounds.proofs.OpenLemmas.{sound}
+use Rattle.bulk_rounds.proofs.SpentLemmas.{sound, spot_by_parts}
 use Rattle.bulk_rounds.proofs.BegunLemmas.{between, none_stay}
 
 -- what an item gives to the node from which it came is spent
@@ -51,8 +50,7 @@ module _ (task : Task) (core : Core) (s : SearchState) (at : IsAt task core s) w
       let (e, to_do, follows) = given x arrives in
       let is_sound = sound task core s at in
       let grown = grown_from_settled task at.search.is_task s is_sound e x (is_sound.paired e x.arc to_do).0 follows in
-      let dominates = subst (Dominates e.cost) (sym l.cost) (AtMost-Dominates e.cost x.cost c grown.at_most less) in
-      is_sound.undominated l.label e l.settled (has_arc x.arc to_do) dominates
+      is_sound.undominated l.label e l.settled (has_arc x.arc to_do) (rw l.cost (AtMost-Dominates e.cost x.cost c grown.at_most less))
 
   -- ---- taken spots
 
@@ -102,14 +100,8 @@ module _ (nodes criteria start target : ℕ) (limit : List (Option ℕ)) (budget
     stands = record {
       settled = λ v c. (λ there. absurd (is.none_settled (record { cost = c; node = v }) there), λ h. absurd (in_none h.label h.settled));
       waiting_in = λ y there. inl ((is.waiting (as_spot y)).1 (ap as_spot (in_one (start_label task) y there) ∙ same_start));
-      waiting_of = λ x waits.
-          let same = same_start ∙ sym ((is.waiting x).0 waits) in
-          inr (record {
-            label = start_label task;
-            waits = in_first (start_label task) [];
-            node = ap (λ (z : Spot). z.node) same;
-            at_most = subst (λ (z : Spot). AtMost (start_label task).cost z.cost) same (AtMost-refl (start_label task).cost);
-          });
+      waiting_of = λ x waits. inr (subst (HasWaitingBelow (start_state task)) (same_start ∙ sym ((is.waiting x).0 waits))
+          (record { label = start_label task; waits = in_first (start_label task) []; node = refl; at_most = AtMost-refl (start_label task).cost }));
       unrelaxed = λ p. (λ h. absurd (in_none p h), λ h. absurd (in_none p.0 h.0));
       candidates = refl;
       taken = λ x there. absurd (none_of_empty core.taken is.none_taken x there);

@@ -1,16 +1,18 @@
--- What a core keeps where the next spots are taken, and where candidates are put into its queue.
-use Rattle.std.proofs.Common.{◌≡◌, ◌≢◌, ◌⊎◌, ◌↔◌, ℕ, List, ◌+◌, ◌++◌, length, inl, inr, refl, subst, arith, Contains}
+-- What a queue takes, and what a core keeps where the next spots are taken or candidates are put into its queue.
+use Rattle.std.proofs.Common.{◌≡◌, ◌≢◌, ◌⊎◌, ◌↔◌, ℕ, List, [], ◌+◌, ◌≤◌, ◌++◌, length, map, inl, inr, refl, sym, subst, ◌∙◌, arith, AllPairs, Contains}
 use Rattle.std.proofs.lemmas.List.{length-append}
-use Rattle.list_laws.proofs.OnceLaws.{in_append, pairs_append}
-use Rattle.list_laws.proofs.Pairs.{pigeonhole}
+use Rattle.list_laws.proofs.Members.{in_map, in_none, of_map}
+use Rattle.list_laws.proofs.OnceLaws.{lists_append}
+use Rattle.list_laws.proofs.Pairs.{pairs_map, pairs_none, pigeonhole}
 use Rattle.cost_vector.specs.Costs.{AtMost, Dominates}
 use Rattle.cost_vector.proofs.Vectors.{AtMost-refl, cases_same}
-use Rattle.bulk_rounds.specs.Begins.{TakesNext}
-use Rattle.bulk_rounds.specs.Cores.{Core, IsSettledIn, Spot, Waits, Item}
-use Rattle.bulk_rounds.specs.Finishes.{PutsAll}
-use Rattle.bulk_rounds.specs.Kept.{IsKept, IsKeptItem, SparesSettled}
-use Rattle.bulk_rounds.specs.Taking.{CountsSettled, IsNextIn}
-use Rattle.bulk_rounds.proofs.SpentLemmas.{ascending_once, barred_below, covered_below, covered_on}
+use Rattle.bulk_rounds.specs.Begins.{LosesSpent, TakesNext}
+use Rattle.bulk_rounds.specs.Cores.{Core, IsSettledIn, IsSpent, Item, SameSearch, Spot, Waits}
+use Rattle.bulk_rounds.specs.Kept.{IsFrom, IsKept, IsKeptItem, SparesSettled}
+use Rattle.bulk_rounds.specs.Taking.{CountsSettled, IsNextIn, ListsNext}
+use Rattle.bulk_rounds.proofs.SpentLemmas.{ascending_once, barred_below, covered_below, covered_on, decidable_spent, spent_on}
+use Rattle.waiting_queue.specs.Taking.{TakesOpenSpots}
+use Rattle.waiting_queue.specs.Waiting.{SpotLess, spot_of}
 
 -- the cost of one of two next spots of a node is at most the other's only where both are the same
 pub next_apart : (core : Core) (x y : Spot) → IsNextIn core x → IsNextIn core y → AtMost x.cost y.cost → x.cost ≡ y.cost
@@ -43,71 +45,103 @@ one_count core m n a b = omega (
   pigeonhole b.spots a.spots b.once.once (λ x there. (a.once.exact x).1 ((b.once.exact x).0 there)),
 )
 
-module _ (before after : Core) (takes : TakesNext before after) where
-  -- what waited dominates no settled cost of its node, those that were taken included
-  pub spares_after : (x : Spot) → Waits before x → SparesSettled before x → SparesSettled after x
-  spares_after x waits spares e there less = elim ((takes.settled (record { cost = e; node = x.node })).0 there) [
+-- ---- where some spots are settled
+
+module _ {before after : Core} (search : SameSearch before after) (spots : List Spot)
+    (settled : (x : Spot) → IsSettledIn after x ↔ (IsSettledIn before x ⊎ Contains spots x)) where
+  -- the node from which an item came has a settled cost still
+  pub from_on : (i : Item) → IsFrom before i → IsFrom after i
+  from_on i was other = covered_on before after search (λ x is. (settled x).1 (inl is)) (record { cost = i.spot.cost; node = i.from }) (was other)
+
+  -- what dominates none of them at its node spares what is settled then
+  pub spares_on : (x : Spot) → ((y : Spot) → Contains spots y → x.node ≡ y.node → ¬ Dominates x.cost y.cost) → SparesSettled before x → SparesSettled after x
+  spares_on x apart spares e there less = elim ((settled (record { cost = e; node = x.node })).0 there) [
     | inl old ↦ spares e old less
-    | inr new ↦
-        let y : Spot = record { cost = e; node = x.node } in
-        waiting_spares_next before x y waits ((takes.taken.exact y).0 new) refl less
+    | inr new ↦ apart (record { cost = e; node = x.node }) new refl less
   ]
 
-  -- so many are settled more
-  counts_after : (count : ℕ) → CountsSettled before count → CountsSettled after (count + length after.taken)
-  counts_after count counts = record {
-    spots = counts.spots ++ after.taken;
-    once = record {
-      exact = λ x. joined (in_append counts.spots after.taken x) (counts.once.exact x) (takes.settled x);
-      once = pairs_append ◌≢◌ counts.spots after.taken counts.once.once (ascending_once after.taken takes.taken.ascending)
-          (λ x y x_in y_in same. next_unsettled before y ((takes.taken.exact y).0 y_in) ((counts.once.exact y).0 (subst (Contains counts.spots) same x_in)));
+  -- a core keeps what it has to where they are different ones that weren't settled, and what waits was kept and spares them
+  pub kept_on : (count new : ℕ) → new ≡ count + length spots → new ≤ before.budget → AllPairs ◌≢◌ spots
+      → ((x : Spot) → Contains spots x → ¬ IsSettledIn before x) → ((i : Item) → Contains after.queue i
+      → IsKeptItem before i × ((y : Spot) → Contains spots y → i.spot.node ≡ y.node → ¬ Dominates i.spot.cost y.cost)) → IsKept before count → IsKept after new
+  kept_on count new more few once unsettled each kept = record {
+    start_node = rw (search.nodes, search.start) kept.start_node;
+    target_node = rw (search.nodes, search.target) kept.target_node;
+    items = λ i there. let (was, apart) = each i there in
+        record { node = rw search.nodes was.node; spares = spares_on i.spot apart was.spares; from = from_on i was.from };
+    counted = record {
+      spots = kept.counted.spots ++ spots;
+      once = lists_append (IsSettledIn before) (Contains spots) (IsSettledIn after) kept.counted.spots spots settled
+          (λ x old new. unsettled x new old) kept.counted.once (record { exact = λ x. (λ h. h, λ h. h); once = once });
+      counted = omega (arith, more, length-append kept.counted.spots spots, kept.counted.counted);
     };
-    counted = omega (arith, length-append counts.spots after.taken, counts.counted);
-  } where
-    joined : {W A T S N : Type 0} → (W ↔ (A ⊎ T)) → (A ↔ S) → (N ↔ (S ⊎ T)) → (W ↔ N)
-    joined f g h = grind arith
-
-  -- a kept item that stays is kept
-  item_after : (i : Item) → Contains before.queue i → IsKeptItem before i → IsKeptItem after i
-  item_after i there was = record {
-    node = rw takes.same_search.nodes was.node;
-    spares = spares_after i.spot (i, there, refl) was.spares;
-    from = λ other. covered_on before after takes.same_search (λ x is. (takes.settled x).1 (inl is))
-        (record { cost = i.spot.cost; node = i.from }) (was.from other);
+    within = rw search.budget few;
   }
+
+-- where no spot is settled more, so it is if each item that waits then was kept
+module _ {before after : Core} (search : SameSearch before after) (same : after.settled ≡ before.settled) where
+  pub none_more : (x : Spot) → IsSettledIn after x ↔ (IsSettledIn before x ⊎ Contains [] x)
+  none_more x = rw same (λ h. inl h, elim [ inl h ↦ h | inr none ↦ absurd (in_none x none) ])
+
+  pub kept_as : (count : ℕ) → ((i : Item) → Contains after.queue i → IsKeptItem before i) → IsKept before count → IsKept after count
+  kept_as count each kept = kept_on search [] none_more count count (omega arith) kept.within (pairs_none ◌≢◌) (λ x none. absurd (in_none x none))
+      (λ i there. (each i there, λ y none. absurd (in_none y none))) kept
+
+module _ (before after : Core) (takes : TakesNext before after) where
+  next : (x : Spot) → Contains after.taken x → IsNextIn before x
+  next x there = (takes.taken.exact x).0 there
+
+  -- what waited dominates no settled cost of its node, those that were taken included
+  pub spares_after : (x : Spot) → Waits before x → SparesSettled before x → SparesSettled after x
+  spares_after x waits = spares_on takes.same_search after.taken takes.settled x (λ y y_in. waiting_spares_next before x y waits (next y y_in))
 
   -- what a core keeps stays so
   pub kept_after : (count : ℕ) → IsKept before count → IsKept after (count + length after.taken)
-  kept_after count kept = record {
-    start_node = rw (takes.same_search.nodes, takes.same_search.start) kept.start_node;
-    target_node = rw (takes.same_search.nodes, takes.same_search.target) kept.target_node;
-    items = λ i there. let was = takes.queue.was i there in item_after i was (kept.items i was);
-    counted = counts_after count kept.counted;
-    within = rw takes.same_search.budget (omega (arith, takes.within, one_count before count takes.count kept.counted takes.counts));
+  kept_after count kept = kept_on takes.same_search after.taken takes.settled count (count + length after.taken) refl
+      (omega (arith, takes.within, one_count before count takes.count kept.counted takes.counts)) (ascending_once after.taken takes.taken.ascending)
+      (λ x there. next_unsettled before x (next x there))
+      (λ i there. let was = takes.queue.was i there in (kept.items i was, λ y y_in. waiting_spares_next before i.spot y (i, was, refl) (next y y_in))) kept
+
+-- ---- what a queue takes of what waits, where it is told which spots are open: exactly the next ones
+
+module _ (before : Core) {Open : Spot → Type 0} (told : (x : Spot) → Open x ↔ ¬ IsSpent before x) (took after : List Item)
+    (takes : TakesOpenSpots spot_of Open before.queue took after) where
+  -- just the next spots are taken, ascending
+  pub lists_next : ListsNext before (map spot_of took)
+  lists_next = record {
+    ascending = pairs_map (λ a b. SpotLess (spot_of a) (spot_of b)) SpotLess spot_of (λ a b less. less) took takes.ascending;
+    exact = λ x. (
+      λ there.
+          let (i, i_in, same) = of_map spot_of took x there in
+          let (waits, is_open, undominated) = (takes.taken x).0 (i, i_in, sym same) in
+          record {
+            is_open = record { waits = waits; unspent = (told x).0 is_open };
+            none_better = λ z is less.
+                let (j, j_in, j_same) = is.waits in undominated j j_in (rw j_same ((told z).1 is.unspent)) (rw j_same less);
+          },
+      λ next.
+          let (i, i_in, same) = (takes.taken x).1 (
+            next.is_open.waits,
+            (told x).1 next.is_open.unspent,
+            λ j j_in is_open. next.none_better (spot_of j) (record { waits = (j, j_in, refl); unspent = (told (spot_of j)).0 is_open }),
+          ) in
+          subst (Contains (map spot_of took)) same (in_map spot_of took i i_in),
+    );
   }
 
-module _ (candidates : List Item) (before after : Core) (puts : PutsAll candidates before after) where
-  still : (x : Spot) → IsSettledIn before x → IsSettledIn after x
-  still x there = rw puts.settled there
-
-  item_on : (i : Item) → IsKeptItem before i → IsKeptItem after i
-  item_on i was = record {
-    node = rw puts.same_search.nodes was.node;
-    spares = rw puts.settled was.spares;
-    from = λ other. covered_on before after puts.same_search still (record { cost = i.spot.cost; node = i.from }) (was.from other);
-  }
-
-  -- what a core keeps stays so where kept items are put into the queue
-  pub kept_with : (count : ℕ) → ((i : Item) → Contains after.queue i → Contains before.queue i ⊎ IsKeptItem before i) → IsKept before count
-      → IsKept after count
-  kept_with count each kept = record {
-    start_node = rw (puts.same_search.nodes, puts.same_search.start) kept.start_node;
-    target_node = rw (puts.same_search.nodes, puts.same_search.target) kept.target_node;
-    items = λ i there. item_on i (elim (each i there) [ inl old ↦ kept.items i old | inr new ↦ new ]);
-    counted = record {
-      spots = kept.counted.spots;
-      once = record { exact = λ x. rw puts.settled (kept.counted.once.exact x); once = kept.counted.once.once };
-      counted = kept.counted.counted;
-    };
-    within = rw puts.same_search.budget kept.within;
+  -- and where they are settled then, what left is spent
+  pub loses_spent : (later : Core) → SameSearch before later → later.queue ≡ after
+      → ((x : Spot) → IsSettledIn later x ↔ (IsSettledIn before x ⊎ Contains (map spot_of took) x)) → LosesSpent before later
+  loses_spent later same_search same settled = record {
+    was = λ i there. (takes.stays i (rw same at there)).0;
+    gone = λ x (i, i_in, is). elim (takes.leaves i i_in) [
+      | inl (j, stays, j_same) ↦ inl (j, rw same stays, j_same ∙ is)
+      | inr (inl (j, j_in, j_same)) ↦
+          let there = subst (Contains (map spot_of took)) (j_same ∙ is) (in_map spot_of took j j_in) in
+          inr (inl (record { by = x.cost; settled = (settled x).1 (inr there); at_most = AtMost-refl x.cost }))
+      | inr (inr closed) ↦ elim (decidable_spent before (spot_of i)) [
+        | inl spent ↦ inr (spent_on before later same_search (λ z is_in. (settled z).1 (inl is_in)) x (subst (IsSpent before) is spent))
+        | inr unspent ↦ absurd (closed ((told (spot_of i)).1 unspent))
+      ]
+    ];
   }

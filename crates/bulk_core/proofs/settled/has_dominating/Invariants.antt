@@ -1,9 +1,6 @@
-use Rattle.std.proofs.Common.{◌≡◌, ℕ, ◌<◌, length}
+use Rattle.std.proofs.Common.{ℕ, ◌<◌}
 use Rattle.bulk_core.specs.Settled.{HasDominatingAt}
 use Rattle.bulk_core.proofs.settled.has_dominating.Given as goal
 
 abbrev pub invariant-loop-k : goal.invariant-loop-k
-invariant-loop-k g l = record {
-  none : (i : ℕ) → i < l.k → ¬ HasDominatingAt (g.F.SettledFront.costs l.front) (g.F.Cost.StoredCost.components l.cost) i;
-  long : 0 < l.k → length (g.F.Cost.StoredCost.components l.cost) ≡ g.row.D;
-}
+invariant-loop-k g l = (i : ℕ) → i < l.k → ¬ HasDominatingAt (g.F.SettledFront.costs l.front) (g.F.Cost.StoredCost.components l.cost) i

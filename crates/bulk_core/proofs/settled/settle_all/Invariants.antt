@@ -5,6 +5,6 @@ use Rattle.bulk_core.proofs.settled.settle_all.Given as goal
 
 abbrev pub invariant-loop-item : goal.invariant-loop-item
 invariant-loop-item g l = record {
-  some : SettlesFirst l.fn.settled l.settled (map (spot_in g.F.Cost.StoredCost.components) l.items) l.item-index;
+  first : SettlesFirst l.fn.settled l.settled (map (spot_in g.F.Cost.StoredCost.components) l.items) l.item-index;
   counted : l.count ≡ l.fn.count + l.item-index;
 }

@@ -1,5 +1,4 @@
-use Rattle.bulk_rounds.proofs.OpenLemmas.{next_told, open_if_stays, stays_below_open}
-use Rattle.bulk_rounds.proofs.SpentLemmas.{barred_told}
+use Rattle.bulk_rounds.proofs.SpentLemmas.{barred_told, next_told, open_if_stays, stays_below_open}
 use Rattle.bulk_rounds.proofs.rounds.next_spots_are_next_labels.Goals as goal
 
 pub returns : goal.returns

@@ -1,24 +1,16 @@
-use Rattle.std.proofs.Common.{◌≡◌, ◌∷◌, ◌++◌, [], map, ap}
-use Rattle.bulk_rounds.specs.Cores.{Item}
-use Rattle.waiting_queue.specs.Waiting.{as_waiting, spot_in}
-use Rattle.bulk_core.proofs.StartLemmas.{is_new, new_is_kept, start_of}
+use Rattle.std.proofs.Common.{refl, append_assoc}
+use Rattle.std.proofs.lemmas.List.{map-append}
+use Rattle.waiting_queue.specs.Waiting.{as_waiting}
+use Rattle.bulk_core.proofs.FinishLemmas.{appends_each, kept_with_more}
+use Rattle.bulk_core.proofs.StartLemmas.{is_new, start_is_kept}
 use Rattle.bulk_core.proofs.rounds.Core.new.Goals as goal
 
--- the start alone waits
-waits : (g : _) (c : goal.After-new-3 g)
-    → c.new-2.result ++ map (as_waiting g.F.Cost.StoredCost.components) c.push.new.self.items ≡ start_of g.row.D c.args.start.0 ∷ []
-waits g c = rw (c.new-2.ensures, c.in_ok-push.ensures.items, c.new-fresh.ensures.items) (ap (λ (w : Item). w ∷ []) c.start_item.ensures)
-
-pub invariant_of-result : goal.invariant_of-result
-invariant_of-result g c =
-    new_is_kept g.row.D c.args.start.0 c.args.budget c.in_ok-new.field-0 _ (map (spot_in g.F.Cost.StoredCost.components) c.new-3.result.items)
-    c.in_ok-new.ensures.none (waits g c) (ap (map (spot_in g.F.Cost.StoredCost.components)) c.new-3.ensures.items)
-    (map (as_waiting g.F.Cost.StoredCost.components) c.new-3.result.items)
-    (ap (map (as_waiting g.F.Cost.StoredCost.components)) c.new-3.ensures.items) c.requires.criteria (rw c.in_ok-new.ensures.nodes c.requires.start)
-    (rw (c.in_ok-new.ensures.nodes, c.in_ok-new.ensures.target) c.requires.target) c.requires.budget
+pub invariant_of-core : goal.invariant_of-core
+invariant_of-core g c = let is = rw (← c.core.view_is) at c.in_ok-core.ensures in
+    rw c.in_ok-push.ensures.items (kept_with_more (as_waiting g.F.Cost.StoredCost.components) c.core.invariant c.core.inside.queue refl
+    (appends_each {Open = λ _. ⊥} c.core.inside.fresh.items) _ c.core.invariant.from (start_is_kept is c.requires.start c.start_item.ensures))
 
 pub returns : goal.returns
 returns g c =
-    is_new g.row.D c.args.start.0 c.args.budget c.in_ok-new.field-0 _ (map (spot_in g.F.Cost.StoredCost.components) c.new-3.result.items)
-    c.in_ok-new.ensures.none (waits g c) (ap (map (spot_in g.F.Cost.StoredCost.components)) c.new-3.ensures.items) c.args.nodes c.args.target.0
-    c.args.limit.now c.in_ok-new.ensures.nodes c.in_ok-new.ensures.target c.in_ok-new.ensures.limit
+    let is = rw (← c.core.view_is) at c.in_ok-core.ensures in
+    rw (c.in_ok-push.ensures.items, map-append, ← append_assoc, is.none_waits, c.start_item.ensures) (is_new is)

@@ -1,6 +1,7 @@
 -- What is searched for a query, and how many rounds that takes.
-use Rattle.std.proofs.Common.{◌≡◌, ℕ, ◌+◌, ◌≤◌, List, Result, Ok, Err, ap, arith, sum}
-use Rattle.std.specs.Result.{IsErr, IsErrAnd}
+use Rattle.std.proofs.Common.{◌≡◌, ℕ, ◌+◌, ◌≤◌, List, Result, Err, ap, ◌∙◌, arith, sum}
+use Rattle.std.specs.Result.{IsErrAnd}
+use Rattle.std.proofs.lemmas.Result.{err_from_is_err_and}
 use Rattle.road_network.specs.Network.{IsNetwork, Network}
 use Rattle.road_network.specs.Queries.{IsQuery}
 use Rattle.road_network.specs.declared.query.Query.{Query}
@@ -25,22 +26,10 @@ few_by_rounds task budget result old new is counts =
     let (v, c, relevant, most) = bounded task is budget counts.rounds counts.all in
     (v, c, relevant, omega (arith, most, counts.at_most))
 
--- ---- what was counted
-
-module _ {Answer : Type 0} (task : Task) (budget : ℕ) (result : Result Answer SearchFault) (old new : ℕ) where
-  -- all rounds were
-  pub counts_all : (k : ℕ) → Rounds task budget k → new ≡ old + k → CountsRounds task budget result old new
-  counts_all k all counted = record { rounds = k; all = all; at_most = omega (arith, counted); exact = λ _. counted }
-
-  -- no more than these, and memory ran out
-  pub counts_some : IsTask task → result ≡ Err fault.OutOfMemory → ((n : ℕ) → Rounds task budget n → new ≤ old + n)
-      → CountsRounds task budget result old new
-  counts_some is out most =
-      let (n, all) = some_number task is budget in
-      record { rounds = n; all = all; at_most = most n all; exact = λ not. absurd (not out) }
-
--- an error that want of memory was turned into
-pub out_of_memory : {Answer : Type 0} (result : Result Answer SearchFault) → IsErr result → IsErrAnd result (λ e. e ≡ fault.OutOfMemory)
-    → result ≡ Err fault.OutOfMemory
-out_of_memory (Ok x) err and = absurd (cc)
-out_of_memory (Err e) err and = ap (λ f. Err f) and
+-- where memory ran out, no more rounds were counted than there are
+pub counts_out : {Answer : Type 0} (task : Task) (budget : ℕ) (result : Result Answer SearchFault) (old new : ℕ) → IsTask task
+    → IsErrAnd result (λ e. e ≡ fault.OutOfMemory) → ((n : ℕ) → Rounds task budget n → new ≤ old + n) → CountsRounds task budget result old new
+counts_out task budget result old new is out most =
+    let (n, all) = some_number task is budget in
+    let (e, is_err, same) = err_from_is_err_and result out in
+    record { rounds = n; all = all; at_most = most n all; exact = λ not. absurd (not (is_err ∙ ap (λ f. Err f) same)) }

@@ -1,16 +1,18 @@
 -- A search between its rounds, and what becomes of it in a round.
-use Rattle.std.specs.Prelude.{◌≡◌, ◌≢◌, ℕ, ◌≤◌, ◌⊎◌, ◌↔◌, List, [], length, AllPairs, Contains}
+use Rattle.std.specs.Prelude.{◌≡◌, ◌≢◌, ℕ, ◌≤◌, ◌⊎◌, List, [], length, AllPairs, Contains}
 use Rattle.list_laws.specs.Sets.{HasMoreThan}
 use Rattle.road_network.specs.Limits.{max_budget}
 use Rattle.road_network.specs.Network.{Network}
-use Rattle.road_network.specs.Answers.{IsRelevant, Passes}
+use Rattle.road_network.specs.Answers.{Passes}
 use Rattle.event_machine.specs.Machine.{Task, SearchState, start_state}
 use Rattle.event_machine.specs.Orders.{IsOutcome}
 use Rattle.event_machine.specs.Rounds.{GoRounds}
 use Rattle.bulk_rounds.specs.Cores.{Core, Item, SameSearch, Spot}
-use Rattle.bulk_rounds.specs.Finishes.{HasItemBelow}
 use Rattle.bulk_rounds.specs.Standing.{IsAt}
-use Rattle.walk_readback.specs.Found.{FoundCosts, HasAllRelevant, HasSettled}
+use Rattle.found_fronts.specs.FoundFronts.{IsOfFronts}
+use Rattle.round_work.specs.Survivors.{HasBelow}
+use Rattle.waiting_queue.specs.Waiting.{spot_of}
+use Rattle.walk_readback.specs.Found.{FoundCosts, HasAllRelevant}
 
 -- the list contains so many different things
 pub record HasSoMany {X : Type 0} (n : ℕ) (xs : List X) : Type 0 where
@@ -43,7 +45,7 @@ pub record IsOpen (net : Network) (core : Core) : Type 0 where
 -- Of the candidates some are kept: each other one isn't open, or costs at least as much as one of these at its node.
 pub record KeepsEnough (Open : Spot → Type 0) (candidates kept : List Item) : Type 0 where
   pub among : (i : Item) → Contains kept i → Contains candidates i
-  pub rest : (i : Item) → Contains candidates i → (¬ Open i.spot) ⊎ HasItemBelow kept i.spot
+  pub rest : (i : Item) → Contains candidates i → (¬ Open i.spot) ⊎ HasBelow spot_of kept i.spot
 
 -- The open round over this network has ended: the core stands for the outcome of all orders of its events.
 pub record EndsOver (net : Network) (before after : Core) : Type 0 where
@@ -52,13 +54,9 @@ pub record EndsOver (net : Network) (before after : Core) : Type 0 where
   pub outcome : (task : Task) (s end : SearchState) → task.network ≡ net → IsAt task before s
       → IsOutcome net s end → IsAt task after end
 
--- just what the core has settled was found, and where it stands for a state, that is what is relevant
-pub record FindsAll (core : Core) (f : FoundCosts) : Type 0 where
-  pub start : f.start ≡ core.start
-  pub target : f.target ≡ core.target
-  pub nodes : f.nodes ≡ core.nodes
-  pub relevant : (task : Task) (s : SearchState) (v : ℕ) (c : List ℕ) → IsAt task core s
-      → (HasSettled f v c ↔ IsRelevant task.network core.start core.target core.limit v c)
+-- just what the core has settled was found, in d criteria
+abbrev pub FindsAll : ℕ → Core → FoundCosts → Type 0
+FindsAll d core = IsOfFronts d core.start core.target (record { nodes = core.nodes; costs = core.settled })
 
 -- what was found is all of the task, which doesn't pass the budget
 pub record IsAnswer (task : Task) (budget : ℕ) (f : FoundCosts) : Type 0 where

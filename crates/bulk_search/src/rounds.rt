@@ -1,9 +1,11 @@
-ghost use Rattle.std.specs.Prelude.{◌≡◌, ◌^◌, ◌<◌, [], map, Err, IfOk};
+ghost use Rattle.std.specs.Prelude.{◌≡◌, ◌^◌, ◌<◌, [], length, map, All, Err, IfOk};
 ghost use Rattle.bulk_rounds.specs.Begins.{BeginsAs, CountsRound};
 ghost use Rattle.bulk_rounds.specs.Cores.{IsNewSearch};
 ghost use Rattle.bulk_rounds.specs.Standing.{IsSearchOf};
 ghost use Rattle.found_fronts.specs.FoundAtWidth.{found_of as found_at_width};
+ghost use Rattle.road_network.specs.Network.{IsNode};
 ghost use Rattle.road_network.specs.Queries.{IsQuery, limit_of};
+ghost use Rattle.round_work.specs.Onward.{IsTooWide, onward_of};
 ghost use Rattle.round_work.specs.declared.fault.RelaxFault.TheVariants as fault;
 ghost use Rattle.waiting_queue.specs.Waiting.{as_waiting};
 ghost use Rattle.bulk_search.specs.Counting.{task_of};
@@ -85,70 +87,18 @@ where
         ensures same { result ≡ Err fault.TooWide → self.new.core ≡ self.old.core }
         ensures narrow { result ≡ Err fault.TooWide → F.Cost.Part.bound < 2 ^ 63 }
     {
-        if self.core.taken().len() <= PIECE_SIZE {
-            self.finish_by_nodes(workers, alloc, network)
+        prove!(network.nodes() >= 1);
+        prove!(network.criteria() == D);
+        let taken = self.core.taken();
+        let few = taken.len() <= PIECE_SIZE;
+        let settled = self.core.settled();
+        let (marks, candidates) = (&mut self.marks, &mut self.candidates);
+        relax_taken(workers, alloc, network, settled, taken, marks, candidates)?;
+        if few {
+            self.core.finish(&self.candidates)?;
         } else {
-            self.finish_by_pieces(workers, alloc, network)
+            self.core.finish_open(&self.candidates)?;
         }
-    }
-
-    /// Ends a round in which little was taken: it is relaxed in one piece, and then the candidates of each node are a piece.
-    fn finish_by_nodes<R: Threads + Sync, G: Gate>(
-        &mut self,
-        workers: &Workers<'_, R, G>,
-        alloc: Global,
-        network: &Network<'_>,
-    ) -> Result<(), RelaxFault>
-        requires criteria { network.now.criteria ≡ D }
-        requires is_open { IsOpen network.now self.old.core }
-        ensures ended { IfOk result (λ _. EndsOver network.now self.old.core self.new.core) }
-        ensures same { result ≡ Err fault.TooWide → self.new.core ≡ self.old.core }
-        ensures narrow { result ≡ Err fault.TooWide → F.Cost.Part.bound < 2 ^ 63 }
-    {
-        prove!(network.nodes() >= 1);
-        prove!(network.criteria() == D);
-        let taken = self.core.taken();
-        let workers = &workers.for_labels(taken.len());
-        relax(workers, alloc, network, taken, &mut self.candidates)?;
-        let settled = self.core.settled();
-        keep_survivors(
-            workers,
-            alloc,
-            settled,
-            &mut self.marks,
-            &mut self.candidates,
-        )?;
-        self.core.finish(&self.candidates)?;
-        Ok(())
-    }
-
-    /// Ends a round that is relaxed in several pieces, which leave out what isn't open.
-    fn finish_by_pieces<R: Threads + Sync, G: Gate>(
-        &mut self,
-        workers: &Workers<'_, R, G>,
-        alloc: Global,
-        network: &Network<'_>,
-    ) -> Result<(), RelaxFault>
-        requires criteria { network.now.criteria ≡ D }
-        requires is_open { IsOpen network.now self.old.core }
-        ensures ended { IfOk result (λ _. EndsOver network.now self.old.core self.new.core) }
-        ensures same { result ≡ Err fault.TooWide → self.new.core ≡ self.old.core }
-        ensures narrow { result ≡ Err fault.TooWide → F.Cost.Part.bound < 2 ^ 63 }
-    {
-        prove!(network.nodes() >= 1);
-        prove!(network.criteria() == D);
-        let taken = self.core.taken();
-        let workers = &workers.for_labels(taken.len() / spots_of_a_label(D));
-        let settled = self.core.settled();
-        relax_open(
-            workers,
-            alloc,
-            network,
-            settled,
-            taken,
-            &mut self.candidates,
-        )?;
-        self.core.finish_open(&self.candidates)?;
         Ok(())
     }
 }
@@ -208,8 +158,7 @@ where
         requires search { IsSearchOf (task_of network.now query.now) (core_of self) }
         requires none_waits { (core_of self).queue ≡ [] }
         requires none_taken { (core_of self).taken ≡ [] }
-        ensures all { IfOk result (λ f. FindsAll (core_of self) (found_at_width f)) }
-        ensures criteria { IfOk result (λ f. (found_at_width f).criteria ≡ D) }
+        ensures { IfOk result (λ f. FindsAll D (core_of self) (found_at_width f)) }
     {
         let (start, target) = (NodeNo(query.from), NodeNo(query.to));
         match self {
@@ -294,6 +243,45 @@ where
         Err(RelaxFault::OutOfMemory) => Err(OutOfMemory),
         Err(RelaxFault::TooWide) => unreachable!(),
     }
+}
+
+/// Lists what taken items give along their arcs, but for what leads straight back and for what may be left out. Where little was
+/// taken, it is relaxed in one piece, and then the candidates of each node are a piece; else in several, which leave out what
+/// isn't open.
+fn relax_taken<
+    const D: usize,
+    C: StoredCost<D> + Send + Sync,
+    K: Look<D, C> + Sync,
+    R: Threads + Sync,
+    G: Gate,
+>(
+    workers: &Workers<'_, R, G>,
+    alloc: Global,
+    network: &Network<'_>,
+    look: &K,
+    taken: &[Item<C>],
+    marks: &mut Marks,
+    candidates: &mut Vec<Item<C>>,
+) -> Result<(), RelaxFault>
+where
+    C::Part: Send + Sync,
+    requires criteria { network.now.criteria ≡ D }
+    requires few { length taken.now < 2 ^ 32 }
+    requires nodes { All (λ i. IsNode network.now.nodes i.node.0) taken.now }
+    ensures kept { IfOk result (λ _. KeepsEnough (K.IsOpen look.now)
+        (onward_of network.now (map (as_waiting C.components) taken.now))
+        (map (as_waiting C.components) candidates.new.items)) }
+    ensures too_wide { result ≡ Err fault.TooWide → IsTooWide C.Part.bound
+        (onward_of network.now (map (as_waiting C.components) taken.now)) }
+{
+    if taken.len() > PIECE_SIZE {
+        let workers = &workers.for_labels(taken.len() / spots_of_a_label(D));
+        return relax_open(workers, alloc, network, look, taken, candidates);
+    }
+    let workers = &workers.for_labels(taken.len());
+    relax(workers, alloc, network, taken, candidates)?;
+    keep_survivors(workers, alloc, look, marks, candidates)?;
+    Ok(())
 }
 
 /// How many taken spots of a round are as much work to relax as a label of whole queries that are shared. Under 2 criteria a front

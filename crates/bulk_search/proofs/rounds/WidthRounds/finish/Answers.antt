@@ -1,43 +1,45 @@
+use Rattle.std.proofs.Common.{rules, Err, sym, ap, ◌∙◌}
+use Rattle.bulk_core.specs.Settled.{IsSpentBy}
+use Rattle.bulk_core.proofs.KeptLemmas.{spots_of_items}
+use Rattle.bulk_search.proofs.OnwardLemmas.{closed_is_spent, ends_over, items_at_nodes, kept_items, too_wide_below}
 use Rattle.bulk_search.proofs.rounds.WidthRounds.finish.Goals as goal
 
-pub finish_by_nodes-requires-send-F-Cost : goal.finish_by_nodes-requires-send-F-Cost
-finish_by_nodes-requires-send-F-Cost g c κs within = record { owned = c.type_bounds.send-F-Cost.owned; leaving = c.type_bounds.send-F-Cost.leaving }
+pub relax_taken-requires-clause-nodes : goal.relax_taken-requires-clause-nodes
+relax_taken-requires-clause-nodes g c κs within =
+    items_at_nodes _ c.args.network.now c.args.self.now.core c.taken-taken.result.now c.requires.is_open c.taken-taken.ensures.spots
 
-pub finish_by_nodes-requires-send-F-Cost-Part : goal.finish_by_nodes-requires-send-F-Cost-Part
-finish_by_nodes-requires-send-F-Cost-Part g c κs within = record { owned = c.type_bounds.send-F-Cost-Part.owned; leaving = c.type_bounds.send-F-Cost-Part.leaving }
+pub returns-in_err-relax_taken-clause-narrow : goal.returns-in_err-relax_taken-clause-narrow
+returns-in_err-relax_taken-clause-narrow g c = λ wide.
+    let spots = spots_of_items _ c.taken-taken.result.now ∙ c.taken-taken.ensures.spots in
+    let came = c.in_err-relax_taken.was ∙ ap (λ e. Err e) (sym (rw wide at c.from_residual.ensures.1)) in
+    too_wide_below c.args.network.now c.nodes.ensures.network.small c.args.self.now.core c.requires.is_open _ spots _ (c.relax_taken.ensures.too_wide came)
 
-pub finish_by_nodes-requires-sync-F : goal.finish_by_nodes-requires-sync-F
-finish_by_nodes-requires-sync-F g c κs within = record { shared = c.type_bounds.sync-F.shared }
+pub finish-requires : goal.finish-requires
+finish-requires g c =
+    let spots = spots_of_items _ c.taken-taken.result.now ∙ c.taken-taken.ensures.spots in
+    let kept = kept_items c.args.network.now c.nodes.ensures.network.network c.args.self.now.core c.requires.is_open _ spots c.taken-taken.ensures.from
+    _ _ c.in_ok-relax_taken.ensures.kept in
+    (search rules, rw c.deref.ensures.value kept)
 
-pub finish_by_nodes-requires-sync-F-Cost : goal.finish_by_nodes-requires-sync-F-Cost
-finish_by_nodes-requires-sync-F-Cost g c κs within = record { shared = c.type_bounds.sync-F-Cost.shared }
+pub finish_open-requires : goal.finish_open-requires
+finish_open-requires g c =
+    let spots = spots_of_items _ c.taken-taken.result.now ∙ c.taken-taken.ensures.spots in
+    let kept = kept_items c.args.network.now c.nodes.ensures.network.network c.args.self.now.core c.requires.is_open _ spots c.taken-taken.ensures.from
+    _ _ c.in_ok-relax_taken.ensures.kept in
+    (search rules, rw c.deref-else-few.ensures.value kept)
 
-pub finish_by_nodes-requires-sync-F-Cost-Part : goal.finish_by_nodes-requires-sync-F-Cost-Part
-finish_by_nodes-requires-sync-F-Cost-Part g c κs within = record { shared = c.type_bounds.sync-F-Cost-Part.shared }
+pub returns-in_ok-finish-clause-ended : goal.returns-in_ok-finish-clause-ended
+returns-in_ok-finish-clause-ended g c =
+    let core = c.args.self.now.core in
+    let spots = spots_of_items _ c.taken-taken.result.now ∙ c.taken-taken.ensures.spots in
+    let closed = closed_is_spent core (IsSpentBy c.settled-settled.result.now) c.settled-settled.ensures in
+    ends_over c.args.network.now c.nodes.ensures.network.network core c.requires.is_open _ spots c.taken-taken.ensures.from _ closed
+    _ c.finish.new.self c.in_ok-relax_taken.ensures.kept (rw c.deref.ensures.value at c.in_ok-finish.ensures.put)
 
-pub finish_by_nodes-requires-sync-R : goal.finish_by_nodes-requires-sync-R
-finish_by_nodes-requires-sync-R g c κs within = record { shared = c.type_bounds.sync-R.shared }
-
-pub finish_by_nodes-requires-sync-G : goal.finish_by_nodes-requires-sync-G
-finish_by_nodes-requires-sync-G g c κs within = record { shared = c.type_bounds.sync-G.shared }
-
-pub finish_by_pieces-requires-send-F-Cost : goal.finish_by_pieces-requires-send-F-Cost
-finish_by_pieces-requires-send-F-Cost g c κs within = record { owned = c.type_bounds.send-F-Cost.owned; leaving = c.type_bounds.send-F-Cost.leaving }
-
-pub finish_by_pieces-requires-send-F-Cost-Part : goal.finish_by_pieces-requires-send-F-Cost-Part
-finish_by_pieces-requires-send-F-Cost-Part g c κs within = record { owned = c.type_bounds.send-F-Cost-Part.owned; leaving = c.type_bounds.send-F-Cost-Part.leaving }
-
-pub finish_by_pieces-requires-sync-F : goal.finish_by_pieces-requires-sync-F
-finish_by_pieces-requires-sync-F g c κs within = record { shared = c.type_bounds.sync-F.shared }
-
-pub finish_by_pieces-requires-sync-F-Cost : goal.finish_by_pieces-requires-sync-F-Cost
-finish_by_pieces-requires-sync-F-Cost g c κs within = record { shared = c.type_bounds.sync-F-Cost.shared }
-
-pub finish_by_pieces-requires-sync-F-Cost-Part : goal.finish_by_pieces-requires-sync-F-Cost-Part
-finish_by_pieces-requires-sync-F-Cost-Part g c κs within = record { shared = c.type_bounds.sync-F-Cost-Part.shared }
-
-pub finish_by_pieces-requires-sync-R : goal.finish_by_pieces-requires-sync-R
-finish_by_pieces-requires-sync-R g c κs within = record { shared = c.type_bounds.sync-R.shared }
-
-pub finish_by_pieces-requires-sync-G : goal.finish_by_pieces-requires-sync-G
-finish_by_pieces-requires-sync-G g c κs within = record { shared = c.type_bounds.sync-G.shared }
+pub returns-in_ok-finish_open-clause-ended : goal.returns-in_ok-finish_open-clause-ended
+returns-in_ok-finish_open-clause-ended g c =
+    let core = c.args.self.now.core in
+    let spots = spots_of_items _ c.taken-taken.result.now ∙ c.taken-taken.ensures.spots in
+    let closed = closed_is_spent core (IsSpentBy c.settled-settled.result.now) c.settled-settled.ensures in
+    ends_over c.args.network.now c.nodes.ensures.network.network core c.requires.is_open _ spots c.taken-taken.ensures.from _ closed
+    _ c.finish_open.new.self c.in_ok-relax_taken.ensures.kept (rw c.deref-else-few.ensures.value at c.in_ok-finish_open.ensures.put)

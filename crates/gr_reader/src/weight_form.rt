@@ -5,13 +5,24 @@ ghost use Rattle.gr_reader.specs.WeightForms.{as_form, capped, or_malformed};
 
 use crate::fields::{front_number, number, only_number, three_fields};
 use crate::grammar::LineForm;
-use line_text::next_field;
+use line_text::{behind_byte, next_field};
 
 /// What a line of a weight file says: the numbers of nodes and of arcs, or a tail, a head and a weight.
 pub(crate) type WeightForm = LineForm<(u64, u64), (u64, u64, u64)>;
 
-/// What a line says.
+/// What a line says. Nearly all are arcs, whose word stands at the front.
 pub(crate) fn form_of(line: &[u8]) -> WeightForm
+    ensures { as_form result ≡ capped (weights_form (fields_of line.now)) }
+{
+    match behind_byte(line, b'a') {
+        Some(rest) => arc_behind(rest).unwrap_or(LineForm::Malformed),
+        None => any_form(line),
+    }
+}
+
+/// The same, whatever stands at the front.
+#[inline(never)]
+fn any_form(line: &[u8]) -> WeightForm
     ensures { as_form result ≡ capped (weights_form (fields_of line.now)) }
 {
     match next_field(line) {
@@ -32,6 +43,7 @@ fn form_behind(word: &[u8], rest: &[u8]) -> Option<WeightForm>
 }
 
 /// The arc that three numbers say.
+#[inline(always)]
 fn arc_behind(text: &[u8]) -> Option<WeightForm>
     ensures { or_malformed result ≡ capped (arc_from (fields_of text.now)) }
 {

@@ -1,4 +1,4 @@
-ghost use Rattle.std.specs.Prelude.{◌≡◌, ◌≤◌, ◌↔◌, [], drop, length, IsTrue, MatchOption};
+ghost use Rattle.std.specs.Prelude.{◌≡◌, ◌≤◌, ◌↔◌, [], ◌∷◌, drop, false, length, IfSome, IsTrue, MatchOption};
 ghost use Rattle.std.specs.List.{prefix_len};
 ghost use Rattle.line_text.specs.Fields.{BeginsBlank, FieldAt, FirstByte, FirstField, fields_of};
 ghost use Rattle.line_text.specs.Fields.{is_blank, is_filled};
@@ -22,6 +22,18 @@ pub fn first_byte(text: &[u8]) -> Option<u8>
     match behind_blanks(text) {
         [] => None,
         [byte, ..] => Some(*byte),
+    }
+}
+
+/// What stands behind the first field of a text, where that is this byte alone and stands at the front.
+#[inline(always)]
+pub fn behind_byte(text: &[u8], byte: u8) -> Option<&[u8]>
+    requires { is_blank byte ≡ false }
+    ensures { IfSome result (λ rest. fields_of text.now ≡ (byte ∷ []) ∷ fields_of rest.now) }
+{
+    match text {
+        [first, rest @ ..] if *first == byte && begins_blank(rest) => Some(rest),
+        _ => None,
     }
 }
 

@@ -9,7 +9,7 @@ mod limits;
 mod lines;
 mod numerals;
 
-pub use fields::{field, first_byte, next_field};
+pub use fields::{behind_byte, field, first_byte, next_field};
 pub use limits::{LineFault, LineLimits, Request};
 pub use lines::{Lines, MAX_HELD, MAX_LINE};
 pub use numerals::{Numeral, decimal, next_number, put_decimal};

@@ -1,9 +1,9 @@
 -- What several parts took, joined one member after another.
-use Rattle.std.proofs.Common.{◌≡◌, ℕ, ◌+◌, ◌<◌, List, [], ◌∷◌, ◌++◌, add-zero, append-nil, append_assoc, take, drop, length, length-drop, length-take, get_or, inl, inr, refl, sym, ap, subst, subst₂, ◌∙◌, arith}
+use Rattle.std.proofs.Common.{◌≡◌, ℕ, ◌+◌, ◌<◌, List, [], ◌∷◌, ◌++◌, add-zero, append-nil, append_assoc, take, length, length-drop, get_or, inl, inr, refl, sym, ap, subst, ◌∙◌, arith}
 use Rattle.std.specs.Prelude.{AllPairs, Contains, flat_map}
-use Rattle.std.proofs.lemmas.List.{get_or-drop, get_or-take, get_or_default, take_more}
+use Rattle.std.proofs.lemmas.List.{get_or-drop, take_more}
 use Rattle.std.proofs.lemmas.List.Concat.{flat_map-append}
-use Rattle.cost_vector.specs.Costs.{Dominates}
+use Rattle.cost_vector.specs.Costs.{Dominates, LexLess}
 use Rattle.cost_vector.proofs.Vectors.{Dominates-trans}
 use Rattle.list_laws.proofs.Members.{cases_in, cases_push, each_in, in_front, in_none, in_rest}
 use Rattle.list_laws.proofs.OnceLaws.{in_append}
@@ -16,20 +16,12 @@ use Rattle.waiting_queue.specs.Taking.{IsDominatedIn, TakesOpen}
 use Rattle.waiting_queue.specs.Waiting.{Spot, SpotLess, spot_in}
 use Rattle.waiting_queue.proofs.OrderLemmas.{SpotLess-irrefl, SpotLess-trans, after_or_same, not_lex_less}
 use Rattle.waiting_queue.proofs.PassingLemmas.{ends_if_there, has_if_ends}
-use Rattle.waiting_queue.proofs.ShadowLemmas.{in_parts, shadow_tells}
+use Rattle.waiting_queue.proofs.ShadowLemmas.{in_parts, pairs_parts, shadow_tells}
 use Rattle.waiting_queue.proofs.TakingLemmas.{takes_more, takes_not, takes_skip}
 
 -- ---- lists
 
 module _ {X : Type 0} where
-  -- a member of the front, and one that stands behind it
-  pub pairs_parts : (R : X → X → Type 0) (k : ℕ) (xs : List X) (x y : X) → AllPairs R xs → Contains (take k xs) x → Contains (drop k xs) y → R x y
-  pairs_parts R k xs x y pairs (i, before, here) (j, behind, there) =
-      let near : i < k = omega (arith, before, length-take k xs) in
-      let far : k + j < length xs = omega (arith, behind, length-drop k xs) in
-      subst₂ R (sym (get_or-take k xs i x near) ∙ here) (get_or_default xs (k + j) x y far ∙ sym (get_or-drop k xs j y) ∙ there)
-      (pairs i (k + j) x (omega arith) far)
-
   -- what stands before a member
   pub pair_at : (R : X → X → Type 0) (xs : List X) (i : ℕ) (x y : X) → AllPairs R xs → i < length xs → x ≡ get_or xs i x → Contains (take i xs) y → R y x
   pair_at R xs i x y pairs within at there =
@@ -144,6 +136,10 @@ module _ {C : Type 0} (components : C → List ℕ) where
               let (q, q_in, x_in) = of_flat (λ (q : Part C). q.taken.items) (take i parts) x h in
               pair_at (ComesBefore components) parts i p q are.ascending within at q_in x y x_in k;
         };
+        behind = λ x h q q_in c there.
+            let from = (earlier q q_in).shadow.from c there in
+            subst (λ d. ¬ LexLess (components x.cost) (components d)) from.2
+            (not_lex_less (spot from.0) (spot x) (pair_at (ComesBefore components) parts i p q are.ascending within at q_in from.0 x from.1 h));
         tells = λ c sees.
             let by = shadow_tells components sees.part.taken.items sees.part.shadow.items c (earlier sees.part sees.there).shadow sees.by in
             (by.0, in_flat (λ (q : Part C). q.taken.items) (take i parts) sees.part by.0 sees.there by.1, by.2);

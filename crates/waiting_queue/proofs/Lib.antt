@@ -6,3 +6,4 @@ pub mod ShadowLemmas
 pub mod TakingLemmas
 pub mod RunLemmas
 pub mod TwoRunLemmas
+pub mod StairLemmas

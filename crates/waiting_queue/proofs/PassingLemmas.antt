@@ -3,12 +3,13 @@ use Rattle.std.proofs.Common.{◌≡◌, ℕ, suc, ◌+◌, ◌-◌, ◌<◌, �
 use Rattle.std.specs.Prelude.{All, AllPairs, Contains, Some, slice_get}
 use Rattle.std.proofs.lemmas.List.{drop_more, nil_from_length}
 use Rattle.std.proofs.lemmas.Option.{slice_get_within, get_or_from_slice_get}
+use Rattle.cost_vector.specs.Costs.{LexLess}
 use Rattle.list_laws.proofs.Members.{cases_in, cases_push, each_in, in_first, in_none, in_rest}
 use Rattle.list_laws.proofs.OnceLaws.{in_append, in_cons}
 use Rattle.list_laws.proofs.Pairs.{pairs_none, pairs_push, pairs_rest, pairs_take, pair_with_first}
 use Rattle.waiting_queue.specs.declared.item.Item.{Item}
 use Rattle.waiting_queue.specs.Passing.{AreNext, EndsAt, HasPassed, IsLookedAt, IsPassed, IsSplit, PassesNext}
-use Rattle.waiting_queue.specs.Shadows.{Descends, FallsTo, IsDominatedBy, IsRun}
+use Rattle.waiting_queue.specs.Shadows.{Descends, FallsTo, IsBehind, IsDominatedBy, IsLater, IsRun}
 use Rattle.waiting_queue.specs.Taking.{AreSorted, HasSpot, IsDominatedIn}
 use Rattle.waiting_queue.specs.Waiting.{Spot, SpotLess, spot_in}
 use Rattle.waiting_queue.proofs.OrderLemmas.{SpotLess-irrefl, SpotLess-trans, after_or_same, less_unless, not_lex_less}
@@ -80,6 +81,12 @@ module _ {C : Type 0} (components : C → List ℕ) where
       behind_took : (x : Item C) → Contains took x → ¬ SpotLess (spot s) (spot x)
       behind_took x h = behind x (is.takes.among x h)
 
+      -- it comes behind the costs of the shadow
+      behind_costs : IsBehind components costs (components s.cost)
+      behind_costs x h =
+          let from = is.shadow.from x h in
+          subst (λ c. ¬ LexLess (components s.cost) (components c)) from.2 (not_lex_less (spot from.0) (spot s) (behind_took from.0 from.1))
+
       -- it stays
       passed_skip : IsDominatedBy components costs (components s.cost) → Passed (seen ++ s ∷ []) costs took (left ++ s ∷ [])
       passed_skip by = record {
@@ -90,7 +97,8 @@ module _ {C : Type 0} (components : C → List ℕ) where
       }
 
       -- it is looked at, and leaves or is taken
-      pub passed_look : (more_costs : List C) (more_took : List (Item C)) → ¬ IsDominatedBy components costs (components s.cost) → Descends components more_costs
+      pub passed_look : (more_costs : List C) (more_took : List (Item C)) → (IsBehind components costs (components s.cost) → ¬ IsDominatedBy components costs (components s.cost))
+          → Descends components more_costs
           → IsLookedAt components Open s costs took more_costs more_took → Passed (seen ++ s ∷ []) more_costs more_took left
       passed_look more_costs more_took free descends (inl (same_costs, same_took, why)) =
           rw (same_costs, same_took) (record {
@@ -104,14 +112,17 @@ module _ {C : Type 0} (components : C → List ℕ) where
           })
       passed_look more_costs more_took free descends (inr (joins, more, not_last, held)) =
           subst (λ ts. Passed (seen ++ s ∷ []) more_costs ts left) (sym more) (record {
-            shadow = shadow_cast components took costs s is.shadow free more_costs joins;
+            shadow = shadow_cast components took costs s is.shadow later (free behind_costs) more_costs joins;
             descends = descends;
             takes = takes_more spot Open seen took left is.takes s behind held undominated before;
             sorted = is.sorted;
           })
         where
+          later : IsLater components took (components s.cost)
+          later x h = not_lex_less (spot x) (spot s) (behind_took x h)
+
           undominated : ¬ IsDominatedIn spot took (components s.cost)
-          undominated by = free (is.shadow.dominates (components s.cost) (λ x h. not_lex_less (spot x) (spot s) (behind_took x h)) by.0 by.1 by.2)
+          undominated by = free behind_costs (is.shadow.dominates (components s.cost) later by.0 by.1 by.2)
 
           before : (x : Item C) → Contains took x → SpotLess (spot x) (spot s)
           before x h = elim (after_or_same (spot x) (spot s) (behind_took x h)) [

@@ -8,18 +8,19 @@ use Rattle.std.specs.Int.{from_bool}
 use Rattle.std.proofs.Math.Nat.{add-zero}
 use Rattle.std.proofs.lemmas.Bool.{cases_lt, false≢true}
 use Rattle.std.proofs.lemmas.Bool.Decides.{nat_tests}
-use Rattle.std.proofs.lemmas.List.{append-nil, get_or_default, get_or-drop, get_or-take, drop_all, drop_more, drop-set-lt, take-set, take_more, take_more_set}
+use Rattle.std.proofs.lemmas.List.Elements.{AllZip-get_or}
+use Rattle.std.proofs.lemmas.List.{append-nil, get_or_default, get_or_past, get_or-drop, get_or-take, drop_all, drop_more, drop-set-lt, take-set, take_more, take_more_set}
 use Rattle.std.proofs.lemmas.List.Edits.{remove-append_right}
 use Rattle.std.proofs.lemmas.List.Sorted.{IsPermutation-insert}
 use Rattle.cost_vector.specs.Costs.{AtMost, Dominates, LexLess, lex_cmp}
-use Rattle.cost_vector.proofs.Vectors.{AtMost-trans, cases_AtMost}
+use Rattle.cost_vector.proofs.Vectors.{AtMost-refl, AtMost-trans, cases_AtMost}
 use Rattle.list_laws.specs.Without.{IsWithout}
 use Rattle.list_laws.proofs.Members.{all_from_in, cases_in, cases_push, each_in, in_none, in_rest}
 use Rattle.list_laws.proofs.OnceLaws.{in_append, pairs_append}
 use Rattle.list_laws.proofs.Pairs.{pairs_cons, pairs_none, pairs_rest, pairs_take, pair_with_first}
 use Rattle.list_laws.proofs.SetLaws.{gains_by_permutation}
 use Rattle.waiting_queue.specs.declared.item.Item.{Item}
-use Rattle.waiting_queue.specs.Shadows.{grounded, second_of, Descends, ExceedsBefore, FallsTo, IsBelowSome, IsDominatedBy, IsLater, IsRun, IsShadow, Joins, ReachesBefore, SplitsAt}
+use Rattle.waiting_queue.specs.Shadows.{grounded, second_of, Descends, ExceedsBefore, FallsTo, IsBehind, IsBelowSome, IsDominatedBy, IsHidden, IsLater, IsRun, IsShadow, Joins, ReachesBefore, SplitsAt}
 use Rattle.waiting_queue.proofs.TakingLemmas.{in_push, last_in}
 
 -- the end of a list
@@ -35,16 +36,23 @@ in_parts xs i x = (
   λ h. subst (λ ys. Contains ys x) (take-append-drop i xs) ((in_append (take i xs) (drop i xs) x).1 h),
 )
 
+-- a member of the front, and one that stands behind it
+pub pairs_parts : {X : Type 0} (R : X → X → Type 0) (k : ℕ) (xs : List X) (x y : X) → AllPairs R xs → Contains (take k xs) x → Contains (drop k xs) y → R x y
+pairs_parts R k xs x y pairs (i, before, here) (j, behind, there) =
+    let near : i < k = omega (arith, before, length-take k xs) in
+    let far : k + j < length xs = omega (arith, behind, length-drop k xs) in
+    subst₂ R (sym (get_or-take k xs i x near) ∙ here) (get_or_default xs (k + j) x y far ∙ sym (get_or-drop k xs j y) ∙ there)
+    (pairs i (k + j) x (omega arith) far)
+
 -- one element more, at a place where it fits
-pairs_insert : {X : Type 0} (R : X → X → Type 0) → ((x y z : X) → R x y → R y z → R x z) → (xs : List X) (y : X) (i : ℕ) → AllPairs R xs
+pub pairs_insert : {X : Type 0} (R : X → X → Type 0) → (xs : List X) (y : X) (i : ℕ) → AllPairs R xs
     → SplitsAt (λ x. R x y) (R y) xs i → AllPairs R (insert xs i y)
-pairs_insert R trans xs y i pairs fits =
+pairs_insert R xs y i pairs fits =
     pairs_append R (take i xs) (y ∷ drop i xs) (pairs_take R i xs pairs)
     (pairs_cons R y (drop i xs) (each_in (R y) (drop i xs) fits.after) (pairs_drop R i xs pairs))
-    (λ x z h k. let first = each_in (λ w. R w y) (take i xs) fits.before x h in
-    elim (cases_in y (drop i xs) z k) [
-      | inl same ↦ subst (R x) (sym same) first
-      | inr later ↦ trans x y z first (each_in (R y) (drop i xs) fits.after z later)
+    (λ x z h k. elim (cases_in y (drop i xs) z k) [
+      | inl same ↦ subst (R x) (sym same) (each_in (λ w. R w y) (take i xs) fits.before x h)
+      | inr later ↦ pairs_parts R i xs x z pairs h later
     ])
 
 -- where c comes no later than y, and each component of b but the first is at least c's, c is at most what b is at most
@@ -62,15 +70,17 @@ covers_on (c ∷ cs) (x ∷ xs) (z ∷ zs) later below k = elim (cases_lt z c) [
     nat_less : (x y : ℕ) → x < y → nat_cmp x y ≡ Less
     nat_less x y h = grind (arith, nat_tests)
 
+-- a cost without its first component is at most itself
+grounded_below : (c : List ℕ) → AtMost (grounded c) c
+grounded_below [] = tt
+grounded_below (x ∷ xs) = (omega arith, AtMost-refl xs)
+
 -- the second component of a cost that is at most another
 pub second_at_most : (a b : List ℕ) → AtMost a b → second_of a ≤ second_of b
-second_at_most [] [] h = omega arith
-second_at_most [] (y ∷ ys) h = absurd h
-second_at_most (x ∷ xs) [] h = absurd h
-second_at_most (x ∷ []) (y ∷ []) h = omega arith
-second_at_most (x ∷ []) (y ∷ z ∷ zs) h = absurd h.1
-second_at_most (x ∷ w ∷ ws) (y ∷ []) h = absurd h.1
-second_at_most (x ∷ w ∷ ws) (y ∷ z ∷ zs) h = h.1.0
+second_at_most a b h = elim (cases_lt 1 (length a)) [
+  | inl long ↦ AllZip-get_or ◌≤◌ a b 1 0 0 h long
+  | inr short ↦ let none : second_of a ≡ 0 = get_or_past a 1 0 short in omega (arith, none)
+]
 
 -- the members that stay are those that P doesn't hold of
 loses_by_without : {X : Type 0} (P : X → Type 0) (before after : List X) → IsWithout P before after
@@ -232,7 +242,7 @@ module _ {C : Type 0} (components : C → List ℕ) where
   pub falls_to : (shadow : List C) → Descends components shadow → (i j : ℕ) (d : C) → i ≤ j → j < length shadow
       → second_of (components (get_or shadow j d)) ≤ second_of (components (get_or shadow i d))
   falls_to shadow descends i j d up within = elim (cases_lt i j) [
-    | inl before ↦ descends i j d before within
+    | inl before ↦ (descends i j d before within).second
     | inr same ↦ let e : j ≡ i = omega arith in subst (λ k. second_of (components (get_or shadow k d)) ≤ second_of (components (get_or shadow i d))) (sym e) (omega arith)
   ]
 
@@ -261,15 +271,15 @@ module _ {C : Type 0} (components : C → List ℕ) where
         ])
 
     -- a run ends before an item that the shadow doesn't dominate
-    pub run_ends : (n : ℕ) (item : Item C) → All Shadowed (take n items) → n < length items → item ≡ get_or items n item → ¬ Shadowed item
-        → IsRun components shadow items n
+    pub run_ends : (n : ℕ) (item : Item C) → All Shadowed (take n items) → n < length items → item ≡ get_or items n item
+        → (IsBehind components shadow (components item.cost) → ¬ Shadowed item) → IsRun components shadow items n
     run_ends n item before inside at free = record {
       within = omega (arith, inside);
       shadowed = before;
-      ends = λ i h by.
+      ends = λ i h behind by.
           let same : item ≡ i = at ∙ get_or_default items n item i inside ∙ sym (ap (λ j. get_or items j i) (add-zero n))
           ∙ sym (get_or-drop n items 0 i) ∙ get_or_from_slice_get (drop n items) 0 i i h in
-          free (subst Shadowed (sym same) by);
+          free (subst (λ (j : Item C). IsBehind components shadow (components j.cost)) (sym same) behind) (subst Shadowed (sym same) by);
     }
 
     -- or where there are no more
@@ -292,7 +302,25 @@ module _ {C : Type 0} (components : C → List ℕ) where
       (from.0, from.1, subst (λ b. Dominates (components b) c) (sym from.2) by.dominates)
 
   module _ (took : List (Item C)) (shadow : List C) (s : Item C) (is : IsShadow components took shadow)
-      (free : ¬ IsDominatedBy components shadow (components s.cost)) (after : List C) (joins : Joins components shadow s.cost after) where
+      (behind : IsLater components took (components s.cost)) (free : ¬ IsDominatedBy components shadow (components s.cost)) (after : List C)
+      (joined : Joins components shadow s.cost after) where
+    -- what none dominates isn't hidden by what comes before it
+    shown : ¬ IsHidden components shadow (components s.cost)
+    shown hidden =
+        let from = is.from hidden.by hidden.contains in
+        let later : ¬ LexLess (components s.cost) (components hidden.by) = subst (λ b. ¬ LexLess (components s.cost) (components b)) from.2 (behind from.0 from.1) in
+        free (record {
+          by = hidden.by;
+          contains = hidden.contains;
+          dominates = record {
+            at_most = covers_on (components hidden.by) (components s.cost) (components s.cost) later hidden.at_most (AtMost-refl (components s.cost));
+            differs = λ same. hidden.less (subst (AtMost (grounded (components s.cost))) (sym same) (grounded_below (components s.cost)));
+          };
+        })
+
+    joins : (x : C) → Contains after x ↔ ((Contains shadow x × ¬ AtMost (grounded (components s.cost)) (components x)) ⊎ (x ≡ s.cost))
+    joins = elim joined [ inl hidden ↦ absurd (shown hidden) | inr all ↦ all ]
+
     later_before : (c : List ℕ) → IsLater components (took ++ s ∷ []) c → IsLater components took c
     later_before c later x h = later x (in_push took s x h)
 
@@ -330,7 +358,7 @@ module _ {C : Type 0} (components : C → List ℕ) where
   -- a cost is put among those that are retained
   pub joins_by_insert : (low : List ℕ) (before kept after : List C) (c : C) (i : ℕ) → low ≡ grounded (components c)
       → IsWithout (λ x. AtMost low (components x)) before kept → after ≡ insert kept i c → Joins components before c after
-  joins_by_insert low before kept after c i is without put x =
+  joins_by_insert low before kept after c i is without put = inr λ x.
       let keeps = loses_by_without (λ y. AtMost low (components y)) before kept without x in
       let gains = gains_by_permutation c kept after (subst (IsPermutation (c ∷ kept)) (sym put) (IsPermutation-insert kept i c)) x in (
         λ h. elim (gains.0 h) [
@@ -357,13 +385,19 @@ module _ {C : Type 0} (components : C → List ℕ) where
       dominates = h.dominates;
     }
 
-    -- a cost fits behind those that exceed it
-    pub descends_by_insert : (d : C) → components d ≡ c → Descends components shadow → (after : List C) → after ≡ insert shadow i d → Descends components after
-    descends_by_insert d same descends after put =
-        subst (Descends components) (sym put) (pairs_insert (FallsTo components) (λ x y z h k. omega (arith, h, k)) shadow d i descends (record {
+    -- a cost that doesn't have three components fits behind those that exceed it
+    pub descends_by_insert : (d : C) → components d ≡ c → ¬ (length c ≡ 3) → Descends components shadow → (after : List C) → after ≡ insert shadow i d
+        → Descends components after
+    descends_by_insert d same not_three descends after put =
+        let never : length (components d) ≡ 3 → ⊥ = λ three. not_three (sym (ap length same) ∙ three) in
+        subst (Descends components) (sym put) (pairs_insert (FallsTo components) shadow d i descends (record {
           within = split.within;
-          before = all_from_in (λ x. second_of (components d) ≤ second_of (components x)) (take i shadow)
-              (λ x h. let more = each_in (λ y. second_of c < second_of (components y)) (take i shadow) split.before x h in rw same (omega (arith, more)));
-          after = all_from_in (λ x. second_of (components x) ≤ second_of (components d)) (drop i shadow)
-              (λ x h. rw same (each_in (λ y. second_of (components y) ≤ second_of c) (drop i shadow) split.after x h));
+          before = all_from_in (λ x. FallsTo components x d) (take i shadow) (λ x h. record {
+            second = let more = each_in (λ y. second_of c < second_of (components y)) (take i shadow) split.before x h in rw same (omega (arith, more));
+            third = λ three three_too. absurd (never three_too);
+          });
+          after = all_from_in (FallsTo components d) (drop i shadow) (λ x h. record {
+            second = rw same (each_in (λ y. second_of (components y) ≤ second_of c) (drop i shadow) split.after x h);
+            third = λ three three_too. absurd (never three);
+          });
         }))

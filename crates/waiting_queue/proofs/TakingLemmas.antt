@@ -1,5 +1,5 @@
 -- What is taken of a sorted list, as one more of its members is seen.
-use Rattle.std.proofs.Common.{◌≡◌, ℕ, List, [], ◌∷◌, ◌++◌, ◌⊎◌, ◌↔◌, inl, inr, map, refl, sym, ap, subst, ◌∙◌, append-nil, append_assoc}
+use Rattle.std.proofs.Common.{arith, ◌≡◌, ℕ, List, [], ◌∷◌, ◌++◌, ◌⊎◌, ◌↔◌, inl, inr, map, refl, sym, ap, subst, ◌∙◌, append-nil, append_assoc}
 use Rattle.std.specs.Prelude.{Contains}
 use Rattle.std.proofs.lemmas.List.{map-append}
 use Rattle.cost_vector.specs.Costs.{Dominates}
@@ -212,6 +212,13 @@ spots_if_taken {X} spot Open xs took left is = record {
   leaves = λ x h. elim (is.leaves x h) [ inl there ↦ inl (x, there, refl) | inr gone ↦ inr gone ];
 }
 
+-- the same behind the same
+pub behind_alike : {X : Type 0} (xs ys zs : List X) → SameMembers ys zs → SameMembers (xs ++ ys) (xs ++ zs)
+behind_alike xs ys zs same x = moved (in_append xs ys x) (same x) (in_append xs zs x)
+  where
+    moved : {A X Y Z B : Type 0} → A ↔ (X ⊎ Y) → Y ↔ Z → B ↔ (X ⊎ Z) → A ↔ B
+    moved a same b = grind arith
+
 -- where all was one part
 pub spots_alone : {X : Type 0} (spot : X → Spot) (Open : Spot → Type 0) (xs took left late : List X) → late ≡ [] → TakesOpen spot Open xs took left
     → TakesOpenSpots spot Open xs took (left ++ late)
@@ -365,7 +372,4 @@ module _ {X Y : Type 0} (spot : Y → Spot) (tell : X → Y) (Open : Spot → Ty
       subst (λ ys. TakesOpenSpots spot Open ys (map tell took) (map tell after))
       (ap (map tell) (sym (append_assoc items late fresh)) ∙ map-append tell (items ++ late) fresh)
       (spots_told (items ++ (late ++ fresh)) took after (takes_spots_alike (λ x. spot (tell x)) Open (items ++ order) (items ++ (late ++ fresh)) took after after
-      (λ x. (
-        λ h. (in_append items (late ++ fresh) x).1 (elim ((in_append items order x).0 h) [ inl old ↦ inl old | inr new ↦ inr ((same x).1 new) ]),
-        λ h. (in_append items order x).1 (elim ((in_append items (late ++ fresh) x).0 h) [ inl old ↦ inl old | inr new ↦ inr ((same x).0 new) ]),
-      )) (λ x. (λ h. h, λ h. h)) is))
+      (behind_alike items order (late ++ fresh) (λ x. ((same x).1, (same x).0))) (λ x. (λ h. h, λ h. h)) is))

@@ -4,7 +4,7 @@ use Rattle.cost_vector.specs.Costs.{Dominates}
 use Rattle.waiting_queue.specs.declared.item.Item.{Item}
 use Rattle.waiting_queue.specs.declared.joining.Part.{Part}
 use Rattle.waiting_queue.specs.Passing.{AreNext}
-use Rattle.waiting_queue.specs.Shadows.{Descends, IsDominatedBy, IsLater, IsShadow}
+use Rattle.waiting_queue.specs.Shadows.{Descends, IsBehind, IsDominatedBy, IsLater, IsShadow}
 use Rattle.waiting_queue.specs.Taking.{IsDominatedIn, TakesOpen}
 use Rattle.waiting_queue.specs.Waiting.{SpotLess, spot_in}
 
@@ -46,9 +46,14 @@ module _ {C : Type 0} (components : C → List ℕ) where
     pub there : Contains parts part
     pub by : IsDominatedBy components part.shadow.items c
 
+  -- c comes before no cost of the parts' shadows
+  abbrev pub IsBehindAll : List (Part C) → List ℕ → Type 0
+  IsBehindAll parts c = (p : Part C) → Contains parts p → IsBehind components p.shadow.items c
+
   -- The items come next behind those that the parts took, which the parts' shadows tell of, and none dominates another.
   pub record CanJoin (parts : List (Part C)) (seen items : List (Item C)) : Type 0 where
     pub next : AreNext components seen items
+    pub behind : (x : Item C) → Contains items x → IsBehindAll parts (components x.cost)
     pub tells : (c : List ℕ) → IsSeenBy parts c → IsDominatedIn (spot_in components) seen c
     pub noted : (c : List ℕ) → IsLater components seen c → IsDominatedIn (spot_in components) seen c → IsSeenBy parts c
     pub apart : (x y : Item C) → Contains items x → Contains items y → ¬ Dominates (components x.cost) (components y.cost)

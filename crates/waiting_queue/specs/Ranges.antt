@@ -1,57 +1,70 @@
 -- A queue cut into ranges, and what comes of a pass over each.
-use Rattle.std.specs.Prelude.{◌≡◌, ℕ, ◌<◌, ◌≤◌, List, ◌++◌, Some, All, AllPairs, Contains, length, take, drop, flat_map, slice_get}
-use Rattle.list_laws.specs.Sets.{SameMembers}
+use Rattle.std.specs.Prelude.{◌≡◌, ℕ, ◌<◌, ◌⊎◌, ◌↔◌, List, ◌++◌, Some, All, AllPairs, Contains, IfSome, length, slice_get}
 use Rattle.waiting_queue.specs.declared.item.Item.{Item}
 use Rattle.waiting_queue.specs.declared.joining.Part.{Part}
 use Rattle.waiting_queue.specs.declared.ranges.Range.{Range}
+use Rattle.waiting_queue.specs.declared.ranges.Lists.{Lists}
 use Rattle.waiting_queue.specs.Joining.{AreParts, rest_of, taken_of}
 use Rattle.waiting_queue.specs.Shadows.{Descends, IsShadow}
 use Rattle.waiting_queue.specs.Taking.{AreSorted, SetsApart, TakesOpen}
 use Rattle.waiting_queue.specs.Waiting.{AreCriteria, Spot, SpotLess, spot_in}
 
--- what stands in a range
-abbrev pub items_in : {C : Type 0} → Range C → List (Item C)
-items_in r = r.items.now ++ r.fresh.now
+-- what comes in
+abbrev pub others_of : {C : Type 0} → Lists C → List (Item C)
+others_of l = l.late.now ++ l.fresh.now
+
+-- all that waits
+abbrev pub all_of : {C : Type 0} → Lists C → List (Item C)
+all_of l = l.items.now ++ others_of l
 
 -- costs have these components
 module _ {C : Type 0} (components : C → List ℕ) where
-  -- both lists of a range are sorted
-  pub record IsRange (r : Range C) : Type 0 where
-    pub items : AreSorted (spot_in components) r.items.now
-    pub fresh : AreSorted (spot_in components) r.fresh.now
+  -- an item lies in the range: it doesn't come before where that begins, and comes before where it ends
+  pub record LiesIn (r : Range C) (x : Item C) : Type 0 where
+    pub from : IfSome r.from (λ f. ¬ SpotLess (spot_in components x) (spot_in components f.now))
+    pub until : IfSome r.until (λ u. SpotLess (spot_in components x) (spot_in components u.now))
 
-  -- nothing of the second list comes before something of the first
-  abbrev pub LiesBefore : List (Item C) → List (Item C) → Type 0
-  LiesBefore xs ys = (x y : Item C) → Contains xs x → Contains ys y → ¬ SpotLess (spot_in components y) (spot_in components x)
+  -- x is one of the range's items, or one of the others that lies in it
+  abbrev pub IsOf : List (Item C) → Range C → Item C → Type 0
+  IsOf others r x = Contains r.items.now x ⊎ (Contains others x × LiesIn r x)
 
-  -- ranges in ascending order, in which just these items stand
-  pub record AreRanges (items : List (Item C)) (ranges : List (Range C)) : Type 0 where
+  -- nothing of the second range comes before something of the first
+  abbrev pub LiesBefore : List (Item C) → Range C → Range C → Type 0
+  LiesBefore others r s = (x y : Item C) → IsOf others r x → IsOf others s y → ¬ SpotLess (spot_in components y) (spot_in components x)
+
+  -- the range's items are sorted
+  abbrev pub IsRange : Range C → Type 0
+  IsRange r = AreSorted (spot_in components) r.items.now
+
+  -- ranges in ascending order, of which just these items and the others are
+  pub record AreRanges (items others : List (Item C)) (ranges : List (Range C)) : Type 0 where
     pub each : All IsRange ranges
-    pub ascending : AllPairs (λ r s. LiesBefore (items_in r) (items_in s)) ranges
-    pub has : SameMembers items (flat_map items_in ranges)
+    pub ascending : AllPairs (LiesBefore others) ranges
+    pub has : (x : Item C) → (Contains items x ⊎ Contains others x) ↔ ((r : Range C) × Contains ranges r × IsOf others r x)
 
-  -- None of the others comes before one of the first n items, and each of the rest doesn't come before some of the others.
-  pub record IsCut (items others : List (Item C)) (n : ℕ) : Type 0 where
-    pub within : n ≤ length items
-    pub front : LiesBefore (take n items) others
-    pub back : (x : Item C) → Contains (drop n items) x → (y : Item C) × Contains others y × (¬ SpotLess (spot_in components x) (spot_in components y))
+  -- those of the items that lie in the range are listed behind what was there
+  abbrev pub ListsWithin : Range C → List (Item C) → List (Item C) → List (Item C) → Type 0
+  ListsWithin r items old new = (x : Item C) → Contains new x ↔ (Contains old x ⊎ (Contains items x × LiesIn r x))
 
-  -- there is such a range, and its lists are sorted
+  -- there is such a range, and its items are sorted
   pub record CanPass (d : ℕ) (ranges : List (Range C)) (piece : ℕ) : Type 0 where
     pub criteria : AreCriteria d
     pub there : piece < length ranges
     pub each : All IsRange ranges
 
-  -- what a pass took of the range and left there, and the shadow of what it took
-  pub record PassesRange (Open : Spot → Type 0) (r : Range C) (p : Part C) : Type 0 where
-    pub takes : TakesOpen (spot_in components) Open (items_in r) p.taken.items p.rest.items
-    pub sorted : AreSorted (spot_in components) p.rest.items
-    pub shadow : IsShadow components p.taken.items p.shadow.items
-    pub descends : Descends components p.shadow.items
+  -- what a pass took of what is of the range and left there, and the shadow of what it took
+  pub record PassesRange (Open : Spot → Type 0) (others : List (Item C)) (r : Range C) (took rest : List (Item C)) (costs : List C) : Type 0 where
+    pub met : List (Item C)
+    pub all : (x : Item C) → Contains met x ↔ IsOf others r x
+    pub takes : TakesOpen (spot_in components) Open met took rest
+    pub sorted : AreSorted (spot_in components) rest
+    pub shadow : IsShadow components took costs
+    pub descends : Descends components costs
 
   -- so it is of the range at this place
-  abbrev pub GivesPart : (Spot → Type 0) → List (Range C) → ℕ → Part C → Type 0
-  GivesPart Open ranges piece p = (r : Range C) → slice_get ranges piece ≡ Some r → PassesRange Open r p
+  abbrev pub GivesPart : (Spot → Type 0) → List (Item C) → List (Range C) → ℕ → Part C → Type 0
+  GivesPart Open others ranges piece p = (r : Range C) → slice_get ranges piece ≡ Some r
+      → PassesRange Open others r p.taken.items p.rest.items p.shadow.items
 
   -- These items were passed in ranges: what the parts took can be joined, they set apart what may be taken, and what stays is sorted.
   pub record ArePassed (Open : Spot → Type 0) (items : List (Item C)) (parts : List (Part C)) : Type 0 where

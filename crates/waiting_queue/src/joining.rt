@@ -1,6 +1,6 @@
 //! What the parts of a queue took, joined: a part doesn't know what an earlier one took.
-ghost use Rattle.std.specs.Prelude.{◌≡◌, ◌≢◌, [], flat_map, All, IfOk, IsTrue, ◌↔◌};
-ghost use Rattle.waiting_queue.specs.Joining.{AreJoined, AreParts, IsSeenBy, JoinsNext, rest_of};
+ghost use Rattle.std.specs.Prelude.{◌≡◌, ◌≢◌, [], flat_map, false, All, IfOk, IsTrue};
+ghost use Rattle.waiting_queue.specs.Joining.{AreJoined, AreParts, IsBehindAll, IsSeenBy, JoinsNext, rest_of};
 ghost use Rattle.waiting_queue.specs.Shadows.{Descends, IsDominatedBy};
 ghost use Rattle.waiting_queue.specs.Waiting.{AreCriteria};
 
@@ -19,6 +19,8 @@ pub(crate) struct Part<C> {
     pub taken: Vec<Item<C>>,
     pub rest: Vec<Item<C>>,
     pub shadow: Vec<C>,
+    /// Room for what came in, in order.
+    pub order: Vec<Item<C>>,
     pub is_whole: bool,
 }
 
@@ -30,6 +32,7 @@ impl<C> Part<C> {
             taken: Vec::new(alloc),
             rest: Vec::new(alloc),
             shadow: Vec::new(alloc),
+            order: Vec::new(alloc),
             is_whole: true,
         }
     }
@@ -93,11 +96,13 @@ fn join_part<const D: usize, C: StoredCost<D>>(
     Ok(())
 }
 
-/// Whether a cost that one of the parts took dominates this one, which comes later.
+/// Whether a cost that one of the parts took dominates this one, which comes behind it.
 fn is_shadowed_by<const D: usize, C: StoredCost<D>>(parts: &[Part<C>], cost: &C) -> bool
     requires criteria { AreCriteria D }
     requires descend { All (λ p. Descends C.components p.shadow.items) parts.now }
-    ensures { IsTrue result ↔ IsSeenBy C.components parts.now (C.components cost.now) }
+    ensures seen { IsTrue result → IsSeenBy C.components parts.now (C.components cost.now) }
+    ensures unseen { result ≡ false → IsBehindAll C.components parts.now (C.components cost.now)
+        → ¬ IsSeenBy C.components parts.now (C.components cost.now) }
 {
     for part in parts {
         if is_shadowed(&part.shadow, cost) {

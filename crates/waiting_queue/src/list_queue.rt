@@ -1,11 +1,12 @@
 ghost use Rattle.std.specs.Prelude.{◌≡◌, ◌≤◌, [], ◌++◌, IfOk, OnErr, map};
+ghost use Rattle.waiting_queue.specs.Ranges.{all_of};
 ghost use Rattle.waiting_queue.specs.Taking.{AreSorted, TakesOpenSpots};
 ghost use Rattle.waiting_queue.specs.Waiting.{AreCriteria, as_waiting, spot_in, spot_of};
 
 use crate::joining::{Part, join_parts, list_rests};
 use crate::order::list_sorted;
 use crate::passing::pass_anew;
-use crate::ranges::pass_ranges;
+use crate::ranges::{Lists, pass_ranges};
 use crate::{Item, Look, widen_items};
 use out_of_memory::OutOfMemory;
 use route_io::Gate;
@@ -118,24 +119,21 @@ where
         ensures same { OnErr result (self.new ≡ self.old) }
     {
         let workers = &workers.for_labels(fresh.len() / ITEMS_OF_A_LABEL);
-        list_sorted(workers, &self.late, fresh, &mut self.order)?;
-        pass_lists(
-            workers,
-            alloc,
-            look,
-            &self.items,
-            &self.order,
-            taken,
-            &mut self.left,
-        )?;
+        let lists = Lists {
+            items: &self.items,
+            late: &self.late,
+            fresh,
+        };
+        let (order, left) = (&mut self.order, &mut self.left);
+        pass_lists(workers, alloc, look, &lists, order, taken, left)?;
         mem::swap(&mut self.items, &mut self.left.items);
         mem::swap(&mut self.late, &mut self.left.late);
         Ok(())
     }
 }
 
-/// Takes the open ones of two sorted lists of items whose cost no open one dominates, and lists apart what is left. What the
-/// lists held before is gone.
+/// Takes the open ones of these items whose cost no open one dominates, and lists apart what is left. What the lists held before
+/// is gone.
 fn pass_lists<
     const D: usize,
     C: StoredCost<D> + Send + Sync,
@@ -146,25 +144,49 @@ fn pass_lists<
     workers: &Workers<'_, R, G>,
     alloc: Global,
     look: &K,
-    items: &[Item<C>],
-    fresh: &[Item<C>],
+    lists: &Lists<'_, C>,
+    order: &mut Vec<Item<C>>,
     taken: &mut Vec<Item<C>>,
     left: &mut Left<C>,
 ) -> Result<(), OutOfMemory>
 where
     C::Part: Send + Sync,
     requires criteria { AreCriteria D }
-    requires sorted { AreSorted (spot_in C.components) items.now }
-    requires fresh_sorted { AreSorted (spot_in C.components) fresh.now }
+    requires sorted { AreSorted (spot_in C.components) lists.now.items.now }
     ensures taken { IfOk result (λ _. TakesOpenSpots (spot_in C.components) (K.IsOpen look.now)
-        (items.now ++ fresh.now) taken.new.items (left.new.items.items ++ left.new.late.items)) }
+        (all_of lists.now) taken.new.items (left.new.items.items ++ left.new.late.items)) }
+    ensures sorted { IfOk result (λ _. AreSorted (spot_in C.components) left.new.items.items) }
+{
+    if workers.count() == 1 {
+        return pass_alone(look, lists, order, taken, left);
+    }
+    pass_ranges(workers, alloc, look, lists, &mut left.parts)?;
+    join_parts(&left.parts, taken, &mut left.late)?;
+    list_rests(&mut left.parts, &mut left.items)
+}
+
+/// One worker does so in one pass.
+fn pass_alone<const D: usize, C: StoredCost<D>, K: Look<D, C>>(
+    look: &K,
+    lists: &Lists<'_, C>,
+    order: &mut Vec<Item<C>>,
+    taken: &mut Vec<Item<C>>,
+    left: &mut Left<C>,
+) -> Result<(), OutOfMemory>
+    requires criteria { AreCriteria D }
+    requires sorted { AreSorted (spot_in C.components) lists.now.items.now }
+    ensures taken { IfOk result (λ _. TakesOpenSpots (spot_in C.components) (K.IsOpen look.now)
+        (all_of lists.now) taken.new.items (left.new.items.items ++ left.new.late.items)) }
     ensures sorted { IfOk result (λ _. AreSorted (spot_in C.components) left.new.items.items) }
 {
     left.late.clear();
-    if workers.count() == 1 {
-        return pass_anew(look, items, fresh, &mut left.shadow, taken, &mut left.items);
-    }
-    pass_ranges(workers, alloc, look, items, fresh, &mut left.parts)?;
-    join_parts(&left.parts, taken, &mut left.late)?;
-    list_rests(&mut left.parts, &mut left.items)
+    list_sorted(lists.late, lists.fresh, order)?;
+    pass_anew(
+        look,
+        lists.items,
+        order,
+        &mut left.shadow,
+        taken,
+        &mut left.items,
+    )
 }

@@ -5,16 +5,10 @@ ghost use Rattle.waiting_queue.specs.Waiting.{SpotLess, spot_in};
 
 use crate::Item;
 use out_of_memory::OutOfMemory;
-use rayon::prelude::*;
-use std::thread::Threads;
 use stored_cost::StoredCost;
-use work_claim::Workers;
 
 /// How many items are gone by at once, where the last of them comes before the one whose place is sought.
 const STEP: usize = 16;
-
-/// So many items are worth to be sorted side by side.
-const MANY: usize = 4096;
 
 /// Whether both have one cost and one node.
 pub(crate) fn is_same_spot<const D: usize, C: StoredCost<D>>(a: &Item<C>, b: &Item<C>) -> bool
@@ -62,8 +56,7 @@ pub(crate) fn count_before<const D: usize, C: StoredCost<D>>(
 }
 
 /// Lists the items of both lists in order. What the list held before is gone.
-pub(crate) fn list_sorted<const D: usize, C: StoredCost<D> + Send, R: Threads + Sync, G>(
-    workers: &Workers<'_, R, G>,
+pub(crate) fn list_sorted<const D: usize, C: StoredCost<D>>(
     items: &[Item<C>],
     others: &[Item<C>],
     list: &mut Vec<Item<C>>,
@@ -74,21 +67,8 @@ pub(crate) fn list_sorted<const D: usize, C: StoredCost<D> + Send, R: Threads + 
     list.clear();
     list.extend_from_slice(items)?;
     list.extend_from_slice(others)?;
-    sort_parts(workers, list);
     sort_items(list);
     Ok(())
-}
-
-/// Sorts the parts of a long list side by side, where several workers are wanted.
-fn sort_parts<C: Ord + Send, R: Threads + Sync, G>(
-    workers: &Workers<'_, R, G>,
-    items: &mut Vec<Item<C>>,
-)
-    ensures { IsPermutation items.old.items items.new.items }
-{
-    if workers.count() > 1 && items.len() >= MANY {
-        par_sort_unstable(workers.rt(), items);
-    }
 }
 
 /// Sorts items. Those that are in order already are only gone through.

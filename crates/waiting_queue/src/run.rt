@@ -148,10 +148,9 @@ fn lay_out<const D: usize, C: StoredCost<D>>(
     seconds: &mut Vec<C::Part>,
 ) -> Result<(), OutOfMemory>
     requires { D ≡ 2 }
-    ensures run { IfOk result (λ _. IsRun C.Part.value C.components C.Part.bound items.now
-        seconds.new.items 0) }
-    ensures live { IfOk result (λ _.
-        live_of C.Part.value C.Part.bound items.now seconds.new.items ≡ items.now) }
+    ensures laid { IfOk result (λ _. IsRun C.Part.value C.components C.Part.bound items.now
+        seconds.new.items 0
+        × (live_of C.Part.value C.Part.bound items.now seconds.new.items ≡ items.now)) }
     ensures same { OnErr result (seconds.new.items ≡ seconds.old.items) }
 {
     seconds.reserve(items.len())?;

@@ -13,9 +13,9 @@ loop-item-preserved g c = λ seen can at_start.
     let is = c.loop-item.invariant seen can at_start in
     elim c.if-is_shadowed_by.branch [
       | then-is_shadowed_by+in_ok-push w ↦ rw (w.taken-is, w.back-is, w.in_ok-push.ensures.items)
-          (goes_back numbers can within c.item-item.is is (c.is_shadowed_by.ensures.0 w.if-is_shadowed_by.true))
+          (goes_back numbers can within c.item-item.is is (c.is_shadowed_by.ensures.seen w.if-is_shadowed_by.true))
       | else-is_shadowed_by+then-not-is_last+in_ok-push-2 w ↦ rw (w.taken-is, w.back-is, w.in_ok-push-2.ensures.items)
-          (joins numbers can within c.item-item.is is (λ sees. false≢true (sym w.if-is_shadowed_by.false ∙ c.is_shadowed_by.ensures.1 sees))
+          (joins numbers can within c.item-item.is is (c.is_shadowed_by.ensures.unseen w.if-is_shadowed_by.false (can.behind c.item-item.result (c.loop-item.item-index, within, sym c.item-item.is)))
           (λ ends. false≢true (sym w.if-not-is_last.true ∙ w.is_last.ensures.1 (rw (sym w.deref.ensures.value) at ends))))
       | else-is_shadowed_by+else-not-is_last w ↦ rw (w.taken-is, w.back-is)
           (is_there numbers can within c.item-item.is is (rw w.deref.ensures.value at (w.is_last.ensures.0 w.if-not-is_last.false)))

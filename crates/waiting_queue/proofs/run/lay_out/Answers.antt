@@ -17,14 +17,8 @@ loop-item-preserved g c =
       room = omega (arith, c.loop-item.invariant.room, c.push_reserved.ensures.capacity);
     }
 
-pub returns-clause-run : goal.returns-clause-run
-returns-clause-run g c =
-    (laid_run g.C.Part.Part.value g.C.StoredCost.components g.C.Part.Part.bound c.args.items.now c.loop-item.seconds.items
+pub returns-clause-laid : goal.returns-clause-laid
+returns-clause-laid g c =
+    laid_run g.C.Part.Part.value g.C.StoredCost.components g.C.Part.Part.bound c.args.items.now c.loop-item.seconds.items
     (subst (λ xs. IsLaidOut g.C.Part.Part.value g.C.StoredCost.components g.C.Part.Part.bound xs c.loop-item.seconds.items)
-    (take_all c.loop-item.item-index c.args.items.now (omega (arith, c.loop-item-test.false))) c.loop-item.invariant.laid)).0
-
-pub returns-clause-live : goal.returns-clause-live
-returns-clause-live g c =
-    (laid_run g.C.Part.Part.value g.C.StoredCost.components g.C.Part.Part.bound c.args.items.now c.loop-item.seconds.items
-    (subst (λ xs. IsLaidOut g.C.Part.Part.value g.C.StoredCost.components g.C.Part.Part.bound xs c.loop-item.seconds.items)
-    (take_all c.loop-item.item-index c.args.items.now (omega (arith, c.loop-item-test.false))) c.loop-item.invariant.laid)).1
+    (take_all c.loop-item.item-index c.args.items.now (omega (arith, c.loop-item-test.false))) c.loop-item.invariant.laid)

@@ -6,12 +6,9 @@ use Rattle.waiting_queue.proofs.run.Run.go_by.Goals as goal
 pub next_live-self-inside-requires : goal.next_live-self-inside-requires
 next_live-self-inside-requires g c =
     let r = c.self.inside in
-    omega (
-      arith,
-      inside_if_some g.C.StoredCost.components g.C.Part.Part.value g.C.Part.Part.bound r.items.items r.seconds.items r.at c.self.invariant.1
-          (λ e. c.requires (ap (λ (s : Sides _). s.ahead) (sym c.self.view_is) ∙ e)),
-      ap length c.deref.ensures.value,
-    )
+    let inside = inside_if_some g.C.StoredCost.components g.C.Part.Part.value g.C.Part.Part.bound r.items.items r.seconds.items r.at c.self.invariant.1
+    (λ e. c.requires (ap (λ (s : Sides _). s.ahead) (sym c.self.view_is) ∙ e)) in
+    omega (arith, inside, ap length c.deref.ensures.value)
 
 pub returns : goal.returns
 returns g c =

@@ -7,23 +7,16 @@ use Rattle.waiting_queue.proofs.run.Run.take_out.Goals as goal
 pub index_mut-requires : goal.index_mut-requires
 index_mut-requires g c =
     let r = c.self.inside in
-    omega (
-      arith,
-      inside_if_some g.C.StoredCost.components g.C.Part.Part.value g.C.Part.Part.bound r.items.items r.seconds.items r.at c.self.invariant.1
-          (λ e. c.requires (ap (λ (s : Sides _). s.ahead) (sym c.self.view_is) ∙ e)),
-      r.seconds.ok,
-    )
+    let inside = inside_if_some g.C.StoredCost.components g.C.Part.Part.value g.C.Part.Part.bound r.items.items r.seconds.items r.at c.self.invariant.1
+    (λ e. c.requires (ap (λ (s : Sides _). s.ahead) (sym c.self.view_is) ∙ e)) in
+    omega (arith, inside, r.seconds.ok)
 
 pub next_live-self-inside-requires : goal.next_live-self-inside-requires
 next_live-self-inside-requires g c =
     let r = c.self.inside in
-    omega (
-      arith,
-      inside_if_some g.C.StoredCost.components g.C.Part.Part.value g.C.Part.Part.bound r.items.items r.seconds.items r.at c.self.invariant.1
-          (λ e. c.requires (ap (λ (s : Sides _). s.ahead) (sym c.self.view_is) ∙ e)),
-      ap length c.deref.ensures.value,
-      length-set r.seconds.items r.at c.beyond.result,
-    )
+    let inside = inside_if_some g.C.StoredCost.components g.C.Part.Part.value g.C.Part.Part.bound r.items.items r.seconds.items r.at c.self.invariant.1
+    (λ e. c.requires (ap (λ (s : Sides _). s.ahead) (sym c.self.view_is) ∙ e)) in
+    omega (arith, inside, ap length c.deref.ensures.value, length-set r.seconds.items r.at c.beyond.result)
 
 pub invariant_of-self : goal.invariant_of-self
 invariant_of-self g c =

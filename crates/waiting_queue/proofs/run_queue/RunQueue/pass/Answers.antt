@@ -1,19 +1,11 @@
-use Rattle.std.proofs.Common.{List, ◌++◌, inl, inr, map}
+use Rattle.std.proofs.Common.{◌++◌, map}
 use Rattle.std.specs.Prelude.{IsPermutation}
 use Rattle.list_laws.specs.Sets.{SameMembers}
-use Rattle.list_laws.proofs.OnceLaws.{in_append}
 use Rattle.list_laws.proofs.SetLaws.{same_by_permutation}
 use Rattle.waiting_queue.specs.Runs.{all_of}
 use Rattle.waiting_queue.specs.Waiting.{as_waiting, spot_in, spot_of}
-use Rattle.waiting_queue.proofs.TakingLemmas.{spots_if_taken, spots_let_in, takes_spots_alike}
+use Rattle.waiting_queue.proofs.TakingLemmas.{behind_alike, spots_if_taken, spots_let_in, takes_spots_alike}
 use Rattle.waiting_queue.proofs.run_queue.RunQueue.pass.Goals as goal
-
--- the second of two lists in another order
-in_any_order : {X : Type 0} (xs ys order both : List X) → IsPermutation ys order → SameMembers (xs ++ order) both → SameMembers (xs ++ ys) both
-in_any_order xs ys order both moved same x = (
-  λ h. (same x).0 ((in_append xs order x).1 (elim ((in_append xs ys x).0 h) [ inl old ↦ inl old | inr new ↦ inr ((same_by_permutation ys order moved x).1 new) ])),
-  λ h. (in_append xs ys x).1 (elim ((in_append xs order x).0 ((same x).1 h)) [ inl old ↦ inl old | inr new ↦ inr ((same_by_permutation ys order moved x).0 new) ]),
-)
 
 pub returns-clause-taken : goal.returns-clause-taken
 returns-clause-taken g c =
@@ -27,7 +19,8 @@ returns-clause-taken g c =
     let moved : IsPermutation c.args.fresh.now c.sort_items.new.items.items =
     rw (c.in_ok-extend_from_slice.ensures.items, c.clear.ensures.items) at c.sort_items.ensures.same in
     let same : SameMembers (newer ++ c.args.fresh.now) both =
-    in_any_order newer c.args.fresh.now c.sort_items.new.items.items both moved (rw c.in_ok-hold.ensures.held at c.in_ok-list_both.ensures.same) in
+    (λ x. let came = behind_alike newer c.args.fresh.now c.sort_items.new.items.items (λ y. let there = same_by_permutation _ _ moved y in (there.1, there.0)) x in
+    let told = (rw c.in_ok-hold.ensures.held at c.in_ok-list_both.ensures.same) x in (λ h. told.0 (came.0 h), λ h. came.1 (told.1 h))) in
     rw (← c.self.view_is) (takes_spots_alike spot_of may (map (as_waiting numbers) (older ++ newer) ++ map (as_waiting numbers) c.args.fresh.now)
     (map (as_waiting numbers) (older ++ newer) ++ map (as_waiting numbers) c.args.fresh.now) (map (as_waiting numbers) took) (map (as_waiting numbers) left)
     c.join_runs.new.self (λ x. (λ h. h, λ h. h)) c.join_runs.ensures (spots_let_in spot_of (as_waiting numbers) may older newer c.args.fresh.now both took left same

@@ -66,9 +66,9 @@ module _ {X : Type 0} (spot : X → Spot) (Open : Spot → Type 0) where
       (λ y closed vs ms more x h. elim (cases_in y vs x h) [ inl same ↦ inl (subst (λ z. ¬ Open (spot z)) (sym same) closed) | inr later ↦ more x later ])
 
 -- what is said of members holds of what they tell
-pub open_told : {X Y : Type 0} (spot : Y → Spot) (tell : X → Y) (Open : Spot → Type 0) (xs ks : List X)
+pub open_mapped : {X Y : Type 0} (spot : Y → Spot) (tell : X → Y) (Open : Spot → Type 0) (xs ks : List X)
     → KeepsOpen (λ x. spot (tell x)) Open xs ks → KeepsOpen spot Open (map tell xs) (map tell ks)
-open_told spot tell Open = by_each (λ x. spot (tell x)) Open (λ vs ms. KeepsOpen spot Open (map tell vs) (map tell ms)) (open_none spot Open)
+open_mapped spot tell Open = by_each (λ x. spot (tell x)) Open (λ vs ms. KeepsOpen spot Open (map tell vs) (map tell ms)) (open_none spot Open)
     (λ x held vs ms. open_first spot Open (tell x) held (map tell vs) (map tell ms))
     (λ x closed vs ms. closed_first spot Open (tell x) closed (map tell vs) (map tell ms))
 
@@ -117,4 +117,4 @@ module _ {X : Type 0} (spot : X → Spot) (Open : Spot → Type 0) where
 pub sifted : {C : Type 0} (components : C → List ℕ) (Open : Spot → Type 0) (old now new : List (Item C)) (kept i : ℕ)
     → IsSifting (spot_in components) Open old now kept i → length old ≤ i → new ≡ take kept now → KeepsOpen spot_of Open (map (as_waiting components) old) (map (as_waiting components) new)
 sifted components Open old now new kept i is all taken =
-    rw taken (open_told spot_of (as_waiting components) Open old (take kept now) (rw (take_all i old all) at is.keeps))
+    rw taken (open_mapped spot_of (as_waiting components) Open old (take kept now) (rw (take_all i old all) at is.keeps))

@@ -16,6 +16,9 @@ use work_claim::Job;
 /// How many taken items are a piece of work; the last piece may have fewer.
 pub const PIECE_SIZE: usize = 64;
 
+/// Room for so many candidates is asked for at once: on most networks a piece has fewer.
+const ROOM_OF_A_PIECE: usize = 4 * PIECE_SIZE;
+
 /// The taken items of a round, which are to be relaxed.
 #[derive(Drop)]
 pub(crate) struct TakenItems<'g, const D: usize, C: StoredCost<D>> {
@@ -41,7 +44,7 @@ where
         (onward_in C.components job.network.now (items_of job.taken.now piece))) out };
 
     fn run(&self, piece: usize) -> Result<Option<Vec<Item<C>>>, OutOfMemory> {
-        let mut candidates = Vec::new(self.alloc);
+        let mut candidates = Vec::with_capacity(self.alloc, ROOM_OF_A_PIECE)?;
         match self.append_piece(piece, &mut candidates) {
             Ok(()) => Ok(Some(candidates)),
             Err(RelaxFault::TooWide) => Ok(None),

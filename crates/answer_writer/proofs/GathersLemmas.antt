@@ -1,7 +1,8 @@
 -- Texts that are gathered on a page one after another.
-use Rattle.std.proofs.Common.{◌≡◌, ℕ, ◌+◌, ◌<◌, ◌≤◌, List, [], ◌∷◌, ◌++◌, Result, Ok, Err, length, take, drop, get_or, sym, ap, subst, ◌∙◌}
-use Rattle.std.specs.List.{flat_map}
+use Rattle.std.proofs.Common.{◌≡◌, ℕ, ◌+◌, ◌-◌, ◌<◌, ◌≤◌, List, [], ◌∷◌, ◌++◌, Result, Ok, Err, length, take, drop, get_or, sym, ap, subst, arith, ◌∙◌}
+use Rattle.std.specs.List.{between, flat_map}
 use Rattle.std.proofs.lemmas.List.{append_assoc, append-nil, take_all, take_more, take-append-drop}
+use Rattle.std.proofs.lemmas.List.Edits.{get_or-between, length-between}
 use Rattle.std.proofs.lemmas.Grind.{flat_map-append}
 use Rattle.route_io.specs.declared.fault.WriteFault.{WriteFault}
 use Rattle.route_io.specs.Sinks.{SinkState, Sends}
@@ -86,3 +87,39 @@ module _ {X : Type 0} (text : X → List ℕ) (items : List X) (i : ℕ) (d item
       ∙ ap (flat_map text) (take-append-drop (i + 1) items) in
       subst (λ l. Sends {T = Unit {0}} old new (before ++ l) (Err fault)) whole
       (Gathers-cut old new before _ rest fault (Holds-cut old mid new before between _ (text item) held fault part))
+
+-- ---- the texts of the items at some places of a list
+
+module _ {X : Type 0} (text : X → List ℕ) (items : List X) (from to i : ℕ) (there : to ≤ length items) where
+  -- the texts of the items from the first of the places on and before i were gathered
+  abbrev pub HoldsUpTo : SinkState → SinkState → List ℕ → List ℕ → Type 0
+  HoldsUpTo old new before after = HoldsFirst text (between from to items) old new before (i - from) after
+
+  -- all were gathered
+  pub part_held : (old new : SinkState) (before after : List ℕ) → to ≤ i → HoldsUpTo old new before after
+      → Holds old new (before ++ flat_map text (between from to items)) after
+  part_held old new before after past held =
+      all_held text (between from to items) old new before (i - from) after (omega (arith, length-between items from to there)) held
+
+  module _ (d item : X) (begun : from ≤ i) (more : i < to) (next : item ≡ get_or items i d) (old mid new : SinkState) (before held : List ℕ)
+      (first : HoldsUpTo old mid before held) where
+    inside : i - from < length (between from to items)
+    inside = omega (arith, length-between items from to there)
+
+    read : item ≡ get_or (between from to items) (i - from) d
+    read =
+        let place : from + (i - from) ≡ i = omega arith in
+        next ∙ sym (get_or-between items from to (i - from) d (omega arith) ∙ ap (λ k. get_or items k d) place)
+
+    -- one more was gathered
+    pub more_of_part : (after : List ℕ) → Holds mid new (held ++ text item) after
+        → HoldsFirst text (between from to items) old new before (i + 1 - from) after
+    more_of_part after whole =
+        let count : i - from + 1 ≡ i + 1 - from = omega arith in
+        subst (λ n. HoldsFirst text (between from to items) old new before n after) count
+        (more_held text (between from to items) (i - from) d item inside read old mid new before held first after whole)
+
+    -- one more was cut by a fault
+    pub part_cut : (fault : WriteFault) → Sends {T = Unit {0}} mid new (held ++ text item) (Err fault)
+        → Sends {T = Unit {0}} old new (before ++ flat_map text (between from to items)) (Err fault)
+    part_cut = cut_at text (between from to items) (i - from) d item inside read old mid new before held first

@@ -1,3 +1,4 @@
 pub mod Replies
 pub mod Pages
 pub mod Pieces
+pub mod Routes

@@ -1,7 +1,7 @@
 -- The replies to queries. Fields are separated by one space, numbers are decimal without leading zeros, and each line ends
 -- by LF.
 use Rattle.std.specs.Prelude.{ℕ, List, [], ◌∷◌, ◌++◌, Option, Some, None, length, codes, decimal}
-use Rattle.std.specs.List.{flat_map}
+use Rattle.std.specs.List.{between, flat_map}
 use Rattle.cost_vector.specs.declared.label.ArcNo.{ArcNo}
 use Rattle.road_network.specs.Answers.{Route}
 use Rattle.road_network.specs.declared.query.AnswerKind.{AnswerKind}
@@ -55,6 +55,10 @@ first_line epoch query count = first_line_within epoch query.from query.to query
 abbrev pub line_of : AnswerKind → Route → List ℕ
 line_of Costs r = cost_line r.cost
 line_of Walks r = walk_line r
+
+-- the lines of the best costs at the places from `from` on and below `to`
+abbrev pub lines_between : AnswerKind → List Route → ℕ → ℕ → List ℕ
+lines_between kind routes from to = flat_map (line_of kind) (between from to routes)
 
 -- the answer to a query: its first line, and then a line for each best cost
 abbrev pub reply_of : AnswerKind → ℕ → Query → List Route → List ℕ

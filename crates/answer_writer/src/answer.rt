@@ -1,14 +1,14 @@
 //! The text of an answer.
-ghost use Rattle.std.specs.Prelude.{◌≡◌, ◌≤◌, ℕ, List, Option, length, map};
-ghost use Rattle.std.specs.List.{flat_map};
+ghost use Rattle.std.specs.Prelude.{◌≤◌, List, length};
+ghost use Rattle.std.specs.List.{between, flat_map};
 ghost use Rattle.road_network.specs.Answers.{IsAnswer, Route};
-ghost use Rattle.walk_readback.specs.Found.{IsFound, IsOf, IsWellFound, longest_in};
+ghost use Rattle.walk_readback.specs.Found.{IsOf, IsWellFound, longest_in};
 ghost use Rattle.road_network.specs.Queries.{limit_of};
 ghost use Rattle.route_io.specs.Sinks.{Sends};
-ghost use Rattle.answer_writer.specs.Replies.{first_line, line_of, reply_of};
+ghost use Rattle.answer_writer.specs.Replies.{cost_line, first_line, lines_between, reply_of, walk_line};
+ghost use Rattle.answer_writer.specs.Routes.{AreRoutes, TellsRoutes};
 ghost use Rattle.answer_writer.specs.Pages.{Gathers};
 ghost use Rattle.answer_writer.specs.Pieces.{walk_text};
-ghost use Rattle.answer_writer.specs.Replies.{cost_line, walk_line};
 
 use crate::page::Page;
 use crate::piece::Piece;
@@ -16,6 +16,7 @@ use arc_graph::Network;
 use cost_vector::{ArcNo, Cost};
 use road_network::{AnswerKind, Query};
 use route_io::{Sink, WriteFault};
+use std::ops::Range;
 use walk_readback::{FoundCosts, Room, walk};
 
 /// Sends the reply of an answer at an epoch, or a part of it from the front and answers the sink's fault.
@@ -42,7 +43,47 @@ pub fn put_answer<K: Sink, F: FoundCosts>(
     let count = found.count();
     let mut page = Page::new();
     page.put_first_line(sink, epoch, query, count)?;
-    page.put_lines(sink, kind, network, found, room)?;
+    page.put_lines(sink, kind, network, found, 0..count, room)?;
+    page.send(sink)
+}
+
+/// Sends the first line of an answer that has so many costs, for who sends the lines of its routes by `put_routes`.
+pub fn put_first_line<K: Sink>(
+    sink: &mut K,
+    epoch: u32,
+    query: &Query,
+    count: usize,
+) -> Result<(), WriteFault>
+    ensures { Sends (K.state sink.old) (K.state sink.new) (first_line epoch query.now count)
+        result }
+{
+    let mut page = Page::new();
+    page.put_first_line(sink, epoch, query, count)?;
+    page.send(sink)
+}
+
+/// Sends the lines of the routes at these places, from 0, of what was found, or a part of them from the front and answers the
+/// sink's fault.
+///
+/// The room has to hold the longest walk, and still does so afterwards, for the lines at further places.
+pub fn put_routes<K: Sink, F: FoundCosts>(
+    sink: &mut K,
+    kind: AnswerKind,
+    network: &Network<'_>,
+    found: &F,
+    places: Range<usize>,
+    room: &mut Room,
+) -> Result<(), WriteFault>
+    requires tells { TellsRoutes network.now (F.state found.now) }
+    requires there { places.end ≤ length (F.state found.now).costs }
+    requires room { longest_in (F.state found.now) ≤ room.old.holds }
+    ensures lines { (routes : List Route) → AreRoutes network.now (F.state found.now) routes
+        → Sends (K.state sink.old) (K.state sink.new)
+        (lines_between kind routes places.start places.end) result }
+    ensures room { room.old.holds ≤ room.new.holds }
+{
+    let mut page = Page::new();
+    page.put_lines(sink, kind, network, found, places, room)?;
     page.send(sink)
 }
 
@@ -90,43 +131,42 @@ impl Page {
         }
     }
 
-    /// Puts the lines that come after it.
+    /// Puts the lines of the routes at these places.
     fn put_lines<K: Sink, F: FoundCosts>(
         &mut self,
         sink: &mut K,
         kind: AnswerKind,
         network: &Network<'_>,
         found: &F,
+        places: Range<usize>,
         room: &mut Room,
     ) -> Result<(), WriteFault>
-        requires nodes { (F.state found.now).nodes ≡ network.now.nodes }
-        requires criteria { (F.state found.now).criteria ≡ network.now.criteria }
-        requires well_found { (limit : List (Option ℕ))
-            × IsWellFound network.now limit (F.state found.now) }
-        requires found { IsFound (F.state found.now) }
+        requires tells { TellsRoutes network.now (F.state found.now) }
+        requires there { places.end ≤ length (F.state found.now).costs }
         requires room { longest_in (F.state found.now) ≤ room.old.holds }
-        ensures { (limit : List (Option ℕ)) (routes : List Route)
-            → IsWellFound network.now limit (F.state found.now)
-            → IsAnswer network.now (F.state found.now).start (F.state found.now).target limit routes
+        ensures lines { (routes : List Route) → AreRoutes network.now (F.state found.now) routes
             → Gathers (K.state sink.old) (K.state sink.new) self.old self.new
-            (flat_map (line_of kind) routes) result }
+            (lines_between kind routes places.start places.end) result }
+        ensures room { room.old.holds ≤ room.new.holds }
     {
         match kind {
-            AnswerKind::Costs => self.put_costs(sink, found),
-            AnswerKind::Walks => self.put_walks(sink, network, found, room),
+            AnswerKind::Costs => self.put_costs(sink, found, places),
+            AnswerKind::Walks => self.put_walks(sink, network, found, places, room),
         }
     }
 
-    /// Puts the line of each cost.
+    /// Puts the line of each cost at these places.
     fn put_costs<K: Sink, F: FoundCosts>(
         &mut self,
         sink: &mut K,
         found: &F,
+        places: Range<usize>,
     ) -> Result<(), WriteFault>
+        requires { places.end ≤ length (F.state found.now).costs }
         ensures { Gathers (K.state sink.old) (K.state sink.new) self.old self.new
-            (flat_map cost_line (F.state found.now).costs) result }
+            (flat_map cost_line (between places.start places.end (F.state found.now).costs)) result }
     {
-        for i in 0..found.count() {
+        for i in places.start..places.end {
             self.put_cost(sink, &found.cost(i))?;
         }
         Ok(())
@@ -143,26 +183,24 @@ impl Page {
         )
     }
 
-    /// Puts the line of each cost with its walk.
+    /// Puts the line of each cost at these places with its walk.
     fn put_walks<K: Sink, F: FoundCosts>(
         &mut self,
         sink: &mut K,
         network: &Network<'_>,
         found: &F,
+        places: Range<usize>,
         room: &mut Room,
     ) -> Result<(), WriteFault>
-        requires nodes { (F.state found.now).nodes ≡ network.now.nodes }
-        requires criteria { (F.state found.now).criteria ≡ network.now.criteria }
-        requires well_found { (limit : List (Option ℕ))
-            × IsWellFound network.now limit (F.state found.now) }
+        requires tells { TellsRoutes network.now (F.state found.now) }
+        requires there { places.end ≤ length (F.state found.now).costs }
         requires room { longest_in (F.state found.now) ≤ room.old.holds }
-        ensures { (limit : List (Option ℕ)) (routes : List Route)
-            → IsWellFound network.now limit (F.state found.now)
-            → IsAnswer network.now (F.state found.now).start (F.state found.now).target limit routes
+        ensures lines { (routes : List Route) → AreRoutes network.now (F.state found.now) routes
             → Gathers (K.state sink.old) (K.state sink.new) self.old self.new
-            (flat_map walk_line routes) result }
+            (flat_map walk_line (between places.start places.end routes)) result }
+        ensures room { room.old.holds ≤ room.new.holds }
     {
-        for i in 0..found.count() {
+        for i in places.start..places.end {
             walk(network, found, i, room);
             let cost = found.cost(i);
             self.put_walk(sink, &cost, room.arcs())?;

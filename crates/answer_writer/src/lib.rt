@@ -7,7 +7,7 @@ mod page;
 mod piece;
 mod refusal;
 
-pub use answer::put_answer;
+pub use answer::{put_answer, put_first_line, put_routes};
 pub use line::put_line;
 pub use page::Page;
 pub use piece::Piece;

@@ -1,5 +1,6 @@
 pub mod ReplyLemmas
 mod MakingLemmas
+mod WindowLemmas
 mod LineKindLemmas
 mod AnswersLineLemmas
 pub mod StayLemmas

@@ -1,6 +1,7 @@
 pub mod Queries
 pub mod Sending
 pub mod Making
+pub mod Windows
 pub mod Lines
 pub mod Exchanges
 pub mod Links

@@ -1,9 +1,8 @@
 -- What an operator's line comes to, as the code has it before the reply is sent.
-use Rattle.std.specs.Prelude.{◌≡◌, ℕ, ◌≤◌, ⊤, List, [], ◌++◌, codes}
+use Rattle.std.specs.Prelude.{◌≡◌, ℕ, ⊤, List, [], ◌++◌, codes}
 use Rattle.answer_writer.specs.Replies.{end_line}
 use Rattle.arc_graph.specs.History.{Operator}
-use Rattle.cost_vector.specs.Costs.{max_criteria, min_criteria}
-use Rattle.epoch_store.specs.Origin.{Origin, criteria_of}
+use Rattle.epoch_store.specs.Origin.{Origin}
 use Rattle.session_requests.specs.Requests.{WeighsEach}
 use Rattle.session_requests.specs.declared.line.Line.{Line}
 use Rattle.session_requests.specs.declared.line.Line.TheVariants as line

@@ -1,7 +1,8 @@
-ghost use Rattle.std.specs.Prelude.{List};
+ghost use Rattle.std.specs.Prelude.{◌≤◌, List};
 ghost use Rattle.road_network.specs.Answers.{IsAnswer, Route};
-ghost use Rattle.walk_readback.specs.Found.{IsOf, IsWellFound};
+ghost use Rattle.walk_readback.specs.Found.{IsOf, IsWellFound, longest_in};
 ghost use Rattle.road_network.specs.Queries.{IsAsked, limit_of};
+ghost use Rattle.route_io.specs.Sinks.{Sends};
 ghost use Rattle.answer_writer.specs.Replies.{refusal, reply_of};
 ghost use Rattle.session_core.specs.Queries.{RepliesToQuery};
 ghost use Rattle.session_core.specs.Sending.{IsReplyOf, Replied};
@@ -9,11 +10,11 @@ ghost use Rattle.session_core.specs.declared.reply.Reply.TheVariants.{Answer, Re
 
 use crate::fault::ReplyFault;
 use crate::reply::Reply;
-use answer_writer::{put_answer, put_refusal};
+use answer_writer::{put_answer, put_first_line, put_refusal};
 use arc_graph::Network;
 use bulk_search::find;
 use road_network::{AnswerKind, Query, SearchFault};
-use route_io::{Gate, Sink};
+use route_io::{Gate, Sink, WriteFault};
 use std::alloc::Global;
 use std::thread::Threads;
 use walk_readback::{FoundCosts, Room};
@@ -28,27 +29,11 @@ pub struct Answerer<'n, R, G> {
 }
 
 impl<R: Threads + Sync, G: Gate> Answerer<'_, R, G> {
-    /// Sends the reply to a query at an epoch, and answers what it is. Nothing but a fault of the sink cuts it: all memory,
-    /// also the room for the longest walk, is taken before its first byte. The room may serve one reply after another.
+    /// Sends the reply to a query at an epoch, and answers what it is. Nothing but a fault of the sink cuts it: all memory
+    /// that it can't do without, also the room for the longest walk, is taken before its first byte. The room may serve one
+    /// reply after another.
     pub fn reply<K: Sink>(
         &self,
-        epoch: u32,
-        kind: AnswerKind,
-        query: &Query,
-        room: &mut Room,
-        out: &mut K,
-    ) -> Result<Reply, ReplyFault>
-        requires { IsAsked self.now.network.now.criteria query.now }
-        ensures { Replied (RepliesToQuery self.now.network.now epoch kind query.now)
-            (K.state out.old) (K.state out.new) result }
-    {
-        self.reply_by(self.workers, epoch, kind, query, room, out)
-    }
-
-    /// Sends the reply to a query whose search these workers share.
-    pub(crate) fn reply_by<K: Sink>(
-        &self,
-        workers: &Workers<'_, R, G>,
         epoch: u32,
         kind: AnswerKind,
         query: &Query,
@@ -63,7 +48,7 @@ impl<R: Threads + Sync, G: Gate> Answerer<'_, R, G> {
             return refuse(out, epoch, query, " node");
         }
         prove!(self.network.nodes() >= 1);
-        match find(workers, self.alloc, self.network, query) {
+        match find(self.workers, self.alloc, self.network, query) {
             Ok(found) => self.answer(epoch, kind, query, &found, room, out),
             Err(SearchFault::Budget) => refuse(out, epoch, query, " budget"),
             Err(SearchFault::OutOfMemory) => Err(ReplyFault::OutOfMemory),
@@ -71,7 +56,7 @@ impl<R: Threads + Sync, G: Gate> Answerer<'_, R, G> {
     }
 
     /// Sends the answer that was found. Room for its walks is taken before the first byte.
-    fn answer<F: FoundCosts, K: Sink>(
+    fn answer<F: FoundCosts + Sync, K: Sink>(
         &self,
         epoch: u32,
         kind: AnswerKind,
@@ -89,8 +74,36 @@ impl<R: Threads + Sync, G: Gate> Answerer<'_, R, G> {
             (K.state out.old) (K.state out.new) result }
     {
         room.make_room(found.longest())?;
-        put_answer(out, epoch, kind, query, self.network, found, room)?;
+        self.put_found(epoch, kind, query, found, room, out)?;
         Ok(Reply::Answer)
+    }
+
+    /// Sends the answer's lines, one after another, or where it has so many that it pays, those of its routes as all workers
+    /// make them.
+    fn put_found<F: FoundCosts + Sync, K: Sink>(
+        &self,
+        epoch: u32,
+        kind: AnswerKind,
+        query: &Query,
+        found: &F,
+        room: &mut Room,
+        out: &mut K,
+    ) -> Result<(), WriteFault>
+        requires of_query { IsOf self.now.network.now query.now (F.state found.now) }
+        requires well_found { IsWellFound self.now.network.now
+            (limit_of self.now.network.now.criteria query.now) (F.state found.now) }
+        requires room { longest_in (F.state found.now) ≤ room.old.holds }
+        ensures { (routes : List Route) → IsAnswer self.now.network.now query.now.from query.now.to
+            (limit_of self.now.network.now.criteria query.now) routes
+            → Sends (K.state out.old) (K.state out.new) (reply_of kind epoch query.now routes)
+            result }
+    {
+        let count = found.count();
+        if self.workers.for_labels(count).count() == 1 {
+            return put_answer(out, epoch, kind, query, self.network, found, room);
+        }
+        put_first_line(out, epoch, query, count)?;
+        self.put_windows(kind, found, room, out)
     }
 }
 

@@ -21,6 +21,7 @@ mod replying;
 mod serve;
 mod session;
 mod short;
+mod window;
 
 pub use answerer::Answerer;
 pub use context::ServeContext;

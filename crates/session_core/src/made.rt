@@ -76,8 +76,12 @@ impl<R: Threads + Sync, G: Gate> Answerer<'_, R, G> {
     {
         let mut room = Room::with(self.alloc, 0)?;
         let mut text = SureSink::new(self.alloc);
-        let worker = self.workers.alone();
-        match self.reply_by(&worker, epoch, kind, query, &mut room, &mut text) {
+        let worker = Answerer {
+            workers: &self.workers.alone(),
+            alloc: self.alloc,
+            network: self.network,
+        };
+        match worker.reply(epoch, kind, query, &mut room, &mut text) {
             Ok(reply) => Ok(MadeReply { reply, text }),
             Err(_) => Err(OutOfMemory),
         }

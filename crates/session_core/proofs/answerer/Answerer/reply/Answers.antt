@@ -1,7 +1,7 @@
 use Rattle.std.proofs.Common.{rules}
 use Rattle.road_network.specs.Queries.{HaveNodes}
 use Rattle.session_core.proofs.ReplyLemmas.{answers_query}
-use Rattle.session_core.proofs.answerer.Answerer.reply_by.Goals as goal
+use Rattle.session_core.proofs.answerer.Answerer.reply.Goals as goal
 
 pub returns-in-Ok : goal.returns-in-Ok
 returns-in-Ok g c =

@@ -22,7 +22,7 @@ use Rattle.bulk_core.specs.Kept.{IsKeptCore, TakesWaiting, settled_of}
 use Rattle.bulk_core.specs.Settled.{CanSettle, IsSpentBy, Settled, SettlesSome}
 use Rattle.bulk_core.proofs.KeptLemmas.{kept_core}
 use Rattle.bulk_core.proofs.ListLemmas.{of_take}
-use Rattle.bulk_core.proofs.SpentLemmas.{open_told}
+use Rattle.bulk_core.proofs.SpentLemmas.{open_alike}
 
 -- a step was counted where something was taken
 counted_some : {X : Type 0} (xs : List X) (old new : ℕ) → length xs ≢ 0 → Counts xs old new → new ≡ old + 1
@@ -46,7 +46,7 @@ takes_waiting was waiting xs queue takes = record {
 
 module _ {base now : Core} (takes : TakesWaiting base now) where
   next_taken : ListsNext base now.taken
-  next_taken = rw takes.taken (lists_next base (open_told base) takes.took now.queue takes.queue)
+  next_taken = rw takes.taken (lists_next base (open_alike base) takes.took now.queue takes.queue)
 
   is_next : (x : Spot) → Contains now.taken x → IsNextIn base x
   is_next x there = (next_taken.exact x).0 there
@@ -78,7 +78,7 @@ module _ {base now : Core} (takes : TakesWaiting base now) where
     none_open = λ x is_open. let (i, there, is) = is_open.waits in elim (takes.queue.leaves i there) [
       | inl (j, stays, _) ↦ none_stay j stays
       | inr (inl (j, j_in, _)) ↦ none_took j j_in
-      | inr (inr closed) ↦ closed ((open_told base (spot_of i)).1 (rw is is_open.unspent))
+      | inr (inr closed) ↦ closed ((open_alike base (spot_of i)).1 (rw is is_open.unspent))
     ];
     settled = λ x. rw takes.settled (λ h. h, λ h. h);
     none_waits = empty_if_none now.queue none_stay;
@@ -150,7 +150,7 @@ module _ {base now : Core} (takes : TakesWaiting base now) where
       some_open = some_next some_taken;
       taken = next_taken;
       settled = settled;
-      queue = loses_spent base (open_told base) takes.took now.queue takes.queue after both refl (λ x. rw takes.taken at (settled x));
+      queue = loses_spent base (open_alike base) takes.took now.queue takes.queue after both refl (λ x. rw takes.taken at (settled x));
       count = old;
       counts = counts_before was.kept.counted;
       within = omega (arith, within, takes.same_search.budget);

@@ -14,7 +14,7 @@ use Rattle.bulk_core.specs.Kept.{IsKeptCore, settled_of}
 use Rattle.bulk_core.specs.Settled.{AppendsOpen, IsSpentBy}
 use Rattle.bulk_core.proofs.KeptLemmas.{kept_core}
 use Rattle.bulk_core.proofs.ListLemmas.{in_pushed, take_more}
-use Rattle.bulk_core.proofs.SpentLemmas.{spent_told}
+use Rattle.bulk_core.proofs.SpentLemmas.{spent_alike}
 
 -- ---- one candidate after another
 
@@ -96,7 +96,7 @@ module _ {X : Type 0} (waiting : X → Item) {before : Core} {count : ℕ} {took
       | inl listed ↦ inr (record { spot = x; there = (i, rw y_is (in_map waiting appends.added y listed), is); node = refl; at_most = AtMost-refl x.cost })
       | inr not_open ↦ elim (decidable_spent before x) [
         | inl spent ↦ inl spent
-        | inr unspent ↦ absurd (closed y not_open (λ spent. unspent (rw (← is, y_is) ((spent_told before (waiting y).spot).0 spent))))
+        | inr unspent ↦ absurd (closed y not_open (λ spent. unspent (rw (← is, y_is) ((spent_alike before (waiting y).spot).0 spent))))
       ]
     ];
   }

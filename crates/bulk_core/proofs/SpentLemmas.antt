@@ -60,8 +60,8 @@ not_either true none same = (λ h. absurd (false≢true h), λ h. absurd (h (inr
 not_either false none same = (λ h. elim [ inl p ↦ none p | inr q ↦ false≢true (same.1 q) ], λ h. refl)
 
 -- what is settled tells which spots of a core are spent
-pub spent_told : (core : Core) (x : Spot) → IsSpentBy (settled_of core) x ↔ IsSpent core x
-spent_told core x = (
+pub spent_alike : (core : Core) (x : Spot) → IsSpentBy (settled_of core) x ↔ IsSpent core x
+spent_alike core x = (
   elim [
     | inl covered ↦ inl (record { by = covered.by; settled = covered.contains; at_most = covered.at_most })
     | inr (inl beyond) ↦ inr (inl beyond)
@@ -75,5 +75,5 @@ spent_told core x = (
 )
 
 -- and which are open
-pub open_told : (core : Core) (x : Spot) → ¬ IsSpentBy (settled_of core) x ↔ ¬ IsSpent core x
-open_told core x = let told = spent_told core x in (λ unspent spent. unspent (told.1 spent), λ unspent spent. unspent (told.0 spent))
+pub open_alike : (core : Core) (x : Spot) → ¬ IsSpentBy (settled_of core) x ↔ ¬ IsSpent core x
+open_alike core x = let alike = spent_alike core x in (λ unspent spent. unspent (alike.1 spent), λ unspent spent. unspent (alike.0 spent))

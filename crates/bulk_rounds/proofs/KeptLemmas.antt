@@ -104,7 +104,7 @@ module _ (before after : Core) (takes : TakesNext before after) where
 
 -- ---- what a queue takes of what waits, where it is told which spots are open: exactly the next ones
 
-module _ (before : Core) {Open : Spot → Type 0} (told : (x : Spot) → Open x ↔ ¬ IsSpent before x) (took after : List Item)
+module _ (before : Core) {Open : Spot → Type 0} (opens : (x : Spot) → Open x ↔ ¬ IsSpent before x) (took after : List Item)
     (takes : TakesOpenSpots spot_of Open before.queue took after) where
   -- just the next spots are taken, ascending
   pub lists_next : ListsNext before (map spot_of took)
@@ -115,15 +115,15 @@ module _ (before : Core) {Open : Spot → Type 0} (told : (x : Spot) → Open x 
           let (i, i_in, same) = of_map spot_of took x there in
           let (waits, is_open, undominated) = (takes.taken x).0 (i, i_in, sym same) in
           record {
-            is_open = record { waits = waits; unspent = (told x).0 is_open };
+            is_open = record { waits = waits; unspent = (opens x).0 is_open };
             none_better = λ z is less.
-                let (j, j_in, j_same) = is.waits in undominated j j_in (rw j_same ((told z).1 is.unspent)) (rw j_same less);
+                let (j, j_in, j_same) = is.waits in undominated j j_in (rw j_same ((opens z).1 is.unspent)) (rw j_same less);
           },
       λ next.
           let (i, i_in, same) = (takes.taken x).1 (
             next.is_open.waits,
-            (told x).1 next.is_open.unspent,
-            λ j j_in is_open. next.none_better (spot_of j) (record { waits = (j, j_in, refl); unspent = (told (spot_of j)).0 is_open }),
+            (opens x).1 next.is_open.unspent,
+            λ j j_in is_open. next.none_better (spot_of j) (record { waits = (j, j_in, refl); unspent = (opens (spot_of j)).0 is_open }),
           ) in
           subst (Contains (map spot_of took)) same (in_map spot_of took i i_in),
     );
@@ -141,7 +141,7 @@ module _ (before : Core) {Open : Spot → Type 0} (told : (x : Spot) → Open x 
           inr (inl (record { by = x.cost; settled = (settled x).1 (inr there); at_most = AtMost-refl x.cost }))
       | inr (inr closed) ↦ elim (decidable_spent before (spot_of i)) [
         | inl spent ↦ inr (spent_on before later same_search (λ z is_in. (settled z).1 (inl is_in)) x (subst (IsSpent before) is spent))
-        | inr unspent ↦ absurd (closed ((told (spot_of i)).1 unspent))
+        | inr unspent ↦ absurd (closed ((opens (spot_of i)).1 unspent))
       ]
     ];
   }

@@ -59,14 +59,6 @@ module _ (d bound start target : ℕ) (costs : List (List ℕ)) (fronts : Fronts
             let first : y < bound = All-head (λ x. x < bound) y ys fits in
             All-cons (λ x. x < bound) x xs (omega (arith, first, less.0)) (lesser_fits xs ys less.1 (All-tail (λ x. x < bound) y ys fits))
 
--- the cost at a place
-pub cost_found : {D : ℕ} (list : List (CompactCost D)) (i : ℕ) (x : CompactCost D) → i < length list → x ≡ get_or list i x
-    → slice_get (map (λ (c : CompactCost D). c.0) list) i ≡ Some x.0
-cost_found {D} list i x within read =
-    slice_get-map (λ (c : CompactCost D). c.0) list i
-    ∙ ap (λ (o : Option (CompactCost D)). option_map (λ (c : CompactCost D). c.0) o) (slice_get-get_or list i x within)
-    ∙ ap (λ (y : CompactCost D). let o : Option (List ℕ) = Some y.0 in o) (sym read)
-
 -- what holds of each value of a kind holds of the value, if there is one
 pub if_ok_then : {T E : Type 0} {P Q : T → Type 0} (r : Result T E) → IfOk r P → ((x : T) → P x → Q x) → IfOk r Q
 if_ok_then (Ok x) holds each = each x holds

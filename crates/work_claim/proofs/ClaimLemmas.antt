@@ -15,7 +15,7 @@ use lib.ListN.{get_elem?}
 use Rattle.atomic_table.specs.Table.{State, Me, Allows, Splits, Joins, keeps}
 use Rattle.list_laws.proofs.Members.{in_filter, of_filter}
 use Rattle.list_laws.proofs.OnceLaws.{lists_in_any_order, range_once, taken_out}
-use Rattle.work_claim.specs.Claims.{AddsUp, AreClaims, Claims, Draws, HoldsEachPieceOnce, all_draws, for_nobody, joined, left_half, past, right_half, spent, times, unused, with_drawn}
+use Rattle.work_claim.specs.Claims.{AddsUp, AreClaims, Claims, Draws, HoldsEachPieceOnce, all_draws, for_nobody, for_one, joined, past, spent, times, unused, with_drawn, without_one}
 
 -- ---- sums over the seats
 
@@ -65,18 +65,18 @@ claim_allowed pieces workers slots id me small may t rule _ seated _ =
       record { drawn = refl; ahead = omega (arith, before, rule.shared (λ v. length v.numbers) lengths_add, length-range_with_len 0 n) },
     )
 
--- a seat that has drawn nothing may be cut in two
-pub split_allowed : (pieces workers id : ℕ) (s : Draws) → s.numbers ≡ []
-    → Splits (λ (t : State (Unit {0}) Draws). AreClaims pieces workers t.words t.views) id s (left_half s) (right_half s)
-split_allowed pieces workers id s fresh t rule seated =
-    let first = λ (f : Draws → ℕ). sum_set f t.views id s (left_half s) seated in
-    let second = λ (f : Draws → ℕ). sum_by_push f (set t.views id (left_half s)) (right_half s) in
-    let halves : s ≡ joined (left_half s) (right_half s) = ap₂ (λ ns w. record { numbers = ns; workers = w }) (sym (append-nil s.numbers)) (omega arith) in
+-- one of several workers may leave a seat that has drawn nothing
+pub split_allowed : (pieces workers id : ℕ) (s : Draws) → 2 ≤ s.workers → s.numbers ≡ []
+    → Splits (λ (t : State (Unit {0}) Draws). AreClaims pieces workers t.words t.views) id s (without_one s) for_one
+split_allowed pieces workers id s several fresh t rule seated =
+    let first = λ (f : Draws → ℕ). sum_set f t.views id s (without_one s) seated in
+    let second = λ (f : Draws → ℕ). sum_by_push f (set t.views id (without_one s)) for_one in
+    let parts : s ≡ joined (without_one s) for_one = ap₂ (λ ns w. record { numbers = ns; workers = w }) (sym (append-nil s.numbers)) (omega (arith, several)) in
     record {
       one = rule.one;
-      shared = λ f adds. omega (arith, first f, second f, ap f halves, adds.both (left_half s) (right_half s), rule.shared f adds);
-      left = omega (arith, first (unused pieces), second (unused pieces), ap (past pieces) fresh, rule.left);
-      idle = grind (arith, nat_tests, first for_nobody, second for_nobody, ap length fresh, rule.idle);
+      shared = λ f adds. omega (arith, first f, second f, ap f parts, adds.both (without_one s) for_one, rule.shared f adds);
+      left = omega (arith, first (unused pieces), second (unused pieces), ap (past pieces) fresh, several, rule.left);
+      idle = grind (arith, nat_tests, first for_nobody, second for_nobody, ap length fresh, several, rule.idle);
     }
 
 -- a seat may take in another

@@ -1,5 +1,5 @@
 -- How the numbers of pieces are drawn from one counter: what always holds of the counter and of what was drawn.
-use Rattle.std.specs.Prelude.{◌≡◌, ℕ, ◌+◌, ◌-◌, ◌/◌, ◌<◌, ◌≤◌, ◌==◌, List, [], ◌∷◌, ◌++◌, Option, IfSome, IfNone, length, slice_index, filter, if◌then◌else◌}
+use Rattle.std.specs.Prelude.{◌≡◌, ℕ, ◌+◌, ◌-◌, ◌<◌, ◌≤◌, ◌==◌, List, [], ◌∷◌, ◌++◌, Option, IfSome, IfNone, length, slice_index, filter, if◌then◌else◌}
 use Rattle.std.specs.Bool.{nat_lt, nat_le}
 use Rattle.std.specs.List.{count_by, range_with_len, sum_by}
 use Rattle.atomic_table.specs.Table.{Me}
@@ -40,13 +40,13 @@ pub record Claims (before : Me (Unit {0}) Draws) (found : ℕ) (after : Me (Unit
   pub drawn : after ≡ (with_drawn found before.0, before.1)
   pub ahead : length before.0.numbers ≤ found
 
--- what stays with a seat that is cut in two
-abbrev pub left_half : Draws → Draws
-left_half s = record s { workers = s.workers - s.workers / 2 }
+-- what stays with a seat that one of its workers leaves
+abbrev pub without_one : Draws → Draws
+without_one s = record s { workers = s.workers - 1 }
 
--- what the new seat has
-abbrev pub right_half : Draws → Draws
-right_half s = record { numbers = []; workers = s.workers / 2 }
+-- what a new seat has, for one worker
+abbrev pub for_one : Draws
+for_one = record { numbers = []; workers = 1 }
 
 -- what two seats have together
 abbrev pub joined : Draws → Draws → Draws

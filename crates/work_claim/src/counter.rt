@@ -1,9 +1,9 @@
-//! The counter from which workers draw the numbers of pieces, and the five kinds of step that they make: it is made, a
-//! seat is cut in two, a number is drawn, two seats are joined, and it is closed.
+//! The counter from which workers draw the numbers of pieces, and the five kinds of step that they make: it is made, one
+//! worker leaves a seat, a number is drawn, two seats are joined, and it is closed.
 ghost use Rattle.std.specs.Prelude.{◌≡◌, ◌^◌, ◌<◌, ◌≤◌, [], IfOk};
-ghost use Rattle.work_claim.specs.Claims.{DrawsNext, HoldsEachPieceOnce, joined, left_half, past, right_half};
+ghost use Rattle.work_claim.specs.Claims.{DrawsNext, HoldsEachPieceOnce, for_one, joined, past, without_one};
 
-use crate::rule::{Claim, Claiming, Draws, Halves, Plan, Together};
+use crate::rule::{Claim, Claiming, Draws, OneLeaves, Plan, Together};
 use atomic_table::{Seat, Table};
 use out_of_memory::OutOfMemory;
 use std::alloc::Global;
@@ -69,16 +69,16 @@ impl Counter {
         Ok((Counter { pieces, table }, WorkerSeat { seat }))
     }
 
-    /// Cuts a seat of several workers, who haven't drawn yet, in two.
-    pub(crate) fn halve(&self, seat: &mut WorkerSeat) -> WorkerSeat
+    /// Gives one of a seat's workers, who haven't drawn yet, a seat of its own.
+    pub(crate) fn seat_one(&self, seat: &mut WorkerSeat) -> WorkerSeat
         requires table { seat.old.table ≡ self.now.table }
         requires several { 2 ≤ seat.old.draws.workers }
         requires fresh { seat.old.draws.numbers ≡ [] }
-        ensures left { seat.new ≡ record seat.old { draws = left_half seat.old.draws } }
-        ensures right { result ≡ record seat.old { draws = right_half seat.old.draws } }
+        ensures left { seat.new ≡ record seat.old { draws = without_one seat.old.draws } }
+        ensures right { result ≡ record seat.old { draws = for_one } }
     {
         WorkerSeat {
-            seat: self.table.shared.split_seat::<Halves>(&mut seat.seat),
+            seat: self.table.shared.split_seat::<OneLeaves>(&mut seat.seat),
         }
     }
 

@@ -40,35 +40,36 @@ impl<'c, J: Job, R: Threads + Sync, G: Gate> JobRun<'c, J, R, G> {
         if workers == 1 {
             return self.work(seat);
         }
-        let other = self.counter.halve(&mut seat);
-        self.run_both(other, workers / 2, seat, workers - workers / 2)
+        let one = self.counter.seat_one(&mut seat);
+        self.run_both(one, seat, workers - 1)
     }
 
-    /// Has the workers of two seats do so, side by side.
+    /// Has one worker do so in a new thread, and beside it the others. All threads are started by who asks for the work: what a new
+    /// thread starts is often put on its own processor.
     #[cycle(run)]
-    fn run_both(&self, left: WorkerSeat, few: u32, right: WorkerSeat, more: u32) -> Report<J::Out>
-        requires left { IsFresh few self.now.counter left }
-        requires right { IsFresh more self.now.counter right }
+    fn run_both(&self, one: WorkerSeat, others: WorkerSeat, count: u32) -> Report<J::Out>
+        requires one { IsFresh 1 self.now.counter one }
+        requires others { IsFresh count self.now.counter others }
         requires accepted { (i : ℕ) → i < self.now.counter.pieces → J.accepts self.now.job.now i }
-        ensures { HaveEnded (J.gives self.now.job.now) self.now.counter (few + more)
+        ensures { HaveEnded (J.gives self.now.job.now) self.now.counter (1 + count)
             result.seat result.done }
     {
         let (first, second) = join(
             self.workers.rt(),
             || -> Report<J::Out>
                 requires { IsSync R.row × IsSync G.row × IsSync J.row × IsSend J.Out.row
-                    × IsFresh few self.now.counter left
+                    × IsFresh 1 self.now.counter one
                     × ((i : ℕ) → i < self.now.counter.pieces → J.accepts self.now.job.now i) }
-                ensures { HaveEnded (J.gives self.entry.now.job.now) self.entry.now.counter few
+                ensures { HaveEnded (J.gives self.entry.now.job.now) self.entry.now.counter 1
                     result.seat result.done }
-            { self.run(left, few) },
+            { self.work(one) },
             || -> Report<J::Out>
                 requires { IsSync R.row × IsSync G.row × IsSync J.row × IsSend J.Out.row
-                    × IsFresh more self.now.counter right
+                    × IsFresh count self.now.counter others
                     × ((i : ℕ) → i < self.now.counter.pieces → J.accepts self.now.job.now i) }
-                ensures { HaveEnded (J.gives self.entry.now.job.now) self.entry.now.counter more
+                ensures { HaveEnded (J.gives self.entry.now.job.now) self.entry.now.counter count
                     result.seat result.done }
-            { self.run(right, more) },
+            { self.run(others, count) },
         );
         self.together(first, second)
     }

@@ -44,15 +44,15 @@ impl Play<(), Draws> for Claim {
     ghost then = { λ _ before found after. Claims before found after };
 }
 
-/// A seat of several workers is cut in two.
-pub(crate) struct Halves;
+/// One of a seat's workers gets a seat of its own.
+pub(crate) struct OneLeaves;
 
-impl Split<Draws> for Halves {
-    ghost use Rattle.work_claim.specs.Claims.{left_half, right_half};
+impl Split<Draws> for OneLeaves {
+    ghost use Rattle.work_claim.specs.Claims.{for_one, without_one};
 
-    ghost left = { left_half };
+    ghost left = { without_one };
 
-    ghost right = { right_half };
+    ghost right = { λ _. for_one };
 }
 
 /// What two seats have drawn and for whom they draw is put together.

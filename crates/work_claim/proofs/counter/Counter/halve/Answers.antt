@@ -1,6 +1,0 @@
-use Rattle.std.proofs.Common.{rules}
-use Rattle.work_claim.proofs.ClaimLemmas.{split_allowed}
-use Rattle.work_claim.proofs.counter.Counter.halve.Goals as goal
-
-pub split_seat-requires : goal.split_seat-requires
-split_seat-requires c = (search rules, search rules, split_allowed _ _ _ _ (search rules))

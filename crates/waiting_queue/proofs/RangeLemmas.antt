@@ -1,5 +1,5 @@
 -- A queue cut into ranges, and what the passes over them take together.
-use Rattle.std.proofs.Common.{◌≡◌, ℕ, suc, ◌+◌, ◌<◌, ◌⊎◌, ◌↔◌, List, [], ◌∷◌, ◌++◌, append_assoc, take, drop, length, get_or, inl, inr, refl, sym, ap, subst, ◌∙◌, arith, Option, Some, None, Less, Equal, Greater, Bor}
+use Rattle.std.proofs.Common.{◌≡◌, ℕ, zero, suc, ◌+◌, ◌<◌, ◌⊎◌, ◌↔◌, List, [], ◌∷◌, ◌++◌, append_assoc, zero-add, take, drop, length, get_or, inl, inr, refl, sym, ap, subst, ◌∙◌, arith, Option, Some, None, Less, Equal, Greater, Bor}
 use Rattle.std.specs.Prelude.{All, AllPairs, Contains, IfOk, IfSome, IsTrue, Result, Ok, Err, is_ok, slice_get}
 use Rattle.std.specs.declared.cmp.Ordering.{Ordering}
 use Rattle.std.proofs.lemmas.Bool.{false≢true}
@@ -28,6 +28,15 @@ use Rattle.waiting_queue.proofs.TakingLemmas.{apart_both, apart_if_taken, in_pus
 pub if_ok : {T E P : Type 0} (r : Result T E) → IfOk r (λ _. P) → IsTrue (is_ok r) → P
 if_ok (Ok x) made ok = made
 if_ok (Err e) made ok = absurd (false≢true ok)
+
+-- one place more was filled
+pub filled_cons : {P : Type 0} (Gives : ℕ → P → Type 0) (first : ℕ) (old new : P) (olds news : List P) → Gives first new
+    → AreFilled Gives (first + 1) olds news → AreFilled Gives first (old ∷ olds) (new ∷ news)
+filled_cons {P} Gives first old new olds news here there = record { count = omega (arith, there.count); each = at }
+  where
+    at : (i : ℕ) (p : P) → slice_get (new ∷ news) i ≡ Some p → Gives (first + i) p
+    at zero p is = let same : new ≡ p = cc in let place : first ≡ first + 0 = omega arith in subst (λ k. Gives k p) place (subst (Gives first) same here)
+    at (suc i) p is = let place : first + 1 + i ≡ first + suc i = omega arith in subst (λ k. Gives k p) place (there.each i p is)
 
 module _ {C : Type 0} (components : C → List ℕ) where
   abbrev spot : Item C → Spot
@@ -250,12 +259,12 @@ module _ {C : Type 0} (components : C → List ℕ) where
 
     -- all parts were filled, and memory sufficed
     pub are_passed : (items : List (Item C)) (rs : List (Range C)) (before ps old after : List (Part C)) (n : ℕ) → AreRanges components items others rs
-        → length before ≡ length rs → AreFilled (λ k p. IsTrue p.is_whole → GivesPart components Open others rs k p) before ps → length ps ≡ n
+        → length before ≡ length rs → AreFilled (λ k p. IsTrue p.is_whole → GivesPart components Open others rs k p) 0 before ps → length ps ≡ n
         → after ≡ take n (ps ++ drop (length ps) old) → All (λ p. IsTrue p.is_whole) after → ArePassed components Open (items ++ others) after
     are_passed items rs before ps old after n are long filled size stand whole =
         let same : after ≡ ps = stand ∙ take_at ps (drop (length ps) old) n size in
         let by = all_passed rs ps are.ascending (filled.count ∙ long)
-        (λ k p at. filled.each k p at (all_got (λ q. IsTrue q.is_whole) ps k p (subst (All (λ q. IsTrue q.is_whole)) same whole) at)) in
+        (λ k p at. subst (λ j. GivesPart components Open others rs j p) (zero-add k) (filled.each k p at (all_got (λ q. IsTrue q.is_whole) ps k p (subst (All (λ q. IsTrue q.is_whole)) same whole) at))) in
         let here : (x : Item C) → Contains by.all x → Contains (items ++ others) x = λ x h. (in_append items others x).1 ((are.has x).1 ((by.has x).0 h)) in
         rw same (record {
           are = by.passed.are;

@@ -1,12 +1,11 @@
 -- What the parts of a queue have taken, each by a pass of its own, and what is taken of all.
-use Rattle.std.specs.Prelude.{ℕ, List, ◌++◌, All, AllPairs, Contains, flat_map}
+use Rattle.std.specs.Prelude.{◌≡◌, ℕ, ◌-◌, ◌<◌, ◌↔◌, Bool, List, [], Some, All, AllPairs, Contains, IsTrue, flat_map, length, slice_get, slice_index_or}
 use Rattle.cost_vector.specs.Costs.{Dominates}
 use Rattle.waiting_queue.specs.declared.item.Item.{Item}
 use Rattle.waiting_queue.specs.declared.joining.Part.{Part}
-use Rattle.waiting_queue.specs.Passing.{AreNext}
-use Rattle.waiting_queue.specs.Shadows.{Descends, IsBehind, IsDominatedBy, IsLater, IsShadow}
+use Rattle.waiting_queue.specs.Shadows.{Descends, IsShadow}
 use Rattle.waiting_queue.specs.Taking.{IsDominatedIn, TakesOpen}
-use Rattle.waiting_queue.specs.Waiting.{SpotLess, spot_in}
+use Rattle.waiting_queue.specs.Waiting.{AreCriteria, Spot, SpotLess, spot_in}
 
 module _ {C : Type 0} where
   -- what the parts have taken
@@ -16,6 +15,10 @@ module _ {C : Type 0} where
   -- what stays in them
   abbrev pub rest_of : List (Part C) → List (Item C)
   rest_of = flat_map (λ p. p.rest.items)
+
+-- the lists, one behind the other
+abbrev pub joined : {X : Type 0} → List (List X) → List X
+joined = flat_map (λ xs. xs)
 
 -- costs have these components
 module _ {C : Type 0} (components : C → List ℕ) where
@@ -36,30 +39,31 @@ module _ {C : Type 0} (components : C → List ℕ) where
     pub each : All IsPart parts
     pub ascending : AllPairs ComesBefore parts
 
-  -- exactly those are taken that nothing dominates which a part took, each spot once, and the others go back
+  -- exactly those of all are taken that none of them dominates, each spot once, and the others go back
+  abbrev pub JoinsAll : List (Item C) → List (Item C) → List (Item C) → Type 0
+  JoinsAll = TakesOpen (spot_in components) (λ _. Unit {0})
+
+  -- the same of what the parts took
   abbrev pub AreJoined : List (Part C) → List (Item C) → List (Item C) → Type 0
-  AreJoined parts took back = TakesOpen (spot_in components) (λ _. Unit {0}) (taken_of parts) took back
+  AreJoined parts = JoinsAll (taken_of parts)
 
-  -- a cost of the shadow of one of the parts dominates c
-  pub record IsSeenBy (parts : List (Part C)) (c : List ℕ) : Type 0 where
-    pub part : Part C
-    pub there : Contains parts part
-    pub by : IsDominatedBy components part.shadow.items c
+  -- the last of the items comes before s
+  abbrev pub EndsBefore : List (Item C) → Spot → Type 0
+  EndsBefore items s = (x : Item C) × (slice_get items (length items - 1) ≡ Some x) × SpotLess (spot_in components x) s
 
-  -- c comes before no cost of the parts' shadows
-  abbrev pub IsBehindAll : List (Part C) → List ℕ → Type 0
-  IsBehindAll parts c = (p : Part C) → Contains parts p → IsBehind components p.shadow.items c
+  -- each mark tells of the item at its place whether one of all dominates it
+  pub record AreMarked (all items : List (Item C)) (marks : List Bool) : Type 0 where
+    pub count : length marks ≡ length items
+    pub each : (i : ℕ) (x : Item C) (m : Bool) → slice_get items i ≡ Some x → slice_get marks i ≡ Some m
+        → IsTrue m ↔ IsDominatedIn (spot_in components) all (components x.cost)
 
-  -- The items come next behind those that the parts took, which the parts' shadows tell of, and none dominates another.
-  pub record CanJoin (parts : List (Part C)) (seen items : List (Item C)) : Type 0 where
-    pub next : AreNext components seen items
-    pub behind : (x : Item C) → Contains items x → IsBehindAll parts (components x.cost)
-    pub tells : (c : List ℕ) → IsSeenBy parts c → IsDominatedIn (spot_in components) seen c
-    pub noted : (c : List ℕ) → IsLater components seen c → IsDominatedIn (spot_in components) seen c → IsSeenBy parts c
-    pub apart : (x y : Item C) → Contains items x → Contains items y → ¬ Dominates (components x.cost) (components y.cost)
+  -- there is such a piece, and all pieces are of what the parts took
+  pub record CanMark (d : ℕ) (parts : List (Part C)) (pieces : List (List (Item C))) (piece : ℕ) : Type 0 where
+    pub criteria : AreCriteria d
+    pub are : AreParts parts
+    pub there : piece < length pieces
+    pub whole : joined pieces ≡ taken_of parts
 
-  -- where the items can join, they are joined too
-  abbrev pub JoinsNext : List (Part C) → List (Item C) → List (Item C) → List (Item C) → List (Item C) → List (Item C) → Type 0
-  JoinsNext parts items took back more_took more_back = (seen : List (Item C)) → CanJoin parts seen items
-      → TakesOpen (spot_in components) (λ _. Unit {0}) seen took back
-      → TakesOpen (spot_in components) (λ _. Unit {0}) (seen ++ items) more_took more_back
+  -- these are the marks of the piece's items
+  abbrev pub AreMarksOf : List (Part C) → List (List (Item C)) → ℕ → List Bool → Type 0
+  AreMarksOf parts pieces piece = AreMarked (taken_of parts) (slice_index_or pieces piece [])

@@ -1,16 +1,18 @@
 //! What the parts of a queue took, joined: a part doesn't know what an earlier one took.
-ghost use Rattle.std.specs.Prelude.{◌≡◌, ◌≢◌, [], flat_map, false, All, IfOk, IsTrue};
-ghost use Rattle.waiting_queue.specs.Joining.{AreJoined, AreParts, IsBehindAll, IsSeenBy, JoinsNext, rest_of};
-ghost use Rattle.waiting_queue.specs.Shadows.{Descends, IsDominatedBy};
-ghost use Rattle.waiting_queue.specs.Waiting.{AreCriteria};
+ghost use Rattle.std.specs.Prelude.{◌≡◌, [], IfOk};
+ghost use Rattle.waiting_queue.specs.Joining.{AreJoined, AreMarked, AreParts, JoinsAll, rest_of, taken_of};
+ghost use Rattle.waiting_queue.specs.Taking.{AreSorted};
+ghost use Rattle.waiting_queue.specs.Waiting.{AreCriteria, spot_in};
 
 use crate::Item;
+use crate::marking::mark_all;
 use crate::order::is_last;
-use crate::shadow::is_shadowed;
 use out_of_memory::OutOfMemory;
 use std::alloc::Global;
 use std::mem;
+use std::thread::Threads;
 use stored_cost::StoredCost;
+use work_claim::Workers;
 
 /// What a pass over a part of a queue has taken, what stays there, and the shadow of what was taken: all of it, where memory
 /// sufficed.
@@ -38,20 +40,36 @@ impl<C> Part<C> {
     }
 }
 
-/// Lists what the parts took but for what another part's dominates, each spot once, and apart what is dominated.
-pub(crate) fn join_parts<const D: usize, C: StoredCost<D>>(
+/// Lists what the parts took but for what another part's dominates, each spot once, and apart what is dominated. What the lists held
+/// before is gone; the first is room for all that the parts took.
+pub(crate) fn join_parts<const D: usize, C: StoredCost<D> + Send + Sync, R: Threads + Sync, G>(
+    workers: &Workers<'_, R, G>,
+    alloc: Global,
     parts: &[Part<C>],
+    all: &mut Vec<Item<C>>,
     taken: &mut Vec<Item<C>>,
     back: &mut Vec<Item<C>>,
 ) -> Result<(), OutOfMemory>
+where
+    C::Part: Send + Sync,
     requires criteria { AreCriteria D }
     requires parts { AreParts C.components parts.now }
     ensures { IfOk result (λ _. AreJoined C.components parts.now taken.new.items back.new.items) }
 {
+    list_taken(parts, all)?;
+    let marks = mark_all(workers, alloc, parts, all)?;
     taken.clear();
     back.clear();
-    for (i, part) in parts.iter().enumerate() {
-        join_part(&parts[..i], &part.taken, taken, back)?;
+    join_marked(all, &marks, taken, back)
+}
+
+/// Lists what the parts took. What the list held before is gone.
+fn list_taken<C: Copy + Drop>(parts: &[Part<C>], all: &mut Vec<Item<C>>) -> Result<(), OutOfMemory>
+    ensures { IfOk result (λ _. all.new.items ≡ taken_of parts.now) }
+{
+    all.clear();
+    for part in parts {
+        all.extend_from_slice(&part.taken)?;
     }
     Ok(())
 }
@@ -74,40 +92,25 @@ pub(crate) fn list_rests<C: Copy + Drop>(
     Ok(())
 }
 
-/// Joins what a part took to what earlier ones did.
-fn join_part<const D: usize, C: StoredCost<D>>(
-    earlier: &[Part<C>],
-    items: &[Item<C>],
+/// Joins what the parts took: what is marked goes back.
+fn join_marked<const D: usize, C: StoredCost<D>>(
+    all: &[Item<C>],
+    marks: &[bool],
     taken: &mut Vec<Item<C>>,
     back: &mut Vec<Item<C>>,
 ) -> Result<(), OutOfMemory>
-    requires criteria { AreCriteria D }
-    requires descend { All (λ p. Descends C.components p.shadow.items) earlier.now }
-    ensures { IfOk result (λ _. JoinsNext C.components earlier.now items.now
-        taken.old.items back.old.items taken.new.items back.new.items) }
+    requires sorted { AreSorted (spot_in C.components) all.now }
+    requires marked { AreMarked C.components all.now all.now marks.now }
+    requires none_taken { taken.old.items ≡ [] }
+    requires none_back { back.old.items ≡ [] }
+    ensures { IfOk result (λ _. JoinsAll C.components all.now taken.new.items back.new.items) }
 {
-    for item in items {
-        if is_shadowed_by(earlier, &item.cost) {
+    for (i, item) in all.iter().enumerate() {
+        if marks[i] {
             back.push(*item)?;
         } else if !is_last(taken, item) {
             taken.push(*item)?;
         }
     }
     Ok(())
-}
-
-/// Whether a cost that one of the parts took dominates this one, which comes behind it.
-fn is_shadowed_by<const D: usize, C: StoredCost<D>>(parts: &[Part<C>], cost: &C) -> bool
-    requires criteria { AreCriteria D }
-    requires descend { All (λ p. Descends C.components p.shadow.items) parts.now }
-    ensures seen { IsTrue result → IsSeenBy C.components parts.now (C.components cost.now) }
-    ensures unseen { result ≡ false → IsBehindAll C.components parts.now (C.components cost.now)
-        → ¬ IsSeenBy C.components parts.now (C.components cost.now) }
-{
-    for part in parts {
-        if is_shadowed(&part.shadow, cost) {
-            return true;
-        }
-    }
-    false
 }

@@ -7,6 +7,7 @@ mod item;
 mod joining;
 mod list_queue;
 mod look;
+mod marking;
 mod order;
 mod passing;
 mod queue;

@@ -161,7 +161,7 @@ where
         return pass_alone(look, lists, order, taken, left);
     }
     pass_ranges(workers, alloc, look, lists, &mut left.parts)?;
-    join_parts(&left.parts, taken, &mut left.late)?;
+    join_parts(workers, alloc, &left.parts, order, taken, &mut left.late)?;
     list_rests(&mut left.parts, &mut left.items)
 }
 

@@ -98,7 +98,7 @@ where
         lists,
         ranges: &ranges,
     };
-    fill_each(workers, &pass, parts);
+    fill_each(workers.rt(), &pass, parts);
     if are_whole(parts) {
         Ok(())
     } else {

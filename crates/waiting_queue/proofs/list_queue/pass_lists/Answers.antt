@@ -8,7 +8,7 @@ use Rattle.waiting_queue.proofs.RangeLemmas.{joined_take}
 use Rattle.waiting_queue.proofs.list_queue.pass_lists.Goals as goal
 
 pub join_parts-requires-clause-parts : goal.join_parts-requires-clause-parts
-join_parts-requires-clause-parts g c = rw c.deref.ensures.value c.in_ok-pass_ranges.ensures.are
+join_parts-requires-clause-parts g c κs within = rw c.deref.ensures.value c.in_ok-pass_ranges.ensures.are
 
 pub returns-clause-taken : goal.returns-clause-taken
 returns-clause-taken g c =

@@ -20,7 +20,7 @@ returns-clause-taken g c =
     rw (c.in_ok-extend_from_slice.ensures.items, c.clear.ensures.items) at c.sort_items.ensures.same in
     let same : SameMembers (newer ++ c.args.fresh.now) both =
     (λ x. let came = behind_alike newer c.args.fresh.now c.sort_items.new.items.items (λ y. let there = same_by_permutation _ _ moved y in (there.1, there.0)) x in
-    let told = (rw c.in_ok-hold.ensures.held at c.in_ok-list_both.ensures.same) x in (λ h. told.0 (came.0 h), λ h. came.1 (told.1 h))) in
+    let held = (rw c.in_ok-hold.ensures.held at c.in_ok-list_both.ensures.same) x in (λ h. held.0 (came.0 h), λ h. came.1 (held.1 h))) in
     rw (← c.self.view_is) (takes_spots_alike spot_of may (map (as_waiting numbers) (older ++ newer) ++ map (as_waiting numbers) c.args.fresh.now)
     (map (as_waiting numbers) (older ++ newer) ++ map (as_waiting numbers) c.args.fresh.now) (map (as_waiting numbers) took) (map (as_waiting numbers) left)
     c.join_runs.new.self (λ x. (λ h. h, λ h. h)) c.join_runs.ensures (spots_let_in spot_of (as_waiting numbers) may older newer c.args.fresh.now both took left same

@@ -57,11 +57,8 @@ module _ {base now : Core} (takes : TakesWaiting base now) where
       (i, takes.items i (takes.queue.among i i_in), is)
 
   counts_before : {count : ℕ} → CountsSettled now count → CountsSettled base count
-  counts_before {count} counts = record {
-    spots = counts.spots;
-    once = record { exact = λ x. rw takes.settled at (counts.once.exact x); once = counts.once.once };
-    counted = counts.counted;
-  }
+  counts_before counts =
+      let exact : (x : Spot) → Contains counts.spots x ↔ IsSettledIn base x = λ x. rw takes.settled at (counts.once.exact x) in search
 
   -- what a core keeps stays so
   pub kept_taking : {count : ℕ} {others : List Item} → IsKeptCore base count others → IsKeptCore now count takes.took
@@ -91,25 +88,12 @@ module _ {base now : Core} (takes : TakesWaiting base now) where
     none_stay i there = let (j, j_in, _) = (takes.queue.stays i there).1 in none_took j j_in
 
   pub passes_budget : {count : ℕ} → length now.taken ≢ 0 → CountsSettled now count → now.budget < count + length now.taken → WouldPass base
-  passes_budget {count} some counts beyond = record {
-    some_open = some_next some;
-    next = now.taken;
-    lists = next_taken;
-    count = count;
-    counts = counts_before counts;
-    beyond = omega (arith, beyond, takes.same_search.budget);
-  }
+  passes_budget some counts beyond = search (arith, some_next some, next_taken, counts_before counts)
 
   -- a step was counted
   pub counts_taken : (result : Result Begun OutOfMemory) (old new : ℕ) → result ≢ Ok Done → length now.taken ≢ 0 → Counts now.taken old new
       → CountsRound base result old new
-  counts_taken result old new other some counts = let more = counted_some now.taken old new some counts in record {
-    counted = λ begun is not_done. more;
-    uncounted = λ is. absurd (other is);
-    at_most_one = omega (arith, more);
-    no_less = omega (arith, more);
-    some_open = λ less. some_next some;
-  }
+  counts_taken result old new other some counts = let more = counted_some now.taken old new some counts in search (arith, some_next some)
 
   -- ---- they are settled one after another
 
@@ -128,9 +112,7 @@ module _ {base now : Core} (takes : TakesWaiting base now) where
     after = record now { nodes = later.fronts.nodes; target = later.target; limit = later.limit; settled = later.fronts.costs }
 
     pub same_core : SameSearch now after
-    same_core =
-        let bounds = some.first.bounds in
-        record { nodes = bounds.nodes; criteria = refl; start = refl; target = bounds.target; limit = bounds.limit; budget = refl }
+    same_core = search some.first.bounds
 
     -- what a core keeps stays so, however many are settled
     pub kept_settling : IsKeptCore after new took
@@ -145,18 +127,12 @@ module _ {base now : Core} (takes : TakesWaiting base now) where
         was.kept) was.from
 
     pub takes_next : length now.taken ≢ 0 → new ≡ old + length now.taken → TakesNext base after
-    takes_next some_taken all = record {
-      same_search = both;
-      some_open = some_next some_taken;
-      taken = next_taken;
-      settled = settled;
-      queue = loses_spent base (open_alike base) takes.took now.queue takes.queue after both refl (λ x. rw takes.taken at (settled x));
-      count = old;
-      counts = counts_before was.kept.counted;
-      within = omega (arith, within, takes.same_search.budget);
-    } where
-      both : SameSearch base after
-      both = let first = takes.same_search in let second = same_core in grind arith
+    takes_next some_taken all =
+        let left = loses_spent base (open_alike base) takes.took now.queue takes.queue after both refl (λ x. rw takes.taken at (settled x)) in
+        search (arith, both, some_next some_taken, next_taken, settled, counts_before was.kept.counted) where
+          both : SameSearch base after
+          both = let first = takes.same_search in let second = same_core in grind arith
 
-      settled : (x : Spot) → IsSettledIn after x ↔ (IsSettledIn base x ⊎ Contains now.taken x)
-      settled x = rw (takes.settled, take_all some.many now.taken (omega (arith, all, some.counted, length-take some.many now.taken))) at (some.first.settled x)
+          settled : (x : Spot) → IsSettledIn after x ↔ (IsSettledIn base x ⊎ Contains now.taken x)
+          settled x = let whole = take_all some.many now.taken (omega (arith, all, some.counted, length-take some.many now.taken)) in
+              rw (takes.settled, whole) at (some.first.settled x)

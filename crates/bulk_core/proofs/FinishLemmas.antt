@@ -47,12 +47,9 @@ module _ {X : Type 0} {Open : X → Type 0} {candidates : List X} where
 
     -- or isn't
     pub appends_others : ¬ Open x → AppendsOpen Open candidates (take (i + 1) candidates) before mid
-    appends_others closed = record {
-      added = appends.added;
-      appended = appends.appended;
-      among = appends.among;
-      rest = λ y there. elim ((take_more candidates i x below is y).0 there) [ inl old ↦ appends.rest y old | inr same ↦ inr (rw same closed) ];
-    }
+    appends_others closed =
+        let rest : (y : X) → Contains (take (i + 1) candidates) y → Contains appends.added y ⊎ (¬ Open y) =
+        λ y there. elim ((take_more candidates i x below is y).0 there) [ inl old ↦ appends.rest y old | inr same ↦ inr (rw same closed) ] in search
 
 -- ---- they come to what waits
 

@@ -1,5 +1,5 @@
 -- What a core of this crate keeps, and the spots of its items.
-use Rattle.std.proofs.Common.{◌≡◌, ◌⊎◌, ◌↔◌, ℕ, List, [], ◌∷◌, map, refl, ap, All, Contains}
+use Rattle.std.proofs.Common.{◌≡◌, ◌⊎◌, ◌↔◌, ℕ, List, [], ◌∷◌, map, refl, ap, arith, All, Contains}
 use Rattle.list_laws.proofs.Members.{all_from_in, each_in}
 use Rattle.bulk_rounds.specs.Cores.{Core, IsSettledIn, Item, SameSearch, Spot}
 use Rattle.bulk_rounds.specs.Kept.{IsFrom, IsKept}
@@ -15,12 +15,8 @@ spots_of_items components [] = refl
 spots_of_items components (i ∷ is) = ap (λ (xs : List Spot). spot_in components i ∷ xs) (spots_of_items components is)
 
 -- where some spots are settled, the rest of what a core keeps stays so
-pub kept_core : {before after : Core} {count new : ℕ} {took others : List Item} (search : SameSearch before after) (spots : List Spot)
+pub kept_core : {before after : Core} {count new : ℕ} {took others : List Item} (same : SameSearch before after) (spots : List Spot)
     (settled : (x : Spot) → IsSettledIn after x ↔ (IsSettledIn before x ⊎ Contains spots x)) → IsKeptCore before count took → IsKept after new
     → All (IsFrom before) others → IsKeptCore after new others
-kept_core {before} {after} {count} {new} {took} {others} search spots settled was kept from = record {
-  criteria = rw search.criteria was.criteria;
-  kept = kept;
-  most = rw search.budget was.most;
-  from = all_from_in (IsFrom after) others (λ i there. from_on search spots settled i (each_in (IsFrom before) others from i there));
-}
+kept_core {before} {after} {others = others} same spots settled was kept from =
+    search (arith, all_from_in (IsFrom after) others (λ i there. from_on same spots settled i (each_in (IsFrom before) others from i there)))

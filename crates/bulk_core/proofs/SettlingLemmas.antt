@@ -18,10 +18,7 @@ use Rattle.bulk_core.specs.Settled.{CanSettle, IsSettledBy, SameBounds, Settled,
 
 -- no spot yet
 pub settles_none : (s : Settled) (spots : List Spot) → SettlesFirst s s spots 0
-settles_none s spots = record {
-  bounds = record { nodes = refl; target = refl; limit = refl };
-  settled = λ x. (λ h. inl h, elim [ inl h ↦ h | inr none ↦ absurd (in_none x none) ]);
-}
+settles_none s spots = search (arith, in_none)
 
 -- the costs of the node v gain what Gained holds of
 module _ {before mid after : Settled} {spots : List Spot} {i : ℕ} (settles : SettlesFirst before mid spots i) (bounds : SameBounds mid after) (v : ℕ)

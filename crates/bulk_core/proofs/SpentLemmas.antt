@@ -62,16 +62,8 @@ not_either false none same = (λ h. elim [ inl p ↦ none p | inr q ↦ false≢
 -- what is settled tells which spots of a core are spent
 pub spent_alike : (core : Core) (x : Spot) → IsSpentBy (settled_of core) x ↔ IsSpent core x
 spent_alike core x = (
-  elim [
-    | inl covered ↦ inl (record { by = covered.by; settled = covered.contains; at_most = covered.at_most })
-    | inr (inl beyond) ↦ inr (inl beyond)
-    | inr (inr (e, there, dominates)) ↦ inr (inr (record { by = e; settled = there; dominates = dominates }))
-  ],
-  elim [
-    | inl covered ↦ inl (record { by = covered.by; contains = covered.settled; at_most = covered.at_most })
-    | inr (inl beyond) ↦ inr (inl beyond)
-    | inr (inr beaten) ↦ inr (inr (beaten.by, beaten.settled, beaten.dominates))
-  ],
+  elim [ inl covered ↦ inl (search) | inr (inl beyond) ↦ inr (inl beyond) | inr (inr beaten) ↦ inr (inr (search)) ],
+  elim [ inl covered ↦ inl (search) | inr (inl beyond) ↦ inr (inl beyond) | inr (inr beaten) ↦ inr (inr (search)) ],
 )
 
 -- and which are open

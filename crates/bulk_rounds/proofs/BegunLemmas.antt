@@ -59,10 +59,7 @@ module _ (task : Task) (core : Core) (s : SearchState) (at : IsAt task core s) w
 
   module _ (left : SearchState) (all : DropsAll task s left) where
     left_settled : (y : Label) → Contains s.settled y ↔ Contains left.settled y
-    left_settled y = (
-      λ there. (all.entries settled y).1 (inl (there, λ may. unsettled_waits y there may.waits)),
-      λ there. elim ((all.entries settled y).0 there) [ inl old ↦ old.0 | inr (wrong, _) ↦ absurd cc ],
-    )
+    left_settled y = let entry = all.entries settled y in let not = unsettled_waits y in grind arith
 
     left_unrelaxed : (p : Label × ℕ) → Contains left.unrelaxed p
         ↔ (Contains left.settled p.0 × Contains core.taken (as_spot p.0) × LeadsOn task.network p.0.node p.1)
@@ -103,18 +100,12 @@ module _ (task : Task) (core : Core) (s : SearchState) (at : IsAt task core s) w
 
   module _ (none : core.taken ≡ []) where
     pub between : IsBetweenRounds s
-    between = record {
-      unrelaxed = empty_if_none s.unrelaxed (λ p there. none_of_empty core.taken none (as_spot p.0) ((at.stands.unrelaxed p).0 there).1);
-      candidates = at.stands.candidates;
-    }
+    between = search (empty_if_none s.unrelaxed (λ p there. none_of_empty core.taken none (as_spot p.0) ((at.stands.unrelaxed p).0 there).1))
 
     module _ (next : SearchState) (begun : IsBegun task s next) where
       -- the next labels are settled beside those that were
       settled_by_begun : (y : Label) → Contains next.settled y ↔ (Contains s.settled y ⊎ IsNext task s y)
-      settled_by_begun y = both (begun.entries settled y) (λ wrong. cc) refl
-          (λ there. let not = unsettled_waits y there in (λ may. not may.waits, λ is. not is.stays.waits)) where
-            both : {A S M N Q R : Type 0} → (A ↔ ((S × (¬ M) × (¬ N)) ⊎ ((Q × M) ⊎ (R × N)))) → ¬ Q → R → (S → (¬ M) × (¬ N)) → (A ↔ (S ⊎ N))
-            both a q r s = grind arith
+      settled_by_begun y = let entry = begun.entries settled y in let not = unsettled_waits y in grind arith
 
       -- and the next spots beside those that were
       pub now_settled : (x : Spot) → HasSettled next x.node x.cost ↔ (IsSettledIn core x ⊎ IsNextIn core x)
@@ -181,16 +172,18 @@ begin_stands task before after s next none takes at begun = stands_after task be
 
 -- ---- where none is open
 
+-- no label stays
+pub finds_none_stay : (task : Task) (before after : Core) (s : SearchState) → FindsNone before after → IsAt task before s → NoneStays task s
+finds_none_stay task before after s finds at = none_stay task before s at finds.none_open
+
 -- what waited is spent: the core stands for the state without what may be dropped
 pub end_stands : (task : Task) (before after : Core) (s left : SearchState) → before.taken ≡ [] → FindsNone before after → IsAt task before s
     → DropsAll task s left → IsAt task after left
 end_stands task before after s left none finds at all =
     drops_need_nothing task after s (queue_may_lose task before after s finds.same_search finds.settled (finds.none_taken ∙ sym none) loses at) left all where
       spent : (x : Spot) → Waits before x → IsSpent after x
-      spent x waits = spent_on before after finds.same_search (λ z. (finds.settled z).1) x (elim (decidable_spent before x) [
-        | inl is ↦ is
-        | inr is_open ↦ absurd (finds.none_open x (record { waits = waits; unspent = is_open }))
-      ])
+      spent x waits = let either = decidable_spent before x in let none = finds.none_open x in
+          spent_on before after finds.same_search (λ z. (finds.settled z).1) x (grind arith)
 
       loses : LosesSpent before after
       loses = record { was = λ i there. absurd (none_of_empty after.queue finds.none_waits i there); gone = λ x waits. inr (spent x waits) }

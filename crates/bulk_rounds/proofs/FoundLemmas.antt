@@ -11,15 +11,15 @@ use Rattle.road_network.specs.Answers.{IsRelevant}
 use Rattle.road_network.specs.Walks.{IsSumOf}
 use Rattle.road_network.specs.Labels.{Label}
 use Rattle.road_network.proofs.WalkLaws.{leads_to_node, node_of_walk}
-use Rattle.event_machine.specs.Machine.{Task, SearchState, HasSettled, has_arc, settled, start_label, start_state}
+use Rattle.event_machine.specs.Machine.{Task, SearchState, HasSettled, has_arc, settled, waiting, start_label, start_state}
 use Rattle.event_machine.specs.Orders.{IsArrival, IsGiven}
 use Rattle.event_machine.proofs.Sound.{all_settled, grown_from_settled, known_is_bounded}
 use Rattle.event_machine.proofs.Running.{same_itself}
 use Rattle.bulk_rounds.specs.Cores.{Core, IsNewSearch, IsSpent, Item, Spot, costs_at, start_spot}
-use Rattle.bulk_rounds.specs.Standing.{HasWaitingBelow, IsAt, IsSearchOf, as_spot}
+use Rattle.bulk_rounds.specs.Standing.{IsAt, IsSearchOf, as_spot}
 use Rattle.bulk_rounds.specs.Taking.{IsOpenIn}
 use Rattle.bulk_rounds.specs.Kept.{IsFrom, SparesSettled}
-use Rattle.bulk_rounds.proofs.SpentLemmas.{sound, spot_by_parts}
+use Rattle.bulk_rounds.proofs.SpentLemmas.{HasEntryBelow, sound, spot_by_parts, stands_by}
 use Rattle.bulk_rounds.proofs.BegunLemmas.{between, none_stay}
 
 -- what an item gives to the node from which it came is spent
@@ -94,16 +94,10 @@ module _ (nodes criteria start target : ℕ) (limit : List (Option ℕ)) (budget
 
   -- a new search stands for the start
   pub at_start : IsAt task core (start_state task)
-  at_start = record {
-    search = search;
-    reached = record { events = []; run = same_itself (start_state task) };
-    stands = record {
-      settled = λ v c. (λ there. absurd (is.none_settled (record { cost = c; node = v }) there), λ h. absurd (in_none h.label h.settled));
-      waiting_in = λ y there. inl ((is.waiting (as_spot y)).1 (ap as_spot (in_one (start_label task) y there) ∙ same_start));
-      waiting_of = λ x waits. inr (subst (HasWaitingBelow (start_state task)) (same_start ∙ sym ((is.waiting x).0 waits))
-          (record { label = start_label task; waits = in_first (start_label task) []; node = refl; at_most = AtMost-refl (start_label task).cost }));
-      unrelaxed = λ p. (λ h. absurd (in_none p h), λ h. absurd (in_none p.0 h.0));
-      candidates = refl;
-      taken = λ x there. absurd (none_of_empty core.taken is.none_taken x there);
-    };
-  }
+  at_start = stands_by task core (start_state task) search
+      (λ v c. (λ there. absurd (is.none_settled (record { cost = c; node = v }) there), λ h. absurd (in_none h.label h.settled)))
+      (record { events = []; run = same_itself (start_state task) })
+      (λ y there. inl ((is.waiting (as_spot y)).1 (ap as_spot (in_one (start_label task) y there) ∙ same_start)))
+      (λ x waits. inr (subst (HasEntryBelow (start_state task)) (same_start ∙ sym ((is.waiting x).0 waits))
+      (start_label task, (waiting, in_first (start_label task) []), refl, AtMost-refl (start_label task).cost)))
+      (λ p. (λ h. absurd (in_none p h), λ h. absurd (in_none p.0 h.0))) refl (λ x there. absurd (none_of_empty core.taken is.none_taken x there))

@@ -1,5 +1,5 @@
 -- What a queue takes, and what a core keeps where the next spots are taken or candidates are put into its queue.
-use Rattle.std.proofs.Common.{◌≡◌, ◌≢◌, ◌⊎◌, ◌↔◌, ℕ, List, [], ◌+◌, ◌≤◌, ◌++◌, length, map, inl, inr, refl, sym, subst, ◌∙◌, arith, AllPairs, Contains}
+use Rattle.std.proofs.Common.{◌≡◌, ◌≢◌, ◌⊎◌, ◌↔◌, ℕ, List, [], ◌+◌, ◌≤◌, length, map, inl, inr, refl, sym, subst, ◌∙◌, arith, AllPairs, Contains}
 use Rattle.std.proofs.lemmas.List.{length-append}
 use Rattle.list_laws.proofs.Members.{in_map, in_none, of_map}
 use Rattle.list_laws.proofs.OnceLaws.{lists_append}
@@ -10,16 +10,13 @@ use Rattle.bulk_rounds.specs.Begins.{LosesSpent, TakesNext}
 use Rattle.bulk_rounds.specs.Cores.{Core, IsSettledIn, IsSpent, Item, SameSearch, Spot, Waits}
 use Rattle.bulk_rounds.specs.Kept.{IsFrom, IsKept, IsKeptItem, SparesSettled}
 use Rattle.bulk_rounds.specs.Taking.{CountsSettled, IsNextIn, ListsNext}
-use Rattle.bulk_rounds.proofs.SpentLemmas.{ascending_once, barred_below, covered_below, covered_on, decidable_spent, spent_on}
+use Rattle.bulk_rounds.proofs.SpentLemmas.{ascending_once, covered_on, decidable_spent, spent_below, spent_on}
 use Rattle.waiting_queue.specs.Taking.{TakesOpenSpots}
 use Rattle.waiting_queue.specs.Waiting.{SpotLess, spot_of}
 
 -- the cost of one of two next spots of a node is at most the other's only where both are the same
 pub next_apart : (core : Core) (x y : Spot) → IsNextIn core x → IsNextIn core y → AtMost x.cost y.cost → x.cost ≡ y.cost
-next_apart core x y x_next y_next below = elim (cases_same x.cost y.cost) [
-  | inl same ↦ same
-  | inr other ↦ absurd (y_next.none_better x x_next.is_open (record { at_most = below; differs = other }))
-]
+next_apart core x y x_next y_next below = let either = cases_same x.cost y.cost in let none = y_next.none_better x x_next.is_open in grind arith
 
 -- a next spot isn't settled
 pub next_unsettled : (core : Core) (x : Spot) → IsNextIn core x → ¬ IsSettledIn core x
@@ -29,29 +26,22 @@ next_unsettled core x next there = next.is_open.unspent (inl (record { by = x.co
 pub waiting_spares_next : (core : Core) (x y : Spot) → Waits core x → IsNextIn core y → x.node ≡ y.node → ¬ Dominates x.cost y.cost
 waiting_spares_next core x y waits next node less = next.none_better x (record {
   waits = waits;
-  unspent = elim [
-    | inl covered ↦ next.is_open.unspent (inl (covered_below core x y node less.at_most covered))
-    | inr barred ↦ next.is_open.unspent (inr (barred_below core x.cost y.cost less.at_most barred))
-  ];
+  unspent = λ spent. next.is_open.unspent (spent_below core x y node less.at_most spent);
 }) less
 
 -- there is one number of settled spots
 pub one_count : (core : Core) (m n : ℕ) → CountsSettled core m → CountsSettled core n → m ≡ n
-one_count core m n a b = omega (
-  arith,
-  a.counted,
-  b.counted,
-  pigeonhole a.spots b.spots a.once.once (λ x there. (b.once.exact x).1 ((a.once.exact x).0 there)),
-  pigeonhole b.spots a.spots b.once.once (λ x there. (a.once.exact x).1 ((b.once.exact x).0 there)),
-)
+one_count core m n a b = omega (arith, no_more core m n a b, no_more core n m b a) where
+  no_more : (core : Core) (m n : ℕ) → CountsSettled core m → CountsSettled core n → m ≤ n
+  no_more core m n a b = omega (arith, pigeonhole a.spots b.spots a.once.once (λ x there. (b.once.exact x).1 ((a.once.exact x).0 there)))
 
 -- ---- where some spots are settled
 
-module _ {before after : Core} (search : SameSearch before after) (spots : List Spot)
+module _ {before after : Core} (same : SameSearch before after) (spots : List Spot)
     (settled : (x : Spot) → IsSettledIn after x ↔ (IsSettledIn before x ⊎ Contains spots x)) where
   -- the node from which an item came has a settled cost still
   pub from_on : (i : Item) → IsFrom before i → IsFrom after i
-  from_on i was other = covered_on before after search (λ x is. (settled x).1 (inl is)) (record { cost = i.spot.cost; node = i.from }) (was other)
+  from_on i was other = covered_on before after same (λ x is. (settled x).1 (inl is)) (record { cost = i.spot.cost; node = i.from }) (was other)
 
   -- what dominates none of them at its node spares what is settled then
   pub spares_on : (x : Spot) → ((y : Spot) → Contains spots y → x.node ≡ y.node → ¬ Dominates x.cost y.cost) → SparesSettled before x → SparesSettled after x
@@ -64,19 +54,12 @@ module _ {before after : Core} (search : SameSearch before after) (spots : List 
   pub kept_on : (count new : ℕ) → new ≡ count + length spots → new ≤ before.budget → AllPairs ◌≢◌ spots
       → ((x : Spot) → Contains spots x → ¬ IsSettledIn before x) → ((i : Item) → Contains after.queue i
       → IsKeptItem before i × ((y : Spot) → Contains spots y → i.spot.node ≡ y.node → ¬ Dominates i.spot.cost y.cost)) → IsKept before count → IsKept after new
-  kept_on count new more few once unsettled each kept = record {
-    start_node = rw (search.nodes, search.start) kept.start_node;
-    target_node = rw (search.nodes, search.target) kept.target_node;
-    items = λ i there. let (was, apart) = each i there in
-        record { node = rw search.nodes was.node; spares = spares_on i.spot apart was.spares; from = from_on i was.from };
-    counted = record {
-      spots = kept.counted.spots ++ spots;
-      once = lists_append (IsSettledIn before) (Contains spots) (IsSettledIn after) kept.counted.spots spots settled
-          (λ x old new. unsettled x new old) kept.counted.once (record { exact = λ x. (λ h. h, λ h. h); once = once });
-      counted = omega (arith, more, length-append kept.counted.spots spots, kept.counted.counted);
-    };
-    within = rw search.budget few;
-  }
+  kept_on count new more few once unsettled each kept =
+      let items : (i : Item) → Contains after.queue i → IsKeptItem after i = λ i there. let (was, apart) = each i there in
+      record { node = rw same.nodes was.node; spares = spares_on i.spot apart was.spares; from = from_on i was.from } in
+      let all = lists_append (IsSettledIn before) (Contains spots) (IsSettledIn after) kept.counted.spots spots settled
+      (λ x old new. unsettled x new old) kept.counted.once (record { exact = λ x. (λ h. h, λ h. h); once = once }) in
+      search (arith, all, length-append kept.counted.spots spots)
 
 -- where no spot is settled more, so it is if each item that waits then was kept
 module _ {before after : Core} (search : SameSearch before after) (same : after.settled ≡ before.settled) where

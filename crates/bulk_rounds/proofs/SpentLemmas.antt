@@ -44,11 +44,12 @@ barred_below core b c below (inl beyond) = inl (λ within. beyond (Within-AtMost
 barred_below core b c below (inr h) = inr (record { by = h.by; settled = h.settled; dominates = Dominates-AtMost h.by b c h.dominates below })
 
 pub covered_below : (core : Core) (y x : Spot) → y.node ≡ x.node → AtMost y.cost x.cost → IsCoveredIn core y → IsCoveredIn core x
-covered_below core y x node below h = record {
-  by = h.by;
-  settled = subst (λ v. Contains (costs_at core v) h.by) node h.settled;
-  at_most = AtMost-trans h.by y.cost x.cost h.at_most below;
-}
+covered_below core y x node below h = let there = subst (λ v. Contains (costs_at core v) h.by) node h.settled in
+    let at_most = AtMost-trans h.by y.cost x.cost h.at_most below in search
+
+pub spent_below : (core : Core) (y x : Spot) → y.node ≡ x.node → AtMost y.cost x.cost → IsSpent core y → IsSpent core x
+spent_below core y x node below (inl covered) = inl (covered_below core y x node below covered)
+spent_below core y x node below (inr barred) = inr (barred_below core y.cost x.cost below barred)
 
 -- where settled costs stay, what is spent stays so
 module _ (before after : Core) (search : SameSearch before after) (kept : (x : Spot) → IsSettledIn before x → IsSettledIn after x) where
@@ -117,22 +118,12 @@ module _ (task : Task) (core : Core) (s : SearchState) (search : IsSearchOf task
         → ((x : Spot) → Waits core x → IsSpent core x ⊎ HasEntryBelow s x)
         → ((p : Label × ℕ) → Contains s.unrelaxed p ↔ (Contains s.settled p.0 × Contains core.taken (as_spot p.0) × LeadsOn task.network p.0.node p.1))
         → s.candidates ≡ [] → ((x : Spot) → Contains core.taken x → HasSettled s x.node x.cost) → IsAt task core s
-    stands_by waiting_in waiting_of unrelaxed candidates taken = record {
-      search = search;
-      reached = reached;
-      stands = record {
-        settled = settles;
-        waiting_in = λ y there. elim (waiting_in y there) [
-          | inl waits ↦ inl waits
-          | inr (inr barred) ↦ inr barred
-          | inr (inl covered) ↦ absurd (waiting_uncovered y there covered)
-        ];
-        waiting_of = λ x waits. elim (waiting_of x waits) [ inl spent ↦ inl spent | inr below ↦ entry_answers x below ];
-        unrelaxed = unrelaxed;
-        candidates = candidates;
-        taken = taken;
-      };
-    }
+    stands_by waiting_in waiting_of unrelaxed candidates taken =
+        let waits_in : (y : Label) → Contains s.waiting y → Waits core (as_spot y) ⊎ IsBarred core y.cost =
+        λ y there. let waits = waiting_in y there in let not = waiting_uncovered y there in grind arith in
+        let waits_of : (x : Spot) → Waits core x → IsSpent core x ⊎ HasWaitingBelow s x =
+        λ x waits. elim (waiting_of x waits) [ inl spent ↦ inl spent | inr below ↦ entry_answers x below ] in
+        assumption
 
 -- ---- what is open and what is next, told by the labels of the machine
 

@@ -66,6 +66,7 @@ pub fn rounds_begin_by_values()
 
 /// To put what arrives into the queue, but for what is spent or costs at least as much as what was put at its node, is each order
 /// of the machine's relaxes and merges.
+#[tactic(auto, using(crate::proofs::FinishedLemmas::finishes_round))]
 pub fn rounds_end_by_values()
     ensures { (candidates : List Item) (before after : Core)
         → PutsAll candidates before after → FinishesRound candidates before after }

@@ -1,13 +1,13 @@
 -- The search round by round: where it stands after each round, and what is known when it ends.
-use Rattle.std.proofs.Common.{◌≡◌, ◌≢◌, ℕ, ◌+◌, ◌≤◌, List, [], ◌∷◌, map, Result, Ok, inl, inr, refl, sym, subst, ◌∙◌, arith, Contains}
+use Rattle.std.proofs.Common.{◌≡◌, ◌≢◌, ℕ, ◌+◌, ◌≤◌, List, [], ◌∷◌, ◌++◌, map, Result, Ok, inl, inr, refl, sym, subst, ◌∙◌, arith, Contains}
 use Rattle.std.specs.Result.{IsErrAnd}
 use Rattle.std.proofs.lemmas.Bool.{cases_lt}
 use Rattle.out_of_memory.specs.declared.OutOfMemory.{OutOfMemory}
 use Rattle.list_laws.specs.Sets.{HasMoreThan}
-use Rattle.list_laws.proofs.Members.{in_none, cases_in, all_from_in}
+use Rattle.list_laws.proofs.Members.{in_none, cases_in}
 use Rattle.list_laws.proofs.OnceLaws.{alike_through}
 use Rattle.list_laws.proofs.Pairs.{pairs_none, pairs_cons}
-use Rattle.list_laws.proofs.SetLaws.{longer, more_on}
+use Rattle.list_laws.proofs.SetLaws.{longer, more_by_list, more_on}
 use Rattle.road_network.specs.Answers.{Passes}
 use Rattle.road_network.specs.Labels.{Label}
 use Rattle.road_network.specs.Limits.{max_budget}
@@ -17,14 +17,14 @@ use Rattle.road_network.specs.declared.query.Query.{Query}
 use Rattle.road_network.specs.declared.query.SearchFault.{SearchFault}
 use Rattle.road_network.specs.declared.query.SearchFault.TheVariants as fault
 use Rattle.event_machine.specs.Machine.{Task, IsTask, SearchState, start_state, settled}
-use Rattle.event_machine.specs.Events.{Event, IsReached, Runs, drop, merge, take}
+use Rattle.event_machine.specs.Events.{IsReached, merge}
 use Rattle.event_machine.specs.Orders.{IsBegun, IsOutcome}
 use Rattle.event_machine.specs.Rounds.{IsBetweenRounds, CountedRound, GoRounds, NoneStays, Round, relaxing}
 use Rattle.event_machine.proofs.BegunLaws.{begins_is_begun}
 use Rattle.event_machine.proofs.CompletesLaws.{finishes_is_outcome}
 use Rattle.event_machine.proofs.Keeping.{changes_of, same_is_sound, settled_once, sound_after, sound_if_reached}
 use Rattle.event_machine.proofs.RoundLaws.{counted, settles, at_most_all, reached_by_round, round_after_all, some_round, more_to_come, passes_where_more, within_where_none_stays}
-use Rattle.event_machine.proofs.Running.{along_run, same_itself}
+use Rattle.event_machine.proofs.Running.{along_run, runs_on, same_itself}
 use Rattle.event_machine.proofs.Sound.{IsSound}
 use Rattle.bulk_rounds.specs.Begins.{CountsRound, FindsNone, SomeOpen, TakesNext, WouldPass}
 use Rattle.bulk_rounds.specs.Cores.{Core, IsNewSearch}
@@ -34,6 +34,7 @@ use Rattle.bulk_rounds.specs.declared.begin.Begun.TheVariants.{Done, Budget}
 use Rattle.bulk_rounds.proofs.BegunLemmas.{begin_stands, between, none_stay, reached_by_begins, some_stay}
 use Rattle.bulk_rounds.proofs.BudgetLemmas.{passes_budget as core_passes, within_budget}
 use Rattle.bulk_rounds.proofs.FoundLemmas.{at_start, has_all}
+use Rattle.bulk_rounds.proofs.SpentLemmas.{settled_not_waiting}
 use Rattle.walk_readback.specs.Found.{FoundCosts}
 use Rattle.bulk_search.specs.Counting.{CountsRounds, task_of}
 use Rattle.bulk_search.specs.Rounds.{HasSoMany, IsAfter, IsOpen, EndsOver, FindsAll, IsAnswer}
@@ -104,23 +105,19 @@ module _ {task : Task} {budget k : ℕ} {before : Core} (after : IsAfter task bu
   goes_on some_open = round_after_all task is budget k s end after.go after.within (round some_open)
 
   -- what is settled stays so
-  kept_by_run : (l : Label) (events : List Event) (a b : SearchState) → IsSound task a × Contains a.settled l → Runs task a events b
-      → IsSound task b × Contains b.settled l
-  kept_by_run l = along_run task (λ _ m. IsSound task m × Contains m.settled l)
-      (λ _ a b same (sound, there). (same_is_sound task is a b same sound, (same.entries settled l).1 there))
-      (λ event _ a b (sound, there) step. (sound_after task is a b event sound step, (changes_of task is a b sound event step).entries.kept l there))
-
   settled_by_begin : (l : Label) → Contains s.settled l → Contains begun.settled l
   settled_by_begin l there =
-      let half = following.1.begins in
-      let left = kept_by_run l (map (λ x. drop x) half.drops) s half.left (sound_if_reached task is s after.at.reached, there) half.dropping in
-      (kept_by_run l (map (λ x. take x) half.takes) half.left begun left half.taking).1
+      let apart = settled_not_waiting task before s after.at.search after.at.stands.settled after.at.reached l there in
+      (is_begun.entries settled l).1 (inl (there, λ may. apart may.waits, λ next. apart next.stays.waits))
 
   settled_at_end : (l : Label) → Contains begun.settled l → Contains end.settled l
   settled_at_end l there =
       let half = following.1.finishes in
-      let relaxed = kept_by_run l (map relaxing half.relaxes) begun half.relaxed (sound_if_reached task is begun begun_reached, there) half.relaxing_all in
-      (kept_by_run l (map (λ x. merge x) half.merges) half.relaxed end relaxed half.merging_all).1
+      (along_run task (λ _ m. IsSound task m × Contains m.settled l)
+      (λ _ a b same (sound, there). (same_is_sound task is a b same sound, (same.entries settled l).1 there))
+      (λ event _ a b (sound, there) step. (sound_after task is a b event sound step, (changes_of task is a b sound event step).entries.kept l there))
+      (map relaxing half.relaxes ++ map (λ x. merge x) half.merges) begun end (sound_if_reached task is begun begun_reached, there)
+      (runs_on task begun half.relaxed end (map relaxing half.relaxes) (map (λ x. merge x) half.merges) half.relaxing_all half.merging_all)).1
 
   -- and the second half settles no label
   settled_when_begun : (l : Label) → Contains end.settled l → Contains begun.settled l
@@ -169,12 +166,9 @@ module _ {task : Task} {budget k : ℕ} {before : Core} (after : IsAfter task bu
 
   -- there are no more rounds than the budget and one
   pub no_round_more : ¬ (k ≡ budget + 1)
-  no_round_more full = after.within (record {
-    members = after.settles.members;
-    more = after.settles.count ∙ full;
-    distinct = after.settles.distinct;
-    each = all_from_in (Contains s.settled) after.settles.members after.settles.each;
-  })
+  no_round_more full =
+      let many = after.settles in
+      after.within (more_by_list budget s.settled many.members many.distinct many.each (omega (arith, many.count, full)))
 
   -- ---- steps
 

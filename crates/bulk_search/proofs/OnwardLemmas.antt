@@ -1,12 +1,12 @@
 -- What the taken items of an open round give along their arcs: it arrives, but for what leads straight back, which is spent.
-use Rattle.std.proofs.Common.{◌≡◌, ◌≢◌, ℕ, ◌*◌, ◌-◌, ◌^◌, ◌<◌, ◌≤◌, ◌⊎◌, ◌↔◌, ◌+◌, List, map, nat_eq, inl, inr, refl, sym, ap, subst, ◌∙◌, arith, Contains}
+use Rattle.std.proofs.Common.{◌≡◌, ◌≢◌, ℕ, ◌*◌, ◌-◌, ◌^◌, ◌<◌, ◌≤◌, ◌⊎◌, ◌↔◌, ◌+◌, List, [], ◌∷◌, map, nat_eq, inl, inr, refl, sym, ap, subst, ◌∙◌, arith, Contains}
 use Rattle.std.specs.Prelude.{All, flat_map, not}
 use Rattle.std.proofs.lemmas.Bool.{cases_Bool, cases_lt}
 use Rattle.std.proofs.lemmas.Bool.Decides.{nat_tests}
 use Rattle.std.proofs.lemmas.List.Elements.{All-weaker}
 use Rattle.cost_vector.specs.Costs.{AtMost, plus}
 use Rattle.cost_vector.proofs.Vectors.{All-plus, AtMost-refl, AtMost-trans}
-use Rattle.list_laws.proofs.Members.{in_map, of_map, in_filter, of_filter, each_in, all_from_in}
+use Rattle.list_laws.proofs.Members.{cases_in, in_front, in_rest, in_map, of_map, in_filter, of_filter, each_in, all_from_in}
 use Rattle.list_laws.proofs.SetLaws.{none_of_empty}
 use Rattle.road_network.specs.Labels.{Label}
 use Rattle.road_network.specs.Network.{AreSmall, Network, IsNetwork, IsNode, Leads}
@@ -30,7 +30,8 @@ use Rattle.waiting_queue.specs.declared.item.Item.{Item as QueueItem}
 use Rattle.waiting_queue.proofs.JoiningLemmas.{in_flat, of_flat}
 use Rattle.round_work.specs.Onward.{IsTooWide, onward, onward_of, reached_from}
 use Rattle.round_work.specs.Survivors.{HasBelow, KeepsOpen, KeepsSurvivors}
-use Rattle.round_work.proofs.OpenLemmas.{kept_is_open, open_or_kept}
+use Rattle.round_work.proofs.OpenLemmas.{by_each}
+use Rattle.round_work.proofs.SurvivorLemmas.{done_on}
 use Rattle.bulk_search.specs.Rounds.{IsOpen, EndsOver, KeepsEnough}
 
 -- ---- what items give along all arcs
@@ -213,10 +214,18 @@ pub keeps_survivors : (Open : Spot → Type 0) (candidates kept : List Item) →
 keeps_survivors Open candidates kept keeps = record { among = keeps.among; rest = keeps.rest }
 
 pub keeps_open : (Open : Spot → Type 0) (candidates kept : List Item) → KeepsOpen spot_of Open candidates kept → KeepsEnough Open candidates kept
-keeps_open Open candidates kept keeps = record {
-  among = λ i there. (kept_is_open spot_of Open candidates kept keeps i there).0;
-  rest = open_or_kept spot_of Open candidates kept keeps;
-}
+keeps_open Open = by_each spot_of Open (KeepsEnough Open) (keeps_all Open [])
+    (λ x held xs ks is. record {
+      among = λ i h. elim (cases_in x ks i h) [ inl same ↦ in_front x xs i same | inr later ↦ in_rest x xs i (is.among i later) ];
+      rest = λ i h. elim (cases_in x xs i h) [
+        | inl same ↦ inr (record { by = i; member = in_front x ks i same; node = refl; at_most = AtMost-refl i.spot.cost })
+        | inr later ↦ done_on spot_of Open ks (x ∷ ks) i (in_rest x ks) (is.rest i later)
+      ];
+    })
+    (λ x closed xs ks is. record {
+      among = λ i h. in_rest x xs i (is.among i h);
+      rest = λ i h. elim (cases_in x xs i h) [ inl same ↦ inl (rw same closed) | inr later ↦ is.rest i later ];
+    })
 
 -- what isn't open for a look that tells what is spent, is spent
 pub closed_is_spent : (core : Core) (Spent : Spot → Type 0) → ((x : Spot) → Spent x ↔ IsSpent core x) → (x : Spot) → ¬ (¬ Spent x) → IsSpent core x

@@ -3,7 +3,7 @@ use Rattle.std.proofs.Common.{◌≡◌, ℕ, ◌+◌, ◌≤◌, List, Result, 
 use Rattle.std.specs.Result.{IsErrAnd}
 use Rattle.std.proofs.lemmas.Result.{err_from_is_err_and}
 use Rattle.road_network.specs.Network.{IsNetwork, Network}
-use Rattle.road_network.specs.Queries.{IsQuery}
+use Rattle.road_network.specs.Queries.{IsQuery, limit_of}
 use Rattle.road_network.specs.declared.query.Query.{Query}
 use Rattle.road_network.specs.declared.query.SearchFault.{SearchFault}
 use Rattle.road_network.specs.declared.query.SearchFault.TheVariants as fault
@@ -19,11 +19,11 @@ task_is net query is asked =
     record { network = is; start = asked.from; target = asked.to; limit = asked.limit }
 
 -- so many steps are few
-pub few_by_rounds : {Answer : Type 0} (task : Task) (budget : ℕ) (result : Result Answer SearchFault) (old new : ℕ) → IsTask task
-    → CountsRounds task budget result old new
-    → (v : ℕ) × (c : List ℕ) × IsRelevant task.network task.start task.target task.limit v c × (new ≤ old + (sum c + 1))
-few_by_rounds task budget result old new is counts =
-    let (v, c, relevant, most) = bounded task is budget counts.rounds counts.all in
+pub few_by_rounds : {Answer : Type 0} (net : Network) (query : Query) (result : Result Answer SearchFault) (old new : ℕ) → IsNetwork net → IsQuery net query
+    → CountsRounds (task_of net query) query.budget result old new
+    → (v : ℕ) × (c : List ℕ) × IsRelevant net query.from query.to (limit_of net.criteria query) v c × (new ≤ old + (sum c + 1))
+few_by_rounds net query result old new is asked counts =
+    let (v, c, relevant, most) = bounded (task_of net query) (task_is net query is asked) query.budget counts.rounds counts.all in
     (v, c, relevant, omega (arith, most, counts.at_most))
 
 -- where memory ran out, no more rounds were counted than there are

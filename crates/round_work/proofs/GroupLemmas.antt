@@ -3,30 +3,22 @@ use Rattle.std.proofs.Common.{Bor, ◌≡◌, ◌≢◌, ◌⊎◌, ℕ, zero, s
 use Rattle.std.specs.Prelude.{AllPairs, Any, Contains}
 use Rattle.std.proofs.Math.Seq.{drop-append_seam}
 use Rattle.std.specs.List.{AllWithin, HoldsAt}
-use Rattle.std.proofs.lemmas.Bool.{cases_lt}
 use Rattle.std.proofs.lemmas.List.{drop-map, flat_map_more, map_push, take-map, get_or-take, get_or-drop, take_more}
 use Rattle.std.proofs.lemmas.List.Concat.{flat_map-append}
 use Rattle.std.proofs.lemmas.List.Elements.{All-push}
 use Rattle.cost_vector.specs.Costs.{AtMost}
-use Rattle.list_laws.proofs.Members.{cases_in, cases_push, found_in, in_first, in_none, in_rest}
+use Rattle.list_laws.proofs.Members.{cases_push, found_in}
 use Rattle.list_laws.proofs.OnceLaws.{in_append}
-use Rattle.list_laws.proofs.Pairs.{pair_with_first, pairs_push, pairs_rest, pairs_take}
+use Rattle.list_laws.proofs.Pairs.{pairs_push, pairs_take}
 use Rattle.waiting_queue.specs.declared.item.Item.{Item}
 use Rattle.waiting_queue.specs.Taking.{AreSorted}
 use Rattle.waiting_queue.specs.Waiting.{Spot, SpotLess, spot_in}
-use Rattle.waiting_queue.proofs.ShadowLemmas.{in_parts, pairs_drop}
+use Rattle.waiting_queue.proofs.JoiningLemmas.{of_flat, pair_at}
+use Rattle.waiting_queue.proofs.ShadowLemmas.{in_parts, pairs_drop, pairs_parts}
 use Rattle.round_work.specs.Groups.{AreApart, AreGroups, AscendByNode, HaveOneNode, SplitsGroup, joined}
 use Rattle.round_work.specs.Pieces.{Appends}
 use Rattle.round_work.specs.Survivors.{HasBelow, KeepsNeeded}
 use Rattle.round_work.proofs.SurvivorLemmas.{keeps_both, keeps_more, keeps_not}
-
--- what stands in the front of a list is related to what stands in its back
-pairs_across : {X : Type 0} (R : X → X → Type 0) (xs ys : List X) → AllPairs R (xs ++ ys) → (x y : X) → Contains xs x → Contains ys y → R x y
-pairs_across R [] ys pairs x y h k = absurd (in_none x h)
-pairs_across R (w ∷ ws) ys pairs x y h k = elim (cases_in w ws x h) [
-  | inl same ↦ subst (λ z. R z y) (sym same) (pair_with_first R w (ws ++ ys) pairs y ((in_append ws ys y).1 (inr k)))
-  | inr later ↦ pairs_across R ws ys (pairs_rest R w (ws ++ ys) pairs) x y later k
-]
 
 module _ {C : Type 0} where
   -- ---- cutting off the first group
@@ -51,10 +43,8 @@ module _ {C : Type 0} where
         let first = at_node 0 l (omega arith) positive in
         let rises = sorted 0 count l positive (omega (arith, there)) in
         let differs = no_more (omega (arith, there)) l in
-        elim (cases_lt 0 k) [
-          | inl beyond ↦ let more = sorted count (count + k) l (omega (arith, beyond)) there in omega (arith, more, rises, first, differs, same)
-          | inr none ↦ let here : count + k ≡ count = omega (arith, none) in let last = rw here at same in omega (arith, rises, first, differs, last)
-        ]
+        let more = sorted count (count + k) l in
+        grind (arith, more, rises, first, differs, same)
 
     -- so many candidates are the first group, and the others are of later nodes
     pub splits_group : (group others : List (Item C)) → group ≡ take count list → others ≡ drop count list → SplitsGroup list group others
@@ -135,9 +125,7 @@ module _ {C : Type 0} (components : C → List ℕ) (Open : Spot → Type 0) whe
           record { by = k; member = there; node = one k x here (i, within, sym at); at_most = below }
 
       behind : (y : Item C) → Contains (take i xs) y → ¬ SpotLess (spot x) (spot y)
-      behind y h =
-          let R : Item C → Item C → Type 0 = λ a b. ¬ SpotLess (spot b) (spot a) in
-          pairs_across R (take i xs) (x ∷ []) (subst (AllPairs R) next (pairs_take R (i + 1) xs sorted)) y x h (in_first x [])
+      behind y h = pair_at (λ a b. ¬ SpotLess (spot b) (spot a)) xs i x y sorted within at h
 
       more : Open (spot x) → AllWithin (λ k. ¬ IsBelow k) (drop (length before) now) 0 (length (drop (length before) now)) → Next (now ++ x ∷ [])
       more held free = record {
@@ -147,13 +135,6 @@ module _ {C : Type 0} (components : C → List ℕ) (Open : Spot → Type 0) whe
       }
 
   -- ---- group by group
-
-  of_joined : (gs : List (List (Item C))) (l : Item C) → Contains (joined gs) l → (g : List (Item C)) × Contains gs g × Contains g l
-  of_joined [] l there = absurd (in_none l there)
-  of_joined (h ∷ hs) l there = elim ((in_append h (joined hs) l).0 there) [
-    | inl here ↦ (h, in_first h hs, here)
-    | inr later ↦ let (g, g_in, l_in) = of_joined hs l later in (g, in_rest h hs g g_in, l_in)
-  ]
 
   -- what is kept of groups that are apart
   abbrev pub KeepsOfGroups : List (List (Item C)) → List (Item C) → Type 0
@@ -165,12 +146,11 @@ module _ {C : Type 0} (components : C → List ℕ) (Open : Spot → Type 0) whe
   groups_both n gs ks ls one two apart =
       let front = take n gs in
       let back = drop n gs in
-      let whole = take-append-drop n gs in
-      subst (λ xs. Keeps xs (ks ++ ls)) (sym (flat_map-append (λ h. h) front back) ∙ ap joined whole)
+      subst (λ xs. Keeps xs (ks ++ ls)) (sym (flat_map-append (λ h. h) front back) ∙ ap joined (take-append-drop n gs))
       (keeps_both spot Open (joined front) (joined back) ks ls (one (pairs_take AreApart n gs apart)) (two (pairs_drop AreApart n gs apart)) (λ x y h k.
-      let (f, f_in, x_in) = of_joined front x h in
-      let (b, b_in, y_in) = of_joined back y k in
-      pairs_across AreApart front back (subst (AllPairs AreApart) (sym whole) apart) f b f_in b_in x y x_in y_in))
+      let (f, f_in, x_in) = of_flat (λ g. g) front x h in
+      let (b, b_in, y_in) = of_flat (λ g. g) back y k in
+      pairs_parts AreApart n gs f b apart f_in b_in x y x_in y_in))
 
   -- the same of groups in memory
   pub listed_both : (n : ℕ) (gs : List (Bor (List (Item C)))) (ks ls : List (Item C)) → KeepsOfGroups (lists (take n gs)) ks

@@ -1,20 +1,20 @@
 -- Where a search goes on from a node by some of its arcs, and from some of what was taken.
-use Rattle.std.proofs.Common.{◌≡◌, ◌≢◌, ℕ, ◌+◌, ◌*◌, ◌<◌, ◌≤◌, List, [], ◌∷◌, ◌++◌, Option, Some, None, inl, inr, length, map, get_or, take, drop, refl, sym, ap, ap₂, subst, ◌∙◌, arith, append-nil, take-append-drop}
-use Rattle.std.specs.Prelude.{All, Contains, filter, not, nat_eq}
+use Rattle.std.proofs.Common.{◌≡◌, ◌≢◌, ℕ, ◌+◌, ◌*◌, ◌<◌, ◌≤◌, List, [], ◌∷◌, ◌++◌, Some, None, length, map, get_or, take, drop, refl, sym, ap, ap₂, subst, ◌∙◌, arith, append-nil, take-append-drop}
+use Rattle.std.specs.Prelude.{All, filter, not, nat_eq}
 use Rattle.std.specs.List.{filter_map}
 use Rattle.std.proofs.lemmas.List.{get_or_default, map-append}
 use Rattle.std.proofs.lemmas.List.Concat.{flat_map-append}
-use Rattle.std.proofs.lemmas.List.Elements.{All-append, All-cons, All-nil, filter-append, filter_map-append}
+use Rattle.std.proofs.lemmas.List.Elements.{All-append, All-cons, All-nil, Contains-get_or, filter-append, filter_map-append}
 use Rattle.cost_vector.specs.Costs.{plus}
 use Rattle.cost_vector.specs.declared.label.ArcNo.{ArcNo}
 use Rattle.cost_vector.specs.declared.label.Label.{Label}
-use Rattle.list_laws.proofs.Members.{cases_in, each_in, in_filter, in_filter_map, in_map, in_none}
-use Rattle.list_laws.proofs.OnceLaws.{in_append}
+use Rattle.list_laws.proofs.Members.{each_in, in_filter, in_filter_map, in_map}
 use Rattle.road_network.specs.Network.{Network, IsNode}
 use Rattle.arc_graph.specs.Graph.{arc_state, head_of, label_by, out_arcs_of}
 use Rattle.arc_graph.proofs.NumbersLemmas.{number_within}
 use Rattle.waiting_queue.specs.declared.item.Item.{Item}
 use Rattle.waiting_queue.specs.Waiting.{Spot, Waiting, as_waiting, spot_of}
+use Rattle.waiting_queue.proofs.JoiningLemmas.{in_flat}
 use Rattle.round_work.specs.Onward.{IsTooWide, onward, reached_from}
 use Rattle.round_work.specs.Pieces.{Appends, AreOpenOf, AreWithRoom, items_of, onward_in, piece_size}
 use Rattle.round_work.proofs.OpenLemmas.{open_both}
@@ -30,16 +30,13 @@ module _ {A B : Type 0} (R : List Waiting → List B → Type 0) (both : (ws vs 
 
 -- the arcs that lead from a node
 module _ (ends : List (ℕ × ℕ)) (tail : ℕ) (arcs : List ArcNo) (i : ℕ) (d : ArcNo) (are : arcs ≡ out_arcs_of ends tail) (within : i < length arcs) where
-  numbered : (1 ≤ (get_or arcs i d).0) × ((get_or arcs i d).0 ≤ length ends)
-  numbered = number_within ends tail arcs i (get_or arcs i d) are within (get_or_default arcs i d (get_or arcs i d) within)
-
   -- their numbers are counted from 1
   pub counted : 1 ≤ (get_or arcs i d).0
-  counted = numbered.0
+  counted = (number_within ends tail arcs i (get_or arcs i d) are within (get_or_default arcs i d (get_or arcs i d) within)).0
 
   -- and are those of arcs of the network
   pub there : (get_or arcs i d).0 ≤ length ends
-  there = numbered.1
+  there = (number_within ends tail arcs i (get_or arcs i d) are within (get_or_default arcs i d (get_or arcs i d) within)).1
 
 -- an item of a piece is of a node of the network, as all are
 pub node_there : {C : Type 0} (nodes : ℕ) (xs ys : List (Item C)) (first size i : ℕ) (y : Item C) → ys ≡ take size (drop first xs) → i < length ys
@@ -55,14 +52,16 @@ module _ (net : Network) (from u : ℕ) (c : List ℕ) where
   onward_by-append front back = simp (filter_map-append, map-append, filter-append)
 
   -- an arc that leads on, where there is no room
-  pub arc_too_wide : (bound : ℕ) (arcs : List ArcNo) (a : ArcNo) (v : List ℕ) → Contains arcs a → arc_state net.states a ≡ Some v → head_of net.ends a ≢ from
-      → ¬ All (λ x. x < bound) (plus c v) → IsTooWide bound (onward_by arcs)
-  arc_too_wide bound arcs a v there state on exceeds =
+  pub arc_too_wide : (bound : ℕ) (arcs : List ArcNo) (i : ℕ) (d : ArcNo) (v : List ℕ) → i < length arcs → arc_state net.states (get_or arcs i d) ≡ Some v
+      → head_of net.ends (get_or arcs i d) ≢ from → ¬ All (λ x. x < bound) (plus c v) → IsTooWide bound (onward_by arcs)
+  arc_too_wide bound arcs i d v within state on exceeds =
+      let a = get_or arcs i d in
       let l : Label = record { node = record { 0 = head_of net.ends a }; cost = plus c v; arc = a } in
       record {
         one = reached_from u l;
         member = in_filter (λ x. not (nat_eq x.spot.node from)) (map (reached_from u) (filter_map (label_by net c) arcs)) (reached_from u l)
-            (in_map (reached_from u) (filter_map (label_by net c) arcs) l (in_filter_map (label_by net c) arcs a l there (rw state refl))) (grind (arith, on));
+            (in_map (reached_from u) (filter_map (label_by net c) arcs) l
+            (in_filter_map (label_by net c) arcs a l (Contains-get_or arcs i d within) (rw state refl))) (grind (arith, on));
         exceeds = exceeds;
       }
 
@@ -110,10 +109,7 @@ module _ {C : Type 0} (components : C → List ℕ) (bound : ℕ) where
 
     -- an arc that leads back
     pub arc_leads_back : head_of net.ends arc ≡ from → Appends (Gives (onward_by net from u c (take (i + 1) arcs))) before now
-    arc_leads_back back = rw (sym (append-nil now)) (more [] [] (by (arc_state net.states arc) refl) gives_none) where
-      by : (o : Option (List ℕ)) → arc_state net.states arc ≡ o → onward_by net from u c (arc ∷ []) ≡ []
-      by None state = rw state refl
-      by (Some v) state = rw state (grind (arith, back))
+    arc_leads_back back = rw (sym (append-nil now)) (more [] [] (grind (arith, back)) gives_none)
 
     -- one that is shut, and one that leads on, where there is room
     pub arc_next : (arc_state net.states arc ≡ None → Next now)
@@ -153,11 +149,5 @@ module _ {C : Type 0} (components : C → List ℕ) (bound : ℕ) where
     pub item_too_wide : (xs ys : List (Item C)) (first size i : ℕ) (y : Item C) → ys ≡ take size (drop first xs) → i < length ys → y ≡ get_or ys i y
         → IsTooWide bound (onward net (view y)) → IsTooWide bound (on xs)
     item_too_wide xs ys first size i y cut within at is =
-        record { one = is.one; member = in_on xs is.one (in_cut xs ys first size i y cut within at) is.member; exceeds = is.exceeds }
-      where
-        in_on : (zs : List (Item C)) (w : Waiting) → Contains zs y → Contains (onward net (view y)) w → Contains (on zs) w
-        in_on [] w there h = absurd (in_none y there)
-        in_on (x ∷ zs) w there h = (in_append (onward net (view x)) (on zs) w).1 (elim (cases_in x zs y there) [
-          | inl same ↦ inl (subst (λ z. Contains (onward net (view z)) w) same h)
-          | inr later ↦ inr (in_on zs w later h)
-        ])
+        let member = in_flat (onward net) (map view xs) (view y) is.one (in_map view xs y (in_cut xs ys first size i y cut within at)) is.member in
+        record { one = is.one; member = member; exceeds = is.exceeds }

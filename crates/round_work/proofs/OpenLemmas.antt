@@ -1,15 +1,12 @@
 -- The open candidates of a list, as one more is seen.
-use Rattle.std.proofs.Common.{◌≡◌, ℕ, ◌+◌, ◌<◌, ◌≤◌, Bool, true, false, List, [], ◌∷◌, ◌++◌, ◌↔◌, ◌⊎◌, inl, inr, map, get_or, set, take, drop, take_all, refl, sym, ap, subst, ◌∙◌, arith}
-use Rattle.std.specs.Prelude.{Contains, IsTrue, length}
+use Rattle.std.proofs.Common.{◌≡◌, ℕ, ◌+◌, ◌<◌, ◌≤◌, Bool, true, false, List, [], ◌∷◌, ◌++◌, ◌↔◌, map, get_or, set, take, drop, take_all, refl, sym, ap, subst, ◌∙◌, arith}
+use Rattle.std.specs.Prelude.{IsTrue, length}
 use Rattle.std.specs.List.{AllZip, items_where_true}
 use Rattle.std.proofs.lemmas.List.{take_more, take_more_set, append-nil, drop_more, length-set, drop-set-lt}
 use Rattle.std.proofs.lemmas.Bool.{false≢true}
-use Rattle.cost_vector.proofs.Vectors.{AtMost-refl}
-use Rattle.list_laws.proofs.Members.{cases_in, in_front, in_none, in_rest}
 use Rattle.waiting_queue.specs.declared.item.Item.{Item}
 use Rattle.waiting_queue.specs.Waiting.{Spot, as_waiting, spot_in, spot_of}
-use Rattle.round_work.specs.Survivors.{HasBelow, KeepsOpen}
-use Rattle.round_work.proofs.SurvivorLemmas.{done_on}
+use Rattle.round_work.specs.Survivors.{KeepsOpen}
 
 module _ {X : Type 0} (spot : X → Spot) (Open : Spot → Type 0) where
   abbrev Keeps : List X → List X → Type 0
@@ -46,31 +43,6 @@ module _ {X : Type 0} (spot : X → Spot) (Open : Spot → Type 0) where
   pub open_both : (xs ks ys ls : List X) → Keeps xs ks → Keeps ys ls → Keeps (xs ++ ys) (ks ++ ls)
   open_both xs ks ys ls one two = by_each (λ vs ms. Keeps (vs ++ ys) (ms ++ ls)) two (λ x held vs ms. open_first x held (vs ++ ys) (ms ++ ls))
       (λ x closed vs ms. closed_first x closed (vs ++ ys) (ms ++ ls)) xs ks one
-
-  -- what is kept is an open candidate
-  pub kept_is_open : (xs ks : List X) → KeepsOpen spot Open xs ks → (x : X) → Contains ks x → Contains xs x × Open (spot x)
-  kept_is_open = by_each (λ vs ms. (x : X) → Contains ms x → Contains vs x × Open (spot x)) (λ x h. absurd (in_none x h))
-      (λ y held vs ms more x h. elim (cases_in y ms x h) [
-        | inl same ↦ (in_front y vs x same, subst (λ z. Open (spot z)) (sym same) held)
-        | inr later ↦ (in_rest y vs x (more x later).0, (more x later).1)
-      ])
-      (λ y closed vs ms more x h. (in_rest y vs x (more x h).0, (more x h).1))
-
-  -- each candidate isn't open, or one that is kept at its node costs at most as much: it itself
-  pub open_or_kept : (xs ks : List X) → KeepsOpen spot Open xs ks → (x : X) → Contains xs x → (¬ Open (spot x)) ⊎ HasBelow spot ks (spot x)
-  open_or_kept = by_each (λ vs ms. (x : X) → Contains vs x → (¬ Open (spot x)) ⊎ HasBelow spot ms (spot x)) (λ x h. absurd (in_none x h))
-      (λ y held vs ms more x h. elim (cases_in y vs x h) [
-        | inl same ↦ inr (record { by = x; member = in_front y ms x same; node = refl; at_most = AtMost-refl (spot x).cost })
-        | inr later ↦ done_on spot Open ms (y ∷ ms) x (in_rest y ms) (more x later)
-      ])
-      (λ y closed vs ms more x h. elim (cases_in y vs x h) [ inl same ↦ inl (subst (λ z. ¬ Open (spot z)) (sym same) closed) | inr later ↦ more x later ])
-
--- what is said of members holds of what they tell
-pub open_mapped : {X Y : Type 0} (spot : Y → Spot) (tell : X → Y) (Open : Spot → Type 0) (xs ks : List X)
-    → KeepsOpen (λ x. spot (tell x)) Open xs ks → KeepsOpen spot Open (map tell xs) (map tell ks)
-open_mapped spot tell Open = by_each (λ x. spot (tell x)) Open (λ vs ms. KeepsOpen spot Open (map tell vs) (map tell ms)) (open_none spot Open)
-    (λ x held vs ms. open_first spot Open (tell x) held (map tell vs) (map tell ms))
-    (λ x closed vs ms. closed_first spot Open (tell x) closed (map tell vs) (map tell ms))
 
 -- ---- a list of which the open ones are moved to the front
 
@@ -113,8 +85,12 @@ module _ {X : Type 0} (spot : X → Spot) (Open : Spot → Type 0) where
       },
     )
 
--- once all were seen, the front has the open ones
+-- once all were seen, the front has the open ones, and what is said of items holds of what waits for them
 pub sifted : {C : Type 0} (components : C → List ℕ) (Open : Spot → Type 0) (old now new : List (Item C)) (kept i : ℕ)
-    → IsSifting (spot_in components) Open old now kept i → length old ≤ i → new ≡ take kept now → KeepsOpen spot_of Open (map (as_waiting components) old) (map (as_waiting components) new)
+    → IsSifting (spot_in components) Open old now kept i → length old ≤ i → new ≡ take kept now
+    → KeepsOpen spot_of Open (map (as_waiting components) old) (map (as_waiting components) new)
 sifted components Open old now new kept i is all taken =
-    rw taken (open_mapped spot_of (as_waiting components) Open old (take kept now) (rw (take_all i old all) at is.keeps))
+    let view = as_waiting components in
+    rw taken (by_each (spot_in components) Open (λ vs ms. KeepsOpen spot_of Open (map view vs) (map view ms)) (open_none spot_of Open)
+    (λ x held vs ms. open_first spot_of Open (view x) held (map view vs) (map view ms))
+    (λ x closed vs ms. closed_first spot_of Open (view x) closed (map view vs) (map view ms)) old (take kept now) (rw (take_all i old all) at is.keeps))

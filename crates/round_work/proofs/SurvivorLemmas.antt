@@ -3,9 +3,9 @@ use Rattle.std.proofs.Common.{◌≡◌, ◌≢◌, ℕ, List, [], ◌∷◌, �
 use Rattle.std.specs.Prelude.{All, AllPairs, Contains}
 use Rattle.cost_vector.specs.Costs.{AtMost, Dominates}
 use Rattle.cost_vector.proofs.Vectors.{AtMost-Dominates, AtMost-refl, Dominates-irrefl, LexLess_from_Dominates, cases_same}
-use Rattle.list_laws.proofs.Members.{cases_in, cases_push, each_in, in_map, in_none, of_map}
+use Rattle.list_laws.proofs.Members.{cases_in, cases_push, each_in, in_map, in_none, in_one, of_map}
 use Rattle.list_laws.proofs.OnceLaws.{in_append, pairs_append}
-use Rattle.list_laws.proofs.Pairs.{pair_with_first, pairs_map, pairs_none, pairs_push, pairs_rest}
+use Rattle.list_laws.proofs.Pairs.{pair_with_first, pairs_cons, pairs_map, pairs_none, pairs_rest}
 use Rattle.list_laws.specs.Sets.{SameMembers}
 use Rattle.waiting_queue.specs.Taking.{HasSpot}
 use Rattle.waiting_queue.specs.Waiting.{Spot, SpotLess}
@@ -40,6 +40,21 @@ module _ {X : Type 0} (spot : X → Spot) (Open : Spot → Type 0) where
   pub keeps_none : Keeps [] []
   keeps_none = record { among = λ x h. absurd (in_none x h); needed = pairs_none (AreNeeded spot); rest = λ x h. absurd (in_none x h) }
 
+  -- beside what is kept of a list, what is needed of another
+  keeps_beside : (xs ys ks ls : List X) → Keeps xs ks → ((x : X) → Contains ls x → Contains ys x × Open (spot x)) → AllPairs (AreNeeded spot) ls
+      → ((x y : X) → Contains ks x → Contains ls y → AreNeeded spot x y) → ((x : X) → Contains ys x → Done (ks ++ ls) x) → Keeps (xs ++ ys) (ks ++ ls)
+  keeps_beside xs ys ks ls is among needed across rest = record {
+    among = λ x h. elim ((in_append ks ls x).0 h) [
+      | inl first ↦ ((in_append xs ys x).1 (inl (is.among x first).0), (is.among x first).1)
+      | inr second ↦ ((in_append xs ys x).1 (inr (among x second).0), (among x second).1)
+    ];
+    needed = pairs_append (AreNeeded spot) ks ls is.needed needed across;
+    rest = λ x h. elim ((in_append xs ys x).0 h) [
+      | inl first ↦ done_on ks (ks ++ ls) x (λ k there. (in_append ks ls k).1 (inl there)) (is.rest x first)
+      | inr second ↦ rest x second
+    ];
+  }
+
   -- s is seen, which comes before none that was seen
   module _ (seen kept : List X) (is : Keeps seen kept) (s : X) where
     -- it isn't open, or one at most as costly is kept
@@ -53,21 +68,14 @@ module _ {X : Type 0} (spot : X → Spot) (Open : Spot → Type 0) where
     -- it is open, and none at most as costly is kept
     pub keeps_more : ((x : X) → Contains seen x → ¬ SpotLess (spot s) (spot x)) → Open (spot s) → All (λ k. ¬ AtMost (spot k).cost (spot s).cost) kept
         → Keeps (seen ++ s ∷ []) (kept ++ s ∷ [])
-    keeps_more behind held free = record {
-      among = λ x h. elim (cases_push kept s x h) [
-        | inl old ↦ (in_push seen s x (is.among x old).0, (is.among x old).1)
-        | inr last ↦ subst (λ y. Contains (seen ++ s ∷ []) y × Open (spot y)) (sym last) (last_in seen s, held)
-      ];
-      needed = pairs_push (AreNeeded spot) kept s is.needed (λ x h node. (
-        each_in (λ k. ¬ AtMost (spot k).cost (spot s).cost) kept free x h,
-        λ less. not_lex_less (spot x) (spot s) (behind x (is.among x h).0) (LexLess_from_Dominates (spot s).cost (spot x).cost less),
-      ));
-      rest = λ x h. elim (cases_push seen s x h) [
-        | inl old ↦ done_on kept (kept ++ s ∷ []) x (in_push kept s) (is.rest x old)
-        | inr last ↦
-            subst (Done (kept ++ s ∷ [])) (sym last) (inr (record { by = s; member = last_in kept s; node = refl; at_most = AtMost-refl (spot s).cost }))
-      ];
-    }
+    keeps_more behind held free =
+        let alone = pairs_cons (AreNeeded spot) s [] (λ x h. absurd (in_none x h)) (pairs_none (AreNeeded spot)) in
+        keeps_beside seen (s ∷ []) kept (s ∷ []) is (λ x h. (h, rw (in_one s x h) held)) alone
+        (λ x y h last. rw (in_one s y last) (λ node. (
+          each_in (λ k. ¬ AtMost (spot k).cost (spot s).cost) kept free x h,
+          λ less. not_lex_less (spot x) (spot s) (behind x (is.among x h).0) (LexLess_from_Dominates (spot s).cost (spot x).cost less),
+        )))
+        (λ x last. rw (in_one s x last) (inr (record { by = s; member = last_in kept s; node = refl; at_most = AtMost-refl (spot s).cost })))
 
   -- only the members of what was there count
   pub keeps_alike : (xs ys kept : List X) → SameMembers xs ys → Keeps xs kept → Keeps ys kept
@@ -77,18 +85,9 @@ module _ {X : Type 0} (spot : X → Spot) (Open : Spot → Type 0) where
   -- candidates of different nodes
   pub keeps_both : (xs ys ks ls : List X) → Keeps xs ks → Keeps ys ls → ((x y : X) → Contains xs x → Contains ys y → (spot x).node ≢ (spot y).node)
       → Keeps (xs ++ ys) (ks ++ ls)
-  keeps_both xs ys ks ls one two apart = record {
-    among = λ x h. elim ((in_append ks ls x).0 h) [
-      | inl first ↦ ((in_append xs ys x).1 (inl (one.among x first).0), (one.among x first).1)
-      | inr second ↦ ((in_append xs ys x).1 (inr (two.among x second).0), (two.among x second).1)
-    ];
-    needed = pairs_append (AreNeeded spot) ks ls one.needed two.needed
-        (λ x y h k node. absurd (apart x y (one.among x h).0 (two.among y k).0 node));
-    rest = λ x h. elim ((in_append xs ys x).0 h) [
-      | inl first ↦ done_on ks (ks ++ ls) x (λ k there. (in_append ks ls k).1 (inl there)) (one.rest x first)
-      | inr second ↦ done_on ls (ks ++ ls) x (λ k there. (in_append ks ls k).1 (inr there)) (two.rest x second)
-    ];
-  }
+  keeps_both xs ys ks ls one two apart =
+      keeps_beside xs ys ks ls one two.among two.needed (λ x y h k node. absurd (apart x y (one.among x h).0 (two.among y k).0 node))
+      (λ x h. done_on ls (ks ++ ls) x (λ k there. (in_append ks ls k).1 (inr there)) (two.rest x h))
 
   -- what is kept survives, and nothing else does
   module _ (xs kept : List X) (is : Keeps xs kept) where
@@ -108,10 +107,10 @@ module _ {X : Type 0} (spot : X → Spot) (Open : Spot → Type 0) where
       ];
     }
 
-    is_kept : (x : X) → Contains xs x → Survives spot Open xs (spot x) → HasSpot spot kept (spot x)
-    is_kept x there h = elim (is.rest x there) [
+    is_kept : (s : Spot) → Survives spot Open xs s → HasSpot spot kept s
+    is_kept s h = elim (rw h.candidate.2 at (is.rest h.candidate.0 h.candidate.1)) [
       | inl closed ↦ absurd (closed h.is_open)
-      | inr by ↦ elim (cases_same (spot by.by).cost (spot x).cost) [
+      | inr by ↦ elim (cases_same (spot by.by).cost s.cost) [
         | inl equal ↦ let made : List ℕ → ℕ → Spot = λ c n. record { cost = c; node = n } in (by.by, by.member, ap₂ made equal by.node)
         | inr differs ↦ absurd (h.undominated by.by (is.among by.by by.member).0 (is.among by.by by.member).1 by.node
             (record { at_most = by.at_most; differs = differs }))
@@ -121,10 +120,7 @@ module _ {X : Type 0} (spot : X → Spot) (Open : Spot → Type 0) where
     -- and each once
     pub keeps_survivors : KeepsSurvivors spot Open xs kept
     keeps_survivors = record {
-      exact = λ s. (
-        λ h. subst (Survives spot Open xs) h.2 (survives h.0 h.1),
-        λ h. subst (HasSpot spot kept) h.candidate.2 (is_kept h.candidate.0 h.candidate.1 (subst (Survives spot Open xs) (sym h.candidate.2) h)),
-      );
+      exact = λ s. (λ h. subst (Survives spot Open xs) h.2 (survives h.0 h.1), is_kept s);
       once = λ i j d before within same. (is.needed i j d before within (ap (λ (s : Spot). s.node) same)).0
           (subst (λ (s : Spot). AtMost (spot (get_or kept i d)).cost s.cost) same (AtMost-refl (spot (get_or kept i d)).cost));
       among = λ x h. (is.among x h).0;
@@ -135,13 +131,11 @@ module _ {X : Type 0} (spot : X → Spot) (Open : Spot → Type 0) where
 pub keeps_told : {X Y : Type 0} (spot : Y → Spot) (tell : X → Y) (Open : Spot → Type 0) (xs kept : List X) → KeepsNeeded (λ x. spot (tell x)) Open xs kept
     → KeepsNeeded spot Open (map tell xs) (map tell kept)
 keeps_told spot tell Open xs kept is = record {
-  among = λ y h.
-      let from = of_map tell kept y h in
-      subst (λ z. Contains (map tell xs) z × Open (spot z)) (sym from.2) (in_map tell xs from.0 (is.among from.0 from.1).0, (is.among from.0 from.1).1);
+  among = λ y h. let (x, x_in, same) = of_map tell kept y h in rw same (in_map tell xs x (is.among x x_in).0, (is.among x x_in).1);
   needed = pairs_map (AreNeeded (λ x. spot (tell x))) (AreNeeded spot) tell (λ a b h. h) kept is.needed;
   rest = λ y h.
-      let from = of_map tell xs y h in
-      subst (λ z. (¬ Open (spot z)) ⊎ HasBelow spot (map tell kept) (spot z)) (sym from.2) (elim (is.rest from.0 from.1) [
+      let (x, x_in, same) = of_map tell xs y h in
+      rw same (elim (is.rest x x_in) [
         | inl closed ↦ inl closed
         | inr by ↦ inr (record { by = tell by.by; member = in_map tell kept by.by by.member; node = by.node; at_most = by.at_most })
       ]);

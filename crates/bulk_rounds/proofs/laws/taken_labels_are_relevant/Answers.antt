@@ -2,7 +2,4 @@ use Rattle.bulk_rounds.proofs.FoundLemmas.{taken_at_node, taken_is_relevant}
 use Rattle.bulk_rounds.proofs.laws.taken_labels_are_relevant.Goals as goal
 
 pub returns : goal.returns
-returns c = record {
-  node = λ task core s x at. taken_at_node task core s at x;
-  relevant = λ task core s x at. taken_is_relevant task core s at x;
-}
+returns c = search (taken_at_node, taken_is_relevant)

@@ -2,10 +2,4 @@ use Rattle.bulk_rounds.proofs.KeptLemmas.{kept_after, next_apart, next_unsettled
 use Rattle.bulk_rounds.proofs.laws.taken_spots_are_spared.Goals as goal
 
 pub returns : goal.returns
-returns c = record {
-  unsettled = next_unsettled;
-  apart = next_apart;
-  spares = λ before after x takes. spares_after before after takes x;
-  one_count = one_count;
-  kept = λ before after count takes. kept_after before after takes count;
-}
+returns c = search (next_unsettled, next_apart, spares_after, one_count, kept_after)

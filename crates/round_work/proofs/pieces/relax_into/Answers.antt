@@ -1,7 +1,5 @@
-use Rattle.std.proofs.Common.{get_or, sym, refl, take_all, ◌∙◌, arith}
+use Rattle.std.proofs.Common.{sym, refl, take_all, ◌∙◌, arith}
 use Rattle.std.proofs.lemmas.Bool.{false≢true}
-use Rattle.std.proofs.lemmas.List.Elements.{Contains-get_or}
-use Rattle.cost_vector.specs.declared.label.ArcNo.{ArcNo}
 use Rattle.waiting_queue.specs.declared.item.Item.{Item}
 use Rattle.round_work.proofs.OnwardLemmas.{arc_next, arc_too_wide}
 use Rattle.round_work.proofs.pieces.relax_into.Goals.{in-Some+in-Some-plus+in_ok-push, in_default}
@@ -10,11 +8,9 @@ use Rattle.round_work.proofs.pieces.relax_into.Goals as goal
 pub returns-in_default-plus-clause-too_wide : goal.returns-in_default-plus-clause-too_wide
 returns-in_default-plus-clause-too_wide g c = λ e.
     let item = c.args.item.now in
-    let arcs = c.out_arcs-arcs.result.now in
-    let zero : ArcNo = record { 0 = 0 } in
     rw (sym c.out_arcs-arcs.ensures)
-    (arc_too_wide c.args.network.now item.from.0 item.node.0 (g.C.StoredCost.components item.cost) g.C.Part.Part.bound arcs
-    (get_or arcs c.loop-arc.arc-index zero) c.in-Some.weight (Contains-get_or arcs c.loop-arc.arc-index zero c.loop-arc-test.true) (sym c.weight.ensures.state ∙ c.in-Some.is)
+    (arc_too_wide c.args.network.now item.from.0 item.node.0 (g.C.StoredCost.components item.cost) g.C.Part.Part.bound c.out_arcs-arcs.result.now
+    c.loop-arc.arc-index (record { 0 = 0 }) c.in-Some.weight c.loop-arc-test.true (sym c.weight.ensures.state ∙ c.in-Some.is)
     (grind (arith, c.head-head.ensures, c.eq.ensures, c.if-eq.false)) (λ all. false≢true (c.in_default-plus.ensures.fits.1 all)))
 
 pub loop-arc-preserved : goal.loop-arc-preserved

@@ -1,3 +1,4 @@
+use Rattle.std.proofs.Common.{rules}
 use Rattle.std.proofs.lemmas.List.{append-nil}
 use Rattle.waiting_queue.specs.Waiting.{as_waiting}
 use Rattle.bulk_core.proofs.BeginLemmas.{kept_taking, takes_waiting}
@@ -13,23 +14,6 @@ returns-in-Ok-clause-took g c =
     rw (← c.self.view_is, c.clear.ensures.items, append-nil c.pass.new.queue) (takes_waiting c.self.invariant (as_waiting g.F.Cost.StoredCost.components)
     c.pass.new.taken.items c.pass.new.queue (rw c.deref.ensures.value at c.in-Ok.ensures.taken))
 
-pub pass-requires-send-F-Cost : goal.pass-requires-send-F-Cost
-pass-requires-send-F-Cost g c κs within = record { owned = c.type_bounds.send-F-Cost.owned; leaving = c.type_bounds.send-F-Cost.leaving }
-
-pub pass-requires-send-F-Cost-Part : goal.pass-requires-send-F-Cost-Part
-pass-requires-send-F-Cost-Part g c κs within = record { owned = c.type_bounds.send-F-Cost-Part.owned; leaving = c.type_bounds.send-F-Cost-Part.leaving }
-
-pub pass-requires-sync-F : goal.pass-requires-sync-F
-pass-requires-sync-F g c κs within = c.type_bounds.sync-F
-
-pub pass-requires-sync-R : goal.pass-requires-sync-R
-pass-requires-sync-R g c κs within = record { shared = c.type_bounds.sync-R.shared }
-
-pub pass-requires-sync-G : goal.pass-requires-sync-G
-pass-requires-sync-G g c κs within = record { shared = c.type_bounds.sync-G.shared }
-
-pub pass-requires-sync-F-Cost : goal.pass-requires-sync-F-Cost
-pass-requires-sync-F-Cost g c κs within = record { shared = c.type_bounds.sync-F-Cost.shared }
-
-pub pass-requires-sync-F-Cost-Part : goal.pass-requires-sync-F-Cost-Part
-pass-requires-sync-F-Cost-Part g c κs within = record { shared = c.type_bounds.sync-F-Cost-Part.shared }
+pub pass-requires : goal.pass-requires
+pass-requires g c = let bounds = c.type_bounds in
+    search (rules, bounds.send-F-Cost, bounds.send-F-Cost-Part, bounds.sync-F, bounds.sync-R, bounds.sync-G, bounds.sync-F-Cost, bounds.sync-F-Cost-Part)

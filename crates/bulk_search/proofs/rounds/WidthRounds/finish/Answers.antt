@@ -10,36 +10,34 @@ relax_taken-requires-clause-nodes g c κs within =
 
 pub returns-in_err-relax_taken-clause-narrow : goal.returns-in_err-relax_taken-clause-narrow
 returns-in_err-relax_taken-clause-narrow g c = λ wide.
-    let spots = spots_of_items _ c.taken-taken.result.now ∙ c.taken-taken.ensures.spots in
     let came = c.in_err-relax_taken.was ∙ ap (λ e. Err e) (sym (rw wide at c.from_residual.ensures.1)) in
-    too_wide_below c.args.network.now c.nodes.ensures.network.small c.args.self.now.core c.requires.is_open _ spots _ (c.relax_taken.ensures.too_wide came)
+    too_wide_below c.args.network.now c.nodes.ensures.network.small c.args.self.now.core c.requires.is_open _
+    (spots_of_items _ c.taken-taken.result.now ∙ c.taken-taken.ensures.spots) _ (c.relax_taken.ensures.too_wide came)
 
 pub finish-requires : goal.finish-requires
 finish-requires g c =
-    let spots = spots_of_items _ c.taken-taken.result.now ∙ c.taken-taken.ensures.spots in
-    let kept = kept_items c.args.network.now c.nodes.ensures.network.network c.args.self.now.core c.requires.is_open _ spots c.taken-taken.ensures.from
-    _ _ c.in_ok-relax_taken.ensures.kept in
+    let kept = kept_items c.args.network.now c.nodes.ensures.network.network c.args.self.now.core c.requires.is_open _
+    (spots_of_items _ c.taken-taken.result.now ∙ c.taken-taken.ensures.spots) c.taken-taken.ensures.from _ _ c.in_ok-relax_taken.ensures.kept in
     (search rules, rw c.deref.ensures.value kept)
 
 pub finish_open-requires : goal.finish_open-requires
 finish_open-requires g c =
-    let spots = spots_of_items _ c.taken-taken.result.now ∙ c.taken-taken.ensures.spots in
-    let kept = kept_items c.args.network.now c.nodes.ensures.network.network c.args.self.now.core c.requires.is_open _ spots c.taken-taken.ensures.from
-    _ _ c.in_ok-relax_taken.ensures.kept in
+    let kept = kept_items c.args.network.now c.nodes.ensures.network.network c.args.self.now.core c.requires.is_open _
+    (spots_of_items _ c.taken-taken.result.now ∙ c.taken-taken.ensures.spots) c.taken-taken.ensures.from _ _ c.in_ok-relax_taken.ensures.kept in
     (search rules, rw c.deref-else-few.ensures.value kept)
 
 pub returns-in_ok-finish-clause-ended : goal.returns-in_ok-finish-clause-ended
 returns-in_ok-finish-clause-ended g c =
     let core = c.args.self.now.core in
-    let spots = spots_of_items _ c.taken-taken.result.now ∙ c.taken-taken.ensures.spots in
-    let closed = closed_is_spent core (IsSpentBy c.settled-settled.result.now) c.settled-settled.ensures in
-    ends_over c.args.network.now c.nodes.ensures.network.network core c.requires.is_open _ spots c.taken-taken.ensures.from _ closed
+    ends_over c.args.network.now c.nodes.ensures.network.network core c.requires.is_open _
+    (spots_of_items _ c.taken-taken.result.now ∙ c.taken-taken.ensures.spots) c.taken-taken.ensures.from
+    _ (closed_is_spent core (IsSpentBy c.settled-settled.result.now) c.settled-settled.ensures)
     _ c.finish.new.self c.in_ok-relax_taken.ensures.kept (rw c.deref.ensures.value at c.in_ok-finish.ensures.put)
 
 pub returns-in_ok-finish_open-clause-ended : goal.returns-in_ok-finish_open-clause-ended
 returns-in_ok-finish_open-clause-ended g c =
     let core = c.args.self.now.core in
-    let spots = spots_of_items _ c.taken-taken.result.now ∙ c.taken-taken.ensures.spots in
-    let closed = closed_is_spent core (IsSpentBy c.settled-settled.result.now) c.settled-settled.ensures in
-    ends_over c.args.network.now c.nodes.ensures.network.network core c.requires.is_open _ spots c.taken-taken.ensures.from _ closed
+    ends_over c.args.network.now c.nodes.ensures.network.network core c.requires.is_open _
+    (spots_of_items _ c.taken-taken.result.now ∙ c.taken-taken.ensures.spots) c.taken-taken.ensures.from
+    _ (closed_is_spent core (IsSpentBy c.settled-settled.result.now) c.settled-settled.ensures)
     _ c.finish_open.new.self c.in_ok-relax_taken.ensures.kept (rw c.deref-else-few.ensures.value at c.in_ok-finish_open.ensures.put)

@@ -17,7 +17,7 @@ abbrev pub piece_size : ℕ
 piece_size = 64
 
 module _ (net : Network) (f : FoundCosts) where
-  -- The costs at these places are a window, and their routes are told.
+  -- The costs at these places are a window, each with its route.
   pub record IsWindow (from to : ℕ) : Type 0 where
     pub tells : TellsRoutes net f
     pub rises : from ≤ to

@@ -1,4 +1,5 @@
-ghost use Rattle.std.specs.Prelude.{◌≡◌, ◌^◌, ◌<◌, [], length, map, All, Err, IfOk};
+ghost use Rattle.std.specs.Prelude.{◌≡◌, ◌^◌, ◌<◌, ◌/◌, ◌==◌, [], length, map, All, Err, IfOk, if◌then◌else◌};
+ghost use Rattle.std.specs.Bool.{nat_le};
 ghost use Rattle.bulk_rounds.specs.Begins.{BeginsAs, CountsRound};
 ghost use Rattle.bulk_rounds.specs.Cores.{IsNewSearch};
 ghost use Rattle.bulk_rounds.specs.Standing.{IsSearchOf};
@@ -26,7 +27,7 @@ use std::alloc::Global;
 use std::sync::ledger::Ledger;
 use std::thread::Threads;
 use stored_cost::{NarrowCost, StoredCost, WideCost};
-use waiting_queue::{Item, Look, Steps};
+use waiting_queue::{Item, Look, Steps, labels_of_spots};
 use work_claim::Workers;
 
 /// A search by rounds at one width, and room for what each of them gives.
@@ -275,7 +276,7 @@ where
         (onward_of network.now (map (as_waiting C.components) taken.now)) }
 {
     if taken.len() > PIECE_SIZE {
-        let workers = &workers.for_labels(taken.len() / spots_of_a_label(D));
+        let workers = &workers.for_labels(labels_of_taken(D, taken.len()));
         return relax_open(workers, alloc, network, look, taken, candidates);
     }
     let workers = &workers.for_labels(taken.len());
@@ -284,12 +285,17 @@ where
     Ok(())
 }
 
-/// How many taken spots of a round are as much work to relax as a label of whole queries that are shared. Under 2 criteria a front
-/// answers so soon that other processors take longer to fetch it.
-fn spots_of_a_label(criteria: usize) -> usize
-    ensures { 0 < result }
+/// How many labels of whole queries that are shared are as much work as relaxing so many taken spots of a round. Under 2 criteria a
+/// front answers so soon that other processors take longer to fetch it.
+fn labels_of_taken(criteria: usize, taken: usize) -> usize
+    ensures { result ≡ (if criteria == 2 then taken / 64
+        else if nat_le 1600 taken then taken / 2 else 0) }
 {
-    if criteria == 2 { 64 } else { 2 }
+    if criteria == 2 {
+        taken / 64
+    } else {
+        labels_of_spots(taken)
+    }
 }
 
 /// Where several work, they leave out what isn't open and what other open candidates of its node dominate. One alone leaves all,

@@ -7,6 +7,7 @@ use crate::joining::{Part, join_parts, list_rests};
 use crate::order::list_sorted;
 use crate::passing::pass_anew;
 use crate::ranges::{Lists, pass_ranges};
+use crate::sharing::labels_of_spots;
 use crate::{Item, Look, widen_items};
 use out_of_memory::OutOfMemory;
 use route_io::Gate;
@@ -16,9 +17,6 @@ use std::mem;
 use std::thread::Threads;
 use stored_cost::StoredCost;
 use work_claim::Workers;
-
-/// Where so many items come in, passing is as much work as a label of whole queries that are shared.
-const ITEMS_OF_A_LABEL: usize = 2;
 
 /// What waits under 3 or 4 criteria: most of it in one ascending list, and each call that takes some goes through it once, workers
 /// in as many ranges as they are where it is long.
@@ -118,7 +116,7 @@ where
             (map (as_waiting C.components) taken.new.items) self.new) }
         ensures same { OnErr result (self.new ≡ self.old) }
     {
-        let workers = &workers.for_labels(fresh.len() / ITEMS_OF_A_LABEL);
+        let workers = &workers.for_labels(labels_of_spots(fresh.len()));
         let lists = Lists {
             items: &self.items,
             late: &self.late,

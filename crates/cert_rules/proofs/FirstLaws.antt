@@ -1,6 +1,6 @@
 -- A certificate has at most one first failure.
-use Rattle.std.proofs.Common.{◌≡◌, ℕ, zero, suc, ◌<◌, inl, inr, refl, sym, ap, subst, ◌∙◌, arith}
-use Rattle.std.proofs.lemmas.Bool.{cases_eq, cases_lt}
+use Rattle.std.proofs.Common.{◌≡◌, ℕ, zero, suc, inl, inr, refl, sym, ap, subst, ◌∙◌, arith}
+use Rattle.std.proofs.lemmas.Bool.{cases_lt}
 use Rattle.road_network.specs.Network.{Network}
 use Rattle.cert_rules.specs.Certificates.{Certificate}
 use Rattle.cert_rules.specs.Rules.{Fails, IsFirstFailure, rule_number}

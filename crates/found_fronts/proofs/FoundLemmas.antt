@@ -1,10 +1,8 @@
 -- What is found in the fronts of all nodes.
-use Rattle.std.proofs.Common.{◌≡◌, ◌↔◌, ℕ, ◌<◌, List, [], ◌∷◌, Option, Some, length, map, get_or, refl, sym, ap, ◌∙◌, arith, option_map}
-use Rattle.std.specs.Prelude.{All, IfOk, Result, Ok, Err, slice_get}
+use Rattle.std.proofs.Common.{◌↔◌, ℕ, ◌<◌, List, [], ◌∷◌, refl, arith}
+use Rattle.std.specs.Prelude.{All, IfOk, Result, Ok, Err}
 use Rattle.std.proofs.lemmas.List.Elements.{All-nil, All-cons, All-head, All-tail}
-use Rattle.std.proofs.lemmas.Option.{slice_get-map, slice_get-get_or}
 use Rattle.cost_vector.specs.Costs.{AtMost}
-use Rattle.cost_vector.specs.declared.compact_cost.CompactCost.{CompactCost}
 use Rattle.list_laws.proofs.Members.{each_in}
 use Rattle.list_laws.proofs.OnceLaws.{alike_back, alike_through}
 use Rattle.road_network.specs.Network.{IsNode}

@@ -1,5 +1,5 @@
 -- What became of all doors, by what each lane did.
-use Rattle.std.proofs.Common.{◌≡◌, ℕ, ◌+◌, ◌≤◌, Bool, false, List, [], ◌∷◌, ◌++◌, length, map, refl, ap, ap₂, sym, subst, ◌∙◌, arith, Result, Ok, Err, IfOk, OnOk}
+use Rattle.std.proofs.Common.{◌≡◌, ℕ, ◌+◌, ◌≤◌, Bool, false, List, [], ◌∷◌, length, map, refl, ap, ap₂, sym, subst, ◌∙◌, arith, Result, Ok, Err, IfOk, OnOk}
 use Rattle.std.specs.Prelude.{min, cond}
 use Rattle.std.specs.List.{All, count_by, flat_map, sum_by}
 use Rattle.std.proofs.lemmas.List.Concat.{flat_map-cons}
@@ -8,7 +8,7 @@ use Rattle.std.proofs.lemmas.List.Sums.{sum_by-cons}
 use mathlib.Core.List.{IsPrefix}
 use Rattle.route_io.specs.Causes.{max_count}
 use Rattle.arc_graph.specs.Graph.{Graph, Weights}
-use Rattle.arc_graph.specs.History.{History, Operator, closed_history}
+use Rattle.arc_graph.specs.History.{History, closed_history}
 use Rattle.epoch_store.specs.Origin.{Origin, IsPublishedIn}
 use Rattle.link_doors.specs.Doors.{DoorState}
 use Rattle.link_doors.specs.Links.{LinkState}
@@ -24,7 +24,7 @@ use Rattle.route_lanes.specs.Served.{whole_of}
 use Rattle.route_lanes.specs.Services.{FirstAndAllServe, Service}
 use Rattle.route_lanes.specs.Serving.{DoorLane, FinishesLanes, IsDoorLane, IsFinished, IsSessionLane, ServesLanes, SessionVisit}
 use Rattle.route_lanes.specs.Visits.{ServesDoor, Visit, is_starved, starved_of, unvisited}
-use Rattle.route_lanes.proofs.ServingLemmas.{ServedOver, served_over}
+use Rattle.route_lanes.proofs.ServingLemmas.{served_over}
 use Rattle.route_lanes.proofs.VisitLemmas.{before_visits, count_both, count_first}
 
 -- what is told of a lane

@@ -2,7 +2,7 @@
 use Rattle.std.specs.Prelude.{◌≡◌, ℕ, min, List, []}
 use Rattle.std.specs.List.{count_by, sum_by}
 use Rattle.route_io.specs.Causes.{max_count}
-use Rattle.arc_graph.specs.History.{History, Operator, closed_history}
+use Rattle.arc_graph.specs.History.{Operator, closed_history}
 use Rattle.epoch_store.specs.Origin.{Origin, IsOperatorIn, IsPublishedIn}
 use Rattle.link_doors.specs.Doors.{DoorState}
 use Rattle.session_core.specs.Sessions.{Scene}

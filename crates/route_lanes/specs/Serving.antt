@@ -12,7 +12,7 @@ use Rattle.session_core.specs.declared.end.SessionEnd.{SessionEnd}
 use Rattle.session_core.specs.Links.{Serves}
 use Rattle.session_core.specs.Operators.{IsOperatorBye, OperatorRun}
 use Rattle.session_core.specs.Sessions.{IsSessionBye, Scene, Session, SessionGoes}
-use Rattle.route_lanes.specs.Visits.{Led, Visit, after_visits, is_starved, starved_of}
+use Rattle.route_lanes.specs.Visits.{Led, Visit, after_visits, starved_of}
 use Rattle.route_lanes.specs.declared.serve.Served.{Served}
 
 -- A link of the operator was served: it goes on from what was published, and what is pending in the end is dropped.

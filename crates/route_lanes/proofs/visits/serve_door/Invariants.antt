@@ -1,4 +1,4 @@
-use Rattle.std.proofs.Common.{◌≡◌, ◌-◌}
+use Rattle.std.proofs.Common.{◌-◌}
 use Rattle.route_lanes.specs.Visits.{ServedSoFar}
 use Rattle.route_lanes.proofs.visits.serve_door.Given as goal
 

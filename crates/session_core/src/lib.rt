@@ -10,6 +10,7 @@ mod context;
 mod end;
 mod fault;
 mod handler;
+mod held;
 mod laws;
 mod look;
 mod made;

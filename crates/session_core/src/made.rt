@@ -1,4 +1,4 @@
-ghost use Rattle.std.specs.Prelude.{◌<◌, ◌^◌, length, slice_get, All, IfOk, IfSome, IsSomeAnd};
+ghost use Rattle.std.specs.Prelude.{◌<◌, ◌^◌, length, slice_get, take, All, IfOk, IfSome, IsSomeAnd};
 ghost use Rattle.std.specs.Thread.{IsSync};
 ghost use Rattle.road_network.specs.Queries.{IsAsked};
 ghost use Rattle.session_core.specs.Making.{AreMade, IsMade};
@@ -7,6 +7,7 @@ ghost use Rattle.session_core.specs.Sending.{IsReplyOf, Replied};
 
 use crate::answerer::Answerer;
 use crate::fault::ReplyFault;
+use crate::held::Held;
 use crate::reply::Reply;
 use out_of_memory::OutOfMemory;
 use road_network::{AnswerKind, Query};
@@ -35,8 +36,8 @@ impl MadeReply {
 }
 
 impl<R: Threads + Sync, G: Gate> Answerer<'_, R, G> {
-    /// The replies to queries, made in memory side by side: each query is searched by one of the workers. There is `None`
-    /// where memory ran out for the reply to a query.
+    /// The replies to the first of these queries, made in memory side by side: each query is searched by one of the workers.
+    /// They are as many as come to 64 MiB, or somewhat more. There is `None` where memory ran out for the reply to a query.
     pub fn make_replies(
         &self,
         epoch: u32,
@@ -45,23 +46,47 @@ impl<R: Threads + Sync, G: Gate> Answerer<'_, R, G> {
     ) -> Result<Vec<Option<MadeReply>>, OutOfMemory>
         requires few { length queries.now < 2 ^ 32 }
         requires asked { All (IsAsked self.now.network.now.criteria) queries.now }
-        ensures { IfOk result (λ made. AreMade self.now.network.now epoch kind queries.now
-            made.items) }
+        ensures { IfOk result (λ made. AreMade self.now.network.now epoch kind
+            (take (length made.items) queries.now) made.items) }
     {
+        let held = Held::new();
         let each = |place: usize| -> Result<Option<MadeReply>, OutOfMemory>
             requires { IsSync R.row × IsSync G.row
                 × IsSomeAnd (slice_get queries.now place) (IsAsked self.now.network.now.criteria) }
             ensures { IfOk result (λ made. IfSome (slice_get queries.entry.now place)
                 (λ query. IfSome made (IsMade self.entry.now.network.now epoch kind query))) }
-        { Ok(self.make_reply(epoch, kind, &queries[place]).ok()) };
+        { Ok(self.make_held(epoch, kind, place, &queries[place], &held)) };
         let calls = Calls { call: &each };
-        run_pieces(
+        let mut made = run_pieces(
             self.workers,
             self.alloc,
             queries.len(),
             Phase::Query,
             &calls,
-        )
+        )?;
+        made.truncate(held.begun());
+        Ok(made)
+    }
+
+    /// The reply to the query at this place, made by one worker and held, where there is memory for it and what is held isn't
+    /// enough already.
+    fn make_held(
+        &self,
+        epoch: u32,
+        kind: AnswerKind,
+        place: usize,
+        query: &Query,
+        held: &Held,
+    ) -> Option<MadeReply>
+        requires { IsAsked self.now.network.now.criteria query.now }
+        ensures { IfSome result (IsMade self.now.network.now epoch kind query.now) }
+    {
+        if !held.begin(place) {
+            return None;
+        }
+        let made = self.make_reply(epoch, kind, query).ok()?;
+        held.hold(made.text.sent().len());
+        Some(made)
     }
 
     /// The reply to a query at an epoch, made in memory by one worker.

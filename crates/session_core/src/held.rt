@@ -1,0 +1,42 @@
+use std::sync::atomic::{AtomicU64, AtomicUsize, Ordering};
+
+/// How many bytes of replies are enough, so that no further one is begun: 64 MiB.
+const ENOUGH_BYTES: u64 = 1 << 26;
+
+/// What workers hold of replies that they make side by side: how many bytes, and the replies to how many of the first queries,
+/// up to the last that was begun.
+#[derive(Drop)]
+pub(crate) struct Held {
+    bytes: AtomicU64,
+    begun: AtomicUsize,
+}
+
+impl Held {
+    /// No reply was begun.
+    pub(crate) fn new() -> Held {
+        Held {
+            bytes: AtomicU64::new(0),
+            begun: AtomicUsize::new(0),
+        }
+    }
+
+    /// Begins the reply to the query at this place, unless what is held is enough.
+    pub(crate) fn begin(&self, place: usize) -> bool {
+        let may = self.bytes.load(Ordering::Relaxed) < ENOUGH_BYTES;
+        if may {
+            self.begun
+                .fetch_max(place.saturating_add(1), Ordering::Relaxed);
+        }
+        may
+    }
+
+    /// Holds so many bytes more.
+    pub(crate) fn hold(&self, bytes: usize) {
+        self.bytes.fetch_add(bytes as u64, Ordering::Relaxed);
+    }
+
+    /// How many of the first queries there are, up to the last whose reply was begun.
+    pub(crate) fn begun(&self) -> usize {
+        self.begun.load(Ordering::Relaxed)
+    }
+}

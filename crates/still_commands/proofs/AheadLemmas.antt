@@ -1,10 +1,10 @@
 -- Replies that were made before their turn: how they are made of queries, and how the next of them is taken.
 use Rattle.std.proofs.Common.{◌≡◌, ℕ, suc, ◌+◌, ◌-◌, ◌<◌, ◌≤◌, List, [], ◌∷◌, ◌++◌, Option, Some, None, map, length, take, drop, get_or}
-use Rattle.std.proofs.Common.{sym, subst, ◌∙◌, arith}
+use Rattle.std.proofs.Common.{sym, subst, subst₂, ◌∙◌, arith}
 use Rattle.std.specs.Prelude.{reverse, option_to_list}
 use Rattle.std.specs.Option.{MatchOption, option_flatten}
 use Rattle.std.specs.List.{AllZip}
-use Rattle.std.proofs.lemmas.List.{drop_more, length-append, length-drop, length-reverse, length-take-le, reverse-append, take_all}
+use Rattle.std.proofs.lemmas.List.{drop_more, length-append, length-drop, length-reverse, length-take, reverse-append, reverse-reverse, take-map, take-take, take_all}
 use Rattle.std.proofs.lemmas.Slice.Zip.{AllZip-long}
 use Rattle.road_network.specs.Network.{Network}
 use Rattle.road_network.specs.declared.query.AnswerKind.TheVariants.{Walks}
@@ -17,20 +17,28 @@ use Rattle.still_commands.specs.Batch.{query_between}
 
 module _ (limits : SearchLimits) (net : Network) where
   -- the replies that were made to the queries of the pairs, in their order
-  pub made_for_pairs : (pairs : List Pair) (made : List (Option MadeReply))
+  made_for_pairs : (pairs : List Pair) (made : List (Option MadeReply))
       → AreMade net 0 Walks (map (query_between limits) pairs) made → AllZip (IsAhead limits net) pairs made
   made_for_pairs [] [] all = tt
   made_for_pairs [] (m ∷ ms) all = all
   made_for_pairs (p ∷ ps) [] all = all
   made_for_pairs (p ∷ ps) (m ∷ ms) all = (all.0, made_for_pairs ps ms all.1)
 
-  -- those that were made for the first so many pairs
-  pub made_for_first : (pairs : List Pair) (count : ℕ) (ahead : List (Option MadeReply)) → count ≤ length pairs
-      → AllZip (IsAhead limits net) (take count pairs) (reverse ahead) → AreAhead limits net pairs ahead
-  made_for_first pairs count ahead within all =
-      let long = AllZip-long (IsAhead limits net) (take count pairs) (reverse ahead) all in
-      let many : length ahead ≡ count = sym (length-reverse ahead) ∙ long ∙ length-take-le count pairs within in
-      subst (λ n. AllZip (IsAhead limits net) (take n pairs) (reverse ahead)) (sym many) all
+  -- those that were made to the first of them, the first of these last
+  pub made_for_first : (pairs : List Pair) (made : List (Option MadeReply))
+      → AreMade net 0 Walks (take (length made) (map (query_between limits) pairs)) made → AreAhead limits net pairs (reverse made)
+  made_for_first pairs made all =
+      subst₂ (λ n ms. AllZip (IsAhead limits net) (take n pairs) ms) (sym (length-reverse made)) (sym (reverse-reverse made))
+      (made_for_pairs (take (length made) pairs) made (subst (λ qs. AreMade net 0 Walks qs made) (take-map (query_between limits) (length made) pairs) all))
+
+  -- those to the first of some of the first
+  pub first_of_first : (pairs : List Pair) (count : ℕ) (ahead : List (Option MadeReply)) → AreAhead limits net (take count pairs) ahead
+      → AreAhead limits net pairs ahead
+  first_of_first pairs count ahead all =
+      let long = AllZip-long (IsAhead limits net) (take (length ahead) (take count pairs)) (reverse ahead) all in
+      let few = length-take (length ahead) (take count pairs) in
+      let within : length ahead ≤ count = omega (arith, long, few, length-reverse ahead, length-take count pairs) in
+      subst (λ ps. AllZip (IsAhead limits net) ps (reverse ahead)) (take-take (length ahead) count pairs within) all
 
   module _ (pair : Pair) (pairs : List Pair) where
     -- the next of them is the last

@@ -1,6 +1,5 @@
 //! The command `batch`.
-ghost use Rattle.std.specs.Prelude.{◌≡◌, ◌==◌, ◌≤◌, ◌<◌, ◌^◌, ℕ, List, ◌∷◌, All, IfOk, length, reverse};
-ghost use Rattle.std.specs.List.{AllZip};
+ghost use Rattle.std.specs.Prelude.{◌≡◌, ◌==◌, ◌≤◌, ◌<◌, ◌^◌, ℕ, List, ◌∷◌, All, IfOk, length};
 ghost use Rattle.road_network.specs.Network.{Network};
 ghost use Rattle.road_network.specs.Queries.{IsAsked};
 ghost use Rattle.command_words.specs.Words.{FilesInRange, AreSearchLimits, batch, batch_asked, names_of};
@@ -28,8 +27,8 @@ use std::thread::Threads;
 use walk_readback::Room;
 use work_claim::Workers;
 
-/// How many pairs a window has for each worker.
-const PAIRS_FOR_EACH: usize = 16;
+/// How many pairs a window has at most. The replies to all of them may be in memory before the first of them is sent.
+const MOST_PAIRS: usize = 1024;
 
 /// Answers a query for each pair of the file of pairs over the named files.
 pub(crate) fn run<'a, R: Threads + Sync, G: Gate, F: Folder, K: Sink>(
@@ -134,8 +133,8 @@ fn refill<R: Threads + Sync, G: Gate>(
     }
 }
 
-/// How many of so many pairs are searched side by side: a window of some for each worker, so that who is done early takes
-/// the next. A search is counted as a label for each node, or as its budget.
+/// How many of so many pairs are searched side by side: a window of so many that few workers wait for the last of its
+/// searches. A search is counted as a label for each node, or as its budget.
 fn count_ahead<R, G: Gate>(
     answerer: &Answerer<'_, R, G>,
     limits: SearchLimits,
@@ -144,8 +143,7 @@ fn count_ahead<R, G: Gate>(
     ensures within { result ≤ left }
     ensures few { result < 2 ^ 32 }
 {
-    let workers = answerer.workers.count() as usize;
-    let window = left.min(workers * PAIRS_FOR_EACH);
+    let window = left.min(MOST_PAIRS);
     let labels = window * answerer.network.nodes().min(limits.budget) as usize;
     if left < 2 || answerer.workers.for_labels(labels).count() == 1 {
         return 0;
@@ -153,7 +151,7 @@ fn count_ahead<R, G: Gate>(
     window
 }
 
-/// The replies to these pairs, made in memory, the first of them last.
+/// The replies to the first of these pairs, made in memory, the first of them last.
 fn make_ahead<R: Threads + Sync, G: Gate>(
     answerer: &Answerer<'_, R, G>,
     limits: SearchLimits,
@@ -161,8 +159,7 @@ fn make_ahead<R: Threads + Sync, G: Gate>(
 ) -> Result<Vec<Option<MadeReply>>, OutOfMemory>
     requires limits { AreSearchLimits limits }
     requires few { length pairs.now < 2 ^ 32 }
-    ensures { IfOk result (λ ahead. AllZip (IsAhead limits answerer.now.network.now) pairs.now
-        (reverse ahead.items)) }
+    ensures { IfOk result (λ ahead. AreAhead limits answerer.now.network.now pairs.now ahead.items) }
 {
     let mut queries = Vec::with_capacity(answerer.alloc, pairs.len())?;
     for pair in pairs {

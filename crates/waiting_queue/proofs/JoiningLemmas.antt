@@ -1,5 +1,5 @@
 -- What several parts took, joined one member after another.
-use Rattle.std.proofs.Common.{Bor, ◌≡◌, ℕ, zero, suc, ◌+◌, ◌-◌, ◌<◌, ◌⊎◌, ◌↔◌, Bool, List, [], ◌∷◌, ◌++◌, Some, add-zero, append-nil, take, drop, length, length-append, length-drop, map, get_or, inl, inr, refl, sym, ap, subst, ◌∙◌, arith}
+use Rattle.std.proofs.Common.{Bor, ◌≡◌, ℕ, zero, suc, ◌+◌, ◌-◌, ◌<◌, ◌⊎◌, ◌↔◌, Bool, List, [], ◌∷◌, ◌++◌, Some, add-zero, append-nil, take, length, length-drop, map, get_or, inl, inr, refl, sym, ap, subst, ◌∙◌, arith}
 use Rattle.std.specs.Prelude.{AllPairs, Contains, IsTrue, flat_map, slice_get}
 use Rattle.std.proofs.lemmas.List.{get_or-drop, map_push, take_more}
 use Rattle.std.proofs.lemmas.List.Concat.{flat_map-append}

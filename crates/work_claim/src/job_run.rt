@@ -62,7 +62,7 @@ impl<'c, J: Job, R: Threads + Sync, G: Gate> JobRun<'c, J, R, G> {
                     × ((i : ℕ) → i < self.now.counter.pieces → J.accepts self.now.job.now i) }
                 ensures { HaveEnded (J.gives self.entry.now.job.now) self.entry.now.counter 1
                     result.seat result.done }
-            { self.work(one) },
+            { self.help(one) },
             || -> Report<J::Out>
                 requires { IsSync R.row × IsSync G.row × IsSync J.row × IsSend J.Out.row
                     × IsFresh count self.now.counter others
@@ -90,6 +90,19 @@ impl<'c, J: Job, R: Threads + Sync, G: Gate> JobRun<'c, J, R, G> {
             seat,
             done: append(done, second.done),
         }
+    }
+
+    /// Does so as a helper, and tells where it found a piece to do.
+    fn help(&self, seat: WorkerSeat) -> Report<J::Out>
+        requires seat { IsFresh 1 self.now.counter seat }
+        requires accepted { (i : ℕ) → i < self.now.counter.pieces → J.accepts self.now.job.now i }
+        ensures { HaveEnded (J.gives self.now.job.now) self.now.counter 1 result.seat result.done }
+    {
+        let report = self.work(seat);
+        if report.done.as_ref().is_ok_and(|done| !done.is_empty()) {
+            self.workers.come_to_help();
+        }
+        report
     }
 
     /// Draws pieces and does them, until none is left.

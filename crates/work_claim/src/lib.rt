@@ -4,6 +4,8 @@
 mod calls;
 mod counter;
 mod done;
+mod free;
+mod helpers;
 mod job;
 mod job_run;
 mod rule;
@@ -11,6 +13,8 @@ mod run;
 mod workers;
 
 pub use calls::Calls;
+pub use free::Free;
+pub use helpers::Helpers;
 pub use job::Job;
 pub use run::run_pieces;
 pub use workers::Workers;

@@ -69,6 +69,7 @@ fn run_together<J: Job, R: Threads + Sync, G: Gate>(
         counter,
     };
     let report = job_run.run(seat, workers.count());
+    workers.end_job();
     job_run.counter.close(report.seat);
     in_order(alloc, report.done?)
 }

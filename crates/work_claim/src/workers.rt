@@ -1,25 +1,34 @@
-ghost use Rattle.std.specs.Prelude.{◌≡◌, ◌≤◌, ◌/◌, if◌then◌else◌};
+ghost use Rattle.std.specs.Prelude.{◌≡◌, ◌≤◌, ◌/◌, true, false, if◌then◌else◌};
 ghost use Rattle.std.specs.Bool.{nat_le};
 
+use crate::{Free, Helpers};
 use route_io::Gate;
 use std::marker::Model;
 
 /// Who does the pieces of a job: so many workers, on the threads of this runtime, and the gate that they pass before each
-/// piece.
+/// piece. Where `free` tells who of them has no piece left to begin, those alone share the work within a piece; where `helpers`
+/// tells that they came too late, work isn't shared.
 #[derive(Drop)]
 pub struct Workers<'w, R, G> {
     rt: &'w R,
     count: u32,
     gate: &'w G,
+    free: Option<&'w Free>,
+    helpers: Option<&'w Helpers>,
 }
 
 impl<'w, R, G> Model for Workers<'w, R, G> {
-    ghost use Rattle.std.specs.Prelude.{◌≤◌};
+    ghost use Rattle.std.specs.Prelude.{◌&&◌, ◌≤◌, is_none};
     ghost use Rattle.work_claim.specs.Workers.{Workers};
 
     ghost Value = { Workers R G };
 
-    ghost view = { λ w. record { rt = w.rt.now; count = w.count; gate = w.gate.now } };
+    ghost view = { λ w. record {
+      rt = w.rt.now;
+      count = w.count;
+      gate = w.gate.now;
+      all = is_none w.free && is_none w.helpers;
+    } };
 
     ghost invariant = { λ w. (1 ≤ w.count) × (w.count ≤ 64) };
 }
@@ -29,9 +38,15 @@ impl<'w, R, G> Workers<'w, R, G> {
     pub fn new(rt: &'w R, count: u32, gate: &'w G) -> Workers<'w, R, G>
         requires at_least_one { 1 ≤ count }
         requires at_most_64 { count ≤ 64 }
-        ensures { result ≡ record { rt = rt.now; count = count; gate = gate.now } }
+        ensures { result ≡ record { rt = rt.now; count = count; gate = gate.now; all = true } }
     {
-        Workers { rt, count, gate }
+        Workers {
+            rt,
+            count,
+            gate,
+            free: None,
+            helpers: None,
+        }
     }
 
     /// How many they are.
@@ -59,35 +74,102 @@ impl<'w, R, G> Workers<'w, R, G> {
 
     /// One of them.
     pub fn alone(&self) -> Workers<'w, R, G>
-        ensures { result ≡ record self.now { count = 1 } }
+        ensures { result ≡ record self.now { count = 1; all = true } }
     {
-        Workers { count: 1, ..*self }
+        Workers {
+            count: 1,
+            free: None,
+            helpers: None,
+            ..*self
+        }
+    }
+
+    /// The same workers, of whom work on labels is shared by those who are free.
+    pub fn as_free(&self, free: &'w Free) -> Workers<'w, R, G>
+        ensures { result ≡ record self.now { all = false } }
+    {
+        Workers {
+            free: Some(free),
+            ..*self
+        }
+    }
+
+    /// The same workers, of whom work on labels is shared as long as helpers come in time.
+    pub fn watched(&self, helpers: &'w Helpers) -> Workers<'w, R, G>
+        ensures { result ≡ record self.now { all = false } }
+    {
+        Workers {
+            helpers: Some(helpers),
+            ..*self
+        }
+    }
+
+    /// One of them, who was started to help, found a piece to do.
+    pub(crate) fn come_to_help(&self) {
+        if let Some(helpers) = self.helpers {
+            helpers.come();
+        }
+    }
+
+    /// They have shared a job.
+    pub(crate) fn end_job(&self) {
+        if let Some(helpers) = self.helpers {
+            helpers.end_job();
+        }
     }
 
     /// The same workers, who pass another gate.
     pub fn with_gate<H>(&self, gate: &'w H) -> Workers<'w, R, H>
-        ensures { result ≡ record { rt = self.now.rt; count = self.now.count; gate = gate.now } }
+        ensures { result ≡ record {
+          rt = self.now.rt;
+          count = self.now.count;
+          gate = gate.now;
+          all = true;
+        } }
     {
         Workers {
             rt: self.rt,
             count: self.count,
             gate,
+            free: None,
+            helpers: None,
         }
     }
 }
 
 impl<'w, R, G: Gate> Workers<'w, R, G> {
-    /// Those who share work on so many labels: all of them where each has as many as the gate asks for, else one, since
-    /// starting threads would take longer than they save.
+    /// Those who share work on so many labels: all of them, or those who are free, where each has as many as the gate asks for,
+    /// else one, since starting threads would take longer than they save; also one where helpers came too late.
     pub fn for_labels(&self, labels: usize) -> Workers<'w, R, G>
-        ensures { result ≡ record self.now {
+        ensures exact { self.now.all ≡ true → result ≡ record self.now {
           count = if nat_le G.SHARED_FROM (labels / self.now.count) then self.now.count else 1;
         } }
+        ensures at_most { result.count ≤ self.now.count }
+        ensures rt { result.rt ≡ self.now.rt }
+        ensures gate { result.gate ≡ self.now.gate }
     {
-        if labels / self.count as usize >= G::SHARED_FROM {
-            Workers { ..*self }
+        let count = match self.free {
+            None => self.count,
+            Some(free) => free.share(self.count),
+        };
+        if labels / count as usize >= G::SHARED_FROM && (count == 1 || self.may_share()) {
+            Workers {
+                count,
+                free: None,
+                ..*self
+            }
         } else {
             self.alone()
+        }
+    }
+
+    /// Whether helpers come in time. A gate that wants all work shared doesn't ask.
+    fn may_share(&self) -> bool
+        ensures { self.now.all ≡ true → result ≡ true }
+    {
+        match self.helpers {
+            Some(helpers) if G::SHARED_FROM > 0 => helpers.may_share(),
+            _ => true,
         }
     }
 }

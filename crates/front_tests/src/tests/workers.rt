@@ -2,3 +2,4 @@ mod counting;
 mod meeting;
 mod order;
 mod relaxing;
+mod sharing;

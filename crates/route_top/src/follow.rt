@@ -31,7 +31,7 @@ use std::sync::Wait;
 use std::thread::Threads;
 use std::time::Clock;
 use still_commands::{Script, Stop, read_network};
-use work_claim::Workers;
+use work_claim::{Helpers, Workers};
 
 /// Writes the feed of an operator's script, or takes feeds and serves sessions beside them, over the named files.
 pub(crate) fn run<'a, R: Threads + Wait + Clock + Sync, G: Gate, F: Folder, K: Sink>(
@@ -106,7 +106,8 @@ fn take_feeds<'a, R: Threads + Wait + Clock + Sync, G: Gate, F: Folder, K: Sink>
 {
     let (graph, weights) = read_network(alloc, folder, &asked.files)?;
     let (mut feeds, mut links) = read_all(alloc, folder, asked)?;
-    let workers = Workers::new(rt, asked.limits.workers, gate);
+    let helpers = Helpers::new();
+    let workers = Workers::new(rt, asked.limits.workers, gate).watched(&helpers);
     let context = ServeContext {
         workers: &workers,
         alloc,

@@ -24,7 +24,7 @@ use std::sync::Wait;
 use std::thread::Threads;
 use std::time::Clock;
 use still_commands::{Script, Stop, read_network};
-use work_claim::Workers;
+use work_claim::{Helpers, Workers};
 
 /// The most bytes that are taken from a link. No script has as many.
 pub(crate) const MAX_TAKEN: u64 = 1 << 40;
@@ -48,7 +48,8 @@ pub(crate) fn run<'a, R: Threads + Wait + Clock + Sync, G: Gate, F: Folder, K: S
 {
     let (graph, weights) = read_network(alloc, folder, &asked.files)?;
     let mut links = read_scripts(alloc, folder, asked)?;
-    let workers = Workers::new(rt, asked.limits.workers, gate);
+    let helpers = Helpers::new();
+    let workers = Workers::new(rt, asked.limits.workers, gate).watched(&helpers);
     let context = ServeContext {
         workers: &workers,
         alloc,

@@ -22,7 +22,7 @@ use std::sync::Wait;
 use std::thread::Threads;
 use std::time::Clock;
 use still_commands::{Stop, read_network};
-use work_claim::Workers;
+use work_claim::{Helpers, Workers};
 
 /// Has the town listen over the network of the named files, and serves what its doors give until they give no more.
 pub(crate) fn run<'a, R: Threads + Wait + Clock + Sync, G: Gate, F: Folder, K: Sink, T: Town>(
@@ -49,7 +49,8 @@ pub(crate) fn run<'a, R: Threads + Wait + Clock + Sync, G: Gate, F: Folder, K: S
         (run_outcome result) }
 {
     let (graph, weights) = read_network(alloc, folder, &asked.files)?;
-    let workers = Workers::new(rt, asked.limits.workers, gate);
+    let helpers = Helpers::new();
+    let workers = Workers::new(rt, asked.limits.workers, gate).watched(&helpers);
     let context = ServeContext {
         workers: &workers,
         alloc,

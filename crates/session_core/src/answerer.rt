@@ -99,11 +99,12 @@ impl<R: Threads + Sync, G: Gate> Answerer<'_, R, G> {
             result }
     {
         let count = found.count();
-        if self.workers.for_labels(count).count() == 1 {
+        let workers = &self.workers.for_labels(count);
+        if workers.count() == 1 {
             return put_answer(out, epoch, kind, query, self.network, found, room);
         }
         put_first_line(out, epoch, query, count)?;
-        self.put_windows(kind, found, room, out)
+        Answerer { workers, ..*self }.put_windows(kind, found, room, out)
     }
 }
 

@@ -25,7 +25,7 @@ use session_core::{Answerer, MadeReply};
 use std::alloc::Global;
 use std::thread::Threads;
 use walk_readback::Room;
-use work_claim::Workers;
+use work_claim::{Helpers, Workers};
 
 /// How many pairs a window has at most. The replies to all of them may be in memory before the first of them is sent.
 const MOST_PAIRS: usize = 1024;
@@ -50,7 +50,8 @@ pub(crate) fn run<'a, R: Threads + Sync, G: Gate, F: Folder, K: Sink>(
     let mut room = Room::with(alloc, 0)?;
     let pairs = read_pairs(alloc, folder, asked.pairs)?;
     let network = Network::new(&graph, &weights);
-    let workers = Workers::new(rt, asked.limits.workers, gate);
+    let helpers = Helpers::new();
+    let workers = Workers::new(rt, asked.limits.workers, gate).watched(&helpers);
     let answerer = Answerer {
         workers: &workers,
         alloc,

@@ -24,7 +24,7 @@ use route_io::sure::SureSink;
 use route_io::{Gate, Sink};
 use std::alloc::Global;
 use std::thread::Threads;
-use work_claim::Workers;
+use work_claim::{Helpers, Workers};
 
 /// Sends the file that is asked for, or where none is, what all files of the plan come to. It is made in memory first.
 pub(crate) fn run<'a, R: Threads + Sync, G: Gate, K: Sink>(
@@ -107,7 +107,8 @@ fn sum_up<R: Threads + Sync, G: Gate>(
     let (graph, weights) = plan_network(alloc, &asked.plan)?;
     let pairs = plan_pairs(alloc, &asked.plan)?;
     let network = Network::new(&graph, &weights);
-    let workers = Workers::new(rt, asked.limits.workers, gate);
+    let helpers = Helpers::new();
+    let workers = Workers::new(rt, asked.limits.workers, gate).watched(&helpers);
     let counter = Counter {
         workers: &workers,
         alloc,

@@ -22,7 +22,7 @@ use road_network::{Query, SearchFault};
 use route_io::{Folder, Gate, Sink};
 use std::alloc::Global;
 use std::thread::Threads;
-use work_claim::Workers;
+use work_claim::{Helpers, Workers};
 
 /// Sends a certificate of the answer to one query over the named files.
 pub(crate) fn run<'a, R: Threads + Sync, G: Gate, F: Folder, K: Sink>(
@@ -42,7 +42,8 @@ pub(crate) fn run<'a, R: Threads + Sync, G: Gate, F: Folder, K: Sink>(
 {
     let (graph, weights) = read_network(alloc, folder, &asked.files)?;
     let network = Network::new(&graph, &weights);
-    let workers = Workers::new(rt, asked.workers, gate);
+    let helpers = Helpers::new();
+    let workers = Workers::new(rt, asked.workers, gate).watched(&helpers);
     reply(&workers, alloc, &network, &asked.query, out)
 }
 

@@ -18,7 +18,7 @@ use session_core::Answerer;
 use std::alloc::Global;
 use std::thread::Threads;
 use walk_readback::Room;
-use work_claim::Workers;
+use work_claim::{Helpers, Workers};
 
 /// Answers one query over the named files.
 pub(crate) fn run<'a, R: Threads + Sync, G: Gate, F: Folder, K: Sink>(
@@ -38,7 +38,8 @@ pub(crate) fn run<'a, R: Threads + Sync, G: Gate, F: Folder, K: Sink>(
 {
     let (graph, weights) = read_network(alloc, folder, &asked.files)?;
     let network = Network::new(&graph, &weights);
-    let workers = Workers::new(rt, asked.workers, gate);
+    let helpers = Helpers::new();
+    let workers = Workers::new(rt, asked.workers, gate).watched(&helpers);
     let answerer = Answerer {
         workers: &workers,
         alloc,

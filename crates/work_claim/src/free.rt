@@ -3,7 +3,7 @@ ghost use Rattle.std.specs.Prelude.{◌≤◌};
 use std::sync::atomic::{AtomicU32, Ordering};
 
 /// Which workers have no piece left to begin, where some of a job's pieces, each of which may itself be shared, are still being
-/// done. It is told when a piece begins and when it ends.
+/// done. It learns when a piece begins and when it ends.
 #[derive(Drop)]
 pub struct Free {
     pieces: u32,

@@ -92,15 +92,15 @@ impl<'c, J: Job, R: Threads + Sync, G: Gate> JobRun<'c, J, R, G> {
         }
     }
 
-    /// Does so as a helper, and tells where it found a piece to do.
+    /// Does so as a helper, and tells how many pieces it did.
     fn help(&self, seat: WorkerSeat) -> Report<J::Out>
         requires seat { IsFresh 1 self.now.counter seat }
         requires accepted { (i : ℕ) → i < self.now.counter.pieces → J.accepts self.now.job.now i }
         ensures { HaveEnded (J.gives self.now.job.now) self.now.counter 1 result.seat result.done }
     {
         let report = self.work(seat);
-        if report.done.as_ref().is_ok_and(|done| !done.is_empty()) {
-            self.workers.come_to_help();
+        if let Ok(done) = &report.done {
+            self.workers.help(done.len() as u64);
         }
         report
     }

@@ -69,7 +69,7 @@ fn run_together<J: Job, R: Threads + Sync, G: Gate>(
         counter,
     };
     let report = job_run.run(seat, workers.count());
-    workers.end_job();
+    workers.end_job(pieces as u64);
     job_run.counter.close(report.seat);
     in_order(alloc, report.done?)
 }

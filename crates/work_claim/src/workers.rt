@@ -104,17 +104,17 @@ impl<'w, R, G> Workers<'w, R, G> {
         }
     }
 
-    /// One of them, who was started to help, found a piece to do.
-    pub(crate) fn come_to_help(&self) {
+    /// One of them, who was started to help, did so many pieces.
+    pub(crate) fn help(&self, pieces: u64) {
         if let Some(helpers) = self.helpers {
-            helpers.come();
+            helpers.help(pieces);
         }
     }
 
-    /// They have shared a job.
-    pub(crate) fn end_job(&self) {
+    /// They have shared a job of so many pieces.
+    pub(crate) fn end_job(&self, pieces: u64) {
         if let Some(helpers) = self.helpers {
-            helpers.end_job();
+            helpers.end_job(pieces, self.count);
         }
     }
 

@@ -1,42 +1,27 @@
 -- A queue cut into ranges, and what the passes over them take together.
-use Rattle.std.proofs.Common.{◌≡◌, ℕ, zero, suc, ◌+◌, ◌<◌, ◌⊎◌, ◌↔◌, List, [], ◌∷◌, ◌++◌, append_assoc, zero-add, take, drop, length, get_or, inl, inr, refl, sym, ap, subst, ◌∙◌, arith, Option, Some, None, Less, Equal, Greater, Bor}
-use Rattle.std.specs.Prelude.{All, AllPairs, Contains, IfOk, IfSome, IsTrue, Result, Ok, Err, is_ok, slice_get}
-use Rattle.std.specs.declared.cmp.Ordering.{Ordering}
-use Rattle.std.proofs.lemmas.Bool.{false≢true}
-use Rattle.std.proofs.lemmas.List.{take_at, take_more}
-use Rattle.std.proofs.lemmas.Option.{get_or_from_slice_get, slice_get_within}
+use Rattle.std.proofs.Common.{◌≡◌, ◌≢◌, ℕ, ◌+◌, ◌<◌, ◌⊎◌, ◌↔◌, List, [], ◌∷◌, ◌++◌, append_assoc, zero-add, take, drop, length, get_or}
+use Rattle.std.proofs.Common.{inl, inr, refl, sym, arith, Option, Some, None, Less, Equal, Greater, Bor}
+use Rattle.std.specs.Prelude.{All, AllPairs, Contains, IfSome, IsTrue, slice_get}
+use Rattle.std.proofs.lemmas.List.{drop_more}
+use Rattle.std.proofs.lemmas.List.Elements.{All-cons, All-nil, Contains-get_or}
+use Rattle.std.proofs.lemmas.Option.{gets, slice_get-get_or, slice_get_cases}
 use Rattle.list_laws.specs.Sets.{SameMembers}
-use Rattle.std.proofs.lemmas.List.Elements.{All-cons, All-nil}
-use Rattle.list_laws.proofs.Members.{all_got, cases_in, cases_push, in_first, in_none, in_rest}
-use Rattle.list_laws.proofs.OnceLaws.{in_append, pairs_append}
-use Rattle.list_laws.proofs.Pairs.{pairs_cons, pairs_none, pairs_rest, pairs_take, pair_with_first}
+use Rattle.list_laws.proofs.Members.{all_from_in, in_none}
+use Rattle.list_laws.proofs.OnceLaws.{in_append, in_cons}
+use Rattle.list_laws.proofs.Pairs.{pairs_cons, pairs_take}
 use Rattle.waiting_queue.specs.declared.item.Item.{Item}
 use Rattle.waiting_queue.specs.declared.joining.Part.{Part}
 use Rattle.waiting_queue.specs.declared.ranges.Range.{Range}
-use Rattle.waiting_queue.specs.Joining.{AreJoined, ComesBefore, IsPart, rest_of, taken_of}
+use Rattle.waiting_queue.specs.Joining.{AreJoined, IsPart, rest_of, taken_of}
 use Rattle.waiting_queue.specs.Filling.{AreFilled}
-use Rattle.waiting_queue.specs.Ranges.{ArePassed, AreRanges, GivesPart, IsOf, IsRange, LiesBefore, LiesIn, ListsWithin}
+use Rattle.waiting_queue.specs.Ranges.{ArePassed, AreRanges, GivesPart, IsOf, IsRange, LiesBefore, LiesIn, ListsWithin, PassesRange}
 use Rattle.waiting_queue.specs.Taking.{AreSorted, TakesOpenSpots}
 use Rattle.waiting_queue.specs.Waiting.{Spot, SpotLess, spot_cmp, spot_in}
-use Rattle.waiting_queue.proofs.JoiningLemmas.{in_flat}
+use Rattle.waiting_queue.proofs.JoiningLemmas.{in_flat, in_pushed, in_read, of_flat, pairs_flat}
 use Rattle.waiting_queue.proofs.OrderLemmas.{SpotLess-irrefl, SpotLess-trans, less_unless}
 use Rattle.waiting_queue.proofs.PassingLemmas.{first_of}
 use Rattle.waiting_queue.proofs.ShadowLemmas.{in_parts, pairs_drop, pairs_parts}
-use Rattle.waiting_queue.proofs.TakingLemmas.{apart_both, apart_if_taken, in_push, last_in, parts_take}
-
--- what a call that went well has made so
-pub if_ok : {T E P : Type 0} (r : Result T E) → IfOk r (λ _. P) → IsTrue (is_ok r) → P
-if_ok (Ok x) made ok = made
-if_ok (Err e) made ok = absurd (false≢true ok)
-
--- one place more was filled
-pub filled_cons : {P : Type 0} (Gives : ℕ → P → Type 0) (first : ℕ) (old new : P) (olds news : List P) → Gives first new
-    → AreFilled Gives (first + 1) olds news → AreFilled Gives first (old ∷ olds) (new ∷ news)
-filled_cons {P} Gives first old new olds news here there = record { count = omega (arith, there.count); each = at }
-  where
-    at : (i : ℕ) (p : P) → slice_get (new ∷ news) i ≡ Some p → Gives (first + i) p
-    at zero p is = let same : new ≡ p = cc in let place : first ≡ first + 0 = omega arith in subst (λ k. Gives k p) place (subst (Gives first) same here)
-    at (suc i) p is = let place : first + 1 + i ≡ first + suc i = omega arith in subst (λ k. Gives k p) place (there.each i p is)
+use Rattle.waiting_queue.proofs.TakingLemmas.{parts_take}
 
 module _ {C : Type 0} (components : C → List ℕ) where
   abbrev spot : Item C → Spot
@@ -63,81 +48,56 @@ module _ {C : Type 0} (components : C → List ℕ) where
     pub behind : (x : Item C) → Contains left x → IsFrom from x
     pub goes_on : (others : List (Item C)) (more : List (Range C)) → AreRangesFrom from left others more → AreRanges components all others (ranges ++ more)
 
+  -- none was cut off
   pub cutting_none : (all : List (Item C)) → AreSorted spot all → IsCutting all [] all None
   cutting_none all sorted = record {
     sorted = sorted;
     behind = λ x h. tt;
-    goes_on = λ others more are. record {
-      each = are.each;
-      ascending = are.ascending;
-      has = λ x. (
-        λ h. (are.has x).0 (elim h [ inl item ↦ inl item | inr other ↦ inr (other, tt) ]),
-        λ h. elim ((are.has x).1 h) [ inl item ↦ inl item | inr other ↦ inr other.0 ],
-      );
-    };
+    goes_on = λ others more are. record { each = are.each; ascending = are.ascending; has = λ x. let has = are.has x in grind arith };
   }
 
   -- what is of a range, or of a later one
   some_of : (r : Range C) (more : List (Range C)) (others : List (Item C)) (x : Item C)
-      → ((s : Range C) × Contains (r ∷ more) s × IsOf components others s x) ↔ (IsOf components others r x ⊎ ((s : Range C) × Contains more s × IsOf components others s x))
+      → ((s : Range C) × Contains (r ∷ more) s × IsOf components others s x)
+      ↔ (IsOf components others r x ⊎ ((s : Range C) × Contains more s × IsOf components others s x))
   some_of r more others x = (
-    λ (s, there, i). elim (cases_in r more s there) [ inl same ↦ inl (subst (λ q. IsOf components others q x) same i) | inr later ↦ inr (s, later, i) ],
-    λ h. elim h [ inl here ↦ (r, in_first r more, here) | inr (s, later, i) ↦ (s, in_rest r more s later, i) ],
+    λ (s, there, i). let cases = in_cons r more s in grind arith,
+    λ h. elim h [ inl here ↦ (r, (in_cons r more r).1 (inl refl), here) | inr (s, later, i) ↦ (s, (in_cons r more s).1 (inr later), i) ],
   )
 
   -- what isn't less than s comes after what isn't more than s
   not_after_by : (x y s : Item C) → NotAfter x s → NotAfter s y → NotAfter x y
   not_after_by x y s low high less = high (less_unless (spot y) (spot s) (spot x) less low)
 
-  before_or_not : (a b : Spot) → SpotLess a b ⊎ (¬ SpotLess a b)
-  before_or_not a b = by (spot_cmp a b) refl
-    where
-      by : (o : Ordering) → spot_cmp a b ≡ o → SpotLess a b ⊎ (¬ SpotLess a b)
-      by Less e = inl e
-      by Equal e = inr (λ less. absurd (cc))
-      by Greater e = inr (λ less. absurd (cc))
+  -- one comes before another, or not
+  less_or_not : (a b : Spot) → SpotLess a b ⊎ (¬ SpotLess a b)
+  less_or_not a b = elim (spot_cmp a b) as (λ o. (o ≡ Less) ⊎ (o ≢ Less)) [ Less ↦ inl refl | Equal ↦ inr (λ e. absurd cc) | Greater ↦ inr (λ e. absurd cc) ]
 
   -- one range more is cut off, before the first of those that are left
-  module _ (all : List (Item C)) (ranges : List (Range C)) (left : List (Item C)) (from : Option (Bor (Item C))) (is : IsCutting all ranges left from)
+  module _ {all : List (Item C)} {ranges : List (Range C)} {left : List (Item C)} {from : Option (Bor (Item C))} (is : IsCutting all ranges left from)
       (k : ℕ) (u : Bor (Item C)) (first : slice_get (drop k left) 0 ≡ Some u.now) (front : Bor (List (Item C))) (items_are : front.now ≡ take k left) where
     abbrev r : Range C
     r = record { items = front; from = from; until = Some u }
 
     u_in : Contains (drop k left) u.now
-    u_in = (0, slice_get_within (drop k left) 0 u.now first, get_or_from_slice_get (drop k left) 0 u.now u.now first)
+    u_in = (0, grind (arith, gets), grind (arith, gets))
 
     later_behind : (x : Item C) → Contains (drop k left) x → NotAfter u.now x
-    later_behind x h = elim (drop k left) as (λ xs. slice_get xs 0 ≡ Some u.now → AreSorted spot xs → Contains xs x → NotAfter u.now x) [
-      | [] ↦ λ got sorted there. absurd (in_none x there)
-      | f ∷ others ↦ λ got sorted. first_of components (f ∷ others) u.now others (let same : f ≡ u.now = cc in ap (λ z. z ∷ others) same) sorted x
-    ] first (pairs_drop NotAfter k left is.sorted) h
-
-    front_of : (others : List (Item C)) (x : Item C) → IsOf components others r x
-        ↔ (Contains (take k left) x ⊎ ((Contains others x × IsFrom from x) × SpotLess (spot x) (spot u.now)))
-    front_of others x = rw items_are (
-      λ h. elim h [ inl item ↦ inl item | inr (there, lies) ↦ inr ((there, lies.from), lies.until) ],
-      λ h. elim h [ inl item ↦ inl item | inr ((there, behind), less) ↦ inr (there, record { from = behind; until = less }) ],
-    )
-
-    -- all of the range comes before u or is in front of it, and all later is behind
-    lies_before : (others : List (Item C)) (x y : Item C) → Contains (take k left) x ⊎ ((Contains others x × IsFrom from x) × SpotLess (spot x) (spot u.now))
-        → Contains (drop k left) y ⊎ (Contains others y × IsFrom (Some u) y) → NotAfter x y
-    lies_before others x y front back = not_after_by x y u.now (elim front [
-      | inl item ↦ pairs_parts NotAfter k left x u.now is.sorted item u_in
-      | inr other ↦ λ less. SpotLess-irrefl (spot x) (SpotLess-trans (spot x) (spot u.now) (spot x) other.1 less)
-    ]) (elim back [ inl item ↦ later_behind y item | inr other ↦ other.1 ])
+    later_behind = first_of components (drop k left) u.now (drop 1 (drop k left)) (grind (arith, gets, drop_more)) (pairs_drop NotAfter k left is.sorted)
 
     -- u doesn't come before where the range begins
     from_u : (x : Item C) → IsFrom (Some u) x → IsFrom from x
-    from_u x behind = go from (is.behind u.now ((in_parts left k u.now).1 (inr u_in)))
-      where
-        go : (f : Option (Bor (Item C))) → IsFrom f u.now → IsFrom f x
-        go None here = tt
-        go (Some b) here = not_after_by b.now x u.now here behind
+    from_u x behind = let at_u = is.behind u.now ((in_parts left k u.now).1 (inr u_in)) in grind (arith, not_after_by)
 
-    regrouped : {Left Front Back O F Is Less More Some : Type 0} → Left ↔ (Front ⊎ Back) → Is ↔ (Front ⊎ ((O × F) × Less)) → (Back ⊎ (O × ¬ Less)) ↔ More
-        → Less ⊎ (¬ Less) → (¬ Less → F) → Some ↔ (Is ⊎ More) → (Left ⊎ (O × F)) ↔ Some
-    regrouped left is more either from some = grind arith
+    -- all of the range comes before u or is in front of it, and all later is behind
+    front_before : (others : List (Item C)) (x : Item C) → IsOf components others r x → NotAfter x u.now
+    front_before others x h =
+        let in_front = pairs_parts NotAfter k left x u.now is.sorted in
+        grind (arith, items_are, u_in, SpotLess-irrefl (spot x), SpotLess-trans (spot x) (spot u.now) (spot x))
+
+    regrouped : {Left Front Back O F L Less More Some : Type 0} → Left ↔ (Front ⊎ Back) → L ↔ (F × Less) → (Back ⊎ (O × ¬ Less)) ↔ More
+        → Less ⊎ (¬ Less) → (¬ Less → F) → Some ↔ ((Front ⊎ (O × L)) ⊎ More) → (Left ⊎ (O × F)) ↔ Some
+    regrouped left lies more either from some = grind arith
 
     pub cutting_more : IsCutting all (ranges ++ r ∷ []) (drop k left) (Some u)
     cutting_more = record {
@@ -145,139 +105,131 @@ module _ {C : Type 0} (components : C → List ℕ) where
       behind = later_behind;
       goes_on = λ others more are. rw append_assoc (is.goes_on others (r ∷ more) (record {
         each = All-cons (IsRange components) r more (rw items_are (pairs_take NotAfter k left is.sorted)) are.each;
-        ascending = pairs_cons (LiesBefore components others) r more (λ s there x y h i.
-            lies_before others x y ((front_of others x).0 h) ((are.has y).1 (s, there, i))) are.ascending;
-        has = λ x. regrouped (in_parts left k x) (front_of others x) (are.has x) (before_or_not (spot x) (spot u.now)) (from_u x) (some_of r more others x);
+        ascending = pairs_cons (LiesBefore components others) r more (λ s there x y h i. not_after_by x y u.now (front_before others x h)
+            (let has = (are.has y).1 (s, there, i) in let later = later_behind y in grind arith)) are.ascending;
+        has = λ x. regrouped (rw items_are (in_parts left k x)) (λ lies. (lies.from, lies.until), λ h. record { from = h.0; until = h.1 }) (are.has x)
+            (less_or_not (spot x) (spot u.now)) (from_u x) (some_of r more others x);
       }));
     }
 
   -- what is left is the last range
-  pub cutting_all : (all : List (Item C)) (ranges : List (Range C)) (left : Bor (List (Item C))) (from : Option (Bor (Item C))) → IsCutting all ranges left.now from
+  pub cutting_all : {all : List (Item C)} {ranges : List (Range C)} (left : Bor (List (Item C))) {from : Option (Bor (Item C))}
+      → IsCutting all ranges left.now from
       → (others : List (Item C)) → AreRanges components all others (ranges ++ (record { items = left; from = from; until = None }) ∷ [])
-  cutting_all all ranges left from is others =
+  cutting_all left {from} is others =
       let r : Range C = record { items = left; from = from; until = None } in
       is.goes_on others (r ∷ []) (record {
         each = All-cons (IsRange components) r [] is.sorted (All-nil (IsRange components));
-        ascending = pairs_cons (LiesBefore components others) r [] (λ s none. absurd (in_none s none)) (pairs_none (LiesBefore components others));
-        has = λ x. (
-          λ h. (some_of r [] others x).1 (inl (elim h [ inl item ↦ inl item | inr other ↦ inr (other.0, record { from = other.1; until = tt }) ])),
-          λ h. elim ((some_of r [] others x).0 h) [
-            | inl (inl item) ↦ inl item
-            | inl (inr other) ↦ inr (other.0, other.1.from)
-            | inr (s, none, i) ↦ absurd (in_none s none)
-          ],
-        );
+        ascending = λ i j d before within. absurd (omega (arith, before, within));
+        has = λ x. let some = some_of r [] others x in grind (arith, in_none);
       })
 
   -- ---- what comes in and lies in a range
 
   module _ (r : Range C) (items old new : List (Item C)) (i : ℕ) (x : Item C) (within : i < length items) (at : x ≡ get_or items i x)
       (listed : ListsWithin components r (take i items) old new) where
-    grown : (y : Item C) → Contains (take (i + 1) items) y ↔ (Contains (take i items) y ⊎ (y ≡ x))
-    grown y =
-        let same : take (i + 1) items ≡ take i items ++ x ∷ [] = take_more items i x within ∙ ap (λ z. take i items ++ z ∷ []) (sym at) in
-        subst (λ ys. Contains ys y ↔ (Contains (take i items) y ⊎ (y ≡ x))) (sym same)
-        (cases_push (take i items) x y, λ h. elim h [ inl before ↦ in_push (take i items) x y before | inr last ↦ subst (Contains (take i items ++ x ∷ [])) (sym last) (last_in (take i items) x) ])
-
-    pushed : (y : Item C) → Contains (new ++ x ∷ []) y ↔ (Contains new y ⊎ (y ≡ x))
-    pushed y = (cases_push new x y, λ h. elim h [ inl before ↦ in_push new x y before | inr last ↦ subst (Contains (new ++ x ∷ [])) (sym last) (last_in new x) ])
-
     joined : {New New2 Old I I2 E L : Type 0} → New ↔ (Old ⊎ (I × L)) → I2 ↔ (I ⊎ E) → New2 ↔ (New ⊎ E) → (E → L) → New2 ↔ (Old ⊎ (I2 × L))
     joined was more new lies = grind arith
 
     passed_by : {New Old I I2 E L : Type 0} → New ↔ (Old ⊎ (I × L)) → I2 ↔ (I ⊎ E) → (E → ¬ L) → New ↔ (Old ⊎ (I2 × L))
     passed_by was more not = grind arith
 
-    pub listed_more : LiesIn components r x → ListsWithin components r (take (i + 1) items) old (new ++ x ∷ [])
-    listed_more lies y = joined (listed y) (grown y) (pushed y) (λ same. subst (LiesIn components r) (sym same) lies)
-
-    pub listed_as_before : ¬ LiesIn components r x → ListsWithin components r (take (i + 1) items) old new
-    listed_as_before not y = passed_by (listed y) (grown y) (λ same lies. not (subst (LiesIn components r) same lies))
+    pub listed_next : (LiesIn components r x → ListsWithin components r (take (i + 1) items) old (new ++ x ∷ []))
+        × ((¬ LiesIn components r x) → ListsWithin components r (take (i + 1) items) old new)
+    listed_next = (
+      λ lies y. joined (listed y) (in_read items i x y within at) (in_pushed new x y) (λ same. rw same lies),
+      λ not y. passed_by (listed y) (in_read items i x y within at) (λ same. rw same not),
+    )
 
   -- what is of a range, in order
   pub all_of_range : (r : Range C) (late fresh none half listed sorted : List (Item C)) → none ≡ [] → ListsWithin components r late none half
-      → ListsWithin components r fresh half listed → SameMembers listed sorted → (x : Item C) → Contains (r.items.now ++ sorted) x ↔ IsOf components (late ++ fresh) r x
+      → ListsWithin components r fresh half listed → SameMembers sorted listed
+      → (x : Item C) → Contains (r.items.now ++ sorted) x ↔ IsOf components (late ++ fresh) r x
   all_of_range r late fresh none half listed sorted empty first second same x =
-      regrouped (in_append r.items.now sorted x) (same x) (second x) (first x) (λ h. in_none x (subst (λ xs. Contains xs x) empty h)) (in_append late fresh x)
+      regrouped (in_append r.items.now sorted x) (same x) (second x) (first x) (rw empty (in_none x)) (in_append late fresh x)
     where
-      regrouped : {All Items Sorted Listed Half None Late Fresh Both L : Type 0} → All ↔ (Items ⊎ Sorted) → Listed ↔ Sorted → Listed ↔ (Half ⊎ (Fresh × L))
+      regrouped : {All Items Sorted Listed Half None Late Fresh Both L : Type 0} → All ↔ (Items ⊎ Sorted) → Sorted ↔ Listed → Listed ↔ (Half ⊎ (Fresh × L))
           → Half ↔ (None ⊎ (Late × L)) → ¬ None → Both ↔ (Late ⊎ Fresh) → All ↔ (Items ⊎ (Both × L))
       regrouped all same second first empty both = grind arith
 
   -- ---- what the passes take together
 
-  module _ (Open : Spot → Type 0) (others : List (Item C)) where
-    -- what was passed in the ranges
-    record Passed (rs : List (Range C)) (ps : List (Part C)) : Type 0 where
-      all : List (Item C)
-      has : (x : Item C) → Contains all x ↔ ((r : Range C) × Contains rs r × IsOf components others r x)
-      passed : ArePassed components Open all ps
+  -- all parts were filled, and memory sufficed
+  module _ (Open : Spot → Type 0) {items others : List (Item C)} {rs : List (Range C)} {old ps after : List (Part C)}
+      (are : AreRanges components items others rs) (long : length old ≡ length rs)
+      (filled : AreFilled (λ k p. IsTrue p.is_whole → GivesPart components Open others rs k p) 0 old ps)
+      (same : after ≡ ps) (whole : All (λ p. IsTrue p.is_whole) after) where
+    abbrev Passes : Part C → Range C → Type 0
+    Passes p r = PassesRange components Open others r p.taken.items p.rest.items p.shadow.items
 
-    -- parts of ranges that ascend
-    all_passed : (rs : List (Range C)) (ps : List (Part C)) → AllPairs (LiesBefore components others) rs → length ps ≡ length rs
-        → ((k : ℕ) (p : Part C) → slice_get ps k ≡ Some p → GivesPart components Open others rs k p) → Passed rs ps
-    all_passed [] (p ∷ ps) up long each = absurd (omega (arith, long))
-    all_passed (r ∷ rs) [] up long each = absurd (omega (arith, long))
-    all_passed [] [] up long each = record {
-      all = [];
-      has = λ x. (λ h. absurd (in_none x h), λ (s, none, i). absurd (in_none s none));
-      passed = record {
-        are = record { each = All-nil (IsPart components); ascending = pairs_none (ComesBefore components) };
-        apart = record { held = λ x h. absurd (in_none x h); stays = λ x h. absurd (in_none x h); leaves = λ x h. absurd (in_none x h) };
-        sorted = pairs_none NotAfter;
+    abbrev Met : Part C → Item C → Type 0
+    Met p x = Contains p.taken.items x ⊎ Contains p.rest.items x
+
+    -- any range
+    nowhere : Range C
+    nowhere = record { items = record { ref_ptr = (0, 0); now = [] }; from = None; until = None }
+
+    -- a part is of the range at its place
+    passes : (k : ℕ) (d : Part C) (e : Range C) → k < length ps → Passes (get_or ps k d) (get_or rs k e)
+    passes k d e within = filled.each k (get_or ps k d) (slice_get-get_or ps k d within) ((rw same at whole) k d within) (get_or rs k e)
+        (rw zero-add (slice_get-get_or rs k e (omega (arith, within, long, filled.count))))
+
+    of_range : (r : Range C) → Contains rs r → (p : Part C) × Contains ps p × Passes p r
+    of_range r (k, within, is) = elim (slice_get_cases ps k).1 [
+      | inl (p, inside, got, at) ↦ (p, (k, inside, at), rw (at, is) at (passes k p r inside))
+      | inr past ↦ absurd (omega (arith, past.0, within, long, filled.count))
+    ]
+
+    of_part : (p : Part C) → Contains ps p → (r : Range C) × Contains rs r × Passes p r
+    of_part p (k, within, is) =
+        (get_or rs k nowhere, Contains-get_or rs k nowhere (omega (arith, within, long, filled.count)), rw is at (passes k p nowhere within))
+
+    -- what was met in a part is of its range, and so it was there
+    met : (p : Part C) (r : Range C) (x : Item C) → Passes p r → Met p x → IsOf components others r x
+    met p r x is h = (is.all x).0 (elim h [ inl took ↦ is.takes.among x took | inr stays ↦ (is.takes.stays x stays).0 ])
+
+    came : (p : Part C) (x : Item C) → Contains ps p → Met p x → Contains (items ++ others) x
+    came p x p_in h = let (r, r_in, is) = of_part p p_in in (in_append items others x).1 ((are.has x).1 (r, r_in, met p r x is h))
+
+    -- nothing that was met in a later part comes before what was met in an earlier one
+    ascend : (f : Part C → List (Item C)) → ((p : Part C) (x : Item C) → Contains (f p) x → Met p x)
+        → AllPairs (λ p q. (x y : Item C) → Contains (f p) x → Contains (f q) y → NotAfter x y) ps
+    ascend f has i j d before within x y h l = are.ascending i j nowhere before (omega (arith, within, long, filled.count)) x y
+        (met (get_or ps i d) (get_or rs i nowhere) x (passes i d nowhere (omega (arith, before, within))) (has (get_or ps i d) x h))
+        (met (get_or ps j d) (get_or rs j nowhere) y (passes j d nowhere within) (has (get_or ps j d) y l))
+
+    pub are_passed : ArePassed components Open (items ++ others) after
+    are_passed = rw same (record {
+      are = record {
+        each = all_from_in (IsPart components) ps (λ p h. let (r, r_in, is) = of_part p h in record {
+          ascending = is.takes.ascending;
+          apart = λ x y i j. ((is.takes.taken (spot y)).0 (y, j, refl)).2 x (is.takes.among x i) ((is.takes.taken (spot x)).0 (x, i, refl)).1;
+          shadow = is.shadow;
+          descends = is.descends;
+        });
+        ascending = ascend (λ p. p.taken.items) (λ p x h. inl h);
       };
-    }
-    all_passed (r ∷ rs) (p ∷ ps) up long each =
-        let is = each 0 p refl r refl in
-        let later = all_passed rs ps (pairs_rest (LiesBefore components others) r rs up) (omega (arith, long)) (λ k q at s at_too. each (suc k) q at s at_too) in
-        let rest = later.passed in
-        let behind : (x y : Item C) → Contains is.met x → Contains later.all y → NotAfter x y = λ x y h i.
-        let (s, s_in, y_of) = (later.has y).0 i in pair_with_first (LiesBefore components others) r rs up s s_in x y ((is.all x).0 h) y_of in
-        record {
-          all = is.met ++ later.all;
-          has = λ x. joined (in_append is.met later.all x) (is.all x) (later.has x) (some_of r rs others x);
-          passed = record {
-            are = record {
-              each = All-cons (IsPart components) p ps (record {
-                ascending = is.takes.ascending;
-                apart = λ x y h k. ((is.takes.taken (spot y)).0 (y, k, refl)).2 x (is.takes.among x h) ((is.takes.taken (spot x)).0 (x, h, refl)).1;
-                shadow = is.shadow;
-                descends = is.descends;
-              }) rest.are.each;
-              ascending = pairs_cons (ComesBefore components) p ps (λ q there x y h k.
-                  behind x y (is.takes.among x h) (rest.apart.held y (in_flat (λ (s : Part C). s.taken.items) ps q y there k)).0) rest.are.ascending;
-            };
-            apart = apart_both spot Open is.met p.taken.items p.rest.items later.all (taken_of ps) (rest_of ps)
-                (apart_if_taken spot Open is.met p.taken.items p.rest.items is.takes) rest.apart;
-            sorted = pairs_append NotAfter p.rest.items (rest_of ps) is.sorted rest.sorted
-                (λ x y h k. behind x y (is.takes.stays x h).0 (rest.apart.stays y k).0);
-          };
-        }
-      where
-        joined : {A M L I S T : Type 0} → A ↔ (M ⊎ L) → M ↔ I → L ↔ S → T ↔ (I ⊎ S) → A ↔ T
-        joined a m l t = grind arith
+      apart = record {
+        held = λ x h.
+            let (p, p_in, here) = of_flat (λ (p : Part C). p.taken.items) ps x h in
+            let (r, r_in, is) = of_part p p_in in (came p x p_in (inl here), ((is.takes.taken (spot x)).0 (x, here, refl)).1);
+        stays = λ x h.
+            let (p, p_in, here) = of_flat (λ (p : Part C). p.rest.items) ps x h in
+            let (r, r_in, is) = of_part p p_in in
+            let (y, y_in, by) = (is.takes.stays x here).1 in (came p x p_in (inr here), (y, in_flat (λ (p : Part C). p.taken.items) ps p y p_in y_in, by));
+        leaves = λ x h.
+            let (r, r_in, x_of) = (are.has x).0 ((in_append items others x).0 h) in
+            let (p, p_in, is) = of_range r r_in in
+            elim (is.takes.leaves x ((is.all x).1 x_of)) [
+              | inl there ↦ inl (x, in_flat (λ (p : Part C). p.rest.items) ps p x p_in there, refl)
+              | inr (inl (y, y_in, at)) ↦ inr (inl (y, in_flat (λ (p : Part C). p.taken.items) ps p y p_in y_in, at))
+              | inr (inr closed) ↦ inr (inr closed)
+            ];
+      };
+      sorted = pairs_flat (λ p. p.rest.items) NotAfter ps (λ p h. (of_part p h).2.sorted) (ascend (λ p. p.rest.items) (λ p x h. inr h));
+    })
 
-    -- all parts were filled, and memory sufficed
-    pub are_passed : (items : List (Item C)) (rs : List (Range C)) (before ps old after : List (Part C)) (n : ℕ) → AreRanges components items others rs
-        → length before ≡ length rs → AreFilled (λ k p. IsTrue p.is_whole → GivesPart components Open others rs k p) 0 before ps → length ps ≡ n
-        → after ≡ take n (ps ++ drop (length ps) old) → All (λ p. IsTrue p.is_whole) after → ArePassed components Open (items ++ others) after
-    are_passed items rs before ps old after n are long filled size stand whole =
-        let same : after ≡ ps = stand ∙ take_at ps (drop (length ps) old) n size in
-        let by = all_passed rs ps are.ascending (filled.count ∙ long)
-        (λ k p at. subst (λ j. GivesPart components Open others rs j p) (zero-add k) (filled.each k p at (all_got (λ q. IsTrue q.is_whole) ps k p (subst (All (λ q. IsTrue q.is_whole)) same whole) at))) in
-        let here : (x : Item C) → Contains by.all x → Contains (items ++ others) x = λ x h. (in_append items others x).1 ((are.has x).1 ((by.has x).0 h)) in
-        rw same (record {
-          are = by.passed.are;
-          apart = record {
-            held = λ x h. let was = by.passed.apart.held x h in (here x was.0, was.1);
-            stays = λ x h. let was = by.passed.apart.stays x h in (here x was.0, was.1);
-            leaves = λ x h. by.passed.apart.leaves x ((by.has x).1 ((are.has x).0 ((in_append items others x).0 h)));
-          };
-          sorted = by.passed.sorted;
-        })
-
-  module _ (Open : Spot → Type 0) where
-    -- what is joined of the parts is what one pass over all takes
-    pub joined_take : (items : List (Item C)) (ps : List (Part C)) (took back : List (Item C)) → ArePassed components Open items ps
-        → AreJoined components ps took back → TakesOpenSpots spot Open items took (rest_of ps ++ back)
-    joined_take items ps took back passed = parts_take spot Open items (taken_of ps) (rest_of ps) took back passed.apart
+  -- what is joined of the parts is what one pass over all takes
+  pub joined_take : (Open : Spot → Type 0) (items : List (Item C)) (ps : List (Part C)) (took back : List (Item C)) → ArePassed components Open items ps
+      → AreJoined components ps took back → TakesOpenSpots spot Open items took (rest_of ps ++ back)
+  joined_take Open items ps took back passed = parts_take spot Open items (taken_of ps) (rest_of ps) took back passed.apart

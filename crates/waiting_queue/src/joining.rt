@@ -64,6 +64,7 @@ where
 }
 
 /// Lists what the parts took. What the list held before is gone.
+#[tactic(auto, using(crate::proofs::JoiningLemmas::flat_steps))]
 fn list_taken<C: Copy + Drop>(parts: &[Part<C>], all: &mut Vec<Item<C>>) -> Result<(), OutOfMemory>
     ensures { IfOk result (λ _. all.new.items ≡ taken_of parts.now) }
 {
@@ -75,6 +76,7 @@ fn list_taken<C: Copy + Drop>(parts: &[Part<C>], all: &mut Vec<Item<C>>) -> Resu
 }
 
 /// Lists what stays in the parts. The first one's list is taken over, so that only the others are copied.
+#[tactic(auto, using(crate::proofs::JoiningLemmas::flat_steps))]
 pub(crate) fn list_rests<C: Copy + Drop>(
     parts: &mut [Part<C>],
     rest: &mut Vec<Item<C>>,

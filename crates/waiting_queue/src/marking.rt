@@ -59,6 +59,7 @@ fn who_marks<'w, R, G>(workers: &Workers<'w, R, G>, criteria: usize) -> Workers<
 }
 
 /// Cuts a list into at most so many pieces, in order.
+#[tactic(auto, using(crate::proofs::JoiningLemmas::flat_steps))]
 fn cut_evenly<C>(
     alloc: Global,
     list: &[Item<C>],

@@ -127,6 +127,7 @@ where
     ghost gives = { λ pass place part. IsTrue part.is_whole → GivesPart C.components
         (K.IsOpen pass.look.now) (others_of pass.lists.now) pass.ranges.now place part };
 
+    #[tactic(auto, using(std::proofs::lemmas::Option::gets))]
     fn fill(&self, place: usize, part: &mut Part<C>) {
         let passed = pass_range(self.look, self.lists, &self.ranges[place], part);
         part.is_whole = passed.is_ok();

@@ -60,6 +60,7 @@ impl<const D: usize, C: StoredCost<D>> Run<D, C> {
     }
 
     /// How many items there are, and those that are gone.
+    #[tactic(auto, using(crate::proofs::RunLemmas::live_few, std::proofs::lemmas::Grind::common_steps))]
     pub(crate) fn len(&self) -> usize
         ensures { length (all_of self.now) ≤ result }
     {
@@ -76,6 +77,7 @@ impl<const D: usize, C: StoredCost<D>> Run<D, C> {
 
     /// What comes next.
     #[inline(always)]
+    #[tactic(auto, using(crate::proofs::RunLemmas::none_ahead))]
     pub(crate) fn first(&self) -> Option<&Item<C>>
         ensures some { IfSome result (λ x. BeginsWith self.now x.now) }
         ensures two { IfSome result (λ x. length (C.components x.now.cost) ≡ 2) }
@@ -90,6 +92,7 @@ impl<const D: usize, C: StoredCost<D>> Run<D, C> {
 
     /// Goes by what comes next.
     #[inline(always)]
+    #[tactic(auto, using(crate::proofs::RunLemmas::none_ahead))]
     pub(crate) fn go_by(&mut self)
         requires { self.old.ahead ≢ [] }
         ensures { GoesByOne self.old self.new }
@@ -99,6 +102,7 @@ impl<const D: usize, C: StoredCost<D>> Run<D, C> {
 
     /// Takes out what comes next.
     #[inline(always)]
+    #[tactic(auto, using(crate::proofs::RunLemmas::none_ahead))]
     pub(crate) fn take_out(&mut self)
         requires { self.old.ahead ≢ [] }
         ensures { TakesOneOut self.old self.new }

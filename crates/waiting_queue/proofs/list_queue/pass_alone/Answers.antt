@@ -11,4 +11,5 @@ returns-clause-taken g c =
     spots_alone (spot_in g.C.StoredCost.components) (g.K.Look.IsOpen c.args.look.now) (all_of c.args.lists.now) c.pass_anew.new.taken.items
     c.pass_anew.new.rest.items c.clear.new.self.items c.clear.ensures.items
     (takes_alike (spot_in g.C.StoredCost.components) (g.K.Look.IsOpen c.args.look.now) _ (all_of c.args.lists.now) c.pass_anew.new.taken.items
-    c.pass_anew.new.rest.items (behind_alike c.args.lists.now.items.now _ _ (same_by_permutation _ _ c.in_ok-list_sorted.ensures.same)) takes)) (rw c.deref.ensures.value at c.pass_anew.ensures.taken)
+    c.pass_anew.new.rest.items (behind_alike c.args.lists.now.items.now _ _ (same_by_permutation _ _ c.in_ok-list_sorted.ensures.same)) takes))
+    (rw c.deref.ensures.value at c.pass_anew.ensures.taken)

@@ -1,12 +1,7 @@
-use Rattle.std.proofs.Common.{◌∷◌, [], ◌++◌, take, take_all, refl, ap, inl, inr, sym, subst, ◌∙◌}
-use Rattle.std.specs.Prelude.{Contains}
-use Rattle.std.proofs.lemmas.Bool.{false≢true}
-use Rattle.std.proofs.lemmas.List.{take_more}
-use Rattle.list_laws.proofs.Members.{cases_push}
-use Rattle.waiting_queue.specs.declared.joining.Part.{Part}
-use Rattle.waiting_queue.specs.Taking.{IsDominatedIn}
-use Rattle.waiting_queue.specs.Waiting.{spot_in}
-use Rattle.waiting_queue.proofs.JoiningLemmas.{of_flat, seen_in, unseen_in}
+use Rattle.std.proofs.Common.{◌≡◌, ◌+◌, ◌++◌, take, take_all, refl, inl, inr, sym, arith}
+use Rattle.list_laws.proofs.OnceLaws.{in_append}
+use Rattle.waiting_queue.specs.Joining.{taken_of}
+use Rattle.waiting_queue.proofs.JoiningLemmas.{flat_steps, seen_in, unseen_in}
 use Rattle.waiting_queue.proofs.marking.is_dominated.Goals.{else-ends_before-via-then-ends_before+else-is_shadowed, else-ends_before-via-else-ends_before}
 use Rattle.waiting_queue.proofs.marking.is_dominated.Goals as goal
 
@@ -18,28 +13,23 @@ returns-then-is_shadowed g c = (
 )
 
 pub loop-part-preserved : goal.loop-part-preserved
-loop-part-preserved g c = λ p there by.
-    let parts = c.args.parts.now in
+loop-part-preserved g c = λ (y, y_in, by).
     let i = c.loop-part.part-index in
-    let q = c.part-item.result in
-    let numbers = g.C.StoredCost.components in
-    let none = unseen_in numbers c.requires.parts c.requires.there (i, c.loop-part-test.true, sym c.part-item.is)
+    let taken = c.part-item.result.taken.items in
+    let none = unseen_in g.C.StoredCost.components c.requires.parts c.requires.there (i, c.loop-part-test.true, sym c.part-item.is)
     (λ ends behind. elim c.else-ends_before.branch [
       | else-ends_before-via-then-ends_before+else-is_shadowed w ↦
           (rw w.deref-then-ends_before.ensures.value at w.is_shadowed.ensures.free) w.if-is_shadowed.false behind
-      | else-ends_before-via-else-ends_before w ↦ λ _. false≢true (sym w.if-ends_before.false ∙ c.ends_before.ensures.1 (rw c.deref.ensures.value ends))
+      | else-ends_before-via-else-ends_before w ↦ λ _. let yes = c.ends_before.ensures.1 (rw c.deref.ensures.value ends) in grind arith
     ]) in
-    let more = take_more parts i q c.loop-part-test.true ∙ ap (λ r. take i parts ++ r ∷ []) (sym c.part-item.is) in
-    elim (cases_push (take i parts) q p (subst (λ ps. Contains ps p) more there)) [
-      | inl old ↦ c.loop-part.invariant p old by
-      | inr same ↦ none (subst (λ (r : Part g.row.C.Denot). IsDominatedIn (spot_in numbers) r.taken.items (numbers c.args.item.now.cost)) same by)
+    let more : taken_of (take (i + 1) c.args.parts.now) ≡ taken_of (take i c.args.parts.now) ++ taken = grind (arith, flat_steps) in
+    elim ((in_append (taken_of (take i c.args.parts.now)) taken y).0 (rw more at y_in)) [
+      | inl old ↦ c.loop-part.invariant (y, old, by)
+      | inr new ↦ none (y, new, by)
     ]
 
 pub returns : goal.returns
 returns g c = (
-  λ yes. absurd (false≢true yes),
-  λ (y, y_in, by).
-      let (p, p_in, there) = of_flat (λ (q : Part g.row.C.Denot). q.taken.items) c.args.parts.now y y_in in
-      let all = sym (take_all c.loop-part.part-index c.args.parts.now c.loop-part-test.false) in
-      absurd (c.loop-part.invariant p (subst (λ ps. Contains ps p) all p_in) (y, there, by)),
+  λ yes. absurd cc,
+  λ by. absurd (c.loop-part.invariant (rw (take_all c.loop-part.part-index c.args.parts.now c.loop-part-test.false) by)),
 )

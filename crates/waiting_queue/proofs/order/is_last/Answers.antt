@@ -1,12 +1,5 @@
-use Rattle.std.proofs.Common.{◌≡◌, ◌∙◌, sym, subst}
-use Rattle.waiting_queue.specs.Waiting.{spot_in}
+use Rattle.std.proofs.Common.{arith, sym}
 use Rattle.waiting_queue.proofs.order.is_last.Goals as goal
 
 pub returns-in-Some : goal.returns-in-Some
-returns-in-Some g c =
-    let spot = spot_in g.C.StoredCost.components in (
-      λ yes. (c.in-Some.last.now, sym c.in-Some.ensures.value, c.is_same_spot.ensures.0 yes),
-      λ ends.
-          let same : ends.0 ≡ c.in-Some.last.now = let both = sym ends.1 ∙ sym c.in-Some.ensures.value in cc in
-          c.is_same_spot.ensures.1 (subst (λ x. spot x ≡ spot c.args.item.now) same ends.2),
-    )
+returns-in-Some g c = (λ yes. (c.in-Some.last.now, sym c.in-Some.ensures.value, c.is_same_spot.ensures.0 yes), λ ends. grind arith)

@@ -1,11 +1,8 @@
-use Rattle.std.proofs.Common.{sym, ap, ◌∙◌}
-use Rattle.std.specs.Ordering.{is_eq}
-use Rattle.std.proofs.lemmas.Bool.{eqb-true}
+use Rattle.std.proofs.Common.{arith}
 use Rattle.waiting_queue.specs.Waiting.{spot_in}
 use Rattle.waiting_queue.proofs.OrderLemmas.{same_by_test}
 use Rattle.waiting_queue.proofs.order.is_same_spot.Goals as goal
 
 pub returns-then-eq : goal.returns-then-eq
 returns-then-eq g c =
-    same_by_test (spot_in g.C.StoredCost.components c.args.a.now) (spot_in g.C.StoredCost.components c.args.b.now) c.is_eq.result
-    (eqb-true c.args.a.now.node.0 c.args.b.now.node.0 (sym c.eq.ensures ∙ c.if-eq.true)) (c.is_eq.ensures ∙ ap is_eq c.compare.ensures)
+    same_by_test (spot_in g.C.StoredCost.components c.args.a.now) (spot_in g.C.StoredCost.components c.args.b.now) c.is_eq.result (grind arith) (grind arith)

@@ -5,10 +5,8 @@ use Rattle.waiting_queue.proofs.shadow.count_less.Given as goal
 
 abbrev pub invariant-loop-count : goal.invariant-loop-count
 invariant-loop-count g l =
-    let f = g.C.StoredCost.components in record {
-      within : l.count ≤ l.end;
-      others : AllWithin (λ x. (length (f x) ≡ 3) × (third_of (f l.cost) ≤ third_of (f x))) l.shadow l.count l.end;
-    }
+    let f = g.C.StoredCost.components in
+    (l.count ≤ l.end) × AllWithin (λ x. (length (f x) ≡ 3) × (third_of (f l.cost) ≤ third_of (f x))) l.shadow l.count l.end
 
 abbrev pub decreases-loop-count : goal.decreases-loop-count
 decreases-loop-count g l = l.count

@@ -2,7 +2,8 @@
 use Rattle.std.proofs.Common.{ℕ, ◌⊎◌, List, [], ◌∷◌, ◌++◌, ◌↔◌, arith, Contains}
 use Rattle.std.proofs.lemmas.List.Sorted.{IsPermutation-refl, IsPermutation-sym, IsPermutation-trans}
 use Rattle.cost_vector.specs.Costs.{Within}
-use Rattle.event_machine.specs.Machine.{Task, SearchState, settled, start_state, waiting, IsBeatenAtTarget}
+use Rattle.list_laws.proofs.OnceLaws.{alike_back, alike_through}
+use Rattle.event_machine.specs.Machine.{Place, Task, SearchState, settled, start_state, waiting, IsBeatenAtTarget}
 use Rattle.road_network.specs.Labels.{Label}
 use Rattle.event_machine.specs.Events.{Event, IsReached, IsSame, MayDrop, Happens, Runs}
 
@@ -10,21 +11,15 @@ use Rattle.event_machine.specs.Events.{Event, IsReached, IsSame, MayDrop, Happen
 
 -- to be the same is an equivalence
 pub same_itself : (s : SearchState) → IsSame s s
-same_itself s = record { entries = λ p y. (λ h. h, λ h. h); unrelaxed = λ p. (λ h. h, λ h. h); candidates = IsPermutation-refl s.candidates }
+same_itself s = grind (arith, IsPermutation-refl)
 
 pub same_back : (a b : SearchState) → IsSame a b → IsSame b a
-same_back a b same = record {
-  entries = λ p y. ((same.entries p y).1, (same.entries p y).0);
-  unrelaxed = λ p. ((same.unrelaxed p).1, (same.unrelaxed p).0);
-  candidates = IsPermutation-sym a.candidates b.candidates same.candidates;
-}
+same_back a b same = search (IsPermutation-sym, λ (p : Place) (y : Label). alike_back (same.entries p y), λ (p : Label × ℕ). alike_back (same.unrelaxed p))
 
 pub same_through : (a b c : SearchState) → IsSame a b → IsSame b c → IsSame a c
-same_through a b c first second = record {
-  entries = λ p y. let f = first.entries p y in let s = second.entries p y in grind arith;
-  unrelaxed = λ p. let f = first.unrelaxed p in let s = second.unrelaxed p in grind arith;
-  candidates = IsPermutation-trans a.candidates b.candidates c.candidates first.candidates second.candidates;
-}
+same_through a b c first second =
+    let entries = λ (p : Place) (y : Label). alike_through (first.entries p y) (second.entries p y) in
+    let unrelaxed = λ (p : Label × ℕ). alike_through (first.unrelaxed p) (second.unrelaxed p) in search (entries, unrelaxed, IsPermutation-trans)
 
 -- what is beyond the limit or beaten at the target stays so where no settled label goes
 pub useless_on : (task : Task) (a b : SearchState) → ((y : Label) → Contains a.settled y → Contains b.settled y) → (c : List ℕ)
@@ -33,8 +28,7 @@ useless_on task a b kept c = grind arith
 
 -- what may be dropped in one of two same states may be dropped in the other
 pub drop_alike : (task : Task) (a b : SearchState) → IsSame a b → (l : Label) → MayDrop task a l → MayDrop task b l
-drop_alike task a b same l h =
-    record { waits = (same.entries waiting l).0 h.waits; useless = useless_on task a b (λ y. (same.entries settled y).0) l.cost h.useless }
+drop_alike task a b same l h = search ((same.entries waiting l).0 h.waits, useless_on task a b (λ y. (same.entries settled y).0) l.cost h.useless)
 
 -- ---- runs
 
@@ -42,34 +36,26 @@ module _ (task : Task) where
   -- a run from or to a state is one from or to each same state
   pub runs_from_same : (a b c : SearchState) (events : List Event) → IsSame b a → Runs task b events c → Runs task a events c
   runs_from_same a b c [] same run = same_through c b a run same
-  runs_from_same a b c (event ∷ rest) same run =
-      record { from = run.from; same = same_through run.from b a run.same same; next = run.next; step = run.step; rest = run.rest }
+  runs_from_same a b c (event ∷ rest) same run = search (same_through)
 
   pub runs_to_same : (a b c : SearchState) (events : List Event) → Runs task a events b → IsSame c b → Runs task a events c
   runs_to_same a b c [] run same = same_through c b a same run
-  runs_to_same a b c (event ∷ rest) run same =
-      record { from = run.from; same = run.same; next = run.next; step = run.step; rest = runs_to_same run.next b c rest run.rest same }
+  runs_to_same a b c (event ∷ rest) run same = search (runs_to_same run.next b c rest run.rest same)
 
   -- two runs one after the other
   pub runs_on : (a b c : SearchState) (events more : List Event) → Runs task a events b → Runs task b more c → Runs task a (events ++ more) c
   runs_on a b c [] more run next = runs_from_same a b c more run next
-  runs_on a b c (event ∷ rest) more run next =
-      record { from = run.from; same = run.same; next = run.next; step = run.step; rest = runs_on run.next b c rest more run.rest next }
+  runs_on a b c (event ∷ rest) more run next = search (runs_on run.next b c rest more run.rest next)
 
   -- what events lead to from a state that is reached is reached
   pub reached_by_run : (s next : SearchState) (events : List Event) → IsReached task s → Runs task s events next → IsReached task next
-  reached_by_run s next events reached run = record {
-    events = reached.events ++ events;
-    run = runs_on (start_state task) s next reached.events events reached.run run;
-  }
+  reached_by_run s next events reached run = grind (arith, runs_on (start_state task) s next reached.events events reached.run run)
 
   -- a run of two lists of events is a run of the first, and then of the second
   pub runs_apart : (a c : SearchState) (events more : List Event) → Runs task a (events ++ more) c
       → (b : SearchState) × Runs task a events b × Runs task b more c
   runs_apart a c [] more run = (a, same_itself a, run)
-  runs_apart a c (event ∷ rest) more run =
-      let later = runs_apart run.next c rest more run.rest in
-      (later.0, record { from = run.from; same = run.same; next = run.next; step = run.step; rest = later.1 }, later.2)
+  runs_apart a c (event ∷ rest) more run = grind (arith, runs_apart run.next c rest more run.rest)
 
 -- What stands in each same state, and what each event leaves standing, as Q says it of the events to come.
 module _ (task : Task) (Q : List Event → SearchState → Type 0) (same : (events : List Event) (a b : SearchState) → IsSame b a → Q events a → Q events b)
@@ -77,17 +63,14 @@ module _ (task : Task) (Q : List Event → SearchState → Type 0) (same : (even
   -- it stands at the end of a run
   pub along_run : (events : List Event) (a b : SearchState) → Q events a → Runs task a events b → Q [] b
   along_run [] a b q run = same [] a b run q
-  along_run (event ∷ rest) a b q run =
-      along_run rest run.next b (step event rest run.from run.next (same (event ∷ rest) a run.from run.same q) run.step) run.rest
+  along_run (event ∷ rest) a b q run = along_run rest run.next b (step _ rest run.from run.next (same _ a run.from run.same q) run.step) run.rest
 
   module _ (may : (event : Event) (rest : List Event) (a : SearchState) → Q (event ∷ rest) a → (b : SearchState) × Happens task a event b) where
     -- there is a run
     pub run_exists : (events : List Event) (a : SearchState) → Q events a → (b : SearchState) × Runs task a events b
     run_exists [] a q = (a, same_itself a)
     run_exists (event ∷ rest) a q =
-        let (next, happens) = may event rest a q in
-        let (b, run) = run_exists rest next (step event rest a next q happens) in
-        (b, record { from = a; same = same_itself a; next = next; step = happens; rest = run })
+        let (next, happens) = may event rest a q in grind (arith, run_exists rest next (step event rest a next q happens), same_itself)
 
     -- the runs are those to what each run ends at, where this is one state
     pub runs_to_end : (End : SearchState → Type 0) → ((b : SearchState) → Q [] b → End b) → ((b c : SearchState) → End b → End c → IsSame b c)

@@ -131,22 +131,13 @@ module _ (task : Task) (core : Core) (s : SearchState) (at : IsAt task core s) w
   pub sound : IsSound task s
   sound = sound_if_reached task at.search.is_task s at.reached
 
-  -- what waits and is barred may be dropped
-  barred_drop : (y : Label) → Contains s.waiting y → IsBarred core y.cost → MayDrop task s y
-  barred_drop y waits barred = record { waits = waits; useless = (barred_told task core s at.search at.stands.settled y.cost).0 barred }
-
   -- the spot of a label that stays is open
   pub open_if_stays : (y : Label) → Stays task s y → IsOpenIn core (as_spot y)
-  open_if_stays y stays = record {
-    waits = elim (at.stands.waiting_in y stays.waits) [
-      | inl waits ↦ waits
-      | inr barred ↦ absurd (stays.kept (barred_drop y stays.waits barred))
-    ];
-    unspent = elim [
-      | inl covered ↦ waiting_uncovered task core s at.search at.stands.settled at.reached y stays.waits covered
-      | inr barred ↦ stays.kept (barred_drop y stays.waits barred)
-    ];
-  }
+  open_if_stays y stays =
+      let told = (barred_told task core s at.search at.stands.settled y.cost).0 in
+      let waits = at.stands.waiting_in y stays.waits in
+      let not = waiting_uncovered task core s at.search at.stands.settled at.reached y stays.waits in
+      grind arith
 
   -- a label that stays lies below each open spot
   pub stays_below_open : (x : Spot) → IsOpenIn core x → (y : Label) × Stays task s y × (y.node ≡ x.node) × AtMost y.cost x.cost

@@ -91,10 +91,7 @@ module _ (task : Task) (core : Core) (s : SearchState) (at : IsAt task core s) w
   some_stay (x, is_open) = let (y, stays, _, _) = stays_below_open task core s at x is_open in (y, stays)
 
   pub none_stay : ((x : Spot) → ¬ IsOpenIn core x) → NoneStays task s
-  none_stay none l waits = elim (decidable_may_drop task s l) [
-    | inl may ↦ may
-    | inr kept ↦ absurd (none (as_spot l) (open_if_stays task core s at l (record { waits = waits; kept = kept })))
-  ]
+  none_stay none l waits = let may = decidable_may_drop task s l in let is_open = open_if_stays task core s at l in grind arith
 
   -- ---- between rounds
 

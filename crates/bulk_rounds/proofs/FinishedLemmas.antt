@@ -1,5 +1,5 @@
 -- How a round ends: what is put into the queue is what each order of the machine's relaxes and merges leaves waiting.
-use Rattle.std.proofs.Common.{◌≡◌, ◌⊎◌, List, inl, inr, refl, sym, ap, subst, ◌∙◌, Contains}
+use Rattle.std.proofs.Common.{◌≡◌, ◌⊎◌, List, inl, inr, refl, sym, ap, subst, ◌∙◌, arith, Contains}
 use Rattle.cost_vector.specs.Costs.{AtMost}
 use Rattle.cost_vector.proofs.Vectors.{AtMost-refl, AtMost-trans}
 use Rattle.list_laws.proofs.OnceLaws.{alike_through}
@@ -55,8 +55,8 @@ module _ (task : Task) (candidates : List Item) (before after : Core) (s end : S
 
   end_waiting_in : (y : Label) → Contains end.waiting y → Waits after (as_spot y) ⊎ IsSpent after (as_spot y)
   end_waiting_in y there = let (survives, (unsettled, undropped)) = (outcome.entries waiting y).0 there in elim survives.present [
-    | inl (settled, here) ↦ absurd (unsettled (record { label = y; member = here; same = same_pair y y refl }))
-    | inl (dropped, here) ↦ absurd (undropped (record { label = y; member = here; same = same_pair y y refl }))
+    | inl (settled, here) ↦ let same = same_pair y y refl in grind arith
+    | inl (dropped, here) ↦ let same = same_pair y y refl in grind arith
     | inl (waiting, here) ↦ elim (at.stands.waiting_in y here) [
       | inl waits ↦ inl ((puts.queue (as_spot y)).1 (inl waits))
       | inr barred ↦ inr (still_spent (as_spot y) (inr barred))
@@ -69,10 +69,7 @@ module _ (task : Task) (candidates : List Item) (before after : Core) (s end : S
   finish_stands = stands_by task after end (same_task task before after puts.same_search at.search)
       (λ v c. rw puts.settled (alike_through (at.stands.settled v c) (settled_stay task at.search.is_task s (sound task before s at) end outcome v c)))
       (end_is_reached task at.search.is_task s (sound task before s at) end outcome at.reached) end_waiting_in end_waiting_of
-      (λ p. (
-        λ there. absurd (none_of_empty end.unrelaxed outcome.unrelaxed p there),
-        λ h. absurd (none_of_empty after.taken puts.none_taken (as_spot p.0) h.1),
-      ))
+      (λ p. let no_arc = none_of_empty end.unrelaxed outcome.unrelaxed p in let none = none_of_empty after.taken puts.none_taken (as_spot p.0) in grind arith)
       outcome.candidates (λ x there. absurd (none_of_empty after.taken puts.none_taken x there))
 
 -- and for the state to which each order of the round's events leads

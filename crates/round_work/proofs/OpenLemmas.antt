@@ -1,12 +1,14 @@
 -- The open candidates of a list, as one more is seen.
-use Rattle.std.proofs.Common.{◌≡◌, ℕ, ◌+◌, ◌<◌, ◌≤◌, Bool, true, false, List, [], ◌∷◌, ◌++◌, ◌↔◌, map, get_or, set, take, drop, take_all, refl, sym, ap, subst, ◌∙◌, arith}
+use Rattle.std.proofs.Common.{◌≡◌, ℕ, ◌+◌, ◌<◌, ◌≤◌, Bool, true, false, List, [], ◌∷◌, ◌++◌, ◌↔◌, map, get_or, set, take, drop, take_all, refl, sym, ap, subst, ◌∙◌, add-zero, arith}
 use Rattle.std.specs.Prelude.{IsTrue, length}
 use Rattle.std.specs.List.{AllZip, items_where_true}
-use Rattle.std.proofs.lemmas.List.{take_more, take_more_set, append-nil, drop_more, length-set, drop-set-lt}
+use Rattle.std.proofs.lemmas.List.{take_more_set, append-nil, get_or-drop, length-set, drop-set-lt}
+use Rattle.std.proofs.lemmas.Grind.{drop_more_same}
 use Rattle.std.proofs.lemmas.Bool.{false≢true}
 use Rattle.waiting_queue.specs.declared.item.Item.{Item}
 use Rattle.waiting_queue.specs.Waiting.{Spot, as_waiting, spot_in, spot_of}
 use Rattle.round_work.specs.Survivors.{KeepsOpen}
+use Rattle.round_work.proofs.PieceLemmas.{take_next}
 
 module _ {X : Type 0} (spot : X → Spot) (Open : Spot → Type 0) where
   abbrev Keeps : List X → List X → Type 0
@@ -59,13 +61,10 @@ module _ {X : Type 0} (spot : X → Spot) (Open : Spot → Type 0) where
   sifting_none xs = record { behind = omega arith; long = refl; rest = refl; keeps = open_none spot Open }
 
   module _ (old now : List X) (kept i : ℕ) (x : X) (is : IsSifting old now kept i) (within : i < length now) (at : x ≡ get_or now i x) where
-    both : get_or now i x ∷ drop (i + 1) now ≡ get_or old i x ∷ drop (i + 1) old
-    both = let inside : i < length old = omega (arith, is.long, within) in sym (drop_more now i x within) ∙ is.rest ∙ drop_more old i x inside
-
     next : (ks ls : List X) → KeepsOpen spot Open (take i old) ks → KeepsOpen spot Open (x ∷ []) ls → KeepsOpen spot Open (take (i + 1) old) (ks ++ ls)
-    next ks ls seen one = subst (λ xs. KeepsOpen spot Open xs (ks ++ ls))
-        (sym (take_more old i x (omega (arith, is.long, within)) ∙ ap (λ y. take i old ++ y ∷ []) (sym (at ∙ ap (λ l. get_or l 0 x) both))))
-        (open_both spot Open (take i old) ks (x ∷ []) ls seen one)
+    next ks ls seen one =
+        let same : x ≡ get_or old i x = cc (at, get_or-drop i now 0 x, get_or-drop i old 0 x, is.rest, add-zero i) in
+        rw (take_next old i x (omega (arith, is.long, within)) same) (open_both spot Open (take i old) ks (x ∷ []) ls seen one)
 
     -- if x is open, it is moved to the front
     pub sifting_next : (Open (spot x) → IsSifting old (set now kept x) (kept + 1) (i + 1)) × ((¬ Open (spot x)) → IsSifting old now kept (i + 1))
@@ -73,14 +72,14 @@ module _ {X : Type 0} (spot : X → Spot) (Open : Spot → Type 0) where
       λ held. record {
         behind = omega (arith, is.behind);
         long = length-set now kept x ∙ is.long;
-        rest = drop-set-lt (i + 1) now kept x (omega (arith, is.behind)) ∙ ap (drop 1) both;
+        rest = drop-set-lt (i + 1) now kept x (omega (arith, is.behind)) ∙ drop_more_same now old i is.rest;
         keeps = rw (take_more_set now kept x (omega (arith, is.behind, within)))
             (next (take kept now) (x ∷ []) is.keeps (open_first spot Open x held [] [] (open_none spot Open)));
       },
       λ closed. record {
         behind = omega (arith, is.behind);
         long = is.long;
-        rest = ap (drop 1) both;
+        rest = drop_more_same now old i is.rest;
         keeps = rw (sym (append-nil (take kept now))) (next (take kept now) [] is.keeps (closed_first spot Open x closed [] [] (open_none spot Open)));
       },
     )

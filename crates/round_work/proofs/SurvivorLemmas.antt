@@ -1,57 +1,52 @@
 -- What is kept of candidates, as one more is seen, and of candidates of different nodes.
-use Rattle.std.proofs.Common.{◌≡◌, ◌≢◌, ℕ, List, [], ◌∷◌, ◌++◌, ◌⊎◌, inl, inr, map, get_or, refl, sym, ap, ap₂, subst, ◌∙◌}
-use Rattle.std.specs.Prelude.{All, AllPairs, Contains}
-use Rattle.cost_vector.specs.Costs.{AtMost, Dominates}
+use Rattle.std.proofs.Common.{◌≡◌, ◌≢◌, ℕ, List, [], ◌∷◌, ◌++◌, ◌⊎◌, inl, inr, map, get_or, refl, sym, ap, ap₂, subst, arith}
+use Rattle.std.specs.Prelude.{All, AllPairs, Contains, IsPermutation}
+use Rattle.cost_vector.specs.Costs.{AtMost}
 use Rattle.cost_vector.proofs.Vectors.{AtMost-Dominates, AtMost-refl, Dominates-irrefl, LexLess_from_Dominates, cases_same}
-use Rattle.list_laws.proofs.Members.{cases_in, cases_push, each_in, in_map, in_none, in_one, of_map}
+use Rattle.std.proofs.lemmas.List.{get_or_default}
+use Rattle.list_laws.proofs.Members.{cases_push, each_in, in_first, in_map, in_none, in_one, of_map}
 use Rattle.list_laws.proofs.OnceLaws.{in_append, pairs_append}
-use Rattle.list_laws.proofs.Pairs.{pair_with_first, pairs_cons, pairs_map, pairs_none, pairs_rest}
-use Rattle.list_laws.specs.Sets.{SameMembers}
+use Rattle.list_laws.proofs.Pairs.{pairs_cons, pairs_map, pairs_none}
+use Rattle.list_laws.proofs.SetLaws.{same_by_permutation}
 use Rattle.waiting_queue.specs.Taking.{HasSpot}
 use Rattle.waiting_queue.specs.Waiting.{Spot, SpotLess}
 use Rattle.waiting_queue.proofs.OrderLemmas.{not_lex_less}
-use Rattle.waiting_queue.proofs.TakingLemmas.{in_push, last_in}
+use Rattle.waiting_queue.proofs.TakingLemmas.{in_push}
+use Rattle.round_work.specs.Pieces.{Appends}
 use Rattle.round_work.specs.Survivors.{AreNeeded, HasBelow, KeepsNeeded, KeepsSurvivors, Survives}
 
 -- two members are the same, or one stands behind the other
 either_way : {X : Type 0} (R : X → X → Type 0) (xs : List X) → AllPairs R xs → (x y : X) → Contains xs x → Contains xs y → (x ≡ y) ⊎ (R x y ⊎ R y x)
-either_way R [] pairs x y h k = absurd (in_none x h)
-either_way R (z ∷ zs) pairs x y h k = elim (cases_in z zs x h) [
-  | inl a ↦ elim (cases_in z zs y k) [ inl b ↦ inl (a ∙ sym b) | inr b ↦ inr (inl (subst (λ w. R w y) (sym a) (pair_with_first R z zs pairs y b))) ]
-  | inr a ↦ elim (cases_in z zs y k) [
-    | inl b ↦ inr (inr (subst (λ w. R w x) (sym b) (pair_with_first R z zs pairs x a)))
-    | inr b ↦ either_way R zs (pairs_rest R z zs pairs) x y a b
-  ]
-]
+either_way R xs pairs x y h k =
+    grind (arith, pairs h.0 k.0 x, pairs k.0 h.0 y, get_or_default xs k.0 x y k.1, get_or_default xs h.0 y x h.1)
 
 module _ {X : Type 0} (spot : X → Spot) (Open : Spot → Type 0) where
   abbrev Keeps : List X → List X → Type 0
   Keeps = KeepsNeeded spot Open
 
-  abbrev Done : List X → X → Type 0
+  abbrev pub Done : List X → X → Type 0
   Done kept x = (¬ Open (spot x)) ⊎ HasBelow spot kept (spot x)
 
   -- also where more is kept
   pub done_on : (ks ls : List X) (x : X) → ((k : X) → Contains ks k → Contains ls k) → Done ks x → Done ls x
-  done_on ks ls x more (inl closed) = inl closed
-  done_on ks ls x more (inr h) = inr (record { by = h.by; member = more h.by h.member; node = h.node; at_most = h.at_most })
+  done_on ks ls x more done = grind (arith, more)
 
   -- none is kept of none
   pub keeps_none : Keeps [] []
   keeps_none = record { among = λ x h. absurd (in_none x h); needed = pairs_none (AreNeeded spot); rest = λ x h. absurd (in_none x h) }
 
-  -- beside what is kept of a list, what is needed of another
-  keeps_beside : (xs ys ks ls : List X) → Keeps xs ks → ((x : X) → Contains ls x → Contains ys x × Open (spot x)) → AllPairs (AreNeeded spot) ls
-      → ((x y : X) → Contains ks x → Contains ls y → AreNeeded spot x y) → ((x : X) → Contains ys x → Done (ks ++ ls) x) → Keeps (xs ++ ys) (ks ++ ls)
-  keeps_beside xs ys ks ls is among needed across rest = record {
+  -- two lists, where what is kept of the one is needed beside what is kept of the other
+  keeps_beside : (xs ys ks ls : List X) → Keeps xs ks → Keeps ys ls → ((x y : X) → Contains ks x → Contains ls y → AreNeeded spot x y)
+      → Keeps (xs ++ ys) (ks ++ ls)
+  keeps_beside xs ys ks ls one two across = record {
     among = λ x h. elim ((in_append ks ls x).0 h) [
-      | inl first ↦ ((in_append xs ys x).1 (inl (is.among x first).0), (is.among x first).1)
-      | inr second ↦ ((in_append xs ys x).1 (inr (among x second).0), (among x second).1)
+      | inl first ↦ ((in_append xs ys x).1 (inl (one.among x first).0), (one.among x first).1)
+      | inr second ↦ ((in_append xs ys x).1 (inr (two.among x second).0), (two.among x second).1)
     ];
-    needed = pairs_append (AreNeeded spot) ks ls is.needed needed across;
+    needed = pairs_append (AreNeeded spot) ks ls one.needed two.needed across;
     rest = λ x h. elim ((in_append xs ys x).0 h) [
-      | inl first ↦ done_on ks (ks ++ ls) x (λ k there. (in_append ks ls k).1 (inl there)) (is.rest x first)
-      | inr second ↦ rest x second
+      | inl first ↦ done_on ks (ks ++ ls) x (λ k there. (in_append ks ls k).1 (inl there)) (one.rest x first)
+      | inr second ↦ done_on ls (ks ++ ls) x (λ k there. (in_append ks ls k).1 (inr there)) (two.rest x second)
     ];
   }
 
@@ -69,25 +64,30 @@ module _ {X : Type 0} (spot : X → Spot) (Open : Spot → Type 0) where
     pub keeps_more : ((x : X) → Contains seen x → ¬ SpotLess (spot s) (spot x)) → Open (spot s) → All (λ k. ¬ AtMost (spot k).cost (spot s).cost) kept
         → Keeps (seen ++ s ∷ []) (kept ++ s ∷ [])
     keeps_more behind held free =
-        let alone = pairs_cons (AreNeeded spot) s [] (λ x h. absurd (in_none x h)) (pairs_none (AreNeeded spot)) in
-        keeps_beside seen (s ∷ []) kept (s ∷ []) is (λ x h. (h, rw (in_one s x h) held)) alone
-        (λ x y h last. rw (in_one s y last) (λ node. (
+        let alone : Keeps (s ∷ []) (s ∷ []) = record {
+          among = λ x h. (h, rw (in_one s x h) held);
+          needed = pairs_cons (AreNeeded spot) s [] (λ x h. absurd (in_none x h)) (pairs_none (AreNeeded spot));
+          rest = λ x h. inr (rw (in_one s x h) (record { by = s; member = in_first s []; node = refl; at_most = AtMost-refl (spot s).cost }));
+        } in
+        keeps_beside seen (s ∷ []) kept (s ∷ []) is alone (λ x y h last. rw (in_one s y last) (λ node. (
           each_in (λ k. ¬ AtMost (spot k).cost (spot s).cost) kept free x h,
           λ less. not_lex_less (spot x) (spot s) (behind x (is.among x h).0) (LexLess_from_Dominates (spot s).cost (spot x).cost less),
         )))
-        (λ x last. rw (in_one s x last) (inr (record { by = s; member = last_in kept s; node = refl; at_most = AtMost-refl (spot s).cost })))
 
-  -- only the members of what was there count
-  pub keeps_alike : (xs ys kept : List X) → SameMembers xs ys → Keeps xs kept → Keeps ys kept
-  keeps_alike xs ys kept same is =
+  -- in another order the same is kept
+  pub keeps_moved : (xs ys kept : List X) → IsPermutation xs ys → Keeps ys kept → Keeps xs kept
+  keeps_moved xs ys kept moved is =
+      let same = same_by_permutation xs ys moved in
       record { among = λ x h. ((same x).0 (is.among x h).0, (is.among x h).1); needed = is.needed; rest = λ x h. is.rest x ((same x).1 h) }
+
+  pub appends_moved : (xs ys before now : List X) → IsPermutation xs ys → Appends (Keeps ys) before now → Appends (Keeps xs) before now
+  appends_moved xs ys before now moved is = record { more = is.more; whole = is.whole; gives = keeps_moved xs ys is.more moved is.gives }
 
   -- candidates of different nodes
   pub keeps_both : (xs ys ks ls : List X) → Keeps xs ks → Keeps ys ls → ((x y : X) → Contains xs x → Contains ys y → (spot x).node ≢ (spot y).node)
       → Keeps (xs ++ ys) (ks ++ ls)
   keeps_both xs ys ks ls one two apart =
-      keeps_beside xs ys ks ls one two.among two.needed (λ x y h k node. absurd (apart x y (one.among x h).0 (two.among y k).0 node))
-      (λ x h. done_on ls (ks ++ ls) x (λ k there. (in_append ks ls k).1 (inr there)) (two.rest x h))
+      keeps_beside xs ys ks ls one two (λ x y h k node. absurd (apart x y (one.among x h).0 (two.among y k).0 node))
 
   -- what is kept survives, and nothing else does
   module _ (xs kept : List X) (is : Keeps xs kept) where
@@ -99,11 +99,8 @@ module _ {X : Type 0} (spot : X → Spot) (Open : Spot → Type 0) where
         | inl closed ↦ closed held
         | inr by ↦
             let below = AtMost-Dominates (spot by.by).cost (spot x).cost (spot k).cost by.at_most less in
-            let same = by.node ∙ node in
-            elim (either_way (AreNeeded spot) kept is.needed k by.by h by.member) [
-              | inl one ↦ Dominates-irrefl (spot k).cost (subst (λ y. Dominates (spot y).cost (spot k).cost) (sym one) below)
-              | inr pair ↦ elim pair [ inl before ↦ (before (sym same)).1 below | inr after ↦ (after same).0 below.at_most ]
-            ]
+            let either = either_way (AreNeeded spot) kept is.needed k by.by h by.member in
+            grind (arith, Dominates-irrefl, below, either, by.node, node)
       ];
     }
 

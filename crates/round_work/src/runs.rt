@@ -78,6 +78,7 @@ where
 }
 
 /// Appends what is kept of a group. What the order held before is gone.
+#[tactic(auto, using(crate::proofs::SurvivorLemmas::appends_moved))]
 fn merge_group<const D: usize, C: StoredCost<D>, K: Look<D, C>>(
     look: &K,
     group: &[Item<C>],

@@ -2,10 +2,9 @@ use Rattle.std.proofs.Common.{◌≡◌, ◌++◌, length, drop, arith, sym, ap,
 use Rattle.std.specs.Prelude.{IsPermutation}
 use Rattle.std.proofs.lemmas.List.{take_at}
 use Rattle.rayon.proofs.ListFacts.{IfOk-then}
-use Rattle.list_laws.proofs.SetLaws.{same_by_permutation}
 use Rattle.waiting_queue.specs.Waiting.{as_waiting, spot_in, spot_of}
 use Rattle.round_work.specs.Pieces.{all_of}
-use Rattle.round_work.proofs.SurvivorLemmas.{keeps_alike, keeps_survivors, keeps_told}
+use Rattle.round_work.proofs.SurvivorLemmas.{keeps_moved, keeps_survivors, keeps_told}
 use Rattle.round_work.proofs.merging.merge.Goals as goal
 
 pub returns : goal.returns
@@ -20,5 +19,4 @@ returns g c =
     IfOk-then c.append_all.result _ _ c.append_all.ensures (λ u is.
     let kept = is ∙ (ap (λ ks. ks ++ all_of c.deref-2.result.now) c.clear.ensures.items ∙ ap all_of c.deref-2.ensures.value) in
     keeps_survivors spot_of Open _ _ (keeps_told spot_of (as_waiting parts) Open old.items c.append_all.new.all.items
-    (rw kept (keeps_alike (spot_in parts) Open c.deref.result.now old.items (all_of c.in_ok-lists.lists.items)
-    (same_by_permutation old.items c.deref.result.now moved) c.in_ok-lists.ensures))))
+    (rw kept (keeps_moved (spot_in parts) Open old.items c.deref.result.now (all_of c.in_ok-lists.lists.items) moved c.in_ok-lists.ensures))))

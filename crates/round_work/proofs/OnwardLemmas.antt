@@ -66,10 +66,7 @@ module _ {C : Type 0} (components : C → List ℕ) (bound : ℕ) where
   gives_none = search (arith, All-nil)
 
   gives_both : (ws vs : List Waiting) (ks ls : List (Item C)) → Gives ws ks → Gives vs ls → Gives (ws ++ vs) (ks ++ ls)
-  gives_both ws vs ks ls one two = record {
-    exact = map-append view ks ls ∙ ap₂ ◌++◌ one.exact two.exact;
-    room = All-append (λ (w : Waiting). All (λ x. x < bound) w.spot.cost) ws vs one.room two.room;
-  }
+  gives_both ws vs ks ls one two = search (arith, map-append, All-append (λ (w : Waiting). All (λ x. x < bound) w.spot.cost) ws vs one.room two.room)
 
   -- ---- arc by arc
 

@@ -76,12 +76,9 @@ module _ {X : Type 0} (spot : X → Spot) (Open : Spot → Type 0) where
         keeps = rw (take_more_set now kept x (omega (arith, is.behind, within)))
             (next (take kept now) (x ∷ []) is.keeps (open_first spot Open x held [] [] (open_none spot Open)));
       },
-      λ closed. record {
-        behind = omega (arith, is.behind);
-        long = is.long;
-        rest = drop_more_same now old i is.rest;
-        keeps = rw (sym (append-nil (take kept now))) (next (take kept now) [] is.keeps (closed_first spot Open x closed [] [] (open_none spot Open)));
-      },
+      λ closed.
+          let keeps = rw append-nil at (next (take kept now) [] is.keeps (closed_first spot Open x closed [] [] (open_none spot Open))) in
+          search (arith, keeps, drop_more_same),
     )
 
 -- once all were seen, the front has the open ones, and what is said of items holds of what waits for them

@@ -54,11 +54,9 @@ module _ {X : Type 0} (spot : X → Spot) (Open : Spot → Type 0) where
   module _ (seen kept : List X) (is : Keeps seen kept) (s : X) where
     -- it isn't open, or one at most as costly is kept
     pub keeps_not : Done kept s → Keeps (seen ++ s ∷ []) kept
-    keeps_not why = record {
-      among = λ x h. (in_push seen s x (is.among x h).0, (is.among x h).1);
-      needed = is.needed;
-      rest = λ x h. elim (cases_push seen s x h) [ inl old ↦ is.rest x old | inr last ↦ subst (Done kept) (sym last) why ];
-    }
+    keeps_not why =
+        let rest : (x : X) → Contains (seen ++ s ∷ []) x → Done kept x = λ x h. elim (cases_push seen s x h) [ inl old ↦ is.rest x old | inr last ↦ rw last why ] in
+        record { among = λ x h. (in_push seen s x (is.among x h).0, (is.among x h).1); needed = is.needed; rest = rest }
 
     -- it is open, and none at most as costly is kept
     pub keeps_more : ((x : X) → Contains seen x → ¬ SpotLess (spot s) (spot x)) → Open (spot s) → All (λ k. ¬ AtMost (spot k).cost (spot s).cost) kept
@@ -107,19 +105,16 @@ module _ {X : Type 0} (spot : X → Spot) (Open : Spot → Type 0) where
     is_kept : (s : Spot) → Survives spot Open xs s → HasSpot spot kept s
     is_kept s h = elim (rw h.candidate.2 at (is.rest h.candidate.0 h.candidate.1)) [
       | inl closed ↦ absurd (closed h.is_open)
-      | inr by ↦ elim (cases_same (spot by.by).cost s.cost) [
-        | inl equal ↦ let made : List ℕ → ℕ → Spot = λ c n. record { cost = c; node = n } in (by.by, by.member, ap₂ made equal by.node)
-        | inr differs ↦ absurd (h.undominated by.by (is.among by.by by.member).0 (is.among by.by by.member).1 by.node
-            (record { at_most = by.at_most; differs = differs }))
-      ]
+      | inr by ↦
+          let (there, held) = is.among by.by by.member in
+          (by.by, by.member, grind (arith, cases_same (spot by.by).cost s.cost, h.undominated by.by there held by.node, by.at_most, by.node))
     ]
 
     -- and each once
     pub keeps_survivors : KeepsSurvivors spot Open xs kept
     keeps_survivors = record {
       exact = λ s. (λ h. subst (Survives spot Open xs) h.2 (survives h.0 h.1), is_kept s);
-      once = λ i j d before within same. (is.needed i j d before within (ap (λ (s : Spot). s.node) same)).0
-          (subst (λ (s : Spot). AtMost (spot (get_or kept i d)).cost s.cost) same (AtMost-refl (spot (get_or kept i d)).cost));
+      once = λ i j d before within same. grind (arith, is.needed i j d before within, AtMost-refl (spot (get_or kept i d)).cost, same);
       among = λ x h. (is.among x h).0;
       rest = is.rest;
     }

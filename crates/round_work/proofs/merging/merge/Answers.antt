@@ -15,7 +15,7 @@ returns g c =
     let sorted = c.sort_by_node.new.candidates in
     let long : length sorted ≡ old.len = omega (arith, c.deref_mut.ensures.len, c.sort_by_node.auto.candidates) in
     let is_sorted = c.deref.ensures.value ∙ take_at sorted (drop (length sorted) old.items) old.len long in
-    let moved = subst₂ IsPermutation c.deref_mut.ensures.value (sym is_sorted) c.sort_by_node.ensures.permutation in
+    let moved = rw (c.deref_mut.ensures.value, ← is_sorted) at c.sort_by_node.ensures.permutation in
     IfOk-then c.append_all.result _ _ c.append_all.ensures (λ u is.
     let kept = is ∙ (ap (λ ks. ks ++ all_of c.deref-2.result.now) c.clear.ensures.items ∙ ap all_of c.deref-2.ensures.value) in
     keeps_survivors spot_of Open _ _ (keeps_told spot_of (as_waiting parts) Open old.items c.append_all.new.all.items

@@ -12,11 +12,8 @@ use Rattle.round_work.proofs.merging.merge_sorted.Goals as goal
 
 pub prove-unreachable-requires : goal.prove-unreachable-requires
 prove-unreachable-requires g c =
-    let most = c.args.workers.now.count * runs_per_worker in
-    let size = c.run_size-size.result in
-    let below : most * size < c.len.result =
-    omega (arith, c.count-pieces.ensures.each most (omega (arith, c.run_size-size.ensures.workers, c.if-prove.true)), c.len.ensures, c.deref.ensures.len) in
-    grind (arith, below, c.run_size-size.ensures.enough)
+    let last = c.count-pieces.ensures.each (c.args.workers.now.count * runs_per_worker) (omega (arith, c.run_size-size.ensures.workers, c.if-prove.true)) in
+    grind (arith, last, c.run_size-size.ensures.enough, c.len.ensures, c.deref.ensures.len)
 
 pub returns : goal.returns
 returns g c =

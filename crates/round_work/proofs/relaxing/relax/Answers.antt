@@ -1,7 +1,6 @@
 use Rattle.std.proofs.Common.{List, sym}
 use Rattle.std.proofs.lemmas.Result.{IfOk-weaker}
 use Rattle.waiting_queue.specs.declared.item.Item.{Item}
-use Rattle.round_work.specs.Onward.{IsTooWide}
 use Rattle.round_work.specs.Pieces.{AreWithRoom, onward_in, piece_size}
 use Rattle.round_work.proofs.OnwardLemmas.{gives_none, on_both}
 use Rattle.round_work.proofs.PieceLemmas.{all_found}
@@ -13,8 +12,7 @@ returns g c =
     let bound = g.C.Part.Part.bound in
     let net = c.args.network.now in
     let found = all_found (λ (items : List (Item g.row.C.Denot)). AreWithRoom components bound (onward_in components net items)) (on_both components bound net)
-    (IsTooWide bound (onward_in components net c.args.taken.now)) (gives_none components bound) piece_size c.args.taken.now c.pieces.result c.deref.result.now
-    c.pieces.ensures.all (rw (sym c.deref.ensures.value) at c.in_ok-lists.ensures) in
+    _ (gives_none components bound) piece_size _ _ _ c.pieces.ensures.all (rw (sym c.deref.ensures.value) at c.in_ok-lists.ensures) in
     record {
       candidates = IfOk-weaker c.append_found.result _ _ (λ u appends. (found.0 _ _ c.clear.ensures.items appends).exact) c.append_found.ensures.appends;
       room = IfOk-weaker c.append_found.result _ _ (λ u appends. (found.0 _ _ c.clear.ensures.items appends).room) c.append_found.ensures.appends;

@@ -20,7 +20,7 @@ use Rattle.round_work.specs.Groups.{AreApart, AreGroups, AscendByNode, HaveOneNo
 use Rattle.round_work.specs.Pieces.{Appends}
 use Rattle.round_work.specs.Survivors.{KeepsNeeded}
 use Rattle.round_work.proofs.SurvivorLemmas.{Done, keeps_both, keeps_more, keeps_not}
-use Rattle.round_work.proofs.PieceLemmas.{take_next}
+use Rattle.round_work.proofs.OnwardLemmas.{take_next}
 
 module _ {C : Type 0} where
   -- ---- cutting off the first group
@@ -35,16 +35,9 @@ module _ {C : Type 0} where
     taken l h = grind (arith, at_node h.0 l, length-take count list, get_or-take count list h.0 l)
 
     later : (l : Item C) → Contains (drop count list) l → x.node.0 < l.node.0
-    later l h = grind (
-      arith,
-      length-drop count list,
-      get_or-drop count list h.0 l,
-      at_node 0 l,
-      sorted 0 count l,
-      sorted count (count + h.0) l,
-      no_more,
-      positive,
-    )
+    later l h =
+        let far = sorted count (count + h.0) l in
+        grind (arith, length-drop count list, get_or-drop count list h.0 l, at_node 0 l, sorted 0 count l, far, no_more, positive)
 
     -- so many candidates are the first group, and the others are of later nodes
     pub splits_group : (group others : List (Item C)) → group ≡ take count list → others ≡ drop count list → SplitsGroup list group others
@@ -124,7 +117,9 @@ module _ {C : Type 0} (components : C → List ℕ) (Open : Spot → Type 0) whe
     Next = Appends (Keeps (take (i + 1) xs)) before
 
     not_added : Done spot Open is.more x → Next now
-    not_added why = record { more = is.more; whole = is.whole; gives = rw (take_next xs i x within at) (keeps_not spot Open (take i xs) is.more is.gives x why) }
+    not_added why =
+        let gives = keeps_not spot Open (take i xs) is.more is.gives x why in
+        record { more = is.more; whole = is.whole; gives = rw (take_next xs i x within at) gives }
 
     -- an item is kept, or left out since it isn't open, or since one of its node that costs at most as much was kept
     pub adds_next : HaveOneNode xs

@@ -1,5 +1,4 @@
 pub mod GroupLemmas
 pub mod OnwardLemmas
 pub mod OpenLemmas
-pub mod PieceLemmas
 pub mod SurvivorLemmas

@@ -1,14 +1,13 @@
 -- The open candidates of a list, as one more is seen.
-use Rattle.std.proofs.Common.{◌≡◌, ℕ, ◌+◌, ◌<◌, ◌≤◌, Bool, true, false, List, [], ◌∷◌, ◌++◌, ◌↔◌, map, get_or, set, take, drop, take_all, refl, sym, ap, subst, ◌∙◌, add-zero, arith}
+use Rattle.std.proofs.Common.{◌≡◌, ℕ, ◌+◌, ◌<◌, ◌≤◌, Bool, true, false, List, [], ◌∷◌, ◌++◌, ◌↔◌, map, get_or, set, take, drop, take_all, refl, sym, ap, subst, add-zero, arith}
 use Rattle.std.specs.Prelude.{IsTrue, length}
 use Rattle.std.specs.List.{AllZip, items_where_true}
-use Rattle.std.proofs.lemmas.List.{take_more_set, append-nil, get_or-drop, length-set, drop-set-lt}
+use Rattle.std.proofs.lemmas.List.{take_more, take_more_set, append-nil, get_or-drop, length-set, drop-set-lt}
 use Rattle.std.proofs.lemmas.Grind.{drop_more_same}
 use Rattle.std.proofs.lemmas.Bool.{false≢true}
 use Rattle.waiting_queue.specs.declared.item.Item.{Item}
 use Rattle.waiting_queue.specs.Waiting.{Spot, as_waiting, spot_in, spot_of}
 use Rattle.round_work.specs.Survivors.{KeepsOpen}
-use Rattle.round_work.proofs.PieceLemmas.{take_next}
 
 module _ {X : Type 0} (spot : X → Spot) (Open : Spot → Type 0) where
   abbrev Keeps : List X → List X → Type 0
@@ -64,18 +63,15 @@ module _ {X : Type 0} (spot : X → Spot) (Open : Spot → Type 0) where
     next : (ks ls : List X) → KeepsOpen spot Open (take i old) ks → KeepsOpen spot Open (x ∷ []) ls → KeepsOpen spot Open (take (i + 1) old) (ks ++ ls)
     next ks ls seen one =
         let same : x ≡ get_or old i x = cc (at, get_or-drop i now 0 x, get_or-drop i old 0 x, is.rest, add-zero i) in
-        rw (take_next old i x (omega (arith, is.long, within)) same) (open_both spot Open (take i old) ks (x ∷ []) ls seen one)
+        rw (take_more old i x (omega (arith, is.long, within)), ← same) (open_both spot Open (take i old) ks (x ∷ []) ls seen one)
 
     -- if x is open, it is moved to the front
     pub sifting_next : (Open (spot x) → IsSifting old (set now kept x) (kept + 1) (i + 1)) × ((¬ Open (spot x)) → IsSifting old now kept (i + 1))
     sifting_next = (
-      λ held. record {
-        behind = omega (arith, is.behind);
-        long = length-set now kept x ∙ is.long;
-        rest = drop-set-lt (i + 1) now kept x (omega (arith, is.behind)) ∙ drop_more_same now old i is.rest;
-        keeps = rw (take_more_set now kept x (omega (arith, is.behind, within)))
-            (next (take kept now) (x ∷ []) is.keeps (open_first spot Open x held [] [] (open_none spot Open)));
-      },
+      λ held.
+          let keeps = next (take kept now) (x ∷ []) is.keeps (open_first spot Open x held [] [] (open_none spot Open)) in
+          let rest = drop_more_same now old i is.rest in
+          search (arith, rw (← take_more_set now kept x (omega (arith, is.behind, within))) at keeps, rest, length-set, drop-set-lt),
       λ closed.
           let keeps = rw append-nil at (next (take kept now) [] is.keeps (closed_first spot Open x closed [] [] (open_none spot Open))) in
           search (arith, keeps, drop_more_same),

@@ -1,5 +1,5 @@
 -- What is kept of candidates, as one more is seen, and of candidates of different nodes.
-use Rattle.std.proofs.Common.{◌≡◌, ◌≢◌, ℕ, List, [], ◌∷◌, ◌++◌, ◌⊎◌, inl, inr, map, get_or, refl, sym, ap, ap₂, subst, arith}
+use Rattle.std.proofs.Common.{◌≡◌, ◌≢◌, List, [], ◌∷◌, ◌++◌, ◌⊎◌, inl, inr, map, get_or, refl, subst, arith}
 use Rattle.std.specs.Prelude.{All, AllPairs, Contains, IsPermutation}
 use Rattle.cost_vector.specs.Costs.{AtMost}
 use Rattle.cost_vector.proofs.Vectors.{AtMost-Dominates, AtMost-refl, Dominates-irrefl, LexLess_from_Dominates, cases_same}
@@ -54,9 +54,11 @@ module _ {X : Type 0} (spot : X → Spot) (Open : Spot → Type 0) where
   module _ (seen kept : List X) (is : Keeps seen kept) (s : X) where
     -- it isn't open, or one at most as costly is kept
     pub keeps_not : Done kept s → Keeps (seen ++ s ∷ []) kept
-    keeps_not why =
-        let rest : (x : X) → Contains (seen ++ s ∷ []) x → Done kept x = λ x h. elim (cases_push seen s x h) [ inl old ↦ is.rest x old | inr last ↦ rw last why ] in
-        record { among = λ x h. (in_push seen s x (is.among x h).0, (is.among x h).1); needed = is.needed; rest = rest }
+    keeps_not why = record {
+      among = λ x h. (in_push seen s x (is.among x h).0, (is.among x h).1);
+      needed = is.needed;
+      rest = λ x h. elim (cases_push seen s x h) [ inl old ↦ is.rest x old | inr last ↦ rw last why ];
+    }
 
     -- it is open, and none at most as costly is kept
     pub keeps_more : ((x : X) → Contains seen x → ¬ SpotLess (spot s) (spot x)) → Open (spot s) → All (λ k. ¬ AtMost (spot k).cost (spot s).cost) kept

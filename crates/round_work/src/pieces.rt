@@ -63,7 +63,7 @@ impl<'g, const D: usize, C: StoredCost<D>> TakenItems<'g, D, C> {
     }
 
     /// Appends the candidates that the items of a piece give.
-    #[tactic(auto, using(crate::proofs::PieceLemmas::appends_none, crate::proofs::OnwardLemmas::gives_none, crate::proofs::OnwardLemmas::item_more))]
+    #[tactic(auto, using(crate::proofs::OnwardLemmas::appends_none, crate::proofs::OnwardLemmas::gives_none, crate::proofs::OnwardLemmas::item_more))]
     pub(crate) fn append_piece(
         &self,
         piece: usize,
@@ -127,7 +127,7 @@ pub(crate) fn cut<T>(list: &[T], first: usize, count: usize) -> &[T]
 }
 
 /// Appends the candidates that an item gives.
-#[tactic(auto, using(crate::proofs::PieceLemmas::appends_none, crate::proofs::OnwardLemmas::gives_none, crate::proofs::OnwardLemmas::counted, crate::proofs::OnwardLemmas::there, crate::proofs::OnwardLemmas::arc_leads_back))]
+#[tactic(auto, using(crate::proofs::OnwardLemmas::appends_none, crate::proofs::OnwardLemmas::gives_none, crate::proofs::OnwardLemmas::counted, crate::proofs::OnwardLemmas::there, crate::proofs::OnwardLemmas::arc_leads_back))]
 fn relax_into<const D: usize, C: StoredCost<D>>(
     network: &Network<'_>,
     item: &Item<C>,

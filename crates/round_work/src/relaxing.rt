@@ -52,7 +52,7 @@ where
 }
 
 /// Appends the candidates piece by piece.
-#[tactic(auto, using(crate::proofs::PieceLemmas::appends_none, crate::proofs::OnwardLemmas::gives_none, crate::proofs::OnwardLemmas::piece_more))]
+#[tactic(auto, using(crate::proofs::OnwardLemmas::appends_none, crate::proofs::OnwardLemmas::gives_none, crate::proofs::OnwardLemmas::piece_more))]
 fn relax_alone<const D: usize, C: StoredCost<D>, R, G: Gate>(
     workers: &Workers<'_, R, G>,
     items: &TakenItems<'_, D, C>,

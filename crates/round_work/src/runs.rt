@@ -108,7 +108,7 @@ fn list_sorted<const D: usize, C: StoredCost<D>>(
 }
 
 /// Appends what is kept of candidates of one node. Since they are sorted, none dominates an earlier one.
-#[tactic(auto, using(crate::proofs::PieceLemmas::appends_none, crate::proofs::SurvivorLemmas::keeps_none))]
+#[tactic(auto, using(crate::proofs::OnwardLemmas::appends_none, crate::proofs::SurvivorLemmas::keeps_none))]
 fn keep_survivors<const D: usize, C: StoredCost<D>, K: Look<D, C>>(
     look: &K,
     sorted: &[Item<C>],

@@ -1,5 +1,4 @@
-use Rattle.std.proofs.Common.{◌<◌, ◌∙◌, length, sym, arith}
-use Rattle.std.proofs.lemmas.Bool.{false≢true}
+use Rattle.std.proofs.Common.{◌<◌, length, arith}
 use Rattle.waiting_queue.specs.Waiting.{spot_in}
 use Rattle.round_work.proofs.OpenLemmas.{sifting_next}
 use Rattle.round_work.proofs.merging.leave_out_closed.Goals.{then-is_open, else-is_open}
@@ -11,7 +10,4 @@ loop-i-preserved g c =
     let within : c.loop-i.i < length now = omega (arith, c.loop-i-test.true, c.loop-i.invariant.long, c.len-i-end.ensures) in
     let next = sifting_next (spot_in g.C.StoredCost.components) (g.K.Look.IsOpen c.args.look.now) c.args.candidates.now.items now c.loop-i.kept c.loop-i.i
     c.index.result.now c.loop-i.invariant within c.index.ensures in
-    elim c.if-is_open.branch [
-      | then-is_open w ↦ rw (w.candidates-is, w.kept-is) (next.0 (c.is_open.ensures.0 w.if-is_open.true))
-      | else-is_open w ↦ rw (w.candidates-is, w.kept-is) (next.1 (λ held. false≢true (sym w.if-is_open.false ∙ c.is_open.ensures.1 held)))
-    ]
+    grind (arith, next.0, next.1, c.is_open.ensures)

@@ -1,9 +1,7 @@
-use Rattle.std.proofs.Common.{◌≡◌, ◌++◌, length, drop, arith, sym, ap, subst₂, ◌∙◌}
-use Rattle.std.specs.Prelude.{IsPermutation}
+use Rattle.std.proofs.Common.{◌≡◌, length, drop, arith, ◌∙◌}
 use Rattle.std.proofs.lemmas.List.{take_at}
 use Rattle.rayon.proofs.ListFacts.{IfOk-then}
 use Rattle.waiting_queue.specs.Waiting.{as_waiting, spot_in, spot_of}
-use Rattle.round_work.specs.Pieces.{all_of}
 use Rattle.round_work.proofs.SurvivorLemmas.{keeps_moved, keeps_survivors, keeps_told}
 use Rattle.round_work.proofs.merging.merge.Goals as goal
 
@@ -17,6 +15,5 @@ returns g c =
     let is_sorted = c.deref.ensures.value ∙ take_at sorted (drop (length sorted) old.items) old.len long in
     let moved = rw (c.deref_mut.ensures.value, ← is_sorted) at c.sort_by_node.ensures.permutation in
     IfOk-then c.append_all.result _ _ c.append_all.ensures (λ u is.
-    let kept = is ∙ (ap (λ ks. ks ++ all_of c.deref-2.result.now) c.clear.ensures.items ∙ ap all_of c.deref-2.ensures.value) in
     keeps_survivors spot_of Open _ _ (keeps_told spot_of (as_waiting parts) Open old.items c.append_all.new.all.items
-    (rw kept (keeps_moved (spot_in parts) Open old.items c.deref.result.now (all_of c.in_ok-lists.lists.items) moved c.in_ok-lists.ensures))))
+    (rw (is, c.clear.ensures.items, c.deref-2.ensures.value) (keeps_moved (spot_in parts) Open old.items c.deref.result.now _ moved c.in_ok-lists.ensures))))

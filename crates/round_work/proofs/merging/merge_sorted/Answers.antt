@@ -1,4 +1,4 @@
-use Rattle.std.proofs.Common.{◌*◌, ◌<◌, sym, arith}
+use Rattle.std.proofs.Common.{◌*◌, sym, arith}
 use Rattle.std.specs.Global.{Vec}
 use Rattle.std.proofs.lemmas.List.{length-map}
 use Rattle.rayon.proofs.ListFacts.{IfOk-then}
@@ -6,7 +6,7 @@ use Rattle.waiting_queue.specs.declared.item.Item.{Item}
 use Rattle.waiting_queue.specs.Waiting.{spot_in}
 use Rattle.round_work.specs.Groups.{runs_per_worker}
 use Rattle.round_work.proofs.GroupLemmas.{KeepsOfGroups, groups_both, lists}
-use Rattle.round_work.proofs.PieceLemmas.{all_pieces}
+use Rattle.round_work.proofs.OnwardLemmas.{all_pieces}
 use Rattle.round_work.proofs.SurvivorLemmas.{keeps_none}
 use Rattle.round_work.proofs.merging.merge_sorted.Goals as goal
 

@@ -8,10 +8,9 @@ use Rattle.round_work.proofs.pieces.relax_into.Goals as goal
 pub returns-in_default-plus-clause-too_wide : goal.returns-in_default-plus-clause-too_wide
 returns-in_default-plus-clause-too_wide g c = λ e.
     let item = c.args.item.now in
-    rw (sym c.out_arcs-arcs.ensures)
-    (arc_too_wide c.args.network.now item.from.0 item.node.0 (g.C.StoredCost.components item.cost) g.C.Part.Part.bound c.out_arcs-arcs.result.now
-    c.loop-arc.arc-index (record { 0 = 0 }) c.in-Some.weight c.loop-arc-test.true (sym c.weight.ensures.state ∙ c.in-Some.is)
-    (grind (arith, c.head-head.ensures, c.eq.ensures, c.if-eq.false)) (λ all. false≢true (c.in_default-plus.ensures.fits.1 all)))
+    rw (sym c.out_arcs-arcs.ensures) (arc_too_wide c.args.network.now item.from.0 item.node.0 _ _ c.out_arcs-arcs.result.now _ (record { 0 = 0 }) _
+    c.loop-arc-test.true (sym c.weight.ensures.state ∙ c.in-Some.is) (grind (arith, c.head-head.ensures, c.eq.ensures, c.if-eq.false))
+    (λ all. false≢true (c.in_default-plus.ensures.fits.1 all)))
 
 pub loop-arc-preserved : goal.loop-arc-preserved
 loop-arc-preserved g c =

@@ -2,8 +2,7 @@ use Rattle.std.proofs.Common.{List, sym}
 use Rattle.std.proofs.lemmas.Result.{IfOk-weaker}
 use Rattle.waiting_queue.specs.declared.item.Item.{Item}
 use Rattle.round_work.specs.Pieces.{AreWithRoom, onward_in, piece_size}
-use Rattle.round_work.proofs.OnwardLemmas.{gives_none, on_both}
-use Rattle.round_work.proofs.PieceLemmas.{all_found}
+use Rattle.round_work.proofs.OnwardLemmas.{all_found, gives_none, on_both}
 use Rattle.round_work.proofs.relaxing.relax.Goals as goal
 
 pub returns : goal.returns

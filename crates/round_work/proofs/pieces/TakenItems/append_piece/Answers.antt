@@ -6,7 +6,7 @@ use Rattle.waiting_queue.specs.Waiting.{as_waiting}
 use Rattle.waiting_queue.proofs.JoiningLemmas.{in_flat}
 use Rattle.round_work.specs.Onward.{onward}
 use Rattle.round_work.specs.Pieces.{piece_size}
-use Rattle.round_work.proofs.PieceLemmas.{in_cut}
+use Rattle.round_work.proofs.OnwardLemmas.{in_cut}
 use Rattle.round_work.proofs.pieces.TakenItems.append_piece.Goals as goal
 
 pub relax_into-requires-clause-node : goal.relax_into-requires-clause-node

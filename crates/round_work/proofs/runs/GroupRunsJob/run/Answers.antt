@@ -6,7 +6,7 @@ use Rattle.waiting_queue.specs.declared.item.Item.{Item}
 use Rattle.waiting_queue.proofs.ShadowLemmas.{pairs_drop}
 use Rattle.round_work.specs.Groups.{AreApart, HaveOneNode}
 use Rattle.round_work.proofs.GroupLemmas.{groups_both}
-use Rattle.round_work.proofs.PieceLemmas.{in_cut, take_next}
+use Rattle.round_work.proofs.OnwardLemmas.{in_cut, take_next}
 use Rattle.round_work.proofs.runs.GroupRunsJob.run.Goals as goal
 
 pub merge_group-requires : goal.merge_group-requires
@@ -24,6 +24,6 @@ loop-i-preserved g c =
 
 pub returns : goal.returns
 returns g c =
-    let groups = c.requires.groups.apart in
-    (rw (take_all c.loop-i.i c.cut-group-items.result.now (omega (arith, c.loop-i-test.false)), c.cut-group-items.ensures, ← take-map, ← drop-map) at c.loop-i.invariant)
-    (pairs_take AreApart c.args.self.now.size _ (pairs_drop AreApart (c.args.piece * c.args.self.now.size) _ groups))
+    let all = take_all c.loop-i.i c.cut-group-items.result.now (omega (arith, c.loop-i-test.false)) in
+    (rw (all, c.cut-group-items.ensures, ← take-map, ← drop-map) at c.loop-i.invariant)
+    (pairs_take AreApart c.args.self.now.size _ (pairs_drop AreApart (c.args.piece * c.args.self.now.size) _ c.requires.groups.apart))

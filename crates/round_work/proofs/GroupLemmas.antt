@@ -19,7 +19,7 @@ use Rattle.waiting_queue.proofs.ShadowLemmas.{in_parts, pairs_drop, pairs_parts}
 use Rattle.round_work.specs.Groups.{AreApart, AreGroups, AscendByNode, HaveOneNode, SplitsGroup, joined}
 use Rattle.round_work.specs.Pieces.{Appends}
 use Rattle.round_work.specs.Survivors.{KeepsNeeded}
-use Rattle.round_work.proofs.SurvivorLemmas.{Done, keeps_both, keeps_more, keeps_not}
+use Rattle.round_work.proofs.SurvivorLemmas.{Done, keeps_beside, keeps_more, keeps_not}
 use Rattle.round_work.proofs.OnwardLemmas.{take_next}
 
 module _ {C : Type 0} where
@@ -150,7 +150,9 @@ module _ {C : Type 0} (components : C → List ℕ) (Open : Spot → Type 0) whe
   pub groups_both : (gs hs : List (List (Item C))) (ks ls : List (Item C)) → KeepsOfGroups gs ks → KeepsOfGroups hs ls → KeepsOfGroups (gs ++ hs) (ks ++ ls)
   groups_both gs hs ks ls one two pairs =
       let (front, back, across) = pairs_both AreApart gs hs pairs in
-      rw flat_map-append (keeps_both spot Open (joined gs) (joined hs) ks ls (one front) (two back) (λ x y h k.
-      let (f, f_in, x_in) = of_flat (λ g. g) gs x h in
-      let (b, b_in, y_in) = of_flat (λ g. g) hs y k in
-      across f b f_in b_in x y x_in y_in))
+      let kept = one front in
+      let kept_too = two back in
+      rw flat_map-append (keeps_beside spot Open (joined gs) (joined hs) ks ls kept kept_too (λ x y h k node.
+      let (f, f_in, x_in) = of_flat (λ g. g) gs x (kept.among x h).0 in
+      let (b, b_in, y_in) = of_flat (λ g. g) hs y (kept_too.among y k).0 in
+      absurd (across f b f_in b_in x y x_in y_in node)))

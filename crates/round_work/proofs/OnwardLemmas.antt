@@ -101,9 +101,6 @@ pub open_on_both : {C : Type 0} (components : C → List ℕ) (net : Network) (O
 open_on_both components net Open xs ys ks ls one two = simp (map-append, flat_map-append) (open_both spot_of Open _ _ _ _ one two)
 
 module _ {C : Type 0} (components : C → List ℕ) (bound : ℕ) where
-  abbrev view : Item C → Waiting
-  view = as_waiting components
-
   abbrev Gives : List Waiting → List (Item C) → Type 0
   Gives = AreWithRoom components bound
 
@@ -164,6 +161,7 @@ module _ {C : Type 0} (components : C → List ℕ) (bound : ℕ) where
 
     -- one item more
     pub item_more : (ys : List (Item C)) (i : ℕ) (y : Item C) (before now after : List (Item C)) → i < length ys → y ≡ get_or ys i y
-        → Appends (Gives (on (take i ys))) before now → Appends (Gives (onward net (view y))) now after → Appends (Gives (on (take (i + 1) ys))) before after
+        → Appends (Gives (on (take i ys))) before now → Appends (Gives (onward net (as_waiting components y))) now after
+        → Appends (Gives (on (take (i + 1) ys))) before after
     item_more ys i y before now after within at one two =
         rw (take_next ys i y within at) (appends_both (λ zs. Gives (on zs)) on_both (take i ys) (y ∷ []) one (rw append-nil two))

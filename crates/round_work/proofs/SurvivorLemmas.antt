@@ -1,5 +1,5 @@
 -- What is kept of candidates, as one more is seen, and of candidates of different nodes.
-use Rattle.std.proofs.Common.{◌≡◌, ◌≢◌, List, [], ◌∷◌, ◌++◌, ◌⊎◌, inl, inr, map, get_or, refl, subst, arith}
+use Rattle.std.proofs.Common.{◌≡◌, List, [], ◌∷◌, ◌++◌, ◌⊎◌, inl, inr, map, get_or, refl, subst, arith}
 use Rattle.std.specs.Prelude.{All, AllPairs, Contains, IsPermutation}
 use Rattle.cost_vector.specs.Costs.{AtMost}
 use Rattle.cost_vector.proofs.Vectors.{AtMost-Dominates, AtMost-refl, Dominates-irrefl, LexLess_from_Dominates, cases_same}
@@ -36,7 +36,7 @@ module _ {X : Type 0} (spot : X → Spot) (Open : Spot → Type 0) where
   keeps_none = record { among = λ x h. absurd (in_none x h); needed = pairs_none (AreNeeded spot); rest = λ x h. absurd (in_none x h) }
 
   -- two lists, where what is kept of the one is needed beside what is kept of the other
-  keeps_beside : (xs ys ks ls : List X) → Keeps xs ks → Keeps ys ls → ((x y : X) → Contains ks x → Contains ls y → AreNeeded spot x y)
+  pub keeps_beside : (xs ys ks ls : List X) → Keeps xs ks → Keeps ys ls → ((x y : X) → Contains ks x → Contains ls y → AreNeeded spot x y)
       → Keeps (xs ++ ys) (ks ++ ls)
   keeps_beside xs ys ks ls one two across = record {
     among = λ x h. elim ((in_append ks ls x).0 h) [
@@ -82,12 +82,6 @@ module _ {X : Type 0} (spot : X → Spot) (Open : Spot → Type 0) where
 
   pub appends_moved : (xs ys before now : List X) → IsPermutation xs ys → Appends (Keeps ys) before now → Appends (Keeps xs) before now
   appends_moved xs ys before now moved is = record { more = is.more; whole = is.whole; gives = keeps_moved xs ys is.more moved is.gives }
-
-  -- candidates of different nodes
-  pub keeps_both : (xs ys ks ls : List X) → Keeps xs ks → Keeps ys ls → ((x y : X) → Contains xs x → Contains ys y → (spot x).node ≢ (spot y).node)
-      → Keeps (xs ++ ys) (ks ++ ls)
-  keeps_both xs ys ks ls one two apart =
-      keeps_beside xs ys ks ls one two (λ x y h k node. absurd (apart x y (one.among x h).0 (two.among y k).0 node))
 
   -- what is kept survives, and nothing else does
   module _ (xs kept : List X) (is : Keeps xs kept) where

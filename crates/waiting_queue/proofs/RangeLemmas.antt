@@ -1,6 +1,6 @@
 -- A queue cut into ranges, and what the passes over them take together.
 use Rattle.std.proofs.Common.{◌≡◌, ◌≢◌, ℕ, ◌+◌, ◌<◌, ◌⊎◌, ◌↔◌, List, [], ◌∷◌, ◌++◌, append_assoc, zero-add, take, drop, length, get_or}
-use Rattle.std.proofs.Common.{inl, inr, refl, sym, arith, Option, Some, None, Less, Equal, Greater, Bor}
+use Rattle.std.proofs.Common.{inl, inr, refl, arith, Option, Some, None, Less, Equal, Greater, Bor}
 use Rattle.std.specs.Prelude.{All, AllPairs, Contains, IfSome, IsTrue, slice_get}
 use Rattle.std.proofs.lemmas.List.{drop_more}
 use Rattle.std.proofs.lemmas.List.Elements.{All-cons, All-nil, Contains-get_or}

@@ -1,6 +1,7 @@
 -- The shadow of what was taken.
 use Rattle.std.proofs.Common.{◌≡◌, ◌≢◌, ℕ, ◌+◌, ◌||◌, ◌<◌, ◌≤◌, ◌⊎◌, ◌↔◌, Bool, true, false, not, IsTrue, List, [], ◌∷◌, ◌++◌, get_or, set, take, drop, length}
-use Rattle.std.proofs.Common.{All, AllPairs, Contains, filter, insert, inl, inr, refl, sym, ap, arith, get_or-drop, get_or-take, drop-set-lt, length-set, length-take, length-drop, take-add, take-append-drop}
+use Rattle.std.proofs.Common.{inl, inr, refl, sym, ap, arith, get_or-drop, get_or-take, drop-set-lt}
+use Rattle.std.proofs.Common.{All, AllPairs, Contains, filter, insert, length-set, length-take, length-drop, take-add, take-append-drop}
 use Rattle.std.specs.Int.{from_bool}
 use Rattle.std.proofs.lemmas.Bool.Decides.{nat_tests}
 use Rattle.std.proofs.lemmas.List.{get_or_default, get_or_past, get_or_read, take-set, take_more}
@@ -68,6 +69,7 @@ loses_by_without P before after w x =
 module _ {C : Type 0} (components : C → List ℕ) where
   -- ---- a list is gone through, and what stays moves up: the costs that aren't at least c
   module _ (c : List ℕ) where
+    -- whether a cost isn't at least c
     abbrev pub stays : C → Bool
     stays x = elim (cases_AtMost c (components x)) [ inl above ↦ false | inr not_above ↦ true ]
 
@@ -79,6 +81,7 @@ module _ {C : Type 0} (components : C → List ℕ) where
         grind (arith, take-set, drop-set-lt, length-set)
     filters_next {xs} {ys} {k} {i} {x} is inside at false tells = FiltersInPlace-more_set is inside (grind arith) at
 
+    -- what stays are the others
     pub without_by_filter : (xs : List C) → IsWithout (λ x. AtMost c (components x)) xs (filter stays xs)
     without_by_filter xs = record {
       old = All-filter stays (Contains xs) xs (All-contains_itself xs);
@@ -86,6 +89,7 @@ module _ {C : Type 0} (components : C → List ℕ) where
       gone = λ k d before. grind (arith, filter_passes stays xs k d before);
     }
 
+  -- one cost more at the end
   below_some_push : (xs : List C) (y : C) (c : List ℕ) → IsBelowSome components (xs ++ y ∷ []) c ↔ (IsBelowSome components xs c ⊎ AtMost c (components y))
   below_some_push xs y c = (λ h. grind (arith, cases_push xs y h.above h.contains), λ k. grind (arith, in_push xs y, last_in xs y))
 
@@ -158,9 +162,11 @@ module _ {C : Type 0} (components : C → List ℕ) where
         let later : ¬ LexLess (components s.cost) (components hidden.by) = rw from.2 at (behind from.0 from.1) in
         grind (arith, at_most_ungrounded (components hidden.by) (components s.cost) later hidden.at_most, grounded_below (components s.cost))
 
+    -- so it joins
     joins : (x : C) → Contains after x ↔ ((Contains shadow x × ¬ AtMost (grounded (components s.cost)) (components x)) ⊎ (x ≡ s.cost))
     joins = elim joined [ inl hidden ↦ absurd (shown hidden) | inr all ↦ all ]
 
+    -- and dominates what it dominates
     joined_dominates : (c : List ℕ) → Dominates (components s.cost) c → IsDominatedBy components after c
     joined_dominates c below = record { by = s.cost; contains = (joins s.cost).1 (inr refl); dominates = below }
 

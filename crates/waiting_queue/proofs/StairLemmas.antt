@@ -7,7 +7,6 @@ use Rattle.std.proofs.lemmas.List.Elements.{AllZip-get_or, Contains-append_left,
 use Rattle.std.proofs.lemmas.Option.{slice_get-get_or, slice_get_cases}
 use Rattle.cost_vector.specs.Costs.{AtMost, Dominates}
 use Rattle.cost_vector.proofs.Vectors.{AtMost-length}
-use Rattle.list_laws.proofs.Members.{each_in}
 use Rattle.list_laws.proofs.OnceLaws.{in_append}
 use Rattle.list_laws.proofs.Pairs.{pairs_take}
 use Rattle.waiting_queue.specs.Shadows.{grounded, second_of, third_of, Descends, ExceedsBefore, FallsTo, IsBehind, IsDominatedBy, IsHidden, Joins, ReachesBefore}
@@ -20,10 +19,12 @@ at_most_three : (a b : List ℕ) → length a ≡ 3 → length b ≡ 3 → secon
 at_most_three (x ∷ y ∷ z ∷ []) (u ∷ v ∷ w ∷ []) three three_too second third = (omega arith, (second, (third, tt)))
 at_most_three _ _ three three_too second third = absurd (omega arith)
 
+-- and the other way round
 three_at_most : (a b : List ℕ) → length a ≡ 3 → AtMost (grounded a) b → (length b ≡ 3) × (second_of a ≤ second_of b) × (third_of a ≤ third_of b)
 three_at_most (x ∷ y ∷ z ∷ []) (u ∷ v ∷ w ∷ []) three h = (refl, h.1.0, h.1.1.0)
 three_at_most _ _ three h = grind arith
 
+-- where none is left out
 third_at_most : (a b : List ℕ) → length b ≡ 3 → AtMost a b → (length a ≡ 3) × (third_of a ≤ third_of b)
 third_at_most a b three h = grind (arith, AtMost-length a b h, AllZip-get_or ◌≤◌ a b 2 0 0 h)
 
@@ -45,67 +46,65 @@ module _ {C : Type 0} (components : C → List ℕ) (shadow : List C) (descends 
 
   -- a cost joins: it comes between those that come up to it in the second component and are less in the third, and those that don't
   -- come up to it
-  module _ (c : C) (three : length (components c) ≡ 3) (end : ℕ) (split : ReachesBefore components shadow (components c) end) (less : Bool)
+  module _ (c : C) (three : length (components c) ≡ 3) (end : ℕ) (less : Bool)
       (tells : IfSome (slice_get shadow end) (λ x. (length (components x) ≡ 3) × (IsTrue less ↔ third_of (components c) < third_of (components x))))
-    where
-      -- where the next cost isn't greater in the third component, it hides this one
-      pub hidden_unless : (slice_get shadow end ≡ None → IsTrue less) → less ≡ false → IsHidden components shadow (components c)
-      hidden_unless none is_false = elim (slice_get_cases shadow end).1 [
-        | inr past ↦ absurd (false≢true (sym is_false ∙ none past.1))
-        | inl (x, within, got, at) ↦
-            let here = rw got at tells in
-            let low = at_most_three (components x) (components c) here.0 three in
-            grind (arith, low, three_at_most (components c) (components x) three, split.after 0 x, get_or-drop, length-drop)
-      ]
+      (split : ReachesBefore components shadow (components c) end) where
+    -- where the next cost isn't greater in the third component, it hides this one
+    pub hidden_unless : (slice_get shadow end ≡ None → IsTrue less) → less ≡ false → IsHidden components shadow (components c)
+    hidden_unless none is_false = elim (slice_get_cases shadow end).1 [
+      | inr past ↦ absurd (false≢true (sym is_false ∙ none past.1))
+      | inl (x, within, got, at) ↦
+          let here = rw got at tells in
+          let low = at_most_three (components x) (components c) here.0 three in
+          grind (arith, low, three_at_most (components c) (components x) three, split.after 0 x, get_or-drop, length-drop)
+    ]
 
-      module _ (is_less : IsTrue less) (start : ℕ) (within : start ≤ end)
-          (last : 0 < start → (x : C) → slice_get shadow (start - 1) ≡ Some x → (length (components x) ≡ 3) × (third_of (components x) < third_of (components c)))
-          (others : AllWithin (λ x. (length (components x) ≡ 3) × (third_of (components c) ≤ third_of (components x))) shadow start end) where
-        abbrev kept : List C
-        kept = take start shadow ++ drop end shadow
+    module _ (is_less : IsTrue less) (start : ℕ) (within : start ≤ end)
+        (last : 0 < start → (x : C) → slice_get shadow (start - 1) ≡ Some x → (length (components x) ≡ 3) × (third_of (components x) < third_of (components c)))
+        (others : AllWithin (λ x. (length (components x) ≡ 3) × (third_of (components c) ≤ third_of (components x))) shadow start end) where
+      abbrev kept : List C
+      kept = take start shadow ++ drop end shadow
 
-        -- the costs that come before it are less than it in the third component
-        before_less : (x : C) → Contains (take start shadow) x → length (components x) ≡ 3 → third_of (components x) < third_of (components c)
-        before_less x h three_too =
-            grind (arith, descends h.0 (start - 1) x, last, slice_get-get_or shadow (start - 1) x, get_or-take start shadow h.0 x, length-take, split.within)
+      -- the costs that come before it are less than it in the third component
+      before_less : (x : C) → Contains (take start shadow) x → length (components x) ≡ 3 → third_of (components x) < third_of (components c)
+      before_less x h three_too =
+          grind (arith, descends h.0 (start - 1) x, last, slice_get-get_or shadow (start - 1) x, get_or-take start shadow h.0 x, length-take, split.within)
 
-        come_up : (x : C) → Contains (take start shadow) x → second_of (components c) ≤ second_of (components x)
-        come_up x h = grind (arith, split.before h.0 x, get_or-take, length-take)
+      -- and come up to it in the second component
+      come_up : (x : C) → Contains (take start shadow) x → second_of (components c) ≤ second_of (components x)
+      come_up x h = grind (arith, split.before h.0 x, get_or-take, length-take)
 
-        falls_behind : (x : C) → Contains (drop end shadow) x → second_of (components x) < second_of (components c)
-        falls_behind x h = each_in (λ y. second_of (components y) < second_of (components c)) (drop end shadow) split.after x h
+      -- what stands between them leaves, and nothing else
+      without : (x : C) → Contains kept x ↔ (Contains shadow x × ¬ AtMost (grounded (components c)) (components x))
+      without x =
+          let front = in_parts shadow start x in
+          let back = in_parts shadow end x in
+          let above = three_at_most (components c) (components x) three in
+          let low = at_most_three (components c) (components x) three in (
+            λ h. grind (arith, (in_append (take start shadow) (drop end shadow) x).0 h, front.1, back.1, above, before_less x, split.after),
+            λ h. elim (back.0 h.0) [
+              | inr far ↦ Contains-append_right (take start shadow) (drop end shadow) x far
+              | inl near ↦
+                  let parts = rw (take-take start end shadow within) at ((in_parts (take end shadow) start x).0 near) in
+                  let kept_front = Contains-append_left (take start shadow) (drop end shadow) x in
+                  grind (arith, parts, kept_front, low, others, split.before, get_or-drop, get_or-take, length-drop, length-take)
+            ],
+          )
 
-        -- what stands between them leaves, and nothing else
-        without : (x : C) → Contains kept x ↔ (Contains shadow x × ¬ AtMost (grounded (components c)) (components x))
-        without x =
-            let front = in_parts shadow start x in
-            let back = in_parts shadow end x in
-            let above = three_at_most (components c) (components x) three in
-            let low = at_most_three (components c) (components x) three in (
-              λ h. grind (arith, (in_append (take start shadow) (drop end shadow) x).0 h, front.1, back.1, above, before_less x, falls_behind x),
-              λ h. elim (back.0 h.0) [
-                | inr far ↦ Contains-append_right (take start shadow) (drop end shadow) x far
-                | inl near ↦
-                    let parts = rw (take-take start end shadow within) at ((in_parts (take end shadow) start x).0 near) in
-                    let kept_front = Contains-append_left (take start shadow) (drop end shadow) x in
-                    grind (arith, parts, kept_front, low, others, split.before, get_or-drop, get_or-take, length-drop, length-take)
-              ],
-            )
+      -- the shadow then
+      pub stair_fits : (after : List C) → after ≡ insert kept start c → Joins components shadow c after × Descends components after
+      stair_fits after put = (
+        joins_by_insert components shadow kept after c start without put,
+        rw (put, take_at (take start shadow) (drop end shadow), drop_at (take start shadow) (drop end shadow), long)
+            (pairs_between (FallsTo components) (take start shadow) (drop end shadow) c (pairs_take (FallsTo components) start shadow descends)
+            (pairs_drop (FallsTo components) end shadow descends) (λ x y h k. grind (arith, come_up x h, split.after, before_less x h, behind_less y k))
+            (λ x h. grind (arith, come_up x h, before_less x h)) (λ y k. grind (arith, split.after, behind_less y k))),
+      )
+        where
+          long : length (take start shadow) ≡ start
+          long = omega (arith, within, split.within, length-take start shadow)
 
-        -- the shadow then
-        pub stair_fits : (after : List C) → after ≡ insert kept start c → Joins components shadow c after × Descends components after
-        stair_fits after put = (
-          joins_by_insert components shadow kept after c start without put,
-          rw (put, take_at (take start shadow) (drop end shadow), drop_at (take start shadow) (drop end shadow), long)
-              (pairs_between (FallsTo components) (take start shadow) (drop end shadow) c (pairs_take (FallsTo components) start shadow descends)
-              (pairs_drop (FallsTo components) end shadow descends) (λ x y h k. grind (arith, come_up x h, falls_behind y k, before_less x h, behind_less y k))
-              (λ x h. grind (arith, come_up x h, before_less x h)) (λ y k. grind (arith, falls_behind y k, behind_less y k))),
-        )
-          where
-            long : length (take start shadow) ≡ start
-            long = omega (arith, within, split.within, length-take start shadow)
-
-            behind_less : (y : C) → Contains (drop end shadow) y → length (components y) ≡ 3 → third_of (components c) < third_of (components y)
-            behind_less y h three_too =
-                let is = rw (slice_get-get_or shadow end y (omega (arith, h.1, length-drop end shadow))) at tells in
-                grind (arith, descends end (end + h.0) y, get_or-drop end shadow h.0 y, length-drop end shadow)
+          behind_less : (y : C) → Contains (drop end shadow) y → length (components y) ≡ 3 → third_of (components c) < third_of (components y)
+          behind_less y h three_too =
+              let is = rw (slice_get-get_or shadow end y (omega (arith, h.1, length-drop end shadow))) at tells in
+              grind (arith, descends end (end + h.0) y, get_or-drop end shadow h.0 y, length-drop end shadow)

@@ -1,10 +1,16 @@
-use Rattle.std.proofs.Common.{◌++◌, List, append-nil, map, sym, ◌∙◌}
+use Rattle.std.proofs.Common.{Result, Ok, Err, ◌++◌, List, append-nil, map, sym, ◌∙◌}
+use Rattle.std.specs.Prelude.{IfOk, IsTrue, is_ok}
+use Rattle.std.proofs.lemmas.Bool.{false≢true}
 use Rattle.list_laws.specs.Sets.{SameMembers}
 use Rattle.list_laws.proofs.Members.{in_map, of_map}
 use Rattle.waiting_queue.specs.Runs.{all_of}
 use Rattle.waiting_queue.specs.Waiting.{as_waiting}
-use Rattle.waiting_queue.proofs.RangeLemmas.{if_ok}
 use Rattle.waiting_queue.proofs.run_queue.RunQueue.join_runs.Goals as goal
+
+-- what an outcome that went well gives
+if_ok : {T E P : Type 0} (r : Result T E) → IfOk r (λ _. P) → IsTrue (is_ok r) → P
+if_ok (Ok x) made ok = made
+if_ok (Err e) made ok = absurd (false≢true ok)
 
 same_told : {X Y : Type 0} (f : X → Y) (xs ys : List X) → SameMembers xs ys → SameMembers (map f xs) (map f ys)
 same_told f xs ys same y = (

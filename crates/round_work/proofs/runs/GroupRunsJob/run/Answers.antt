@@ -11,9 +11,8 @@ use Rattle.round_work.proofs.runs.GroupRunsJob.run.Goals as goal
 
 pub merge_group-requires : goal.merge_group-requires
 merge_group-requires g c =
-    let self = c.args.self.now in
     each_in HaveOneNode _ c.requires.groups.each _ (in_map (λ (group : Bor (List (Item g.row.C.Denot))). group.now) _ _
-    (in_cut _ _ (c.args.piece * self.size) self.size _ c.group-item.result c.cut-group-items.ensures c.loop-i-test.true c.group-item.is))
+    (in_cut _ _ (c.args.piece * c.args.self.now.size) _ _ c.group-item.result c.cut-group-items.ensures c.loop-i-test.true c.group-item.is))
 
 pub loop-i-preserved : goal.loop-i-preserved
 loop-i-preserved g c =

@@ -165,6 +165,7 @@ impl Joiner {
     }
 
     /// Adds the next arc of the file begun last. After an error the joiner is only dropped.
+    #[inline(always)]
     pub fn push(&mut self, a: ArcLine) -> Result<(), OutOfMemory>
         requires begun { 1 ≤ self.old.begun }
         requires tail { IsNode self.old.due_nodes a.tail }

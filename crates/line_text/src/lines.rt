@@ -94,6 +94,7 @@ impl Lines {
     ///
     /// `TooLong` is a line with more bytes before its LF than the limit, and `Total` one in which the first byte past
     /// the total stands. Where both are so, the byte that comes first decides, and at one byte it is `TooLong`.
+    #[inline(always)]
     pub fn next_line<S: Source>(&mut self, source: &mut S) -> Result<bool, LineFault>
         // A kept fault is answered again, and nothing changes then. Nothing is read behind the end of input.
         ensures again { IfSome self.old.fault (λ fault. (result ≡ Err fault)
@@ -370,6 +371,7 @@ impl Lines {
     }
 
     /// The fault of a line that has `raw` bytes before its LF and `size` bytes with it.
+    #[inline(always)]
     fn judge(&self, raw: usize, size: usize) -> Result<(), LineFault>
         requires { raw ≤ size }
         ensures fault { result_err result ≡ line_fault self.now.limits self.now.passed raw size }

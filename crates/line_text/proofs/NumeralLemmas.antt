@@ -1,5 +1,5 @@
 -- A text that is read digit by digit.
-use Rattle.std.proofs.Common.{◌≡◌, ℕ, ◌+◌, ◌-◌, ◌*◌, ◌^◌, ◌<◌, ◌≤◌, true, false, cond, List, Option, Some, None, length, take, drop, get_or, refl, sym, ap, ◌∙◌, arith, ⊎_elim}
+use Rattle.std.proofs.Common.{◌≡◌, ℕ, ◌+◌, ◌-◌, ◌*◌, ◌^◌, ◌<◌, ◌≤◌, true, false, cond, List, ◌∷◌, Option, Some, None, length, take, drop, get_or, refl, sym, ap, ◌∙◌, arith, ⊎_elim}
 use Rattle.std.specs.Char.{is_ascii_digit, digit_value}
 use Rattle.std.specs.List.{AllPass, prefix_len}
 use Rattle.std.specs.Str.Parse.{digits_value}
@@ -117,8 +117,11 @@ module _ (text : List ℕ) (greatest size : ℕ) (counted : size ≡ prefix_len 
       ap numeral_or_above (number ∙ ap (λ bytes. at_most greatest (value_of bytes)) same)
       ∙ numeral_of-digits text greatest (omega arith) (rw same at front_digits)
 
+digit_is_no_blank : (byte : ℕ) → is_ascii_digit byte ≡ true → is_blank byte ≡ false
+digit_is_no_blank byte digit = grind (arith, nat_tests)
+
 digit_is_filled : (byte : ℕ) → is_ascii_digit byte ≡ true → is_filled byte ≡ true
-digit_is_filled byte digit = grind (arith, nat_tests)
+digit_is_filled byte digit = rw (digit_is_no_blank byte digit) refl
 
 -- Of a text this stands behind its blanks, and begins with so many digits.
 module _ (text filled : List ℕ) (e : filled ≡ drop (prefix_len is_blank text) text) (some : 0 < length filled)
@@ -175,3 +178,25 @@ module _ (text filled : List ℕ) (e : filled ≡ drop (prefix_len is_blank text
           first = first_field text filled e n (take n filled) rest some sized refl back;
           reads = numeral_of-other (take n filled) greatest size (omega (arith, length-take n filled, within)) other;
         }
+
+-- ---- a number behind one blank
+
+-- what a byte and these digits begin has the digits' field behind one blank, where the byte is one
+module _ (byte : ℕ) (filled : List ℕ) (blank : is_blank byte ≡ true) (size : ℕ) (some : 0 < size) (counted : size ≡ prefix_len is_ascii_digit filled) where
+  begun : 0 < length filled
+  begun = omega (arith, prefix_len-le-length is_ascii_digit filled)
+
+  digit_here : is_ascii_digit (get_or filled 0 0) ≡ true
+  digit_here = prefix_len_passes is_ascii_digit filled 0 0 (omega arith)
+
+  one_blank : prefix_len is_blank (byte ∷ filled) ≡ 1
+  one_blank =
+      prefix_len_is is_blank (byte ∷ filled) 1 0 (omega arith)
+      (λ k below. let first : k ≡ 0 = omega arith in rw first blank)
+      (λ past. digit_is_no_blank (get_or filled 0 0) digit_here)
+
+  pub reads_short : (greatest value : ℕ) (rest : List ℕ) → rest ≡ drop size filled → BeginsBlank rest
+      → value ≡ value_of (take size filled) → FirstNumeral (byte ∷ filled) greatest (numeral_or_above (at_most greatest value)) rest
+  reads_short greatest value rest back ends number =
+      reads_number (byte ∷ filled) filled (rw one_blank refl) begun greatest size counted (at_most greatest value) rest back ends
+      (ap (at_most greatest) number)

@@ -1,5 +1,5 @@
 ghost use Rattle.std.specs.Prelude.{◌≡◌, ◌<◌, ◌≤◌, ◌+◌, ◌-◌, ◌*◌, [], false, length, take, true, decimal as decimal_text};
-ghost use Rattle.std.specs.Prelude.{MatchOption, min};
+ghost use Rattle.std.specs.Prelude.{IfSome, MatchOption, min};
 ghost use Rattle.std.specs.Char.{is_ascii_digit};
 ghost use Rattle.std.specs.List.{prefix_len};
 ghost use Rattle.route_io.specs.Sinks.{Sends};
@@ -7,7 +7,7 @@ ghost use Rattle.line_text.specs.Fields.{fields_of};
 ghost use Rattle.line_text.specs.Numerals.{FirstNumeral, at_most, numeral_of, numeral_or_above};
 ghost use Rattle.line_text.specs.Numerals.{value_of};
 
-use crate::fields::{begins_blank, behind_blanks, filled_len};
+use crate::fields::{begins_blank, behind_blanks, filled_len, is_blank};
 use itoa::Buffer;
 use route_io::{Sink, WriteFault, put_all};
 
@@ -43,6 +43,32 @@ pub fn next_number(text: &[u8], greatest: u64) -> Option<(Numeral, &[u8])>
     ensures { MatchOption result (fields_of text.now ≡ [])
         (λ found. FirstNumeral text.now greatest found.0 found.1.now) }
 {
+    match short_number(text, greatest) {
+        Some(found) => Some(found),
+        None => any_number(text, greatest),
+    }
+}
+
+/// The same, where it is a number of fewer than `FEW` digits behind one blank, as nearly all are.
+#[inline(always)]
+fn short_number(text: &[u8], greatest: u64) -> Option<(Numeral, &[u8])>
+    ensures { IfSome result (λ found. FirstNumeral text.now greatest found.0 found.1.now) }
+{
+    let (first, filled) = text.split_first()?;
+    let (size, value) = few_digits(filled);
+    let rest = &filled[size..];
+    if is_blank(*first) && 0 < size && size < FEW && begins_blank(rest) {
+        return Some((number_or_above(at_most(greatest, value)), rest));
+    }
+    None
+}
+
+/// The same, whatever it is.
+#[inline(never)]
+fn any_number(text: &[u8], greatest: u64) -> Option<(Numeral, &[u8])>
+    ensures { MatchOption result (fields_of text.now ≡ [])
+        (λ found. FirstNumeral text.now greatest found.0 found.1.now) }
+{
     let text = behind_blanks(text);
     if text.is_empty() {
         return None;
@@ -64,7 +90,7 @@ fn digits(text: &[u8], greatest: u64) -> (usize, Option<u64>)
 {
     let (size, value) = few_digits(text);
     if size < FEW {
-        return (size, if value <= greatest { Some(value) } else { None });
+        return (size, at_most(greatest, value));
     }
     all_digits(text, greatest)
 }
@@ -133,7 +159,15 @@ fn with_digit(value: u64, digit: u8, greatest: u64) -> Option<u64>
     ensures { result ≡ at_most greatest (value * 10 + digit) }
 {
     let more = value.checked_mul(10)?.checked_add(u64::from(digit))?;
-    if more <= greatest { Some(more) } else { None }
+    at_most(greatest, more)
+}
+
+/// The number, if it is at most the greatest.
+#[inline(always)]
+fn at_most(greatest: u64, value: u64) -> Option<u64>
+    ensures { result ≡ at_most greatest value }
+{
+    if value <= greatest { Some(value) } else { None }
 }
 
 /// Sends the number in base ten, or a part of that text from the front and answers the sink's fault.

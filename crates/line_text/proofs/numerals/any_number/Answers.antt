@@ -3,7 +3,7 @@ use Rattle.std.proofs.lemmas.Bool.{iff_false}
 use Rattle.std.proofs.lemmas.List.{take_rest}
 use Rattle.line_text.proofs.FieldLemmas.{no_field}
 use Rattle.line_text.proofs.NumeralLemmas.{reads_number, reads_no_number}
-use Rattle.line_text.proofs.numerals.next_number.Goals as goal
+use Rattle.line_text.proofs.numerals.any_number.Goals as goal
 
 pub returns-then-is_empty : goal.returns-then-is_empty
 returns-then-is_empty c = no_field c.args.text.now _ c.behind_blanks-text.ensures (search rules)

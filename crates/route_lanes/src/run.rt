@@ -22,8 +22,8 @@ use std::sync::Wait;
 use std::thread::Threads;
 use std::time::Clock;
 
-/// Serves all links at once, the operator's first and up to 16 sessions', each lane on a thread of its own; where none can
-/// be started the caller's does its work. When the operator's link has ended the store is closed, and each session's lane
+/// Serves all links at once, the operator's first, on the caller's thread, and up to 16 sessions', each on one of its own; where none
+/// can be started the caller's does its work. When the operator's link has ended the store is closed, and each session's lane
 /// comes to the end of its history.
 ///
 /// One report a link, in order. It may wait: a publication for readers, and a session for an epoch. Where memory runs out,

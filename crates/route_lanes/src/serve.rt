@@ -31,8 +31,8 @@ pub struct Served {
     pub starved: u64,
 }
 
-/// Serves the links of all doors at once, the operator's the first and up to 16 of sessions, each door on a thread of its
-/// own; where none can be started the caller's does its work. A door's links are served one after another and given back,
+/// Serves the links of all doors at once, the operator's the first, on the caller's thread, and up to 16 of sessions, each on one of
+/// its own; where none can be started the caller's does its work. A door's links are served one after another and given back,
 /// until there is no next one: a link that fails or wants memory ends alone. When the operator's door gives no more links
 /// the store is closed, and each session's lane comes to the end of its history.
 ///

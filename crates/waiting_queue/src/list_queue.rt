@@ -19,7 +19,7 @@ use stored_cost::StoredCost;
 use work_claim::Workers;
 
 /// What waits under 3 or 4 criteria: most of it in one ascending list, and each call that takes some goes through it once, workers
-/// in as many ranges as they are where it is long.
+/// in as many ranges as they are where enough comes in.
 #[derive(Drop)]
 pub(crate) struct ListQueue<const D: usize, C: StoredCost<D>> {
     items: Vec<Item<C>>,

@@ -20,6 +20,14 @@ sleep {seconds}
 exec {route} "$@"
 """
 
+# Ends once a scheduler has so many workers: each gets parts then, however long it took to start.
+ALL_THERE = """
+import sys
+from distributed import Client
+with Client(sys.argv[1]) as client:
+    client.wait_for_workers(int(sys.argv[2]), timeout=60)
+"""
+
 
 @pytest.fixture(scope="module")
 def pairs(town, tmp_path_factory):
@@ -213,6 +221,8 @@ def cluster(count: int, folder: Path):
                     [sys.executable, "-m", "distributed.cli.dask_worker", *words], **common
                 )
             )
+        words = [sys.executable, "-c", ALL_THERE, address, str(count)]
+        subprocess.run(words, check=True, timeout=90, **common)
         yield address, begun[1:]
     finally:
         for process in reversed(begun):

@@ -8,7 +8,7 @@ use Rattle.list_laws.proofs.Members.{all_from_in, of_map}
 use Rattle.list_laws.proofs.OnceLaws.{empty_if_none}
 use Rattle.list_laws.proofs.Pairs.{pairs_take}
 use Rattle.waiting_queue.specs.Taking.{Counts, TakesOpenSpots}
-use Rattle.waiting_queue.specs.Waiting.{spot_of}
+use Rattle.waiting_item.specs.Waiting.{spot_of}
 use Rattle.out_of_memory.specs.declared.OutOfMemory.{OutOfMemory}
 use Rattle.bulk_rounds.specs.declared.begin.Begun.{Begun}
 use Rattle.bulk_rounds.specs.declared.begin.Begun.TheVariants.{Done}

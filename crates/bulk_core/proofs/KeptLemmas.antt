@@ -4,8 +4,8 @@ use Rattle.list_laws.proofs.Members.{all_from_in, each_in}
 use Rattle.bulk_rounds.specs.Cores.{Core, IsSettledIn, Item, SameSearch, Spot}
 use Rattle.bulk_rounds.specs.Kept.{IsFrom, IsKept}
 use Rattle.bulk_rounds.proofs.KeptLemmas.{from_on}
-use Rattle.waiting_queue.specs.Waiting.{as_waiting, spot_in, spot_of}
-use Rattle.waiting_queue.specs.declared.item.Item.{Item as QueueItem}
+use Rattle.waiting_item.specs.Waiting.{as_waiting, spot_in, spot_of}
+use Rattle.waiting_item.specs.declared.item.Item.{Item as QueueItem}
 use Rattle.bulk_core.specs.Kept.{IsKeptCore}
 
 -- the spots of items

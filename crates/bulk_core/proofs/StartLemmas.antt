@@ -9,7 +9,7 @@ use Rattle.road_network.specs.Network.{IsNode}
 use Rattle.bulk_rounds.specs.Cores.{Core, HasSpot, IsNewSearch, IsSettledIn, Item, Spot, costs_at, start_spot}
 use Rattle.bulk_rounds.specs.Kept.{IsKeptItem}
 use Rattle.bulk_rounds.specs.Taking.{CountsSettled}
-use Rattle.waiting_queue.specs.Waiting.{AreCriteria}
+use Rattle.waiting_item.specs.Waiting.{AreCriteria}
 use Rattle.bulk_core.specs.Kept.{IsEmptySearch, IsKeptCore}
 
 -- a search keeps what it has to where nothing is settled and nothing waits

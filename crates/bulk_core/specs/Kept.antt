@@ -8,7 +8,7 @@ use Rattle.bulk_rounds.specs.Cores.{Core, IsSettledIn, Item, SameSearch, Spot}
 use Rattle.bulk_rounds.specs.Kept.{IsFrom, IsKept, IsKeptItem}
 use Rattle.road_network.specs.Limits.{max_budget}
 use Rattle.waiting_queue.specs.Taking.{TakesOpenSpots}
-use Rattle.waiting_queue.specs.Waiting.{AreCriteria, spot_of}
+use Rattle.waiting_item.specs.Waiting.{AreCriteria, spot_of}
 
 -- the core with this settled, with what waits and what the open round has taken
 abbrev pub core_of : (criteria start budget : ℕ) → Settled → List Item → List Spot → Core

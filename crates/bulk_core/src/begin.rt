@@ -4,7 +4,7 @@ ghost use Rattle.bulk_rounds.specs.Begins.{BeginsAs, CountsRound};
 ghost use Rattle.bulk_rounds.specs.Cores.{Core as Value, SameSearch};
 ghost use Rattle.bulk_core.specs.Settled.{IsSpentBy};
 ghost use Rattle.waiting_queue.specs.Taking.{Counts, TakesOpenSpots};
-ghost use Rattle.waiting_queue.specs.Waiting.{as_waiting, spot_of};
+ghost use Rattle.waiting_item.specs.Waiting.{as_waiting, spot_of};
 
 use crate::settled::settle_all;
 use crate::{Core, Settled};
@@ -16,7 +16,8 @@ use std::alloc::Global;
 use std::sync::ledger::Ledger;
 use std::thread::Threads;
 use stored_cost::StoredCost;
-use waiting_queue::{Item, Queue, Steps};
+use waiting_item::Item;
+use waiting_queue::{Queue, Steps};
 use work_claim::Workers;
 
 impl<const D: usize, F: SettledFront<D> + Sync> Core<D, F>

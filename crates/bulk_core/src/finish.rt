@@ -2,13 +2,13 @@ ghost use Rattle.std.specs.Prelude.{map, All, IfOk};
 ghost use Rattle.bulk_rounds.specs.Cores.{SameSearch};
 ghost use Rattle.bulk_rounds.specs.Finishes.{FinishesRound, PutsAll};
 ghost use Rattle.bulk_rounds.specs.Kept.{IsKeptItem};
-ghost use Rattle.waiting_queue.specs.Waiting.{as_waiting};
+ghost use Rattle.waiting_item.specs.Waiting.{as_waiting};
 
 use crate::Core;
 use crate::settled::list_open;
 use out_of_memory::OutOfMemory;
 use settled_front::SettledFront;
-use waiting_queue::Item;
+use waiting_item::Item;
 
 impl<const D: usize, F: SettledFront<D>> Core<D, F> {
     /// Ends the round with what its spots give along their arcs. What is spent is left out; nothing is compared with what

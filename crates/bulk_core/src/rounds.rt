@@ -9,7 +9,7 @@ ghost use Rattle.road_network.specs.Answers.{IsRelevant};
 ghost use Rattle.road_network.specs.Limits.{max_budget, max_nodes};
 ghost use Rattle.road_network.specs.Network.{IsNode};
 ghost use Rattle.settled_fronts.specs.NodeFronts.{costs_at};
-ghost use Rattle.waiting_queue.specs.Waiting.{AreCriteria, as_waiting, spot_in};
+ghost use Rattle.waiting_item.specs.Waiting.{AreCriteria, as_waiting, spot_in};
 
 use crate::Settled;
 use cost_vector::{Limit, NodeNo};
@@ -19,7 +19,8 @@ use settled_fronts::Fronts;
 use std::alloc::Global;
 use std::marker::Model;
 use stored_cost::StoredCost;
-use waiting_queue::{Item, Queue};
+use waiting_item::Item;
+use waiting_queue::Queue;
 
 /// A search for the best costs from a node to another, within a limit and a budget of settled spots, round by round, with costs
 /// stored at one width.
@@ -44,7 +45,7 @@ impl<const D: usize, F: SettledFront<D>> Model for Core<D, F> {
     ghost use Rattle.std.specs.Prelude.{◌++◌, map};
     ghost use Rattle.bulk_core.specs.Kept.{IsKeptCore, core_of};
     ghost use Rattle.bulk_rounds.specs.Cores.{Core};
-    ghost use Rattle.waiting_queue.specs.Waiting.{as_waiting, spot_in};
+    ghost use Rattle.waiting_item.specs.Waiting.{as_waiting, spot_in};
 
     ghost Value = { Core };
 

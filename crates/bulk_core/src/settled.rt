@@ -5,7 +5,7 @@ ghost use Rattle.road_network.specs.Limits.{max_budget, max_nodes};
 ghost use Rattle.road_network.specs.Network.{IsNode};
 ghost use Rattle.settled_front.specs.Fronts.{IsCovered};
 ghost use Rattle.settled_fronts.specs.NodeFronts.{costs_at, SameElsewhere};
-ghost use Rattle.waiting_queue.specs.Waiting.{AreCriteria, spot_in};
+ghost use Rattle.waiting_item.specs.Waiting.{AreCriteria, spot_in};
 
 use cost_vector::{CompactCost, Limit, NodeNo};
 use out_of_memory::OutOfMemory;
@@ -14,7 +14,8 @@ use settled_fronts::Fronts;
 use std::alloc::Global;
 use std::marker::Model;
 use stored_cost::StoredCost;
-use waiting_queue::{Item, Look};
+use waiting_item::Item;
+use waiting_queue::Look;
 
 /// The settled costs of all nodes, the target and the limit: they tell which spots are spent.
 ///

@@ -12,7 +12,7 @@ use Rattle.bulk_rounds.specs.Kept.{IsFrom, IsKept, IsKeptItem, SparesSettled}
 use Rattle.bulk_rounds.specs.Taking.{CountsSettled, IsNextIn, ListsNext}
 use Rattle.bulk_rounds.proofs.SpentLemmas.{ascending_once, covered_on, decidable_spent, spent_below, spent_on}
 use Rattle.waiting_queue.specs.Taking.{TakesOpenSpots}
-use Rattle.waiting_queue.specs.Waiting.{SpotLess, spot_of}
+use Rattle.waiting_item.specs.Waiting.{SpotLess, spot_of}
 
 -- the cost of one of two next spots of a node is at most the other's only where both are the same
 pub next_apart : (core : Core) (x y : Spot) → IsNextIn core x → IsNextIn core y → AtMost x.cost y.cost → x.cost ≡ y.cost

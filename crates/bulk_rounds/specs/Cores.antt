@@ -2,8 +2,8 @@
 -- Source: P. Sanders and L. Mandow, "Parallel label-setting multi-objective shortest path search", IPDPS 2013.
 use Rattle.std.specs.Prelude.{◌≡◌, ℕ, ◌⊎◌, ◌↔◌, List, [], Option, replicate, slice_index_or, Contains}
 use Rattle.cost_vector.specs.Costs.{AtMost, Dominates, Within}
-use Rattle.waiting_queue.specs.Waiting.{Waiting}
-pub use Rattle.waiting_queue.specs.Waiting.{Spot, SpotLess}
+use Rattle.waiting_item.specs.Waiting.{Waiting}
+pub use Rattle.waiting_item.specs.Waiting.{Spot, SpotLess}
 
 -- what waits: a spot, and the node from which it was reached, or 0 where none is told
 abbrev pub Item : Type 0

@@ -14,7 +14,7 @@ ghost use Rattle.road_network.specs.Labels.{Label};
 ghost use Rattle.road_network.specs.Network.{AreSmall, IsNode};
 ghost use Rattle.road_network.specs.Walks.{IsSumOf};
 ghost use Rattle.waiting_queue.specs.Taking.{TakesOpenSpots};
-ghost use Rattle.waiting_queue.specs.Waiting.{spot_of};
+ghost use Rattle.waiting_item.specs.Waiting.{spot_of};
 
 /// What arrives in a round is of a node, and dominates no settled cost there.
 pub fn arrivals_spare_settled()

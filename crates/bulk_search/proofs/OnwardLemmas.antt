@@ -25,8 +25,8 @@ use Rattle.bulk_rounds.specs.Standing.{IsAt, as_spot}
 use Rattle.bulk_rounds.proofs.FinishedLemmas.{finishes_round}
 use Rattle.bulk_rounds.proofs.FoundLemmas.{arrives_at_node, spares_settled, taken_at_node, taken_is_small, way_back_spent}
 use Rattle.bulk_rounds.proofs.SpentLemmas.{barred_below, covered_below, decidable_spent}
-use Rattle.waiting_queue.specs.Waiting.{spot_in, spot_of}
-use Rattle.waiting_queue.specs.declared.item.Item.{Item as QueueItem}
+use Rattle.waiting_item.specs.Waiting.{spot_in, spot_of}
+use Rattle.waiting_item.specs.declared.item.Item.{Item as QueueItem}
 use Rattle.waiting_queue.proofs.JoiningLemmas.{in_flat, of_flat}
 use Rattle.round_work.specs.Onward.{IsTooWide, onward, onward_of, reached_from}
 use Rattle.round_work.specs.Survivors.{HasBelow, KeepsOpen, KeepsSurvivors}

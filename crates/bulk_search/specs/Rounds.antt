@@ -11,7 +11,7 @@ use Rattle.bulk_rounds.specs.Cores.{Core, Item, SameSearch, Spot}
 use Rattle.bulk_rounds.specs.Standing.{IsAt}
 use Rattle.found_fronts.specs.FoundFronts.{IsOfFronts}
 use Rattle.round_work.specs.Survivors.{HasBelow}
-use Rattle.waiting_queue.specs.Waiting.{spot_of}
+use Rattle.waiting_item.specs.Waiting.{spot_of}
 use Rattle.walk_readback.specs.Found.{FoundCosts, HasAllRelevant}
 
 -- the list contains so many different things

@@ -8,7 +8,7 @@ ghost use Rattle.road_network.specs.Network.{IsNode};
 ghost use Rattle.road_network.specs.Queries.{IsQuery, limit_of};
 ghost use Rattle.round_work.specs.Onward.{IsTooWide, onward_of};
 ghost use Rattle.round_work.specs.declared.fault.RelaxFault.TheVariants as fault;
-ghost use Rattle.waiting_queue.specs.Waiting.{as_waiting};
+ghost use Rattle.waiting_item.specs.Waiting.{as_waiting};
 ghost use Rattle.bulk_search.specs.Counting.{task_of};
 ghost use Rattle.bulk_search.specs.Rounds.{EndsOver, FindsAll, IsOpen, KeepsEnough};
 ghost use Rattle.bulk_search.specs.Widths.{core_of};
@@ -27,7 +27,8 @@ use std::alloc::Global;
 use std::sync::ledger::Ledger;
 use std::thread::Threads;
 use stored_cost::{NarrowCost, StoredCost, WideCost};
-use waiting_queue::{Item, Look, Steps, labels_of_spots};
+use waiting_item::Item;
+use waiting_queue::{Look, Steps, labels_of_spots};
 use work_claim::Workers;
 
 /// A search by rounds at one width, and room for what each of them gives.

@@ -6,7 +6,7 @@ use Rattle.list_laws.proofs.Members.{all_from_in, each_in, in_map, of_map}
 use Rattle.road_network.specs.Network.{Network, IsNetwork, IsNode}
 use Rattle.road_network.proofs.WalkLaws.{leads_to_node}
 use Rattle.arc_graph.specs.Graph.{IsRoadNetwork}
-use Rattle.waiting_queue.specs.Waiting.{spot_of}
+use Rattle.waiting_item.specs.Waiting.{spot_of}
 use Rattle.bulk_rounds.specs.Cores.{Core, HasSpot, IsCoveredIn, IsSpent, Item, Spot}
 use Rattle.bulk_rounds.proofs.FoundLemmas.{way_back_spent}
 use Rattle.bulk_rounds.proofs.SpentLemmas.{spot_by_parts}

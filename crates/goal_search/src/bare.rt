@@ -2,7 +2,7 @@ ghost use Rattle.std.specs.Prelude.{◌≡◌, ℕ, ◌<◌, ◌↔◌, [], List
 ghost use Rattle.cost_vector.specs.Costs.{AtMost, plus};
 ghost use Rattle.road_network.specs.Network.{IsNode};
 ghost use Rattle.settled_fronts.specs.NodeFronts.{SameElsewhere, costs_at};
-ghost use Rattle.waiting_queue.specs.Waiting.{AreCriteria};
+ghost use Rattle.waiting_item.specs.Waiting.{AreCriteria};
 ghost use Rattle.goal_bounds.specs.Bounds.{IsBoundSearch};
 ghost use Rattle.goal_search.specs.Bare.{AreBounded, IsBareAt, IsWithBound};
 

@@ -1,7 +1,7 @@
 ghost use Rattle.std.specs.Prelude.{◌≡◌, ℕ, ◌^◌, ◌<◌, List, length, map, All, Contains, Err, IfNone, IfOk, IfSome, OnOk};
 ghost use Rattle.cost_vector.specs.Costs.{plus};
 ghost use Rattle.road_network.specs.Network.{IsNode};
-ghost use Rattle.waiting_queue.specs.Waiting.{as_waiting, spot_in};
+ghost use Rattle.waiting_item.specs.Waiting.{as_waiting, spot_in};
 ghost use Rattle.goal_laws.specs.Goal.{IsBound};
 ghost use Rattle.goal_bounds.specs.Bounds.{IsBoundSearch};
 ghost use Rattle.round_work.specs.declared.fault.RelaxFault.TheVariants as fault;
@@ -13,7 +13,7 @@ use goal_bounds::BoundSearch;
 use round_work::RelaxFault;
 use std::alloc::Global;
 use stored_cost::StoredCost;
-use waiting_queue::Item;
+use waiting_item::Item;
 
 /// What follows the spots that a round has taken, along the arcs that lead on from them and not straight back, with costs at the same
 /// width.

@@ -5,7 +5,7 @@ ghost use Rattle.cost_vector.specs.Costs.{no_limit};
 ghost use Rattle.goal_bounds.specs.Bounds.{IsBoundSearch};
 ghost use Rattle.road_network.specs.Queries.{IsQuery};
 ghost use Rattle.round_work.specs.declared.fault.RelaxFault.TheVariants as fault;
-ghost use Rattle.waiting_queue.specs.Waiting.{AreCriteria, as_waiting};
+ghost use Rattle.waiting_item.specs.Waiting.{AreCriteria, as_waiting};
 ghost use Rattle.goal_search.specs.Answers.{IsTooLargeToward};
 ghost use Rattle.goal_search.specs.Ends.{EndsAs, IsPending};
 ghost use Rattle.goal_search.specs.Relaxing.{HasNoRoom};
@@ -30,7 +30,8 @@ use std::alloc::Global;
 use std::sync::ledger::Ledger;
 use std::thread::Threads;
 use stored_cost::StoredCost;
-use waiting_queue::{Item, Steps};
+use waiting_item::Item;
+use waiting_queue::Steps;
 use work_claim::Workers;
 
 /// What a search at one width has still to do.

@@ -11,9 +11,9 @@ use Rattle.list_laws.proofs.Members.{cases_push, found_in}
 use Rattle.list_laws.proofs.OnceLaws.{in_append}
 use Rattle.list_laws.proofs.Pairs.{pairs_push, pairs_take}
 use Rattle.list_laws.proofs.SetLaws.{same_by_permutation}
-use Rattle.waiting_queue.specs.declared.item.Item.{Item}
+use Rattle.waiting_item.specs.declared.item.Item.{Item}
 use Rattle.waiting_queue.specs.Taking.{AreSorted}
-use Rattle.waiting_queue.specs.Waiting.{Spot, SpotLess, spot_in}
+use Rattle.waiting_item.specs.Waiting.{Spot, SpotLess, spot_in}
 use Rattle.waiting_queue.proofs.JoiningLemmas.{of_flat, pair_at}
 use Rattle.waiting_queue.proofs.ShadowLemmas.{in_parts, pairs_drop, pairs_parts}
 use Rattle.round_work.specs.Groups.{AreApart, AreGroups, AscendByNode, HaveOneNode, SplitsGroup, joined}

@@ -14,8 +14,8 @@ use Rattle.list_laws.proofs.Members.{in_filter, in_filter_map, in_map, all_got}
 use Rattle.road_network.specs.Network.{Network}
 use Rattle.arc_graph.specs.Graph.{arc_state, head_of, label_by, out_arcs_of}
 use Rattle.arc_graph.proofs.NumbersLemmas.{number_within}
-use Rattle.waiting_queue.specs.declared.item.Item.{Item}
-use Rattle.waiting_queue.specs.Waiting.{Spot, Waiting, as_waiting, spot_of}
+use Rattle.waiting_item.specs.declared.item.Item.{Item}
+use Rattle.waiting_item.specs.Waiting.{Spot, Waiting, as_waiting, spot_of}
 use Rattle.round_work.specs.Onward.{IsTooWide, onward, reached_from}
 use Rattle.round_work.specs.Pieces.{Appends, AreOpenOf, AreWithRoom, items_of, onward_in, piece_size, AppendsFound, GivesIfRoom, found_in}
 use Rattle.round_work.proofs.OpenLemmas.{open_both}

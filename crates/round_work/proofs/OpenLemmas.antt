@@ -5,8 +5,8 @@ use Rattle.std.specs.List.{AllZip, items_where_true}
 use Rattle.std.proofs.lemmas.List.{take_more, take_more_set, append-nil, get_or-drop, length-set, drop-set-lt}
 use Rattle.std.proofs.lemmas.Grind.{drop_more_same}
 use Rattle.std.proofs.lemmas.Bool.{false≢true}
-use Rattle.waiting_queue.specs.declared.item.Item.{Item}
-use Rattle.waiting_queue.specs.Waiting.{Spot, as_waiting, spot_in, spot_of}
+use Rattle.waiting_item.specs.declared.item.Item.{Item}
+use Rattle.waiting_item.specs.Waiting.{Spot, as_waiting, spot_in, spot_of}
 use Rattle.round_work.specs.Survivors.{KeepsOpen}
 
 module _ {X : Type 0} (spot : X → Spot) (Open : Spot → Type 0) where

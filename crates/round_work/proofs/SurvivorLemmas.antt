@@ -9,7 +9,7 @@ use Rattle.list_laws.proofs.OnceLaws.{in_append, pairs_append}
 use Rattle.list_laws.proofs.Pairs.{pairs_cons, pairs_map, pairs_none}
 use Rattle.list_laws.proofs.SetLaws.{same_by_permutation}
 use Rattle.waiting_queue.specs.Taking.{HasSpot}
-use Rattle.waiting_queue.specs.Waiting.{Spot, SpotLess}
+use Rattle.waiting_item.specs.Waiting.{Spot, SpotLess}
 use Rattle.waiting_queue.proofs.OrderLemmas.{not_lex_less}
 use Rattle.waiting_queue.proofs.TakingLemmas.{in_push}
 use Rattle.round_work.specs.Pieces.{Appends}

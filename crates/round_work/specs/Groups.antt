@@ -1,6 +1,6 @@
 -- Candidates cut into one group for each node, and runs of groups.
 use Rattle.std.specs.Prelude.{◌≡◌, ◌≢◌, ℕ, ◌*◌, ◌<◌, ◌≤◌, ◌++◌, List, length, take, drop, flat_map, All, AllPairs, Contains}
-use Rattle.waiting_queue.specs.declared.item.Item.{Item}
+use Rattle.waiting_item.specs.declared.item.Item.{Item}
 
 -- so many runs come to each worker at most, on the average
 abbrev pub runs_per_worker : ℕ

@@ -3,7 +3,7 @@ use Rattle.std.specs.Prelude.{ℕ, ◌<◌, List, map, filter, flat_map, not, na
 use Rattle.cost_vector.specs.declared.label.Label.{Label}
 use Rattle.road_network.specs.Network.{Network}
 use Rattle.arc_graph.specs.Graph.{relaxed}
-use Rattle.waiting_queue.specs.Waiting.{Waiting}
+use Rattle.waiting_item.specs.Waiting.{Waiting}
 
 -- the label's spot, reached from node u
 abbrev pub reached_from : ℕ → Label → Waiting

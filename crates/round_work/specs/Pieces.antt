@@ -2,8 +2,8 @@
 use Rattle.std.specs.Prelude.{◌≡◌, ◌≢◌, ℕ, ◌*◌, ◌<◌, ◌++◌, List, [], Option, Some, None, length, map, take, drop, flat_map, All}
 use Rattle.std.specs.Global.{Vec}
 use Rattle.road_network.specs.Network.{Network, IsNode}
-use Rattle.waiting_queue.specs.declared.item.Item.{Item}
-use Rattle.waiting_queue.specs.Waiting.{Spot, Waiting, as_waiting, spot_of}
+use Rattle.waiting_item.specs.declared.item.Item.{Item}
+use Rattle.waiting_item.specs.Waiting.{Spot, Waiting, as_waiting, spot_of}
 use Rattle.round_work.specs.Onward.{HaveRoom, onward_of}
 use Rattle.round_work.specs.Survivors.{KeepsOpen}
 

@@ -3,7 +3,7 @@ use Rattle.std.specs.Prelude.{◌≡◌, ◌≢◌, ◌⊎◌, ◌↔◌, List, 
 use Rattle.std.specs.List.{AllZip, items_where_true}
 use Rattle.cost_vector.specs.Costs.{AtMost, Dominates}
 use Rattle.waiting_queue.specs.Taking.{HasSpot}
-use Rattle.waiting_queue.specs.Waiting.{Spot}
+use Rattle.waiting_item.specs.Waiting.{Spot}
 
 -- each candidate has a spot
 module _ {X : Type 0} (spot : X → Spot) where

@@ -7,7 +7,7 @@ use out_of_memory::OutOfMemory;
 use rayon::prelude::*;
 use std::alloc::Global;
 use std::thread::Threads;
-use waiting_queue::Item;
+use waiting_item::Item;
 use work_claim::Workers;
 
 /// Brings the candidates of each node together, by ascending node.

@@ -6,7 +6,7 @@ use route_io::{Gate, Phase};
 use std::alloc::Global;
 use std::marker::Model;
 use std::mem;
-use waiting_queue::Item;
+use waiting_item::Item;
 use work_claim::Workers;
 
 /// For each node, whether it has come up among a round's candidates; between rounds no node is marked.

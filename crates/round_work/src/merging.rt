@@ -1,5 +1,5 @@
 ghost use Rattle.std.specs.Prelude.{◌≡◌, ◌++◌, map, IfOk};
-ghost use Rattle.waiting_queue.specs.Waiting.{as_waiting, spot_in, spot_of};
+ghost use Rattle.waiting_item.specs.Waiting.{as_waiting, spot_in, spot_of};
 ghost use Rattle.round_work.specs.Groups.{AscendByNode};
 ghost use Rattle.round_work.specs.Pieces.{all_of};
 ghost use Rattle.round_work.specs.Survivors.{KeepsNeeded, KeepsOpen, KeepsSurvivors};
@@ -11,7 +11,8 @@ use route_io::{Gate, OpenGate, Phase};
 use std::alloc::Global;
 use std::thread::Threads;
 use stored_cost::StoredCost;
-use waiting_queue::{Item, Look};
+use waiting_item::Item;
+use waiting_queue::Look;
 use work_claim::{Workers, run_pieces};
 
 /// Keeps of the candidates exactly those spots that are open and that no other open candidate of their node dominates, each

@@ -1,6 +1,6 @@
 ghost use Rattle.std.specs.Prelude.{◌≡◌, ℕ, ◌*◌, ◌<◌, ◌≤◌, length, take, drop, Err, IfOk};
 ghost use Rattle.road_network.specs.Network.{IsNode};
-ghost use Rattle.waiting_queue.specs.Waiting.{as_waiting};
+ghost use Rattle.waiting_item.specs.Waiting.{as_waiting};
 ghost use Rattle.round_work.specs.Onward.{IsTooWide, onward};
 ghost use Rattle.round_work.specs.Pieces.{Appends, AreWithRoom, CanDo, items_of, onward_in, piece_size};
 ghost use Rattle.round_work.specs.declared.fault.RelaxFault.TheVariants as fault;
@@ -10,7 +10,8 @@ use arc_graph::Network;
 use out_of_memory::OutOfMemory;
 use std::alloc::Global;
 use stored_cost::StoredCost;
-use waiting_queue::{Item, Look};
+use waiting_item::Item;
+use waiting_queue::Look;
 use work_claim::Job;
 
 /// How many taken items are a piece of work; the last piece may have fewer.

@@ -1,6 +1,6 @@
 ghost use Rattle.std.specs.Prelude.{◌≡◌, ◌^◌, ◌<◌, None, length, map, All, Contains, Err, IfOk};
 ghost use Rattle.road_network.specs.Network.{IsNode};
-ghost use Rattle.waiting_queue.specs.Waiting.{as_waiting, spot_of};
+ghost use Rattle.waiting_item.specs.Waiting.{as_waiting, spot_of};
 ghost use Rattle.round_work.specs.Onward.{HaveRoom, IsTooWide, onward_of};
 ghost use Rattle.round_work.specs.Pieces.{Appends, AppendsFound, AreReady, AreWithRoom, onward_in};
 ghost use Rattle.round_work.specs.Survivors.{KeepsOpen};
@@ -13,7 +13,8 @@ use route_io::{Gate, Phase};
 use std::alloc::Global;
 use std::thread::Threads;
 use stored_cost::StoredCost;
-use waiting_queue::{Item, Look};
+use waiting_item::Item;
+use waiting_queue::Look;
 use work_claim::{Workers, run_pieces};
 
 /// The candidates that the taken items give, in the order of the items, for every number of workers: for each arc that leads

@@ -3,7 +3,7 @@ ghost use Rattle.std.specs.Prelude.{◌≡◌, ℕ, ◌-◌, ◌*◌, ◌<◌, �
 ghost use Rattle.std.specs.List.{AllWithin};
 ghost use Rattle.cost_vector.specs.Costs.{AtMost};
 ghost use Rattle.waiting_queue.specs.Taking.{AreSorted};
-ghost use Rattle.waiting_queue.specs.Waiting.{spot_in};
+ghost use Rattle.waiting_item.specs.Waiting.{spot_in};
 ghost use Rattle.round_work.specs.Groups.{CanMergeRun, HaveOneNode, joined, run_of, runs_per_worker};
 ghost use Rattle.round_work.specs.Pieces.{Appends};
 ghost use Rattle.round_work.specs.Survivors.{KeepsNeeded};
@@ -13,7 +13,8 @@ use out_of_memory::OutOfMemory;
 use route_io::{Gate, Phase};
 use std::alloc::Global;
 use stored_cost::StoredCost;
-use waiting_queue::{Item, Look};
+use waiting_item::Item;
+use waiting_queue::Look;
 use work_claim::{Job, Workers};
 
 /// At most so many runs come to each worker on the average: so many that the work is shared evenly, and so few that it takes

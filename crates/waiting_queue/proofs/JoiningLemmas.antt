@@ -12,13 +12,13 @@ use Rattle.cost_vector.proofs.Vectors.{Dominates-irrefl, Dominates-trans, LexLes
 use Rattle.list_laws.proofs.Members.{each_in, in_first, in_none, in_rest}
 use Rattle.list_laws.proofs.OnceLaws.{in_append, in_cons, pairs_append}
 use Rattle.list_laws.proofs.Pairs.{pair_with_first, pairs_none, pairs_rest}
-use Rattle.waiting_queue.specs.declared.item.Item.{Item}
+use Rattle.waiting_item.specs.declared.item.Item.{Item}
 use Rattle.waiting_queue.specs.declared.joining.Part.{Part}
 use Rattle.waiting_queue.specs.Joining.{AreMarked, AreParts, ComesBefore, EndsBefore, IsPart, JoinsAll, taken_of}
 use Rattle.waiting_queue.specs.Passing.{EndsAt}
 use Rattle.waiting_queue.specs.Shadows.{IsBehind, IsDominatedBy}
 use Rattle.waiting_queue.specs.Taking.{AreSorted, IsDominatedIn}
-use Rattle.waiting_queue.specs.Waiting.{Spot, SpotLess, spot_in}
+use Rattle.waiting_item.specs.Waiting.{Spot, SpotLess, spot_in}
 use Rattle.waiting_queue.proofs.OrderLemmas.{SpotLess-irrefl, SpotLess-trans, after_or_same, not_lex_less}
 use Rattle.waiting_queue.proofs.PassingLemmas.{ends_if_there, has_if_ends}
 use Rattle.waiting_queue.proofs.ShadowLemmas.{in_parts, pairs_parts, shadow_tells}

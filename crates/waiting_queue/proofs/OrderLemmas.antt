@@ -12,9 +12,9 @@ use Rattle.std.proofs.lemmas.Cmp.{tied_itself, then_total, on_total}
 use Rattle.cost_vector.specs.Costs.{LexLess, lex_cmp}
 use Rattle.cost_vector.proofs.Vectors.{same_from_lex_cmp}
 use Rattle.list_laws.proofs.Pairs.{pairs_map}
-use Rattle.waiting_queue.specs.declared.item.Item.{Item}
+use Rattle.waiting_item.specs.declared.item.Item.{Item}
 use Rattle.waiting_queue.specs.Taking.{AreSorted}
-use Rattle.waiting_queue.specs.Waiting.{Spot, SpotLess, spot_cmp, spot_in}
+use Rattle.waiting_item.specs.Waiting.{Spot, SpotLess, spot_cmp, spot_in}
 
 -- ---- spots
 

@@ -11,11 +11,11 @@ use Rattle.list_laws.proofs.Members.{each_in, in_first, in_one}
 use Rattle.list_laws.proofs.OnceLaws.{in_append, in_cons, pairs_append}
 use Rattle.list_laws.proofs.Pairs.{pairs_cons, pairs_none, pairs_rest, pairs_take, pair_with_first}
 use Rattle.list_laws.specs.Sets.{SameMembers}
-use Rattle.waiting_queue.specs.declared.item.Item.{Item}
+use Rattle.waiting_item.specs.declared.item.Item.{Item}
 use Rattle.waiting_queue.specs.Passing.{AreNext, EndsAt, HasPassed, IsLookedAt, IsPassed, IsSplit, PassesNext}
 use Rattle.waiting_queue.specs.Shadows.{Descends, FallsTo, IsBehind, IsDominatedBy, IsLater, IsRun}
 use Rattle.waiting_queue.specs.Taking.{AreSorted, HasSpot}
-use Rattle.waiting_queue.specs.Waiting.{Spot, SpotLess, spot_in}
+use Rattle.waiting_item.specs.Waiting.{Spot, SpotLess, spot_in}
 use Rattle.waiting_queue.proofs.OrderLemmas.{SpotLess-irrefl, SpotLess-trans, after_or_same, not_lex_less}
 use Rattle.waiting_queue.proofs.ShadowLemmas.{in_parts, pairs_drop, pairs_parts, shadow_cast, shadow_none, shadow_tells}
 use Rattle.waiting_queue.proofs.TakingLemmas.{each_append, takes_dominated, takes_more, takes_none, takes_not}

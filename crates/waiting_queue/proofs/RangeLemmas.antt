@@ -9,14 +9,14 @@ use Rattle.list_laws.specs.Sets.{SameMembers}
 use Rattle.list_laws.proofs.Members.{all_from_in, in_none}
 use Rattle.list_laws.proofs.OnceLaws.{in_append, in_cons}
 use Rattle.list_laws.proofs.Pairs.{pairs_cons, pairs_take}
-use Rattle.waiting_queue.specs.declared.item.Item.{Item}
+use Rattle.waiting_item.specs.declared.item.Item.{Item}
 use Rattle.waiting_queue.specs.declared.joining.Part.{Part}
 use Rattle.waiting_queue.specs.declared.ranges.Range.{Range}
 use Rattle.waiting_queue.specs.Joining.{AreJoined, IsPart, rest_of, taken_of}
 use Rattle.waiting_queue.specs.Filling.{AreFilled}
 use Rattle.waiting_queue.specs.Ranges.{ArePassed, AreRanges, GivesPart, IsOf, IsRange, LiesBefore, LiesIn, ListsWithin, PassesRange}
 use Rattle.waiting_queue.specs.Taking.{AreSorted, TakesOpenSpots}
-use Rattle.waiting_queue.specs.Waiting.{Spot, SpotLess, spot_cmp, spot_in}
+use Rattle.waiting_item.specs.Waiting.{Spot, SpotLess, spot_cmp, spot_in}
 use Rattle.waiting_queue.proofs.JoiningLemmas.{in_flat, in_pushed, in_read, of_flat, pairs_flat}
 use Rattle.waiting_queue.proofs.OrderLemmas.{SpotLess-irrefl, SpotLess-trans, less_unless}
 use Rattle.waiting_queue.proofs.PassingLemmas.{first_of}

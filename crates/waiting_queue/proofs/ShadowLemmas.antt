@@ -16,7 +16,7 @@ use Rattle.list_laws.proofs.Members.{all_from_in, cases_in, cases_push, each_in,
 use Rattle.list_laws.proofs.OnceLaws.{in_append, pairs_append}
 use Rattle.list_laws.proofs.Pairs.{pairs_cons, pairs_take}
 use Rattle.list_laws.proofs.SetLaws.{gains_by_permutation}
-use Rattle.waiting_queue.specs.declared.item.Item.{Item}
+use Rattle.waiting_item.specs.declared.item.Item.{Item}
 use Rattle.waiting_queue.specs.Shadows.{grounded, second_of, Descends, ExceedsBefore, FallsTo, IsBehind, IsBelowSome, IsDominatedBy, IsHidden, IsLater}
 use Rattle.waiting_queue.specs.Shadows.{IsRun, IsShadow, Joins, ReachesBefore}
 use Rattle.waiting_queue.proofs.TakingLemmas.{in_push, last_in}

@@ -9,7 +9,7 @@ use Rattle.list_laws.proofs.OnceLaws.{in_append}
 use Rattle.list_laws.proofs.Pairs.{pairs_map, pairs_push}
 use Rattle.list_laws.specs.Sets.{SameMembers}
 use Rattle.waiting_queue.specs.Taking.{HasSpot, IsDominatedIn, IsUndominatedBy, SetsApart, TakesOpen, TakesOpenSpots}
-use Rattle.waiting_queue.specs.Waiting.{Spot, SpotLess}
+use Rattle.waiting_item.specs.Waiting.{Spot, SpotLess}
 use Rattle.waiting_queue.proofs.OrderLemmas.{not_lex_less}
 
 -- one element more at the end

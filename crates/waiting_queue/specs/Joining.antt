@@ -1,11 +1,11 @@
 -- What the parts of a queue have taken, each by a pass of its own, and what is taken of all.
 use Rattle.std.specs.Prelude.{◌≡◌, ℕ, ◌-◌, ◌<◌, ◌↔◌, Bool, List, [], Some, All, AllPairs, Contains, IsTrue, flat_map, length, slice_get, slice_index_or}
 use Rattle.cost_vector.specs.Costs.{Dominates}
-use Rattle.waiting_queue.specs.declared.item.Item.{Item}
+use Rattle.waiting_item.specs.declared.item.Item.{Item}
 use Rattle.waiting_queue.specs.declared.joining.Part.{Part}
 use Rattle.waiting_queue.specs.Shadows.{Descends, IsShadow}
 use Rattle.waiting_queue.specs.Taking.{IsDominatedIn, TakesOpen}
-use Rattle.waiting_queue.specs.Waiting.{AreCriteria, Spot, SpotLess, spot_in}
+use Rattle.waiting_item.specs.Waiting.{AreCriteria, Spot, SpotLess, spot_in}
 
 module _ {C : Type 0} where
   -- what the parts have taken

@@ -1,7 +1,6 @@
 pub mod Passing
 pub mod Shadows
 pub mod Taking
-pub mod Waiting
 pub mod Joining
 pub mod Ranges
 pub mod Runs

@@ -1,10 +1,10 @@
 -- How a list is gone through, in ascending order.
 use Rattle.std.specs.Prelude.{◌≡◌, ℕ, ◌-◌, ◌⊎◌, List, [], ◌∷◌, ◌++◌, Some, length, slice_get, Contains}
 use Rattle.list_laws.specs.Sets.{SameMembers}
-use Rattle.waiting_queue.specs.declared.item.Item.{Item}
+use Rattle.waiting_item.specs.declared.item.Item.{Item}
 use Rattle.waiting_queue.specs.Shadows.{Descends, IsShadow, Joins, SplitsAt}
 use Rattle.waiting_queue.specs.Taking.{AreSorted, TakesOpen}
-use Rattle.waiting_queue.specs.Waiting.{Spot, SpotLess, spot_in}
+use Rattle.waiting_item.specs.Waiting.{Spot, SpotLess, spot_in}
 
 -- each member has a spot
 module _ {X : Type 0} (spot : X → Spot) where

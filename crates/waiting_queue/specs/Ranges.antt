@@ -1,13 +1,13 @@
 -- A queue cut into ranges, and what comes of a pass over each.
 use Rattle.std.specs.Prelude.{◌≡◌, ℕ, ◌<◌, ◌⊎◌, ◌↔◌, List, ◌++◌, Some, All, AllPairs, Contains, IfSome, length, slice_get}
-use Rattle.waiting_queue.specs.declared.item.Item.{Item}
+use Rattle.waiting_item.specs.declared.item.Item.{Item}
 use Rattle.waiting_queue.specs.declared.joining.Part.{Part}
 use Rattle.waiting_queue.specs.declared.ranges.Range.{Range}
 use Rattle.waiting_queue.specs.declared.ranges.Lists.{Lists}
 use Rattle.waiting_queue.specs.Joining.{AreParts, rest_of, taken_of}
 use Rattle.waiting_queue.specs.Shadows.{Descends, IsShadow}
 use Rattle.waiting_queue.specs.Taking.{AreSorted, SetsApart, TakesOpen}
-use Rattle.waiting_queue.specs.Waiting.{AreCriteria, Spot, SpotLess, spot_in}
+use Rattle.waiting_item.specs.Waiting.{AreCriteria, Spot, SpotLess, spot_in}
 
 -- what comes in
 abbrev pub others_of : {C : Type 0} → Lists C → List (Item C)

@@ -1,7 +1,7 @@
 -- The shadow of what was taken: few costs, which tell of each later cost whether one of all that were taken dominates it.
 use Rattle.std.specs.Prelude.{◌≡◌, ℕ, ◌<◌, ◌≤◌, ◌↔◌, ◌⊎◌, List, [], ◌∷◌, length, take, drop, slice_get, slice_index, Some, All, AllPairs, Contains}
 use Rattle.cost_vector.specs.Costs.{AtMost, Dominates, LexLess}
-use Rattle.waiting_queue.specs.declared.item.Item.{Item}
+use Rattle.waiting_item.specs.declared.item.Item.{Item}
 
 -- P holds of the elements before the place i, and Q of the others
 pub record SplitsAt {X : Type 0} (P Q : X → Type 0) (xs : List X) (i : ℕ) : Type 0 where

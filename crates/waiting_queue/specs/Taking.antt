@@ -2,7 +2,7 @@
 -- Source: P. Sanders and L. Mandow, "Parallel label-setting multi-objective shortest path search", IPDPS 2013.
 use Rattle.std.specs.Prelude.{◌≡◌, ℕ, ◌+◌, ◌⊎◌, ◌↔◌, List, [], ◌∷◌, AllPairs, Contains}
 use Rattle.cost_vector.specs.Costs.{Dominates}
-use Rattle.waiting_queue.specs.Waiting.{Spot, SpotLess}
+use Rattle.waiting_item.specs.Waiting.{Spot, SpotLess}
 
 -- each member has a spot
 module _ {X : Type 0} (spot : X → Spot) where

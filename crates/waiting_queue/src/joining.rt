@@ -2,9 +2,9 @@
 ghost use Rattle.std.specs.Prelude.{◌≡◌, [], IfOk};
 ghost use Rattle.waiting_queue.specs.Joining.{AreJoined, AreMarked, AreParts, JoinsAll, rest_of, taken_of};
 ghost use Rattle.waiting_queue.specs.Taking.{AreSorted};
-ghost use Rattle.waiting_queue.specs.Waiting.{AreCriteria, spot_in};
+ghost use Rattle.waiting_item.specs.Waiting.{AreCriteria, spot_in};
 
-use crate::Item;
+use waiting_item::Item;
 use crate::marking::mark_all;
 use crate::order::is_last;
 use out_of_memory::OutOfMemory;

@@ -3,7 +3,6 @@
 #![tactic(auto)]
 
 mod filling;
-mod item;
 mod joining;
 mod list_queue;
 mod look;
@@ -20,7 +19,6 @@ mod steps;
 mod two_runs;
 mod widen;
 
-pub use item::Item;
 pub use look::Look;
 pub use queue::Queue;
 pub use sharing::labels_of_spots;

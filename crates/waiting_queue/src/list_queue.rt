@@ -1,14 +1,15 @@
 ghost use Rattle.std.specs.Prelude.{◌≡◌, ◌≤◌, [], ◌++◌, IfOk, OnErr, map};
 ghost use Rattle.waiting_queue.specs.Ranges.{all_of};
 ghost use Rattle.waiting_queue.specs.Taking.{AreSorted, TakesOpenSpots};
-ghost use Rattle.waiting_queue.specs.Waiting.{AreCriteria, as_waiting, spot_in, spot_of};
+ghost use Rattle.waiting_item.specs.Waiting.{AreCriteria, as_waiting, spot_in, spot_of};
 
 use crate::joining::{Part, join_parts, list_rests};
 use crate::order::list_sorted;
 use crate::passing::pass_anew;
 use crate::ranges::{Lists, pass_ranges};
 use crate::sharing::labels_of_spots;
-use crate::{Item, Look, widen_items};
+use crate::{Look, widen_items};
+use waiting_item::Item;
 use out_of_memory::OutOfMemory;
 use route_io::Gate;
 use std::alloc::Global;
@@ -56,7 +57,7 @@ impl<C> Left<C> {
 impl<const D: usize, C: StoredCost<D>> Model for ListQueue<D, C> {
     ghost use Rattle.std.specs.Prelude.{List, ◌≤◌, ◌++◌, map};
     ghost use Rattle.waiting_queue.specs.Taking.{AreSorted};
-    ghost use Rattle.waiting_queue.specs.Waiting.{AreCriteria, Waiting, spot_in, as_waiting};
+    ghost use Rattle.waiting_item.specs.Waiting.{AreCriteria, Waiting, spot_in, as_waiting};
 
     ghost Value = { List Waiting };
 

@@ -1,7 +1,7 @@
 ghost use Rattle.std.specs.Prelude.{◌↔◌, IsTrue};
-ghost use Rattle.waiting_queue.specs.Waiting.{Spot, spot_in};
+ghost use Rattle.waiting_item.specs.Waiting.{Spot, spot_in};
 
-use crate::Item;
+use waiting_item::Item;
 use stored_cost::StoredCost;
 
 /// Which spots are open, as a search knows it: those that are still of use.

@@ -2,9 +2,9 @@
 ghost use Rattle.std.specs.Prelude.{◌≡◌, ◌≤◌, ◌↔◌, All, Contains, IfOk, IsTrue, length, map};
 ghost use Rattle.waiting_queue.specs.Joining.{AreMarked, AreParts, EndsBefore, joined, taken_of};
 ghost use Rattle.waiting_queue.specs.Taking.{IsDominatedIn};
-ghost use Rattle.waiting_queue.specs.Waiting.{AreCriteria, spot_in};
+ghost use Rattle.waiting_item.specs.Waiting.{AreCriteria, spot_in};
 
-use crate::Item;
+use waiting_item::Item;
 use crate::joining::Part;
 use crate::order::is_before;
 use crate::shadow::is_shadowed;

@@ -1,9 +1,9 @@
 ghost use Rattle.std.specs.Prelude.{◌≡◌, ◌+◌, ◌<◌, ◌↔◌, ◌++◌, IfOk, IsPermutation, IsTrue, length};
 ghost use Rattle.waiting_queue.specs.Passing.{EndsAt, IsSplit};
 ghost use Rattle.waiting_queue.specs.Taking.{AreSorted};
-ghost use Rattle.waiting_queue.specs.Waiting.{SpotLess, spot_in};
+ghost use Rattle.waiting_item.specs.Waiting.{SpotLess, spot_in};
 
-use crate::Item;
+use waiting_item::Item;
 use out_of_memory::OutOfMemory;
 use stored_cost::StoredCost;
 

@@ -2,11 +2,12 @@ ghost use Rattle.std.specs.Prelude.{◌≡◌, ◌+◌, ◌<◌, ◌≤◌, [], 
 ghost use Rattle.waiting_queue.specs.Passing.{IsLookedAt, IsPassed, HasPassed, PassesNext};
 ghost use Rattle.waiting_queue.specs.Shadows.{Descends, IsShadow};
 ghost use Rattle.waiting_queue.specs.Taking.{AreSorted, TakesOpen};
-ghost use Rattle.waiting_queue.specs.Waiting.{AreCriteria, spot_in};
+ghost use Rattle.waiting_item.specs.Waiting.{AreCriteria, spot_in};
 
 use crate::order::{count_before, is_last};
 use crate::shadow::{cast, count_shadowed};
-use crate::{Item, Look};
+use crate::Look;
+use waiting_item::Item;
 use out_of_memory::OutOfMemory;
 use stored_cost::StoredCost;
 

@@ -1,10 +1,11 @@
 ghost use Rattle.std.specs.Prelude.{◌≡◌, ◌≤◌, [], ◌++◌, IfOk, OnErr, map};
 ghost use Rattle.waiting_queue.specs.Taking.{Counts, TakesOpenSpots};
-ghost use Rattle.waiting_queue.specs.Waiting.{AreCriteria, as_waiting, spot_of};
+ghost use Rattle.waiting_item.specs.Waiting.{AreCriteria, as_waiting, spot_of};
 
 use crate::list_queue::ListQueue;
 use crate::run_queue::RunQueue;
-use crate::{Item, Look, Steps};
+use crate::{Look, Steps};
+use waiting_item::Item;
 use out_of_memory::OutOfMemory;
 use route_io::Gate;
 use std::alloc::Global;
@@ -30,7 +31,7 @@ enum Form<const D: usize, C: StoredCost<D>> {
 impl<const D: usize, C: StoredCost<D>> Model for Queue<D, C> {
     ghost use Rattle.std.specs.Prelude.{List};
     ghost use Rattle.waiting_queue.specs.Forms.{waiting_in};
-    ghost use Rattle.waiting_queue.specs.Waiting.{Waiting};
+    ghost use Rattle.waiting_item.specs.Waiting.{Waiting};
 
     ghost Value = { List Waiting };
 

@@ -2,14 +2,15 @@
 ghost use Rattle.std.specs.Prelude.{◌≡◌, ◌≤◌, ◌↔◌, length, All, IfOk, IsTrue, List};
 ghost use Rattle.waiting_queue.specs.Ranges.{ArePassed, AreRanges, LiesIn, ListsWithin, PassesRange, all_of, others_of};
 ghost use Rattle.waiting_queue.specs.Taking.{AreSorted};
-ghost use Rattle.waiting_queue.specs.Waiting.{AreCriteria, spot_in};
-ghost use Rattle.waiting_queue.specs.declared.item.Item.{Item};
+ghost use Rattle.waiting_item.specs.Waiting.{AreCriteria, spot_in};
+ghost use Rattle.waiting_item.specs.declared.item.Item.{Item};
 
 use crate::filling::{Fills, fill_each};
 use crate::joining::Part;
 use crate::order::{is_before, sort_items};
 use crate::passing::pass_anew;
-use crate::{Item, Look};
+use crate::Look;
+use waiting_item::Item;
 use out_of_memory::OutOfMemory;
 use std::alloc::Global;
 use std::thread::Threads;

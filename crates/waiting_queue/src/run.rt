@@ -1,9 +1,9 @@
 //! Sorted items of which some are gone, as they wait under 2 criteria.
 ghost use Rattle.std.specs.Prelude.{◌≡◌, ◌≢◌, ◌+◌, ◌<◌, ◌≤◌, ◌↔◌, [], ◌++◌, length, map, All, IfNone, IfOk, IfSome, IsTrue, OnErr};
 ghost use Rattle.waiting_queue.specs.Runs.{BeginsWith, GoesByOne, IsRun, SkipsAbove, SkipsTo, TakesOneOut, all_of, live_of};
-ghost use Rattle.waiting_queue.specs.Waiting.{as_waiting};
+ghost use Rattle.waiting_item.specs.Waiting.{as_waiting};
 
-use crate::Item;
+use waiting_item::Item;
 use crate::widen::widen_items;
 use out_of_memory::OutOfMemory;
 use std::alloc::Global;
@@ -25,7 +25,7 @@ pub(crate) struct Run<const D: usize, C: StoredCost<D>> {
 }
 
 impl<const D: usize, C: StoredCost<D>> Model for Run<D, C> {
-    ghost use Rattle.waiting_queue.specs.declared.item.Item.{Item};
+    ghost use Rattle.waiting_item.specs.declared.item.Item.{Item};
     ghost use Rattle.waiting_queue.specs.Runs.{IsRun, Sides, sides_at};
     ghost use Rattle.std.specs.Prelude.{◌≡◌};
 

@@ -1,12 +1,13 @@
 ghost use Rattle.std.specs.Prelude.{◌≡◌, ◌≤◌, [], ◌++◌, IfOk, OnErr, map};
 ghost use Rattle.list_laws.specs.Sets.{SameMembers};
 ghost use Rattle.waiting_queue.specs.Taking.{TakesOpenSpots};
-ghost use Rattle.waiting_queue.specs.Waiting.{as_waiting, spot_of};
+ghost use Rattle.waiting_item.specs.Waiting.{as_waiting, spot_of};
 
 use crate::order::sort_items;
 use crate::run::Run;
 use crate::two_runs::{list_both, pass_runs};
-use crate::{Item, Look};
+use crate::Look;
+use waiting_item::Item;
 use out_of_memory::OutOfMemory;
 use std::alloc::Global;
 use std::marker::Model;
@@ -32,7 +33,7 @@ impl<const D: usize, C: StoredCost<D>> Model for RunQueue<D, C> {
     ghost use Rattle.std.specs.Prelude.{List, ◌≡◌, ◌++◌, map};
     ghost use Rattle.waiting_queue.specs.Runs.{all_of};
     ghost use Rattle.waiting_queue.specs.Taking.{AreSorted};
-    ghost use Rattle.waiting_queue.specs.Waiting.{Waiting, as_waiting, spot_in};
+    ghost use Rattle.waiting_item.specs.Waiting.{Waiting, as_waiting, spot_in};
 
     ghost Value = { List Waiting };
 

@@ -3,10 +3,10 @@ ghost use Rattle.std.specs.List.{AllWithin};
 ghost use Rattle.cost_vector.specs.Costs.{AtMost, Dominates};
 ghost use Rattle.list_laws.specs.Without.{IsWithout};
 ghost use Rattle.waiting_queue.specs.Shadows.{Descends, ExceedsBefore, ReachesBefore, IsBehind, IsBelowSome, IsDominatedBy, IsRun, Joins, grounded, third_of};
-ghost use Rattle.waiting_queue.specs.Waiting.{AreCriteria};
-ghost use Rattle.waiting_queue.specs.declared.item.Item.{Item};
+ghost use Rattle.waiting_item.specs.Waiting.{AreCriteria};
+ghost use Rattle.waiting_item.specs.declared.item.Item.{Item};
 
-use crate::Item;
+use waiting_item::Item;
 use out_of_memory::OutOfMemory;
 use stored_cost::{Part, StoredCost};
 

@@ -1,7 +1,7 @@
 ghost use Rattle.std.specs.Prelude.{◌≡◌, ◌≤◌, map, IfOk};
-ghost use Rattle.waiting_queue.specs.Waiting.{AreCriteria, as_waiting};
+ghost use Rattle.waiting_item.specs.Waiting.{AreCriteria, as_waiting};
 
-use crate::Item;
+use waiting_item::Item;
 use out_of_memory::OutOfMemory;
 use std::alloc::Global;
 use stored_cost::StoredCost;

@@ -21,7 +21,8 @@ use std::sync::ledger::{Blank, Ledger};
 use std::test::Fail;
 use std::thread::Threads;
 use stored_cost::{NarrowCost, StoredCost};
-use waiting_queue::{Item, Steps};
+use waiting_item::Item;
+use waiting_queue::Steps;
 use work_claim::Workers;
 
 /// A search by two criteria whose costs have 32 bits a component.

@@ -1,6 +1,6 @@
 //! What passes take of a queue, of which some isn't open.
 ghost use Rattle.std.specs.Prelude.{◌≡◌, ◌<◌, ◌≤◌, ◌%◌};
-ghost use Rattle.waiting_queue.specs.Waiting.{AreCriteria};
+ghost use Rattle.waiting_item.specs.Waiting.{AreCriteria};
 
 use crate::tests::drawing::{cost_of, draw_cost};
 use cost_vector::NodeNo;
@@ -12,7 +12,8 @@ use std::process::Abort;
 use std::sync::ledger::{Blank, Ledger};
 use std::thread::Threads;
 use stored_cost::{NarrowCost, StoredCost, WideCost};
-use waiting_queue::{Item, Look, Queue, Steps};
+use waiting_item::Item;
+use waiting_queue::{Look, Queue, Steps};
 use work_claim::Workers;
 
 /// A gate that does nothing, and has all work shared.

@@ -1,5 +1,5 @@
 use Rattle.std.proofs.Common.{take}
-use Rattle.waiting_queue.specs.Waiting.{spot_in}
+use Rattle.waiting_item.specs.Waiting.{spot_in}
 use Rattle.bulk_core.specs.Settled.{AppendsOpen, IsSpentBy}
 use Rattle.bulk_core.proofs.settled.list_open.Given as goal
 

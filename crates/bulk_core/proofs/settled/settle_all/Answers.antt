@@ -1,6 +1,6 @@
 use Rattle.std.proofs.Common.{length-take, map, arith, rules}
 use Rattle.std.proofs.lemmas.List.{length-map}
-use Rattle.waiting_queue.specs.Waiting.{spot_in}
+use Rattle.waiting_item.specs.Waiting.{spot_in}
 use Rattle.bulk_core.proofs.SettlingLemmas.{may_push, settles_none, settles_on, settles_one_more, spot_at}
 use Rattle.bulk_core.proofs.settled.settle_all.Goals as goal
 

@@ -1,5 +1,5 @@
 use Rattle.std.proofs.Common.{◌≡◌, ◌+◌, map}
-use Rattle.waiting_queue.specs.Waiting.{spot_in}
+use Rattle.waiting_item.specs.Waiting.{spot_in}
 use Rattle.bulk_core.specs.Settled.{SettlesFirst}
 use Rattle.bulk_core.proofs.settled.settle_all.Given as goal
 

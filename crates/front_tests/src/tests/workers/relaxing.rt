@@ -12,7 +12,7 @@ use std::process::Abort;
 use std::test::Fail;
 use std::thread::Threads;
 use stored_cost::NarrowCost;
-use waiting_queue::Item;
+use waiting_item::Item;
 use work_claim::Workers;
 
 /// Each arc's tail, head and two weights. The last but one leads from node 2 back to node 1; the last is shut.

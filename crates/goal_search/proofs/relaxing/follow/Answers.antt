@@ -1,5 +1,5 @@
 use Rattle.std.proofs.Common.{◌≡◌, Err, get_or, map, sym, ap, subst, arith}
-use Rattle.waiting_queue.specs.Waiting.{as_waiting, spot_in}
+use Rattle.waiting_item.specs.Waiting.{as_waiting, spot_in}
 use Rattle.goal_laws.specs.Goal.{IsBound}
 use Rattle.goal_bounds.specs.Bounds.{IsBoundIfAny, IsBoundSearch}
 use Rattle.goal_search.specs.Relaxing.{Follows, HasNoRoom, IsSmallBounded}

@@ -4,7 +4,7 @@ use Rattle.std.proofs.lemmas.List.{map-append}
 use Rattle.cost_vector.specs.Costs.{plus}
 use Rattle.road_network.specs.Network.{Leads}
 use Rattle.arc_graph.specs.Graph.{head_of}
-use Rattle.waiting_queue.specs.Waiting.{as_waiting, spot_in}
+use Rattle.waiting_item.specs.Waiting.{as_waiting, spot_in}
 use Rattle.bulk_rounds.specs.Cores.{Item}
 use Rattle.bulk_rounds.proofs.SpentLemmas.{spot_by_parts}
 use Rattle.goal_laws.specs.Goal.{IsBound}

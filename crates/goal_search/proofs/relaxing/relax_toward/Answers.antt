@@ -1,6 +1,6 @@
 use Rattle.std.proofs.Common.{◌≡◌, Err, get_or, map, sym, ap, subst, arith}
 use Rattle.std.proofs.lemmas.List.{length-map}
-use Rattle.waiting_queue.specs.Waiting.{as_waiting, spot_in}
+use Rattle.waiting_item.specs.Waiting.{as_waiting, spot_in}
 use Rattle.goal_bounds.specs.Bounds.{IsBoundSearch}
 use Rattle.goal_search.specs.Relaxing.{Follows, HasNoRoom, IsSmallBounded}
 use Rattle.goal_search.proofs.FollowLemmas.{bounded_at_node, first_all, first_more, item_at}

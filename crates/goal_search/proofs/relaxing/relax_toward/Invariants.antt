@@ -1,5 +1,5 @@
 use Rattle.std.proofs.Common.{map}
-use Rattle.waiting_queue.specs.Waiting.{as_waiting}
+use Rattle.waiting_item.specs.Waiting.{as_waiting}
 use Rattle.goal_bounds.specs.Bounds.{IsBoundSearch}
 use Rattle.goal_search.specs.Relaxing.{FollowsAll}
 use Rattle.goal_search.proofs.FollowLemmas.{IsFirst}

@@ -1,6 +1,6 @@
 use Rattle.std.proofs.Common.{◌≡◌, Err, map, sym, ap, subst, ◌∙◌, rules}
 use Rattle.std.specs.Prelude.{All, Contains}
-use Rattle.waiting_queue.specs.Waiting.{as_waiting, spot_in, spot_of}
+use Rattle.waiting_item.specs.Waiting.{as_waiting, spot_in, spot_of}
 use Rattle.bulk_core.proofs.KeptLemmas.{spots_of_items}
 use Rattle.goal_bounds.specs.Bounds.{IsBoundSearch}
 use Rattle.goal_search.specs.Relaxing.{FollowsAll, HasNoRoom, IsSmallBounded}

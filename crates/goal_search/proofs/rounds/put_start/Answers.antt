@@ -1,6 +1,6 @@
 use Rattle.std.proofs.Common.{◌≡◌, ◌^◌, [], None, ◌∷◌, ◌++◌, map, sym, ap, subst, ◌∙◌, arith, rules}
 use Rattle.std.specs.Prelude.{All}
-use Rattle.waiting_queue.specs.Waiting.{as_waiting}
+use Rattle.waiting_item.specs.Waiting.{as_waiting}
 use Rattle.bulk_rounds.specs.Cores.{Item}
 use Rattle.bulk_rounds.specs.Finishes.{PutsAll}
 use Rattle.bulk_rounds.specs.Kept.{IsKeptItem}

@@ -1,6 +1,6 @@
 use Rattle.std.proofs.Common.{arith, rules}
 use Rattle.std.proofs.lemmas.List.Sorted.{IsNonDecreasingBy-from_sort_by_key}
-use Rattle.waiting_queue.specs.declared.item.Item.{Item}
+use Rattle.waiting_item.specs.declared.item.Item.{Item}
 use Rattle.round_work.proofs.groups.sort_by_node.Goals as goal
 
 pub returns-then-count-eq1-clause-ascending : goal.returns-then-count-eq1-clause-ascending

@@ -1,5 +1,5 @@
 use Rattle.std.proofs.Common.{arith}
-use Rattle.waiting_queue.specs.Waiting.{spot_in}
+use Rattle.waiting_item.specs.Waiting.{spot_in}
 use Rattle.round_work.proofs.OpenLemmas.{sifting_next}
 use Rattle.round_work.proofs.merging.leave_out_closed.Goals as goal
 

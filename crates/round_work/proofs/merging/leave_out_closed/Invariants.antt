@@ -1,4 +1,4 @@
-use Rattle.waiting_queue.specs.Waiting.{spot_in}
+use Rattle.waiting_item.specs.Waiting.{spot_in}
 use Rattle.round_work.proofs.OpenLemmas.{IsSifting}
 use Rattle.round_work.proofs.merging.leave_out_closed.Given as goal
 

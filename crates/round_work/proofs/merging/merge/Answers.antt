@@ -1,7 +1,7 @@
 use Rattle.std.proofs.Common.{◌≡◌, length, drop, arith, ◌∙◌}
 use Rattle.std.proofs.lemmas.List.{take_at}
 use Rattle.rayon.proofs.ListFacts.{IfOk-then}
-use Rattle.waiting_queue.specs.Waiting.{as_waiting, spot_in, spot_of}
+use Rattle.waiting_item.specs.Waiting.{as_waiting, spot_in, spot_of}
 use Rattle.round_work.proofs.SurvivorLemmas.{keeps_moved, keeps_survivors, keeps_told}
 use Rattle.round_work.proofs.merging.merge.Goals as goal
 

@@ -2,8 +2,8 @@ use Rattle.std.proofs.Common.{◌*◌, sym, arith}
 use Rattle.std.specs.Global.{Vec}
 use Rattle.std.proofs.lemmas.List.{length-map}
 use Rattle.rayon.proofs.ListFacts.{IfOk-then}
-use Rattle.waiting_queue.specs.declared.item.Item.{Item}
-use Rattle.waiting_queue.specs.Waiting.{spot_in}
+use Rattle.waiting_item.specs.declared.item.Item.{Item}
+use Rattle.waiting_item.specs.Waiting.{spot_in}
 use Rattle.round_work.specs.Groups.{runs_per_worker}
 use Rattle.round_work.proofs.GroupLemmas.{KeepsOfGroups, groups_both}
 use Rattle.round_work.proofs.OnwardLemmas.{all_pieces}

@@ -1,6 +1,6 @@
 use Rattle.std.proofs.Common.{sym, refl, take_all, ◌∙◌, arith}
 use Rattle.std.proofs.lemmas.Bool.{false≢true}
-use Rattle.waiting_queue.specs.declared.item.Item.{Item}
+use Rattle.waiting_item.specs.declared.item.Item.{Item}
 use Rattle.round_work.proofs.OnwardLemmas.{arc_next, arc_too_wide}
 use Rattle.round_work.proofs.pieces.relax_into.Goals.{in-Some+in-Some-plus+in_ok-push, in_default}
 use Rattle.round_work.proofs.pieces.relax_into.Goals as goal

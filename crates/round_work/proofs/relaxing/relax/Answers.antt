@@ -1,6 +1,6 @@
 use Rattle.std.proofs.Common.{List, sym}
 use Rattle.std.proofs.lemmas.Result.{IfOk-weaker}
-use Rattle.waiting_queue.specs.declared.item.Item.{Item}
+use Rattle.waiting_item.specs.declared.item.Item.{Item}
 use Rattle.round_work.specs.Pieces.{AreWithRoom, onward_in, piece_size}
 use Rattle.round_work.proofs.OnwardLemmas.{all_found, gives_none, on_both}
 use Rattle.round_work.proofs.relaxing.relax.Goals as goal

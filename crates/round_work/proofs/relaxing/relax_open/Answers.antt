@@ -1,7 +1,7 @@
 use Rattle.std.proofs.Common.{List, sym}
 use Rattle.std.proofs.lemmas.Result.{IfOk-weaker}
-use Rattle.waiting_queue.specs.declared.item.Item.{Item}
-use Rattle.waiting_queue.specs.Waiting.{spot_of}
+use Rattle.waiting_item.specs.declared.item.Item.{Item}
+use Rattle.waiting_item.specs.Waiting.{spot_of}
 use Rattle.round_work.specs.Pieces.{AreOpenOf, onward_in, piece_size}
 use Rattle.round_work.proofs.OnwardLemmas.{all_found, open_on_both}
 use Rattle.round_work.proofs.OpenLemmas.{open_none}

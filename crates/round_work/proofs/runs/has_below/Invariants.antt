@@ -1,6 +1,6 @@
 use Rattle.std.specs.List.{AllWithin}
 use Rattle.cost_vector.specs.Costs.{AtMost}
-use Rattle.waiting_queue.specs.declared.item.Item.{Item}
+use Rattle.waiting_item.specs.declared.item.Item.{Item}
 use Rattle.round_work.proofs.runs.has_below.Given as goal
 
 abbrev pub invariant-loop-other : goal.invariant-loop-other

@@ -1,5 +1,5 @@
 use Rattle.std.proofs.Common.{take}
-use Rattle.waiting_queue.specs.Waiting.{spot_in}
+use Rattle.waiting_item.specs.Waiting.{spot_in}
 use Rattle.round_work.specs.Pieces.{Appends}
 use Rattle.round_work.specs.Survivors.{KeepsNeeded}
 use Rattle.round_work.proofs.runs.keep_survivors.Given as goal

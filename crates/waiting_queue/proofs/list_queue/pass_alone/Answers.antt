@@ -1,7 +1,7 @@
 use Rattle.std.proofs.lemmas.Result.{IfOk-weaker}
 use Rattle.list_laws.proofs.SetLaws.{same_by_permutation}
 use Rattle.waiting_queue.specs.Ranges.{all_of}
-use Rattle.waiting_queue.specs.Waiting.{spot_in}
+use Rattle.waiting_item.specs.Waiting.{spot_in}
 use Rattle.waiting_queue.proofs.TakingLemmas.{behind_alike, spots_alone, takes_alike}
 use Rattle.waiting_queue.proofs.list_queue.pass_alone.Goals as goal
 

@@ -1,7 +1,7 @@
 use Rattle.std.proofs.Common.{take}
 use Rattle.waiting_queue.specs.Joining.{taken_of}
 use Rattle.waiting_queue.specs.Taking.{IsDominatedIn}
-use Rattle.waiting_queue.specs.Waiting.{spot_in}
+use Rattle.waiting_item.specs.Waiting.{spot_in}
 use Rattle.waiting_queue.proofs.marking.is_dominated.Given as goal
 
 -- nothing of the parts so far dominates the item

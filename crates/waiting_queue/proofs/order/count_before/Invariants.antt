@@ -1,5 +1,5 @@
 use Rattle.std.proofs.Common.{◌-◌, length}
-use Rattle.waiting_queue.specs.Waiting.{spot_in}
+use Rattle.waiting_item.specs.Waiting.{spot_in}
 use Rattle.waiting_queue.proofs.OrderLemmas.{AreBefore}
 use Rattle.waiting_queue.proofs.order.count_before.Given as goal
 

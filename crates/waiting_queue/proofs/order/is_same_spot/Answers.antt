@@ -1,5 +1,5 @@
 use Rattle.std.proofs.Common.{arith}
-use Rattle.waiting_queue.specs.Waiting.{spot_in}
+use Rattle.waiting_item.specs.Waiting.{spot_in}
 use Rattle.waiting_queue.proofs.OrderLemmas.{same_by_test}
 use Rattle.waiting_queue.proofs.order.is_same_spot.Goals as goal
 

@@ -1,5 +1,5 @@
 use Rattle.std.proofs.Common.{List, length}
-use Rattle.waiting_queue.specs.declared.item.Item.{Item}
+use Rattle.waiting_item.specs.declared.item.Item.{Item}
 use Rattle.waiting_queue.specs.Passing.{PassesNext}
 use Rattle.waiting_queue.specs.Shadows.{Descends}
 use Rattle.waiting_queue.proofs.passing.pass_all.Given as goal

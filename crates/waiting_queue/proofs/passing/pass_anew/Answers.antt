@@ -1,5 +1,5 @@
 use Rattle.std.proofs.lemmas.Result.{IfOk-weaker}
-use Rattle.waiting_queue.specs.Waiting.{spot_in}
+use Rattle.waiting_item.specs.Waiting.{spot_in}
 use Rattle.waiting_queue.proofs.TakingLemmas.{takes_alike}
 use Rattle.waiting_queue.proofs.passing.pass_anew.Goals as goal
 

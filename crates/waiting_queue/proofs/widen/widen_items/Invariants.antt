@@ -1,5 +1,5 @@
 use Rattle.std.proofs.Common.{◌≡◌, map, take}
-use Rattle.waiting_queue.specs.Waiting.{as_waiting}
+use Rattle.waiting_item.specs.Waiting.{as_waiting}
 use Rattle.waiting_queue.proofs.widen.widen_items.Given as goal
 
 abbrev pub invariant-loop-item : goal.invariant-loop-item

@@ -1,5 +1,5 @@
 use Rattle.std.proofs.Common.{[], refl, arith}
-use Rattle.waiting_queue.specs.Waiting.{as_waiting}
+use Rattle.waiting_item.specs.Waiting.{as_waiting}
 use Rattle.bulk_core.proofs.FinishLemmas.{appends_each, kept_with_more, puts_all}
 use Rattle.bulk_core.proofs.rounds.Core.finish_open.Goals as goal
 

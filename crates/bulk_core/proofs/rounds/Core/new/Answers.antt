@@ -1,6 +1,6 @@
 use Rattle.std.proofs.Common.{refl, append_assoc}
 use Rattle.std.proofs.lemmas.List.{map-append}
-use Rattle.waiting_queue.specs.Waiting.{as_waiting}
+use Rattle.waiting_item.specs.Waiting.{as_waiting}
 use Rattle.bulk_core.proofs.FinishLemmas.{appends_each, kept_with_more}
 use Rattle.bulk_core.proofs.StartLemmas.{is_new, start_is_kept}
 use Rattle.bulk_core.proofs.rounds.Core.new.Goals as goal

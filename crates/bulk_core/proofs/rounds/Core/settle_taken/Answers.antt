@@ -1,6 +1,6 @@
 use Rattle.std.proofs.Common.{◌+◌, ◌≤◌, length, map, arith, rules}
 use Rattle.std.proofs.lemmas.List.{length-map}
-use Rattle.waiting_queue.specs.Waiting.{spot_in}
+use Rattle.waiting_item.specs.Waiting.{spot_in}
 use Rattle.bulk_core.proofs.BeginLemmas.{can_settle_taken, kept_settling, passes_budget, takes_next}
 use Rattle.bulk_core.proofs.rounds.Core.settle_taken.Goals.{After-deref}
 use Rattle.bulk_core.proofs.rounds.Core.settle_taken.Goals as goal

@@ -1,6 +1,6 @@
 use Rattle.std.proofs.Common.{rules}
 use Rattle.std.proofs.lemmas.List.{append-nil}
-use Rattle.waiting_queue.specs.Waiting.{as_waiting}
+use Rattle.waiting_item.specs.Waiting.{as_waiting}
 use Rattle.bulk_core.proofs.BeginLemmas.{kept_taking, takes_waiting}
 use Rattle.bulk_core.proofs.rounds.Core.take.Goals as goal
 

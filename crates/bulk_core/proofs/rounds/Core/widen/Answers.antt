@@ -1,5 +1,5 @@
 use Rattle.std.proofs.Common.{map, sym, ap, ◌∙◌}
-use Rattle.waiting_queue.specs.Waiting.{spot_of}
+use Rattle.waiting_item.specs.Waiting.{spot_of}
 use Rattle.bulk_core.proofs.KeptLemmas.{spots_of_items}
 use Rattle.bulk_core.proofs.rounds.Core.widen.Goals as goal
 

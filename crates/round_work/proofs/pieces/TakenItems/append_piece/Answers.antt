@@ -1,8 +1,8 @@
 use Rattle.std.proofs.Common.{◌*◌, Err, sym, ap}
 use Rattle.list_laws.proofs.Members.{each_in, in_map}
 use Rattle.road_network.specs.Network.{IsNode}
-use Rattle.waiting_queue.specs.declared.item.Item.{Item}
-use Rattle.waiting_queue.specs.Waiting.{as_waiting}
+use Rattle.waiting_item.specs.declared.item.Item.{Item}
+use Rattle.waiting_item.specs.Waiting.{as_waiting}
 use Rattle.waiting_queue.proofs.JoiningLemmas.{in_flat}
 use Rattle.round_work.specs.Onward.{onward}
 use Rattle.round_work.specs.Pieces.{piece_size}

@@ -2,7 +2,7 @@ use Rattle.std.proofs.Common.{Bor, List, ◌*◌, append-nil, arith, take_all}
 use Rattle.std.proofs.lemmas.List.{drop-map, map-append, take-map}
 use Rattle.list_laws.proofs.Members.{each_in, in_map}
 use Rattle.list_laws.proofs.Pairs.{pairs_take}
-use Rattle.waiting_queue.specs.declared.item.Item.{Item}
+use Rattle.waiting_item.specs.declared.item.Item.{Item}
 use Rattle.waiting_queue.proofs.ShadowLemmas.{pairs_drop}
 use Rattle.round_work.specs.Groups.{AreApart, HaveOneNode}
 use Rattle.round_work.proofs.GroupLemmas.{groups_both}

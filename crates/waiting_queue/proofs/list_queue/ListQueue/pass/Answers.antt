@@ -1,4 +1,4 @@
-use Rattle.waiting_queue.specs.Waiting.{spot_of, as_waiting}
+use Rattle.waiting_item.specs.Waiting.{spot_of, as_waiting}
 use Rattle.waiting_queue.proofs.TakingLemmas.{spots_let_in}
 use Rattle.waiting_queue.proofs.list_queue.ListQueue.pass.Goals as goal
 

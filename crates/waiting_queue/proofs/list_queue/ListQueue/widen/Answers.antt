@@ -1,4 +1,4 @@
-use Rattle.waiting_queue.specs.Waiting.{SpotLess, Waiting, as_waiting}
+use Rattle.waiting_item.specs.Waiting.{SpotLess, Waiting, as_waiting}
 use Rattle.waiting_queue.proofs.OrderLemmas.{pairs_as}
 use Rattle.waiting_queue.proofs.list_queue.ListQueue.widen.Goals as goal
 

@@ -4,7 +4,7 @@ use Rattle.std.proofs.lemmas.Bool.{false≢true}
 use Rattle.list_laws.specs.Sets.{SameMembers}
 use Rattle.list_laws.proofs.Members.{in_map, of_map}
 use Rattle.waiting_queue.specs.Runs.{all_of}
-use Rattle.waiting_queue.specs.Waiting.{as_waiting}
+use Rattle.waiting_item.specs.Waiting.{as_waiting}
 use Rattle.waiting_queue.proofs.run_queue.RunQueue.join_runs.Goals as goal
 
 -- what an outcome that went well gives

@@ -4,7 +4,7 @@ use Rattle.list_laws.specs.Sets.{SameMembers}
 use Rattle.list_laws.proofs.OnceLaws.{alike_back, alike_through}
 use Rattle.list_laws.proofs.SetLaws.{same_by_permutation}
 use Rattle.waiting_queue.specs.Runs.{all_of}
-use Rattle.waiting_queue.specs.Waiting.{as_waiting, spot_in, spot_of}
+use Rattle.waiting_item.specs.Waiting.{as_waiting, spot_in, spot_of}
 use Rattle.waiting_queue.proofs.TakingLemmas.{behind_alike, spots_if_taken, spots_let_in, takes_spots_alike}
 use Rattle.waiting_queue.proofs.run_queue.RunQueue.pass.Goals as goal
 

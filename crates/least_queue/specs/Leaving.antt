@@ -1,0 +1,22 @@
+-- What waits in a sweep, and which of it leaves first.
+use Rattle.std.specs.Prelude.{◌≡◌, ℕ, List, ◌∷◌, All, IsPermutation}
+use Rattle.std.specs.declared.cmp.Reverse.{Reverse}
+use Rattle.std.specs.declared.cmp.Ordering.{Ordering}
+use Rattle.std.specs.Ordering.{nat_cmp, ordering_then}
+use Rattle.cost_vector.specs.Costs.{LexLess}
+use Rattle.waiting_item.specs.Waiting.{Waiting, as_waiting}
+use Rattle.waiting_item.specs.declared.item.Item.{Item}
+
+-- the order of the heap, whose greatest element leaves first: the least cost, and then the least node
+abbrev pub least_first : {C : Type 0} → (C → C → Ordering) → Reverse (Item C) → Reverse (Item C) → Ordering
+least_first cmp x y =
+    ordering_then (cmp y.0.cost x.0.cost) (ordering_then (nat_cmp y.0.node.0 x.0.node.0) (nat_cmp y.0.from.0 x.0.from.0))
+
+-- what an element of the heap says
+abbrev pub waits : {C : Type 0} → (C → List ℕ) → Reverse (Item C) → Waiting
+waits components i = as_waiting components i.0
+
+-- the item leaves what waits: none comes before it, and the others stay
+pub record Leaves (before : List Waiting) (item : Waiting) (after : List Waiting) : Type 0 where
+  pub least : All (λ w. ¬ LexLess w.spot.cost item.spot.cost) before
+  pub rest : IsPermutation before (item ∷ after)

@@ -2,9 +2,11 @@
 #![tactic(auto)]
 
 mod lists;
+mod limits;
 mod look;
 mod queue;
 
 pub use lists::SettledLists;
+pub use limits::{greatest_within, is_within};
 pub use look::Look;
 pub use queue::LeastQueue;

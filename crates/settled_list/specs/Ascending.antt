@@ -1,4 +1,4 @@
--- Costs without their first component, which tell what is covered among costs in lexicographic order.
+-- Costs without their first component, which tell what is covered among costs in ascending order.
 use Rattle.std.specs.Prelude.{◌≡◌, ℕ, ◌<◌, List, [], ◌∷◌, length, All, Contains}
 use Rattle.settled_front.specs.Fronts.{IsCovered}
 use Rattle.settled_front.specs.Staircase.{second}

@@ -92,8 +92,8 @@ fn below<P: Part>(rests: &[Rest<P>], second: P) -> usize
     )
 }
 
-/// Where the rest belongs: behind those with a lesser second component, in the place of those that it
-/// is at most.
+/// Where the rest belongs: behind those with a lesser second component, in the place of those that
+/// it is at most.
 fn place_for<P: Part>(rests: &[Rest<P>], rest: &Rest<P>) -> (usize, usize)
     requires { IsStaircase (map (as_pair P.value) rests.now) }
     ensures { IsPlaceFor (map (as_pair P.value) rests.now) (as_pair P.value rest.now)

@@ -6,8 +6,8 @@ use std::alloc::Global;
 use std::marker::Model;
 use stored_cost::{Part, StoredCost};
 
-/// Those of 2 criteria: their second components fall, so that the last one decides. It stands beside
-/// the costs, so that no cost is read to tell what is covered.
+/// Those of 2 criteria: their second components fall, so that the last one decides. It stands
+/// beside the costs, so that no cost is read to tell what is covered.
 #[derive(Drop)]
 pub struct SecondList<C: StoredCost<2>> {
     costs: Vec<C>,

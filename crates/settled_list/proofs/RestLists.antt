@@ -1,6 +1,6 @@
 -- The rests of costs in order: they tell what is covered.
-use Rattle.std.proofs.Common.{◌≡◌, ◌↔◌, ◌⊎◌, ℕ, ◌<◌, List, [], ◌∷◌, ◌++◌, length, inl, inr, refl, sym, subst, arith}
-use Rattle.std.specs.Prelude.{All, Contains}
+use Rattle.std.proofs.Common.{◌↔◌, ◌⊎◌, ℕ, ◌<◌, List, [], ◌∷◌, ◌++◌, length, inl, inr, sym, subst, arith}
+use Rattle.std.specs.Prelude.{Contains}
 use Rattle.std.proofs.lemmas.List.Elements.{All-push, Contains-append_left, Contains-push}
 use Rattle.list_laws.specs.Without.{IsWithout}
 use Rattle.list_laws.proofs.Members.{cases_in, cases_push, each_in, in_first, in_rest}
@@ -9,6 +9,7 @@ use Rattle.cost_vector.proofs.Vectors.{AtMost-refl, AtMost-trans}
 use Rattle.settled_front.specs.Fronts.{IsCovered}
 use Rattle.sweep_parts.specs.Settled.{IsBehind}
 use Rattle.settled_list.specs.Ascending.{AreRestsOf, rest}
+use Rattle.settled_list.specs.Stairs.{PutsIn}
 use Rattle.settled_list.proofs.Rests.{rests_decide}
 
 -- of costs with a first component
@@ -53,3 +54,13 @@ module _ (costs rests : List (List ℕ)) (are : AreRestsOf costs rests) (c : Lis
           ]
     ];
   }
+
+  -- the same of whatever list has these rests
+  pub rests_put : (after : List (List ℕ)) → PutsIn rests (rest c) after → AreRestsOf (costs ++ c ∷ []) after
+  rests_put after puts =
+      let pushed = rests_push puts.left puts.without in
+      record {
+        some = pushed.some;
+        from = λ r there. pushed.from r ((puts.exact r).0 there);
+        below = λ x there. let h = pushed.below x there in record { by = h.by; contains = (puts.exact h.by).1 h.contains; at_most = h.at_most };
+      }

@@ -1,5 +1,5 @@
 -- Costs of two components that ascend, while their second components fall: the last one decides what comes behind.
-use Rattle.std.proofs.Common.{◌≡◌, ◌↔◌, ◌⊎◌, ℕ, ◌-◌, ◌<◌, ◌≤◌, List, [], ◌∷◌, ◌++◌, length, get_or, inl, inr, sym, ap, arith, Less, Equal}
+use Rattle.std.proofs.Common.{◌≡◌, ◌↔◌, ◌⊎◌, ℕ, ◌-◌, ◌<◌, ◌≤◌, List, [], ◌∷◌, ◌++◌, length, get_or, inl, inr, refl, sym, ap, subst, arith, Less, Equal}
 use Rattle.std.specs.Prelude.{Contains}
 use Rattle.std.specs.Ordering.{ordering_then, nat_cmp}
 use Rattle.std.specs.Cmp.{nat_cmp_is}
@@ -10,8 +10,9 @@ use Rattle.list_laws.proofs.Pairs.{pairs_push}
 use Rattle.cost_vector.specs.Costs.{AtMost, LexLess}
 use Rattle.settled_front.specs.Fronts.{IsCovered}
 use Rattle.settled_front.specs.Staircase.{IsStaircase, IsUpTo, first, second}
-use Rattle.settled_front.proofs.Stairs.{last_decides}
-use Rattle.sweep_parts.specs.Settled.{IsBehind}
+use Rattle.settled_front.proofs.Stairs.{last_decides, lists_stairs}
+use Rattle.sweep_parts.specs.Settled.{IsBehind, IsSettledList}
+use Rattle.settled_list.specs.Ascending.{last_second}
 use Rattle.settled_list.proofs.Rests.{first_at_most, rests_decide}
 
 -- of two components
@@ -30,6 +31,33 @@ second_behind (x ∷ v ∷ []) (y ∷ w ∷ []) long long_too same less =
     rw head (ap (λ o. ordering_then o Equal) (sym (nat_cmp_is w v Less less)))
 second_behind _ _ long long_too same less = absurd (omega arith)
 
+steeper : (a c : List ℕ) → length a ≡ 2 → length c ≡ 2 → second c < second a → ¬ AtMost a c
+steeper (x ∷ v ∷ []) (y ∷ w ∷ []) long long_too less = λ h. omega (arith, less, h.1.0)
+steeper _ _ long long_too less = absurd (omega arith)
+
+-- costs in such an order are a settled list
+pub stairs_settled : {costs : List (List ℕ)} → IsStaircase costs → IsSettledList costs
+stairs_settled {costs} s = record {
+  ascending = (lists_stairs s).ascending;
+  apart = λ i j d before within.
+      steeper (get_or costs i d) (get_or costs j d) (s.components i d (omega (arith, before, within))) (s.components j d within) (s.descends i j d before within).1;
+}
+
+last_of_more : (bound : ℕ) (c : List ℕ) (costs : List (List ℕ)) → last_second bound (c ∷ costs) ≡ second (get_or (c ∷ costs) (length costs) [])
+last_of_more bound c [] = refl
+last_of_more bound c (d ∷ costs) = last_of_more (second c) d costs
+
+-- what the last second component is
+last_second_is : (bound : ℕ) (costs : List (List ℕ))
+    → ((length costs ≡ 0) × (last_second bound costs ≡ bound)) ⊎ ((0 < length costs) × (last_second bound costs ≡ second (get_or costs (length costs - 1) [])))
+last_second_is bound [] = inl (refl, refl)
+last_second_is bound (c ∷ costs) =
+    inr (omega arith, subst (λ n. last_second bound (c ∷ costs) ≡ second (get_or (c ∷ costs) n [])) (omega arith) (last_of_more bound c costs))
+
+pub last_second_push : (bound : ℕ) (costs : List (List ℕ)) (c : List ℕ) → last_second bound (costs ++ c ∷ []) ≡ second c
+last_second_push bound [] c = refl
+last_second_push bound (d ∷ costs) c = last_second_push (second d) costs c
+
 module _ {costs : List (List ℕ)} (s : IsStaircase costs) (c : List ℕ) (long : length c ≡ 2) (behind : IsBehind costs c) where
   -- no first component is greater
   all_up_to : IsUpTo costs (first c) (length costs)
@@ -43,13 +71,16 @@ module _ {costs : List (List ℕ)} (s : IsStaircase costs) (c : List ℕ) (long 
   }
 
   -- the last second component decides
-  pub last_second_decides : 0 < length costs → IsCovered costs c ↔ (second (get_or costs (length costs - 1) []) ≤ second c)
-  last_second_decides some =
-      let by_last = last_decides s c long (length costs) all_up_to in
-      let k = length costs - 1 in
-      let inside : k < length costs = omega arith in
-      let by_second = second_decides (get_or costs k []) c (s.components k [] inside) long (behind k [] inside) in
-      (λ h. by_second.0 (by_last.0 h).1, λ h. by_last.1 (some, by_second.1 h))
+  pub last_second_decides : (bound : ℕ) → second c < bound → IsCovered costs c ↔ (last_second bound costs ≤ second c)
+  last_second_decides bound fits = elim (last_second_is bound costs) [
+    | inl none ↦ (λ h. absurd (omega (arith, h.contains.1, none.0)), λ h. absurd (omega (arith, h, none.1, fits)))
+    | inr some ↦
+        let by_last = last_decides s c long (length costs) all_up_to in
+        let k = length costs - 1 in
+        let inside : k < length costs = omega (arith, some.0) in
+        let by_second = second_decides (get_or costs k []) c (s.components k [] inside) long (behind k [] inside) in
+        rw some.1 (λ h. by_second.0 (by_last.0 h).1, λ h. by_last.1 (some.0, by_second.1 h))
+  ]
 
   -- what isn't covered is the next step down
   pub stairs_push : ¬ IsCovered costs c → IsStaircase (costs ++ c ∷ [])

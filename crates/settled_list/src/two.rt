@@ -6,21 +6,26 @@ use std::alloc::Global;
 use std::marker::Model;
 use stored_cost::{Part, StoredCost};
 
-/// Those of 2 criteria: their second components fall, so that the last one decides.
+/// Those of 2 criteria: their second components fall, so that the last one decides. It stands
+/// beside the costs, so that no cost is read to tell what is covered.
 #[derive(Drop)]
 pub struct SecondList<C: StoredCost<2>> {
     costs: Vec<C>,
+    /// The second component of the last cost. While there is none, what no component comes to.
+    last: C::Part,
 }
 
 impl<C: StoredCost<2>> Model for SecondList<C> {
-    ghost use Rattle.std.specs.Prelude.{ℕ, List, map};
+    ghost use Rattle.std.specs.Prelude.{◌≡◌, ℕ, List, map};
     ghost use Rattle.settled_front.specs.Staircase.{IsStaircase};
+    ghost use Rattle.settled_list.specs.Ascending.{last_second};
 
     ghost Value = { List (List ℕ) };
 
     ghost view = { λ f. map C.components f.costs.items };
 
-    ghost invariant = { λ f. IsStaircase (map C.components f.costs.items) };
+    ghost invariant = { λ f. IsStaircase (map C.components f.costs.items)
+        × (C.Part.value f.last ≡ last_second C.Part.bound (map C.components f.costs.items)) };
 }
 
 impl<C: StoredCost<2>> SettledList<2> for SecondList<C> {
@@ -31,6 +36,7 @@ impl<C: StoredCost<2>> SettledList<2> for SecondList<C> {
     fn new(alloc: Global) -> SecondList<C> {
         SecondList {
             costs: Vec::new(alloc),
+            last: C::Part::beyond(),
         }
     }
 
@@ -39,15 +45,13 @@ impl<C: StoredCost<2>> SettledList<2> for SecondList<C> {
     }
 
     fn covers(&self, cost: &C) -> bool {
-        match self.costs.last() {
-            None => false,
-            Some(last) => last.part(1).to_number() <= cost.part(1).to_number(),
-        }
+        self.last.is_at_most(cost.part(1))
     }
 
     fn push(&mut self, cost: &C) -> Result<(), OutOfMemory> {
-        let _second = cost.part(1);
+        let second = cost.part(1);
         self.costs.push(*cost)?;
+        self.last = second;
         Ok(())
     }
 

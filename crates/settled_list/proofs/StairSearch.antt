@@ -1,0 +1,92 @@
+-- A search among stored pairs that stand as a staircase.
+use Rattle.std.proofs.Common.{◌≡◌, ◌↔◌, ℕ, ◌<◌, ◌≤◌, List, [], length, get_or, map, true, false, inl, inr, refl, sym, ◌∙◌, arith, Bool, leb, ltb}
+use Rattle.std.specs.Prelude.{IsTrue}
+use Rattle.std.specs.List.{AllWithin}
+use Rattle.std.specs.List.Sorted.{IsNonDecreasingBy, IsPartitionPoint}
+use Rattle.std.proofs.lemmas.Bool.{cases_Bool, cases_lt, iff_false, le-leb, leb-false, leb-true, lt-leb, ltb-false, ltb-true}
+use Rattle.std.proofs.lemmas.List.{get_or-map, length-map}
+use Rattle.std.proofs.lemmas.Option.{slice_get_cases}
+use Rattle.settled_front.specs.Staircase.{IsStaircase, IsUpTo, first, second}
+use Rattle.settled_list.specs.Stairs.{IsPlaceFor, as_pair}
+use Rattle.settled_list.specs.declared.staircase.Rest.{Rest}
+use Rattle.settled_list.proofs.Places.{pair_at_most}
+
+-- a test by its contract
+pub leb_from_iff : {b : Bool} {m n : ℕ} → (IsTrue b ↔ (m ≤ n)) → b ≡ leb m n
+leb_from_iff {b} {m} {n} tells = elim (cases_Bool b) [
+  | inl holds ↦ holds ∙ sym (le-leb m n (tells.0 holds))
+  | inr fails ↦ fails ∙ sym (lt-leb m n (omega (arith, iff_false tells fails)))
+]
+
+module _ {P : Type 0} (value : P → ℕ) (rests : List (Rest P)) (s : IsStaircase (map (as_pair value) rests)) where
+  abbrev pairs : List (List ℕ)
+  pairs = map (as_pair value) rests
+
+  -- the components of one of them
+  pub pair_at : (k : ℕ) (d : Rest P) → k < length rests
+      → (value (get_or rests k d).second ≡ first (get_or pairs k [])) × (value (get_or rests k d).third ≡ second (get_or pairs k []))
+  pair_at k d within = let is = get_or-map (as_pair value) rests k d [] within in rw is (refl, refl)
+
+  some_at : (k : ℕ) → k < length rests → Rest P
+  some_at k within = elim (slice_get_cases rests k).1 [ inl h ↦ h.0 | inr past ↦ absurd (omega (arith, within, past.0)) ]
+
+  -- the second components rise
+  pub rising : IsNonDecreasingBy (λ r. value r.second) rests
+  rising i j d order within =
+      let here = (pair_at i d (omega (arith, order, within))).0 in
+      let there = (pair_at j d within).0 in
+      elim (cases_lt i j) [
+        | inl before ↦ omega (arith, here, there, (s.descends i j [] before (omega (arith, within, length-map rests (as_pair value)))).0)
+        | inr same ↦ let is : i ≡ j = omega (arith, order, same) in rw is (omega arith)
+      ]
+
+  -- by the test whether the second component isn't greater
+  pub up_to_from : (t i : ℕ) → i ≤ length rests → IsPartitionPoint (λ r. leb (value r.second) t ≡ true) (λ r. leb (value r.second) t ≡ false) rests i
+      → IsUpTo pairs t i
+  up_to_from t i within point = record {
+    left = omega arith;
+    within = omega (arith, within, length-map rests (as_pair value));
+    before = λ k near.
+        let inside : k < length rests = omega (arith, near, within) in
+        let d = some_at k inside in
+        omega (arith, (pair_at k d inside).0, leb-true (value (get_or rests k d).second) t (point.0 k d (omega arith) (omega (arith, near))));
+    after = λ k far inside_too.
+        let inside : k < length rests = omega (arith, inside_too, length-map rests (as_pair value)) in
+        let d = some_at k inside in
+        omega (arith, (pair_at k d inside).0, leb-false (value (get_or rests k d).second) t (point.1 k d far inside));
+  }
+
+  -- by the test whether it is less
+  pub below_from : (t i : ℕ) → IsPartitionPoint (λ r. ltb (value r.second) t ≡ true) (λ r. ltb (value r.second) t ≡ false) rests i
+      → IsPartitionPoint (λ r. value r.second < t) (λ r. t ≤ value r.second) rests i
+  below_from t i point = (
+    λ k d some near. ltb-true (value (get_or rests k d).second) t (point.0 k d some near),
+    λ k d far within. ltb-false (value (get_or rests k d).second) t (point.1 k d far within),
+  )
+
+  -- behind those of a lesser second component, and with those that come next and aren't less in the third
+  pub place_from : (r : Rest P) (start end : ℕ) → start ≤ end → end ≤ length rests
+      → IsPartitionPoint (λ q. value q.second < value r.second) (λ q. value r.second ≤ value q.second) rests start
+      → AllWithin (λ q. value r.third ≤ value q.third) rests start end → (end < length rests → second (get_or pairs end []) < value r.third)
+      → IsPlaceFor pairs (as_pair value r) start end
+  place_from r start end order within cut thirds ends = record {
+    order = order;
+    within = omega (arith, within, length-map rests (as_pair value));
+    before = λ k near.
+        let inside : k < length rests = omega (arith, near, order, within) in
+        let d = some_at k inside in
+        omega (arith, (pair_at k d inside).0, cut.0 k d (omega arith) near);
+    between = λ k past near.
+        let inside : k < length rests = omega (arith, near, within) in
+        let d = some_at k inside in
+        let two = s.components k [] (omega (arith, inside, length-map rests (as_pair value))) in
+        let at = pair_at k d inside in
+        (pair_at_most (as_pair value r) (get_or pairs k []) refl two).1 (omega (arith, at.0, cut.1 k d past inside), omega (arith, at.1, thirds k d past near));
+    behind = λ k far inside.
+        let more : end < length rests = omega (arith, far, inside, length-map rests (as_pair value)) in
+        let less = ends more in
+        elim (cases_lt end k) [
+          | inl before ↦ omega (arith, less, (s.descends end k [] before inside).1)
+          | inr same ↦ let is : k ≡ end = omega (arith, far, same) in rw is less
+        ];
+  }

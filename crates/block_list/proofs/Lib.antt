@@ -1,1 +1,2 @@
-pub mod SettledPush
+mod RestPush
+mod SettledPush

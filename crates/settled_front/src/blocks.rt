@@ -1,5 +1,6 @@
-ghost use Rattle.std.specs.Prelude.{◌≡◌, ◌<◌, ◌≤◌, ◌++◌, length, IfOk};
+ghost use Rattle.std.specs.Prelude.{◌≡◌, ◌<◌, ◌≤◌, ◌++◌, ◌∷◌, length, IfOk, IsPermutation, OnErr};
 ghost use Rattle.settled_front.specs.Blocks.{block_size};
+ghost use Rattle.settled_front.specs.Fronts.{IsCovered};
 
 use crate::block::{BLOCK, CostBlock};
 use crate::cornered::CorneredBlocks;
@@ -53,6 +54,26 @@ impl<const D: usize, B: CostBlock<D>> SettledFront<D> for BlockFront<D, B> {
     }
 
     fn push(&mut self, cost: &B::Cost) -> Result<(), OutOfMemory> {
+        self.add(cost)
+    }
+
+    fn to_costs(&self, alloc: Global) -> Result<Vec<CompactCost<D>>, OutOfMemory> {
+        let mut list = Vec::new(alloc);
+        self.blocks.list(&mut list)?;
+        self.latest.list(&mut list)?;
+        list.sort_unstable();
+        Ok(list)
+    }
+}
+
+impl<const D: usize, B: CostBlock<D>> BlockFront<D, B> {
+    /// Adds a cost that none there is at most. It may dominate some, which stay.
+    pub fn add(&mut self, cost: &B::Cost) -> Result<(), OutOfMemory>
+        requires { ¬ IsCovered self.old (B.Cost.components cost.now) }
+        ensures added { IfOk result (λ _.
+            IsPermutation (B.Cost.components cost.now ∷ self.old) self.new) }
+        ensures same { OnErr result (self.new ≡ self.old) }
+    {
         let Some(len) = self.len.checked_add(1) else {
             return Err(OutOfMemory);
         };
@@ -62,14 +83,6 @@ impl<const D: usize, B: CostBlock<D>> SettledFront<D> for BlockFront<D, B> {
         // The only latest cost comes where a block was just made.
         self.blocks.order_last(self.latest.len() == 1);
         Ok(())
-    }
-
-    fn to_costs(&self, alloc: Global) -> Result<Vec<CompactCost<D>>, OutOfMemory> {
-        let mut list = Vec::new(alloc);
-        self.blocks.list(&mut list)?;
-        self.latest.list(&mut list)?;
-        list.sort_unstable();
-        Ok(list)
     }
 }
 

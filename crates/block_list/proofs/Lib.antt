@@ -1,0 +1,2 @@
+mod RestPush
+mod SettledPush

@@ -1,7 +1,6 @@
-//! What waits in a sweep: nodes reached at costs, of which the lexicographically least leaves first.
+//! Queues of what waits in a search: nodes reached at costs, of which the lexicographically least leaves first.
 #![tactic(auto)]
 
-mod queue;
+mod heap;
 
-pub use queue::LeastQueue;
-
+pub use heap::HeapQueue;

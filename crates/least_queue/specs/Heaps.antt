@@ -1,9 +1,8 @@
--- What waits in a sweep, and which of it leaves first.
-use Rattle.std.specs.Prelude.{◌≡◌, ℕ, List, ◌∷◌, All, IsPermutation}
+-- The order of a heap of what waits.
+use Rattle.std.specs.Prelude.{ℕ, List}
 use Rattle.std.specs.declared.cmp.Reverse.{Reverse}
 use Rattle.std.specs.declared.cmp.Ordering.{Ordering}
 use Rattle.std.specs.Ordering.{nat_cmp, ordering_then}
-use Rattle.cost_vector.specs.Costs.{LexLess}
 use Rattle.waiting_item.specs.Waiting.{Waiting, as_waiting}
 use Rattle.waiting_item.specs.declared.item.Item.{Item}
 
@@ -15,8 +14,3 @@ least_first cmp x y =
 -- what an element of the heap says
 abbrev pub waits : {C : Type 0} → (C → List ℕ) → Reverse (Item C) → Waiting
 waits components i = as_waiting components i.0
-
--- the item leaves what waits: none comes before it, and the others stay
-pub record Leaves (before : List Waiting) (item : Waiting) (after : List Waiting) : Type 0 where
-  pub least : All (λ w. ¬ LexLess w.spot.cost item.spot.cost) before
-  pub rest : IsPermutation before (item ∷ after)

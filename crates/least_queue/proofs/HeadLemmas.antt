@@ -10,7 +10,7 @@ use Rattle.std.proofs.lemmas.List.Elements.{All-nil, All-cons}
 use Rattle.cost_vector.specs.Costs.{LexLess, lex_cmp}
 use Rattle.waiting_item.specs.Waiting.{Waiting}
 use Rattle.waiting_item.specs.declared.item.Item.{Item}
-use Rattle.least_queue.specs.Leaving.{least_first, waits}
+use Rattle.least_queue.specs.Heaps.{least_first, waits}
 
 module _ {C : Type 0} (components : C → List ℕ) (cmp : C → C → Ordering) (orders : (a b : C) → cmp a b ≡ lex_cmp (components a) (components b)) where
   pub none_before : (x : Reverse (Item C)) (xs : List (Reverse (Item C))) → IsUpperBound (least_first cmp) x xs

@@ -1,7 +1,10 @@
-//! What waits in a sweep: nodes reached at costs, of which the lexicographically least leaves first.
+//! Queues of what waits in a search: nodes reached at costs, of which the lexicographically least leaves first.
 #![tactic(auto)]
 
-mod queue;
+mod buckets;
+mod heap;
+mod opened;
+mod ring;
 
-pub use queue::LeastQueue;
-
+pub use buckets::BucketQueue;
+pub use heap::HeapQueue;

@@ -1,9 +1,8 @@
--- What waits in a sweep, and which of it leaves first.
-use Rattle.std.specs.Prelude.{◌≡◌, ℕ, List, ◌∷◌, All, IsPermutation}
+-- The order of a heap of what waits.
+use Rattle.std.specs.Prelude.{◌≡◌, ℕ, ◌-◌, ◌<◌, List, length, slice_index_or, true}
 use Rattle.std.specs.declared.cmp.Reverse.{Reverse}
 use Rattle.std.specs.declared.cmp.Ordering.{Ordering}
-use Rattle.std.specs.Ordering.{nat_cmp, ordering_then}
-use Rattle.cost_vector.specs.Costs.{LexLess}
+use Rattle.std.specs.Ordering.{is_lt, nat_cmp, ordering_then}
 use Rattle.waiting_item.specs.Waiting.{Waiting, as_waiting}
 use Rattle.waiting_item.specs.declared.item.Item.{Item}
 
@@ -16,7 +15,7 @@ least_first cmp x y =
 abbrev pub waits : {C : Type 0} → (C → List ℕ) → Reverse (Item C) → Waiting
 waits components i = as_waiting components i.0
 
--- the item leaves what waits: none comes before it, and the others stay
-pub record Leaves (before : List Waiting) (item : Waiting) (after : List Waiting) : Type 0 where
-  pub least : All (λ w. ¬ LexLess w.spot.cost item.spot.cost) before
-  pub rest : IsPermutation before (item ∷ after)
+-- the last element of the list is less than the head of the heap
+pub record IsLastBehind {T : Type 0} (cmp : T → T → Ordering) (run heap : List T) : Type 0 where
+  pub some : 0 < length heap
+  pub less : (d : T) → is_lt (cmp (slice_index_or run (length run - 1) d) (slice_index_or heap 0 d)) ≡ true

@@ -4,6 +4,4 @@ pub mod PassingLemmas
 pub mod RangeLemmas
 pub mod ShadowLemmas
 pub mod TakingLemmas
-pub mod RunLemmas
-pub mod TwoRunLemmas
 pub mod StairLemmas

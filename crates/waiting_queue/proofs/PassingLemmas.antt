@@ -9,16 +9,16 @@ use Rattle.std.proofs.lemmas.List.Elements.{Contains-get_or}
 use Rattle.std.proofs.lemmas.Option.{slice_get-get_or, slice_get_within, get_or_from_slice_get}
 use Rattle.list_laws.proofs.Members.{each_in, in_first, in_one}
 use Rattle.list_laws.proofs.OnceLaws.{in_append, in_cons, pairs_append}
-use Rattle.list_laws.proofs.Pairs.{pairs_cons, pairs_none, pairs_rest, pairs_take, pair_with_first}
+use Rattle.list_laws.proofs.Pairs.{pairs_cons, pairs_rest, pairs_take, pair_with_first}
 use Rattle.list_laws.specs.Sets.{SameMembers}
 use Rattle.waiting_item.specs.declared.item.Item.{Item}
 use Rattle.waiting_queue.specs.Passing.{AreNext, EndsAt, HasPassed, IsLookedAt, IsPassed, IsSplit, PassesNext}
-use Rattle.waiting_queue.specs.Shadows.{Descends, FallsTo, IsBehind, IsDominatedBy, IsLater, IsRun}
+use Rattle.waiting_queue.specs.Shadows.{Descends, IsBehind, IsDominatedBy, IsLater, IsRun}
 use Rattle.waiting_queue.specs.Taking.{AreSorted, HasSpot}
 use Rattle.waiting_item.specs.Waiting.{Spot, SpotLess, spot_in}
 use Rattle.waiting_queue.proofs.OrderLemmas.{SpotLess-irrefl, SpotLess-trans, after_or_same, not_lex_less}
-use Rattle.waiting_queue.proofs.ShadowLemmas.{in_parts, pairs_drop, pairs_parts, shadow_cast, shadow_none, shadow_tells}
-use Rattle.waiting_queue.proofs.TakingLemmas.{each_append, takes_dominated, takes_more, takes_none, takes_not}
+use Rattle.waiting_queue.proofs.ShadowLemmas.{in_parts, pairs_drop, pairs_parts, shadow_cast, shadow_tells}
+use Rattle.waiting_queue.proofs.TakingLemmas.{each_append, takes_dominated, takes_more, takes_not}
 
 -- the member at a place, and those behind it
 pub begins_at : {X : Type 0} (xs : List X) (i : ℕ) (x : X) → i < length xs → x ≡ get_or xs i x → drop i xs ≡ x ∷ drop (i + 1) xs
@@ -71,7 +71,7 @@ module _ {C : Type 0} (components : C → List ℕ) where
       behind_costs x h = let from = is.shadow.from x h in rw (← from.2) (later from.0 from.1)
 
       -- it is looked at, and leaves or is taken
-      pub passed_look : (more_costs : List C) (more_took : List (Item C))
+      passed_look : (more_costs : List C) (more_took : List (Item C))
           → (IsBehind components costs (components s.cost) → ¬ IsDominatedBy components costs (components s.cost)) → Descends components more_costs
           → IsLookedAt components Open s costs took more_costs more_took → IsPassed components Open (seen ++ s ∷ []) more_costs more_took left
       passed_look more_costs more_took free descends (inl (same_costs, same_took, why)) =
@@ -87,10 +87,6 @@ module _ {C : Type 0} (components : C → List ℕ) where
             | inr same ↦ absurd (not_last (ends_if_there took (spot s) is.takes.ascending (λ z k. behind z (is.takes.among z k)) (x, h, same)))
           ]) in
           rw more assumption
-
-    -- nothing was seen
-    pub none_passed : IsPassed components Open [] [] [] []
-    none_passed = search (shadow_none, takes_none, pairs_none NotAfter, pairs_none (FallsTo components))
 
     -- a run stays
     passes_run : {run : List (Item C)} {costs : List C} {took left : List (Item C)} → All (λ i. IsDominatedBy components costs (components i.cost)) run

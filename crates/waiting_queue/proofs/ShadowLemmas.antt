@@ -12,7 +12,7 @@ use Rattle.std.proofs.lemmas.Option.{get_or_from_slice_get, slice_get_within}
 use Rattle.cost_vector.specs.Costs.{AtMost, Dominates, LexLess}
 use Rattle.cost_vector.proofs.Vectors.{AtMost-refl, AtMost-trans, cases_AtMost}
 use Rattle.list_laws.specs.Without.{IsWithout}
-use Rattle.list_laws.proofs.Members.{all_from_in, cases_in, cases_push, each_in, in_filter, in_none}
+use Rattle.list_laws.proofs.Members.{all_from_in, cases_in, cases_push, each_in, in_filter}
 use Rattle.list_laws.proofs.OnceLaws.{in_append, pairs_append}
 use Rattle.list_laws.proofs.Pairs.{pairs_cons, pairs_take}
 use Rattle.list_laws.proofs.SetLaws.{gains_by_permutation}
@@ -47,7 +47,7 @@ at_most_ungrounded (c ∷ cs) (z ∷ zs) later below = (grind (arith, nat_tests)
 at_most_ungrounded _ _ later below = below
 
 -- where c comes no later than y, and each component of b but the first is at least c's, c is at most what b is at most
-pub covers_on : (c b y : List ℕ) → ¬ LexLess y c → AtMost (grounded c) b → AtMost b y → AtMost c y
+covers_on : (c b y : List ℕ) → ¬ LexLess y c → AtMost (grounded c) b → AtMost b y → AtMost c y
 covers_on c b y later below k = at_most_ungrounded c y later (AtMost-trans (grounded c) b y below k)
 
 -- a cost without its first component is at most itself
@@ -142,10 +142,6 @@ module _ {C : Type 0} (components : C → List ℕ) where
     -- or where there are no more
     pub run_over : IsShadowed shadow items n → length items ≤ n → IsRun components shadow items n
     run_over is none = grind (arith, slice_get_within (drop n items) 0, length-drop n items)
-
-  -- no cost was taken
-  pub shadow_none : IsShadow components [] []
-  shadow_none = record { from = λ c h. absurd (in_none c h); dominates = λ c later i h. absurd (in_none i h) }
 
   -- the shadow dominates what the costs do that were taken
   pub shadow_tells : (took : List (Item C)) (shadow : List C) (c : List ℕ) → IsShadow components took shadow → IsDominatedBy components shadow c

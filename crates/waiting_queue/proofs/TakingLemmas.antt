@@ -118,10 +118,6 @@ module _ {X : Type 0} (spot : X → Spot) (Open : Spot → Type 0) where
 
   -- ---- more was seen
 
-  -- nothing was seen
-  pub takes_none : TakesOpen spot Open [] [] []
-  takes_none = grind arith
-
   -- what comes then stays, if what was taken dominates all of it
   pub takes_dominated : (seen took : List X) {left : List X} → TakesOpen spot Open seen took left → (rest : List X)
       → ((x : X) → Contains rest x → IsDominatedIn spot took (spot x).cost) → TakesOpen spot Open (seen ++ rest) took (left ++ rest)
@@ -178,19 +174,6 @@ spots_alone spot Open xs took left late none is = rw (none, append-nil) (spots_i
 -- ---- parts of a list
 
 module _ {X : Type 0} (spot : X → Spot) (Open : Spot → Type 0) where
-  -- two parts
-  pub apart_both : (before apart after before_too apart_too after_too : List X) → SetsApart spot Open before apart after
-      → SetsApart spot Open before_too apart_too after_too → SetsApart spot Open (before ++ before_too) (apart ++ apart_too) (after ++ after_too)
-  apart_both before apart after before_too apart_too after_too one two = record {
-    held = each_append apart apart_too (λ x h. let was = one.held x h in ((in_append before before_too x).1 (inl was.0), was.1))
-        (λ x h. let was = two.held x h in ((in_append before before_too x).1 (inr was.0), was.1));
-    stays = each_append after after_too
-        (λ x h. let was = one.stays x h in ((in_append before before_too x).1 (inl was.0), some_before apart apart_too was.1))
-        (λ x h. let was = two.stays x h in ((in_append before before_too x).1 (inr was.0), some_behind apart apart_too was.1));
-    leaves = each_append before before_too (λ x h. either_on (some_before after after_too) (some_before apart apart_too) (one.leaves x h))
-        (λ x h. either_on (some_behind after after_too) (some_behind apart apart_too) (two.leaves x h));
-  }
-
   -- What was set apart is passed once more, with all of it open: what is taken then is what one pass over all takes, and what that
   -- pass leaves goes back.
   pub parts_take : (before apart after took rest : List X) → SetsApart spot Open before apart after → TakesOpen spot (λ _. Unit {0}) apart took rest

@@ -3,6 +3,4 @@ pub mod Shadows
 pub mod Taking
 pub mod Joining
 pub mod Ranges
-pub mod Runs
 pub mod Filling
-pub mod Forms

@@ -4,7 +4,6 @@ ghost use Rattle.waiting_queue.specs.Joining.{AreJoined, AreMarked, AreParts, Jo
 ghost use Rattle.waiting_queue.specs.Taking.{AreSorted};
 ghost use Rattle.waiting_item.specs.Waiting.{AreCriteria, spot_in};
 
-use waiting_item::Item;
 use crate::marking::mark_all;
 use crate::order::is_last;
 use out_of_memory::OutOfMemory;
@@ -12,6 +11,7 @@ use std::alloc::Global;
 use std::mem;
 use std::thread::Threads;
 use stored_cost::StoredCost;
+use waiting_item::Item;
 use work_claim::Workers;
 
 /// What a pass over a part of a queue has taken, what stays there, and the shadow of what was taken: all of it, where memory

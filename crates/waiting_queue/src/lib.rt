@@ -4,19 +4,15 @@
 
 mod filling;
 mod joining;
-mod list_queue;
 mod look;
 mod marking;
 mod order;
 mod passing;
 mod queue;
 mod ranges;
-mod run;
-mod run_queue;
 mod shadow;
 mod sharing;
 mod steps;
-mod two_runs;
 mod widen;
 
 pub use look::Look;

@@ -1,8 +1,8 @@
 ghost use Rattle.std.specs.Prelude.{◌↔◌, IsTrue};
 ghost use Rattle.waiting_item.specs.Waiting.{Spot, spot_in};
 
-use waiting_item::Item;
 use stored_cost::StoredCost;
+use waiting_item::Item;
 
 /// Which spots are open, as a search knows it: those that are still of use.
 pub trait Look<const D: usize, C: StoredCost<D>> {

@@ -4,7 +4,6 @@ ghost use Rattle.waiting_queue.specs.Joining.{AreMarked, AreParts, EndsBefore, j
 ghost use Rattle.waiting_queue.specs.Taking.{IsDominatedIn};
 ghost use Rattle.waiting_item.specs.Waiting.{AreCriteria, spot_in};
 
-use waiting_item::Item;
 use crate::joining::Part;
 use crate::order::is_before;
 use crate::shadow::is_shadowed;
@@ -13,6 +12,7 @@ use route_io::{OpenGate, Phase};
 use std::alloc::Global;
 use std::thread::Threads;
 use stored_cost::StoredCost;
+use waiting_item::Item;
 use work_claim::{Job, Workers, run_pieces};
 
 /// At most so many pieces come to each worker on the average: later ones take longer, since more parts come before them.
@@ -47,11 +47,11 @@ where
     Ok(marks)
 }
 
-/// Who compares what the parts took with their shadows. Under 3 criteria, where a comparison is a search, one has done so before
+/// Who compares what the parts took with their shadows. Under 2 and 3 criteria, where a comparison is a search, one has done so before
 /// threads have started.
 fn who_marks<'w, R, G>(workers: &Workers<'w, R, G>, criteria: usize) -> Workers<'w, R, OpenGate> {
     let workers = workers.with_gate(&OpenGate);
-    if criteria == 3 {
+    if criteria <= 3 {
         workers.alone()
     } else {
         workers

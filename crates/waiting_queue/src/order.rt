@@ -3,9 +3,9 @@ ghost use Rattle.waiting_queue.specs.Passing.{EndsAt, IsSplit};
 ghost use Rattle.waiting_queue.specs.Taking.{AreSorted};
 ghost use Rattle.waiting_item.specs.Waiting.{SpotLess, spot_in};
 
-use waiting_item::Item;
 use out_of_memory::OutOfMemory;
 use stored_cost::StoredCost;
+use waiting_item::Item;
 
 /// How many items are gone by at once, where the last of them comes before the one whose place is sought.
 const STEP: usize = 16;

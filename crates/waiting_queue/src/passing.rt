@@ -4,12 +4,12 @@ ghost use Rattle.waiting_queue.specs.Shadows.{Descends, IsShadow};
 ghost use Rattle.waiting_queue.specs.Taking.{AreSorted, TakesOpen};
 ghost use Rattle.waiting_item.specs.Waiting.{AreCriteria, spot_in};
 
+use crate::Look;
 use crate::order::{count_before, is_last};
 use crate::shadow::{cast, count_shadowed};
-use crate::Look;
-use waiting_item::Item;
 use out_of_memory::OutOfMemory;
 use stored_cost::StoredCost;
+use waiting_item::Item;
 
 /// Lists the open ones of two sorted lists of items whose cost no open one dominates, and apart what stays. What the lists
 /// held before is gone.

@@ -1,41 +1,71 @@
 ghost use Rattle.std.specs.Prelude.{◌≡◌, ◌≤◌, [], ◌++◌, IfOk, OnErr, map};
-ghost use Rattle.waiting_queue.specs.Taking.{Counts, TakesOpenSpots};
-ghost use Rattle.waiting_item.specs.Waiting.{AreCriteria, as_waiting, spot_of};
+ghost use Rattle.waiting_queue.specs.Ranges.{all_of};
+ghost use Rattle.waiting_queue.specs.Taking.{AreSorted, Counts, TakesOpenSpots};
+ghost use Rattle.waiting_item.specs.Waiting.{AreCriteria, as_waiting, spot_in, spot_of};
 
-use crate::list_queue::ListQueue;
-use crate::run_queue::RunQueue;
-use crate::{Look, Steps};
-use waiting_item::Item;
+use crate::joining::{Part, join_parts, list_rests};
+use crate::order::list_sorted;
+use crate::passing::pass_anew;
+use crate::ranges::{Lists, pass_ranges};
+use crate::sharing::labels_of_spots;
+use crate::{Look, Steps, widen_items};
 use out_of_memory::OutOfMemory;
 use route_io::Gate;
 use std::alloc::Global;
 use std::marker::Model;
+use std::mem;
 use std::sync::ledger::Ledger;
 use std::thread::Threads;
 use stored_cost::StoredCost;
+use waiting_item::Item;
 use work_claim::Workers;
 
-/// What waits. Some of it may be stale, barred or there more than once.
+/// What waits: some of it may be stale, barred or there more than once. Most of it stands in one ascending list, and each call goes
+/// through it once, workers in as many ranges as they are where enough comes in.
 #[derive(Drop)]
 pub struct Queue<const D: usize, C: StoredCost<D>> {
-    form: Form<D, C>,
+    items: Vec<Item<C>>,
+    /// What was taken in a range of the list though an item of an earlier range dominates it. It comes in again.
+    late: Vec<Item<C>>,
+    /// Room for the items that come in, in order.
+    order: Vec<Item<C>>,
+    left: Left<C>,
 }
 
-/// How it waits: by the number of criteria.
+/// Room for what a call leaves.
 #[derive(Drop)]
-enum Form<const D: usize, C: StoredCost<D>> {
-    Runs(RunQueue<D, C>),
-    List(ListQueue<D, C>),
+struct Left<C> {
+    items: Vec<Item<C>>,
+    late: Vec<Item<C>>,
+    shadow: Vec<C>,
+    /// Those of a call that workers shared: the next one uses their memory again.
+    parts: Vec<Part<C>>,
+}
+
+impl<C> Left<C> {
+    fn new(alloc: Global) -> Left<C>
+        ensures { result.items.items ≡ [] }
+    {
+        Left {
+            items: Vec::new(alloc),
+            late: Vec::new(alloc),
+            shadow: Vec::new(alloc),
+            parts: Vec::new(alloc),
+        }
+    }
 }
 
 impl<const D: usize, C: StoredCost<D>> Model for Queue<D, C> {
-    ghost use Rattle.std.specs.Prelude.{List};
-    ghost use Rattle.waiting_queue.specs.Forms.{waiting_in};
-    ghost use Rattle.waiting_item.specs.Waiting.{Waiting};
+    ghost use Rattle.std.specs.Prelude.{List, ◌≤◌, ◌++◌, map};
+    ghost use Rattle.waiting_queue.specs.Taking.{AreSorted};
+    ghost use Rattle.waiting_item.specs.Waiting.{AreCriteria, Waiting, spot_in, as_waiting};
 
     ghost Value = { List Waiting };
 
-    ghost view = { λ q. waiting_in q.form };
+    ghost view = { λ q. map (as_waiting C.components) (q.items.items ++ q.late.items) };
+
+    ghost invariant = { λ q. (AreCriteria D)
+        × AreSorted (spot_in C.components) q.items.items };
 }
 
 impl<const D: usize, C: StoredCost<D>> Queue<D, C> {
@@ -44,12 +74,12 @@ impl<const D: usize, C: StoredCost<D>> Queue<D, C> {
         requires { AreCriteria D }
         ensures { result ≡ [] }
     {
-        let form = if D == 2 {
-            Form::Runs(RunQueue::new(alloc))
-        } else {
-            Form::List(ListQueue::new(alloc))
-        };
-        Queue { form }
+        Queue {
+            items: Vec::new(alloc),
+            late: Vec::new(alloc),
+            order: Vec::new(alloc),
+            left: Left::new(alloc),
+        }
     }
 
     /// The same queue, with room for greater costs.
@@ -57,11 +87,12 @@ impl<const D: usize, C: StoredCost<D>> Queue<D, C> {
         requires { C.Part.bound ≤ W.Part.bound }
         ensures { IfOk result (λ wide. wide ≡ self.now) }
     {
-        let form = match &self.form {
-            Form::Runs(queue) => Form::Runs(queue.widen(alloc)?),
-            Form::List(queue) => Form::List(queue.widen(alloc)?),
-        };
-        Ok(Queue { form })
+        Ok(Queue {
+            items: widen_items(alloc, &self.items)?,
+            late: widen_items(alloc, &self.late)?,
+            order: Vec::new(alloc),
+            left: Left::new(alloc),
+        })
     }
 }
 
@@ -87,13 +118,78 @@ where
         ensures same { OnErr result (self.new ≡ self.old) }
         ensures uncounted { OnErr result (steps.new ≡ steps.old) }
     {
-        match &mut self.form {
-            Form::Runs(queue) => queue.pass(fresh, look, taken)?,
-            Form::List(queue) => queue.pass(workers, alloc, fresh, look, taken)?,
-        }
+        let workers = &workers.for_labels(labels_of_spots(fresh.len()));
+        let lists = Lists {
+            items: &self.items,
+            late: &self.late,
+            fresh,
+        };
+        let (order, left) = (&mut self.order, &mut self.left);
+        pass_lists(workers, alloc, look, &lists, order, taken, left)?;
+        mem::swap(&mut self.items, &mut self.left.items);
+        mem::swap(&mut self.late, &mut self.left.late);
         if !taken.as_slice().is_empty() {
             steps.tick();
         }
         Ok(())
     }
+}
+
+/// Takes the open ones of these items whose cost no open one dominates, and lists apart what is left. What the lists held before
+/// is gone.
+fn pass_lists<
+    const D: usize,
+    C: StoredCost<D> + Send + Sync,
+    K: Look<D, C> + Sync,
+    R: Threads + Sync,
+    G,
+>(
+    workers: &Workers<'_, R, G>,
+    alloc: Global,
+    look: &K,
+    lists: &Lists<'_, C>,
+    order: &mut Vec<Item<C>>,
+    taken: &mut Vec<Item<C>>,
+    left: &mut Left<C>,
+) -> Result<(), OutOfMemory>
+where
+    C::Part: Send + Sync,
+    requires criteria { AreCriteria D }
+    requires sorted { AreSorted (spot_in C.components) lists.now.items.now }
+    ensures taken { IfOk result (λ _. TakesOpenSpots (spot_in C.components) (K.IsOpen look.now)
+        (all_of lists.now) taken.new.items (left.new.items.items ++ left.new.late.items)) }
+    ensures sorted { IfOk result (λ _. AreSorted (spot_in C.components) left.new.items.items) }
+{
+    if workers.count() == 1 {
+        return pass_alone(look, lists, order, taken, left);
+    }
+    pass_ranges(workers, alloc, look, lists, &mut left.parts)?;
+    join_parts(workers, alloc, &left.parts, order, taken, &mut left.late)?;
+    list_rests(&mut left.parts, &mut left.items)
+}
+
+/// One worker does so in one pass.
+fn pass_alone<const D: usize, C: StoredCost<D>, K: Look<D, C>>(
+    look: &K,
+    lists: &Lists<'_, C>,
+    order: &mut Vec<Item<C>>,
+    taken: &mut Vec<Item<C>>,
+    left: &mut Left<C>,
+) -> Result<(), OutOfMemory>
+    requires criteria { AreCriteria D }
+    requires sorted { AreSorted (spot_in C.components) lists.now.items.now }
+    ensures taken { IfOk result (λ _. TakesOpenSpots (spot_in C.components) (K.IsOpen look.now)
+        (all_of lists.now) taken.new.items (left.new.items.items ++ left.new.late.items)) }
+    ensures sorted { IfOk result (λ _. AreSorted (spot_in C.components) left.new.items.items) }
+{
+    left.late.clear();
+    list_sorted(lists.late, lists.fresh, order)?;
+    pass_anew(
+        look,
+        lists.items,
+        order,
+        &mut left.shadow,
+        taken,
+        &mut left.items,
+    )
 }

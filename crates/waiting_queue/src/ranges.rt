@@ -5,16 +5,16 @@ ghost use Rattle.waiting_queue.specs.Taking.{AreSorted};
 ghost use Rattle.waiting_item.specs.Waiting.{AreCriteria, spot_in};
 ghost use Rattle.waiting_item.specs.declared.item.Item.{Item};
 
+use crate::Look;
 use crate::filling::{Fills, fill_each};
 use crate::joining::Part;
 use crate::order::{is_before, sort_items};
 use crate::passing::pass_anew;
-use crate::Look;
-use waiting_item::Item;
 use out_of_memory::OutOfMemory;
 use std::alloc::Global;
 use std::thread::Threads;
 use stored_cost::StoredCost;
+use waiting_item::Item;
 use work_claim::Workers;
 
 /// What waits: a sorted list, what comes in again, and what is new, both in any order.

@@ -6,9 +6,9 @@ ghost use Rattle.waiting_queue.specs.Shadows.{Descends, ExceedsBefore, ReachesBe
 ghost use Rattle.waiting_item.specs.Waiting.{AreCriteria};
 ghost use Rattle.waiting_item.specs.declared.item.Item.{Item};
 
-use waiting_item::Item;
 use out_of_memory::OutOfMemory;
 use stored_cost::{Part, StoredCost};
+use waiting_item::Item;
 
 /// So few costs are gone through faster than searched.
 const FEW: usize = 8;

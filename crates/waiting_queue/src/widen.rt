@@ -1,10 +1,10 @@
 ghost use Rattle.std.specs.Prelude.{◌≡◌, ◌≤◌, map, IfOk};
 ghost use Rattle.waiting_item.specs.Waiting.{AreCriteria, as_waiting};
 
-use waiting_item::Item;
 use out_of_memory::OutOfMemory;
 use std::alloc::Global;
 use stored_cost::StoredCost;
+use waiting_item::Item;
 
 /// The same items, with room for greater costs.
 pub fn widen_items<const D: usize, C: StoredCost<D>, W: StoredCost<D>>(

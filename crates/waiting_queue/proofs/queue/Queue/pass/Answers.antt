@@ -1,8 +1,10 @@
-use Rattle.waiting_queue.proofs.queue.Queue.pass.Goals.{in-Runs+in_ok-pass-in-Runs, in-List+in_ok-pass-in-List}
+use Rattle.waiting_item.specs.Waiting.{spot_of, as_waiting}
+use Rattle.waiting_queue.proofs.TakingLemmas.{spots_let_in}
 use Rattle.waiting_queue.proofs.queue.Queue.pass.Goals as goal
 
 pub returns-clause-taken : goal.returns-clause-taken
-returns-clause-taken g c = elim c.match-self.branch [
-  | in-Runs+in_ok-pass-in-Runs w ↦ rw (w.taken-is, w.self-inside-is, ← c.self.view_is, w.in-Runs.is) w.in_ok-pass-in-Runs.ensures.taken
-  | in-List+in_ok-pass-in-List w ↦ rw (w.taken-is, w.self-inside-is, ← c.self.view_is, w.in-List.is) w.in_ok-pass-in-List.ensures.taken
-]
+returns-clause-taken g c =
+    let takes = rw (c.deref.ensures.value, c.deref-2.ensures.value) at c.in_ok-pass_lists.ensures.taken in
+    rw (c.swap.ensures.x_after, c.swap-2.ensures.x_after, ← c.self.view_is)
+    (spots_let_in spot_of (as_waiting g.C.StoredCost.components) (g.K.Look.IsOpen c.args.look.now) c.self.inside.items.items c.self.inside.late.items
+    c.args.fresh.now _ c.pass_lists.new.taken.items _ (λ x. (λ h. h, λ h. h)) takes)

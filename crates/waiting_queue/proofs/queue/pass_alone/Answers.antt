@@ -3,7 +3,7 @@ use Rattle.list_laws.proofs.SetLaws.{same_by_permutation}
 use Rattle.waiting_queue.specs.Ranges.{all_of}
 use Rattle.waiting_item.specs.Waiting.{spot_in}
 use Rattle.waiting_queue.proofs.TakingLemmas.{behind_alike, spots_alone, takes_alike}
-use Rattle.waiting_queue.proofs.list_queue.pass_alone.Goals as goal
+use Rattle.waiting_queue.proofs.queue.pass_alone.Goals as goal
 
 pub returns-clause-taken : goal.returns-clause-taken
 returns-clause-taken g c =

@@ -1,6 +1,6 @@
 use Rattle.waiting_item.specs.Waiting.{SpotLess, Waiting, as_waiting}
 use Rattle.waiting_queue.proofs.OrderLemmas.{pairs_as}
-use Rattle.waiting_queue.proofs.list_queue.ListQueue.widen.Goals as goal
+use Rattle.waiting_queue.proofs.queue.Queue.widen.Goals as goal
 
 pub invariant_of-result : goal.invariant_of-result
 invariant_of-result g c = (

@@ -3,7 +3,7 @@ use Rattle.std.proofs.lemmas.Result.{IfOk-weaker}
 use Rattle.waiting_queue.specs.Joining.{rest_of}
 use Rattle.waiting_queue.specs.Ranges.{all_of}
 use Rattle.waiting_queue.proofs.RangeLemmas.{joined_take}
-use Rattle.waiting_queue.proofs.list_queue.pass_lists.Goals as goal
+use Rattle.waiting_queue.proofs.queue.pass_lists.Goals as goal
 
 pub join_parts-requires-clause-parts : goal.join_parts-requires-clause-parts
 join_parts-requires-clause-parts g c κs within = rw c.deref.ensures.value c.in_ok-pass_ranges.ensures.are

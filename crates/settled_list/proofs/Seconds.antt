@@ -1,5 +1,5 @@
 -- Costs of two components that ascend, while their second components fall: the last one decides what comes behind.
-use Rattle.std.proofs.Common.{◌≡◌, ◌↔◌, ◌⊎◌, ℕ, ◌-◌, ◌<◌, ◌≤◌, List, [], ◌∷◌, ◌++◌, length, get_or, inl, inr, sym, ap, arith, Less, Equal}
+use Rattle.std.proofs.Common.{◌≡◌, ◌↔◌, ℕ, ◌-◌, ◌<◌, ◌≤◌, List, [], ◌∷◌, ◌++◌, length, get_or, inl, inr, sym, ap, arith, Less, Equal}
 use Rattle.std.specs.Prelude.{Contains}
 use Rattle.std.specs.Ordering.{ordering_then, nat_cmp}
 use Rattle.std.specs.Cmp.{nat_cmp_is}
@@ -10,8 +10,8 @@ use Rattle.list_laws.proofs.Pairs.{pairs_push}
 use Rattle.cost_vector.specs.Costs.{AtMost, LexLess}
 use Rattle.settled_front.specs.Fronts.{IsCovered}
 use Rattle.settled_front.specs.Staircase.{IsStaircase, IsUpTo, first, second}
-use Rattle.settled_front.proofs.Stairs.{last_decides}
-use Rattle.sweep_parts.specs.Settled.{IsBehind}
+use Rattle.settled_front.proofs.Stairs.{last_decides, lists_stairs}
+use Rattle.sweep_parts.specs.Settled.{IsBehind, IsSettledList}
 use Rattle.settled_list.proofs.Rests.{first_at_most, rests_decide}
 
 -- of two components
@@ -29,6 +29,18 @@ second_behind (x ∷ v ∷ []) (y ∷ w ∷ []) long long_too same less =
     let head : nat_cmp y x ≡ Equal = sym (nat_cmp_is y x Equal (sym same)) in
     rw head (ap (λ o. ordering_then o Equal) (sym (nat_cmp_is w v Less less)))
 second_behind _ _ long long_too same less = absurd (omega arith)
+
+steeper : (a c : List ℕ) → length a ≡ 2 → length c ≡ 2 → second c < second a → ¬ AtMost a c
+steeper (x ∷ v ∷ []) (y ∷ w ∷ []) long long_too less = λ h. omega (arith, less, h.1.0)
+steeper _ _ long long_too less = absurd (omega arith)
+
+-- costs in such an order are a settled list
+pub stairs_settled : {costs : List (List ℕ)} → IsStaircase costs → IsSettledList costs
+stairs_settled {costs} s = record {
+  ascending = (lists_stairs s).ascending;
+  apart = λ i j d before within.
+      steeper (get_or costs i d) (get_or costs j d) (s.components i d (omega (arith, before, within))) (s.components j d within) (s.descends i j d before within).1;
+}
 
 module _ {costs : List (List ℕ)} (s : IsStaircase costs) (c : List ℕ) (long : length c ≡ 2) (behind : IsBehind costs c) where
   -- no first component is greater

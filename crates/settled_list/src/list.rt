@@ -7,7 +7,8 @@ use out_of_memory::OutOfMemory;
 use std::alloc::Global;
 use stored_cost::StoredCost;
 
-/// The settled costs of a node, lexicographically ascending, with what tells fast whether one of them is at most a later cost.
+/// The settled costs of a node, lexicographically ascending, with what tells fast whether one of them
+/// is at most a later cost.
 pub trait SettledList<const D: usize>: Drop {
     /// How a cost is stored.
     type Cost: StoredCost<D>;

@@ -2,7 +2,6 @@ use Rattle.std.proofs.Common.{◌-◌, length, sym, arith}
 use Rattle.std.proofs.lemmas.List.{length-map}
 use Rattle.std.proofs.lemmas.Option.{slice_get_within}
 use Rattle.settled_front.proofs.Views.{got_at}
-use Rattle.sweep_parts.specs.Settled.{IsBehind}
 use Rattle.settled_list.proofs.Seconds.{last_second_decides}
 use Rattle.settled_list.proofs.two.SecondListSettledList2.covers.Goals as goal
 

@@ -20,7 +20,7 @@ use Rattle.road_network.specs.Walks.{IsWalk}
 use Rattle.arc_graph.specs.Graph.{IsRoadNetwork}
 use Rattle.walk_readback.specs.Found.{FoundCosts, HasAllRelevant, HasSettled, IsFound, IsOf}
 use Rattle.walk_readback.proofs.GoingBackLaws.{EndsWith, empty, last, cases_end}
-use Rattle.found_fronts.specs.SettledCosts.{ListsSettled}
+use Rattle.walk_readback.specs.SettledCosts.{ListsSettled}
 use Rattle.cert_rules.specs.Certificates.{Certificate, IsCertificate, IsLine, IsListed, max_component, max_labels}
 use Rattle.cert_rules.specs.Meaning.{ListsRelevant}
 use Rattle.cert_rules.proofs.CompleteLaws.{small_costs}

@@ -12,12 +12,11 @@ ghost use Rattle.cert_writer.specs.Labels.{IsWhole, ListsUpTo};
 
 use arc_graph::Network;
 use cost_vector::{ArcNo, Cost, Label, NodeNo};
-use found_fronts::SettledCosts;
 use front_cert::Listing;
 use out_of_memory::OutOfMemory;
 use road_network::Query;
 use std::alloc::Global;
-use walk_readback::{FoundCosts, last_arc};
+use walk_readback::{FoundCosts, SettledCosts, last_arc};
 
 /// The certificate of what a search has found for a query without limits: the relevant pairs, each with the last arc of its
 /// backward-least walk.

@@ -11,7 +11,7 @@ use Rattle.settled_fronts.specs.NodeFronts.{AreFronts, Fronts, costs_at}
 use Rattle.settled_fronts.proofs.PairLemmas.{in_settled_pairs, settled_pairs_once}
 use Rattle.walk_readback.specs.Found.{FoundCosts, IsBelowSettled, IsCovered, IsFound}
 use Rattle.found_fronts.specs.FoundFronts.{found_in, IsOfFronts}
-use Rattle.found_fronts.specs.SettledCosts.{ListsSettled}
+use Rattle.walk_readback.specs.SettledCosts.{ListsSettled}
 
 module _ (d bound start target : ℕ) (costs : List (List ℕ)) (fronts : Fronts) where
   abbrev found : FoundCosts

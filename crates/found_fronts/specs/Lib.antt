@@ -1,4 +1,3 @@
 pub mod FoundFronts
 pub mod FoundAtWidth
-pub mod SettledCosts
 pub mod Findings

@@ -1,14 +1,14 @@
 ghost use Rattle.found_fronts.specs.Findings.{found_of};
 
+use crate::FoundAtWidth;
 use crate::question::Question;
-use crate::questions::{CostAt, CostsOf, Count, Covers, Longest, Settled, Start, Target};
-use crate::{FoundAtWidth, SettledCosts};
+use crate::questions::{CostAt, CostsOf, Count, Has, Longest, Settled, Start, Target};
 use cost_vector::{Cost, NodeNo};
 use out_of_memory::OutOfMemory;
 use settled_front::{BlockFront, NarrowBlock, StairFront};
 use std::alloc::Global;
 use stored_cost::NarrowCost;
-use walk_readback::FoundCosts;
+use walk_readback::{FoundCosts, SettledCosts};
 
 /// What a query found, by the number of its criteria.
 #[derive(Drop)]
@@ -53,8 +53,8 @@ impl FoundCosts for Findings {
         self.ask(&CostAt(i))
     }
 
-    fn covers(&self, node: NodeNo, cost: &Cost) -> bool {
-        self.ask(&Covers { node, cost })
+    fn has(&self, node: NodeNo, cost: &Cost) -> bool {
+        self.ask(&Has { node, cost })
     }
 
     fn longest(&self) -> u32 {

@@ -2,8 +2,7 @@ ghost use Rattle.std.specs.Prelude.{IfOk};
 ghost use Rattle.road_network.specs.Network.{IsNode};
 ghost use Rattle.found_fronts.specs.FoundFronts.{IsOfFronts};
 
-use crate::SettledCosts;
-use crate::settled::to_costs;
+use crate::list::to_costs;
 use cost_vector::{CompactCost, Cost, NodeNo};
 use out_of_memory::OutOfMemory;
 use settled_front::SettledFront;
@@ -11,7 +10,7 @@ use settled_fronts::Fronts;
 use std::alloc::Global;
 use std::marker::Model;
 use stored_cost::StoredCost;
-use walk_readback::FoundCosts;
+use walk_readback::{FoundCosts, SettledCosts};
 
 /// What a search has found, in the fronts of all nodes.
 #[derive(Drop)]
@@ -78,7 +77,7 @@ impl<const D: usize, F: SettledFront<D>> FoundCosts for FoundFronts<D, F> {
         self.costs[i].to_cost()
     }
 
-    fn covers(&self, node: NodeNo, cost: &Cost) -> bool {
+    fn has(&self, node: NodeNo, cost: &Cost) -> bool {
         // What is at most a settled cost has room where that is stored.
         self.fronts.costs_are_stored();
         let cost = CompactCost::<D>::of(cost);

@@ -3,12 +3,11 @@
 
 mod findings;
 mod found;
+mod list;
 mod question;
 mod questions;
-mod settled;
 mod width;
 
 pub use findings::Findings;
 pub use found::FoundFronts;
-pub use settled::SettledCosts;
 pub use width::FoundAtWidth;

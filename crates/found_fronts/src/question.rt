@@ -1,6 +1,6 @@
 ghost use Rattle.walk_readback.specs.Found.{FoundCosts as FoundState};
 
-use crate::SettledCosts;
+use walk_readback::SettledCosts;
 
 /// What can be asked of what a search has found, whatever the number of criteria and the width of its costs.
 pub(crate) trait Question {

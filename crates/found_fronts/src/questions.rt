@@ -1,9 +1,8 @@
-use crate::SettledCosts;
 use crate::question::Question;
 use cost_vector::{Cost, NodeNo};
 use out_of_memory::OutOfMemory;
 use std::alloc::Global;
-use walk_readback::FoundCosts;
+use walk_readback::{FoundCosts, SettledCosts};
 
 /// From which node do walks lead?
 pub(crate) struct Start;
@@ -76,26 +75,26 @@ impl Question for CostAt {
     }
 }
 
-/// Is a settled cost of the node at most this one?
+/// Is this cost settled at the node?
 #[derive(Drop)]
-pub(crate) struct Covers<'a> {
+pub(crate) struct Has<'a> {
     pub(crate) node: NodeNo,
     pub(crate) cost: &'a Cost,
 }
 
-impl<'a> Question for Covers<'a> {
-    ghost use Rattle.std.specs.Prelude.{◌≡◌, ◌↔◌, length, IsTrue};
+impl<'a> Question for Has<'a> {
+    ghost use Rattle.std.specs.Prelude.{◌≡◌, length, IsTrue};
     ghost use Rattle.road_network.specs.Network.{IsNode};
-    ghost use Rattle.walk_readback.specs.Found.{IsBelowSettled, IsCovered};
+    ghost use Rattle.walk_readback.specs.Found.{HasSettled, IsBelowSettled, IsCovered};
 
     type Answer = bool;
 
     ghost allows = { λ q f. IsNode f.nodes q.node.0 × (length q.cost.now ≡ f.criteria) × IsBelowSettled f q.cost.now };
 
-    ghost accepts = { λ q f covered. IsTrue covered ↔ IsCovered f q.node.0 q.cost.now };
+    ghost accepts = { λ q f has. (HasSettled f q.node.0 q.cost.now → IsTrue has) × (IsTrue has → IsCovered f q.node.0 q.cost.now) };
 
     fn ask<F: SettledCosts>(&self, found: &F) -> bool {
-        found.covers(self.node, self.cost)
+        found.has(self.node, self.cost)
     }
 }
 
@@ -144,7 +143,7 @@ pub(crate) struct CostsOf {
 impl Question for CostsOf {
     ghost use Rattle.std.specs.Prelude.{IfOk};
     ghost use Rattle.road_network.specs.Network.{IsNode};
-    ghost use Rattle.found_fronts.specs.SettledCosts.{ListsSettled};
+    ghost use Rattle.walk_readback.specs.SettledCosts.{ListsSettled};
 
     type Answer = Result<Vec<Cost>, OutOfMemory>;
 

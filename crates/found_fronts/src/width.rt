@@ -1,13 +1,13 @@
 ghost use Rattle.found_fronts.specs.FoundAtWidth.{found_of};
 
+use crate::FoundFronts;
 use crate::question::Question;
-use crate::questions::{CostAt, CostsOf, Count, Covers, Longest, Settled, Start, Target};
-use crate::{FoundFronts, SettledCosts};
+use crate::questions::{CostAt, CostsOf, Count, Has, Longest, Settled, Start, Target};
 use cost_vector::{Cost, NodeNo};
 use out_of_memory::OutOfMemory;
 use settled_front::NarrowFront;
 use std::alloc::Global;
-use walk_readback::FoundCosts;
+use walk_readback::{FoundCosts, SettledCosts};
 
 /// What a search has found, at the width at which it ended.
 #[derive(Drop)]
@@ -50,8 +50,8 @@ impl<const D: usize, F: NarrowFront<D>> FoundCosts for FoundAtWidth<D, F> {
         self.ask(&CostAt(i))
     }
 
-    fn covers(&self, node: NodeNo, cost: &Cost) -> bool {
-        self.ask(&Covers { node, cost })
+    fn has(&self, node: NodeNo, cost: &Cost) -> bool {
+        self.ask(&Has { node, cost })
     }
 
     fn longest(&self) -> u32 {

@@ -221,21 +221,6 @@ is_found l kept ascending = record {
   costs = costs_alike l.cert.labels l.cert.target;
 }
 
--- what is listed or dominated is covered, and nothing else
-pub covered_alike : (l : Listing) (v : ℕ) (c : List ℕ) → IsCovered (found_of l) v c ↔ (IsListed l.cert.labels v c ⊎ IsBeaten l.cert.labels v c)
-covered_alike l v c = (
-  λ covered.
-      let listed = (settled_alike l.cert.labels v covered.cost).0 covered.settled in
-      elim (cases_same covered.cost c) [
-        | inl same ↦ inl (subst (IsListed l.cert.labels v) same listed)
-        | inr other ↦ inr (record { cost = covered.cost; listed = listed; better = record { at_most = covered.at_most; differs = other } })
-      ],
-  elim [
-    | inl listed ↦ record { cost = c; settled = (settled_alike l.cert.labels v c).1 listed; at_most = AtMost-refl c }
-    | inr beaten ↦ record { cost = beaten.cost; settled = (settled_alike l.cert.labels v beaten.cost).1 beaten.listed; at_most = beaten.better.at_most }
-  ],
-)
-
 -- the labels ascend as they are listed
 pub listed_ascend : (labels : List StoredLabel) → AllPairs Precedes labels → AllPairs IsBefore (map line_of labels)
 listed_ascend labels ascending = pairs_map Precedes IsBefore line_of (λ x z before. before) labels ascending
@@ -259,9 +244,9 @@ module _ (labels : List Label) (v : ℕ) (c : List ℕ) where
   listed_if (Some arc) finds e = record { arc = arc.0; listed = (finds arc).0 refl }
   listed_if None finds e = absurd cc
 
-  pub unlisted_if : (o : Option ArcNo) → Finds o → is_some o ≡ false → ¬ IsListed labels v c
-  unlisted_if (Some arc) finds e listed = absurd cc
-  unlisted_if None finds e listed = let found = (finds (record { 0 = listed.arc })).1 listed.listed in absurd cc
+  pub some_if_listed : (o : Option ArcNo) → Finds o → IsListed labels v c → is_some o ≡ true
+  some_if_listed (Some arc) finds listed = refl
+  some_if_listed None finds listed = let found = (finds (record { 0 = listed.arc })).1 listed.listed in absurd cc
 
 -- a certificate that shows the answer is well found
 pub well_found : (net : Network) → IsNetwork net → (l : Listing) → ShowsAnswer net l.cert → IsWellFound net (no_limit net.criteria) (found_of l)

@@ -28,8 +28,8 @@ impl FoundCosts for Listing {
         cost_at(labels_of(&self.labels, self.target), i)
     }
 
-    fn covers(&self, node: NodeNo, cost: &Cost) -> bool {
-        self.find(node, cost).is_some() || self.is_beaten(node, cost)
+    fn has(&self, node: NodeNo, cost: &Cost) -> bool {
+        self.find(node, cost).is_some()
     }
 
     fn longest(&self) -> u32 {

@@ -84,6 +84,10 @@ front_is_readable net f p q v c r whole u b front = record {
 
 -- ---- going back
 
+-- what is settled is covered
+pub settled_is_covered : (f : FoundCosts) (v : ℕ) (c : List ℕ) → HasSettled f v c → IsCovered f v c
+settled_is_covered f v c there = record { cost = c; settled = there; at_most = AtMost-refl c }
+
 module _ {net : Network} {f : FoundCosts} {v : ℕ} {c : List ℕ} (r : IsReadable net f v c) where
   pub itself_settled : HasSettled f v c
   itself_settled = let (p, walk) = r.best.reached in r.settled p [] v c (rw append-nil walk) walk
@@ -193,12 +197,12 @@ module _ {net : Network} {f : FoundCosts} {cost : List ℕ} {arc : ArcNo} (r : I
         let settled = covered_is_settled r (tail_of net.ends arc) arc.0 by before leads_by_state sum count covered in
         (record { from = tail_of net.ends arc; by = by; before = before; leads = leads_by_state; cost = sym sum; settled = settled }, refl)
 
-    -- and there alone
-    pub covered_if_back : Back → IsCovered f (tail_of net.ends arc) before
-    covered_if_back back =
+    -- and where it goes back, that is settled
+    pub settled_if_back : Back → HasSettled f (tail_of net.ends arc) before
+    settled_if_back back =
         let (from, same, long) = back_alike back in
         let left = plus_cancel before back.before by count long (sum ∙ rw (← same) at back.cost) in
-        record { cost = before; settled = rw (from, left) back.settled; at_most = AtMost-refl before }
+        rw (from, left) back.settled
 
 -- ---- the arcs into a node
 

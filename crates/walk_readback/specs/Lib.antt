@@ -1,3 +1,4 @@
 pub mod Found
 pub mod GoingBack
 pub mod Room
+pub mod SettledCosts

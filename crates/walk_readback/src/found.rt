@@ -1,6 +1,6 @@
-ghost use Rattle.std.specs.Prelude.{◌≡◌, ◌<◌, ◌↔◌, Some, length, slice_get, IsTrue};
+ghost use Rattle.std.specs.Prelude.{◌≡◌, ◌<◌, Some, length, slice_get, IsTrue};
 ghost use Rattle.road_network.specs.Network.{IsNode};
-ghost use Rattle.walk_readback.specs.Found.{FoundCosts as FoundState, IsBelowSettled, IsCovered, IsFound, longest_in};
+ghost use Rattle.walk_readback.specs.Found.{FoundCosts as FoundState, HasSettled, IsBelowSettled, IsCovered, IsFound, longest_in};
 
 use cost_vector::{Cost, NodeNo};
 
@@ -28,13 +28,15 @@ pub trait FoundCosts {
         ensures found { IsFound (state self.now) }
         ensures value { slice_get (state self.now).costs i ≡ Some result };
 
-    /// Whether a settled cost of the node is at most this one. It is asked of what is at most some settled cost: for other costs
-    /// there may be no room where the settled ones are stored.
-    fn covers(&self, node: NodeNo, cost: &Cost) -> bool
+    /// Whether the cost is settled at the node. Where it isn't, and a settled cost of the node is at most it, either may be
+    /// answered. It is asked of what is at most some settled cost: for other costs there may be no room where the settled ones
+    /// are stored.
+    fn has(&self, node: NodeNo, cost: &Cost) -> bool
         requires node { IsNode (state self.now).nodes node.0 }
         requires criteria { length cost.now ≡ (state self.now).criteria }
         requires below { IsBelowSettled (state self.now) cost.now }
-        ensures { IsTrue result ↔ IsCovered (state self.now) node.0 cost.now };
+        ensures settled { HasSettled (state self.now) node.0 cost.now → IsTrue result }
+        ensures covered { IsTrue result → IsCovered (state self.now) node.0 cost.now };
 
     /// The most arcs that a walk through settled costs alone can have.
     fn longest(&self) -> u32

@@ -9,6 +9,7 @@ mod found;
 mod laws;
 mod readback;
 mod room;
+mod settled;
 
 pub use found::FoundCosts;
 pub use laws::{
@@ -17,3 +18,4 @@ pub use laws::{
 };
 pub use readback::{last_arc, walk};
 pub use room::Room;
+pub use settled::SettledCosts;

@@ -65,7 +65,7 @@ pub fn last_arc<F: FoundCosts>(
     Some(step.arc)
 }
 
-/// The least arc into a node whose tail has a settled cost at most what the arc leaves of this cost.
+/// The least arc into a node whose tail has what the arc leaves of this cost as a settled one.
 fn step_back<F: FoundCosts>(
     network: &Network<'_>,
     found: &F,
@@ -90,7 +90,7 @@ fn step_back<F: FoundCosts>(
     None
 }
 
-/// What an arc leaves of the cost of a walk that ends by it, if a settled cost of its tail is at most that.
+/// What an arc leaves of the cost of a walk that ends by it, if that is settled at its tail.
 fn cost_before<F: FoundCosts>(
     network: &Network<'_>,
     found: &F,
@@ -111,7 +111,7 @@ fn cost_before<F: FoundCosts>(
 {
     let by = network.weight(arc)?;
     let before = cost.minus(&by)?;
-    if !found.covers(network.tail(arc), &before) {
+    if !found.has(network.tail(arc), &before) {
         return None;
     }
     Some(before)

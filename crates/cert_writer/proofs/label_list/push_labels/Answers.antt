@@ -1,5 +1,5 @@
 use Rattle.std.proofs.Common.{◌+◌, sym, subst}
-use Rattle.found_fronts.specs.SettledCosts.{ListsSettled}
+use Rattle.walk_readback.specs.SettledCosts.{ListsSettled}
 use Rattle.cert_writer.specs.Labels.{ListsPairs}
 use Rattle.cert_writer.proofs.LabelLemmas.{OfFirst, first_all, first_more, first_none, settled_here}
 use Rattle.cert_writer.proofs.label_list.push_labels.Goals as goal

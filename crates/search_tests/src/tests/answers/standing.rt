@@ -31,7 +31,7 @@ impl FoundCosts for KnownCosts {
         Cost::zero(self.criteria)
     }
 
-    fn covers(&self, node: NodeNo, _cost: &Cost) -> bool {
+    fn has(&self, node: NodeNo, _cost: &Cost) -> bool {
         node == self.node
     }
 

@@ -69,7 +69,7 @@ impl FoundCosts for BestOfEach {
         self.costs[i]
     }
 
-    fn covers(&self, node: NodeNo, cost: &Cost) -> bool {
+    fn has(&self, node: NodeNo, cost: &Cost) -> bool {
         any_below(&self.spots, node, cost)
     }
 

@@ -1,6 +1,6 @@
 use Rattle.std.proofs.Common.{map, ap, sym, subst, ◌∙◌}
 use Rattle.found_fronts.proofs.FoundLemmas.{if_ok_then, lists_settled}
-use Rattle.found_fronts.specs.SettledCosts.{ListsSettled}
+use Rattle.walk_readback.specs.SettledCosts.{ListsSettled}
 use Rattle.found_fronts.proofs.found.FoundFrontsSettledCosts.costs_of.Goals as goal
 
 pub returns : goal.returns

@@ -1,5 +1,5 @@
 use Rattle.std.proofs.Common.{◌≡◌, ℕ, List, map, take}
-use Rattle.found_fronts.proofs.settled.to_costs.Given as goal
+use Rattle.found_fronts.proofs.list.to_costs.Given as goal
 
 -- the first ones have been listed
 abbrev pub invariant-loop-cost : goal.invariant-loop-cost

@@ -1,0 +1,6 @@
+use Rattle.std.proofs.Common.{◌≡◌, ℕ, List, map, take}
+use Rattle.node_lists.proofs.found.to_costs.Given as goal
+
+-- the first ones have been listed
+abbrev pub invariant-loop-cost : goal.invariant-loop-cost
+invariant-loop-cost g l = let costs : List (List ℕ) = l.costs.items in costs ≡ map g.C.StoredCost.components (take l.cost-index l.list)

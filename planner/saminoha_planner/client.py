@@ -9,6 +9,7 @@ from __future__ import annotations
 
 import functools
 import os
+import shutil
 import socket
 import subprocess
 import tempfile
@@ -336,11 +337,12 @@ class Program:
     @staticmethod
     def find(path: str | None = None, **options: int | float | None) -> "Program":
         """The program at the path, else the one that the environment names in ROUTE, else the
-        repository's `./route`.
+        repository's `./route`, else `saminoha` as it is installed.
         """
-        found = (
-            path or os.environ.get("ROUTE") or str(Path(__file__).resolve().parents[2] / "route")
-        )
+        own = str(Path(__file__).resolve().parents[2] / "route")
+        if not os.access(own, os.X_OK):
+            own = shutil.which("saminoha") or own
+        found = path or os.environ.get("ROUTE") or own
         if not os.access(found, os.X_OK):
             raise ClientError(
                 f"there is no program at {found}; name one by the environment's ROUTE"

@@ -32,7 +32,7 @@ def add_program_options(parser) -> None:
     group.add_argument(
         "--route",
         metavar="PATH",
-        help="the program; else the environment's ROUTE, else the repository's ./route",
+        help="the program; else the environment's ROUTE, else ./route or the installed saminoha",
     )
     group.add_argument(
         "--budget",

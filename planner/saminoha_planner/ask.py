@@ -15,8 +15,8 @@ from .client import (
     Program,
     Publish,
     Query,
-    SetArc,
     Session,
+    SetArc,
     Wait,
     answered,
 )
@@ -26,7 +26,9 @@ Address = tuple[str, int]
 
 
 class Asker(Protocol):
-    can_change: bool
+    @property
+    def can_change(self) -> bool:
+        ...
 
     def epoch(self) -> int:
         ...

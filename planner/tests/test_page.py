@@ -167,7 +167,10 @@ def click_map(browser, lon, lat):
     ).click().perform()
 
 
-@pytest.mark.skipif(not os.environ.get("PLANNER_BROWSER"), reason="a browser is started only where PLANNER_BROWSER is set")
+@pytest.mark.skipif(
+    not os.environ.get("PLANNER_BROWSER"),
+    reason="a browser is started only where PLANNER_BROWSER is set",
+)
 def test_in_a_browser(browser, page, tmp_path):
     status = lambda: browser.find_element("id", "status").text  # noqa: E731
     browser.get(page)

@@ -1,0 +1,75 @@
+// The plot of all trade-offs and the few, of two criteria.
+import {number} from "./texts.js";
+
+const SVG = "http://www.w3.org/2000/svg";
+
+function drawn(name, attributes, text = "") {
+  const made = document.createElementNS(SVG, name);
+  for (const [key, value] of Object.entries(attributes)) made.setAttribute(key, value);
+  if (text) made.textContent = text;
+  return made;
+}
+
+export function drawPlot(plot, shown) {
+  const {answer, criteria, x, y, labelOf} = shown;
+  const across = scale(column(answer, x), 52, 368), up = scale(column(answer, y), 212, 22);
+  const within = new Set(answer.within);
+  const label = (criterion) => labelOf(criterion) + (criterion.unit ? ` (${criterion.unit})` : "");
+  const plain = (place, weight) => number(weight / criteria[place].scale, criteria[place].digits);
+  plot.replaceChildren(
+    drawn("path", {d: "M52 22V212H368", fill: "none", class: "axis"}),
+    drawn("text", {x: 368, y: 244, "text-anchor": "end"}, label(criteria[x])),
+    drawn("text", {x: 2, y: 11}, label(criteria[y])),
+    ...ticks(answer, x).map((one) => drawn("text", {x: across(one), y: 227, "text-anchor": "middle"}, plain(x, one))),
+    ...ticks(answer, y).map((one) => drawn("text", {x: 48, y: up(one) + 4, "text-anchor": "end"}, plain(y, one))),
+    ...answer.costs.map((cost, at) =>
+      drawn("circle", {cx: across(cost[x]), cy: up(cost[y]), r: 3, class: within.has(at) ? "other" : "out"})));
+  const taken = [];
+  for (const option of answer.options) plot.append(markOf(option, shown, across, up, taken));
+}
+
+// A letter's disc stands beside its point, with a line to it, where another one's disc is there already.
+function markOf(option, {answer, criteria, colours, labelOf, light, choose, x, y}, across, up, taken) {
+  const cost = answer.costs[option.index];
+  const point = [across(cost[x]), up(cost[y])];
+  const [cx, cy] = free(point, taken);
+  taken.push([cx, cy]);
+  const told = criteria.map((criterion, at) => `${labelOf(criterion)} ${option.texts[at]}`).join(", ");
+  const group = drawn("g", {class: "option", "data-letter": option.letter, tabindex: 0, role: "img", "aria-label": `${option.letter}: ${told}`});
+  const fill = colours[option.letter];
+  if (cx !== point[0] || cy !== point[1]) {
+    group.append(drawn("line", {x1: point[0], y1: point[1], x2: cx, y2: cy, stroke: fill, "stroke-width": 1.5}),
+      drawn("circle", {cx: point[0], cy: point[1], r: 3.5, fill, stroke: "#fff"}));
+  }
+  group.append(drawn("circle", {cx, cy, r: 9, fill, stroke: "#fff"}), drawn("text", {x: cx, y: cy, class: "mark"}, option.letter));
+  group.onmouseenter = group.onfocus = () => light(option.letter);
+  group.onmouseleave = group.onblur = () => light(null);
+  group.onclick = () => choose(option.letter);
+  return group;
+}
+
+function free([x, y], taken) {
+  const isFree = ([cx, cy]) => cx > 60 && cx < 371 && cy > 10 && cy < 204 && taken.every(([tx, ty]) => Math.hypot(cx - tx, cy - ty) >= 19);
+  if (taken.every(([tx, ty]) => Math.hypot(x - tx, y - ty) >= 19)) return [x, y];
+  for (const radius of [21, 30, 42]) {
+    for (let turn = 0; turn < 12; turn++) {
+      const place = [x + radius * Math.cos(turn * Math.PI / 6), y - radius * Math.sin(turn * Math.PI / 6)];
+      if (isFree(place)) return place;
+    }
+  }
+  return [x, y];
+}
+
+const column = (answer, place) => answer.costs.map((cost) => cost[place]);
+
+function scale(values, first, last) {
+  const [least, most] = [Math.min(...values), Math.max(...values)];
+  const inner = [first + (last - first) * 0.06, last - (last - first) * 0.06];
+  const step = most === least ? 0 : (inner[1] - inner[0]) / (most - least);
+  return (weight) => (step ? inner[0] + (weight - least) * step : (first + last) / 2);
+}
+
+function ticks(answer, place) {
+  const values = column(answer, place), least = Math.min(...values), most = Math.max(...values);
+  return least === most ? [least] : [least, (least + most) / 2, most];
+}

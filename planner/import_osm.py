@@ -111,7 +111,8 @@ def main() -> None:
     }
     write_network(network)
     print(
-        f"{len(network.lon)} nodes, {len(network.arcs)} arcs, {len(network.places)} places, {', '.join(names)}: {words.network}"
+        f"{len(network.lon)} nodes, {len(network.arcs)} arcs, {len(network.places)} places,"
+        f" {', '.join(names)}: {words.network}"
     )
 
 

@@ -19,7 +19,8 @@ from saminoha_planner.network import read_network
 def parse_words() -> argparse.Namespace:
     parser = argparse.ArgumentParser(
         description=__doc__,
-        epilog="Amounts are in money, seconds, metres. Measures count from the network's own weights.",
+        epilog="Amounts are in money, seconds, metres."
+        " Measures count from the network's own weights.",
     )
     parser.add_argument("network", metavar="NETWORK", help="a folder that import_osm.py made")
     parser.add_argument(

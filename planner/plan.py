@@ -136,7 +136,8 @@ def main() -> None:
 
 def count_text(count: int, criteria: list[Criterion]) -> str:
     labels = [criterion.label for criterion in criteria]
-    return f"{count or 'no'} trade-off{'s' * (count != 1)} of {', '.join(labels[:-1])} and {labels[-1]}"
+    of = f"{', '.join(labels[:-1])} and {labels[-1]}"
+    return f"{count or 'no'} trade-off{'s' * (count != 1)} of {of}"
 
 
 if __name__ == "__main__":

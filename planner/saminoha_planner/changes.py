@@ -129,7 +129,8 @@ def applied(network: Network, stands: dict[int, Change], folder: Path) -> Networ
             case SetArc(weights=weights):
                 if len(weights) != len(network.criteria) or not any(weights):
                     raise Fault(
-                        f"arc {number} gets weights {weights}, which the network of {len(network.criteria)} criteria can't have"
+                        f"arc {number} gets weights {weights}, which the network of"
+                        f" {len(network.criteria)} criteria can't have"
                     )
                 arcs.append(replace(arc, weights=weights))
     shut = sum(isinstance(change, ShutArc) for change in stands.values())

@@ -4,11 +4,12 @@ where they are interrupted.
 
 from __future__ import annotations
 
+import argparse
 import sys
 from collections.abc import Callable
 from pathlib import Path
 
-from .client import ClientError, DEFAULT_BUDGET, Program
+from .client import DEFAULT_BUDGET, ClientError, Program
 
 
 class Fault(Exception):
@@ -27,7 +28,7 @@ def run(main: Callable[[], int | None]) -> None:
         sys.exit(130)
 
 
-def add_program_options(parser) -> None:
+def add_program_options(parser: argparse.ArgumentParser) -> None:
     group = parser.add_argument_group("the program")
     group.add_argument(
         "--route",
@@ -49,7 +50,7 @@ def add_program_options(parser) -> None:
     )
 
 
-def program_of(words) -> Program:
+def program_of(words: argparse.Namespace) -> Program:
     return Program.find(
         words.route, budget=words.budget, workers=words.workers, timeout=words.timeout
     )

@@ -2,6 +2,7 @@
 
 from __future__ import annotations
 
+import argparse
 import sys
 from dataclasses import dataclass
 from pathlib import Path
@@ -21,7 +22,7 @@ class Trip:
     keep: int = 5
 
 
-def add_trip_options(parser) -> None:
+def add_trip_options(parser: argparse.ArgumentParser) -> None:
     group = parser.add_argument_group("before and after")
     group.add_argument(
         "--from", dest="source", metavar="END", help="where to begin: a place, a node, or lon,lat"
@@ -32,7 +33,7 @@ def add_trip_options(parser) -> None:
     )
 
 
-def trip_of(words, network: Network) -> Trip | None:
+def trip_of(words: argparse.Namespace, network: Network) -> Trip | None:
     if not words.source and not words.target:
         if words.map:
             raise Fault("--map wants --from and --to")

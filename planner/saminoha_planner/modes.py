@@ -88,7 +88,7 @@ BIKE = {
     "ferry": 10,
 }
 FOOT = {name: 5 for name in (*BIKE, "footway", "pedestrian")} | {"steps": 2, "ferry": 10}
-BY_SIGN_ALONE = {
+BY_SIGN_ALONE: dict[str, set[str]] = {
     "bike": {"footway", "pedestrian"},
     "car": {"track"},
     "truck": {"track"},

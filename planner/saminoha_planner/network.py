@@ -97,9 +97,8 @@ class Network:
         for index, one in enumerate(self.criteria):
             if one.name == criterion:
                 return index
-        raise Fault(
-            f"{self.folder} has no criterion {criterion!r}; it has {', '.join(one.name for one in self.criteria)}"
-        )
+        names = ", ".join(one.name for one in self.criteria)
+        raise Fault(f"{self.folder} has no criterion {criterion!r}; it has {names}")
 
     def with_criteria(self, places: Sequence[int]) -> "Network":
         """With the criteria at these places alone, in this order."""
@@ -209,7 +208,8 @@ def write_network(network: Network) -> None:
             )
     with (folder / "nodes.co").open("w") as out:
         out.write(
-            f"c degrees times 1000000: longitude, latitude\nc {network.attribution}\nc licence {LICENCE}\n"
+            "c degrees times 1000000: longitude, latitude\n"
+            f"c {network.attribution}\nc licence {LICENCE}\n"
         )
         out.write(f"p aux sp co {len(network.lon)}\n")
         points = enumerate(zip(network.lon, network.lat), start=1)
@@ -309,9 +309,15 @@ def _read_arcs(file: Path, criteria: int) -> list[Arc]:
 
 
 def _arc(row: list[str], criteria: int) -> Arc:
-    line = tuple(tuple(map(float, point.split(","))) for point in row[8 + criteria].split())
     weights = tuple(map(int, row[8 : 8 + criteria]))
-    return Arc(int(row[1]), int(row[2]), int(row[3]), row[4], row[5], row[6], float(row[7]), weights, line)  # type: ignore
+    tail, head, way = map(int, row[1:4])
+    line = tuple(_point(text) for text in row[8 + criteria].split())
+    return Arc(tail, head, way, row[4], row[5], row[6], float(row[7]), weights, line)
+
+
+def _point(text: str) -> tuple[float, float]:
+    lon, lat = map(float, text.split(","))
+    return lon, lat
 
 
 def _read_places(file: Path) -> list[NamedNode]:

@@ -68,7 +68,7 @@ class _Reader(osmium.SimpleHandler):
         self.with_houses, self.with_bans = with_houses, with_bans
         self.found = Extract()
 
-    def node(self, node) -> None:
+    def node(self, node: osmium.osm.Node) -> None:
         if not len(node.tags):
             return
         tags = {tag.k: tag.v for tag in node.tags}
@@ -91,7 +91,7 @@ class _Reader(osmium.SimpleHandler):
                 )
             )
 
-    def way(self, way) -> None:
+    def way(self, way: osmium.osm.Way) -> None:
         if "highway" in way.tags or "route" in way.tags:
             self._road(way)
         if self.with_houses and "building" in way.tags:
@@ -99,13 +99,13 @@ class _Reader(osmium.SimpleHandler):
                 (point.lon, point.lat) for point in way.nodes if point.location.valid()
             )
 
-    def relation(self, relation) -> None:
+    def relation(self, relation: osmium.osm.Relation) -> None:
         if not self.with_bans or relation.tags.get("type") != "restriction":
             return
         kind = None
         for key in self.mode.restriction:
             kind = relation.tags.get(key, kind)
-        if kind is None or self.mode.access[-1] in relation.tags.get("except", "").split(";"):
+        if kind is None or self.mode.access[-1] in (relation.tags.get("except") or "").split(";"):
             return
         members: dict[str, list[tuple[str, int]]] = {}
         for member in relation.members:
@@ -118,7 +118,7 @@ class _Reader(osmium.SimpleHandler):
             case _:
                 self.found.bans_left_out += 1
 
-    def _road(self, way) -> None:
+    def _road(self, way: osmium.osm.Way) -> None:
         tags = {tag.k: tag.v for tag in way.tags}
         use = use_of(tags, self.mode)
         if use is None or (use.along is None and use.against is None):
@@ -135,7 +135,7 @@ class _Reader(osmium.SimpleHandler):
                 Road(way.id, use.cls, name, ref, points, along, against, charges, seconds)
             )
 
-    def _runs(self, way) -> Iterator[list[int]]:
+    def _runs(self, way: osmium.osm.Way) -> Iterator[list[int]]:
         """The way's points, cut where one isn't in the extract; of a point that follows itself
         once.
         """

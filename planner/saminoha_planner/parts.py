@@ -11,10 +11,10 @@ from __future__ import annotations
 import csv
 import json
 import os
-from collections.abc import Iterator, Sequence
+from collections.abc import Iterable, Iterator, Sequence
 from dataclasses import asdict, dataclass
 from pathlib import Path
-from typing import TYPE_CHECKING
+from typing import TYPE_CHECKING, TextIO
 
 from .client import Answer, Program, Refusal
 from .command import Fault
@@ -52,7 +52,8 @@ class Folder:
             _write_whole(file, written)
         elif file.read_text() != written:
             raise Fault(
-                f"{path} has parts of other pairs, another network, budget or size of parts: name another folder"
+                f"{path} has parts of other pairs, another network, budget or size of parts:"
+                " name another folder"
             )
 
     def file_of(self, number: int) -> Path:
@@ -133,7 +134,7 @@ def read_pairs(file: Path, network: Network) -> list[Pair]:
         raise Fault(f"{file} has a row without two ends") from fault
 
 
-def _plain(lines) -> Iterator[str]:
+def _plain(lines: Iterable[str]) -> Iterator[str]:
     return (line for line in lines if line.strip() and not line.lstrip().startswith(("c ", "#")))
 
 
@@ -161,7 +162,7 @@ def _row(entry: dict, criteria: int) -> list[object]:
     ]
 
 
-def _beside(file: Path):
+def _beside(file: Path) -> TextIO:
     return open(f"{file}.new", "w", newline="")
 
 

@@ -38,9 +38,8 @@ class Progress:
     def _draw(self, now: float) -> None:
         share = self.done / self.total if self.total else 1.0
         filled = round(30 * min(share, 1.0))
-        sys.stderr.write(
-            f"\r{self.label} [{'#' * filled}{'.' * (30 - filled)}] {share:4.0%} {self._to_go(now)}   "
-        )
+        bar = "#" * filled + "." * (30 - filled)
+        sys.stderr.write(f"\r{self.label} [{bar}] {share:4.0%} {self._to_go(now)}   ")
         sys.stderr.flush()
 
     def _to_go(self, now: float) -> str:

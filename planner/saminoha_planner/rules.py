@@ -16,10 +16,11 @@
 
 from __future__ import annotations
 
-import tomllib
 from collections.abc import Mapping
 from dataclasses import dataclass, replace
 from pathlib import Path
+
+import tomllib
 
 from .command import Fault
 from .modes import Mode
@@ -66,7 +67,8 @@ def read_rules(file: Path) -> Rules:
     unknown = set(text) - {"speeds", "factors", "vehicle", "charge"}
     if unknown:
         raise Fault(
-            f"{file}: unknown part {min(unknown)!r}; there are [speeds], [factors], [vehicle] and [[charge]]"
+            f"{file}: unknown part {min(unknown)!r};"
+            " there are [speeds], [factors], [vehicle] and [[charge]]"
         )
     tables = {
         name: _numbers(file, name, text.get(name, {})) for name in ("speeds", "factors", "vehicle")
@@ -88,7 +90,8 @@ def _charge(file: Path, entry: dict) -> Charge:
     keys = [key for key in MATCHES if key in entry]
     if len(keys) != 1 or set(entry) - {*MATCHES, "criterion", "amount", "per_km"}:
         raise Fault(
-            f"{file}: a charge names one of {', '.join(MATCHES)}, with a criterion, an amount, or so much per_km"
+            f"{file}: a charge names one of {', '.join(MATCHES)},"
+            " with a criterion, an amount, or so much per_km"
         )
     criterion = entry.get("criterion", "toll")
     if criterion not in ("toll", "time"):

@@ -92,8 +92,9 @@ class Weigher:
                 return metres, metres
             case "time":
                 charge = 10 * _charged(road, "time", metres)
-                return tuple(
-                    _tenths(road, speed, metres) + charge for speed in (road.along, road.against)
+                return (
+                    _tenths(road, road.along, metres) + charge,
+                    _tenths(road, road.against, metres) + charge,
                 )
             case "houses":
                 near = self._near_houses(places, metres)

@@ -16,6 +16,7 @@ from saminoha_planner.client import (
     OperatorRefused,
     Program,
     ProgramFailed,
+    Proof,
     ProtocolError,
     Publish,
     Query,
@@ -90,6 +91,21 @@ def test_a_slow_program_is_ended(tmp_path, six_arcs):
         program.check(six_arcs)
     with pytest.raises(TimedOut):
         list(program.batch(six_arcs, [(1, 4)]))
+
+
+@pytest.mark.parametrize(
+    "said, proof",
+    [
+        ("route: the program is proved, for x86-64-v3", Proof.PROVED),
+        ("route: no proved program of these sources stands; ./route build makes it", Proof.UNPROVED),
+        ("", Proof.UNKNOWN),
+    ],
+)
+def test_whether_the_program_is_proved(tmp_path, said, proof):
+    file = tmp_path / "route"
+    file.write_text(f"#!/bin/sh\necho '{said}'\n")
+    file.chmod(0o755)
+    assert Program.find(str(file)).proof() is proof
 
 
 def test_session_and_operator(six_arcs, served):

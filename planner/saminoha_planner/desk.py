@@ -15,7 +15,7 @@ from pathlib import Path
 
 from .ask import Asker, once
 from .choose import Option, few, thinned
-from .client import Answer, Change, Program, Query, Refused, Route, SetArc
+from .client import Answer, Change, Program, Proof, Query, Refused, Route, SetArc
 from .closures import Closure
 from .colours import COLOURS
 from .command import Fault
@@ -103,13 +103,21 @@ class Desk:
             "can_close": self.asker.can_change,
             "measures": [one for one in MEASURES if one == "shut" or self._has_time],
             "colours": COLOURS,
-            "proved": None,
-            "program": self.program.path if self.program else "",
+            "proved": self._is_proved,
             "deepest": DEEPEST,
             "tiles": self.tiles,
             "tiles_attribution": self.tiles_attribution,
             "criteria": [_criterion(one) for one in network.criteria],
         }
+
+    @property
+    def _is_proved(self) -> bool | None:
+        """Whether the program that answers says that it is proved. A server elsewhere says
+        nothing.
+        """
+        if not self.program or not self.asker.is_own:
+            return None
+        return {Proof.PROVED: True, Proof.UNPROVED: False}.get(self.program.proof())
 
     @property
     def _has_time(self) -> bool:
@@ -348,11 +356,9 @@ class Desk:
         return {
             "id": closure.name,
             "road": closure.road,
-            "piece": {
-                "text": closure.piece,
-                "arcs": len(closure.changes),
-                "metres": float(self.roads.metres[roads].sum()),
-            },
+            "piece": {"text": closure.piece},
+            "arcs": len(closure.changes),
+            "metres": float(self.roads.metres[roads].sum()),
             "measure": closure.measure,
             "reason": closure.reason,
             "author": closure.author,

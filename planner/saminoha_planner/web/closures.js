@@ -1,5 +1,5 @@
 // Closures: the list of what is closed or changed, on the map too; a preview before a road is closed; undo.
-import {clock, say} from "./texts.js";
+import {clock, number, say} from "./texts.js";
 import {byId, element, guarded, map, post, tell} from "./common.js";
 
 const marks = L.layerGroup();
@@ -64,11 +64,12 @@ function itemOf(closure) {
   return item;
 }
 
-const kilometres = (metres) => (metres / 1000).toFixed(metres < 1000 ? 2 : 1);
+const kilometres = (metres) => number(metres / 1000, metres < 1000 ? 2 : 1);
 
 function pieceText({piece, arcs, metres}) {
-  const what = piece.from && piece.to ? say("between", piece) : piece.whole ? say("whole_road") : piece.text || "";
-  return [what, `${kilometres(metres)} km`, `${arcs} ${arcs === 1 ? "arc" : "arcs"}`].filter(Boolean).join(", ");
+  const between = (piece.text || "").match(/^from (.*) to (.*)$/);
+  const what = between ? say("between", {from: between[1], to: between[2]}) : piece.text === "the whole road" ? say("whole_road") : piece.text;
+  return [what, `${kilometres(metres)} km`, say("arcs", {arcs})].filter(Boolean).join(", ");
 }
 
 async function undone(closure) {
@@ -107,7 +108,7 @@ export async function chosenByClick({lng, lat}) {
   if (!byId("stretch").checked) return false;
   if (!firstClick) {
     firstClick = point;
-    L.circleMarker([lat, lng], {radius: 6, color: "#d9541a"}).addTo(drafts);
+    L.circleMarker([lat, lng], {radius: 6, color: "#d9541a", fillOpacity: 0.8, pane: "drafts"}).addTo(drafts);
     tell(say("second_click"));
   } else {
     const points = [firstClick, point];
@@ -124,7 +125,7 @@ async function preview(what) {
   const told = await post("/api/preview", {...what, metres});
   draft = told;
   drafts.clearLayers();
-  for (const line of told.lines) L.polyline(line, {color: "#d9541a", weight: 8, opacity: 0.8, dashArray: "10 8"}).addTo(drafts);
+  for (const line of told.lines) L.polyline(line, {color: "#d9541a", weight: 9, opacity: 0.85, dashArray: "10 12", pane: "drafts"}).addTo(drafts);
   const where = told.piece.from ? ` ${say("between", told.piece)}` : told.piece.whole ? ` (${say("whole_road")})` : "";
   byId("told").textContent = say("preview_told", {title: (told.road || say("nameless")) + where, arcs: told.arcs,
     km: kilometres(told.metres), parts: told.parts});

@@ -3,7 +3,7 @@ import {has, number, say} from "./texts.js";
 
 export const byId = (id) => document.getElementById(id);
 export const map = L.map("map", {zoomSnap: 0.25, maxZoom: 19});
-for (const [name, level] of [["marks", 390], ["names", 450], ["badges", 610]]) map.createPane(name).style.zIndex = level;
+for (const [name, level] of [["marks", 390], ["drafts", 420], ["names", 450], ["badges", 610]]) map.createPane(name).style.zIndex = level;
 map.getPane("names").style.pointerEvents = "none";
 
 export class PageError extends Error {

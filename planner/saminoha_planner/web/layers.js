@@ -54,7 +54,7 @@ function drawLines(pen, numbers, zoom, unit) {
 
 // Names on one canvas above the map: places beside the routes, main roads along their lines, none over another.
 export const Names = L.Layer.extend({
-  initialize(ask) { this._ask = ask; this._obstacles = () => []; },
+  initialize(ask) { this._ask = ask; this._obstacles = () => []; this._named = []; },
   onAdd(map) {
     this._canvas = L.DomUtil.create("canvas", "names leaflet-zoom-hide");
     map.getPane("names").append(this._canvas);
@@ -65,7 +65,8 @@ export const Names = L.Layer.extend({
     this._canvas.remove();
     map.off("moveend zoomend resize", this.refresh, this);
   },
-  avoid(obstacles) { this._obstacles = obstacles; this.draw(); },
+  // What must stay free, and names that stand there already.
+  avoid(obstacles, named) { this._obstacles = obstacles; this._named = named; this.draw(); },
   async refresh() {
     const mine = (this._turn = (this._turn || 0) + 1);
     const bounds = this._map.getBounds();
@@ -94,6 +95,7 @@ export const Names = L.Layer.extend({
     const taken = this._obstacles();
     this._shown = [];
     for (const place of this._told.places) {
+      if (this._named.includes(place.name) || this._shown.includes(place.name)) continue;
       const large = place.kind === "city" || place.kind === "town";
       pen.font = `${large ? 600 : 500} ${large ? 14 : place.kind === "village" ? 12.5 : 11.5}px system-ui, sans-serif`;
       const at = this._map.latLngToContainerPoint([place.lat, place.lon]);

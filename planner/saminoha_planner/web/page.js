@@ -59,7 +59,6 @@ function showTitle() {
 function showProof() {
   const known = network.proved === null ? "proof_unknown" : network.proved ? "proved" : "unproved";
   byId("proof").textContent = say(known);
-  byId("proof").title = network.program;
   byId("proof").className = known;
 }
 
@@ -77,7 +76,10 @@ async function showState(told) {
   const before = state;
   state = told;
   showStand();
-  if (!before || JSON.stringify(before.closures) !== JSON.stringify(told.closures)) drawClosures(told.closures);
+  if (!before || JSON.stringify(before.closures) !== JSON.stringify(told.closures)) {
+    drawClosures(told.closures);
+    keepFree();
+  }
   const hasChanged = before && before.epoch !== null && told.epoch !== before.epoch;
   if (hasChanged && answer && answer.epoch !== told.epoch) {
     await guarded(async () => { await ask(false); tell(`${say("someone")} ${byId("status").textContent}`); });
@@ -213,6 +215,9 @@ async function ask(isFresh, isFitted = isFresh, more = {}) {
 function take(told, isFresh, isFitted) {
   answer = told;
   answer.time = new Date(told.time * 1000);
+  for (const option of answer.options) {
+    option.texts = criteria().map((criterion, at) => shown(criterion, answer.costs[option.index][at], option.digits[at]));
+  }
   if (!answer.options.some((option) => option.letter === chosen)) chosen = null;
   if (isFresh) { chosen = null; makeLimits(); }
   byId("alternatives").hidden = answer.costs.length === 0;
@@ -222,7 +227,7 @@ function take(told, isFresh, isFitted) {
   drawTable();
   plot();
   const [count, within, few] = [answer.costs, answer.within, answer.options].map((list) => list.length);
-  const far = [ends.from, ends.to].filter((end) => end.metres >= 25).map((end) => ` ${end.name}:${farOf(end)}.`).join("");
+  const far = [ends.from, ends.to].filter((end) => end.metres >= 25).map((end) => ` ${end.name}${farOf(end)}.`).join("");
   tell((count === 0 ? say("no_way") : say("found", {count, within, few})) + (answer.coarser > 1 ? say("coarser_told") : "") + far);
   if (isFitted && few) fitAll();
 }
@@ -262,7 +267,7 @@ function clear() {
   answer = null;
   chosen = null;
   lanes.clearLayers();
-  names?.avoid(() => []);
+  keepFree();
   byId("alternatives").hidden = true;
 }
 
@@ -312,8 +317,7 @@ function drawRoutes() {
     option.shape.bindTooltip(element("span", {}, `${option.letter}: ${option.texts.join(", ")}`), {sticky: true});
   });
   placeLetters(runs, project, back);
-  const points = answer.options.flatMap((option) => option.shape.getLatLngs());
-  names?.avoid(() => obstacles(points));
+  keepFree();
   light(null);
 }
 
@@ -335,11 +339,19 @@ function placeLetters(runs, project, back) {
   });
 }
 
-// What names must leave free, in points of the map's window.
-function obstacles(points) {
+// Names leave free what stands on the map: routes, closures, pins and their names.
+function keepFree() {
+  const routes = (answer?.options ?? []).map((option) => option.shape.getLatLngs());
+  const closed = (state?.closures ?? []).flatMap((closure) => closure.lines);
+  names?.avoid(() => [...routes, ...closed].flatMap(boxesAlong).concat(boxesOfPins()),
+    Object.values(ends).filter(Boolean).map((end) => end.name));
+}
+
+// Boxes along a line, in points of the map's window.
+function boxesAlong(line) {
   const boxes = [];
   let last = null;
-  for (const point of points) {
+  for (const point of line) {
     const {x, y} = map.latLngToContainerPoint(point);
     const steps = last ? Math.min(40, Math.floor(Math.hypot(x - last.x, y - last.y) / 8)) : 0;
     for (let step = 1; step <= steps; step++) {
@@ -350,12 +362,14 @@ function obstacles(points) {
     last = {x, y};
   }
   const size = map.getSize();
-  const seen = boxes.filter(({x, y}) => x > -20 && y > -20 && x < size.x + 20 && y < size.y + 20);
-  Object.values(ends).filter(Boolean).forEach((end, at) => {
-    const {x, y} = map.latLngToContainerPoint([end.lat, end.lon]);
-    seen.push({x, y: y - 20, width: 30, height: 40}, {x: x + (at === 0 ? -65 : 65), y: y - 24, width: 105, height: 22});
+  return boxes.filter(({x, y}) => x > -20 && y > -20 && x < size.x + 20 && y < size.y + 20);
+}
+
+function boxesOfPins() {
+  return ["from", "to"].filter((which) => ends[which]).flatMap((which) => {
+    const {x, y} = map.latLngToContainerPoint([ends[which].lat, ends[which].lon]);
+    return [{x, y: y - 20, width: 30, height: 40}, {x: x + (which === "from" ? -65 : 65), y: y - 24, width: 105, height: 22}];
   });
-  return seen;
 }
 
 map.on("zoomend", drawRoutes);
@@ -366,16 +380,14 @@ const whyOf = (option) => option.why.split(", ").map((reason) => {
   const least = reason.match(/^least (.*)$/);
   if (!least) return say(reason);
   const criterion = network.criteria.find((one) => one.label === least[1]);
-  return say("least", {label: criterion ? labelOf(criterion) : least[1]});
+  return say("least", {name: criterion?.name, label: criterion ? labelOf(criterion) : least[1]});
 }).join(", ");
 
 function drawTable() {
   const heads = ["", ...criteria().map(labelOf), `${say("why")}, ${say("via")}`];
+  byId("alternatives").style.setProperty("--criteria", criteria().length);
   byId("heads").replaceChildren(...heads.map((text) => element("th", {scope: "col"}, text)));
   const base = answer.options.find((option) => option.letter === chosen);
-  answer.options.forEach((option) => {
-    option.texts = criteria().map((criterion, at) => shown(criterion, answer.costs[option.index][at], option.digits[at]));
-  });
   byId("rows").replaceChildren(...answer.options.map((option) => rowOf(option, base)));
   byId("comparison").textContent = base ? say("compared", {letter: chosen}) : answer.options.length > 1 ? say("choose_letter") : "";
 }

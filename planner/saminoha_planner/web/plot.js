@@ -24,40 +24,46 @@ export function drawPlot(plot, shown) {
     ...ticks(answer, y).map((one) => drawn("text", {x: 48, y: up(one) + 4, "text-anchor": "end"}, plain(y, one))),
     ...answer.costs.map((cost, at) =>
       drawn("circle", {cx: across(cost[x]), cy: up(cost[y]), r: 3, class: within.has(at) ? "other" : "out"})));
-  const taken = [];
-  for (const option of answer.options) plot.append(markOf(option, shown, across, up, taken));
+  const taken = [], places = answer.options.map((option) => {
+    const cost = answer.costs[option.index], point = [across(cost[x]), up(cost[y])];
+    const disc = free(point, taken);
+    taken.push(disc);
+    return {option, point, disc};
+  });
+  for (const {option, point, disc} of places) {
+    if (disc !== point) plot.append(...leaderOf(point, disc, shown.colours[option.letter]));
+  }
+  for (const {option, disc} of places) plot.append(markOf(option, disc, shown));
+}
+
+function leaderOf([x1, y1], [x2, y2], colour) {
+  return [drawn("line", {x1, y1, x2, y2, stroke: colour, "stroke-width": 1.5}),
+    drawn("circle", {cx: x1, cy: y1, r: 3.5, fill: colour, stroke: "#fff", class: "leader"})];
 }
 
 // A letter's disc stands beside its point, with a line to it, where another one's disc is there already.
-function markOf(option, {answer, criteria, colours, labelOf, light, choose, x, y}, across, up, taken) {
-  const cost = answer.costs[option.index];
-  const point = [across(cost[x]), up(cost[y])];
-  const [cx, cy] = free(point, taken);
-  taken.push([cx, cy]);
+function markOf(option, [cx, cy], {criteria, colours, labelOf, light, choose}) {
   const told = criteria.map((criterion, at) => `${labelOf(criterion)} ${option.texts[at]}`).join(", ");
   const group = drawn("g", {class: "option", "data-letter": option.letter, tabindex: 0, role: "img", "aria-label": `${option.letter}: ${told}`});
-  const fill = colours[option.letter];
-  if (cx !== point[0] || cy !== point[1]) {
-    group.append(drawn("line", {x1: point[0], y1: point[1], x2: cx, y2: cy, stroke: fill, "stroke-width": 1.5}),
-      drawn("circle", {cx: point[0], cy: point[1], r: 3.5, fill, stroke: "#fff"}));
-  }
-  group.append(drawn("circle", {cx, cy, r: 9, fill, stroke: "#fff"}), drawn("text", {x: cx, y: cy, class: "mark"}, option.letter));
+  group.append(drawn("circle", {cx, cy, r: 9, fill: colours[option.letter], stroke: "#fff"}),
+    drawn("text", {x: cx, y: cy, class: "mark"}, option.letter));
   group.onmouseenter = group.onfocus = () => light(option.letter);
   group.onmouseleave = group.onblur = () => light(null);
   group.onclick = () => choose(option.letter);
   return group;
 }
 
-function free([x, y], taken) {
+function free(point, taken) {
+  const [x, y] = point;
   const isFree = ([cx, cy]) => cx > 60 && cx < 371 && cy > 10 && cy < 204 && taken.every(([tx, ty]) => Math.hypot(cx - tx, cy - ty) >= 19);
-  if (taken.every(([tx, ty]) => Math.hypot(x - tx, y - ty) >= 19)) return [x, y];
+  if (taken.every(([tx, ty]) => Math.hypot(x - tx, y - ty) >= 19)) return point;
   for (const radius of [21, 30, 42]) {
     for (let turn = 0; turn < 12; turn++) {
       const place = [x + radius * Math.cos(turn * Math.PI / 6), y - radius * Math.sin(turn * Math.PI / 6)];
       if (isFree(place)) return place;
     }
   }
-  return [x, y];
+  return point;
 }
 
 const column = (answer, place) => answer.costs.map((cost) => cost[place]);

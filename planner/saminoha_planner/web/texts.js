@@ -42,6 +42,7 @@ const ENGLISH = {
   preview_told: ({title, arcs, km, parts}) =>
     `${title}: ${arcs} arcs, ${km} km${parts > 1 ? ` in ${parts} separate parts` : ""}.`,
   between: ({from, to}) => `from ${from} to ${to}`, whole_road: "the whole road", nameless: "a road without a name",
+  arcs: ({arcs}) => (arcs === 1 ? "1 arc" : `${arcs} arcs`),
   first_click: "Click where the stretch begins.", second_click: "Click where the stretch ends.",
   click_road: "Click on the road.",
   is_closed: ({road}) => `${road} is closed.`, is_planned: ({road}) => `The closure of ${road} is planned.`,
@@ -65,6 +66,9 @@ const ENGLISH = {
   map: "Map", side: "Query and alternatives", legend_closed: "closed or changed",
 };
 
+const LEAST = {distance: "kürzeste Strecke", time: "kürzeste Fahrzeit", houses: "am wenigsten an Häusern",
+  junctions: "wenigste Kreuzungen", climb: "geringster Anstieg", toll: "geringste Maut"};
+
 const GERMAN = {
   from: "Von", to: "Nach", choose_hint: "ein Ort, „Ort, Straße“ oder ein Klick auf die Karte",
   show: "Alternativen zeigen", turn: "Umkehren", print: "Drucken", export: "Als GeoJSON ausgeben",
@@ -87,7 +91,7 @@ const GERMAN = {
   epsilon: "Weglassen, was sich um weniger unterscheidet als", epsilon_none: "nichts",
   across: "Waagrecht", up: "Senkrecht", plot: "Kosten aller Alternativen gegeneinander",
   distance: "Strecke", time: "Fahrzeit", houses: "an Häusern", junctions: "Kreuzungen", climb: "Anstieg", toll: "Maut",
-  least: ({label}) => `am wenigsten ${label}`, compromise: "Mittelweg", "other roads": "andere Straßen",
+  least: ({name, label}) => LEAST[name] || `am wenigsten ${label}`, compromise: "Mittelweg", "other roads": "andere Straßen",
   as_of: ({time, count}) => `Stand ${time}, ${count === 0 ? "keine Sperrung" : count === 1 ? "1 Sperrung" : `${count} Sperrungen`}.`,
   unknown_changes: ({count}) =>
     ` ${count === 1 ? "Eine Änderung wurde" : `${count} Änderungen wurden`} anderswo veröffentlicht, die keine Liste nennt.`,
@@ -107,6 +111,7 @@ const GERMAN = {
   preview_told: ({title, arcs, km, parts}) =>
     `${title}: ${arcs} Bögen, ${km} km${parts > 1 ? ` in ${parts} getrennten Teilen` : ""}.`,
   between: ({from, to}) => `von ${from} bis ${to}`, whole_road: "die ganze Straße", nameless: "eine Straße ohne Namen",
+  arcs: ({arcs}) => (arcs === 1 ? "1 Bogen" : `${arcs} Bögen`),
   first_click: "Klicken Sie, wo das Stück beginnt.", second_click: "Klicken Sie, wo das Stück endet.",
   click_road: "Klicken Sie auf die Straße.",
   is_closed: ({road}) => `${road} ist gesperrt.`, is_planned: ({road}) => `Die Sperrung von ${road} ist geplant.`,
@@ -132,6 +137,7 @@ const GERMAN = {
 
 const asked = new URLSearchParams(location.search).get("lang") || navigator.language || "en";
 export const language = asked.toLowerCase().startsWith("de") ? "de" : "en";
+const tag = language === "de" ? asked : "en-GB";  // of several Germans, the browser's writes numbers
 const TEXTS = language === "de" ? GERMAN : ENGLISH;
 
 // The words of a key, or the key's English where a language lacks it.
@@ -143,13 +149,13 @@ export function say(key, values = {}) {
 export const has = (key) => key in ENGLISH;
 
 export function number(value, digits) {
-  return value.toLocaleString(language === "de" ? "de-CH" : "en-GB",
+  return value.toLocaleString(tag,
     {minimumFractionDigits: digits, maximumFractionDigits: digits, useGrouping: false});
 }
 
 export function clock(date, withDay = false) {
   const shape = withDay ? {dateStyle: "medium", timeStyle: "short"} : {timeStyle: "short"};
-  return date.toLocaleString(language === "de" ? "de-DE" : "en-GB", shape);
+  return date.toLocaleString(tag, shape);
 }
 
 // Elements of the document that wait for their words.

@@ -9,6 +9,8 @@ import argparse
 import sys
 from pathlib import Path
 
+import numpy as np
+
 from saminoha_planner.choose import LETTERS, few, thinned, within_detour
 from saminoha_planner.client import Program
 from saminoha_planner.command import Fault, add_program_options, program_of, run
@@ -98,10 +100,9 @@ def select_criteria(network: Network, text: str | None) -> Network:
     if len(places) < 2 or len(set(places)) < len(places):
         raise Fault("a plan has two or more criteria, each once")
     chosen = network.with_criteria(places)
-    if light := next(
-        (number for number, arc in enumerate(chosen.arcs, start=1) if not any(arc.weights)), None
-    ):
-        raise Fault(f"arc {light} weighs nothing in these criteria: add distance or time")
+    light = np.flatnonzero(~chosen.arrays.weights.any(axis=1))
+    if len(light):
+        raise Fault(f"arc {light[0] + 1} weighs nothing in these criteria: add distance or time")
     return chosen
 
 

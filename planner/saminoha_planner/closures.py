@@ -174,7 +174,9 @@ def _take(closures: dict[str, Closure], entry: dict) -> None:
 
 
 def _text(when: datetime | None) -> str | None:
-    return when and when.astimezone(timezone.utc).strftime("%Y-%m-%dT%H:%M:%SZ")
+    if when is None:
+        return None
+    return when.astimezone(timezone.utc).strftime("%Y-%m-%dT%H:%M:%SZ")
 
 
 def _time(text: str | None) -> datetime | None:

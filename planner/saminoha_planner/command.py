@@ -5,6 +5,7 @@ where they are interrupted.
 from __future__ import annotations
 
 import argparse
+import importlib.util
 import sys
 from collections.abc import Callable
 from pathlib import Path
@@ -26,6 +27,26 @@ def run(main: Callable[[], int | None]) -> None:
     except KeyboardInterrupt:
         print(f"{name}: interrupted", file=sys.stderr)
         sys.exit(130)
+
+
+PACKAGES = {
+    "distributed": "python3-distributed",
+    "flask": "python3-flask",
+    "matplotlib": "python3-matplotlib",
+    "numpy": "python3-numpy",
+    "osmium": "python3-pyosmium",
+    "pyproj": "python3-pyproj",
+    "scipy": "python3-scipy",
+}
+
+
+def need(*libraries: str) -> None:
+    """Ends the tool where one of these isn't there, with what to install."""
+    missing = [PACKAGES[one] for one in libraries if importlib.util.find_spec(one) is None]
+    if missing:
+        name, packages = Path(sys.argv[0]).name, " ".join(missing)
+        print(f"{name}: libraries are missing: apt-get install {packages}", file=sys.stderr)
+        sys.exit(1)
 
 
 def add_program_options(parser: argparse.ArgumentParser) -> None:

@@ -38,8 +38,8 @@ class Criterion:
         """The weight that a text like 1800, 30min, 25km or 2.50 means; a bare number is metres,
         seconds, or what is counted.
         """
-        found = re.fullmatch(r"(\d+(?:\.\d+)?) ?([a-z]*)", text)
-        units = {"": self.plain} | SUFFIXES.get(self.shown_unit, {})
+        found = re.fullmatch(r"(\d+(?:\.\d+)?) ?([^\W\d]*)", text.strip())
+        units = {"": self.plain} | SUFFIXES.get(self.shown_unit, {self.shown_unit: self.scale})
         if not found or found[2] not in units:
             known = ", ".join(unit for unit in units if unit)
             raise Fault(
@@ -65,6 +65,15 @@ CRITERIA = {
         Criterion("toll", "hundredth of the currency", "toll", "", 100.0, 2, 100.0),
     )
 }
+
+
+def with_currency(criteria: Sequence[Criterion], currency: str) -> list[Criterion]:
+    """Tolls in hundredths of this currency."""
+    unit = f"hundredth of {currency or 'the currency'}"
+    return [
+        replace(one, unit=unit, shown_unit=currency) if one.name == "toll" else one
+        for one in criteria
+    ]
 
 
 def parse_criteria(text: str) -> list[Criterion]:

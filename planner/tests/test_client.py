@@ -97,7 +97,10 @@ def test_a_slow_program_is_ended(tmp_path, six_arcs):
     "said, proof",
     [
         ("route: the program is proved, for x86-64-v3", Proof.PROVED),
-        ("route: no proved program of these sources stands; ./route build makes it", Proof.UNPROVED),
+        (
+            "route: no proved program of these sources stands; ./route build makes it",
+            Proof.UNPROVED,
+        ),
         ("", Proof.UNKNOWN),
     ],
 )

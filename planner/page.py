@@ -101,7 +101,8 @@ def main() -> None:
         program = program_or_none(words)
         asker = asker_of(words, network, program, until)
         desk = Desk(network, asker, program, words.keep, words.tiles, words.tiles_attribution)
-        threading.Thread(target=desk.keeper.watch, daemon=True).start()
+        for work in (desk.warm, desk.keeper.watch):
+            threading.Thread(target=work, daemon=True).start()
         logging.getLogger("werkzeug").setLevel(logging.WARNING)
         print(f"http://127.0.0.1:{words.port}/", flush=True)
         make_site(desk).run("127.0.0.1", words.port, threaded=True)

@@ -5,7 +5,6 @@ from __future__ import annotations
 import functools
 import json
 import tempfile
-import threading
 import time
 from collections.abc import Mapping, Sequence
 from contextlib import ExitStack
@@ -74,14 +73,12 @@ class Desk:
         self.keeper = Keeper(network, asker, log_of(network))
         self.ends = Ends(network, lambda: self.roads)
         self._answers: dict[tuple[Question, int], Answer] = {}
-        self._lock = threading.Lock()
 
     # The map.
 
     @functools.cached_property
     def roads(self) -> Roads:
-        with self._lock:
-            return roads_of(self.network)
+        return roads_of(self.network)
 
     @functools.cached_property
     def _tiles(self) -> Tiles:
@@ -127,6 +124,12 @@ class Desk:
     def _bounds(self) -> list[float]:
         lon, lat = self.network.lon, self.network.lat
         return [float(lon.min()), float(lat.min()), float(lon.max()), float(lat.max())]
+
+    def warm(self) -> None:
+        """Makes ready what the first tiles want, beside the page."""
+        for zoom in range(7, 12):
+            self._tiles.least_class(zoom)
+        assert self.roads.metres is not None
 
     def tile(self, zoom: int, x: int, y: int) -> bytes:
         return self._tiles.tile(zoom, x, y)

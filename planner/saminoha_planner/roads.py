@@ -10,6 +10,7 @@ from functools import cached_property
 
 import numpy as np
 
+from .arrays import degrees
 from .network import Network
 
 CLASSES = (
@@ -45,20 +46,12 @@ class Roads:
     names: Sequence[str]
     first: np.ndarray
     points: np.ndarray  # longitude and latitude
+    boxes: np.ndarray  # west, south, east and north of each stretch
     of_arc: np.ndarray  # the stretch of arc k at k - 1, and -1 where it has no line
     back: np.ndarray  # whether arc k goes against its stretch
 
     def __len__(self) -> int:
         return len(self.classes)
-
-    @cached_property
-    def boxes(self) -> np.ndarray:
-        """West, south, east and north of each stretch."""
-        if not len(self):
-            return np.zeros((0, 4))
-        least = np.minimum.reduceat(self.points, self.first[:-1])
-        most = np.maximum.reduceat(self.points, self.first[:-1])
-        return np.hstack([least, most])
 
     @cached_property
     def _by_road(self) -> tuple[np.ndarray, np.ndarray]:
@@ -129,57 +122,21 @@ def distance_to(line: np.ndarray, lon: float, lat: float) -> float:
 
 
 def roads_of(network: Network) -> Roads:
-    """The network's roads. Arcs of the same points, in either order, are one stretch."""
-    lines = [np.asarray(arc.line, dtype=float).reshape(-1, 2) for arc in network.arcs]
-    counts = np.array([len(line) for line in lines], dtype=np.int64)
-    points = np.vstack(lines) if lines else np.zeros((0, 2))
-    names: dict[str, int] = {"": 0}
-    titles = np.array([names.setdefault(arc.title, len(names)) for arc in network.arcs], dtype=int)
-    classes = np.array([class_of(arc.cls) for arc in network.arcs], dtype=np.uint8)
-    return roads_from(counts, points, classes, titles, list(names))
+    """The network's roads, of its arrays."""
+    arrays = network.arrays
+    ranks = np.array([class_of(name) for name in arrays.class_names] or [0], dtype=np.uint8)
+    return Roads(
+        ranks[arrays.classes],
+        np.where(arrays.names > 0, arrays.names, arrays.refs),
+        arrays.texts,
+        arrays.first,
+        degrees(arrays.points),
+        degrees(arrays.boxes),
+        arrays.stretches,
+        arrays.back,
+    )
 
 
 def class_of(name: str) -> int:
     plain = name.removesuffix("_link")
     return CLASSES.index(plain) if plain in CLASSES else len(CLASSES) - 1
-
-
-def roads_from(
-    counts: np.ndarray,
-    points: np.ndarray,
-    classes: np.ndarray,
-    titles: np.ndarray,
-    names: Sequence[str],
-) -> Roads:
-    """By arcs: how many points each has, all their points, their classes and titles."""
-    begin = np.concatenate([[0], np.cumsum(counts)])
-    lined = np.flatnonzero(counts > 1)
-    keys = _keys(begin, points)[lined]
-    _, first_seen, same = np.unique(keys, return_index=True, return_inverse=True)
-    of_arc = np.full(len(counts), -1, dtype=np.int64)
-    of_arc[lined] = same
-    chosen = lined[first_seen]
-    first = np.concatenate([[0], np.cumsum(counts[chosen])])
-    at = np.repeat(begin[chosen] - first[:-1], counts[chosen]) + np.arange(first[-1])
-    back = np.zeros(len(counts), dtype=bool)
-    for step in (0, 1):  # a loop's ends are the same, so the point behind the first counts too
-        here, there = points[begin[lined] + step], points[begin[chosen[same]] + step]
-        back[lined] |= np.any(here != there, axis=1)
-    return Roads(classes[chosen], titles[chosen], names, first, points[at], of_arc, back)
-
-
-def _keys(begin: np.ndarray, points: np.ndarray) -> np.ndarray:
-    """A number for each line that doesn't depend on its direction: of its ends and the sums of
-    its points.
-    """
-    if len(begin) == 1:
-        return np.zeros(0, np.uint64)
-    whole = np.rint(points * 1e7).astype(np.int64)
-    sums = np.vstack([np.zeros((1, 2), np.int64), np.cumsum(whole, axis=0)])
-    total = sums[begin[1:]] - sums[begin[:-1]]
-    ends = whole[np.maximum(begin[1:] - 1, 0)] + whole[np.minimum(begin[:-1], len(whole) - 1)]
-    key = np.zeros(len(begin) - 1, np.uint64)
-    for column in (*total.T, *ends.T, np.diff(begin)):
-        key = (key ^ column.astype(np.uint64)) * np.uint64(0x9E3779B97F4A7C15)
-        key ^= key >> np.uint64(29)
-    return key

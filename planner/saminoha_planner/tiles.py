@@ -8,6 +8,7 @@ from __future__ import annotations
 
 import functools
 import math
+import threading
 
 import numpy as np
 
@@ -48,7 +49,15 @@ class Tiles:
     def __init__(self, roads: Roads) -> None:
         self.roads = roads
         self.tile = functools.lru_cache(maxsize=512)(self._tile)
-        self.least_class = functools.lru_cache(maxsize=32)(self._least_class)
+        self._least_classes: dict[int, int] = {}
+        self._lock = threading.Lock()
+
+    def least_class(self, zoom: int) -> int:
+        """The least class that a map of this zoom has room for."""
+        with self._lock:
+            if zoom not in self._least_classes:
+                self._least_classes[zoom] = self._least_class(zoom)
+        return self._least_classes[zoom]
 
     def _tile(self, zoom: int, x: int, y: int) -> bytes:
         if not (0 <= zoom <= DEEPEST and 0 <= x < 2**zoom and 0 <= y < 2**zoom):
@@ -58,22 +67,29 @@ class Tiles:
         return encoded(self.roads, chosen, zoom, (x, y))
 
     def _least_class(self, zoom: int) -> int:
-        """The least class that a map of this zoom has room for."""
+        """In no tile more is drawn than goes into one."""
         roads = self.roads
         if zoom >= 14 or not len(roads):
             return len(CLASSES)
-        middle = world((roads.boxes[:, :2] + roads.boxes[:, 2:]) / 2, zoom) // SIDE
-        tile = middle[:, 0].astype(np.int64) << 32 | middle[:, 1].astype(np.int64)
-        _, tile = np.unique(tile, return_inverse=True)
-        wide = np.ptp(world(roads.boxes.reshape(-1, 2), zoom).reshape(-1, 2, 2), axis=1)
-        drawn = np.minimum(np.diff(roads.first), 2 + wide.sum(axis=1))
+        middles, spans = self._places
+        tile = (middles * (2**zoom / SIDE)).astype(np.int64)
+        tile -= tile.min(axis=0)
+        place = tile[:, 0] * (tile[:, 1].max() + 1) + tile[:, 1]
+        drawn = np.minimum(np.diff(roads.first), 2 + spans * 2**zoom)
         least = int(roads.classes.min())
         for cls in np.unique(roads.classes):
             shown = roads.classes <= cls
-            if np.bincount(tile[shown], weights=drawn[shown]).max() > MOST_POINTS:
+            if np.bincount(place[shown], weights=drawn[shown]).max() > MOST_POINTS:
                 break
             least = int(cls)
         return least
+
+    @functools.cached_property
+    def _places(self) -> tuple[np.ndarray, np.ndarray]:
+        """Of each stretch its middle and its size in points of the map of zoom 0."""
+        boxes = self.roads.boxes
+        sizes = (boxes[:, 2:] - boxes[:, :2]).sum(axis=1) * (SIDE / 360)
+        return world((boxes[:, :2] + boxes[:, 2:]) / 2, 0), sizes
 
 
 def encoded(roads: Roads, chosen: np.ndarray, zoom: int, tile: tuple[int, int]) -> bytes:

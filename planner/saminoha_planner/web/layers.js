@@ -7,7 +7,7 @@ const STYLES = {  // by class of road: colour, and width on a small and on a lar
 };
 const MINOR = ["#d2d2d2", 0.8, 3];
 
-export function makeRoadTiles(deepest) {
+export function makeRoadTiles(deepest, bounds) {
   const Tiles = L.GridLayer.extend({
     createTile(coords, done) {
       const tile = document.createElement("canvas"), ratio = window.devicePixelRatio || 1;
@@ -24,7 +24,7 @@ export function makeRoadTiles(deepest) {
       return tile;
     },
   });
-  return new Tiles({maxZoom: 19, updateWhenZooming: false, keepBuffer: 1});
+  return new Tiles({maxZoom: 19, updateWhenZooming: false, keepBuffer: 1, bounds});
 }
 
 // Areas first, then minor roads below greater ones.

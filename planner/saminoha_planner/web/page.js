@@ -28,7 +28,7 @@ async function begin() {
   map.fitBounds([[south, west], [north, east]], {padding: [10, 10]});
   map.attributionControl.setPrefix(false).addAttribution(escaped(network.attribution));
   if (network.tiles) L.tileLayer(network.tiles, {maxZoom: 19, attribution: escaped(network.tiles_attribution)}).addTo(map);
-  window.page.roads = makeRoadTiles(network.deepest).addTo(map);
+  window.page.roads = makeRoadTiles(network.deepest, [[south, west], [north, east]]).addTo(map);
   names = new Names((box, zoom) => fetchJson(`/api/labels?box=${box}&zoom=${zoom}`)).addTo(map);
   L.control.scale({imperial: false}).addTo(map);
   fillChoices();

@@ -57,7 +57,7 @@ def main() -> None:
             program.query(one.files, trip.source, one.arrival(trip.target))
             for one in (network, new)
         ]
-        compare(trip, (network, answers[0]), (new, answers[1]), stands)
+        compare(trip, (network, answers[0]), (new, answers[1]), stands, program.proof())
 
 
 if __name__ == "__main__":

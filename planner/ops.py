@@ -82,7 +82,7 @@ def main() -> None:
         program = program_of(words)
         before = program.query(network.files, trip.source, network.arrival(trip.target))
         after = answer_after(program, network, trip, lines)
-        compare(trip, (network, before), (network, after), {line.arc: line for line in lines})
+        compare(trip, (network, before), (network, after), {line.arc: line for line in lines}, program.proof())
 
 
 if __name__ == "__main__":

@@ -61,6 +61,9 @@ def parse_words() -> argparse.Namespace:
     parser.add_argument(
         "--front", type=Path, metavar="FILE", help="draw the costs against each other"
     )
+    parser.add_argument(
+        "--report", type=Path, metavar="FILE", help="write map, table and plot on two pages (.pdf)"
+    )
     parser.add_argument("--geojson", type=Path, metavar="FILE", help="write all routes")
     parser.add_argument("--csv", type=Path, metavar="FILE", help="write all routes as a table")
     add_program_options(parser)
@@ -122,13 +125,22 @@ def main() -> None:
     if options:
         print_table(sys.stdout, network, options)
     if words.map:
-        from saminoha_planner.draw import draw_map  # matplotlib takes a second to load
+        from saminoha_planner.draw import Side, draw_map  # matplotlib takes a second to load
 
-        draw_map(words.map, network, options, source, target)
+        draw_map(words.map, Side(title, network, options, (source, target), proof=program.proof()))
     if words.front:
-        from saminoha_planner.front import draw_front
+        from saminoha_planner.front import Front, draw_front
+        from saminoha_planner.legend import footer
 
-        draw_front(words.front, network.criteria, routes, options, title, network.attribution)
+        note = footer(network.criteria, program.proof(), network.attribution)
+        draw_front(words.front, Front(network.criteria, routes, options), title, note)
+    if words.report:
+        from saminoha_planner.draw import Side
+        from saminoha_planner.front import Front
+        from saminoha_planner.report import write_report
+
+        side = Side(title, network, options, (source, target), proof=program.proof())
+        write_report(words.report, side, Front(network.criteria, routes, options))
     if words.geojson:
         write_geojson(words.geojson, network, routes, options)
     if words.csv:

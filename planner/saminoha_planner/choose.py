@@ -12,7 +12,7 @@ from .client import Route
 from .criteria import Criterion
 from .network import Network
 
-LETTERS = "ABCDEFGH"
+LETTERS = "ABCDEFGHIJ"
 MOST = len(LETTERS)
 
 

@@ -32,6 +32,13 @@ class View:
     def size(self) -> np.ndarray:
         return self.metres([(self.east, self.north)])[0]
 
+    def fitted(self, ratio: float) -> View:
+        """With so many times the height as width: it grows where it is too narrow or too flat."""
+        wide, high = self.size
+        more_x = max(0.0, ratio * high / wide - 1) * (self.east - self.west) / 2
+        more_y = max(0.0, wide / ratio / high - 1) * (self.north - self.south) / 2
+        return View(self.west - more_x, self.south - more_y, self.east + more_x, self.north + more_y)
+
 
 def view_of(network: Network, routes: Sequence[Route], nodes: Sequence[int] = ()) -> View:
     """Around the routes and nodes, with a margin, neither very flat nor very high."""

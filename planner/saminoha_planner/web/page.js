@@ -25,7 +25,7 @@ async function begin() {
   showTitle();
   showProof();
   const [west, south, east, north] = network.bounds;
-  map.fitBounds([[south, west], [north, east]], {padding: [10, 10]});
+  map.fitBounds([[south, west], [north, east]], BESIDE_CONTROLS);
   map.attributionControl.setPrefix(false).addAttribution(escaped(network.attribution));
   if (network.tiles) L.tileLayer(network.tiles, {maxZoom: 19, attribution: escaped(network.tiles_attribution)}).addTo(map);
   window.page.roads = makeRoadTiles(network.deepest, [[south, west], [north, east]]).addTo(map);

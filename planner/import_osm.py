@@ -70,6 +70,9 @@ def parse_words() -> argparse.Namespace:
         help="an .asc grid, an .hgt tile or a folder of them, for the climb",
     )
     parser.add_argument(
+        "--table", action="store_true", help="write arcs.tsv too, a table for other programs"
+    )
+    parser.add_argument(
         "--replace", action="store_true", help="write in the place of a network that is there"
     )
     return parser.parse_args()
@@ -96,7 +99,7 @@ def main() -> None:
         extract = read(words, criteria, rules, watch)
         network = make(words, extract, criteria, rules, watch)
         watch.now("writing")
-        write_network(network)
+        write_network(network, words.table)
     for line in warnings(network.info["tolls"]) if "tolls" in network.info else []:
         print(f"import_osm.py: {line}", file=sys.stderr)
     names = ", ".join(criterion.name for criterion in criteria)

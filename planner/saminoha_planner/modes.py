@@ -4,6 +4,7 @@ truck, a bike or a walker.
 
 from __future__ import annotations
 
+import functools
 import re
 from collections.abc import Mapping
 from dataclasses import dataclass, field
@@ -209,6 +210,7 @@ def duration(text: str | None) -> float | None:
     return hours * 3600.0 + minutes * 60.0 + seconds or None
 
 
+@functools.cache
 def parse_speed(text: str | None) -> float | None:
     """km/h of a `maxspeed`."""
     text = (text or "").strip().lower().split(";")[0]

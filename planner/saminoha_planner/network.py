@@ -277,13 +277,17 @@ def refuse_other_files(folder: Path, replaces: bool) -> None:
         raise Fault(f"{folder} has a network: name another folder, or say --replace")
 
 
-def write_network(network: Network) -> None:
-    """Beside its place, and moved there whole; what the folder had is gone then."""
+def write_network(network: Network, with_table: bool = False) -> None:
+    """Beside its place, and moved there whole; what the folder had is gone then. The table is
+    `arcs.tsv`, which no tool reads.
+    """
     folder = network.folder
     beside = folder.with_name(f".{folder.name}.{os.getpid()}.new")
     beside.mkdir(parents=True)
     try:
         _write_files(network, beside)
+        if with_table:
+            _write_arcs(beside / "arcs.tsv", network)
         if folder.is_dir():
             _keep_log(folder)
             shutil.rmtree(folder)
@@ -316,7 +320,6 @@ def _write_files(network: Network, folder: Path) -> None:
                 map("a %d %d %d\n".__mod__, zip(*ends, arrays.weights[:, place].tolist()))
             )
     _write_nodes(folder / "nodes.co", network)
-    _write_arcs(folder / "arcs.tsv", network)
     rows = (
         [p.name, p.kind, p.population, p.node, f"{p.lon:.7f}", f"{p.lat:.7f}"]
         for p in network.places

@@ -149,11 +149,8 @@ class _Reader(osmium.SimpleHandler):
             )
 
     def _toll_at(self, point: int, tags: dict[str, str]) -> None:
-        booth = is_booth(tags)
-        if booth:
+        if is_booth(tags):
             self.tolls.booths[point] = price_of(tags, self.mode)
-        if fit := [one for one in self.rules.charges if one.fits_point(point, booth)]:
-            self.tolls.rules_at[point] = fit
 
     def way(self, way: osmium.osm.Way) -> None:
         self.ways_seen += 1
@@ -251,10 +248,17 @@ class _Reader(osmium.SimpleHandler):
         if len(run) > 1:
             yield run, array("d", places).tobytes()
 
+    def _mind_rules_at_points(self, ids: np.ndarray) -> None:
+        for one in self.rules.charges:
+            for point in one.points(self.tolls.booths):
+                if point in ids:
+                    self.tolls.rules_at.setdefault(point, []).append(one)
+
     def found(self) -> Extract:
         columns = self.columns
         points = np.frombuffer(columns.points, np.int64) if columns.points else np.zeros(0, int)
         ids, first_at, places_of_points = np.unique(points, return_index=True, return_inverse=True)
+        self._mind_rules_at_points(ids)
         roads = Roads(
             _plain(columns.ways),
             _plain(columns.classes),

@@ -28,7 +28,7 @@ All charges that fit a road add up, but for those by entry, of which the first c
 from __future__ import annotations
 
 import tomllib
-from collections.abc import Mapping
+from collections.abc import Iterable, Mapping
 from dataclasses import dataclass, replace
 from pathlib import Path
 
@@ -56,8 +56,11 @@ class Charge:
         told = {"way": str(way), "class": cls, "name": name, "ref": ref}
         return self.value == told.get(self.key)
 
-    def fits_point(self, point: int, is_booth: bool) -> bool:
-        return self.key == "point" and self.value in (str(point), BOOTHS if is_booth else "")
+    def points(self, booths: Iterable[int]) -> list[int]:
+        """The points that it is for, of which some are booths."""
+        if self.key != "point":
+            return []
+        return list(booths) if self.value == BOOTHS else [int(self.value)]
 
     @property
     def text(self) -> str:
@@ -138,6 +141,8 @@ def _charge(file: Path, entry: dict[str, object]) -> Charge:
         raise Fault(f"{file}: a charge at a point is per_gantry")
     if key not in ("point", "way") and "per_gantry" in kinds:
         raise Fault(f"{file}: a charge per_gantry names a point or a way, and not a {key}")
+    if key == "point" and entry[key] != BOOTHS and not str(entry[key]).isdecimal():
+        raise Fault(f"{file}: a point is a number or {BOOTHS!r}, and not {entry[key]!r}")
     amounts = {kind: _amount(file, entry[kind]) for kind in kinds}
     return Charge(key, str(entry[key]), str(criterion), **amounts)
 

@@ -10,6 +10,7 @@ import hashlib
 import sys
 from pathlib import Path
 
+from saminoha_planner.background import read_background, save_background  # noqa: E402
 from saminoha_planner.command import Fault, need, run
 
 need("numpy", "osmium", "pyproj", "scipy")
@@ -100,6 +101,8 @@ def main() -> None:
         network = make(words, extract, criteria, rules, watch)
         watch.now("writing")
         write_network(network, words.table)
+        watch.now("reading water and woods")
+        save_background(read_background(str(words.extract)), words.network)
     for line in warnings(network.info["tolls"]) if "tolls" in network.info else []:
         print(f"import_osm.py: {line}", file=sys.stderr)
     names = ", ".join(criterion.name for criterion in criteria)

@@ -10,6 +10,7 @@ import hashlib
 import sys
 from pathlib import Path
 
+from saminoha_planner.background import read_background, save_background
 from saminoha_planner.command import Fault, run
 from saminoha_planner.criteria import CRITERIA, Criterion, coarser, parse_criteria, with_currency
 from saminoha_planner.cut import Wanted, build
@@ -87,6 +88,9 @@ def main() -> None:
         network = make(words, extract, criteria, rules, watch)
         watch.now("writing")
         write_network(network, words.table)
+        watch.now("reading water and woods")
+        watch.now("reading water and woods")
+        save_background(read_background(str(words.extract)), words.network)
     for line in warnings(network.info["tolls"]) if "tolls" in network.info else []:
         print(f"import_osm.py: {line}", file=sys.stderr)
     names = ", ".join(criterion.name for criterion in criteria)

@@ -11,6 +11,9 @@ import signal
 import threading
 from contextlib import ExitStack
 
+from flask import Flask
+from werkzeug.serving import BaseWSGIServer, make_server
+
 from saminoha_planner.ask import Asker, OwnServer, ProgramAsker, ServerAsker
 from saminoha_planner.client import ClientError, Program, parse_address
 from saminoha_planner.command import Fault, add_program_options, program_of, run
@@ -83,6 +86,13 @@ def program_or_none(words: argparse.Namespace) -> Program | None:
         raise
 
 
+def listening(site: Flask, port: int) -> BaseWSGIServer:
+    try:
+        return make_server("127.0.0.1", port, site, threaded=True)
+    except SystemExit:  # it has said why
+        raise Fault(f"the page can't be at port {port}: name another one by --port") from None
+
+
 def end(*_: object) -> None:
     """As by Ctrl-C, so that what was started here ends too."""
     raise KeyboardInterrupt
@@ -91,7 +101,7 @@ def end(*_: object) -> None:
 def main() -> None:
     words = parse_words()
     signal.signal(signal.SIGTERM, end)
-    from saminoha_planner.desk import Desk
+    from saminoha_planner.desk import Desk  # it takes a while, and --help needs none of it
     from saminoha_planner.site import LEAFLET, make_site
 
     if not LEAFLET.is_dir():
@@ -104,8 +114,9 @@ def main() -> None:
         for work in (desk.warm, desk.keeper.watch):
             threading.Thread(target=work, daemon=True).start()
         logging.getLogger("werkzeug").setLevel(logging.WARNING)
+        site = listening(make_site(desk), words.port)
         print(f"http://127.0.0.1:{words.port}/", flush=True)
-        make_site(desk).run("127.0.0.1", words.port, threaded=True)
+        site.serve_forever()
 
 
 if __name__ == "__main__":

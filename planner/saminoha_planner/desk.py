@@ -13,6 +13,7 @@ from datetime import datetime
 from pathlib import Path
 
 from .ask import Asker, once
+from .background import load_background
 from .choose import Option, few, thinned
 from .client import Answer, Change, Program, Proof, Query, Refused, Route, SetArc
 from .closures import Closure
@@ -82,7 +83,7 @@ class Desk:
 
     @functools.cached_property
     def _tiles(self) -> Tiles:
-        return Tiles(self.roads)
+        return Tiles(self.roads, load_background(self.network.folder))
 
     @functools.cached_property
     def _stretches(self) -> Stretches:

@@ -12,9 +12,10 @@ from pathlib import Path
 import matplotlib.patheffects as effects
 import numpy as np
 from matplotlib.axes import Axes
-from matplotlib.collections import LineCollection
+from matplotlib.collections import LineCollection, PolyCollection
 from matplotlib.figure import Figure
 
+from .background import STREAM, WATER, WOOD, load_background
 from .choose import Option
 from .client import Proof
 from .colours import COLOURS
@@ -135,12 +136,25 @@ def paint(ax: Axes, view: View, side: Side) -> None:
     for spine in ax.spines.values():
         spine.set_color("#999999")
     network = side.network
+    _paint_background(ax, network, view)
     _paint_roads(ax, network, view)
     _paint_marked(ax, view, side.marked)
     taken = _paint_ends(ax, network, view, side.ends)
     lanes = _paint_lanes(ax, network, view, side.options, taken)
     _paint_names(ax, network, view, lanes, taken)
     _paint_scale(ax, view)
+
+
+def _paint_background(ax: Axes, network: Network, view: View) -> None:
+    areas = load_background(network.folder)
+    seen = areas.within((view.west, view.south, view.east, view.north), (view.east - view.west) / 300)
+    for kind, colour in ((WOOD, "#e8f1e2"), (WATER, "#d3e5f1"), (STREAM, "#c3dbec")):
+        lines = [view.metres(areas.line(shape)) for shape in seen[areas.kinds[seen] == kind]]
+        if kind == STREAM:
+            drawn = LineCollection(lines, linewidths=0.6, colors=colour, zorder=0.6)
+        else:
+            drawn = PolyCollection(lines, facecolors=colour, linewidths=0, zorder=0.5)
+        ax.add_collection(drawn)
 
 
 def _paint_roads(ax: Axes, network: Network, view: View) -> None:

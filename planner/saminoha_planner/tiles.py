@@ -1,7 +1,8 @@
 """Vector tiles of the roads, made from arrays: what a canvas of 256 points of a side draws.
 
 A tile is little-endian numbers of 32 bits: for each line its class, how many points it has, and
-these as x and y in quarters of a point from the tile's north-west corner.
+these as x and y in quarters of a point from the tile's north-west corner. Classes are those of
+roads, and the kinds of `background.py`.
 """
 
 from __future__ import annotations
@@ -12,6 +13,7 @@ import threading
 
 import numpy as np
 
+from .background import Areas
 from .command import Fault
 from .roads import CLASSES, Box, Roads
 
@@ -44,10 +46,10 @@ def box_of(zoom: int, x: int, y: int) -> Box:
 
 
 class Tiles:
-    """The tiles of one network's roads."""
+    """The tiles of one network's roads, with water and woods."""
 
-    def __init__(self, roads: Roads) -> None:
-        self.roads = roads
+    def __init__(self, roads: Roads, areas: Areas) -> None:
+        self.roads, self.areas = roads, areas
         self.tile = functools.lru_cache(maxsize=512)(self._tile)
         self._least_classes: dict[int, int] = {}
         self._lock = threading.Lock()
@@ -63,8 +65,11 @@ class Tiles:
         if not (0 <= zoom <= DEEPEST and 0 <= x < 2**zoom and 0 <= y < 2**zoom):
             raise Fault(f"there is no tile {zoom}/{x}/{y}")
         box = box_of(zoom, x, y)
+        shown = self.areas.within(box, 3 * 360 / (SIDE * 2**zoom))
         chosen = self.roads.within(box, self.least_class(zoom))
-        return encoded(self.roads, chosen, zoom, (x, y))
+        return encoded_areas(self.areas, shown, zoom, (x, y)) + encoded(
+            self.roads, chosen, zoom, (x, y)
+        )
 
     def _least_class(self, zoom: int) -> int:
         """In no tile more is drawn than goes into one."""
@@ -104,6 +109,19 @@ def encoded(roads: Roads, chosen: np.ndarray, zoom: int, tile: tuple[int, int]) 
     places, road = _simplified(places, road)
     places, line = _clipped(places, road)
     return _packed(places, line, roads.classes[chosen][road_of(line)])
+
+
+def encoded_areas(areas: Areas, chosen: np.ndarray, zoom: int, tile: tuple[int, int]) -> bytes:
+    """Water and woods whole, so that they can be filled."""
+    counts = np.diff(areas.first)[chosen]
+    if not len(chosen):
+        return b""
+    at = np.repeat(areas.first[chosen], counts) + _steps(counts)
+    shape = np.repeat(np.arange(len(chosen)), counts)
+    corner = np.array(tile) * SIDE
+    places = np.rint((world(areas.points[at], zoom) - corner) * PARTS).astype(np.int64)
+    places, shape = _simplified(places, shape)
+    return _packed(places, shape.astype(np.int64) << 32, areas.kinds[chosen][shape])
 
 
 def road_of(line: np.ndarray) -> np.ndarray:

@@ -7,7 +7,7 @@ import {drawPlot} from "./plot.js";
 import {beginClosures, chosenByClick, drawClosures, onChange} from "./closures.js";
 
 // What is shown lies beside the buttons of the zoom, so that each place can be clicked.
-const BESIDE_CONTROLS = {paddingTopLeft: [60, 40], paddingBottomRight: [40, 30]};
+const BESIDE_CONTROLS = {paddingTopLeft: [110, 60], paddingBottomRight: [100, 35]};
 const EPSILONS = [0, 0.001, 0.005, 0.01, 0.02, 0.05];
 const lanes = L.layerGroup().addTo(map);
 const pins = {from: null, to: null};
@@ -25,7 +25,7 @@ async function begin() {
   showTitle();
   showProof();
   const [west, south, east, north] = network.bounds;
-  map.fitBounds([[south, west], [north, east]], {padding: [10, 10]});
+  map.fitBounds([[south, west], [north, east]], BESIDE_CONTROLS);
   map.attributionControl.setPrefix(false).addAttribution(escaped(network.attribution));
   if (network.tiles) L.tileLayer(network.tiles, {maxZoom: 19, attribution: escaped(network.tiles_attribution)}).addTo(map);
   window.page.roads = makeRoadTiles(network.deepest, [[south, west], [north, east]]).addTo(map);

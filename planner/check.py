@@ -13,6 +13,7 @@ from saminoha_planner.command import Fault, add_program_options, program_of, run
 from saminoha_planner.examine import Findings, examine
 from saminoha_planner.network import Network, read_network
 from saminoha_planner.parts import read_pairs
+from saminoha_planner.progress import waiting
 
 
 def parse_words() -> argparse.Namespace:
@@ -68,14 +69,16 @@ def tell(network: Network, found: Findings) -> None:
 def main() -> int:
     words = parse_words()
     network = read_network(words.network)
-    sizes = program_of(words).check(network.files)
+    with waiting("reading the weight files"):
+        sizes = program_of(words).check(network.files)
     if (sizes.nodes, sizes.arcs) != (len(network.lon), len(network.arcs)):
         raise Fault(
             f"the weight files have {sizes.nodes} nodes and {sizes.arcs} arcs,"
-            " and arcs.tsv has others"
+            " and the folder arrays has others"
         )
     print(f"{sizes.nodes} nodes, {sizes.arcs} arcs, {sizes.criteria} criteria: the files agree")
-    found = examine(network, read_pairs(words.pairs, network) if words.pairs else ())
+    with waiting("looking at all arcs"):
+        found = examine(network, read_pairs(words.pairs, network) if words.pairs else ())
     tell(network, found)
     return 1 if found.without_walk else 0
 

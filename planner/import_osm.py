@@ -10,32 +10,18 @@ import hashlib
 import sys
 from pathlib import Path
 
-from saminoha_planner.background import read_background, save_background  # noqa: E402
-from saminoha_planner.command import Fault, need, run
-
-need("numpy", "osmium", "pyproj", "scipy")
-
-import numpy as np  # noqa: E402
-
-from saminoha_planner.criteria import (  # noqa: E402
-    CRITERIA,
-    Criterion,
-    parse_criteria,
-    with_currency,
-)
-from saminoha_planner.cut import Wanted, build  # noqa: E402
-from saminoha_planner.heights import heights_at, read_grids  # noqa: E402
-from saminoha_planner.modes import MODES  # noqa: E402
-from saminoha_planner.network import (  # noqa: E402
-    Network,
-    refuse_other_files,
-    write_network,
-)
-from saminoha_planner.osm import Extract, read_extract  # noqa: E402
-from saminoha_planner.progress import Watch, waiting  # noqa: E402
-from saminoha_planner.rules import NO_RULES, Rules, read_rules  # noqa: E402
-from saminoha_planner.tolls import charged, currency_of, report, warnings  # noqa: E402
-from saminoha_planner.weigh import Weigher  # noqa: E402
+from saminoha_planner.background import read_background, save_background
+from saminoha_planner.command import Fault, run
+from saminoha_planner.criteria import CRITERIA, Criterion, coarser, parse_criteria, with_currency
+from saminoha_planner.cut import Wanted, build
+from saminoha_planner.heights import read_grids
+from saminoha_planner.modes import MODES
+from saminoha_planner.network import Network, refuse_other_files, write_network
+from saminoha_planner.osm import Extract, read_extract
+from saminoha_planner.progress import Watch, waiting
+from saminoha_planner.rules import NO_RULES, Rules, read_rules
+from saminoha_planner.tolls import charged, currency_of, report, warnings
+from saminoha_planner.weigh import Weigher
 
 MOST_NODES, MOST_ARCS = 2**23, 2**24
 
@@ -56,6 +42,12 @@ def parse_words() -> argparse.Namespace:
         default="distance,time",
         metavar="LIST",
         help=f"two to four of {', '.join(CRITERIA)} (distance,time)",
+    )
+    parser.add_argument(
+        "--coarser",
+        default="",
+        metavar="LIST",
+        help="weigh in so many of the usual units, as time=10 for whole seconds: fewer trade-offs",
     )
     parser.add_argument("--turns", action="store_true", help="mind turn bans: arcs become nodes")
     parser.add_argument(
@@ -81,17 +73,12 @@ def parse_words() -> argparse.Namespace:
 
 def heights_of(extract: Extract, file: Path | None) -> dict[int, float]:
     """By the file where it is given, else by the tags `ele` of points."""
-    if file is None:
-        return extract.heights
-    lon, lat = extract.places.T
-    found = heights_at(read_grids(file), lon, lat)
-    known = ~np.isnan(found)
-    return dict(zip(extract.ids[known].tolist(), found[known].tolist()))
+    return extract.heights if file is None else extract.heights_of(read_grids(file))
 
 
 def main() -> None:
     words = parse_words()
-    criteria = parse_criteria(words.criteria)
+    criteria = coarser(parse_criteria(words.criteria), words.coarser)
     rules = read_rules(words.rules) if words.rules else NO_RULES
     if not words.extract.is_file():
         raise Fault(f"{words.extract} is no file")

@@ -6,13 +6,12 @@ its files are the same however.
 from __future__ import annotations
 
 import argparse
-import sys
 from pathlib import Path
 
-from saminoha_planner.command import Fault, add_program_options, program_of, run
+from saminoha_planner.command import Fault, add_program_options, program_of, proof_text, run
 from saminoha_planner.network import read_network
 from saminoha_planner.parts import Folder, Plan, read_pairs, share
-from saminoha_planner.progress import Progress
+from saminoha_planner.progress import Progress, waiting
 from saminoha_planner.spread import on_this_machine, on_workers, processors
 
 
@@ -70,9 +69,9 @@ def main() -> None:
     if words.part < 1 or words.jobs < 1:
         raise Fault("--part and --jobs are 1 or more")
     network, program = read_network(words.network), program_of(words)
-    plan = Plan(
-        network.checksum(), tuple(read_pairs(words.pairs, network)), words.part, words.budget
-    )
+    with waiting("reading the network and the pairs"):
+        pairs = tuple(read_pairs(words.pairs, network))
+        plan = Plan(network.checksum(), pairs, words.part, words.budget)
     folder = Folder(words.out, plan)
     numbers = share(plan.count, words.only)
     missing = folder.missing(numbers)
@@ -93,11 +92,10 @@ def main() -> None:
     if left := folder.missing(range(plan.count)):
         print(f"{len(numbers)} parts are there, and {len(left)} of the others are to come")
     else:
-        folder.merge(network)
-        print(
-            f"{len(plan.pairs)} pairs: {words.out / 'od.csv'}, {words.out / 'answers.jsonl'}",
-            file=sys.stdout,
-        )
+        with waiting("putting the parts together"):
+            folder.merge(network)
+        print(f"{len(plan.pairs)} pairs: {words.out / 'od.csv'}, {words.out / 'answers.jsonl'}")
+        print(proof_text(program.proof()))
 
 
 if __name__ == "__main__":

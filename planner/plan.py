@@ -9,13 +9,12 @@ import argparse
 import sys
 from pathlib import Path
 
-import numpy as np
-
 from saminoha_planner.choose import LETTERS, few, thinned, within_detour
 from saminoha_planner.client import Program
-from saminoha_planner.command import Fault, add_program_options, program_of, run
+from saminoha_planner.command import Fault, add_program_options, program_of, proof_text, run
 from saminoha_planner.criteria import Criterion
 from saminoha_planner.network import Network, read_network
+from saminoha_planner.progress import waiting
 from saminoha_planner.tell import print_table, write_csv, write_geojson
 
 
@@ -100,9 +99,8 @@ def select_criteria(network: Network, text: str | None) -> Network:
     if len(places) < 2 or len(set(places)) < len(places):
         raise Fault("a plan has two or more criteria, each once")
     chosen = network.with_criteria(places)
-    light = np.flatnonzero(~chosen.arrays.weights.any(axis=1))
-    if len(light):
-        raise Fault(f"arc {light[0] + 1} weighs nothing in these criteria: add distance or time")
+    if light := chosen.arrays.weightless():
+        raise Fault(f"arc {light} weighs nothing in these criteria: add distance or time")
     return chosen
 
 
@@ -114,7 +112,8 @@ def main() -> None:
     source, target = network.find(words.source), network.find(words.target)
     limits, epsilon = parse_limits(words.limit, network), parse_share(words.epsilon)
     program: Program = program_of(words)
-    answer = program.query(network.files, source, network.arrival(target), limits)
+    with waiting("asking for all ways"):
+        answer = program.query(network.files, source, network.arrival(target), limits)
     routes = within_detour(answer.routes, network.criteria, words.detour)
     options = few(network, thinned(routes, epsilon), words.keep)
     title = f"{network.name_of(source)} – {network.name_of(target)}"
@@ -124,6 +123,7 @@ def main() -> None:
     )
     if options:
         print_table(sys.stdout, network, options)
+    print(proof_text(program.proof()))
     if words.map:
         from saminoha_planner.draw import Side, draw_map  # matplotlib takes a second to load
 
@@ -144,7 +144,7 @@ def main() -> None:
     if words.geojson:
         write_geojson(words.geojson, network, routes, options)
     if words.csv:
-        write_csv(words.csv, network, routes, options)
+        write_csv(words.csv, network, routes, options, program.proof())
 
 
 def count_text(count: int, criteria: list[Criterion]) -> str:

@@ -100,6 +100,11 @@ class Arrays:
         near = difflib.get_close_matches(text.strip().casefold(), names, 1, 0.7)
         return f"; is it {names[near[0]]}?" if near else ""
 
+    def weightless(self) -> int | None:
+        """An arc that weighs nothing, if there is one."""
+        found = np.flatnonzero(~self.weights.any(axis=1))
+        return int(found[0]) + 1 if len(found) else None
+
     def arcs_of(self, stretches: np.ndarray | Sequence[int]) -> np.ndarray:
         """The arcs on these stretches, ascending."""
         order, first = self._by_stretch

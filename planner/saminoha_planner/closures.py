@@ -30,7 +30,6 @@ from typing import BinaryIO
 from .client import Change, Drop, Publish, parse_orders
 from .command import Fault
 
-
 LOG = "closures.jsonl"
 
 

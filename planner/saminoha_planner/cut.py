@@ -82,7 +82,7 @@ def build(extract: Extract, weigher: Weigher, wanted: Wanted, folder: Path) -> N
         pieces, follows = _connected_with_turns(pieces, _follows(extract, stretches, pieces))
     else:
         pieces = _largest_part(pieces)
-    sums = weigher.sums([criterion.name for criterion in wanted.criteria])
+    sums = weigher.sums(wanted.criteria)
     watch.now("numbering nodes and arcs")
     points = _in_morton_order(np.unique([pieces.tails, pieces.heads]), extract)
     numbers = np.zeros(len(extract.ids), np.int64)
@@ -93,9 +93,7 @@ def build(extract: Extract, weigher: Weigher, wanted: Wanted, folder: Path) -> N
     arrays = replace(
         arrays, weights=_weights(stretches, pieces, sums, wanted.criteria).astype(np.uint32)
     )
-    groups = Groups.of(
-        charged.entries, stretches.rows[pieces.stretches], [one.name for one in wanted.criteria]
-    )
+    groups = Groups.of(charged.entries, stretches.rows[pieces.stretches], wanted.criteria)
     places = _snapped(extract.named, arrays.nodes / UNITS)
     info: dict[str, object] = {}
     if follows is not None:

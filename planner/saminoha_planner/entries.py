@@ -15,6 +15,7 @@ from dataclasses import dataclass, replace
 import numpy as np
 
 from .arrays import Arrays
+from .criteria import Criterion
 from .tolls import Entry
 from .weigh import UNITS
 
@@ -32,14 +33,15 @@ class Groups:
         return bool((self.of_arcs != NONE).any())
 
     @staticmethod
-    def of(entries: Mapping[int, Entry], rows: np.ndarray, criteria: Sequence[str]) -> Groups:
+    def of(entries: Mapping[int, Entry], rows: np.ndarray, criteria: Sequence[Criterion]) -> Groups:
         """Of arcs by their roads' rows. Entries in a criterion that isn't weighed are none."""
-        weighed = {row: one for row, one in entries.items() if one.criterion in criteria}
+        names = [one.name for one in criteria]
+        weighed = {row: one for row, one in entries.items() if one.criterion in names}
         places = {one: place for place, one in enumerate(dict.fromkeys(weighed.values()))}
         added = np.zeros((len(places), len(criteria)), np.uint32)
         for one, place in places.items():
-            weight = round(one.amount * UNITS[one.criterion])
-            added[place, criteria.index(one.criterion)] = weight
+            at = names.index(one.criterion)
+            added[place, at] = round(one.amount * UNITS[one.criterion] / criteria[at].step)
         of_rows = np.full(int(rows.max(initial=0)) + 1, NONE)
         for row, one in weighed.items():
             if row < len(of_rows):

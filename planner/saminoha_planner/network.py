@@ -419,7 +419,8 @@ def read_network(folder: str | Path) -> Network:
 
 def _criterion(entry: dict) -> Criterion:
     if entry["name"] in CRITERIA:
-        return replace(CRITERIA[entry["name"]], shown_unit=entry["shown_unit"], unit=entry["unit"])
+        told = ("unit", "shown_unit", "scale", "plain", "step")
+        return replace(CRITERIA[entry["name"]], **{key: entry[key] for key in told if key in entry})
     return Criterion(**{key: value for key, value in entry.items() if key != "file"})
 
 

@@ -10,6 +10,7 @@ import numpy as np
 import osmium
 from osmium.geom import WKBFactory, use_nodes
 
+from .heights import Grid, heights_at
 from .modes import Mode, blocks, duration, use_of
 from .network import PLACES
 from .progress import Watch
@@ -79,6 +80,13 @@ class Extract:
     bans_left_out: int
     points_missing: int
     tolls: Found
+
+    def heights_of(self, grids: list[Grid]) -> dict[int, float]:
+        """Of the roads' points, where the grids know them."""
+        lon, lat = self.places.T
+        found = heights_at(grids, lon, lat)
+        known = ~np.isnan(found)
+        return dict(zip(self.ids[known].tolist(), found[known].tolist()))
 
 
 class _Texts:

@@ -27,10 +27,11 @@ All charges that fit a road add up, but for those by entry, of which the first c
 
 from __future__ import annotations
 
-import tomllib
 from collections.abc import Iterable, Mapping
 from dataclasses import dataclass, replace
 from pathlib import Path
+
+import tomllib
 
 from .command import Fault
 from .modes import Mode

@@ -12,6 +12,7 @@ import numpy as np
 from pyproj import Geod, Proj
 from scipy.spatial import cKDTree
 
+from .criteria import Criterion
 from .osm import Extract, Roads
 from .progress import Watch
 from .tolls import Charged
@@ -70,12 +71,13 @@ class Weigher:
     def metres_of_rows(self) -> np.ndarray:
         return np.bincount(self.rows, self.metres, len(self.roads))
 
-    def sums(self, criteria: list[str]) -> Sums:
+    def sums(self, criteria: list[Criterion]) -> Sums:
         along, against = {}, {}
-        for name in criteria:
-            self.watch.now(f"weighing roads by {name}")
-            there, back = self._amounts(name)
-            along[name], against[name] = self._rounded_sums(there), self._rounded_sums(back)
+        for one in criteria:
+            self.watch.now(f"weighing roads by {one.name}")
+            there, back = self._amounts(one.name)
+            along[one.name] = self._rounded_sums(there / one.step)
+            against[one.name] = self._rounded_sums(back / one.step)
         return Sums(along, against)
 
     def _metres(self) -> np.ndarray:

@@ -1,6 +1,6 @@
 """Tolls of the three kinds on a drawn road, against sums that are reckoned here from its points:
 
-    h1 ── m1 ══ m2 ══ m3 ══ m4 ── h2     Turnpike: three ways of one toll road, and roads to both ends
+    h1 ── m1 ══ m2 ══ m3 ══ m4 ── h2     Turnpike: three ways of one toll road; roads to its ends
           │           │       │
           s1 ──────── s2 ──── s3         Side roads: free
 """

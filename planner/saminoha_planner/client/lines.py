@@ -52,6 +52,8 @@ class TimedOut(ClientError):
 class Refused(ClientError):
     """The query was refused: a node isn't there, or the query passes its budget."""
 
+    budget: int | None = None  # the labels that were allowed, where that is known
+
     def __init__(self, refusal: Refusal) -> None:
         self.refusal = refusal
         reasons = {

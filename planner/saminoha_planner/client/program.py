@@ -26,6 +26,7 @@ from .lines import (
     ProtocolError,
     Query,
     Refusal,
+    Refused,
     Replies,
     Reply,
     Request,
@@ -106,9 +107,16 @@ class Program:
         """All trade-offs with their walks. `Refused` is raised where the program refuses."""
         if limits is not None and any(bound is not None for bound in limits):
             request = Query(source, target, tuple(limits))
-            reply = self.lanes(files, [], [[request]]).sessions[0][0]
-            return answered(reply)
+            return self.answered(self.lanes(files, [], [[request]]).sessions[0][0])
         return self._ask("goal" if self.knows("goal") else "one", files, Query(source, target))
+
+    def answered(self, reply: Reply) -> Answer:
+        """The answer, or `Refused` raised, which knows this budget."""
+        try:
+            return answered(reply)
+        except Refused as fault:
+            fault.budget = self.budget
+            raise
 
     def costs(self, files: Files, source: int, target: int) -> Answer:
         return self._ask("costs", files, Costs(source, target))
@@ -181,7 +189,7 @@ class Program:
         search = ["--budget", str(self.budget)] if command == "goal" else self._search_options()
         options = [*_ends(request.source, request.target), *search]
         _, text = self._finish(command, options, files)
-        return answered(_replies(text, files).reply_to(request))
+        return self.answered(_replies(text, files).reply_to(request))
 
     def _run(self, command: str, options: Sequence[str] = (), files: Files = ()) -> str:
         status, text = self._finish(command, options, files)

@@ -89,6 +89,7 @@ def main() -> None:
         watch.now("writing")
         write_network(network, words.table)
         watch.now("reading water and woods")
+        watch.now("reading water and woods")
         save_background(read_background(str(words.extract)), words.network)
     for line in warnings(network.info["tolls"]) if "tolls" in network.info else []:
         print(f"import_osm.py: {line}", file=sys.stderr)

@@ -33,17 +33,26 @@ OWN_LANES = 3  # one for who watches, and two that search
 class Asker(Protocol):
     """`starting` is how many seconds the asker has been starting, and None once it answers."""
 
-    can_change: bool
-    is_own: bool
+    @property
+    def can_change(self) -> bool:
+        ...
 
     @property
-    def starting(self) -> float | None: ...
+    def is_own(self) -> bool:
+        ...
 
-    def epoch(self) -> int: ...
+    @property
+    def starting(self) -> float | None:
+        ...
 
-    def query(self, source: int, target: int) -> Answer: ...
+    def epoch(self) -> int:
+        ...
 
-    def publish(self, changes: Sequence[Change]) -> int: ...
+    def query(self, source: int, target: int) -> Answer:
+        ...
+
+    def publish(self, changes: Sequence[Change]) -> int:
+        ...
 
 
 @dataclass
@@ -163,9 +172,7 @@ class ProgramAsker:
             return self._epoch
 
 
-def once(
-    program: Program, files: Sequence[str], changes: Sequence[Change], query: Query
-) -> Answer:
+def once(program: Program, files: Sequence[str], changes: Sequence[Change], query: Query) -> Answer:
     """The answer of one run of the program, after these changes."""
     if not changes:
         return program.query(files, query.source, query.target, query.limits)

@@ -3,9 +3,10 @@
 from __future__ import annotations
 
 from collections import defaultdict
-from collections.abc import Iterable, Mapping
+from collections.abc import Iterable
 from dataclasses import dataclass
 from pathlib import Path
+from typing import Protocol
 
 import numpy as np
 
@@ -16,6 +17,11 @@ WATER, WOOD, STREAM = 100, 101, 102
 WATERS = {"riverbank", "dock"}
 STREAMS = {"river", "stream", "canal"}
 Shape = tuple[int, list[tuple[int, int]]]
+
+
+class Tags(Protocol):
+    def get(self, key: str) -> str | None:
+        ...
 
 
 @dataclass(frozen=True)
@@ -45,7 +51,7 @@ class Areas:
         return np.flatnonzero(met)
 
 
-def kind_of(tags: Mapping[str, str]) -> int | None:
+def kind_of(tags: Tags) -> int | None:
     """What a closed way or a multipolygon with these tags shows."""
     natural, landuse = tags.get("natural"), tags.get("landuse")
     if natural == "water" or landuse == "reservoir" or tags.get("waterway") in WATERS:
@@ -63,7 +69,8 @@ def read_background(extract: str) -> list[Shape]:
 
     class Relations(osmium.SimpleHandler):
         def relation(self, relation: osmium.osm.Relation) -> None:
-            if relation.tags.get("type") == "multipolygon" and (kind := kind_of(relation.tags)):
+            kind = kind_of(relation.tags)
+            if kind and relation.tags.get("type") == "multipolygon":
                 for member in relation.members:
                     if member.type == "w" and member.role != "inner":
                         outer[member.ref] = relation.id, kind

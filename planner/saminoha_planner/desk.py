@@ -15,10 +15,20 @@ from pathlib import Path
 from .ask import Asker, once
 from .background import load_background
 from .choose import Option, few, thinned
-from .client import Answer, Change, Program, Proof, Query, Refused, Route, SetArc
+from .client import (
+    MOST_BUDGET,
+    Answer,
+    Change,
+    Program,
+    Proof,
+    Query,
+    Refused,
+    Route,
+    SetArc,
+)
 from .closures import Closure
 from .colours import COLOURS
-from .command import Fault
+from .command import BYTES_OF_LABEL, Fault
 from .criteria import Criterion
 from .ends import EndFault, Ends
 from .keeper import Keeper, log_of
@@ -31,8 +41,6 @@ from .tiles import DEEPEST, Tiles
 from .twins import grouped
 
 MEASURES = ("shut", "slow=1.5", "slow=2", "slow=4")
-MOST_BUDGET = 50_000_000
-BYTES_PER_LABEL = 40
 MOST_ANSWERS = 20
 COARSER = 10
 
@@ -211,7 +219,7 @@ class Desk:
             {
                 "kind": "budget",
                 "budget": budget * one // 1_000_000 or budget * one / 1_000_000,
-                "memory": round(budget * one * BYTES_PER_LABEL / 1e9, 1) or 0.1,
+                "memory": round(budget * one * BYTES_OF_LABEL / 1e9, 1) or 0.1,
                 "words": {"budget": budget * one},
             }
             for one in more
@@ -392,7 +400,9 @@ def coarse(weight: int, times: int) -> int:
 
 
 def _coarse(limits: Sequence[int | None] | None, times: int) -> tuple[int | None, ...] | None:
-    return limits and tuple(None if most is None else most // times for most in limits)
+    if not limits:
+        return None
+    return tuple(None if most is None else most // times for most in limits)
 
 
 def _reduced(change: Change, places: Sequence[int], times: int) -> Change:

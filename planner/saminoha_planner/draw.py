@@ -147,7 +147,9 @@ def paint(ax: Axes, view: View, side: Side) -> None:
 
 def _paint_background(ax: Axes, network: Network, view: View) -> None:
     areas = load_background(network.folder)
-    seen = areas.within((view.west, view.south, view.east, view.north), (view.east - view.west) / 300)
+    seen = areas.within(
+        (view.west, view.south, view.east, view.north), (view.east - view.west) / 300
+    )
     for kind, colour in ((WOOD, "#e8f1e2"), (WATER, "#d3e5f1"), (STREAM, "#c3dbec")):
         lines = [view.metres(areas.line(shape)) for shape in seen[areas.kinds[seen] == kind]]
         if kind == STREAM:
@@ -356,11 +358,7 @@ def _paint_names(
         ):
             box = Box(x + right * wide, y + up * high, wide, high)
             inside = wide / 2 < box.x < width - wide / 2 and 0.05 * height < box.y < 0.97 * height
-            if (
-                inside
-                and not box.holds(lanes)
-                and not any(box.meets(other) for other in taken)
-            ):
+            if inside and not box.holds(lanes) and not any(box.meets(other) for other in taken):
                 ax.text(
                     box.x,
                     box.y,

@@ -95,7 +95,9 @@ class Ends:
     def _unknown(self, text: str) -> EndFault:
         like = self._like(text.split(",")[-1].strip().casefold())
         more = f"; did you mean {' or '.join(like)}?" if like else ""
-        return EndFault("unknown", f"there is no place or street {text!r}{more}", asked=text, like=like)
+        return EndFault(
+            "unknown", f"there is no place or street {text!r}{more}", asked=text, like=like
+        )
 
     def _place(self, text: str) -> NamedNode | None:
         """The largest place of the name."""
@@ -139,6 +141,4 @@ def _point(text: str) -> tuple[float, float] | None:
 
 def _metres(one: tuple[float, float], other: tuple[float, float]) -> float:
     stretch = np.cos(np.radians((one[1] + other[1]) / 2))
-    return float(
-        METRES_PER_DEGREE * np.hypot((one[0] - other[0]) * stretch, one[1] - other[1])
-    )
+    return float(METRES_PER_DEGREE * np.hypot((one[0] - other[0]) * stretch, one[1] - other[1]))

@@ -115,7 +115,9 @@ def _free_shift(place: np.ndarray, taken: list[np.ndarray]) -> np.ndarray:
     turns = np.linspace(0, 2 * np.pi, 12, endpoint=False)
     shifts = [np.zeros(2)]
     shifts += [
-        radius * np.array([np.cos(turn), np.sin(turn)]) for radius in (17, 25, 34) for turn in turns
+        np.array([radius * np.cos(turn), radius * np.sin(turn)])
+        for radius in (17, 25, 34)
+        for turn in turns
     ]
     for shift in shifts:
         if all(np.hypot(*(place + shift - other)) >= DISC for other in taken):

@@ -18,7 +18,7 @@ from .command import Fault
 from .network import Network
 
 PAUSE = 1.0  # seconds between looks
-TOGETHER = 3.0  # seconds in which an epoch and a line of the log belong together
+TOGETHER = 3.0  # seconds between a closure's time and the epoch that it makes
 
 
 class Keeper:
@@ -29,7 +29,7 @@ class Keeper:
         self._lock = threading.RLock()
         self._stands: dict[int, Change] | None = None  # by arc, what is published; None at first
         self._states: dict[str, State] = {}
-        self._log_changed = -TOGETHER
+        self._came_due = -TOGETHER  # when a closure's time came last
         self._unexplained: dict[int, float] = {}  # epochs that came from elsewhere, and when
         self.epoch: int | None = None
         self.fault = ""
@@ -94,34 +94,37 @@ class Keeper:
             self._publish(active(self.closures))
 
     def _mind_log(self) -> None:
-        """Lines that came, and closures whose time came, explain epochs of about now. What others
-        closed and published stands already.
+        """Lines of the log explain the epochs that they name, and closures whose time came those
+        of about now. What others closed and published stands already.
         """
         states = {one.name: one.state() for one in self.closures}
         if states == self._states:
             return
         for closure in self.closures:
-            is_new = closure.name not in self._states and closure.state() is State.ACTIVE
-            if is_new and closure.epoch is not None and self._stands is not None:
-                self._stands |= {change.arc: change for change in closure.changes}
-        self._states, self._log_changed = states, time.monotonic()
+            before, state = self._states.get(closure.name), states[closure.name]
+            if before is None and state is State.ACTIVE and closure.epoch is not None:
+                if self._stands is not None:
+                    self._stands |= {change.arc: change for change in closure.changes}
+            elif before not in (None, state) and not closure.lifted:
+                self._came_due = time.monotonic()
+        self._states = states
         for epoch, came in list(self._unexplained.items()):
-            if self._log_changed - came < TOGETHER:
+            if epoch in self._named or abs(self._came_due - came) < TOGETHER:
                 del self._unexplained[epoch]
 
+    @property
+    def _named(self) -> set[int | None]:
+        """The epochs that the log names; those of a page's own server were of an earlier one."""
+        if self._asker.is_own:
+            return set()
+        return {epoch for one in self.closures for epoch in (one.epoch, one.lifted_epoch)}
+
     def _mind_epoch(self, epoch: int) -> None:
-        came, last = time.monotonic(), self.epoch
+        came, last = time.monotonic(), self.epoch or 0
         self.epoch = epoch
-        known: set[int | None] = set()
-        if last is None:
-            last = 0
-            if not self._asker.is_own:
-                known |= {one.epoch for one in self.closures}
-                known |= {one.lifted_epoch for one in self.closures}
-        elif came - self._log_changed < TOGETHER:
-            return
-        news = set(range(last + 1, epoch + 1)) - known
-        self._unexplained |= {one: came for one in news}
+        if came - self._came_due >= TOGETHER:
+            news = set(range(last + 1, epoch + 1)) - self._named
+            self._unexplained |= {one: came for one in news}
 
     def _publish(self, wanted: Mapping[int, Change]) -> int | None:
         """Publishes where what stands isn't what is wanted, and answers the epoch if there was

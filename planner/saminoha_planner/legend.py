@@ -11,7 +11,8 @@ from functools import lru_cache
 
 from matplotlib.axes import Axes
 from matplotlib.figure import Figure
-from matplotlib.textpath import TextPath
+from matplotlib.font_manager import FontProperties
+from matplotlib.textpath import text_to_path
 
 from .choose import Option
 from .client import Proof
@@ -83,7 +84,8 @@ def told_of(option: Option) -> str:
 
 @lru_cache(maxsize=4096)
 def width_of(text: str, size: float = SIZE) -> float:
-    return float(TextPath((0, 0), text, size=size).get_extents().width) if text.strip() else 0.0
+    font = FontProperties(size=size)
+    return float(text_to_path.get_text_width_height_descent(text, font, False)[0])
 
 
 def wrapped(text: str, width: float, size: float = SIZE) -> tuple[str, ...]:

@@ -46,9 +46,9 @@ def _guard(site: Flask, desk: Desk) -> None:
     @site.after_request
     def only_own(response: Response) -> Response:
         """Names of an extract are others' texts: nothing in them can fetch or run a thing."""
-        response.headers["Content-Security-Policy"] = (
-            f"default-src 'self'; img-src 'self' data: {images}; style-src 'self' 'unsafe-inline'"
-        )
+        response.headers[
+            "Content-Security-Policy"
+        ] = f"default-src 'self'; img-src 'self' data: {images}; style-src 'self' 'unsafe-inline'"
         return response
 
 
@@ -133,15 +133,22 @@ def _serve_closures(site: Flask, desk: Desk) -> None:
 
     @site.post("/api/preview")
     def preview() -> Response:
-        return jsonify(desk.preview(request.get_json()))
+        return jsonify(desk.preview(_asked()))
 
     @site.post("/api/close")
     def close() -> Response:
-        return jsonify(desk.close(request.get_json()))
+        return jsonify(desk.close(_asked()))
 
     @site.post("/api/undo")
     def undo() -> Response:
-        return jsonify(desk.undo(str(request.get_json().get("id", ""))))
+        return jsonify(desk.undo(str(_asked().get("id", ""))))
+
+
+def _asked() -> dict[str, object]:
+    asked = request.get_json()
+    if not isinstance(asked, dict):
+        raise Fault("an object of JSON is due")
+    return asked
 
 
 def _number(name: str) -> float:

@@ -106,7 +106,9 @@ class Browser:
         self.rest()
 
     def click_map(self, lon: float, lat: float) -> None:
-        point = self.run("return page.map.latLngToContainerPoint([arguments[0], arguments[1]])", lat, lon)
+        point = self.run(
+            "return page.map.latLngToContainerPoint([arguments[0], arguments[1]])", lat, lon
+        )
         box = self.driver.find_element("id", "map")
         right, down = point["x"] - box.size["width"] / 2, point["y"] - box.size["height"] / 2
         actions = webdriver.ActionChains(self.driver)
@@ -280,8 +282,10 @@ def test_print(english, address, tmp_path):
         told = subprocess.run(["pdftotext", paper, "-"], capture_output=True, text=True).stdout
         assert "Northend – Southend" in told and "least distance" in told
         assert "Printed" in told and "Show alternatives" not in told
-    assert english.run("""const shown = page.map.getBounds();
-        return page.answer.options.every((one) => one.shape.getLatLngs().every((place) => shown.contains(place)))""")
+    assert english.run(
+        """const shown = page.map.getBounds();
+        return page.answer.options.every((one) => one.shape.getLatLngs().every((place) => shown.contains(place)))"""
+    )
 
 
 def test_phone(english, address):

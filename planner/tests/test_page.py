@@ -170,7 +170,11 @@ def test_close_and_undo(site, desk, town):
         site, "/api/close", {"roads": seen["roads"], "reason": "works", "author": "Ann"}
     ).get_json()
     [closure] = told["state"]["closures"]
-    assert (closure["road"], closure["reason"], closure["author"]) == ("Toll Bridge", "works", "Ann")
+    assert (closure["road"], closure["reason"], closure["author"]) == (
+        "Toll Bridge",
+        "works",
+        "Ann",
+    )
     assert closure["state"] == "active" and closure["arcs"] == seen["arcs"] and closure["lines"]
     after = ask(site, town)
     assert after["epoch"] == 1 and after["costs"] != before["costs"]
@@ -236,7 +240,9 @@ def test_stretch_between_two_points(town):
     roads = roads_of(town)
     stretches = Stretches(roads)
     street = stretches.of_road("North Street")
-    first, last = roads.line(street.roads[0]).mean(axis=0), roads.line(street.roads[-1]).mean(axis=0)
+    first, last = roads.line(street.roads[0]).mean(axis=0), roads.line(street.roads[-1]).mean(
+        axis=0
+    )
     between = stretches.between(tuple(first), tuple(last), 100)
     assert {street.roads[0], street.roads[-1]} <= set(between.roads) <= set(street.roads)
     assert between.parts == 1 and stretches.at(tuple(first), 100).roads == (street.roads[0],)

@@ -6,10 +6,14 @@ its files are the same however.
 from __future__ import annotations
 
 import argparse
+import sys
+from collections.abc import Sequence
+from contextlib import ExitStack
 from pathlib import Path
 
+from saminoha_planner.client import Program
 from saminoha_planner.command import Fault, add_program_options, program_of, proof_text, run
-from saminoha_planner.network import read_network
+from saminoha_planner.network import Network, read_network
 from saminoha_planner.parts import Folder, Plan, read_pairs, share
 from saminoha_planner.progress import Progress, waiting
 from saminoha_planner.spread import on_this_machine, on_workers, processors
@@ -64,6 +68,33 @@ def parse_words() -> argparse.Namespace:
     return parser.parse_args()
 
 
+def answer(
+    words: argparse.Namespace,
+    network: Network,
+    program: Program,
+    folder: Folder,
+    numbers: Sequence[int],
+) -> None:
+    """The parts of these numbers that aren't there yet."""
+    plan = folder.plan
+    tasks = [(number, plan.pairs_of(number)) for number in folder.missing(numbers)]
+    total = sum(len(plan.pairs_of(number)) for number in numbers)
+    has_bar = words.progress or sys.stderr.isatty()
+    with ExitStack() as stack:
+        progress = stack.enter_context(Progress("pairs", total, has_bar))
+        watch = None if has_bar else stack.enter_context(waiting("answering pairs"))
+        progress.skip(total - sum(len(pairs) for _, pairs in tasks))
+        if words.dask and tasks:
+            done = on_workers(program, network.files, tasks, words.dask, words.send_program)
+        else:
+            done = on_this_machine(program, network.files, tasks, words.jobs) if tasks else iter(())
+        for number, text in done:
+            folder.keep(number, text)
+            progress.step(len(plan.pairs_of(number)))
+            if watch:
+                watch.count(progress.done, total)
+
+
 def main() -> None:
     words = parse_words()
     if words.part < 1 or words.jobs < 1:
@@ -74,21 +105,7 @@ def main() -> None:
         plan = Plan(network.checksum(), pairs, words.part, words.budget)
     folder = Folder(words.out, plan)
     numbers = share(plan.count, words.only)
-    missing = folder.missing(numbers)
-    tasks = [(number, plan.pairs_of(number)) for number in missing]
-    with Progress(
-        "pairs",
-        sum(len(plan.pairs_of(number)) for number in numbers),
-        True if words.progress else None,
-    ) as progress:
-        progress.skip(progress.total - sum(len(pairs) for _, pairs in tasks))
-        if words.dask and tasks:
-            done = on_workers(program, network.files, tasks, words.dask, words.send_program)
-        else:
-            done = on_this_machine(program, network.files, tasks, words.jobs) if tasks else iter(())
-        for number, text in done:
-            folder.keep(number, text)
-            progress.step(len(plan.pairs_of(number)))
+    answer(words, network, program, folder, numbers)
     if left := folder.missing(range(plan.count)):
         print(f"{len(numbers)} parts are there, and {len(left)} of the others are to come")
     else:

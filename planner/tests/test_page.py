@@ -221,7 +221,8 @@ def test_another_operator(site, desk, town, tool):
     """What another tool closes by the log is seen; what the log doesn't name is counted."""
     address = ":".join(map(str, desk.asker.operator))
     with Operator(*desk.asker.operator) as operator:
-        operator.shut(bridge_of(town)[0])
+        for arc in bridge_of(town):
+            operator.shut(arc)
         operator.publish()
     desk.keeper.look()
     told = get(site, "/api/state").get_json()

@@ -11,9 +11,10 @@ from pathlib import Path
 
 from saminoha_planner.changes import applied, folded
 from saminoha_planner.client import parse_orders
-from saminoha_planner.command import Fault, add_program_options, program_of, run
+from saminoha_planner.command import Fault, add_program_options, program_of, proof_text, run
 from saminoha_planner.compare import add_trip_options, compare, trip_of
-from saminoha_planner.network import read_network, write_network
+from saminoha_planner.network import read_network, refuse_other_files, write_network
+from saminoha_planner.progress import waiting
 
 
 def parse_words() -> argparse.Namespace:
@@ -28,6 +29,9 @@ def parse_words() -> argparse.Namespace:
         help="a file of an operator's lines, as ops.py writes them",
     )
     parser.add_argument("out", type=Path, metavar="OUT", help="the folder to write")
+    parser.add_argument(
+        "--replace", action="store_true", help="write in the place of a network that is there"
+    )
     add_trip_options(parser)
     add_program_options(parser)
     return parser.parse_args()
@@ -37,6 +41,7 @@ def main() -> None:
     words = parse_words()
     if words.out.resolve() == words.network.resolve():
         raise Fault("OUT is NETWORK itself")
+    refuse_other_files(words.out, words.replace)
     network = read_network(words.network)
     try:
         stands, unpublished = folded(parse_orders(words.lines.read_text()))
@@ -47,17 +52,20 @@ def main() -> None:
             f"apply.py: {unpublished} changes stand after the last publish, and are left out",
             file=sys.stderr,
         )
-    new = applied(network, stands, words.out)
-    write_network(new)
+    with waiting("writing the network"):
+        new = applied(network, stands, words.out)
+        write_network(new)
     told = new.info["applied"]
     print(f"{told['changed']} arcs changed, {told['shut']} shut: {words.out}")
     if trip := trip_of(words, network):
         program = program_of(words)
-        answers = [
-            program.query(one.files, trip.source, one.arrival(trip.target))
-            for one in (network, new)
-        ]
-        compare(trip, (network, answers[0]), (new, answers[1]), stands)
+        with waiting("asking for the ways before and after"):
+            answers = [
+                program.query(one.files, trip.source, one.arrival(trip.target))
+                for one in (network, new)
+            ]
+        compare(trip, (network, answers[0]), (new, answers[1]), stands, program.proof())
+        print(proof_text(program.proof()))
 
 
 if __name__ == "__main__":

@@ -5,7 +5,7 @@
     with Session("127.0.0.1", 7001) as session:
         print(session.query(1, 4, limits=(None, 7)))
 
-The code stands in saminoha_planner/client.py, which can be copied alone.
+The code is the package saminoha_planner/client, which can be copied alone.
 """
 
 from __future__ import annotations
@@ -15,9 +15,69 @@ import json
 import sys
 from dataclasses import asdict
 
-from saminoha_planner.client import *  # noqa: F401,F403
-from saminoha_planner.client import Session, parse_address
+from saminoha_planner.client import (
+    Answer,
+    ClientError,
+    Costs,
+    Drop,
+    Epoch,
+    LanesRun,
+    Now,
+    Operator,
+    OperatorRefused,
+    Program,
+    ProgramFailed,
+    Proof,
+    ProtocolError,
+    Publish,
+    Query,
+    Refusal,
+    Refused,
+    Route,
+    Server,
+    Session,
+    SetArc,
+    ShutArc,
+    Sizes,
+    StoreClosed,
+    TimedOut,
+    Wait,
+    parse_address,
+    parse_orders,
+)
 from saminoha_planner.command import run
+from saminoha_planner.progress import waiting
+
+__all__ = [
+    "Answer",
+    "ClientError",
+    "Costs",
+    "Drop",
+    "Epoch",
+    "LanesRun",
+    "Now",
+    "Operator",
+    "OperatorRefused",
+    "Program",
+    "ProgramFailed",
+    "Proof",
+    "ProtocolError",
+    "Publish",
+    "Query",
+    "Refusal",
+    "Refused",
+    "Route",
+    "Server",
+    "Session",
+    "SetArc",
+    "ShutArc",
+    "Sizes",
+    "StoreClosed",
+    "TimedOut",
+    "Wait",
+    "parse_address",
+    "parse_orders",
+]
 
 
 def main() -> None:
@@ -30,16 +90,25 @@ def main() -> None:
     parser.add_argument("source", type=int, metavar="FROM", help="a node")
     parser.add_argument("target", type=int, metavar="TO", help="a node")
     parser.add_argument(
-        "limits", nargs="*", metavar="LIMIT", help="a bound for each criterion, or - for none"
+        "limits",
+        nargs="*",
+        type=parse_bound,
+        metavar="LIMIT",
+        help="a bound for each criterion, or - for none",
     )
     parser.add_argument(
         "--timeout", type=float, default=60.0, metavar="SECONDS", help="how long to wait (60)"
     )
     words = parser.parse_args()
-    limits = [None if bound == "-" else int(bound) for bound in words.limits] or None
-    with Session(*words.address, timeout=words.timeout) as session:
-        json.dump(asdict(session.query(words.source, words.target, limits)), sys.stdout)
-        print()
+    host, port = words.address
+    with waiting("asking the server"), Session(host, port, words.timeout) as session:
+        answer = session.query(words.source, words.target, words.limits or None)
+    json.dump(asdict(answer), sys.stdout)
+    print()
+
+
+def parse_bound(text: str) -> int | None:
+    return None if text == "-" else int(text)
 
 
 if __name__ == "__main__":

@@ -7,12 +7,15 @@ from __future__ import annotations
 
 import argparse
 import sys
+from collections.abc import Sequence
+from contextlib import ExitStack
 from pathlib import Path
 
-from saminoha_planner.command import Fault, add_program_options, program_of, run
-from saminoha_planner.network import read_network
+from saminoha_planner.client import Program
+from saminoha_planner.command import Fault, add_program_options, program_of, proof_text, run
+from saminoha_planner.network import Network, read_network
 from saminoha_planner.parts import Folder, Plan, read_pairs, share
-from saminoha_planner.progress import Progress
+from saminoha_planner.progress import Progress, waiting
 from saminoha_planner.spread import on_this_machine, on_workers, processors
 
 
@@ -31,6 +34,17 @@ def parse_words() -> argparse.Namespace:
         metavar="OUT",
         help="the folder of answers.jsonl and od.csv, and of the parts until then",
     )
+    add_spreading_options(parser)
+    parser.add_argument(
+        "--progress",
+        action="store_true",
+        help="show progress where standard error is no terminal too",
+    )
+    add_program_options(parser)
+    return parser.parse_args()
+
+
+def add_spreading_options(parser: argparse.ArgumentParser) -> None:
     parser.add_argument(
         "--jobs",
         type=int,
@@ -56,33 +70,24 @@ def parse_words() -> argparse.Namespace:
     parser.add_argument(
         "--part", type=int, default=20, metavar="PAIRS", help="pairs in a part (20)"
     )
-    parser.add_argument(
-        "--progress",
-        action="store_true",
-        help="show progress where standard error is no terminal too",
-    )
-    add_program_options(parser)
-    return parser.parse_args()
 
 
-def main() -> None:
-    words = parse_words()
-    if words.part < 1 or words.jobs < 1:
-        raise Fault("--part and --jobs are 1 or more")
-    network, program = read_network(words.network), program_of(words)
-    plan = Plan(
-        network.checksum(), tuple(read_pairs(words.pairs, network)), words.part, words.budget
-    )
-    folder = Folder(words.out, plan)
-    numbers = share(plan.count, words.only)
-    missing = folder.missing(numbers)
-    tasks = [(number, plan.pairs_of(number)) for number in missing]
-    with Progress(
-        "pairs",
-        sum(len(plan.pairs_of(number)) for number in numbers),
-        True if words.progress else None,
-    ) as progress:
-        progress.skip(progress.total - sum(len(pairs) for _, pairs in tasks))
+def answer(
+    words: argparse.Namespace,
+    network: Network,
+    program: Program,
+    folder: Folder,
+    numbers: Sequence[int],
+) -> None:
+    """The parts of these numbers that aren't there yet."""
+    plan = folder.plan
+    tasks = [(number, plan.pairs_of(number)) for number in folder.missing(numbers)]
+    total = sum(len(plan.pairs_of(number)) for number in numbers)
+    has_bar = words.progress or sys.stderr.isatty()
+    with ExitStack() as stack:
+        progress = stack.enter_context(Progress("pairs", total, has_bar))
+        watch = None if has_bar else stack.enter_context(waiting("answering pairs"))
+        progress.skip(total - sum(len(pairs) for _, pairs in tasks))
         if words.dask and tasks:
             done = on_workers(program, network.files, tasks, words.dask, words.send_program)
         else:
@@ -90,14 +95,28 @@ def main() -> None:
         for number, text in done:
             folder.keep(number, text)
             progress.step(len(plan.pairs_of(number)))
+            if watch:
+                watch.count(progress.done, total)
+
+
+def main() -> None:
+    words = parse_words()
+    if words.part < 1 or words.jobs < 1:
+        raise Fault("--part and --jobs are 1 or more")
+    network, program = read_network(words.network), program_of(words)
+    with waiting("reading the network and the pairs"):
+        pairs = tuple(read_pairs(words.pairs, network))
+        plan = Plan(network.checksum(), pairs, words.part, words.budget)
+    folder = Folder(words.out, plan)
+    numbers = share(plan.count, words.only)
+    answer(words, network, program, folder, numbers)
     if left := folder.missing(range(plan.count)):
         print(f"{len(numbers)} parts are there, and {len(left)} of the others are to come")
     else:
-        folder.merge(network)
-        print(
-            f"{len(plan.pairs)} pairs: {words.out / 'od.csv'}, {words.out / 'answers.jsonl'}",
-            file=sys.stdout,
-        )
+        with waiting("putting the parts together"):
+            folder.merge(network)
+        print(f"{len(plan.pairs)} pairs: {words.out / 'od.csv'}, {words.out / 'answers.jsonl'}")
+        print(proof_text(program.proof()))
 
 
 if __name__ == "__main__":

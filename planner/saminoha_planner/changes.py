@@ -5,7 +5,6 @@ their weights.
 from __future__ import annotations
 
 import re
-from collections import defaultdict
 from collections.abc import Iterable, Sequence
 from dataclasses import dataclass, replace
 from pathlib import Path
@@ -14,7 +13,7 @@ import numpy as np
 
 from .client import Change, Drop, Order, Publish, SetArc, ShutArc
 from .command import Fault
-from .network import Arc, Network
+from .network import Network
 
 MOST_WEIGHT = 2**32 - 1
 Box = tuple[float, float, float, float]
@@ -60,21 +59,21 @@ def select(
     """The arcs of these roads, by name or ref, and ways; of all where none is named; within the
     box where one is given.
     """
-    names = {road.casefold() for road in roads}
-    chosen = [
-        number
-        for number, arc in enumerate(network.arcs, start=1)
-        if arc.way
-        and (
-            (not names and not ways)
-            or arc.way in ways
-            or {arc.name.casefold(), arc.ref.casefold()} & names
-        )
-        and (box is None or _meets(arc, box))
-    ]
-    if not chosen:
+    arrays = network.arrays
+    chosen = np.isin(arrays.ways, ways) if roads or ways else np.ones(len(arrays.ways), bool)
+    for road in roads:
+        found = arrays.titled(road)
+        if not len(found):
+            raise Fault(f"no arc is of a road {road!r}{arrays.like(road)}")
+        chosen[found] = True
+    if box is not None:
+        within = np.zeros(len(chosen), bool)
+        within[[one for one in arrays.within(box) if _meets(arrays.line(one), box)]] = True
+        chosen &= within
+    arcs = arrays.arcs_of(np.flatnonzero(chosen))
+    if not len(arcs):
         raise Fault("no arc is of these roads" + (" in this box" if box else ""))
-    return chosen
+    return list(map(int, arcs))
 
 
 def changes(network: Network, arcs: Sequence[int], measure: Measure) -> list[Change]:
@@ -118,39 +117,47 @@ def applied(network: Network, stands: dict[int, Change], folder: Path) -> Networ
     """A network of its own with these changes. Weight files have no shut arcs: these are left
     out, and the others renumbered.
     """
+    arrays = network.arrays
     wrong = [arc for arc in stands if not 1 <= arc <= len(network.arcs)]
     if wrong:
         raise Fault(f"there is no arc {wrong[0]}; the network has {len(network.arcs)}")
-    arcs = []
-    for number, arc in enumerate(network.arcs, start=1):
-        match stands.get(number):
-            case None:
-                arcs.append(arc)
-            case SetArc(weights=weights):
-                if len(weights) != len(network.criteria) or not any(weights):
-                    raise Fault(
-                        f"arc {number} gets weights {weights}, which the network of {len(network.criteria)} criteria can't have"
-                    )
-                arcs.append(replace(arc, weights=weights))
+    weights, kept = np.array(arrays.weights), np.ones(len(network.arcs), bool)
+    for number, change in stands.items():
+        if isinstance(change, ShutArc):
+            kept[number - 1] = False
+        elif len(change.weights) == len(network.criteria) and any(change.weights):
+            weights[number - 1] = change.weights
+        else:
+            raise Fault(
+                f"arc {number} gets weights {change.weights}, which the network of"
+                f" {len(network.criteria)} criteria can't have"
+            )
     shut = sum(isinstance(change, ShutArc) for change in stands.values())
     told = {"applied": {"to": network.folder.name, "shut": shut, "changed": len(stands) - shut}}
-    return replace(network, folder=folder, arcs=arcs, info=network.info | told)
+    of_arcs = ("tails", "heads", "speeds", "stretches", "back")
+    fewer = {name: getattr(arrays, name)[kept] for name in of_arcs}
+    new = replace(arrays, weights=weights[kept], **fewer)
+    return Network(folder, network.criteria, new, network.places, network.info | told)
 
 
-def _meets(arc: Arc, box: Box) -> bool:
+def _meets(line: np.ndarray, box: Box) -> bool:
+    """Whether a point of the line lies in the box."""
     west, south, east, north = box
-    return any(west <= lon <= east and south <= lat <= north for lon, lat in arc.line)
+    lon, lat = line.T
+    return bool(np.any((west <= lon) & (lon <= east) & (south <= lat) & (lat <= north)))
 
 
 def _surcharges(network: Network, arcs: Sequence[int], amount: float, by_km: bool) -> list[float]:
     """Each arc's share of the amount for its whole way, or so much by the kilometre."""
+    metres, arrays = network.metres_per_arc, network.arrays
     if by_km:
-        return [amount * network.metres_per_arc[arc - 1] / 1000 for arc in arcs]
-    lengths: dict[int, dict[tuple, float]] = defaultdict(dict)
-    for number, arc in enumerate(network.arcs, start=1):
-        lengths[arc.way][network.road_key(number)] = network.metres_per_arc[number - 1]
-    totals = {way: sum(parts.values()) for way, parts in lengths.items()}
-    return [amount * network.metres_per_arc[arc - 1] / totals[network.arc(arc).way] for arc in arcs]
+        return [amount * metres[arc - 1] / 1000 for arc in arcs]
+    on_road = np.flatnonzero(arrays.stretches >= 0)
+    of_stretches = np.zeros(len(arrays.ways))
+    of_stretches[arrays.stretches[on_road]] = metres[on_road]
+    ways = [arrays.ways[arrays.stretches[arc - 1]] for arc in arcs]
+    totals = {way: of_stretches[arrays.ways == way].sum() for way in set(ways)}
+    return [amount * metres[arc - 1] / totals[way] for arc, way in zip(arcs, ways)]
 
 
 def _raised(weights: tuple[int, ...], place: int, more: float) -> tuple[int, ...]:

@@ -12,7 +12,7 @@ from .client import Route
 from .criteria import Criterion
 from .network import Network
 
-LETTERS = "ABCDEFGH"
+LETTERS = "ABCDEFGHIJ"
 MOST = len(LETTERS)
 
 
@@ -87,10 +87,10 @@ def via(routes: Sequence[Route], network: Network) -> list[str]:
     users = Counter(key for keys in used for key in set(keys))
     texts = []
     for route, keys in zip(routes, used):
-        weight: Counter[str] = Counter()
+        weight: defaultdict[str, float] = defaultdict(float)
         for arc, key in zip(route.arcs or (), keys):
             if title := network.arc(arc).title:
-                weight[title] += network.metres_per_arc[arc - 1] / users[key] ** 2  # type: ignore
+                weight[title] += network.metres_per_arc[arc - 1] / users[key] ** 2
         best = {
             title for title, _ in sorted(weight.items(), key=lambda item: (-item[1], item[0]))[:3]
         }

@@ -4,7 +4,18 @@ colour-blind eyes (Okabe and Ito).
 
 COLOURS = dict(
     zip(
-        "ABCDEFGH",
-        ("#0072B2", "#D55E00", "#009E73", "#CC79A7", "#8A6A00", "#56B4E9", "#000000", "#7A3E9D"),
+        "ABCDEFGHIJ",
+        (
+            "#0072B2",
+            "#D55E00",
+            "#009E73",
+            "#CC79A7",
+            "#8A6A00",
+            "#56B4E9",
+            "#000000",
+            "#7A3E9D",
+            "#7F1D1D",
+            "#4D7C0F",
+        ),
     )
 )

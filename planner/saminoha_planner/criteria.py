@@ -18,6 +18,7 @@ class Criterion:
     scale: float  # weights to one shown unit
     digits: int = 1
     plain: float = 1.0  # weights to a metre, a second, or what is counted
+    step: float = 1.0  # how many of the usual units a weight of 1 is
 
     def value(self, weight: float) -> float:
         return weight / self.scale
@@ -38,8 +39,9 @@ class Criterion:
         """The weight that a text like 1800, 30min, 25km or 2.50 means; a bare number is metres,
         seconds, or what is counted.
         """
-        found = re.fullmatch(r"(\d+(?:\.\d+)?) ?([a-z]*)", text)
-        units = {"": self.plain} | SUFFIXES.get(self.shown_unit, {})
+        found = re.fullmatch(r"(\d+(?:\.\d+)?) ?([^\W\d]*)", text.strip())
+        parts = SUFFIXES.get(self.shown_unit, {self.shown_unit: 1.0})
+        units = {"": self.plain} | {unit: self.scale * part for unit, part in parts.items()}
         if not found or found[2] not in units:
             known = ", ".join(unit for unit in units if unit)
             raise Fault(
@@ -49,10 +51,10 @@ class Criterion:
         return round(float(found[1]) * units[found[2]])
 
 
-SUFFIXES = {
-    "km": {"m": 1.0, "km": 1000.0},
+SUFFIXES = {  # in shown units
+    "km": {"m": 1 / 1000, "km": 1.0},
     "m": {"m": 1.0},
-    "min": {"s": 10.0, "min": 600.0, "h": 36000.0},
+    "min": {"s": 1 / 60, "min": 1.0, "h": 60.0},
 }
 CRITERIA = {
     criterion.name: criterion
@@ -65,6 +67,35 @@ CRITERIA = {
         Criterion("toll", "hundredth of the currency", "toll", "", 100.0, 2, 100.0),
     )
 }
+
+
+def coarser(criteria: Sequence[Criterion], text: str) -> list[Criterion]:
+    """The criteria, some in so many of their usual units, as `time=10,distance=50` has it."""
+    steps = {}
+    for part in filter(None, text.split(",")):
+        name, _, times = part.partition("=")
+        if name not in {one.name for one in criteria}:
+            raise Fault(f"no criterion {name!r} is weighed, so that it can't be coarser")
+        if not times.isdecimal() or not 1 <= int(times) <= 100_000:
+            raise Fault(f"{part!r} is no criterion and a whole number of its units, as time=10")
+        steps[name] = int(times)
+    return [_in_steps(one, steps.get(one.name, 1)) for one in criteria]
+
+
+def _in_steps(one: Criterion, step: int) -> Criterion:
+    if step == 1:
+        return one
+    scale, plain = one.scale / step, one.plain / step
+    return replace(one, unit=f"{step} times a {one.unit}", scale=scale, plain=plain, step=step)
+
+
+def with_currency(criteria: Sequence[Criterion], currency: str) -> list[Criterion]:
+    """Tolls in hundredths of this currency."""
+    unit = f"hundredth of {currency or 'the currency'}"
+    return [
+        replace(one, unit=unit, shown_unit=currency) if one.name == "toll" else one
+        for one in criteria
+    ]
 
 
 def parse_criteria(text: str) -> list[Criterion]:

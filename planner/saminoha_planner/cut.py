@@ -4,113 +4,140 @@ connected part, nodes near each other on the ground near each other in number.
 
 from __future__ import annotations
 
-from collections import Counter, defaultdict
+from collections import defaultdict
 from dataclasses import dataclass, replace
 from pathlib import Path
 
 import numpy as np
 from scipy.sparse import coo_matrix
 from scipy.sparse.csgraph import connected_components
+from scipy.spatial import cKDTree
 
+from .arrays import UNITS, Arrays, boxes_of
 from .criteria import Criterion
-from .network import Arc, NamedNode, Network
-from .osm import Ban, Extract
+from .entries import Groups, charged_turns, with_entries
+from .network import NamedNode, Network
+from .osm import Ban, Extract, Place
 from .weigh import Projection, Sums, Weigher
+
+MOST_METRES_TO_PLACE = 3000.0
 
 
 @dataclass(frozen=True)
-class Piece:
-    """A stretch of a road from one cut to the next, in the direction in which it is gone;
-    against the road where first > last.
-    """
+class Wanted:
+    """What is made of an extract."""
 
-    road: int
-    first: int
-    last: int
-    tail: int  # points of the extract
-    head: int
+    criteria: list[Criterion]
+    split: str  # "junctions" or "points"
+    turns: bool
+    heights: dict[int, float]  # by points
 
 
-def build(
-    extract: Extract,
-    criteria: list[Criterion],
-    split: str,
-    heights: dict[int, float],
-    turns: bool,
-    folder: Path,
-) -> Network:
-    pieces = _pieces(extract, _cuts(extract, split))
-    sums = Weigher(extract, criteria, _junctions(extract), heights).sums(extract.roads)
-    if turns:
-        followers = _followers(pieces, extract)
-        pieces, followers = _connected_with_turns(pieces, followers)
+@dataclass(frozen=True)
+class Stretches:
+    """Stretches of roads by the places of their first and last points among all roads' points."""
+
+    rows: np.ndarray
+    first: np.ndarray
+    last: np.ndarray
+
+    def taken(self, which: np.ndarray) -> Stretches:
+        return Stretches(self.rows[which], self.first[which], self.last[which])
+
+
+@dataclass(frozen=True)
+class Pieces:
+    """Stretches as they are gone: from point `tails` to point `heads` of the extract."""
+
+    stretches: np.ndarray
+    back: np.ndarray
+    tails: np.ndarray
+    heads: np.ndarray
+
+    def __len__(self) -> int:
+        return len(self.tails)
+
+    def taken(self, which: np.ndarray) -> Pieces:
+        return Pieces(self.stretches[which], self.back[which], self.tails[which], self.heads[which])
+
+
+@dataclass(frozen=True)
+class Follows:
+    """Piece `after` may follow piece `before`, pair by pair."""
+
+    before: np.ndarray
+    after: np.ndarray
+
+    def taken(self, which: np.ndarray) -> Follows:
+        return Follows(self.before[which], self.after[which])
+
+
+def build(extract: Extract, weigher: Weigher, wanted: Wanted, folder: Path) -> Network:
+    watch, charged = weigher.watch, weigher.charged
+    watch.now("cutting roads")
+    stretches = _stretches(extract, wanted.split)
+    pieces = _pieces(extract, stretches)
+    follows = None
+    if wanted.turns:
+        pieces, follows = _connected_with_turns(pieces, _follows(extract, stretches, pieces))
     else:
         pieces = _largest_part(pieces)
-    points = _in_morton_order(
-        {piece.tail for piece in pieces} | {piece.head for piece in pieces}, extract
+    sums = weigher.sums(wanted.criteria)
+    watch.now("numbering nodes and arcs")
+    points = _in_morton_order(np.unique([pieces.tails, pieces.heads]), extract)
+    numbers = np.zeros(len(extract.ids), np.int64)
+    numbers[points] = np.arange(1, len(points) + 1)
+    order = _order(extract, stretches, pieces, numbers)
+    pieces = pieces.taken(order)
+    arrays = _arrays(extract, stretches, pieces, numbers, points)
+    arrays = replace(
+        arrays, weights=_weights(stretches, pieces, sums, wanted.criteria).astype(np.uint32)
     )
-    number = {point: node for node, point in enumerate(points, start=1)}
-    located = np.array([extract.locations[point] for point in points]).reshape(-1, 2)
-    order = sorted(
-        range(len(pieces)),
-        key=lambda at: (
-            number[pieces[at].tail],
-            number[pieces[at].head],
-            extract.roads[pieces[at].road].way,
-            pieces[at].first,
-        ),
-    )
-    arcs = [_arc(extract, pieces[at], sums[pieces[at].road], number, criteria) for at in order]
-    places = _snapped(extract, located)
-    network = Network(folder, criteria, located[:, 0], located[:, 1], arcs, places)
-    if turns:
-        rank = {at: place for place, at in enumerate(order)}
-        network = _with_arcs_as_nodes(
-            network, [[rank[after] for after in followers[at]] for at in order]
-        )
-    return network
+    groups = Groups.of(charged.entries, stretches.rows[pieces.stretches], wanted.criteria)
+    places = _snapped(extract.named, arrays.nodes / UNITS)
+    info: dict[str, object] = {}
+    if follows is not None:
+        rank = np.argsort(order)
+        followed = Follows(rank[follows.before], rank[follows.after])
+        arrays, info = _with_arcs_as_nodes(arrays, followed, groups)
+    elif groups:
+        arrays, info = with_entries(arrays, groups)
+    return Network(folder, wanted.criteria, arrays, places, info)
 
 
 # Cutting.
 
 
-def _cuts(extract: Extract, split: str) -> set[int]:
-    """The points at which roads are cut: where they end, meet or are blocked, or all."""
-    if split == "points":
-        return set(extract.locations)
-    uses: Counter[int] = Counter()
-    for road in extract.roads:
-        uses.update(road.points)
-        uses.update((road.points[0], road.points[-1]))
-    return {point for point, count in uses.items() if count > 1 or point in extract.blocked}
+def _stretches(extract: Extract, split: str) -> Stretches:
+    """Roads are cut where they end, meet or are blocked, or at all points."""
+    roads, count = extract.roads, len(extract.ids)
+    uses = np.bincount(roads.points, minlength=count)
+    for ends in (roads.first[:-1], roads.first[1:] - 1):
+        uses += np.bincount(roads.points[ends], minlength=count)
+    is_cut = (uses > 1) | extract.blocked | (split == "points")
+    at = np.flatnonzero(is_cut[roads.points])
+    rows = roads.rows[at]
+    same = rows[1:] == rows[:-1]
+    first, last, rows = at[:-1][same], at[1:][same], rows[:-1][same]
+    a, b = roads.points[first], roads.points[last]
+    is_open = (a != b) & ~extract.blocked[a] & ~extract.blocked[b]
+    return Stretches(rows, first, last).taken(is_open)
 
 
-def _junctions(extract: Extract) -> set[int]:
-    """Points from which roads lead to three points or more."""
-    around = defaultdict(set)
-    for road in extract.roads:
-        for a, b in zip(road.points, road.points[1:]):
-            around[a].add(b)
-            around[b].add(a)
-    return {point for point, others in around.items() if len(others) > 2}
+def _pieces(extract: Extract, stretches: Stretches) -> Pieces:
+    points, roads = extract.roads.points, extract.roads
+    along = np.flatnonzero(~np.isnan(roads.along[stretches.rows]))
+    against = np.flatnonzero(~np.isnan(roads.against[stretches.rows]))
+    a, b = points[stretches.first], points[stretches.last]
+    return Pieces(
+        np.concatenate([along, against]),
+        np.repeat([False, True], [len(along), len(against)]),
+        np.concatenate([a[along], b[against]]),
+        np.concatenate([b[along], a[against]]),
+    )
 
 
-def _pieces(extract: Extract, cuts: set[int]) -> list[Piece]:
-    pieces = []
-    for number, road in enumerate(extract.roads):
-        places = [at for at, point in enumerate(road.points) if point in cuts]
-        for first, last in zip(places, places[1:]):
-            a, b = road.points[first], road.points[last]
-            if a == b or a in extract.blocked or b in extract.blocked:
-                continue
-            if road.along:
-                pieces.append(Piece(number, first, last, a, b))
-            if road.against:
-                pieces.append(Piece(number, last, first, b, a))
-    return pieces
-
-
-def _largest(count: int, tails: list[int], heads: list[int]) -> np.ndarray:
+def _largest(count: int, tails: np.ndarray, heads: np.ndarray) -> np.ndarray:
     """Which of the numbers below `count` are in the largest strongly connected part."""
     if not count:
         return np.zeros(0, bool)
@@ -119,41 +146,44 @@ def _largest(count: int, tails: list[int], heads: list[int]) -> np.ndarray:
     return labels == np.argmax(np.bincount(labels))
 
 
-def _largest_part(pieces: list[Piece]) -> list[Piece]:
-    points = sorted({piece.tail for piece in pieces} | {piece.head for piece in pieces})
-    place = {point: at for at, point in enumerate(points)}
-    kept = _largest(
-        len(points),
-        [place[piece.tail] for piece in pieces],
-        [place[piece.head] for piece in pieces],
-    )
-    return [piece for piece in pieces if kept[place[piece.tail]] and kept[place[piece.head]]]
+def _largest_part(pieces: Pieces) -> Pieces:
+    points, ends = np.unique([pieces.tails, pieces.heads], return_inverse=True)
+    tails, heads = ends.reshape(2, -1)
+    kept = _largest(len(points), tails, heads)
+    return pieces.taken(kept[tails] & kept[heads]) if len(points) else pieces
 
 
 # Turns.
 
 
-def _followers(pieces: list[Piece], extract: Extract) -> list[list[int]]:
-    """For each piece those that may follow it: no ban stands between them, and back only where
-    nothing else leads on.
-    """
-    leaving = defaultdict(list)
-    for at, piece in enumerate(pieces):
-        leaving[piece.tail].append(at)
-    way = [extract.roads[piece.road].way for piece in pieces]
-    bans = defaultdict(list)
+def _follows(extract: Extract, stretches: Stretches, pieces: Pieces) -> Follows:
+    """No ban stands between the two, and back goes only who can't go on otherwise."""
+    order = np.argsort(pieces.tails, kind="stable")
+    tails = pieces.tails[order]
+    begins = np.searchsorted(tails, pieces.heads, "left")
+    counts = np.searchsorted(tails, pieces.heads, "right") - begins
+    before = np.repeat(np.arange(len(pieces)), counts)
+    place = np.arange(len(before)) - np.repeat(np.cumsum(counts) - counts, counts)
+    after = order[begins[before] + place]
+    is_back = pieces.stretches[before] == pieces.stretches[after]
+    goes_on = np.bincount(before[~is_back], minlength=len(pieces)) > 0
+    banned = _banned(extract, stretches, pieces, Follows(before, after))
+    kept = np.where(is_back, ~goes_on[before], ~banned)
+    return Follows(before[kept], after[kept])
+
+
+def _banned(extract: Extract, stretches: Stretches, pieces: Pieces, pairs: Follows) -> np.ndarray:
+    bans: dict[tuple[int, int], list[Ban]] = defaultdict(list)
     for ban in extract.bans:
         bans[ban.source, ban.via].append(ban)
-    followers = []
-    for at, piece in enumerate(pieces):
-        onward = [after for after in leaving[piece.head] if not _is_back(piece, pieces[after])]
-        allowed = [after for after in onward if _allows(bans[way[at], piece.head], way[after])]
-        followers.append(allowed if onward else leaving[piece.head])
-    return followers
-
-
-def _is_back(piece: Piece, after: Piece) -> bool:
-    return (after.road, after.first, after.last) == (piece.road, piece.last, piece.first)
+    vias = np.isin(extract.ids, [ban.via for ban in extract.bans])
+    ways = extract.roads.ways[stretches.rows[pieces.stretches]]
+    banned = np.zeros(len(pairs.before), bool)
+    for at in np.flatnonzero(vias[pieces.heads[pairs.before]]):
+        before, after = pairs.before[at], pairs.after[at]
+        via = int(extract.ids[pieces.heads[before]])
+        banned[at] = not _allows(bans[int(ways[before]), via], int(ways[after]))
+    return banned
 
 
 def _allows(bans: list[Ban], target: int) -> bool:
@@ -163,62 +193,62 @@ def _allows(bans: list[Ban], target: int) -> bool:
     )
 
 
-def _connected_with_turns(
-    pieces: list[Piece], followers: list[list[int]]
-) -> tuple[list[Piece], list[list[int]]]:
+def _connected_with_turns(pieces: Pieces, follows: Follows) -> tuple[Pieces, Follows]:
     """The pieces that can be gone one after the other and back."""
-    tails = [at for at, after in enumerate(followers) for _ in after]
-    heads = [to for after in followers for to in after]
-    kept = np.flatnonzero(_largest(len(pieces), tails, heads))
-    place = {int(at): new for new, at in enumerate(kept)}
-    return [pieces[at] for at in kept], [
-        [place[to] for to in followers[at] if to in place] for at in kept
-    ]
+    kept = _largest(len(pieces), follows.before, follows.after)
+    place = np.cumsum(kept) - 1
+    within = follows.taken(kept[follows.before] & kept[follows.after])
+    return pieces.taken(kept), Follows(place[within.before], place[within.after])
 
 
-def _with_arcs_as_nodes(network: Network, followers: list[list[int]]) -> Network:
+def _with_arcs_as_nodes(
+    arrays: Arrays, follows: Follows, groups: Groups
+) -> tuple[Arrays, dict[str, object]]:
     """With n junctions and m arcs, node j is where walks begin at junction j, n + j where they
     end there, and 2n + a stands at the end of arc a. The arc to the end of a walk has 1 in the
     first criterion, as no arc may weigh nothing.
     """
-    n, roads = len(network.lon), network.arcs
-    lon = np.concatenate([network.lon, network.lon, network.lon[[arc.head - 1 for arc in roads]]])
-    lat = np.concatenate([network.lat, network.lat, network.lat[[arc.head - 1 for arc in roads]]])
-    arcs = [replace(arc, head=2 * n + at) for at, arc in enumerate(roads, start=1)]
-    least = (1,) + (0,) * (len(network.criteria) - 1)
-    for at, arc in enumerate(roads, start=1):
-        here = 2 * n + at
-        arcs.append(
-            replace(
-                arc,
-                tail=here,
-                head=n + arc.head,
-                way=0,
-                cls="arrival",
-                name="",
-                ref="",
-                speed=0.0,
-                weights=least,
-                line=arc.line[-1:],
-            )
-        )
-        arcs.extend(replace(roads[to], tail=here, head=2 * n + to + 1) for to in followers[at - 1])
-    return replace(network, lon=lon, lat=lat, arcs=arcs, info={"turns": True, "junctions": n})
+    n, m = len(arrays.nodes), len(arrays.tails)
+    at = np.arange(m)
+    order = np.lexsort((follows.after, follows.before))
+    before, after = follows.before[order], follows.after[order]
+    place = np.argsort(np.concatenate([2 * at, 2 * before + 1]), kind="stable")
+    source = np.concatenate([at, np.concatenate([np.full(m, -1), after])[place]])
+    here = 2 * n + 1 + np.concatenate([at, before])[place]
+    ends = np.where(source[m:] < 0, n + arrays.heads[here - 2 * n - 1], 2 * n + 1 + source[m:])
+    is_arrival = source < 0
+    least = np.zeros(arrays.weights.shape[1], arrays.weights.dtype)
+    least[0] = 1
+    weights = np.where(is_arrival[:, None], least, arrays.weights[source])
+    entered = np.concatenate([np.full(m, -1), here - 2 * n - 1])
+    weights += charged_turns(groups, entered, source)
+    return (
+        replace(
+            arrays,
+            nodes=np.concatenate([arrays.nodes, arrays.nodes, arrays.nodes[arrays.heads - 1]]),
+            tails=np.concatenate([arrays.tails, here]).astype(np.int32),
+            heads=np.concatenate([2 * n + 1 + at, ends]).astype(np.int32),
+            weights=weights,
+            speeds=np.where(is_arrival, np.float32(0), arrays.speeds[source]),
+            stretches=np.where(is_arrival, np.int32(-1), arrays.stretches[source]),
+            back=arrays.back[source] & ~is_arrival,
+        ),
+        {"turns": True, "junctions": n},
+    )
 
 
 # Numbers, arcs and places.
 
 
-def _in_morton_order(points: set[int], extract: Extract) -> list[int]:
+def _in_morton_order(points: np.ndarray, extract: Extract) -> np.ndarray:
     """By the bits of longitude and latitude in turn, so that near nodes have near numbers."""
-    listed = sorted(points)
-    places = np.array([extract.locations[point] for point in listed]).reshape(-1, 2)
+    places = extract.places[points]
     if not len(places):
-        return []
+        return points
     span = max(float(np.ptp(places, axis=0).max()), 1e-9)
     grid = ((places - places.min(axis=0)) / span * (2**16 - 1)).astype(np.uint64)
     code = _spread(grid[:, 0]) | _spread(grid[:, 1]) << np.uint64(1)
-    return [listed[at] for at in np.argsort(code, kind="stable")]
+    return points[np.argsort(code, kind="stable")]
 
 
 def _spread(bits: np.ndarray) -> np.ndarray:
@@ -228,56 +258,82 @@ def _spread(bits: np.ndarray) -> np.ndarray:
     return bits
 
 
-def _arc(
-    extract: Extract, piece: Piece, sums: Sums, number: dict[int, int], criteria: list[Criterion]
-) -> Arc:
-    road = extract.roads[piece.road]
-    along = piece.first < piece.last
-    stretch = (
-        road.points[piece.first : piece.last + 1]
-        if along
-        else road.points[piece.last : piece.first + 1][::-1]
-    )
-    weights = [sums.weight(criterion.name, piece.first, piece.last) for criterion in criteria]
-    weights = [
-        max(weight, 1) if criterion.name in ("distance", "time") else weight
-        for weight, criterion in zip(weights, criteria)
-    ]
-    if not any(weights):
-        weights[0] = 1
-    speed = (road.along if along else road.against) or 0.0
-    return Arc(
-        number[piece.tail],
-        number[piece.head],
-        road.way,
-        road.cls,
-        road.name,
-        road.ref,
-        speed,
-        tuple(weights),
-        tuple(extract.locations[point] for point in stretch),
+def _order(
+    extract: Extract, stretches: Stretches, pieces: Pieces, numbers: np.ndarray
+) -> np.ndarray:
+    """By tail, head, way, and the place in the way."""
+    roads, which = extract.roads, pieces.stretches
+    rows = stretches.rows[which]
+    begins = np.where(pieces.back, stretches.last[which], stretches.first[which])
+    places = begins - roads.first[rows]
+    ends = (numbers[pieces.heads], numbers[pieces.tails])
+    return np.lexsort((which, places, roads.ways[rows], *ends))
+
+
+def _weights(
+    stretches: Stretches, pieces: Pieces, sums: Sums, criteria: list[Criterion]
+) -> np.ndarray:
+    a, b = stretches.first[pieces.stretches], stretches.last[pieces.stretches]
+    first, last = np.where(pieces.back, b, a), np.where(pieces.back, a, b)
+    weights = np.zeros((len(pieces), len(criteria)), np.int64)
+    for place, criterion in enumerate(criteria):
+        least = 1 if criterion.name in ("distance", "time") else 0
+        weights[:, place] = np.maximum(sums.weights(criterion.name, first, last), least)
+    weights[~weights.any(axis=1), 0] = 1
+    return weights
+
+
+def _arrays(
+    extract: Extract,
+    stretches: Stretches,
+    pieces: Pieces,
+    numbers: np.ndarray,
+    points: np.ndarray,
+) -> Arrays:
+    """All but the weights, with the stretches that are gone alone."""
+    used, places = np.unique(pieces.stretches, return_inverse=True)
+    stretches, roads = stretches.taken(used), extract.roads
+    counts = stretches.last - stretches.first + 1
+    first = np.concatenate([[0], np.cumsum(counts)]).astype(np.int64)
+    at = np.repeat(stretches.first - first[:-1], counts) + np.arange(first[-1])
+    lines = _units(extract.places[roads.points[at]])
+    rows = stretches.rows
+    speeds = np.where(pieces.back, roads.against[rows[places]], roads.along[rows[places]])
+    return Arrays(
+        nodes=_units(extract.places[points]),
+        tails=numbers[pieces.tails].astype(np.int32),
+        heads=numbers[pieces.heads].astype(np.int32),
+        weights=np.zeros((len(pieces), 0), np.uint32),
+        speeds=speeds.astype(np.float32),
+        stretches=places.astype(np.int32),
+        back=pieces.back,
+        first=first,
+        points=lines,
+        boxes=boxes_of(first, lines),
+        ways=roads.ways[rows],
+        classes=roads.classes[rows].astype(np.uint8),
+        names=roads.names[rows].astype(np.int32),
+        refs=roads.refs[rows].astype(np.int32),
+        class_names=roads.class_names,
+        texts=roads.texts,
     )
 
 
-def _snapped(extract: Extract, located: np.ndarray) -> list[NamedNode]:
-    """Each place with the node nearest to it, where one is within 3 km."""
-    if not len(located) or not extract.places:
+def _units(places: np.ndarray) -> np.ndarray:
+    return np.rint(places * UNITS).astype(np.int32)
+
+
+def _snapped(named: list[Place], located: np.ndarray) -> list[NamedNode]:
+    """Each place with the node nearest to it, where one is near."""
+    if not len(located) or not named:
         return []
     projection = Projection(located[:, 0], located[:, 1])
-    nodes = projection.metres(located[:, 0], located[:, 1])
-    named = []
-    for place in sorted(extract.places, key=lambda place: (place.name, place.lon, place.lat)):
-        [point] = projection.metres(np.array([place.lon]), np.array([place.lat]))
-        away = np.hypot(*(nodes - point).T)
-        if away.min() <= 3000:
-            named.append(
-                NamedNode(
-                    place.name,
-                    place.kind,
-                    place.population,
-                    int(np.argmin(away)) + 1,
-                    place.lon,
-                    place.lat,
-                )
-            )
-    return named
+    tree = cKDTree(projection.metres(located[:, 0], located[:, 1]))
+    named = sorted(named, key=lambda place: (place.name, place.lon, place.lat))
+    lon, lat = (np.array([getattr(one, name) for one in named]) for name in ("lon", "lat"))
+    away, nearest = tree.query(projection.metres(lon, lat))
+    return [
+        NamedNode(one.name, one.kind, one.population, int(node) + 1, one.lon, one.lat)
+        for one, metres, node in zip(named, away, nearest)
+        if metres <= MOST_METRES_TO_PLACE
+    ]

@@ -45,20 +45,20 @@ class Findings:
 
 
 def examine(network: Network, pairs: Sequence[tuple[int, int]] = ()) -> Findings:
-    graph = _graph(network)
+    graph, arrays = _graph(network), network.arrays
     return Findings(
         _components(graph),
         _ranges(network),
-        [at for at, arc in enumerate(network.arcs, start=1) if arc.tail == arc.head],
+        (np.flatnonzero(arrays.tails == arrays.heads) + 1).tolist(),
         _parallel(network),
         _without_walk(graph, pairs),
     )
 
 
 def _graph(network: Network) -> csr_matrix:
-    count = len(network.lon)
-    ends = ([arc.tail - 1 for arc in network.arcs], [arc.head - 1 for arc in network.arcs])
-    return csr_matrix((np.ones(len(network.arcs)), ends), shape=(count, count))
+    arrays, count = network.arrays, len(network.arrays.nodes)
+    ends = (arrays.tails - 1, arrays.heads - 1)
+    return csr_matrix((np.ones(len(arrays.tails)), ends), shape=(count, count))
 
 
 def _components(graph: csr_matrix) -> list[int]:
@@ -67,7 +67,6 @@ def _components(graph: csr_matrix) -> list[int]:
 
 
 def _ranges(network: Network) -> list[Range]:
-    weights = np.array([arc.weights for arc in network.arcs]).reshape(-1, len(network.criteria))
     return [
         Range(
             criterion.name,
@@ -76,15 +75,18 @@ def _ranges(network: Network) -> list[Range]:
             int(column.max()),
             int((column == 0).sum()),
         )
-        for criterion, column in zip(network.criteria, weights.T)
+        for criterion, column in zip(network.criteria, network.arrays.weights.T)
         if len(column)
     ]
 
 
 def _parallel(network: Network) -> list[Parallel]:
-    between: dict[tuple[int, int], list[int]] = defaultdict(list)
-    for number, arc in enumerate(network.arcs, start=1):
-        between[arc.tail, arc.head].append(number)
+    arrays = network.arrays
+    keys = arrays.tails.astype(np.int64) << 32 | arrays.heads
+    several, counts = np.unique(keys, return_counts=True)
+    between: dict[int, list[int]] = defaultdict(list)
+    for place in np.flatnonzero(np.isin(keys, several[counts > 1])):
+        between[int(keys[place])].append(int(place) + 1)
     found = []
     for numbers in between.values():
         first, *others = sorted(numbers, key=lambda number: (network.arc(number).weights, number))

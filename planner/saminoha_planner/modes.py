@@ -4,6 +4,7 @@ truck, a bike or a walker.
 
 from __future__ import annotations
 
+import functools
 import re
 from collections.abc import Mapping
 from dataclasses import dataclass, field
@@ -88,7 +89,7 @@ BIKE = {
     "ferry": 10,
 }
 FOOT = {name: 5 for name in (*BIKE, "footway", "pedestrian")} | {"steps": 2, "ferry": 10}
-BY_SIGN_ALONE = {
+BY_SIGN_ALONE: dict[str, set[str]] = {
     "bike": {"footway", "pedestrian"},
     "car": {"track"},
     "truck": {"track"},
@@ -209,6 +210,7 @@ def duration(text: str | None) -> float | None:
     return hours * 3600.0 + minutes * 60.0 + seconds or None
 
 
+@functools.cache
 def parse_speed(text: str | None) -> float | None:
     """km/h of a `maxspeed`."""
     text = (text or "").strip().lower().split(";")[0]

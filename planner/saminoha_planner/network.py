@@ -1,18 +1,24 @@
-"""A network's folder: a weight file for each criterion, `nodes.co`, `arcs.tsv`, `places.tsv` and
-`import.json`.
+"""A network's folder: a weight file for each criterion, `nodes.co`, `arcs.tsv`, `places.tsv`,
+`import.json`, and the folder `arrays` from which the tools read.
 """
 
 from __future__ import annotations
 
+import difflib
 import functools
 import hashlib
 import json
-from collections.abc import Iterable, Sequence
+import os
+import shutil
+from collections.abc import Iterable, Iterator, Sequence
 from dataclasses import asdict, dataclass, field, replace
 from pathlib import Path
+from typing import overload
 
 import numpy as np
 
+from . import arrays as network_arrays
+from .arrays import Arrays, degrees
 from .command import Fault
 from .criteria import CRITERIA, Criterion
 
@@ -34,8 +40,8 @@ Line = tuple[tuple[float, float], ...]
 
 @dataclass(frozen=True)
 class Arc:
-    """A row of `arcs.tsv`. The arc to the arrival of a network with turns has way 0 and a line
-    of one point.
+    """A row of `arcs.tsv`. The arc to the arrival of a network with turns has way 0, the class
+    `arrival` and a line of one point.
     """
 
     tail: int
@@ -63,15 +69,89 @@ class NamedNode:
     lat: float
 
 
+class Arcs(Sequence[Arc]):
+    """The arcs one by one, each made as it is asked for; who looks at all of a large network
+    takes its arrays.
+    """
+
+    def __init__(self, arrays: Arrays) -> None:
+        self.arrays = arrays
+        self._made: dict[int, Arc] = {}
+
+    def __len__(self) -> int:
+        return len(self.arrays.tails)
+
+    def __eq__(self, other: object) -> bool:
+        return isinstance(other, Sequence) and list(self) == list(other)
+
+    @overload
+    def __getitem__(self, place: int) -> Arc:
+        ...
+
+    @overload
+    def __getitem__(self, place: slice) -> list[Arc]:
+        ...
+
+    def __getitem__(self, place: int | slice) -> Arc | list[Arc]:
+        if isinstance(place, slice):
+            return [self[one] for one in range(*place.indices(len(self)))]
+        if not -len(self) <= place < len(self):
+            raise IndexError(place)
+        place %= len(self)
+        if place not in self._made:
+            self._made[place] = self._make(place)
+        return self._made[place]
+
+    def _make(self, place: int) -> Arc:
+        arrays, stretch = self.arrays, int(self.arrays.stretches[place])
+        tail, head = int(arrays.tails[place]), int(arrays.heads[place])
+        weights = tuple(map(int, arrays.weights[place]))
+        if stretch < 0:
+            [point] = _line(arrays.nodes[head - 1 : head])
+            return Arc(tail, head, 0, "arrival", "", "", 0.0, weights, (point,))
+        line = _line(arrays.points[arrays.first[stretch] : arrays.first[stretch + 1]])
+        return Arc(
+            tail,
+            head,
+            int(arrays.ways[stretch]),
+            arrays.class_of(stretch),
+            arrays.texts[arrays.names[stretch]],
+            arrays.texts[arrays.refs[stretch]],
+            float(f"{arrays.speeds[place]:g}"),
+            weights,
+            line[::-1] if arrays.back[place] else line,
+        )
+
+
+def _line(places: np.ndarray) -> Line:
+    return tuple((lon, lat) for lon, lat in degrees(places).tolist())
+
+
 @dataclass
 class Network:
     folder: Path
     criteria: list[Criterion]
-    lon: np.ndarray  # of node k at k - 1
-    lat: np.ndarray
-    arcs: list[Arc]  # arc k at k - 1
+    arrays: Arrays
     places: list[NamedNode]
     info: dict = field(default_factory=dict)
+
+    @functools.cached_property
+    def arcs(self) -> Arcs:
+        """Arc k at k - 1."""
+        return Arcs(self.arrays)
+
+    @functools.cached_property
+    def lon(self) -> np.ndarray:
+        """Of node k at k - 1, in degrees."""
+        return degrees(self.arrays.nodes[:, 0])
+
+    @functools.cached_property
+    def lat(self) -> np.ndarray:
+        return degrees(self.arrays.nodes[:, 1])
+
+    @property
+    def currency(self) -> str:
+        return self.info.get("tolls", {}).get("currency", "")
 
     @property
     def files(self) -> list[str]:
@@ -97,29 +177,25 @@ class Network:
         for index, one in enumerate(self.criteria):
             if one.name == criterion:
                 return index
-        raise Fault(
-            f"{self.folder} has no criterion {criterion!r}; it has {', '.join(one.name for one in self.criteria)}"
-        )
+        names = ", ".join(one.name for one in self.criteria)
+        raise Fault(f"{self.folder} has no criterion {criterion!r}; it has {names}")
 
-    def with_criteria(self, places: Sequence[int]) -> "Network":
+    def with_criteria(self, places: Sequence[int]) -> Network:
         """With the criteria at these places alone, in this order."""
-        arcs = [
-            replace(arc, weights=tuple(arc.weights[place] for place in places)) for arc in self.arcs
-        ]
-        return replace(self, criteria=[self.criteria[place] for place in places], arcs=arcs)
+        arrays = replace(self.arrays, weights=self.arrays.weights[:, list(places)])
+        return replace(self, criteria=[self.criteria[place] for place in places], arrays=arrays)
 
     @functools.cached_property
-    def metres_per_arc(self) -> list[float]:
+    def metres_per_arc(self) -> np.ndarray:
         """Each arc's length, by which routes are told apart."""
         if any(one.name == "distance" for one in self.criteria):
-            place = self.index_of("distance")
-            return [float(arc.weights[place]) for arc in self.arcs]
-        return [_length(arc.line) for arc in self.arcs]
+            return self.arrays.weights[:, self.index_of("distance")].astype(float)
+        return np.where(self.arrays.stretches < 0, 0.0, self.arrays.metres[self.arrays.stretches])
 
-    def road_key(self, number: int) -> tuple:
-        """The same for both directions of one stretch of road."""
-        line = self.arc(number).line
-        return min(line, line[::-1])
+    def road_key(self, number: int) -> int:
+        """The same for all arcs of one stretch of road."""
+        stretch = int(self.arrays.stretches[number - 1])
+        return stretch if stretch >= 0 else -number
 
     def nearest(self, lon: float, lat: float) -> int:
         """The junction nearest to a point."""
@@ -158,7 +234,9 @@ class Network:
             place for place in self.places if place.name.casefold().startswith(wanted)
         ]
         if not found:
-            raise Fault(f"there is no place {text!r} in {self.folder / 'places.tsv'}")
+            raise Fault(
+                f"there is no place {text!r} in {self.folder / 'places.tsv'}{self._like(wanted)}"
+            )
         best = min(found, key=rank_of)
         equal = [
             place for place in found if rank_of(place) == rank_of(best) and place.node != best.node
@@ -167,6 +245,11 @@ class Network:
             others = ", ".join(f"{place.name} (node {place.node})" for place in [best, *equal])
             raise Fault(f"{text!r} may be {others}: give the node")
         return best
+
+    def _like(self, wanted: str) -> str:
+        names = {place.name.casefold(): place.name for place in self.places}
+        near = difflib.get_close_matches(wanted, names, 1, 0.7)
+        return f"; is it {names[near[0]]}?" if near else ""
 
     def checksum(self) -> str:
         """Of the weight files, in their order."""
@@ -180,20 +263,49 @@ def rank_of(place: NamedNode) -> tuple[int, int]:
     return PLACES.index(place.kind) if place.kind in PLACES else len(PLACES), -place.population
 
 
-def _length(line: Line) -> float:
-    degrees = 111_195.0
-    return sum(
-        degrees * np.hypot((b[0] - a[0]) * np.cos(np.radians(a[1])), b[1] - a[1])
-        for a, b in zip(line, line[1:])
-    )
-
-
 # Writing.
 
 
-def write_network(network: Network) -> None:
+def refuse_other_files(folder: Path, replaces: bool) -> None:
+    """A folder that has files isn't written to, but for a network's that is to be replaced."""
+    names = {file.name for file in folder.iterdir()} if folder.is_dir() else set()
+    if not names:
+        return
+    if "import.json" not in names:
+        raise Fault(f"{folder} has files of other things: name another folder")
+    if not replaces:
+        raise Fault(f"{folder} has a network: name another folder, or say --replace")
+
+
+def write_network(network: Network, with_table: bool = False) -> None:
+    """Beside its place, and moved there whole; what the folder had is gone then. The table is
+    `arcs.tsv`, which no tool reads.
+    """
     folder = network.folder
-    folder.mkdir(parents=True, exist_ok=True)
+    beside = folder.with_name(f".{folder.name}.{os.getpid()}.new")
+    beside.mkdir(parents=True)
+    try:
+        _write_files(network, beside)
+        if with_table:
+            _write_arcs(beside / "arcs.tsv", network)
+        if folder.is_dir():
+            _keep_log(folder)
+            shutil.rmtree(folder)
+        beside.rename(folder)
+    finally:
+        shutil.rmtree(beside, ignore_errors=True)
+
+
+def _keep_log(folder: Path) -> None:
+    """A log of closures names arcs by their numbers, which the new network may not have."""
+    log = folder / "closures.jsonl"
+    if log.exists():
+        log.replace(folder.with_name(f"{folder.name}.closures.old.jsonl"))
+
+
+def _write_files(network: Network, folder: Path) -> None:
+    arrays = network.arrays
+    ends = (arrays.tails.tolist(), arrays.heads.tolist())
     for place, criterion in enumerate(network.criteria):
         head = [
             f"criterion {criterion.name}",
@@ -203,58 +315,77 @@ def write_network(network: Network) -> None:
         ]
         with (folder / f"{criterion.name}.gr").open("w") as out:
             out.writelines(f"c {line}\n" for line in head)
-            out.write(f"p sp {len(network.lon)} {len(network.arcs)}\n")
+            out.write(f"p sp {len(arrays.nodes)} {len(arrays.tails)}\n")
             out.writelines(
-                f"a {arc.tail} {arc.head} {arc.weights[place]}\n" for arc in network.arcs
+                map("a %d %d %d\n".__mod__, zip(*ends, arrays.weights[:, place].tolist()))
             )
-    with (folder / "nodes.co").open("w") as out:
-        out.write(
-            f"c degrees times 1000000: longitude, latitude\nc {network.attribution}\nc licence {LICENCE}\n"
-        )
-        out.write(f"p aux sp co {len(network.lon)}\n")
-        points = enumerate(zip(network.lon, network.lat), start=1)
-        out.writelines(
-            f"v {node} {round(lon * 1e6)} {round(lat * 1e6)}\n" for node, (lon, lat) in points
-        )
-    _write_arcs(folder / "arcs.tsv", network)
+    _write_nodes(folder / "nodes.co", network)
     rows = (
         [p.name, p.kind, p.population, p.node, f"{p.lon:.7f}", f"{p.lat:.7f}"]
         for p in network.places
     )
     _write_table(folder / "places.tsv", ["name", "kind", "population", "node", "lon", "lat"], rows)
+    network_arrays.save(arrays, folder)
     criteria = [
         asdict(criterion) | {"file": f"{criterion.name}.gr"} for criterion in network.criteria
     ]
     info = network.info | {
         "criteria": criteria,
-        "nodes": len(network.lon),
-        "arcs": len(network.arcs),
+        "nodes": len(arrays.nodes),
+        "arcs": len(arrays.tails),
         "attribution": network.attribution,
         "licence": LICENCE,
     }
     (folder / "import.json").write_text(json.dumps(info, indent=2, ensure_ascii=False) + "\n")
 
 
+def _write_nodes(file: Path, network: Network) -> None:
+    places = np.rint(network.arrays.nodes / 10).astype(int)
+    rows = zip(range(1, len(places) + 1), places[:, 0].tolist(), places[:, 1].tolist())
+    with file.open("w") as out:
+        out.write(
+            "c degrees times 1000000: longitude, latitude\n"
+            f"c {network.attribution}\nc licence {LICENCE}\n"
+        )
+        out.write(f"p aux sp co {len(places)}\n")
+        out.writelines(map("v %d %d %d\n".__mod__, rows))
+
+
 def _write_arcs(file: Path, network: Network) -> None:
     names = [criterion.name for criterion in network.criteria]
-    rows = (
-        [
-            number,
-            arc.tail,
-            arc.head,
-            arc.way,
-            arc.cls,
-            arc.name,
-            arc.ref,
-            f"{arc.speed:g}",
-            *arc.weights,
-            " ".join(f"{lon:.7f},{lat:.7f}" for lon, lat in arc.line),
-        ]
-        for number, arc in enumerate(network.arcs, start=1)
+    head = ["arc", "from", "to", "way", "class", "name", "ref", "speed", *names, "line"]
+    with file.open("w") as out:
+        out.write("\t".join(head) + "\n")
+        out.writelines(_rows_of_arcs(network.arrays))
+
+
+def _rows_of_arcs(arrays: Arrays) -> Iterator[str]:
+    """A row for each arc; what the arcs of a stretch have in common is put together once."""
+    roads = list(
+        map(
+            "%d\t%s\t%s\t%s".__mod__,
+            zip(
+                arrays.ways.tolist(),
+                map(arrays.class_names.__getitem__, arrays.classes.tolist()),
+                map(arrays.texts.__getitem__, arrays.names.tolist()),
+                map(arrays.texts.__getitem__, arrays.refs.tolist()),
+            ),
+        )
     )
-    _write_table(
-        file, ["arc", "from", "to", "way", "class", "name", "ref", "speed", *names, "line"], rows
-    )
+    points = list(map("%.7f,%.7f".__mod__, map(tuple, degrees(arrays.points).tolist())))
+    first = arrays.first.tolist()
+    weights = map("\t".join, zip(*(map(str, column) for column in arrays.weights.T.tolist())))
+    ends = zip(arrays.tails.tolist(), arrays.heads.tolist())
+    which = zip(arrays.stretches.tolist(), arrays.back.tolist(), arrays.speeds.tolist())
+    rows = enumerate(zip(ends, which, weights), start=1)
+    for number, ((tail, head), (stretch, back, speed), costs) in rows:
+        if stretch < 0:
+            line = "%.7f,%.7f" % tuple(degrees(arrays.nodes[head - 1]).tolist())
+            yield f"{number}\t{tail}\t{head}\t0\tarrival\t\t\t0\t{costs}\t{line}\n"
+            continue
+        run = points[first[stretch] : first[stretch + 1]]
+        text = " ".join(run[::-1] if back else run)
+        yield f"{number}\t{tail}\t{head}\t{roads[stretch]}\t{speed:g}\t{costs}\t{text}\n"
 
 
 def _write_table(file: Path, head: Sequence[str], rows: Iterable[Sequence[object]]) -> None:
@@ -271,19 +402,16 @@ def read_network(folder: str | Path) -> Network:
     try:
         info = json.loads((folder / "import.json").read_text())
         criteria = [_criterion(entry) for entry in info["criteria"]]
-        lon, lat = _read_nodes(folder / "nodes.co")
-        return Network(
-            folder,
-            criteria,
-            lon,
-            lat,
-            _read_arcs(folder / "arcs.tsv", len(criteria)),
-            _read_places(folder / "places.tsv"),
-            info,
-        )
+        arrays = network_arrays.load(folder)
+        return Network(folder, criteria, arrays, _read_places(folder / "places.tsv"), info)
     except FileNotFoundError as fault:
+        name = Path(fault.filename)
+        if name.parent.name == network_arrays.FOLDER and (folder / "arcs.tsv").exists():
+            raise Fault(
+                f"{folder} was made by an older import_osm.py: import its extract again"
+            ) from fault
         raise Fault(
-            f"{folder} is no network that import_osm.py made: it lacks {Path(fault.filename).name}"
+            f"{folder} is no network that import_osm.py made: it lacks {name.name}"
         ) from fault
     except (ValueError, KeyError, IndexError) as fault:
         raise Fault(f"{folder} is no network that import_osm.py made: {fault!r}") from fault
@@ -291,27 +419,9 @@ def read_network(folder: str | Path) -> Network:
 
 def _criterion(entry: dict) -> Criterion:
     if entry["name"] in CRITERIA:
-        return CRITERIA[entry["name"]]
+        told = ("unit", "shown_unit", "scale", "plain", "step")
+        return replace(CRITERIA[entry["name"]], **{key: entry[key] for key in told if key in entry})
     return Criterion(**{key: value for key, value in entry.items() if key != "file"})
-
-
-def _read_nodes(file: Path) -> tuple[np.ndarray, np.ndarray]:
-    with file.open() as lines:
-        rows = [line.split()[2:4] for line in lines if line.startswith("v ")]
-    places = np.array(rows, dtype=float).reshape(-1, 2) / 1e6
-    return places[:, 0], places[:, 1]
-
-
-def _read_arcs(file: Path, criteria: int) -> list[Arc]:
-    with file.open() as lines:
-        next(lines)
-        return [_arc(line.rstrip("\n").split("\t"), criteria) for line in lines]
-
-
-def _arc(row: list[str], criteria: int) -> Arc:
-    line = tuple(tuple(map(float, point.split(","))) for point in row[8 + criteria].split())
-    weights = tuple(map(int, row[8 : 8 + criteria]))
-    return Arc(int(row[1]), int(row[2]), int(row[3]), row[4], row[5], row[6], float(row[7]), weights, line)  # type: ignore
 
 
 def _read_places(file: Path) -> list[NamedNode]:

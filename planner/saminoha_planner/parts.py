@@ -11,15 +11,16 @@ from __future__ import annotations
 import csv
 import json
 import os
-from collections.abc import Iterator, Sequence
+from collections.abc import Iterable, Iterator, Sequence
 from dataclasses import asdict, dataclass
 from pathlib import Path
-from typing import TYPE_CHECKING
+from typing import TYPE_CHECKING, TextIO
 
 from .client import Answer, Program, Refusal
 from .command import Fault
 
 if TYPE_CHECKING:
+    from .criteria import Criterion
     from .network import Network
 
 Pair = tuple[int, int]
@@ -52,7 +53,8 @@ class Folder:
             _write_whole(file, written)
         elif file.read_text() != written:
             raise Fault(
-                f"{path} has parts of other pairs, another network, budget or size of parts: name another folder"
+                f"{path} has parts of other pairs, another network, budget or size of parts:"
+                " name another folder"
             )
 
     def file_of(self, number: int) -> Path:
@@ -76,13 +78,13 @@ class Folder:
                     "to",
                     "status",
                     "trade_offs",
-                    *(f"least_{one.name}" for one in network.criteria),
+                    *(f"least {_heading(one)}" for one in network.criteria),
                 ]
             )
             for number, line in enumerate(self._lines(), start=1):
                 entry = json.loads(line)
                 out.write(json.dumps({"pair": number} | entry) + "\n")
-                writer.writerow([number, *_row(entry, len(network.criteria))])
+                writer.writerow([number, *_row(entry, network.criteria)])
         os.replace(f"{answers}.new", answers)
         os.replace(f"{table}.new", table)
 
@@ -109,31 +111,50 @@ def share(count: int, text: str | None) -> list[int]:
 
 def read_pairs(file: Path, network: Network) -> list[Pair]:
     """Of a .p2p file, or of a table whose rows are two ends: names, nodes, or `lon,lat` between
-    quotes.
+    quotes. A first row that has no end of the network is of headings, of which two are `from` and
+    `to`; without such a row the first two columns count.
     """
-    with file.open(newline="") as lines:
-        rows = [
-            row
-            for row in csv.reader(_plain(lines), delimiter="\t" if file.suffix == ".tsv" else ",")
-            if row
-        ]
+    with file.open(newline="", encoding="utf-8-sig") as lines:
+        delimiter = "\t" if file.suffix == ".tsv" else ","
+        rows = [row for row in csv.reader(_plain(lines), delimiter=delimiter) if row]
     if file.suffix == ".p2p":
         words = [" ".join(row).split() for row in rows]
-        pairs = [row[1:] for row in words if row[0] == "q"]
+        ends = [(row[1], row[2]) for row in words if row[0] == "q" and len(row) > 2]
     else:
-        pairs = (
-            rows[1:] if [name.strip().lower() for name in rows[0][:2]] == ["from", "to"] else rows
-        )
+        ends = _ends_of_table(file, rows, network)
+    if not ends:
+        raise Fault(f"{file} has no pairs")
+    return [
+        (network.find(source.strip()), network.arrival(network.find(target.strip())))
+        for source, target in ends
+    ]
+
+
+def _ends_of_table(file: Path, rows: list[list[str]], network: Network) -> list[tuple[str, str]]:
+    columns, first = (0, 1), 0
+    if rows and (heads := [name.strip().casefold() for name in rows[0]]):
+        if "from" in heads and "to" in heads:
+            columns, first = (heads.index("from"), heads.index("to")), 1
+        elif len(heads) < 2 or not all(_is_end(network, name) for name in rows[0][:2]):
+            raise Fault(
+                f"{file} begins with {', '.join(rows[0][:4])}, which are no ends and no headings"
+                " that are known: name the columns of the ends from and to"
+            )
+    for number, row in enumerate(rows[first:], start=first + 1):
+        if len(row) <= max(columns):
+            raise Fault(f"{file}, row {number}, has no two ends: {', '.join(row)}")
+    return [(row[columns[0]], row[columns[1]]) for row in rows[first:]]
+
+
+def _is_end(network: Network, text: str) -> bool:
     try:
-        return [
-            (network.find(source.strip()), network.arrival(network.find(target.strip())))
-            for source, target, *_ in pairs
-        ]
-    except ValueError as fault:
-        raise Fault(f"{file} has a row without two ends") from fault
+        network.find(text.strip())
+    except Fault:
+        return False
+    return True
 
 
-def _plain(lines) -> Iterator[str]:
+def _plain(lines: Iterable[str]) -> Iterator[str]:
     return (line for line in lines if line.strip() and not line.lstrip().startswith(("c ", "#")))
 
 
@@ -149,9 +170,17 @@ def _line(reply: Answer | Refusal) -> str:
     return json.dumps(entry) + "\n"
 
 
-def _row(entry: dict, criteria: int) -> list[object]:
+def _heading(criterion: Criterion) -> str:
+    unit = criterion.shown_unit
+    return f"{criterion.name} ({unit})" if unit else criterion.name
+
+
+def _row(entry: dict, criteria: Sequence[Criterion]) -> list[object]:
     costs = [route["cost"] for route in entry.get("routes", [])]
-    least = [min(cost[place] for cost in costs) if costs else "" for place in range(criteria)]
+    least = [
+        f"{one.value(min(cost[place] for cost in costs)):.{one.digits + 2}f}" if costs else ""
+        for place, one in enumerate(criteria)
+    ]
     return [
         entry["from"],
         entry["to"],
@@ -161,7 +190,7 @@ def _row(entry: dict, criteria: int) -> list[object]:
     ]
 
 
-def _beside(file: Path):
+def _beside(file: Path) -> TextIO:
     return open(f"{file}.new", "w", newline="")
 
 

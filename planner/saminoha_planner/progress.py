@@ -1,14 +1,70 @@
-"""A progress bar on standard error, with the time to go. It is silent where standard error is no
-terminal, unless asked.
+"""What a tool waits for, on standard error: a line with the seconds once that takes more than two,
+and a bar with the time to go where many are done one after another.
 """
 
 from __future__ import annotations
 
 import sys
+import threading
 import time
+from collections.abc import Iterator
+from contextlib import contextmanager
+from pathlib import Path
+
+PATIENCE = 2.0  # seconds before anything is said
+
+
+@contextmanager
+def waiting(what: str, steady: bool = False) -> Iterator[Watch]:
+    """Says what is waited for, and for how long, after two seconds. On a terminal the line is
+    written over each second. Elsewhere a new line comes every two seconds where that is steady,
+    and else after 2, 4, 8 .. seconds.
+    """
+    watch = Watch(what, steady)
+    thread = threading.Thread(target=watch.speak, daemon=True)
+    thread.start()
+    try:
+        yield watch
+    finally:
+        watch.end()
+        thread.join()
+
+
+class Watch:
+    """`now` says that something else is waited for; `count` how much of it is done."""
+
+    def __init__(self, what: str, steady: bool) -> None:
+        self._what, self._steady, self._done = what, steady, ""
+        self._over = threading.Event()
+        self._begun = time.monotonic()
+
+    @property
+    def seconds(self) -> float:
+        return time.monotonic() - self._begun
+
+    def now(self, what: str) -> None:
+        self._what, self._done = what, ""
+
+    def count(self, done: int, of: int | None = None) -> None:
+        self._done = f" {done / of:.0%}" if of else f" {done:,}"
+
+    def end(self) -> None:
+        self._over.set()
+
+    def speak(self) -> None:
+        is_terminal, pause = sys.stderr.isatty(), PATIENCE
+        while not self._over.wait(pause):
+            line = f"{Path(sys.argv[0]).name}: {self._what}{self._done}, {self.seconds:.0f} s"
+            sys.stderr.write(f"\r{line}\x1b[K" if is_terminal else line + "\n")
+            sys.stderr.flush()
+            pause = 1.0 if is_terminal else PATIENCE if self._steady else self.seconds
+        if is_terminal and self.seconds > PATIENCE:
+            sys.stderr.write("\r\x1b[K")
 
 
 class Progress:
+    """A bar, on a terminal unless asked."""
+
     def __init__(self, label: str, total: int, show: bool | None = None) -> None:
         self.label, self.total, self.done = label, total, 0
         self.show = sys.stderr.isatty() if show is None else show
@@ -27,7 +83,7 @@ class Progress:
             self._shown = now
             self._draw(now)
 
-    def __enter__(self) -> "Progress":
+    def __enter__(self) -> Progress:
         return self
 
     def __exit__(self, *_: object) -> None:
@@ -38,9 +94,8 @@ class Progress:
     def _draw(self, now: float) -> None:
         share = self.done / self.total if self.total else 1.0
         filled = round(30 * min(share, 1.0))
-        sys.stderr.write(
-            f"\r{self.label} [{'#' * filled}{'.' * (30 - filled)}] {share:4.0%} {self._to_go(now)}   "
-        )
+        bar = "#" * filled + "." * (30 - filled)
+        sys.stderr.write(f"\r{self.label} [{bar}] {share:4.0%} {self._to_go(now)}   ")
         sys.stderr.flush()
 
     def _to_go(self, now: float) -> str:

@@ -2,36 +2,43 @@
 
 from __future__ import annotations
 
-import functools
-import json
-from collections import defaultdict
-from collections.abc import Sequence
+import gzip
 from pathlib import Path
+from urllib.parse import urlsplit
 
 from flask import Flask, Response, abort, jsonify, request, send_from_directory
 
-from .ask import Asker
-from .choose import few
-from .client import Answer, Change, ClientError, Refused, Route, SetArc, ShutArc
+from .client import ClientError, Refused
 from .command import Fault
-from .colours import COLOURS
-from .network import Network
-from .tell import geojson, line_of
+from .desk import Desk
+from .ends import EndFault
 
 LEAFLET = Path("/usr/share/javascript/leaflet")
 WEB = Path(__file__).parent / "web"
+OWN_NAMES = ("127.0.0.1", "localhost", "[::1]")
 
 
-def make_site(network: Network, asker: Asker, title: str, keep: int = 5) -> Flask:
+def make_site(desk: Desk) -> Flask:
     site = Flask(__name__, static_folder=None)
-    page = Page(network, asker, title, keep)
+    _guard(site, desk)
+    _tell_faults(site, desk)
+    _serve_files(site)
+    _serve_map(site, desk)
+    _serve_answers(site, desk)
+    _serve_closures(site, desk)
+    return site
+
+
+def _guard(site: Flask, desk: Desk) -> None:
+    tiles = urlsplit(desk.tiles)
+    images = f"{tiles.scheme}://{tiles.netloc.replace('{s}', '*')}" if desk.tiles else ""
 
     @site.before_request
     def only_from_here() -> None:
         """Other sites' pages may not ask through a name that they let lead here, and may not
         change anything.
         """
-        if request.host.rsplit(":", 1)[0] not in ("127.0.0.1", "localhost", "[::1]"):
+        if request.host.rsplit(":", 1)[0] not in OWN_NAMES:
             abort(403)
         if request.method == "POST" and not request.is_json:
             abort(415)
@@ -41,14 +48,26 @@ def make_site(network: Network, asker: Asker, title: str, keep: int = 5) -> Flas
         """Names of an extract are others' texts: nothing in them can fetch or run a thing."""
         response.headers[
             "Content-Security-Policy"
-        ] = "default-src 'self'; img-src 'self' data:; style-src 'self' 'unsafe-inline'"
+        ] = f"default-src 'self'; img-src 'self' data: {images}; style-src 'self' 'unsafe-inline'"
         return response
+
+
+def _tell_faults(site: Flask, desk: Desk) -> None:
+    @site.errorhandler(Refused)
+    def refused(fault: Refused) -> tuple[Response, int]:
+        return jsonify(error=str(fault), **desk.advice(fault)), 400
+
+    @site.errorhandler(EndFault)
+    def no_end(fault: EndFault) -> tuple[Response, int]:
+        return jsonify(error=str(fault), code=fault.code, values=fault.values), 400
 
     @site.errorhandler(Fault)
     @site.errorhandler(ClientError)
     def tell(fault: Exception) -> tuple[Response, int]:
-        return jsonify(error=str(fault)), 400 if isinstance(fault, (Fault, Refused)) else 502
+        return jsonify(error=str(fault)), 400 if isinstance(fault, Fault) else 502
 
+
+def _serve_files(site: Flask) -> None:
     @site.get("/")
     def index() -> Response:
         return send_from_directory(WEB, "index.html")
@@ -61,45 +80,75 @@ def make_site(network: Network, asker: Asker, title: str, keep: int = 5) -> Flas
     def leaflet(name: str) -> Response:
         return send_from_directory(LEAFLET, name)
 
+
+def _serve_map(site: Flask, desk: Desk) -> None:
     @site.get("/api/network")
     def about() -> Response:
-        return Response(page.about, mimetype="application/json")
+        return jsonify(desk.about)
+
+    @site.get("/tile/<int:zoom>/<int:x>/<int:y>")
+    def tile(zoom: int, x: int, y: int) -> Response:
+        packed = gzip.compress(desk.tile(zoom, x, y), 5)
+        response = Response(packed, mimetype="application/octet-stream")
+        response.headers["Content-Encoding"] = "gzip"
+        response.headers["Cache-Control"] = "max-age=60"
+        return response
+
+    @site.get("/api/labels")
+    def labels() -> Response:
+        box = _numbers("box", 4)
+        return jsonify(desk.labels((box[0], box[1], box[2], box[3]), int(_number("zoom"))))
 
     @site.get("/api/nearest")
     def nearest() -> Response:
-        return jsonify(page.end(network.nearest(_number("lon"), _number("lat"))))
+        return jsonify(desk.ends.at(_number("lon"), _number("lat")))
 
     @site.get("/api/find")
     def find() -> Response:
-        return jsonify(page.end(network.find(request.args.get("text", ""))))
+        return jsonify(desk.ends.find(request.args.get("text", "")))
 
+    @site.get("/api/suggest")
+    def suggest() -> Response:
+        return jsonify(names=desk.ends.suggestions(request.args.get("text", "")))
+
+
+def _serve_answers(site: Flask, desk: Desk) -> None:
     @site.get("/api/ask")
     def ask() -> Response:
-        return jsonify(
-            page.ask(
-                int(_number("from")),
-                int(_number("to")),
-                page.limits(request.args.get("limits", "")),
-            )
-        )
+        return jsonify(desk.ask(desk.question(request.args)))
 
     @site.get("/api/geojson")
     def export() -> Response:
-        text = page.export(
-            int(_number("from")), int(_number("to")), page.limits(request.args.get("limits", ""))
-        )
         return Response(
-            text,
+            desk.export(desk.question(request.args)),
             mimetype="application/geo+json",
             headers={"Content-Disposition": "attachment; filename=alternatives.geojson"},
         )
 
-    @site.post("/api/shut")
-    def shut() -> Response:
-        asked = request.get_json()
-        return jsonify(page.shut(asked.get("arcs", []), bool(asked.get("shut", True))))
 
-    return site
+def _serve_closures(site: Flask, desk: Desk) -> None:
+    @site.get("/api/state")
+    def state() -> Response:
+        return jsonify(desk.state())
+
+    @site.post("/api/preview")
+    def preview() -> Response:
+        return jsonify(desk.preview(_asked()))
+
+    @site.post("/api/close")
+    def close() -> Response:
+        return jsonify(desk.close(_asked()))
+
+    @site.post("/api/undo")
+    def undo() -> Response:
+        return jsonify(desk.undo(str(_asked().get("id", ""))))
+
+
+def _asked() -> dict[str, object]:
+    asked = request.get_json()
+    if not isinstance(asked, dict):
+        raise Fault("an object of JSON is due")
+    return asked
 
 
 def _number(name: str) -> float:
@@ -109,124 +158,11 @@ def _number(name: str) -> float:
         raise Fault(f"{name} is no number") from None
 
 
-class Page:
-    """What the page asks for, as plain data."""
-
-    def __init__(self, network: Network, asker: Asker, title: str, keep: int) -> None:
-        self.network, self.asker, self.title, self.keep = network, asker, title, keep
-        self._answers: dict[tuple[int, int, int], Answer] = {}
-        self._shut: set[int] = set()
-
-    @functools.cached_property
-    def about(self) -> str:
-        network = self.network
-        roads: dict[tuple, list[int]] = defaultdict(list)
-        for number, arc in enumerate(network.arcs, start=1):
-            if len(arc.line) > 1:
-                roads[network.road_key(number)].append(number)
-        first = {key: network.arc(numbers[0]) for key, numbers in roads.items()}
-        return json.dumps(
-            {
-                "title": self.title,
-                "attribution": network.attribution,
-                "can_shut": self.asker.can_change,
-                "colours": COLOURS,
-                "criteria": [
-                    {
-                        "name": one.name,
-                        "label": one.label,
-                        "unit": one.shown_unit,
-                        "scale": one.scale,
-                        "digits": one.digits,
-                    }
-                    for one in network.criteria
-                ],
-                "places": [{"name": place.name, "kind": place.kind} for place in network.places],
-                "roads": [
-                    {
-                        "class": first[key].cls.removesuffix("_link"),
-                        "title": first[key].title,
-                        "arcs": numbers,
-                        "line": [[lat, lon] for lon, lat in key],
-                    }
-                    for key, numbers in roads.items()
-                ],
-            }
-        )
-
-    def end(self, node: int) -> dict[str, object]:
-        lon, lat = float(self.network.lon[node - 1]), float(self.network.lat[node - 1])
-        return {"node": node, "name": self.network.name_of(node), "lon": lon, "lat": lat}
-
-    def limits(self, text: str) -> list[int | None]:
-        """Weights between commas, and nothing where there is no limit."""
-        parts = text.split(",") if text else [""] * len(self.network.criteria)
-        if len(parts) != len(self.network.criteria) or not all(
-            part == "" or part.isdecimal() for part in parts
-        ):
-            raise Fault(f"{text!r} are no limits on {len(self.network.criteria)} criteria")
-        return [int(part) if part else None for part in parts]
-
-    def ask(self, source: int, target: int, limits: Sequence[int | None]) -> dict[str, object]:
-        answer = self._answer(source, target)
-        within = self._within(answer, limits)
-        options = few(self.network, within, self.keep)
-        places = {route: place for place, route in enumerate(answer.routes)}
-        columns = [
-            one.texts([option.route.cost[at] for option in options])
-            for at, one in enumerate(self.network.criteria)
-        ]
-        return {
-            "epoch": answer.epoch,
-            "costs": [route.cost for route in answer.routes],
-            "within": [places[route] for route in within],
-            "options": [
-                {
-                    "letter": option.letter,
-                    "index": places[option.route],
-                    "why": option.why,
-                    "via": option.via,
-                    "texts": texts,
-                    "line": [[lat, lon] for lon, lat in line_of(self.network, option.route)],
-                }
-                for option, texts in zip(options, list(zip(*columns)) or [()] * len(options))
-            ],
-        }
-
-    def export(self, source: int, target: int, limits: Sequence[int | None]) -> str:
-        within = self._within(self._answer(source, target), limits)
-        return json.dumps(
-            geojson(self.network, within, few(self.network, within, self.keep)), ensure_ascii=False
-        )
-
-    def shut(self, arcs: list[int], shut: bool) -> dict[str, object]:
-        if not self.asker.can_change:
-            raise Fault("no operator's address was given")
-        if not arcs or not all(
-            isinstance(arc, int) and 1 <= arc <= len(self.network.arcs) for arc in arcs
-        ):
-            raise Fault("these are no arcs")
-        changes: list[Change] = [
-            ShutArc(arc) if shut else SetArc(arc, self.network.arc(arc).weights) for arc in arcs
-        ]
-        epoch = self.asker.publish(changes)
-        self._shut = self._shut | set(arcs) if shut else self._shut - set(arcs)
-        return {"epoch": epoch, "shut": sorted(self._shut)}
-
-    def _answer(self, source: int, target: int) -> Answer:
-        epoch = self.asker.epoch()
-        if (source, target, epoch) not in self._answers:
-            answer = self.asker.query(source, self.network.arrival(target))
-            self._answers = dict(list(self._answers.items())[-20:]) | {
-                (source, target, answer.epoch): answer
-            }
-            return answer
-        return self._answers[source, target, epoch]
-
-    @staticmethod
-    def _within(answer: Answer, limits: Sequence[int | None]) -> list[Route]:
-        return [
-            route
-            for route in answer.routes
-            if all(most is None or cost <= most for cost, most in zip(route.cost, limits))
-        ]
+def _numbers(name: str, count: int) -> list[float]:
+    try:
+        numbers = [float(part) for part in request.args[name].split(",")]
+    except (KeyError, ValueError):
+        numbers = []
+    if len(numbers) != count:
+        raise Fault(f"{name} aren't {count} numbers")
+    return numbers

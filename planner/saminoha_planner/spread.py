@@ -19,7 +19,7 @@ from .command import Fault
 from .parts import Pair, run_part
 
 if TYPE_CHECKING:
-    from distributed import Future
+    from distributed import Client, Future, Worker
 
 SECONDS_TO_LOOK, SECONDS_TO_SEND = 5, 60
 Task = tuple[int, tuple[Pair, ...]]
@@ -61,7 +61,7 @@ def on_workers(
         parcel = Parcel(sent)
         client.register_worker_plugin(parcel, name=parcel.name)
 
-        def submit(task: Task):
+        def submit(task: Task) -> Future:
             return client.submit(
                 _run_at_worker, parcel.name, len(files), program, send_program, *task, pure=False
             )
@@ -83,11 +83,14 @@ def _knock(address: str) -> None:
         raise Fault(f"there is no scheduler at {address}: {fault}") from fault
 
 
-def _all_done(client, submit: Callable[[Task], Future], tasks: Sequence[Task]) -> Iterator[Done]:
+def _all_done(
+    client: Client, submit: Callable[[Task], Future], tasks: Sequence[Task]
+) -> Iterator[Done]:
     """A few tasks for each processor are under way at a time. One whose result went with its
     worker is submitted again.
     """
-    left, running = list(reversed(tasks)), {}
+    left = list(reversed(tasks))
+    running: dict[Future, Task] = {}
     while left or running:
         most = 4 * max(4, sum(client.nthreads().values()))
         while left and len(running) < most:
@@ -145,7 +148,7 @@ class Parcel:
             + hashlib.sha256("".join(sorted(self.sums.values())).encode()).hexdigest()[:16]
         )
 
-    def setup(self, worker) -> None:
+    def setup(self, worker: Worker) -> None:
         folder = Path(worker.local_directory, self.name)
         folder.mkdir(parents=True, exist_ok=True)
         for name, content in self.files.items():
@@ -174,8 +177,8 @@ def _packed(folder: Path) -> Path:
     """This package as a zip file, from which Python can import it."""
     file, here = folder / "saminoha_planner.zip", Path(__file__).parent
     with zipfile.ZipFile(file, "w") as out:
-        for source in sorted(here.glob("*.py")):
-            out.write(source, f"{here.name}/{source.name}")
+        for source in sorted(here.rglob("*.py")):
+            out.write(source, f"{here.name}/{source.relative_to(here)}")
     return file
 
 

@@ -9,7 +9,7 @@ from pathlib import Path
 from typing import TextIO
 
 from .choose import Option
-from .client import Route
+from .client import Proof, Route
 from .network import Line, Network
 
 
@@ -58,8 +58,13 @@ def write_geojson(
 
 
 def write_csv(
-    file: Path, network: Network, routes: Sequence[Route], options: Sequence[Option]
+    file: Path,
+    network: Network,
+    routes: Sequence[Route],
+    options: Sequence[Option],
+    proof: Proof = Proof.UNKNOWN,
 ) -> None:
+    """A row for each route, the last column with whether the program is the proved one."""
     letters = {option.route: option for option in options}
     with file.open("w", newline="") as out:
         rows = csv.writer(out, lineterminator="\n")
@@ -73,6 +78,7 @@ def write_csv(
                 "arcs",
                 "why",
                 "via",
+                "program",
             ]
         )
         for route in routes:
@@ -88,6 +94,7 @@ def write_csv(
                     *costs,
                     " ".join(map(str, route.arcs or ())),
                     *told,
+                    proof.value,
                 ]
             )
 

@@ -24,13 +24,22 @@ class View:
     def stretch(self) -> float:
         return float(np.cos(np.radians((self.south + self.north) / 2)))
 
-    def metres(self, points: Sequence[tuple[float, float]]) -> np.ndarray:
+    def metres(self, points: np.ndarray | Sequence[tuple[float, float]]) -> np.ndarray:
         places = np.asarray(points, dtype=float).reshape(-1, 2)
         return (places - [self.west, self.south]) * [111_320 * self.stretch, 110_574]
 
     @property
     def size(self) -> np.ndarray:
         return self.metres([(self.east, self.north)])[0]
+
+    def fitted(self, ratio: float) -> View:
+        """With so many times the height as width: it grows where it is too narrow or too flat."""
+        wide, high = self.size
+        more_x = max(0.0, ratio * high / wide - 1) * (self.east - self.west) / 2
+        more_y = max(0.0, wide / ratio / high - 1) * (self.north - self.south) / 2
+        return View(
+            self.west - more_x, self.south - more_y, self.east + more_x, self.north + more_y
+        )
 
 
 def view_of(network: Network, routes: Sequence[Route], nodes: Sequence[int] = ()) -> View:

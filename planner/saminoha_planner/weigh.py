@@ -5,6 +5,7 @@ rounded sums at its ends.
 
 from __future__ import annotations
 
+from collections.abc import Mapping
 from dataclasses import dataclass
 
 import numpy as np
@@ -12,29 +13,30 @@ from pyproj import Geod, Proj
 from scipy.spatial import cKDTree
 
 from .criteria import Criterion
-from .osm import Extract, Road
-from .progress import Progress
+from .osm import Extract, Roads
+from .progress import Watch
+from .tolls import Charged
 
 HOUSE_METRES = 35.0
 SAMPLE_METRES = 10.0
+AT_ONCE = 200_000  # steps that are reckoned with before the count is told
+UNITS = {"toll": 100.0, "time": 10.0}  # weights to a unit of money, to a second
 
 
-@dataclass
+@dataclass(frozen=True)
 class Sums:
-    """Of one road: for each criterion the rounded sums from its first point to each, along it
-    and against it.
+    """For each criterion the rounded sums from a road's first point to each of its points, along
+    it and against it; the points of all roads one after another.
     """
 
     along: dict[str, np.ndarray]
     against: dict[str, np.ndarray]
 
-    def weight(self, criterion: str, first: int, last: int) -> int:
-        """Of the stretch from point `first` to point `last`, against the road where that is
-        before it.
-        """
-        if first < last:
-            return int(self.along[criterion][last] - self.along[criterion][first])
-        return int(self.against[criterion][first] - self.against[criterion][last])
+    def weights(self, criterion: str, first: np.ndarray, last: np.ndarray) -> np.ndarray:
+        """From points `first` to points `last`, against the road where that is before it."""
+        along, against = self.along[criterion], self.against[criterion]
+        there = along[last] - along[first]
+        return np.where(first < last, there, against[first] - against[last])
 
 
 class Projection:
@@ -53,106 +55,165 @@ class Projection:
 
 
 class Weigher:
+    """Reckons with steps: step i goes from the roads' point i to point i + 1."""
+
     def __init__(
-        self,
-        extract: Extract,
-        criteria: list[Criterion],
-        junctions: set[int],
-        heights: dict[int, float],
+        self, extract: Extract, charged: Charged, heights: Mapping[int, float], watch: Watch
     ) -> None:
-        self.names = [criterion.name for criterion in criteria]
-        self.junctions, self.heights, self.extract = junctions, heights, extract
-        self._geod = Geod(ellps="WGS84")
-        located = np.array(list(extract.locations.values())).reshape(-1, 2)
-        self._projection = Projection(located[:, 0], located[:, 1])
-        self._houses = self._house_tree() if "houses" in self.names else None
+        self.extract, self.charged, self.heights, self.watch = extract, charged, heights, watch
+        self.roads: Roads = extract.roads
+        self.places = extract.places[self.roads.points]
+        self.rows = self.roads.rows[:-1]  # of each step
+        self.inner = self.roads.rows[1:] == self.rows  # not from one road to the next
+        self.metres = self._metres()
 
-    def sums(self, roads: list[Road]) -> list[Sums]:
-        with Progress("weighing roads", len(roads)) as progress:
-            result = []
-            for road in roads:
-                result.append(self._sums_of(road))
-                progress.step()
-            return result
+    @property
+    def metres_of_rows(self) -> np.ndarray:
+        return np.bincount(self.rows, self.metres, len(self.roads))
 
-    def _sums_of(self, road: Road) -> Sums:
-        places = np.array([self.extract.locations[point] for point in road.points])
-        _, _, metres = self._geod.inv(places[:-1, 0], places[:-1, 1], places[1:, 0], places[1:, 1])
+    def sums(self, criteria: list[Criterion]) -> Sums:
         along, against = {}, {}
-        for name in self.names:
-            there, back = self._amounts(name, road, places, metres)
-            along[name], against[name] = _rounded_sums(there), _rounded_sums(back)
+        for one in criteria:
+            self.watch.now(f"weighing roads by {one.name}")
+            there, back = self._amounts(one.name)
+            along[one.name] = self._rounded_sums(there / one.step)
+            against[one.name] = self._rounded_sums(back / one.step)
         return Sums(along, against)
 
-    def _amounts(
-        self, name: str, road: Road, places: np.ndarray, metres: np.ndarray
-    ) -> tuple[np.ndarray, np.ndarray]:
+    def _metres(self) -> np.ndarray:
+        """Each step's length on the ellipsoid; 0 from one road to the next."""
+        self.watch.now("measuring roads")
+        metres, geod = np.zeros(len(self.rows)), Geod(ellps="WGS84")
+        lon, lat = self.places[:, 0], self.places[:, 1]
+        for begin in range(0, len(metres), AT_ONCE):
+            part = slice(begin, begin + AT_ONCE)
+            ends = slice(begin + 1, begin + 1 + AT_ONCE)
+            count = len(metres[part])
+            _, _, metres[part] = geod.inv(
+                lon[part][:count], lat[part][:count], lon[ends], lat[ends]
+            )
+            self.watch.count(begin, len(metres))
+        return np.where(self.inner, metres, 0.0)
+
+    def _amounts(self, name: str) -> tuple[np.ndarray, np.ndarray]:
+        """Along the road and against it, for each step."""
         match name:
             case "distance":
-                return metres, metres
-            case "time":
-                charge = 10 * _charged(road, "time", metres)
-                return tuple(
-                    _tenths(road, speed, metres) + charge for speed in (road.along, road.against)
-                )
+                return self.metres, self.metres
             case "houses":
-                near = self._near_houses(places, metres)
+                near = self._near_houses()
                 return near, near
             case "junctions":
-                heads = np.array([float(point in self.junctions) for point in road.points])
-                return heads[1:], heads[:-1]
+                heads = self._is_junction()[self.roads.points].astype(float)
+                return heads[1:] * self.inner, heads[:-1] * self.inner
             case "climb":
-                heights = np.array([self.heights.get(point, np.nan) for point in road.points])
-                rises = np.diff(_filled(heights))
+                rises = np.where(self.inner, np.diff(self._heights()), 0.0)
                 return np.maximum(rises, 0), np.maximum(-rises, 0)
-            case "toll":
-                charge = 100 * _charged(road, "toll", metres)
-                return charge, charge
-        raise ValueError(name)
+        there, back = self._charges(name)
+        if name == "time":
+            there, back = there + self._tenths(self.roads.along), back + self._tenths(
+                self.roads.against
+            )
+        return there, back
 
-    def _house_tree(self) -> cKDTree:
-        houses = np.array(self.extract.houses).reshape(-1, 2)
-        return cKDTree(self._projection.metres(houses[:, 0], houses[:, 1]))
-
-    def _near_houses(self, places: np.ndarray, metres: np.ndarray) -> np.ndarray:
-        """Metres of each stretch near houses, by samples every 10 m that each stand for their
-        share of it.
+    def _rounded_sums(self, amounts: np.ndarray) -> np.ndarray:
+        """Point by point for all roads at once, the longest first, so that each road's sums are
+        its own.
         """
-        if self._houses is None or self._houses.n == 0:
-            return np.zeros(len(metres))
-        points = self._projection.metres(places[:, 0], places[:, 1])
-        counts = np.maximum(1, np.ceil(metres / SAMPLE_METRES)).astype(int)
-        stretch = np.repeat(np.arange(len(metres)), counts)
-        order = np.arange(len(stretch)) - np.repeat(np.cumsum(counts) - counts, counts)
-        share = ((order + 0.5) / counts[stretch])[:, None]
-        samples = points[stretch] * (1 - share) + points[stretch + 1] * share
-        distance, _ = self._houses.query(samples, distance_upper_bound=HOUSE_METRES)
-        return np.bincount(stretch, np.isfinite(distance), len(metres)) / counts * metres
+        counts = np.diff(self.roads.first)
+        order = np.argsort(-counts, kind="stable")
+        begins, steps = self.roads.first[:-1][order], counts[order] - 1
+        sums, total = np.zeros(len(self.roads.points)), np.zeros(len(order))
+        for step in range(int(steps.max(initial=0))):
+            left = int(np.searchsorted(-steps, -step))  # roads with more steps than this
+            total[:left] += amounts[begins[:left] + step]
+            sums[begins[:left] + step + 1] = total[:left]
+        return np.rint(sums).astype(np.int64)
+
+    def _tenths(self, speeds: np.ndarray) -> np.ndarray:
+        """Tenths of a second; a ferry's timetable goes before its speed."""
+        paces = np.where(np.isnan(speeds), 0.0, 36.0 / speeds)
+        totals = np.maximum(self.metres_of_rows, 1e-9)
+        by_table = ~np.isnan(self.roads.seconds)
+        paces = np.where(by_table, 10 * np.nan_to_num(self.roads.seconds) / totals, paces)
+        return self.metres * paces[self.rows]
+
+    def _charges(self, criterion: str) -> tuple[np.ndarray, np.ndarray]:
+        """By the kilometre, at points and in the middle of ways. A point's charge lies on the
+        step that leads to it.
+        """
+        by_km = np.zeros(len(self.roads))
+        for row, amounts in self.charged.per_km.items():
+            by_km[row] = amounts.get(criterion, 0.0)
+        steps = self.metres * by_km[self.rows] / 1000
+        for row, amounts in self.charged.middles.items():
+            steps[self._middle(row)] += amounts.get(criterion, 0.0)
+        at_points = np.zeros(len(self.extract.ids))
+        for point, amounts in self.charged.gantries.items():
+            at_points[self.extract.ids == point] = amounts.get(criterion, 0.0)
+        heads = at_points[self.roads.points]
+        unit = UNITS[criterion]
+        along = (steps + heads[1:] * self.inner) * unit
+        return along, (steps + heads[:-1] * self.inner) * unit
+
+    def _middle(self, row: int) -> int:
+        first, last = self.roads.first[row], self.roads.first[row + 1]
+        sums = np.cumsum(self.metres[first : last - 1])
+        return int(first + min(np.searchsorted(sums, sums[-1] / 2), len(sums) - 1))
+
+    def _is_junction(self) -> np.ndarray:
+        """Points from which roads lead to three points or more."""
+        points = self.roads.points
+        ends = np.sort(np.column_stack([points[:-1], points[1:]])[self.inner], axis=1)
+        ends = np.unique(ends, axis=0)
+        return np.bincount(ends.ravel(), minlength=len(self.extract.ids)) > 2
+
+    def _heights(self) -> np.ndarray:
+        """Of each of the roads' points; unknown ones lie between the known ones of the road in
+        proportion to the points, level where none is known.
+        """
+        of_points = np.array([self.heights.get(int(one), np.nan) for one in self.extract.ids])
+        heights, roads = of_points[self.roads.points], self.roads
+        for row in np.unique(roads.rows[np.isnan(heights)]):
+            part = slice(roads.first[row], roads.first[row + 1])
+            heights[part] = _filled(heights[part])
+        return heights
+
+    def _near_houses(self) -> np.ndarray:
+        """Metres of each step near houses, by samples every 10 m that each stand for their share
+        of it.
+        """
+        houses, near = self.extract.houses, np.zeros(len(self.metres))
+        if not len(houses):
+            return near
+        lon, lat = self.extract.places.T
+        projection = Projection(lon, lat)
+        tree = cKDTree(projection.metres(houses[:, 0], houses[:, 1]))
+        points = projection.metres(self.places[:, 0], self.places[:, 1])
+        for begin in range(0, len(near), AT_ONCE // 10):
+            steps = np.arange(begin, min(begin + AT_ONCE // 10, len(near)))
+            near[steps] = _share_near(tree, points, self.metres, steps[self.inner[steps]], steps)
+            self.watch.count(begin, len(near))
+        return near * self.metres
 
 
-def _rounded_sums(amounts: np.ndarray) -> np.ndarray:
-    return np.rint(np.concatenate([[0.0], np.cumsum(amounts)])).astype(np.int64)
-
-
-def _tenths(road: Road, speed: float | None, metres: np.ndarray) -> np.ndarray:
-    """Tenths of a second; a ferry's timetable goes before its speed."""
-    total = metres.sum()
-    if road.seconds and total > 0:
-        return metres * (10 * road.seconds / total)
-    return metres * (36.0 / speed) if speed else np.zeros(len(metres))
-
-
-def _charged(road: Road, criterion: str, metres: np.ndarray) -> np.ndarray:
-    """Charges for a whole way are spread over its length, and so add up however it is cut."""
-    total = max(float(metres.sum()), 1e-9)
-    charges = [charge for charge in road.charges if charge.criterion == criterion]
-    return metres * sum(charge.amount / total + charge.per_km / 1000 for charge in charges)
+def _share_near(
+    tree: cKDTree, points: np.ndarray, metres: np.ndarray, inner: np.ndarray, steps: np.ndarray
+) -> np.ndarray:
+    """Which share of each of these steps has a house near it."""
+    counts = np.maximum(1, np.ceil(metres[inner] / SAMPLE_METRES)).astype(int)
+    place = np.repeat(np.arange(len(inner)), counts)
+    order = np.arange(len(place)) - np.repeat(np.cumsum(counts) - counts, counts)
+    share = ((order + 0.5) / counts[place])[:, None]
+    at = inner[place]
+    samples = points[at] * (1 - share) + points[at + 1] * share
+    distance, _ = tree.query(samples, distance_upper_bound=HOUSE_METRES)
+    found = np.zeros(len(steps))
+    found[inner - steps[0]] = np.bincount(place, np.isfinite(distance), len(inner)) / counts
+    return found
 
 
 def _filled(heights: np.ndarray) -> np.ndarray:
-    """Unknown heights lie between the known ones of the road in proportion to the points; level
-    where none is known.
-    """
     known = np.flatnonzero(~np.isnan(heights))
     if not len(known):
         return np.zeros(len(heights))

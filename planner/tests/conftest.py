@@ -22,7 +22,7 @@ def program() -> Program:
 
 @pytest.fixture(scope="session")
 def served(program):
-    """`serve` over files, as a context: a server on two free ports, with lanes enough for a test."""
+    """`serve` over files, as a context: a server on two free ports, with lanes for a test."""
     return lambda files: program.serve(files, lanes=4)
 
 

@@ -1,5 +1,6 @@
 from __future__ import annotations
 
+import json
 import socket
 import threading
 
@@ -16,6 +17,7 @@ from saminoha_planner.client import (
     OperatorRefused,
     Program,
     ProgramFailed,
+    Proof,
     ProtocolError,
     Publish,
     Query,
@@ -90,6 +92,24 @@ def test_a_slow_program_is_ended(tmp_path, six_arcs):
         program.check(six_arcs)
     with pytest.raises(TimedOut):
         list(program.batch(six_arcs, [(1, 4)]))
+
+
+@pytest.mark.parametrize(
+    "said, proof",
+    [
+        ("route: the program is proved, for x86-64-v3", Proof.PROVED),
+        (
+            "route: no proved program of these sources stands; ./route build makes it",
+            Proof.UNPROVED,
+        ),
+        ("", Proof.UNKNOWN),
+    ],
+)
+def test_whether_the_program_is_proved(tmp_path, said, proof):
+    file = tmp_path / "route"
+    file.write_text(f"#!/bin/sh\necho '{said}'\n")
+    file.chmod(0o755)
+    assert Program.find(str(file)).proof() is proof
 
 
 def test_session_and_operator(six_arcs, served):
@@ -192,3 +212,11 @@ def test_texts():
     assert parse_address("host:70") == ("host", 70) and parse_address("70") == ("127.0.0.1", 70)
     with pytest.raises(ValueError):
         parse_address("host:")
+
+
+def test_the_command(tool, six_arcs, served):
+    with served(six_arcs) as server:
+        told = json.loads(tool("client.py", f"{server.host}:{server.port}", 1, 4, "-", 7))
+    assert [route["cost"] for route in told["routes"]] == [[4, 2]]
+    assert told["limits"] == [None, 7]
+    assert "invalid" in tool("client.py", "127.0.0.1:1", 1, 4, "much", status=2)

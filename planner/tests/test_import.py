@@ -180,7 +180,8 @@ def test_heights_of_a_grid(tool, tmp_path):
     grid = tmp_path / "heights.asc"
     rows = "\n".join(" ".join(str(100 + 10 * row) for _ in range(5)) for row in range(5))
     grid.write_text(
-        f"ncols 5\nnrows 5\nxllcenter 9.98\nyllcenter 49.98\ncellsize 0.01\nNODATA_value -9999\n{rows}\n"
+        "ncols 5\nnrows 5\nxllcenter 9.98\nyllcenter 49.98\n"
+        f"cellsize 0.01\nNODATA_value -9999\n{rows}\n"
     )
     tool(
         "import_osm.py",

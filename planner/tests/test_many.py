@@ -112,7 +112,9 @@ def test_answers_in_the_order_of_the_pairs(alone, town, pairs, program):
     assert [tuple(route["cost"]) for route in entries[0]["routes"]] == [
         route.cost for route in first.routes
     ]
-    assert int(table[0]["least_time"]) == min(route.cost[1] for route in first.routes)
+    assert (
+        table[0]["least time (min)"] == f"{min(route.cost[1] for route in first.routes) / 600:.3f}"
+    )
     assert int(table[0]["trade_offs"]) == len(first.routes)
 
 

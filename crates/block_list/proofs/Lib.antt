@@ -1,2 +1,1 @@
 mod RestPush
-mod SettledPush

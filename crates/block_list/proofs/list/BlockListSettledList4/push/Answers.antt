@@ -2,7 +2,7 @@ use Rattle.std.proofs.Common.{map, arith}
 use Rattle.std.proofs.lemmas.List.{map_push}
 use Rattle.settled_list.proofs.RestLists.{covered_by_rests}
 use Rattle.block_list.proofs.RestPush.{rests_more}
-use Rattle.block_list.proofs.SettledPush.{settled_push}
+use Rattle.settled_list.proofs.SettledLists.{settled_push}
 use Rattle.block_list.proofs.list.BlockListSettledList4.push.Goals as goal
 
 pub invariant_of-self : goal.invariant_of-self
@@ -28,7 +28,7 @@ invariant_of-self-2 g c =
     let behind = rw (← c.self.view_is) at c.requires.behind in
     let uncovered = rw (← c.self.view_is) at c.requires.uncovered in
     rw (c.push_reserved.ensures.items, c.reserve.ensures.items, map_push f items c.args.cost.now) (
-      settled_push (map f items) cost behind uncovered c.self.invariant.0,
+      settled_push (map f items) cost c.self.invariant.0 behind uncovered,
       rests_more (map f items) (g.F.RestFront.rests c.self.inside.rests) (g.F.RestFront.rests c.add_rest.new.self) cost c.self.invariant.1 (omega (arith, c.part-second.ensures.long))
           c.in_ok-add_rest.ensures.added,
     )

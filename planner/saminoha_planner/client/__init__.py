@@ -1,0 +1,86 @@
+"""The program's commands and sessions as Python calls with typed results.
+
+`Program` runs the commands of `./route`; `Session` and `Operator` speak to a running `route
+serve` over TCP. This package needs nothing beyond Python's own library, and can be copied alone.
+"""
+
+from __future__ import annotations
+
+from .lines import (
+    Answer,
+    Change,
+    ClientError,
+    Costs,
+    Drop,
+    Epoch,
+    Limits,
+    Now,
+    OperatorRefused,
+    Order,
+    ProgramFailed,
+    ProtocolError,
+    Publish,
+    Query,
+    Refusal,
+    Refused,
+    Replies,
+    Reply,
+    Request,
+    Route,
+    SetArc,
+    ShutArc,
+    Sizes,
+    StoreClosed,
+    TimedOut,
+    Wait,
+    answered,
+    parse_orders,
+    write_lines,
+)
+from .program import DEFAULT_BUDGET, MOST_BUDGET, Files, LanesRun, Program, Proof
+from .server import Server, free_ports, parse_address, serving
+from .sessions import Operator, Session
+
+__all__ = [
+    "Answer",
+    "Change",
+    "ClientError",
+    "Costs",
+    "DEFAULT_BUDGET",
+    "Drop",
+    "Epoch",
+    "Files",
+    "LanesRun",
+    "Limits",
+    "MOST_BUDGET",
+    "Now",
+    "Operator",
+    "OperatorRefused",
+    "Order",
+    "Program",
+    "ProgramFailed",
+    "Proof",
+    "ProtocolError",
+    "Publish",
+    "Query",
+    "Refusal",
+    "Refused",
+    "Replies",
+    "Reply",
+    "Request",
+    "Route",
+    "Server",
+    "Session",
+    "SetArc",
+    "ShutArc",
+    "Sizes",
+    "StoreClosed",
+    "TimedOut",
+    "Wait",
+    "answered",
+    "free_ports",
+    "parse_address",
+    "parse_orders",
+    "serving",
+    "write_lines",
+]

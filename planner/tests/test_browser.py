@@ -1,0 +1,345 @@
+"""The page in Chromium: over the town, and over the extract that PLANNER_EXTRACT names."""
+
+from __future__ import annotations
+
+import base64
+import os
+import re
+import shutil
+import subprocess
+import time
+from contextlib import contextmanager
+from pathlib import Path
+
+import pytest
+from test_page import page_of
+
+from saminoha_planner.client import Operator
+from saminoha_planner.closures import LOG
+from saminoha_planner.network import read_network
+from saminoha_planner.site import LEAFLET
+
+webdriver = pytest.importorskip("selenium.webdriver", reason="python3-selenium is missing")
+MISSING = [
+    package
+    for package, is_there in (
+        ("chromium", shutil.which("chromium")),
+        ("chromium-driver", shutil.which("chromedriver")),
+        ("libjs-leaflet", LEAFLET.is_dir()),
+    )
+    if not is_there
+]
+pytestmark = pytest.mark.skipif(
+    bool(MISSING), reason=f"the page isn't tried in a browser: install {' '.join(MISSING)}"
+)
+WORDS = (
+    "--headless=new",
+    "--no-sandbox",
+    "--disable-gpu",
+    "--disable-dev-shm-usage",
+    "--window-size=1280,900",
+)
+PORT = 8139
+
+
+@contextmanager
+def chromium(language: str):
+    options = webdriver.ChromeOptions()
+    options.binary_location = shutil.which("chromium") or ""
+    for word in (*WORDS, f"--lang={language}"):
+        options.add_argument(word)
+    options.add_experimental_option("prefs", {"intl.accept_languages": language})
+    options.set_capability("goog:loggingPrefs", {"browser": "ALL"})
+    service = webdriver.chrome.service.Service(shutil.which("chromedriver"))
+    driver = webdriver.Chrome(options=options, service=service)
+    try:
+        yield Browser(driver)
+    finally:
+        driver.quit()
+
+
+class Browser:
+    """What a person does on the page, and sees there."""
+
+    def __init__(self, driver) -> None:
+        self.driver = driver
+
+    def open(self, address: str) -> None:
+        self.driver.get(address)
+        self.wait(lambda: self.run("return !!(window.page && page.roads && page.state)"))
+        self.rest()
+
+    def run(self, script: str, *words):
+        return self.driver.execute_script(script, *words)
+
+    def text(self, name: str) -> str:
+        return self.driver.find_element("id", name).text
+
+    def all(self, selector: str) -> list:
+        return self.driver.find_elements("css selector", selector)
+
+    def type(self, name: str, text: str) -> None:
+        field = self.driver.find_element("id", name)
+        field.clear()
+        field.send_keys(text)
+
+    def press(self, selector: str) -> None:
+        button = self.all(selector)[0]
+        self.run("arguments[0].scrollIntoView({block: 'center'})", button)
+        button.click()
+
+    def wait(self, condition, seconds: float = 30) -> None:
+        deadline = time.monotonic() + seconds
+        while not condition():
+            assert time.monotonic() < deadline, self.text("status")
+            time.sleep(0.05)
+
+    def rest(self) -> None:
+        self.wait(lambda: not self.run("return page.roads.isLoading()"))
+        time.sleep(0.4)
+
+    def ask(self, source: str, target: str) -> None:
+        self.type("from", source)
+        self.type("to", target)
+        self.press("#ends button[type=submit]")
+        self.wait(lambda: self.run("return page.answer !== null"))
+        self.rest()
+
+    def click_map(self, lon: float, lat: float) -> None:
+        point = self.run(
+            "return page.map.latLngToContainerPoint([arguments[0], arguments[1]])", lat, lon
+        )
+        box = self.driver.find_element("id", "map")
+        right, down = point["x"] - box.size["width"] / 2, point["y"] - box.size["height"] / 2
+        actions = webdriver.ActionChains(self.driver)
+        actions.move_to_element_with_offset(box, round(right), round(down)).click().perform()
+
+    def letters(self, selector: str) -> list[str]:
+        return [one.get_attribute("data-letter") for one in self.all(selector)]
+
+    def costs(self) -> list[list[int]]:
+        return self.run("return page.answer.costs")
+
+    def errors(self) -> list[dict]:
+        return [entry for entry in self.driver.get_log("browser") if entry["level"] == "SEVERE"]
+
+    def picture(self, name: str) -> None:
+        if folder := os.environ.get("SCREENSHOTS"):
+            self.driver.save_screenshot(str(Path(folder) / f"{name}.png"))
+
+
+@pytest.fixture(scope="module")
+def english():
+    with chromium("en-GB") as browser:
+        yield browser
+
+
+@pytest.fixture(scope="module")
+def town_server(town, served):
+    with served(town.files) as server:
+        yield server
+    (town.folder / LOG).unlink(missing_ok=True)
+
+
+@pytest.fixture(scope="module")
+def address(town, town_server):
+    words = ["--session", f"127.0.0.1:{town_server.port}"]
+    words += ["--operator", f"127.0.0.1:{town_server.operator_port}"]
+    with page_of(town.folder, *words, port=PORT) as (address, _):
+        yield address
+
+
+def test_two_clicks(english, address):
+    english.open(address)
+    english.click_map(10.0, 50.004)
+    english.wait(lambda: "From Northend" in english.text("status"))
+    english.click_map(10.009, 49.996)
+    english.wait(lambda: "shown." in english.text("status"))
+    assert english.text("title") == english.driver.title == "Northend – Southend"
+    assert len(english.all("#map .pin svg")) == 2
+    letters = english.letters("#rows tr")
+    assert letters == english.letters("#plot g.option") and len(letters) >= 3
+    assert [one.text for one in english.all("#map .badge")] == letters
+    assert "least distance" in english.text("rows")
+    assert re.match(r"As of \d\d:\d\d, no closures\.", english.text("stand"))
+    english.picture("town")
+
+
+def test_letters_stand_apart(english):
+    """No disc lies on another one, on the map and in the plot."""
+    for selector, least in (("#map .badge", 22), ("#plot g.option", 17)):
+        boxes = [one.rect for one in english.all(selector)]
+        middles = [(box["x"] + box["width"] / 2, box["y"] + box["height"] / 2) for box in boxes]
+        for place, (x, y) in enumerate(middles):
+            for across, down in middles[:place]:
+                assert max(abs(x - across), abs(y - down)) >= least * 0.7
+
+
+def test_choose_one(english):
+    """The chosen one lights up, the others are dimmed, and differences to it are told."""
+    letters = english.letters("#rows tr")
+    english.press("#rows tr:nth-child(2) button")
+    assert set(english.letters(".chosen")) == {letters[1]} and len(english.all(".chosen")) == 2
+    dim = [one.text for one in english.all("#map .badge.dim")]
+    assert sorted([*dim, letters[1]]) == letters
+    costs = english.costs()
+    first, second = (english.run(f"return page.answer.options[{at}].index") for at in (0, 1))
+    less = (costs[second][0] - costs[first][0]) / 1000
+    cells = english.all("#rows tr:nth-child(1) td.cost small")
+    told = float(cells[0].text.replace("−", "-").replace("±", "").split()[0])
+    assert told == pytest.approx(-less, abs=0.051)
+    english.picture("town_chosen")
+    english.press("#rows tr:nth-child(2) button")
+    assert not english.all(".chosen")
+
+
+def test_limit_by_keyboard(english):
+    from selenium.webdriver.common.keys import Keys
+
+    count = len(english.costs())
+    english.driver.find_element("id", "limit-toll").send_keys(Keys.HOME)
+    english.wait(lambda: "within the limits" in english.text("status"))
+    assert int(re.search(r"(\d+) within", english.text("status"))[1]) < count
+    assert "≤ 0.00" in english.text("limits")
+
+
+def test_close_reload_and_undo(english, address):
+    english.open(address)
+    english.ask("Northend", "Southend")
+    before = english.costs()
+    english.type("road", "Old Bridge")
+    english.press("#preview")
+    english.wait(lambda: english.driver.find_element("id", "previewed").is_displayed())
+    assert re.search(r"Old Bridge.*: \d+ arcs, [\d.]+ km", english.text("told"))
+    english.type("reason", "flood")
+    english.type("author", "Ann")
+    english.picture("town_preview")
+    english.press("#close")
+    english.wait(lambda: "Old Bridge is closed." in english.text("status"))
+    assert english.costs() != before and "Old Bridge" not in english.text("rows")
+    english.open(address)  # what is closed is there after a reload
+    item = english.text("closures")
+    assert "Old Bridge" in item and "flood · Ann" in item and "1 closure" in english.text("stand")
+    assert english.all(".leaflet-marks-pane path")
+    english.ask("Northend", "Southend")
+    english.picture("town_closed")
+    english.press("#closures button:last-child")
+    english.wait(lambda: "is undone" in english.text("status"))
+    assert english.costs() == before and "Nothing is closed" in english.text("closures")
+
+
+def test_stretch_between_two_clicks(english, address):
+    english.open(address)
+    english.press("#stretch")
+    english.click_map(10.0105, 49.9995)
+    english.wait(lambda: "ends" in english.text("status"))
+    english.click_map(10.0105, 49.9985)
+    english.wait(lambda: english.driver.find_element("id", "previewed").is_displayed())
+    assert "Old Bridge" in english.text("told")
+    english.press("#cancel")
+    assert not english.driver.find_element("id", "previewed").is_displayed()
+
+
+def test_another_operator(english, address, town, town_server, tool):
+    """The page sees by itself what others publish, and asks anew."""
+    english.open(address)
+    english.ask("Northend", "Southend")
+    before, operator = english.costs(), f"127.0.0.1:{town_server.operator_port}"
+    tool("ops.py", town.folder, "shut", "--road", "Toll Bridge", "--send", operator)
+    english.wait(lambda: "have changed" in english.text("status"), 20)
+    assert english.costs() != before
+    english.wait(lambda: "Toll Bridge" in english.text("closures"), 20)
+    english.press("#closures button:last-child")
+    english.wait(lambda: "is undone" in english.text("status"))
+    assert english.costs() == before
+    with Operator("127.0.0.1", town_server.operator_port) as other:
+        other.shut(1)
+        other.publish()
+        english.wait(lambda: "published elsewhere" in english.text("stand"), 20)
+        other.set(1, town.arc(1).weights)
+        other.publish()
+
+
+def test_words_that_mean_no_place(english, address):
+    english.open(address)
+    english.type("from", "Northendd")
+    english.type("to", "Southend")
+    english.press("#ends button[type=submit]")
+    english.wait(lambda: "Did you mean Northend" in english.text("status"))
+
+
+def test_print(english, address, tmp_path):
+    """The whole map, the table and the plot are on paper."""
+    english.open(address)
+    english.ask("Northend", "Southend")
+    english.driver.execute_async_script("page.lay_out().then(arguments[arguments.length - 1])")
+    pdf = english.driver.execute_cdp_cmd("Page.printToPDF", {"preferCSSPageSize": True})
+    paper = tmp_path / "page.pdf"
+    paper.write_bytes(base64.b64decode(pdf["data"]))
+    if folder := os.environ.get("SCREENSHOTS"):
+        shutil.copy(paper, folder)
+    if shutil.which("pdftotext"):
+        told = subprocess.run(["pdftotext", paper, "-"], capture_output=True, text=True).stdout
+        assert "Northend – Southend" in told and "least distance" in told
+        assert "Printed" in told and "Show alternatives" not in told
+    assert english.run(
+        """const shown = page.map.getBounds();
+        return page.answer.options.every((one) => one.shape.getLatLngs().every((place) => shown.contains(place)))"""
+    )
+
+
+def test_phone(english, address):
+    english.driver.set_window_size(400, 860)
+    english.open(address)
+    english.ask("Northend", "Southend")
+    wide = english.run("return [document.documentElement.scrollWidth, innerWidth]")
+    assert wide[0] <= wide[1]
+    english.picture("town_phone")
+    english.driver.set_window_size(1280, 900)
+    expected = "400 (BAD REQUEST)"  # of the name that was no place
+    assert all(expected in entry["message"] for entry in english.errors())
+
+
+def test_german(address):
+    with chromium("de-DE") as browser:
+        browser.open(address)
+        assert "Wählen Sie zwei Orte" in browser.text("status")
+        browser.ask("Northend", "Southend")
+        assert "kürzeste Strecke" in browser.text("rows")
+        assert re.search(r"\d,\d+ km", browser.text("rows"))
+        assert "Stand" in browser.text("stand") and "keine Sperrung" in browser.text("stand")
+        browser.type("from", "Northendd")
+        browser.press("#ends button[type=submit]")
+        browser.wait(lambda: "Meinten Sie Northend" in browser.text("status"))
+        browser.picture("town_german")
+
+
+@pytest.fixture(scope="module")
+def extract(tool, tmp_path_factory):
+    file = os.environ.get("PLANNER_EXTRACT")
+    if not file:
+        pytest.skip("PLANNER_EXTRACT names no extract (Liechtenstein's of osm2pgsql)")
+    folder = tmp_path_factory.mktemp("extract") / "network"
+    tool("import_osm.py", file, folder)
+    return read_network(folder)
+
+
+def test_an_extract(english, extract):
+    """A real one, with a server of the page's own: Vaduz to Ruggell, before and after a closure."""
+    with page_of(extract.folder, port=PORT + 1) as (address, _):
+        english.open(address)
+        assert "Vaduz" in english.run("return page.names._shown")
+        english.ask("Vaduz", "Ruggell")
+        before = english.costs()
+        english.picture("extract")
+        english.type("road", "Benderer Strasse")
+        english.press("#preview")
+        english.wait(lambda: english.driver.find_element("id", "previewed").is_displayed())
+        english.press("#close")
+        english.wait(lambda: "is closed" in english.text("status"))
+        assert min(cost[0] for cost in english.costs()) > min(cost[0] for cost in before)
+        english.rest()
+        english.picture("extract_closed")
+        english.press("#closures button:last-child")
+        english.wait(lambda: "is undone" in english.text("status"))
+        assert english.costs() == before

@@ -46,6 +46,7 @@ from saminoha_planner.client import (
     parse_orders,
 )
 from saminoha_planner.command import run
+from saminoha_planner.progress import waiting
 
 __all__ = [
     "Answer",
@@ -89,17 +90,25 @@ def main() -> None:
     parser.add_argument("source", type=int, metavar="FROM", help="a node")
     parser.add_argument("target", type=int, metavar="TO", help="a node")
     parser.add_argument(
-        "limits", nargs="*", metavar="LIMIT", help="a bound for each criterion, or - for none"
+        "limits",
+        nargs="*",
+        type=parse_bound,
+        metavar="LIMIT",
+        help="a bound for each criterion, or - for none",
     )
     parser.add_argument(
         "--timeout", type=float, default=60.0, metavar="SECONDS", help="how long to wait (60)"
     )
     words = parser.parse_args()
-    limits = [None if bound == "-" else int(bound) for bound in words.limits] or None
     host, port = words.address
-    with Session(host, port, words.timeout) as session:
-        json.dump(asdict(session.query(words.source, words.target, limits)), sys.stdout)
-        print()
+    with waiting("asking the server"), Session(host, port, words.timeout) as session:
+        answer = session.query(words.source, words.target, words.limits or None)
+    json.dump(asdict(answer), sys.stdout)
+    print()
+
+
+def parse_bound(text: str) -> int | None:
+    return None if text == "-" else int(text)
 
 
 if __name__ == "__main__":

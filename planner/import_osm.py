@@ -30,6 +30,17 @@ def parse_words() -> argparse.Namespace:
     parser = argparse.ArgumentParser(description=__doc__)
     parser.add_argument("extract", type=Path, metavar="EXTRACT", help="the extract")
     parser.add_argument("network", type=Path, metavar="NETWORK", help="the folder to write")
+    add_weighing_options(parser)
+    parser.add_argument(
+        "--table", action="store_true", help="write arcs.tsv too, a table for other programs"
+    )
+    parser.add_argument(
+        "--replace", action="store_true", help="write in the place of a network that is there"
+    )
+    return parser.parse_args()
+
+
+def add_weighing_options(parser: argparse.ArgumentParser) -> None:
     parser.add_argument("--mode", choices=sorted(MODES), default="car", help="who travels (car)")
     parser.add_argument(
         "--split",
@@ -62,13 +73,6 @@ def parse_words() -> argparse.Namespace:
         metavar="FILE",
         help="an .asc grid, an .hgt tile or a folder of them, for the climb",
     )
-    parser.add_argument(
-        "--table", action="store_true", help="write arcs.tsv too, a table for other programs"
-    )
-    parser.add_argument(
-        "--replace", action="store_true", help="write in the place of a network that is there"
-    )
-    return parser.parse_args()
 
 
 def heights_of(extract: Extract, file: Path | None) -> dict[int, float]:

@@ -34,6 +34,17 @@ def parse_words() -> argparse.Namespace:
         metavar="OUT",
         help="the folder of answers.jsonl and od.csv, and of the parts until then",
     )
+    add_spreading_options(parser)
+    parser.add_argument(
+        "--progress",
+        action="store_true",
+        help="show progress where standard error is no terminal too",
+    )
+    add_program_options(parser)
+    return parser.parse_args()
+
+
+def add_spreading_options(parser: argparse.ArgumentParser) -> None:
     parser.add_argument(
         "--jobs",
         type=int,
@@ -59,13 +70,6 @@ def parse_words() -> argparse.Namespace:
     parser.add_argument(
         "--part", type=int, default=20, metavar="PAIRS", help="pairs in a part (20)"
     )
-    parser.add_argument(
-        "--progress",
-        action="store_true",
-        help="show progress where standard error is no terminal too",
-    )
-    add_program_options(parser)
-    return parser.parse_args()
 
 
 def answer(

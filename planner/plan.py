@@ -7,10 +7,11 @@ from __future__ import annotations
 
 import argparse
 import sys
+from dataclasses import dataclass
 from pathlib import Path
 
-from saminoha_planner.choose import LETTERS, few, thinned, within_detour
-from saminoha_planner.client import Program
+from saminoha_planner.choose import LETTERS, Option, few, thinned, within_detour
+from saminoha_planner.client import Program, Proof, Route
 from saminoha_planner.command import Fault, add_program_options, program_of, proof_text, run
 from saminoha_planner.criteria import Criterion
 from saminoha_planner.network import Network, read_network
@@ -23,10 +24,8 @@ def parse_words() -> argparse.Namespace:
         description=__doc__, epilog="An end is a place's name, a node, or lon,lat."
     )
     parser.add_argument("network", metavar="NETWORK", help="a folder that import_osm.py made")
-    parser.add_argument(
-        "--from", dest="source", required=True, metavar="END", help="where to begin"
-    )
-    parser.add_argument("--to", dest="target", required=True, metavar="END", help="where to end")
+    parser.add_argument("--from", dest="source", required=True, metavar="END", help="its start")
+    parser.add_argument("--to", dest="target", required=True, metavar="END", help="its end")
     parser.add_argument(
         "--criteria", metavar="LIST", help="two or more of the network's criteria (all)"
     )
@@ -56,6 +55,12 @@ def parse_words() -> argparse.Namespace:
         metavar="TIMES",
         help="leave out routes longer or slower than this times the least",
     )
+    add_output_options(parser)
+    add_program_options(parser)
+    return parser.parse_args()
+
+
+def add_output_options(parser: argparse.ArgumentParser) -> None:
     parser.add_argument("--map", type=Path, metavar="FILE", help="draw a map (.png, .svg, .pdf)")
     parser.add_argument(
         "--front", type=Path, metavar="FILE", help="draw the costs against each other"
@@ -65,8 +70,6 @@ def parse_words() -> argparse.Namespace:
     )
     parser.add_argument("--geojson", type=Path, metavar="FILE", help="write all routes")
     parser.add_argument("--csv", type=Path, metavar="FILE", help="write all routes as a table")
-    add_program_options(parser)
-    return parser.parse_args()
 
 
 def parse_share(text: str) -> float:
@@ -124,27 +127,45 @@ def main() -> None:
     if options:
         print_table(sys.stdout, network, options)
     print(proof_text(program.proof()))
-    if words.map:
-        from saminoha_planner.draw import Side, draw_map  # matplotlib takes a second to load
+    write(words, Told(title, network, routes, options, (source, target), program.proof()))
 
-        draw_map(words.map, Side(title, network, options, (source, target), proof=program.proof()))
+
+@dataclass(frozen=True)
+class Told:
+    """An answer, and what is told of it."""
+
+    title: str
+    network: Network
+    routes: list[Route]
+    options: list[Option]
+    ends: tuple[int, int]
+    proof: Proof
+
+
+def write(words: argparse.Namespace, told: Told) -> None:
+    """The files that are wanted. The library of pictures takes a second to load."""
+    network, routes, options = told.network, told.routes, told.options
+    if words.map:
+        from saminoha_planner.draw import Side, draw_map
+
+        draw_map(words.map, Side(told.title, network, options, told.ends, proof=told.proof))
     if words.front:
         from saminoha_planner.front import Front, draw_front
         from saminoha_planner.legend import footer
 
-        note = footer(network.criteria, program.proof(), network.attribution)
-        draw_front(words.front, Front(network.criteria, routes, options), title, note)
+        note = footer(network.criteria, told.proof, network.attribution)
+        draw_front(words.front, Front(network.criteria, routes, options), told.title, note)
     if words.report:
         from saminoha_planner.draw import Side
         from saminoha_planner.front import Front
         from saminoha_planner.report import write_report
 
-        side = Side(title, network, options, (source, target), proof=program.proof())
+        side = Side(told.title, network, options, told.ends, proof=told.proof)
         write_report(words.report, side, Front(network.criteria, routes, options))
     if words.geojson:
         write_geojson(words.geojson, network, routes, options)
     if words.csv:
-        write_csv(words.csv, network, routes, options, program.proof())
+        write_csv(words.csv, network, routes, options, told.proof)
 
 
 def count_text(count: int, criteria: list[Criterion]) -> str:

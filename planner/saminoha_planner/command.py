@@ -57,7 +57,7 @@ def advice(fault: Exception) -> str:
 def proof_text(proof: Proof) -> str:
     """What is said with each answer of whether the program is the proved one."""
     return {
-        Proof.PROVED: "by the proved program: these are all the trade-offs",
+        Proof.PROVED: "by the proved program: none is left out",
         Proof.UNPROVED: "by a program that isn't proved here: ./route build proves and makes it",
         Proof.UNKNOWN: "by a program that doesn't say whether it is proved",
     }[proof]

@@ -1,5 +1,6 @@
 from __future__ import annotations
 
+import json
 import socket
 import threading
 
@@ -211,3 +212,11 @@ def test_texts():
     assert parse_address("host:70") == ("host", 70) and parse_address("70") == ("127.0.0.1", 70)
     with pytest.raises(ValueError):
         parse_address("host:")
+
+
+def test_the_command(tool, six_arcs, served):
+    with served(six_arcs) as server:
+        told = json.loads(tool("client.py", f"{server.host}:{server.port}", 1, 4, "-", 7))
+    assert [route["cost"] for route in told["routes"]] == [[4, 2]]
+    assert told["limits"] == [None, 7]
+    assert "invalid" in tool("client.py", "127.0.0.1:1", 1, 4, "much", status=2)

@@ -5,6 +5,7 @@ import json
 import pytest
 
 from saminoha_planner.client import Session
+from saminoha_planner.closures import LOG
 from saminoha_planner.network import read_network
 
 TRIP = ("--from", "Northend", "--to", "Southend")
@@ -105,6 +106,7 @@ def test_sent_to_a_server(tool, town, served):
             "--send",
             f"127.0.0.1:{server.operator_port}",
         )
+        (town.folder / LOG).unlink()  # other tests have the town as it is drawn
         with Session(server.host, server.port) as session:
             answer = session.query(town.find("Northend"), town.find("Southend"))
     assert answer.epoch == 1 and all(

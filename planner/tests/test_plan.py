@@ -65,7 +65,7 @@ def test_plan(tool, town, tmp_path, answer):
         "letter",
         "distance (km)",
         "time (min)",
-        "toll",
+        "toll (EUR)",
     ]
     assert rows[1][4] == " ".join(map(str, answer.routes[0].arcs))
 

@@ -9,7 +9,7 @@ use Rattle.cost_vector.specs.Costs.{LexLess}
 use Rattle.list_laws.proofs.Members.{each_in}
 use Rattle.list_laws.proofs.OnceLaws.{alike_back}
 use Rattle.road_network.specs.Network.{IsNode}
-use Rattle.settled_fronts.specs.NodeFronts.{AreStored, IsKept, costs_by, kept_fronts}
+use Rattle.settled_fronts.specs.NodeFronts.{AreStored, costs_by, kept_fronts}
 use Rattle.settled_fronts.proofs.PairLemmas.{in_settled_pairs, pairs_counted, settled_pairs_once}
 use Rattle.sweep_parts.specs.Settled.{costs_of}
 use Rattle.walk_readback.specs.Found.{HasSettled, IsBelowSettled, IsFound, longest_in}
@@ -127,7 +127,7 @@ pub lowers_none : {d bound start target count : ℕ} {places : List ℕ} {begun 
     → v < length places → get_or places v 0 ≡ 0 → Lowers v by (found_by d start target places begun) (found_by d start target places begun)
 lowers_none {places} {begun} {v} by are within none =
     let empty : costs_of (costs_by places begun) v ≡ [] =
-        get_or-map (λ k. get_or begun k []) places v 0 [] within ∙ ap (λ k. get_or begun k []) none ∙ are.kept.first in
+    get_or-map (λ k. get_or begun k []) places v 0 [] within ∙ ap (λ k. get_or begun k []) none ∙ are.kept.first in
     record {
       criteria = refl;
       start = refl;

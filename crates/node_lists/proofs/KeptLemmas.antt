@@ -14,7 +14,7 @@ use Rattle.list_laws.proofs.Pairs.{pairs_none}
 use Rattle.out_of_memory.specs.declared.OutOfMemory.{OutOfMemory}
 use Rattle.road_network.specs.Limits.{max_budget, max_nodes}
 use Rattle.settled_front.proofs.Views.{read_at}
-use Rattle.settled_fronts.specs.NodeFronts.{AreStored, IsKept, SameElsewhere, costs_by, kept_fronts}
+use Rattle.settled_fronts.specs.NodeFronts.{AreStored, IsKept, costs_by, kept_fronts}
 use Rattle.settled_fronts.proofs.PlacedLemmas.{changed, kept_new, none_placed}
 use Rattle.sweep_parts.specs.Settled.{IsSettledList, Pushes, costs_of, count_settled}
 use Rattle.node_lists.specs.KeptLists.{AreKept}

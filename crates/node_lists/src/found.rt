@@ -33,10 +33,10 @@ impl<const D: usize, C: StoredCost<D>> Model for FoundLists<D, C> {
     ghost Value = { FoundLists };
 
     ghost view = { λ f. record {
-        criteria = D;
-        start = f.start.0;
-        target = f.target.0;
-        lists = costs_by f.places.items (map (λ costs. map C.components costs.items) f.lists.items);
+      criteria = D;
+      start = f.start.0;
+      target = f.target.0;
+      lists = costs_by f.places.items (map (λ costs. map C.components costs.items) f.lists.items);
     } };
 
     ghost invariant = { λ f. AreFound D C.Part.bound f.start.0 f.target.0

@@ -1,4 +1,5 @@
-//! The settled costs of all nodes, each node's in ascending order, and what a search that settles them so has found.
+//! The settled costs of all nodes, each node's in ascending order, and what a search that settles
+//! them so has found.
 #![tactic(auto)]
 
 mod found;

@@ -140,7 +140,8 @@ fn reach<const D: usize, L: SettledList<D>>(
     Ok(next)
 }
 
-/// Adds a cost to a list, or else the list is without costs: what is in it where memory was wanting isn't known.
+/// Adds a cost to a list, or else the list is without costs: what is in it where memory was wanting
+/// isn't known.
 fn push_or_clear<const D: usize, L: SettledList<D>>(
     list: &mut L,
     count: &mut u32,

@@ -43,7 +43,7 @@ pub record FarBehind {T : Type 0} (number : T → ℕ) (current far_least : ℕ)
   pub later : current < far_least
   pub least : far_least ≤ number e
 
--- The run and the heap are in order, and hold what belongs to the current bucket or to earlier ones.
+-- the run and the heap are in order, and what they hold is of the current bucket or of earlier ones
 pub record AreBuckets {T : Type 0} (cmp : T → T → Ordering) (number : T → ℕ) (b : Buckets T) : Type 0 where
   pub narrow : b.shift < 64
   pub sorted : IsSorted cmp b.run

@@ -6,7 +6,7 @@ use Rattle.std.specs.Ordering.{is_lt, nat_cmp, ordering_then}
 use Rattle.waiting_item.specs.Waiting.{Waiting, as_waiting}
 use Rattle.waiting_item.specs.declared.item.Item.{Item}
 
--- the order of the heap, whose greatest element leaves first: the least cost, and then the least node
+-- the order of a heap whose greatest element leaves first: the least cost, then the least node
 abbrev pub least_first : {C : Type 0} → (C → C → Ordering) → Reverse (Item C) → Reverse (Item C) → Ordering
 least_first cmp x y =
     ordering_then (cmp y.0.cost x.0.cost) (ordering_then (nat_cmp y.0.node.0 x.0.node.0) (nat_cmp y.0.from.0 x.0.from.0))

@@ -16,10 +16,11 @@ use stored_cost::{Part, StoredCost};
 use sweep_parts::{LeastQueue, Look};
 use waiting_item::Item;
 
-/// A queue whose items lie in buckets by the first components of their costs. A bucket is sorted when it is opened; what belongs
-/// to an opened one after that lies in a heap beside it.
+/// A queue whose items lie in buckets by the first components of their costs. A bucket is sorted
+/// when it is opened; what comes after that and belongs to it lies in a heap beside it.
 ///
-/// Source: R. B. Dial, Algorithm 360: shortest-path forest with topological ordering, Communications of the ACM 12 (1969).
+/// Source: R. B. Dial, Algorithm 360: shortest-path forest with topological ordering,
+/// Communications of the ACM 12 (1969).
 #[derive(Drop)]
 pub struct BucketQueue<const D: usize, C: StoredCost<D>> {
     alloc: Global,
@@ -57,15 +58,16 @@ impl<const D: usize, C: StoredCost<D>> Model for BucketQueue<D, C> {
       far_least = q.far_least;
     } };
 
-    ghost invariant = { λ q. AreBuckets (least_first C.Ord.cmp) (bucket_number C.components q.shift) (record {
-      shift = q.shift;
-      current = q.current;
-      run = q.run.items;
-      heap = heap_items q.heap;
-      ring = q.ring;
-      far = q.far.items;
-      far_least = q.far_least;
-    }) };
+    ghost invariant = { λ q. AreBuckets (least_first C.Ord.cmp)
+        (bucket_number C.components q.shift) (record {
+          shift = q.shift;
+          current = q.current;
+          run = q.run.items;
+          heap = heap_items q.heap;
+          ring = q.ring;
+          far = q.far.items;
+          far_least = q.far_least;
+        }) };
 }
 
 impl<const D: usize, C: StoredCost<D>> BucketQueue<D, C> {
@@ -129,9 +131,11 @@ impl<const D: usize, C: StoredCost<D>> BucketQueue<D, C> {
         Some(number.min(self.far_least))
     }
 
-    /// Opens a bucket, without what is spent. The far ones that it reaches come out: they have to be put again.
+    /// Opens a bucket, without what is spent. Where it isn't before the least far one, the far
+    /// ones come out: they have to be put again.
     fn open<K: Look<D, C>>(&mut self, number: u64, look: &K) -> Vec<Reverse<Item<C>>>
-        requires allowed { All (λ e. K.allows look.now (spot_in C.components e.0)) (all_of self.old) }
+        requires allowed { All (λ e. K.allows look.now (spot_in C.components e.0))
+            (all_of self.old) }
         requires opened { opened self.old ≡ [] }
         requires next { IsNext (bucket_number C.components self.old.shift) self.old number }
         ensures loses { LosesSpent (K.IsSpent look.now) (map (waits C.components) (all_of self.old))
@@ -169,7 +173,8 @@ impl<const D: usize, C: StoredCost<D>> LeastQueue<D, C> for BucketQueue<D, C> {
 
     fn put(&mut self, item: Item<C>) -> Result<(), OutOfMemory>
         ensures { IfOk result (λ _.
-            IsPermutation (as_waiting C.components item ∷ map (waits C.components) (all_of self.old))
+            IsPermutation
+            (as_waiting C.components item ∷ map (waits C.components) (all_of self.old))
             (map (waits C.components) (all_of self.new))) }
     {
         self.put_entry(Reverse(item))

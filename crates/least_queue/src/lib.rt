@@ -1,4 +1,5 @@
-//! Queues of what waits in a search: nodes reached at costs, of which the lexicographically least leaves first.
+//! Queues of what waits in a search: nodes reached at costs, of which the lexicographically least
+//! leaves first.
 #![tactic(auto)]
 
 mod buckets;

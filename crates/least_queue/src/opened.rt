@@ -10,7 +10,8 @@ pub fn take_greatest<T: Ord + Drop>(run: &mut Vec<T>, heap: &mut BinaryHeap<T>) 
     requires heap { IsHeap T.cmp (heap_items heap.old) }
     ensures sorted { IsSorted T.cmp run.new.items }
     ensures heap { IsHeap T.cmp (heap_items heap.new) }
-    ensures greatest { IfSome result (λ x. IsUpperBound T.cmp x (run.old.items ++ heap_items heap.old)) }
+    ensures greatest { IfSome result (λ x.
+        IsUpperBound T.cmp x (run.old.items ++ heap_items heap.old)) }
     ensures rest { IfSome result (λ x. IsPermutation (run.old.items ++ heap_items heap.old)
         (x ∷ (run.new.items ++ heap_items heap.new))) }
     ensures none { IfNone result (run.old.items ++ heap_items heap.old ≡ []) }

@@ -64,7 +64,8 @@ impl<T: Drop> Bucket<T> {
     }
 }
 
-/// Buckets in a ring: each number has its place, at which another number's items may lie. A contract sees the list of the buckets.
+/// Buckets in a ring: each number has its place, at which another number's items may lie. A
+/// contract sees the list of the buckets.
 #[derive(Drop)]
 pub struct Ring<T: Drop> {
     buckets: Vec<Bucket<T>>,
@@ -132,11 +133,12 @@ impl<T: Drop> Ring<T> {
         None
     }
 
-    /// Adds an item to the bucket of this number. It comes back where the ring does not reach so far, or another number's items
-    /// lie at its place.
+    /// Adds an item to the bucket of this number. It comes back where the ring does not reach so
+    /// far, or another number's items lie at its place.
     pub fn put(&mut self, from: u64, number: u64, item: T) -> Result<Option<T>, OutOfMemory>
         ensures puts { IfOk result (λ back. IfNone back (Puts self.old number item self.new)) }
-        ensures near { IfOk result (λ back. IfNone back (number < reach_from from (length self.old))) }
+        ensures near { IfOk result (λ back.
+            IfNone back (number < reach_from from (length self.old))) }
         ensures back { IfOk result (λ back. IfSome back (λ i. (i ≡ item) × (self.new ≡ self.old))) }
         ensures same { OnErr result (self.new ≡ self.old) }
     {

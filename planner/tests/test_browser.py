@@ -284,7 +284,8 @@ def test_print(english, address, tmp_path):
         assert "Printed" in told and "Show alternatives" not in told
     assert english.run(
         """const shown = page.map.getBounds();
-        return page.answer.options.every((one) => one.shape.getLatLngs().every((place) => shown.contains(place)))"""
+        return page.answer.options.every((one) =>
+            one.shape.getLatLngs().every((place) => shown.contains(place)))"""
     )
 
 
@@ -312,6 +313,26 @@ def test_german(address):
         browser.press("#ends button[type=submit]")
         browser.wait(lambda: "Meinten Sie Northend" in browser.text("status"))
         browser.picture("town_german")
+
+
+def test_what_helps_where_a_search_is_refused(english, town):
+    with page_of(town.folder, "--budget", 10, port=PORT + 2) as (address, _):
+        english.open(address)
+        english.type("from", "Northend")
+        english.type("to", "Southend")
+        english.press("#ends button[type=submit]")
+        english.wait(lambda: english.all("#offers button"))
+        assert english.text("status").startswith("Refused")
+        offers = [one.text for one in english.all("#offers button")]
+        assert "memory" in offers[0] and "Weigh distance, time alone" in offers
+        english.picture("town_refused")
+        english.press("#offers button:nth-last-child(2)")  # limits
+        fields = english.all("#offers input")
+        fields[0].send_keys("1.6")
+        fields[2].send_keys("0")
+        english.press("#offers button")
+        english.wait(lambda: not english.text("status").startswith("Refused: the"))
+        english.driver.get_log("browser")  # its refusals are told there too
 
 
 @pytest.fixture(scope="module")

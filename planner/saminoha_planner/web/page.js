@@ -191,7 +191,12 @@ function query() {
 async function ask(isFresh, isFitted = isFresh, more = {}) {
   const mine = ++waiting, begun = Date.now();
   extra = isFresh ? more : extra;
-  if (isFresh) { limits = network.criteria.map(() => null); clear(); tell(say("searching")); }
+  if (isFresh) {
+    const count = extra.criteria ? extra.criteria.split(",").length : network.criteria.length;
+    limits = Array(count).fill(null);
+    clear();
+    tell(say("searching"));
+  }
   byId("offers").hidden = true;
   const timer = setInterval(() => {
     const seconds = Math.round((Date.now() - begun) / 1000);

@@ -89,7 +89,7 @@ def program_or_none(words: argparse.Namespace) -> Program | None:
 def listening(site: Flask, port: int) -> BaseWSGIServer:
     try:
         return make_server("127.0.0.1", port, site, threaded=True)
-    except SystemExit:  # it has said why
+    except (SystemExit, OSError):
         raise Fault(f"the page can't be at port {port}: name another one by --port") from None
 
 
@@ -100,6 +100,8 @@ def end(*_: object) -> None:
 
 def main() -> None:
     words = parse_words()
+    if not 0 < words.port < 65536:
+        raise Fault(f"{words.port} is no port")
     signal.signal(signal.SIGTERM, end)
     from saminoha_planner.desk import Desk  # it takes a while, and --help needs none of it
     from saminoha_planner.site import LEAFLET, make_site

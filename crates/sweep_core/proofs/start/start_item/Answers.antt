@@ -1,0 +1,31 @@
+use Rattle.std.proofs.Common.{◌^◌, ◌<◌, sym, subst, ◌∙◌, arith, rules}
+use Rattle.std.specs.Prelude.{All}
+use Rattle.std.proofs.lemmas.Bool.{iff_false}
+use Rattle.std.proofs.lemmas.List.Elements.{All-weaker}
+use Rattle.cost_vector.specs.Costs.{Within}
+use Rattle.sweep_core.specs.Potentials.{IsHeightIfAny}
+use Rattle.sweep_core.proofs.CostLemmas.{no_room}
+use Rattle.sweep_core.proofs.start.start_item.Goals as goal
+
+pub of-height-requires : goal.of-height-requires
+of-height-requires g c =
+    let net = c.args.network.now in let t = c.args.target.0 in
+    let is = g.met.P.Potential.consistent net t c.nodes.ensures.network c.requires.target in
+    let has = subst (IsHeightIfAny (g.P.Potential.height net t) c.args.start.0) c.in-Some.is c.in_ok-height.ensures.exact in
+    (search rules, is.whole c.args.start.0 c.in-Some.height has ∙ c.requires.criteria)
+
+pub returns-then-not-is_within-clause-start : goal.returns-then-not-is_within-clause-start
+returns-then-not-is_within-clause-start g c = λ h other within.
+    let net = c.args.network.now in let t = c.args.target.0 in
+    let is = g.met.P.Potential.consistent net t c.nodes.ensures.network c.requires.target in
+    let has = subst (IsHeightIfAny (g.P.Potential.height net t) c.args.start.0) c.in-Some.is c.in_ok-height.ensures.exact in
+    iff_false (c.is_within.ensures c.args.limit.now c.greatest_within.ensures) c.if-not-is_within.true
+    (subst (Within c.args.limit.now) (is.one c.args.start.0 h c.in-Some.height other has ∙ sym c.of-height.ensures) within)
+
+pub returns-in_default-stored-clause-too_wide : goal.returns-in_default-stored-clause-too_wide
+returns-in_default-stored-clause-too_wide g c = λ _.
+    let net = c.args.network.now in let t = c.args.target.0 in
+    let is = g.met.P.Potential.consistent net t c.nodes.ensures.network c.requires.target in
+    let has = subst (IsHeightIfAny (g.P.Potential.height net t) c.args.start.0) c.in-Some.is c.in_ok-height.ensures.exact in
+    let small = All-weaker (λ x. x < 2 ^ 55) (λ x. x < 2 ^ 60) (λ x less. omega (arith, less)) c.in-Some.height (is.small c.args.start.0 c.in-Some.height has) in
+    no_room (2 ^ 60) g.C.Part.Part.bound c.of-height.result.0 (subst (All (λ x. x < 2 ^ 60)) (sym c.of-height.ensures) small) c.in_default-stored.ensures.room

@@ -1,0 +1,24 @@
+use Rattle.std.proofs.Common.{◌≡◌, ◌∙◌, ◌∷◌, inl, inr, refl, sym, subst}
+use Rattle.std.specs.Prelude.{IsPermutation, OnOk}
+use Rattle.std.proofs.lemmas.Bool.{false≢true}
+use Rattle.waiting_item.specs.Waiting.{as_waiting}
+use Rattle.sweep_core.specs.Sweeps.{LetsWait, Sweep, with_queue, without_queue}
+use Rattle.sweep_core.proofs.StepLemmas.{on_ok, on_ok_of}
+use Rattle.sweep_core.proofs.sweep.Sweep.let_wait.Goals as goal
+
+pub returns-then-not-can_settle-clause-waits : goal.returns-then-not-can_settle-clause-waits
+returns-then-not-can_settle-clause-waits g c = inl (c.can_settle.ensures.spent (λ yes. false≢true (sym c.if-not-can_settle.true ∙ yes)), refl)
+
+pub returns-clause-rest : goal.returns-clause-rest
+returns-clause-rest g c =
+    let s = c.args.self.now in let after = g.Q.LeastQueue.waiting c.put.new.self in
+    subst (λ (z : Sweep). OnOk c.put.result (with_queue z after ≡ with_queue s after)) (sym c.self.view_is) (on_ok (with_queue s after ≡ with_queue s after) refl c.put.result)
+
+pub returns-clause-waits : goal.returns-clause-waits
+returns-clause-waits g c =
+    let s = c.args.self.now in let after = g.Q.LeastQueue.waiting c.put.new.self in
+    let i = as_waiting g.S.Cost.StoredCost.components c.args.item.now in
+    on_ok_of _ (LetsWait (without_queue s) i s.queue after) (λ _ moved. inr (
+      c.can_settle.ensures.within c.if-not-can_settle.false,
+      subst (λ (z : Sweep). IsPermutation (i ∷ z.queue) after) c.self.view_is moved,
+    )) c.put.result c.put.ensures

@@ -39,7 +39,6 @@ WORDS = (
     "--disable-dev-shm-usage",
     "--window-size=1280,900",
 )
-PORT = 8139
 
 
 @contextmanager
@@ -145,7 +144,7 @@ def town_server(town, served):
 def address(town, town_server):
     words = ["--session", f"127.0.0.1:{town_server.port}"]
     words += ["--operator", f"127.0.0.1:{town_server.operator_port}"]
-    with page_of(town.folder, *words, port=PORT) as (address, _):
+    with page_of(town.folder, *words) as (address, _):
         yield address
 
 
@@ -316,7 +315,7 @@ def test_german(address):
 
 
 def test_what_helps_where_a_search_is_refused(english, town):
-    with page_of(town.folder, "--budget", 10, port=PORT + 2) as (address, _):
+    with page_of(town.folder, "--budget", 10) as (address, _):
         english.open(address)
         english.type("from", "Northend")
         english.type("to", "Southend")
@@ -347,7 +346,7 @@ def extract(tool, tmp_path_factory):
 
 def test_an_extract(english, extract):
     """A real one, with a server of the page's own: Vaduz to Ruggell, before and after a closure."""
-    with page_of(extract.folder, port=PORT + 1) as (address, _):
+    with page_of(extract.folder) as (address, _):
         english.open(address)
         assert "Vaduz" in english.run("return page.names._shown")
         english.ask("Vaduz", "Ruggell")

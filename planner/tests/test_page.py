@@ -16,7 +16,7 @@ import pytest
 from conftest import PLANNER
 
 from saminoha_planner.ask import ProgramAsker, ServerAsker
-from saminoha_planner.client import Operator, Program, Route, SetArc, ShutArc
+from saminoha_planner.client import Operator, Program, Route, SetArc, ShutArc, free_ports
 from saminoha_planner.closures import LOG, Closure, Log, now
 from saminoha_planner.desk import Desk, coarse
 from saminoha_planner.roads import CLASSES, roads_of
@@ -350,8 +350,9 @@ def test_twins_are_near_in_cost_and_road(town):
 
 
 @contextmanager
-def page_of(network: Path, *more: object, port: int = 8137):
-    """page.py as it is documented: its address, and its process."""
+def page_of(network: Path, *more: object, port: int | None = None):
+    """page.py as it is documented, by default at a free port: its address, and its process."""
+    port = port or free_ports("127.0.0.1", 1)[0]
     words = [PLANNER / "page.py", network, "--port", port, *more]
     process = subprocess.Popen(
         list(map(str, words)), stdout=subprocess.PIPE, text=True, start_new_session=True
@@ -372,8 +373,9 @@ def children_of(process: subprocess.Popen) -> list[int]:
 
 
 def test_ends_with_what_it_started(town):
-    with page_of(town.folder) as (address, process):
-        assert address == "http://127.0.0.1:8137/"
+    port = free_ports("127.0.0.1", 1)[0]
+    with page_of(town.folder, port=port) as (address, process):
+        assert address == f"http://127.0.0.1:{port}/"
         deadline = time.monotonic() + 60
         while len(children_of(process)) < 2 and time.monotonic() < deadline:
             time.sleep(0.1)

@@ -1,5 +1,5 @@
--- Of each walk's cost, with the height of its end added, a settled cost there is at most that, a settled cost of the target dominates it,
--- or what waits costs at most as much. So what leaves and isn't spent is relevant by the potential.
+-- Of each walk's cost to a node that has a height, with that height added and within the limit, a settled cost there is at most that, a
+-- settled cost of the target dominates it, or what waits costs at most as much. So what leaves and isn't spent is relevant by the potential.
 use Rattle.std.proofs.Common.{◌≡◌, ◌⊎◌, ℕ, List, [], ◌∷◌, ◌++◌, replicate, reverse, inl, inr, refl, sym, ap, subst, ◌∙◌}
 use Rattle.std.specs.Prelude.{Contains}
 use Rattle.list_laws.proofs.Members.{each_in}

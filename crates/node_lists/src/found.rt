@@ -57,6 +57,14 @@ impl<const D: usize, C: StoredCost<D>> FoundLists<D, C> {
         }
     }
 
+    /// How many costs a node has.
+    pub fn count_at(&self, node: NodeNo) -> usize
+        requires { node.0 < length self.now.lists }
+        ensures { result ≡ length (costs_of self.now.lists node.0) }
+    {
+        self.list(node).len()
+    }
+
     /// The costs of a node.
     fn list(&self, node: NodeNo) -> &[C]
         requires { node.0 < length self.now.lists }

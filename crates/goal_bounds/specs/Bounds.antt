@@ -1,6 +1,6 @@
 -- The bounds of nodes, as they are found by a search for each criterion.
-use Rattle.std.specs.Prelude.{◌≡◌, ℕ, ◌-◌, ◌<◌, List, Option, Some, None, length, slice_index_or}
-use Rattle.road_network.specs.Network.{Network, IsNode}
+use Rattle.std.specs.Prelude.{◌≡◌, ℕ, ◌<◌, List, Option, Some, None, length, slice_index_or}
+use Rattle.road_network.specs.Network.{Network}
 use Rattle.goal_laws.specs.Goal.{IsBound}
 use Rattle.goal_bounds.specs.Reverse.{ReverseSearch, IsReverse, NoneLeads}
 
@@ -19,18 +19,3 @@ pub record IsBoundSearch (net : Network) (t : ℕ) (b : BoundSearch) : Type 0 wh
   pub target_is : b.target ≡ t
   pub count : length b.searches ≡ net.criteria
   pub each : (j : ℕ) (d : ReverseSearch) → j < net.criteria → IsReverse net t j (slice_index_or b.searches j d)
-
--- where the walks lead to, and for each node, from the first on, its bound, or None where no walk leads there
-pub record Bounds : Type 0 where
-  pub target : ℕ
-  pub list : List (Option (List ℕ))
-
--- the bound of the node v, if there is one
-abbrev pub bound_at : Bounds → ℕ → Option (List ℕ)
-bound_at b v = slice_index_or b.list (v - 1) None
-
--- they are those of all nodes of the network, for walks to t
-pub record AreBounds (net : Network) (t : ℕ) (b : Bounds) : Type 0 where
-  pub target_is : b.target ≡ t
-  pub count : length b.list ≡ net.nodes
-  pub each : (v : ℕ) → IsNode net.nodes v → IsBoundIfAny net v t (bound_at b v)

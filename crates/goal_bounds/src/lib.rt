@@ -2,11 +2,9 @@
 //! backwards from the target for each.
 #![tactic(auto)]
 
-mod bounds;
 mod laws;
 mod reverse;
 mod search;
 
-pub use bounds::{Bounds, make_bounds};
 pub use laws::bounds_are_small;
 pub use search::BoundSearch;

@@ -1,4 +1,0 @@
-pub mod AheadLemmas
-pub mod KeepingLemmas
-pub mod BudgetLemmas
-pub mod ProgressLemmas

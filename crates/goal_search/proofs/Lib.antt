@@ -1,5 +1,0 @@
-pub mod CostLemmas
-pub mod FollowLemmas
-pub mod RoundLemmas
-pub mod LoopLemmas
-pub mod BareLemmas

@@ -10,7 +10,7 @@ use Rattle.waiting_item.specs.Waiting.{Spot}
 use Rattle.sweep_parts.specs.Settled.{IsDominated}
 use Rattle.settled_front.specs.Fronts.{IsCovered}
 use Rattle.sweep_core.specs.Potentials.{IsConsistent, IsRelevantBy, Potential}
-use Rattle.sweep_core.specs.Sweeps.{IsSettledIn, IsSweep, Sweep, costs_at, lifted}
+use Rattle.sweep_core.specs.Sweeps.{IsEnded, IsSettledIn, IsSweep, SettlesAll, Sweep, costs_at, lifted}
 use Rattle.sweep_core.proofs.Frontier.{IsAhead, ahead_of_walk}
 
 module _ (net : Network) (road : IsNetwork net) (t : ℕ) (P : Potential) (is : IsConsistent net t P) (s : Sweep) (sweep : IsSweep net P s)
@@ -41,9 +41,18 @@ module _ (net : Network) (road : IsNetwork net) (t : ℕ) (P : Potential) (is : 
       pair.sum ∙ ap (plus pair.cost) (is.one s.target pair.height zero pair.has has) ∙ plus-zeros net.criteria pair.cost pair.whole in
       r.undominated pair.cost (sweep.relevant y pair barred.contains).best (subst (λ z. Dominates z (plus c r.height)) sum barred.dominates)
 
-  pub all_settled : IsSettledIn s.settled (lifted v c r.height)
+  all_settled : IsSettledIn s.settled (lifted v c r.height)
   all_settled = by (ahead_of_walk net road t P is s sweep r.best.reached.0 v c r.height r.best.reached.1 r.has r.within) where
     by : IsAhead s (lifted v c r.height) → IsSettledIn s.settled (lifted v c r.height)
     by (inl covered) = by_cover covered
     by (inr (inl barred)) = absurd (not_barred barred)
     by (inr (inr h)) = absurd (in_none h.item (subst (λ q. Contains q h.item) none h.waits))
+
+pub ended_settles_all : (net : Network) (road : IsNetwork net) (t : ℕ) (P : Potential) (is : IsConsistent net t P) (s : Sweep) → IsEnded net P s → s.target ≡ t
+    → SettlesAll net s.start s.target s.limit P s.settled
+ended_settles_all net road t P is s ended target = record {
+  count = ended.sweep.count;
+  relevant = λ x there. let b = (ended.sweep.settled_from x there).lifted in record { is_lifted = b; relevant = ended.sweep.relevant x b there };
+  all = λ v c h has r.
+      subst (λ g. IsSettledIn s.settled (lifted v c g)) (is.one v r.height h r.has has) (all_settled net road t P is s ended.sweep ended.none target v c r);
+}

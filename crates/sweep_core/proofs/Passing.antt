@@ -1,21 +1,23 @@
--- Where the budget is settled and one more is to be, one more than it is relevant.
-use Rattle.std.proofs.Common.{◌≡◌, ◌≢◌, ℕ, ◌+◌, List, [], ◌∷◌, get_or, length, inl, inr, refl, sym, ap, subst, ◌∙◌, arith}
+-- Where the budget is settled and one more is to be, one more than it is relevant. Where all is settled within the budget, it isn't so.
+use Rattle.std.proofs.Common.{◌≡◌, ◌≢◌, ℕ, ◌+◌, ◌≤◌, List, Option, [], ◌∷◌, get_or, length, inl, inr, refl, sym, ap, subst, ◌∙◌, arith}
 use Rattle.std.specs.Prelude.{All, AllPairs, Contains}
 use Rattle.std.proofs.lemmas.List.Sums.{sum-map}
-use Rattle.list_laws.proofs.Members.{all_from_in, cases_in, in_first, in_none, in_rest}
-use Rattle.list_laws.proofs.Pairs.{pair_with_first, pairs_cons, pairs_none, pairs_rest}
+use Rattle.list_laws.proofs.Members.{all_from_in, cases_in, each_in, in_first, in_none, in_rest}
+use Rattle.list_laws.proofs.Pairs.{pair_with_first, pairs_cons, pairs_none, pairs_rest, pigeonhole}
 use Rattle.cost_vector.specs.Costs.{AtMost, LexLess, plus}
 use Rattle.cost_vector.proofs.Vectors.{AtMost-refl, LexLess-irrefl}
 use Rattle.road_network.specs.Network.{Network}
+use Rattle.road_network.proofs.WalkLaws.{length_of_walk}
 use Rattle.arc_graph.specs.Graph.{IsRoadNetwork}
 use Rattle.waiting_item.specs.Waiting.{Spot, Waiting}
 use Rattle.settled_fronts.specs.NodeFronts.{pairs_from}
 use Rattle.settled_fronts.proofs.PairLemmas.{in_settled_pairs, pairs_counted, settled_pairs_once}
 use Rattle.sweep_parts.specs.Settled.{IsSettledList, costs_of, count_settled}
-use Rattle.sweep_core.specs.Potentials.{IsConsistent, IsRelevantBy, Potential}
-use Rattle.sweep_core.specs.Sweeps.{IsLifted, IsNext, IsSameSearch, IsSettledIn, PassesBy, Sweep, with_queue}
+use Rattle.sweep_core.specs.Potentials.{IsConsistent, IsRelevantBy, PassesBy, Potential}
+use Rattle.sweep_core.specs.Sweeps.{IsLifted, IsNext, IsSameSearch, IsSettledIn, SettlesAll, Sweep, lifted, with_queue}
 use Rattle.sweep_core.proofs.Frontier.{next_is_relevant}
 use Rattle.sweep_core.proofs.Leaving.{there}
+use Rattle.sweep_core.proofs.Settling.{one_cost}
 
 -- the spot of a pair
 abbrev spot_at : (ℕ × List ℕ) → Spot
@@ -65,6 +67,22 @@ module _ (net : Network) (t : ℕ) (P : Potential) (is : IsConsistent net t P) w
             record { pair = of.pair; there = in_rest p ps of.pair of.there; lifted = of.lifted; node = of.node; cost = of.cost }
       ]
 
+  -- a pair is there without its height
+  in_without : (ps : List (ℕ × List ℕ)) (lifted : (p : ℕ × List ℕ) → Contains ps p → IsLifted net P (spot_at p)) (p : ℕ × List ℕ) → Contains ps p
+      → (c : List ℕ) → ((b : IsLifted net P (spot_at p)) → b.cost ≡ c) → Contains (without_heights ps lifted) (p.0, c)
+  unfolding without_heights
+  in_without [] lifted p there c costs = absurd (in_none p there)
+  in_without (q ∷ ps) lifted p there c costs =
+      let first = lifted q (in_first q ps) in
+      let rest : (r : ℕ × List ℕ) → Contains ps r → IsLifted net P (spot_at r) = λ r later. lifted r (in_rest q ps r later) in
+      elim (cases_in q ps p there) [
+        | inl same ↦
+            let node : q.0 ≡ p.0 = sym (ap (λ (r : ℕ × List ℕ). r.0) same) in
+            let cost : first.cost ≡ c = subst (λ (r : ℕ × List ℕ). (b : IsLifted net P (spot_at r)) → b.cost ≡ c) same costs first in
+            subst (Contains ((q.0, first.cost) ∷ without_heights ps rest)) (λ i. (node i, cost i)) (in_first (q.0, first.cost) (without_heights ps rest))
+        | inr later ↦ in_rest (q.0, first.cost) (without_heights ps rest) (p.0, c) (in_without ps rest p later c costs)
+      ]
+
   distinct_without : (ps : List (ℕ × List ℕ)) (lifted : (p : ℕ × List ℕ) → Contains ps p → IsLifted net P (spot_at p)) → AllPairs ◌≢◌ ps
       → AllPairs ◌≢◌ (without_heights ps lifted)
   unfolding without_heights
@@ -97,7 +115,7 @@ module _ (net : Network) (t : ℕ) (P : Potential) (is : IsConsistent net t P) w
         let a = get_or (costs_of s.settled v) i d in
         LexLess-irrefl a (subst (LexLess a) (sym same) ((ordered v).ascending i j d before within)))
 
-    pub passes : PassesBy net P s
+    pub passes : PassesBy net s.start s.target s.limit P s.budget
     passes =
         let here = there net t P is (with_queue s next.queue) next.sweep x s.queue next.leaves in
         let own = (next.sweep.waiting_from x here).lifted in
@@ -128,13 +146,38 @@ module _ (net : Network) (t : ℕ) (P : Potential) (is : IsConsistent net t P) w
               ]);
         }
 
+  -- ---- where all is settled
+
+  module _ (road : IsRoadNetwork net) (s : Sweep) (all : SettlesAll net s.start s.target s.limit P s.settled) where
+    abbrev all_pairs : List (ℕ × List ℕ)
+    all_pairs = pairs_from 0 s.settled
+
+    of_relevant : (p : ℕ × List ℕ) → Contains all_pairs p → IsLifted net P (spot_at p)
+    of_relevant p there = (all.relevant (spot_at p) ((in_settled_pairs (record { nodes = 0; costs = s.settled }) p.0 p.1).0 there)).is_lifted
+
+    is_among : (p : ℕ × List ℕ) → IsRelevantBy net s.start s.target s.limit P p.0 p.1 → Contains (without_heights all_pairs of_relevant) p
+    is_among p r =
+        let f = plus p.1 r.height in
+        let settled = (in_settled_pairs (record { nodes = 0; costs = s.settled }) p.0 f).1 (all.all p.0 p.1 r.height r.has r) in
+        let own : IsLifted net P (lifted p.0 p.1 r.height) = record {
+          cost = p.1;
+          whole = length_of_walk net road.network r.best.reached.0 s.start p.0 p.1 r.best.reached.1;
+          height = r.height;
+          has = r.has;
+          sum = refl;
+        } in
+        in_without all_pairs of_relevant (p.0, f) settled p.1 (λ b. one_cost net t P is (lifted p.0 p.1 r.height) b own)
+
+    pub not_passed : count_settled s.settled ≤ s.budget → ¬ PassesBy net s.start s.target s.limit P s.budget
+    not_passed few h =
+        let most = pigeonhole h.pairs (without_heights all_pairs of_relevant) h.distinct
+        (λ p there. is_among p (each_in (λ (q : ℕ × List ℕ). IsRelevantBy net s.start s.target s.limit P q.0 q.1) h.pairs h.relevant p there)) in
+        omega (arith, most, h.more, as_many all_pairs of_relevant, pairs_counted 0 s.settled, sum-map {X = List (List ℕ)} length s.settled, few)
+
 -- of the same search
-pub passes_same : (net : Network) (P : Potential) (a b : Sweep) → IsSameSearch a b → PassesBy net P b → PassesBy net P a
-passes_same net P a b same h = record {
-  pairs = h.pairs;
-  more = h.more ∙ ap (λ n. n + 1) same.budget;
-  distinct = h.distinct;
-  relevant = subst (λ u. All (λ (p : ℕ × List ℕ). IsRelevantBy net u a.target a.limit P p.0 p.1) h.pairs) same.start
-      (subst (λ u. All (λ (p : ℕ × List ℕ). IsRelevantBy net b.start u a.limit P p.0 p.1) h.pairs) same.target
-      (subst (λ l. All (λ (p : ℕ × List ℕ). IsRelevantBy net b.start b.target l P p.0 p.1) h.pairs) same.limit h.relevant));
-}
+pub passes_same : (net : Network) (P : Potential) (a b : Sweep) → IsSameSearch a b → PassesBy net b.start b.target b.limit P b.budget
+    → PassesBy net a.start a.target a.limit P a.budget
+passes_same net P a b same h =
+    subst (λ u. PassesBy net u a.target a.limit P a.budget) same.start
+    (subst (λ u. PassesBy net b.start u a.limit P a.budget) same.target
+    (subst (λ l. PassesBy net b.start b.target l P a.budget) same.limit (subst (PassesBy net b.start b.target b.limit P) same.budget h)))

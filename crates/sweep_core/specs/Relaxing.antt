@@ -21,6 +21,12 @@ pub record IsGivenFrom (net : Network) (P : Potential) (x y : Spot) : Type 0 whe
   pub has : P y.node height
   pub cost : y.cost ≡ plus (plus is_lifted.cost by) height
 
+-- what an arc gives from the spot x on has a component that isn't below the bound
+pub record HasNoRoomFrom (net : Network) (P : Potential) (x : Spot) (bound : ℕ) : Type 0 where
+  pub spot : Spot
+  pub given : IsGivenFrom net P x spot
+  pub exceeds : ¬ All (λ c. c < bound) spot.cost
+
 -- What the arcs that K holds of give, from the item x on, has come to the items, and nothing else; but what leads straight
 -- back to where x came from may be missing.
 pub record LeadsOn (net : Network) (P : Potential) (x : Waiting) (K : ℕ → Type 0) (before after : List Waiting) : Type 0 where

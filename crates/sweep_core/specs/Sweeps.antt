@@ -116,12 +116,16 @@ pub record IsSameSearch (before after : Sweep) : Type 0 where
   pub limit : after.limit ≡ before.limit
   pub budget : after.budget ≡ before.budget
 
--- one pair more than the budget is relevant by the potential
-pub record PassesBy (net : Network) (P : Potential) (s : Sweep) : Type 0 where
-  pub pairs : List (ℕ × List ℕ)
-  pub more : length pairs ≡ s.budget + 1
-  pub distinct : AllPairs ◌≢◌ pairs
-  pub relevant : All (λ p. IsRelevantBy net s.start s.target s.limit P p.0 p.1) pairs
+-- the spot is that of a pair relevant by the potential, with the height of its node added
+pub record IsOfRelevant (net : Network) (s t : ℕ) (limit : List (Option ℕ)) (P : Potential) (x : Spot) : Type 0 where
+  pub is_lifted : IsLifted net P x
+  pub relevant : IsRelevantBy net s t limit P x.node is_lifted.cost
+
+-- settled are exactly the pairs relevant by the potential, each with the height of its node added
+pub record SettlesAll (net : Network) (s t : ℕ) (limit : List (Option ℕ)) (P : Potential) (settled : List (List (List ℕ))) : Type 0 where
+  pub count : length settled ≡ net.nodes + 1
+  pub relevant : (x : Spot) → IsSettledIn settled x → IsOfRelevant net s t limit P x
+  pub all : (v : ℕ) (c h : List ℕ) → P v h → IsRelevantBy net s t limit P v c → IsSettledIn settled (lifted v c h)
 
 -- The item left a state, in which none that waited came before it, and isn't spent.
 pub record IsNext (net : Network) (P : Potential) (s : Sweep) (i : Waiting) : Type 0 where

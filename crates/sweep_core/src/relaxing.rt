@@ -1,6 +1,6 @@
-ghost use Rattle.std.specs.Prelude.{◌≡◌, ◌^◌, ◌<◌, map, Err, OnOk};
+ghost use Rattle.std.specs.Prelude.{◌≡◌, map, Err, OnOk};
 ghost use Rattle.road_network.specs.Network.{IsNode};
-ghost use Rattle.sweep_core.specs.Relaxing.{IsSmallLifted, LeadsOn};
+ghost use Rattle.sweep_core.specs.Relaxing.{HasNoRoomFrom, IsSmallLifted, LeadsOn};
 ghost use Rattle.sweep_core.specs.Sweeps.{IsOutOf};
 ghost use Rattle.sweep_core.specs.declared.fault.StoreFault.TheVariants as fault;
 ghost use Rattle.waiting_item.specs.Waiting.{as_waiting, spot_in};
@@ -32,7 +32,10 @@ pub(crate) fn relax<const D: usize, C: StoredCost<D>, P: Potential>(
         (as_waiting C.components item.now) (λ _. Unit {0})
         (map (as_waiting C.components) items.old.items)
         (map (as_waiting C.components) items.new.items)) }
-    ensures too_wide { result ≡ Err fault.TooWide → C.Part.bound < 2 ^ 60 }
+    ensures tells_still { result ≡ Err fault.TooWide
+        → P.tells potential.new network.now target.0 }
+    ensures too_wide { result ≡ Err fault.TooWide → HasNoRoomFrom network.now
+        (P.height network.now target.0) (spot_in C.components item.now) C.Part.bound }
 {
     prove!(network.nodes() >= 1);
     prove!(network.criteria() == D);
@@ -67,7 +70,10 @@ fn relax_arc<const D: usize, C: StoredCost<D>, P: Potential>(
         (as_waiting C.components item.now) (λ k. k ≡ arc.0)
         (map (as_waiting C.components) items.old.items)
         (map (as_waiting C.components) items.new.items)) }
-    ensures too_wide { result ≡ Err fault.TooWide → C.Part.bound < 2 ^ 60 }
+    ensures tells_still { result ≡ Err fault.TooWide
+        → P.tells potential.new network.now target.0 }
+    ensures too_wide { result ≡ Err fault.TooWide → HasNoRoomFrom network.now
+        (P.height network.now target.0) (spot_in C.components item.now) C.Part.bound }
 {
     prove!(network.nodes() >= 1);
     prove!(network.criteria() == D);

@@ -1,6 +1,7 @@
 ghost use Rattle.std.specs.Prelude.{◌≡◌, ◌^◌, ◌<◌, length, Err, IfOk, OnOk};
 ghost use Rattle.std.specs.Option.{option_map};
 ghost use Rattle.road_network.specs.Network.{IsNode};
+ghost use Rattle.sweep_core.specs.Potentials.{HasNoRoom};
 ghost use Rattle.sweep_core.specs.Sweeps.{IsStartIfAny};
 ghost use Rattle.sweep_core.specs.declared.fault.StoreFault.TheVariants as fault;
 ghost use Rattle.waiting_item.specs.Waiting.{as_waiting};
@@ -32,7 +33,11 @@ pub(crate) fn start_item<const D: usize, C: StoredCost<D>, P: Potential>(
     ensures tells { OnOk result (P.tells potential.new network.now target.0) }
     ensures start { IfOk result (λ o. IsStartIfAny (P.height network.now target.0) start.0 limit.now
         (option_map (as_waiting C.components) o)) }
-    ensures too_wide { result ≡ Err fault.TooWide → C.Part.bound < 2 ^ 60 }
+    ensures tells_still { result ≡ Err fault.TooWide
+        → P.tells potential.new network.now target.0 }
+    ensures too_wide { result ≡ Err fault.TooWide
+        → HasNoRoom network.now start.0 (P.height network.now target.0) C.Part.bound }
+    ensures narrow { result ≡ Err fault.TooWide → C.Part.bound < 2 ^ 60 }
 {
     prove!(network.nodes() >= 1);
     prove!(network.criteria() == D);

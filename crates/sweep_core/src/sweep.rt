@@ -2,7 +2,8 @@ ghost use Rattle.std.specs.Prelude.{◌≡◌, ◌+◌, ◌^◌, ◌<◌, ◌≤
 ghost use Rattle.cost_vector.specs.Costs.{Within};
 ghost use Rattle.road_network.specs.Limits.{max_budget};
 ghost use Rattle.road_network.specs.Queries.{IsQuery, limit_of};
-ghost use Rattle.sweep_core.specs.Sweeps.{CanTell, IsEnded, IsNext, IsSameSearch, IsSearchFor, IsSpent, IsSweep, LetsAllWait, LetsWait, PassesBy, Settles, costs_at, with_both, with_queue, without_queue};
+ghost use Rattle.sweep_core.specs.Potentials.{HasNoRoom, PassesBy};
+ghost use Rattle.sweep_core.specs.Sweeps.{CanTell, IsEnded, IsNext, IsSameSearch, IsSearchFor, IsSpent, IsSweep, LetsAllWait, LetsWait, Settles, SettlesAll, costs_at, with_both, with_queue, without_queue};
 ghost use Rattle.sweep_core.specs.declared.fault.StoreFault.TheVariants as store;
 ghost use Rattle.sweep_core.specs.declared.fault.SweepFault.TheVariants as fault;
 ghost use Rattle.settled_front.specs.Fronts.{IsCovered};
@@ -69,7 +70,11 @@ impl<const D: usize, S: SettledLists<D>, Q: LeastQueue<D, S::Cost>> Sweep<D, S, 
         ensures tells { OnOk result (P.tells potential.new network.now query.now.to) }
         ensures sweep { IfOk result (IsSweep network.now (P.height network.now query.now.to)) }
         ensures search { IfOk result (IsSearchFor query.now (limit_of network.now.criteria query.now)) }
-        ensures too_wide { result ≡ Err store.TooWide → S.Cost.Part.bound < 2 ^ 60 }
+        ensures tells_still { result ≡ Err store.TooWide
+            → P.tells potential.new network.now query.now.to }
+        ensures too_wide { result ≡ Err store.TooWide → HasNoRoom network.now query.now.from
+            (P.height network.now query.now.to) S.Cost.Part.bound }
+        ensures narrow { result ≡ Err store.TooWide → S.Cost.Part.bound < 2 ^ 60 }
     {
         prove!(network.nodes() >= 1);
         prove!(network.criteria() == D);
@@ -100,11 +105,17 @@ impl<const D: usize, S: SettledLists<D>, Q: LeastQueue<D, S::Cost>> Sweep<D, S, 
         requires sweep { IsSweep network.now (P.height network.now self.old.target) self.old }
         ensures tells { OnOk result (P.tells potential.new network.now self.old.target) }
         ensures same { OnOk result (IsSameSearch self.old self.new) }
-        ensures all { OnOk result
-            (IsEnded network.now (P.height network.now self.old.target) self.new) }
-        ensures budget { result ≡ Err fault.Budget
-            → PassesBy network.now (P.height network.now self.old.target) self.old }
-        ensures too_wide { result ≡ Err fault.TooWide → S.Cost.Part.bound < 2 ^ 60 }
+        ensures all { OnOk result (SettlesAll network.now self.old.start self.old.target
+            self.old.limit (P.height network.now self.old.target) self.new.settled) }
+        ensures in_budget { OnOk result (¬ PassesBy network.now self.old.start self.old.target
+            self.old.limit (P.height network.now self.old.target) self.old.budget) }
+        ensures budget { result ≡ Err fault.Budget → PassesBy network.now self.old.start self.old.target
+            self.old.limit (P.height network.now self.old.target) self.old.budget }
+        ensures tells_still { result ≡ Err fault.TooWide
+            → P.tells potential.new network.now self.old.target }
+        ensures too_wide { result ≡ Err fault.TooWide → HasNoRoom network.now self.old.start
+            (P.height network.now self.old.target) S.Cost.Part.bound }
+        ensures narrow { result ≡ Err fault.TooWide → S.Cost.Part.bound < 2 ^ 60 }
     {
         prove!(network.nodes() >= 1);
         let mut fresh = Vec::new(alloc);
@@ -157,7 +168,11 @@ impl<const D: usize, S: SettledLists<D>, Q: LeastQueue<D, S::Cost>> Sweep<D, S, 
         ensures tells { OnOk result (P.tells potential.new network.now self.old.target) }
         ensures settles { OnOk result (Settles network.now
             (P.height network.now self.old.target) self.old self.new) }
-        ensures too_wide { result ≡ Err store.TooWide → S.Cost.Part.bound < 2 ^ 60 }
+        ensures tells_still { result ≡ Err store.TooWide
+            → P.tells potential.new network.now self.old.target }
+        ensures too_wide { result ≡ Err store.TooWide → HasNoRoom network.now self.old.start
+            (P.height network.now self.old.target) S.Cost.Part.bound }
+        ensures narrow { result ≡ Err store.TooWide → S.Cost.Part.bound < 2 ^ 60 }
     {
         prove!(network.nodes() >= 1);
         self.push(item)?;

@@ -1,0 +1,86 @@
+ghost use Rattle.std.specs.Prelude.{OnOk};
+ghost use Rattle.road_network.specs.Queries.{IsQuery};
+ghost use Rattle.sweep_search.specs.Finding.{HasAllBare, HasAllBy};
+ghost use Rattle.sweep_search.specs.Swept.{lists_at_width};
+
+use crate::ask::ask;
+use crate::lowering::lower_all;
+use arc_graph::Network;
+use cost_vector::{Cost, NodeNo};
+use node_lists::FoundLists;
+use out_of_memory::OutOfMemory;
+use road_network::Query;
+use std::alloc::Global;
+use stored_cost::{NarrowCost, WideCost};
+use sweep_core::Potential;
+use walk_readback::{FoundCosts, SettledCosts};
+
+/// What a search has found, at the width at which it ended.
+#[derive(Drop)]
+pub enum SweptAtWidth<const D: usize> {
+    Narrow(FoundLists<D, NarrowCost<D>>),
+    Wide(FoundLists<D, WideCost<D>>),
+}
+
+impl<const D: usize> SweptAtWidth<D> {
+    /// Takes the height of each node off its costs.
+    pub(crate) fn lower<P: Potential>(
+        &mut self,
+        network: &Network<'_>,
+        query: &Query,
+        potential: &mut P,
+    ) -> Result<(), OutOfMemory>
+        requires query { IsQuery network.now query.now }
+        requires tells { P.tells potential.old network.now query.now.to }
+        requires all { HasAllBy network.now query.now (P.height network.now query.now.to)
+            (lists_at_width self.old) }
+        ensures { OnOk result (HasAllBare network.now query.now
+            (P.height network.now query.now.to) (lists_at_width self.new)) }
+    {
+        let target = NodeNo(query.to);
+        match self {
+            SweptAtWidth::Narrow(found) => lower_all(network, target, potential, found),
+            SweptAtWidth::Wide(found) => lower_all(network, target, potential, found),
+        }
+    }
+}
+
+impl<const D: usize> FoundCosts for SweptAtWidth<D> {
+    ghost use Rattle.sweep_search.specs.Swept.{found_at_width};
+
+    ghost state = { found_at_width };
+
+    fn start(&self) -> NodeNo {
+        ask!(self, [SweptAtWidth::Narrow, SweptAtWidth::Wide], start())
+    }
+
+    fn target(&self) -> NodeNo {
+        ask!(self, [SweptAtWidth::Narrow, SweptAtWidth::Wide], target())
+    }
+
+    fn count(&self) -> usize {
+        ask!(self, [SweptAtWidth::Narrow, SweptAtWidth::Wide], count())
+    }
+
+    fn cost(&self, i: usize) -> Cost {
+        ask!(self, [SweptAtWidth::Narrow, SweptAtWidth::Wide], cost(i))
+    }
+
+    fn has(&self, node: NodeNo, cost: &Cost) -> bool {
+        ask!(self, [SweptAtWidth::Narrow, SweptAtWidth::Wide], has(node, cost))
+    }
+
+    fn longest(&self) -> u32 {
+        ask!(self, [SweptAtWidth::Narrow, SweptAtWidth::Wide], longest())
+    }
+}
+
+impl<const D: usize> SettledCosts for SweptAtWidth<D> {
+    fn settled(&self) -> usize {
+        ask!(self, [SweptAtWidth::Narrow, SweptAtWidth::Wide], settled())
+    }
+
+    fn costs_of(&self, alloc: Global, node: NodeNo) -> Result<Vec<Cost>, OutOfMemory> {
+        ask!(self, [SweptAtWidth::Narrow, SweptAtWidth::Wide], costs_of(alloc, node))
+    }
+}

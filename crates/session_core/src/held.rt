@@ -1,40 +1,32 @@
 use crate::made::MadeReply;
 use std::sync::atomic::{AtomicU64, AtomicUsize, Ordering};
-use work_claim::{Free, Helpers};
 
 /// How many bytes of replies are enough, so that no further one is begun: 64 MiB.
 const ENOUGH_BYTES: u64 = 1 << 26;
 
-/// How far workers are who make replies side by side: how many bytes they hold, the replies to how many of the first queries
-/// there are, up to the last that was begun, which workers find no more to begin, and whether these help in time.
+/// How far workers are who make replies side by side: how many bytes they hold, and the replies to how many of the first queries
+/// there are, up to the last that was begun.
 #[derive(Drop)]
 pub(crate) struct Held {
     bytes: AtomicU64,
     begun: AtomicUsize,
-    free: Free,
-    helpers: Helpers,
 }
 
 impl Held {
-    /// No reply to any of so many queries was begun.
-    pub(crate) fn new(queries: u32) -> Held {
+    /// No reply was begun.
+    pub(crate) fn new() -> Held {
         Held {
             bytes: AtomicU64::new(0),
             begun: AtomicUsize::new(0),
-            free: Free::new(queries),
-            helpers: Helpers::new(),
         }
     }
 
     /// Begins the reply to the query at this place, unless what is held is enough.
     pub(crate) fn begin(&self, place: usize) -> bool {
-        self.free.begin();
         let may = self.bytes.load(Ordering::Relaxed) < ENOUGH_BYTES;
         if may {
             self.begun
                 .fetch_max(place.saturating_add(1), Ordering::Relaxed);
-        } else {
-            self.free.end();
         }
         may
     }
@@ -45,21 +37,10 @@ impl Held {
             self.bytes
                 .fetch_add(made.text.sent().len() as u64, Ordering::Relaxed);
         }
-        self.free.end();
     }
 
     /// How many of the first queries there are, up to the last whose reply was begun.
     pub(crate) fn begun(&self) -> usize {
         self.begun.load(Ordering::Relaxed)
-    }
-
-    /// Which workers find no more to begin.
-    pub(crate) fn free(&self) -> &Free {
-        &self.free
-    }
-
-    /// Whether these help in time.
-    pub(crate) fn helpers(&self) -> &Helpers {
-        &self.helpers
     }
 }

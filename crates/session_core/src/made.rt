@@ -15,7 +15,7 @@ use route_io::sure::SureSink;
 use route_io::{Gate, Phase, Sink, put_all};
 use std::thread::Threads;
 use walk_readback::Room;
-use work_claim::{Calls, Workers, run_pieces};
+use work_claim::{Calls, run_pieces};
 
 /// A reply that was made in memory: what it is, and its text.
 #[derive(Drop)]
@@ -36,8 +36,7 @@ impl MadeReply {
 }
 
 impl<R: Threads + Sync, G: Gate> Answerer<'_, R, G> {
-    /// The replies to the first of these queries, made in memory side by side: each query is searched by one of the workers, and by
-    /// those too who find no more to begin. They are the replies to all, or to so many that they come to 64 MiB or somewhat more.
+    /// The replies to the first of these queries, made in memory side by side: each query is searched by one of the workers. They are the replies to all, or to so many that they come to 64 MiB or somewhat more.
     /// There is `None` where memory ran out for the reply to a query.
     pub fn make_replies(
         &self,
@@ -50,7 +49,7 @@ impl<R: Threads + Sync, G: Gate> Answerer<'_, R, G> {
         ensures { IfOk result (λ made. AreMade self.now.network.now epoch kind
             (take (length made.items) queries.now) made.items) }
     {
-        let held = Held::new(queries.len() as u32);
+        let held = Held::new();
         let each = |place: usize| -> Result<Option<MadeReply>, OutOfMemory>
             requires { IsSync R.row × IsSync G.row
                 × IsSomeAnd (slice_get queries.now place) (IsAsked self.now.network.now.criteria) }
@@ -84,32 +83,26 @@ impl<R: Threads + Sync, G: Gate> Answerer<'_, R, G> {
         if !held.begin(place) {
             return None;
         }
-        let made = self.make_reply(epoch, kind, query, held).ok();
+        let made = self.make_reply(epoch, kind, query).ok();
         held.end(made.as_ref());
         made
     }
 
-    /// The reply to a query at an epoch, made in memory by one worker and those who are free.
+    /// The reply to a query at an epoch, made in memory by one worker.
     fn make_reply(
         &self,
         epoch: u32,
         kind: AnswerKind,
         query: &Query,
-        held: &Held,
     ) -> Result<MadeReply, OutOfMemory>
         requires { IsAsked self.now.network.now.criteria query.now }
         ensures { IfOk result (IsMade self.now.network.now epoch kind query.now) }
     {
         let mut room = Room::with(self.alloc, 0)?;
         let mut text = SureSink::new(self.alloc);
-        let all = self.workers;
-        let workers = Workers::new(all.rt(), all.count(), all.gate())
-            .as_free(held.free())
-            .watched(held.helpers());
         let answerer = Answerer {
-            workers: &workers,
-            alloc: self.alloc,
-            network: self.network,
+            workers: &self.workers.alone(),
+            ..*self
         };
         match answerer.reply(epoch, kind, query, &mut room, &mut text) {
             Ok(reply) => Ok(MadeReply { reply, text }),

@@ -181,3 +181,21 @@ passes_same net P a b same h =
     subst (λ u. PassesBy net u a.target a.limit P a.budget) same.start
     (subst (λ u. PassesBy net b.start u a.limit P a.budget) same.target
     (subst (λ l. PassesBy net b.start b.target l P a.budget) same.limit (subst (PassesBy net b.start b.target b.limit P) same.budget h)))
+
+pub settles_same : (net : Network) (P : Potential) (a b : Sweep) → IsSameSearch a b → SettlesAll net b.start b.target b.limit P b.settled
+    → SettlesAll net a.start a.target a.limit P b.settled
+settles_same net P a b same h =
+    subst (λ u. SettlesAll net u a.target a.limit P b.settled) same.start
+    (subst (λ u. SettlesAll net b.start u a.limit P b.settled) same.target (subst (λ l. SettlesAll net b.start b.target l P b.settled) same.limit h))
+
+pub same_back : (a b : Sweep) → IsSameSearch a b → IsSameSearch b a
+same_back a b same = record { start = sym same.start; target = sym same.target; limit = sym same.limit; budget = sym same.budget }
+
+-- where something else waits
+pub same_with_queue : (a b c : Sweep) → c ≡ with_queue b c.queue → IsSameSearch a b → IsSameSearch a c
+same_with_queue a b c rest same = record {
+  start = ap (λ (z : Sweep). z.start) rest ∙ same.start;
+  target = ap (λ (z : Sweep). z.target) rest ∙ same.target;
+  limit = ap (λ (z : Sweep). z.limit) rest ∙ same.limit;
+  budget = ap (λ (z : Sweep). z.budget) rest ∙ same.budget;
+}

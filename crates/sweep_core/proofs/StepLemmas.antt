@@ -95,7 +95,7 @@ module _ (net : Network) (road : IsRoadNetwork net) (t : ℕ) (P : Potential) (i
       let b = h.given.is_lifted in
       let best = (next_is_relevant net road.network t P is was next.sweep x s.queue next.leaves waits (λ covered. next.unspent (inl covered))
       (λ dominated. next.unspent (inr dominated)) (next.sweep.within x waits) target).best.reached in
-      let walk = subst (IsWalk net s.start best.0 x.spot.node) (one_cost net t P is x.spot next_lifted b) best.1 in record {
+      let walk = subst (IsWalk net s.start best.0 x.spot.node) (one_cost net t P is x.spot (next.sweep.waiting_from x waits).lifted b) best.1 in record {
         node = h.spot.node;
         arcs = best.0 ++ h.given.arc ∷ [];
         cost = plus b.cost h.given.by;

@@ -6,5 +6,5 @@ pub record Workers (R G : Type 0) : Type 0 where
   pub rt : R
   pub count : ℕ
   pub gate : G
-  -- whether all of them do what is shared, whoever of them is free and however late helpers came
+  -- whether all of them do what is shared, however late helpers came
   pub all : Bool

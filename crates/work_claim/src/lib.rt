@@ -4,7 +4,6 @@
 mod calls;
 mod counter;
 mod done;
-mod free;
 mod helpers;
 mod job;
 mod job_run;
@@ -13,7 +12,6 @@ mod run;
 mod workers;
 
 pub use calls::Calls;
-pub use free::Free;
 pub use helpers::Helpers;
 pub use job::Job;
 pub use run::run_pieces;

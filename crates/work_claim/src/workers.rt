@@ -1,24 +1,22 @@
 ghost use Rattle.std.specs.Prelude.{◌≡◌, ◌≤◌, ◌/◌, true, false, if◌then◌else◌};
 ghost use Rattle.std.specs.Bool.{nat_le};
 
-use crate::{Free, Helpers};
+use crate::Helpers;
 use route_io::Gate;
 use std::marker::Model;
 
 /// Who does the pieces of a job: so many workers, on the threads of this runtime, and the gate that they pass before each
-/// piece. Where `free` tells who of them has no piece left to begin, those alone share the work within a piece; where `helpers`
-/// tells that they came too late, work isn't shared.
+/// piece. Where `helpers` tells that threads came too late, work isn't shared.
 #[derive(Drop)]
 pub struct Workers<'w, R, G> {
     rt: &'w R,
     count: u32,
     gate: &'w G,
-    free: Option<&'w Free>,
     helpers: Option<&'w Helpers>,
 }
 
 impl<'w, R, G> Model for Workers<'w, R, G> {
-    ghost use Rattle.std.specs.Prelude.{◌&&◌, ◌≤◌, is_none};
+    ghost use Rattle.std.specs.Prelude.{◌≤◌, is_none};
     ghost use Rattle.work_claim.specs.Workers.{Workers};
 
     ghost Value = { Workers R G };
@@ -27,7 +25,7 @@ impl<'w, R, G> Model for Workers<'w, R, G> {
       rt = w.rt.now;
       count = w.count;
       gate = w.gate.now;
-      all = is_none w.free && is_none w.helpers;
+      all = is_none w.helpers;
     } };
 
     ghost invariant = { λ w. (1 ≤ w.count) × (w.count ≤ 64) };
@@ -44,7 +42,6 @@ impl<'w, R, G> Workers<'w, R, G> {
             rt,
             count,
             gate,
-            free: None,
             helpers: None,
         }
     }
@@ -78,18 +75,7 @@ impl<'w, R, G> Workers<'w, R, G> {
     {
         Workers {
             count: 1,
-            free: None,
             helpers: None,
-            ..*self
-        }
-    }
-
-    /// The same workers, of whom work on labels is shared by those who are free.
-    pub fn as_free(&self, free: &'w Free) -> Workers<'w, R, G>
-        ensures { result ≡ record self.now { all = false } }
-    {
-        Workers {
-            free: Some(free),
             ..*self
         }
     }
@@ -131,15 +117,14 @@ impl<'w, R, G> Workers<'w, R, G> {
             rt: self.rt,
             count: self.count,
             gate,
-            free: None,
             helpers: None,
         }
     }
 }
 
 impl<'w, R, G: Gate> Workers<'w, R, G> {
-    /// Those who share work on so many labels: all of them, or those who are free, where each has as many as the gate asks for,
-    /// else one, since starting threads would take longer than they save; also one where helpers came too late.
+    /// Those who share work on so many labels: all of them where each has as many as the gate asks for, else one, since starting
+    /// threads would take longer than they save; also one where helpers came too late.
     pub fn for_labels(&self, labels: usize) -> Workers<'w, R, G>
         ensures exact { self.now.all ≡ true → result ≡ record self.now {
           count = if nat_le G.SHARED_FROM (labels / self.now.count) then self.now.count else 1;
@@ -148,16 +133,9 @@ impl<'w, R, G: Gate> Workers<'w, R, G> {
         ensures rt { result.rt ≡ self.now.rt }
         ensures gate { result.gate ≡ self.now.gate }
     {
-        let count = match self.free {
-            None => self.count,
-            Some(free) => free.share(self.count),
-        };
+        let count = self.count;
         if labels / count as usize >= G::SHARED_FROM && (count == 1 || self.may_share()) {
-            Workers {
-                count,
-                free: None,
-                ..*self
-            }
+            Workers { ..*self }
         } else {
             self.alone()
         }

@@ -2,4 +2,3 @@ mod counting;
 mod meeting;
 mod order;
 mod relaxing;
-mod sharing;

@@ -1,5 +1,4 @@
-use Rattle.std.proofs.Common.{◌≡◌, ◌∷◌, ◌++◌, [], ◌^◌, ◌<◌, length, map, refl, sym, ap, subst, ◌∙◌, rules}
-use Rattle.std.specs.Prelude.{All}
+use Rattle.std.proofs.Common.{◌≡◌, ◌∷◌, ◌++◌, [], length, map, refl, sym, ap, subst, ◌∙◌, rules}
 use Rattle.std.proofs.lemmas.List.{map-append}
 use Rattle.cost_vector.specs.Costs.{plus}
 use Rattle.road_network.specs.Network.{Leads}
@@ -9,7 +8,6 @@ use Rattle.waiting_item.specs.Waiting.{Waiting, as_waiting, spot_in}
 use Rattle.sweep_core.specs.Potentials.{IsHeightIfAny}
 use Rattle.sweep_core.specs.Relaxing.{LeadsOn}
 use Rattle.sweep_core.specs.Sweeps.{lifted}
-use Rattle.sweep_core.proofs.CostLemmas.{moved_is_small, no_room}
 use Rattle.sweep_core.proofs.LeadingLemmas.{one_follows, sum_with}
 use Rattle.sweep_core.proofs.relaxing.relax_arc.Goals as goal
 
@@ -34,9 +32,22 @@ returns-in_default-stored-clause-too_wide g c =
     let head = subst (IsHeightIfAny P c.head-head.result.0) c.in-Some-2.is c.in_ok-height.ensures.exact in
     let sum = c.to_compact.ensures.same ∙ sum_with net t P is (spot_in g.C.StoredCost.components c.args.item.now) b c.args.own.now c.requires.own in
     let moved = c.moved_on-moved.ensures b.cost (b.whole ∙ c.requires.criteria) sum in
-    let small = moved_is_small b.cost c.in-Some.weight c.in-Some-2.height c.requires.spot.small c.in-Some.ensures.small
-    (is.small c.head-head.result.0 c.in-Some-2.height head) in
-    λ _. no_room (2 ^ 60) g.C.Part.Part.bound c.moved_on-moved.result.0 (subst (All (λ x. x < 2 ^ 60)) (sym moved) small) c.in_default-stored.ensures.room
+    let a = c.args.arc in
+    let over = leads_over net a c.requires.arc.counted c.requires.arc.there c.in-Some.weight (sym c.weight.ensures.state ∙ c.in-Some.is) in
+    let arc = subst (λ u. Leads net a.0 u c.in-Some.weight (head_of net.ends a)) c.requires.arc.tail over in
+    λ _. record {
+      spot = record { cost = c.moved_on-moved.result.0; node = c.head-head.result.0 };
+      given = record {
+        is_lifted = b;
+        arc = a.0;
+        by = c.in-Some.weight;
+        height = c.in-Some-2.height;
+        leads = subst (Leads net a.0 c.args.item.now.node.0 c.in-Some.weight) (sym c.head-head.ensures) arc;
+        has = head;
+        cost = moved;
+      };
+      exceeds = c.in_default-stored.ensures.room;
+    }
 
 pub returns-clause-leads : goal.returns-clause-leads
 returns-clause-leads g c =

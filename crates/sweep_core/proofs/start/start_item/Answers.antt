@@ -1,8 +1,9 @@
-use Rattle.std.proofs.Common.{◌^◌, ◌<◌, sym, subst, ◌∙◌, arith, rules}
+use Rattle.std.proofs.Common.{◌^◌, ◌<◌, [], replicate, refl, sym, subst, ◌∙◌, arith, rules}
 use Rattle.std.specs.Prelude.{All}
 use Rattle.std.proofs.lemmas.Bool.{iff_false}
 use Rattle.std.proofs.lemmas.List.Elements.{All-weaker}
 use Rattle.cost_vector.specs.Costs.{Within}
+use Rattle.cost_vector.proofs.Vectors.{zeros-plus}
 use Rattle.sweep_core.specs.Potentials.{IsHeightIfAny}
 use Rattle.sweep_core.proofs.CostLemmas.{no_room}
 use Rattle.sweep_core.proofs.start.start_item.Goals as goal
@@ -24,6 +25,21 @@ returns-then-not-is_within-clause-start g c = λ h other within.
 
 pub returns-in_default-stored-clause-too_wide : goal.returns-in_default-stored-clause-too_wide
 returns-in_default-stored-clause-too_wide g c = λ _.
+    let net = c.args.network.now in let t = c.args.target.0 in
+    let is = g.met.P.Potential.consistent net t c.nodes.ensures.network c.requires.target in
+    let has = subst (IsHeightIfAny (g.P.Potential.height net t) c.args.start.0) c.in-Some.is c.in_ok-height.ensures.exact in
+    let sum = c.of-height.ensures ∙ sym (zeros-plus net.criteria c.in-Some.height (is.whole c.args.start.0 c.in-Some.height has)) in record {
+      node = c.args.start.0;
+      arcs = [];
+      cost = replicate net.criteria 0;
+      walk = (c.requires.start, refl, refl);
+      height = c.in-Some.height;
+      has = has;
+      exceeds = subst (λ z. ¬ All (λ x. x < g.C.Part.Part.bound) z) sum c.in_default-stored.ensures.room;
+    }
+
+pub returns-in_default-stored-clause-narrow : goal.returns-in_default-stored-clause-narrow
+returns-in_default-stored-clause-narrow g c = λ _.
     let net = c.args.network.now in let t = c.args.target.0 in
     let is = g.met.P.Potential.consistent net t c.nodes.ensures.network c.requires.target in
     let has = subst (IsHeightIfAny (g.P.Potential.height net t) c.args.start.0) c.in-Some.is c.in_ok-height.ensures.exact in

@@ -1,0 +1,112 @@
+-- What was found, by zero and by the exact bounds.
+use Rattle.std.proofs.Common.{◌≡◌, ◌↔◌, ℕ, ◌+◌, ◌-◌, List, Option, None, length, refl, sym, ap, subst, ◌∙◌, arith}
+use Rattle.std.specs.Prelude.{Contains}
+use Rattle.cost_vector.specs.Costs.{no_limit, plus}
+use Rattle.cost_vector.proofs.Vectors.{plus-zeros}
+use Rattle.road_network.specs.Network.{Network, IsNetwork}
+use Rattle.road_network.specs.Answers.{IsRelevant}
+use Rattle.road_network.specs.Queries.{IsTooLarge, limit_of, limit_or_none}
+use Rattle.road_network.specs.declared.query.Query.{Query}
+use Rattle.road_network.proofs.WalkLaws.{length_of_walk}
+use Rattle.settled_fronts.proofs.PairLemmas.{in_settled_pairs}
+use Rattle.walk_readback.specs.Found.{HasAllRelevant, HasSettled, IsOf}
+use Rattle.goal_laws.specs.Goal.{IsBound, IsGoalRelevant}
+use Rattle.goal_laws.specs.FoundGoal.{HasAllGoalRelevant}
+use Rattle.sweep_parts.specs.Settled.{costs_of}
+use Rattle.node_lists.specs.FoundLists.{FoundLists, found_in}
+use Rattle.sweep_core.specs.Potentials.{IsConsistent, IsRelevantBy, PassesBy, Potential, Zero}
+use Rattle.sweep_core.specs.Sweeps.{IsLifted, SettlesAll, lifted}
+use Rattle.sweep_core.proofs.Settling.{one_cost}
+use Rattle.sweep_core.proofs.Uses.{passes_by_bounds, passes_by_zero, relevant_by_bounds, relevant_by_zero}
+use Rattle.sweep_search.specs.Answers.{IsTooLargeToward}
+use Rattle.sweep_search.specs.Finding.{HasAllBare, HasAllBy, HasLifted, IsBareAt, IsSameFind, IsTooLargeBy}
+
+-- what is settled at a node are its costs
+settled_at : (f : FoundLists) (v : ℕ) (c : List ℕ) → HasSettled (found_in f) v c ↔ Contains (costs_of f.lists v) c
+settled_at f v c = in_settled_pairs (record { nodes = 0; costs = f.lists }) v c
+
+module _ (net : Network) (query : Query) where
+  pub has_all : (P : Potential) (d : ℕ) (lists : List (List (List ℕ))) → net.criteria ≡ d
+      → SettlesAll net query.from query.to (limit_of net.criteria query) P lists
+      → HasAllBy net query P (record { criteria = d; start = query.from; target = query.to; lists = lists })
+  has_all P d lists criteria settles = record {
+    of_query = record { start = refl; target = refl; nodes = omega (arith, settles.count); criteria = sym criteria };
+    settles = settles;
+  }
+
+  module _ (is : IsNetwork net) where
+    -- ---- by zero
+
+    module _ (f : FoundLists) (all : HasAllBy net query (Zero net) f) where
+      zero_is_relevant : (v : ℕ) (c : List ℕ) → HasSettled (found_in f) v c → IsRelevant net query.from query.to (limit_of net.criteria query) v c
+      zero_is_relevant v c settled =
+          let r = all.settles.relevant (record { cost = c; node = v }) ((settled_at f v c).0 settled) in
+          let b = r.is_lifted in
+          let same : c ≡ b.cost = b.sum ∙ ap (plus b.cost) b.has.1 ∙ plus-zeros net.criteria b.cost b.whole in
+          subst (IsRelevant net query.from query.to (limit_of net.criteria query) v) (sym same)
+          ((relevant_by_zero net is query.from query.to v b.cost (limit_of net.criteria query)).0 r.relevant)
+
+      relevant_by_zero_settled : (v : ℕ) (c : List ℕ) → IsRelevant net query.from query.to (limit_of net.criteria query) v c → HasSettled (found_in f) v c
+      relevant_by_zero_settled v c relevant =
+          let r = (relevant_by_zero net is query.from query.to v c (limit_of net.criteria query)).1 relevant in
+          let long = length_of_walk net is r.best.reached.0 query.from v c r.best.reached.1 in
+          let same : plus c r.height ≡ c = ap (plus c) r.has.1 ∙ plus-zeros net.criteria c long in
+          (settled_at f v c).1 (subst (Contains (costs_of f.lists v)) same (all.settles.all v c r.height r.has r))
+
+      pub all_relevant : HasAllRelevant net (limit_of net.criteria query) (found_in f)
+      all_relevant = record {
+        relevant = λ v c.
+            subst (λ s. HasSettled (found_in f) v c ↔ IsRelevant net s f.target (limit_of net.criteria query) v c) (sym all.of_query.start)
+            (subst (λ t. HasSettled (found_in f) v c ↔ IsRelevant net query.from t (limit_of net.criteria query) v c) (sym all.of_query.target)
+            (zero_is_relevant v c, relevant_by_zero_settled v c));
+      }
+
+    pub too_large_by_zero : IsTooLargeBy net query (Zero net) ↔ IsTooLarge net query
+    too_large_by_zero = passes_by_zero net is query.from query.to (limit_of net.criteria query) query.budget
+
+    -- ---- without heights
+
+    pub has_all_bare : (P : Potential) → IsConsistent net query.to P → (before after : FoundLists) → HasAllBy net query P before → IsSameFind before after
+        → ((v : ℕ) → IsBareAt net P before.lists after.lists v) → HasAllBare net query P after
+    has_all_bare P consistent before after all same bare = record {
+      of_query = record {
+        start = same.start ∙ all.of_query.start;
+        target = same.target ∙ all.of_query.target;
+        nodes = ap (λ n. n - 1) same.long ∙ all.of_query.nodes;
+        criteria = same.criteria ∙ all.of_query.criteria;
+      };
+      exact = λ v c. (
+        λ there.
+            let has = (bare v c).0 there in
+            let r = all.settles.relevant (lifted v c has.height) has.there in
+            let own : IsLifted net P (lifted v c has.height) = record { cost = c; whole = has.whole; height = has.height; has = has.has; sum = refl } in
+            subst (IsRelevantBy net query.from query.to (limit_of net.criteria query) P v) (one_cost net query.to P consistent (lifted v c has.height) r.is_lifted own) r.relevant,
+        λ r. (bare v c).1 (record {
+          whole = length_of_walk net is r.best.reached.0 query.from v c r.best.reached.1;
+          height = r.height;
+          has = r.has;
+          there = all.settles.all v c r.height r.has r;
+        }),
+      );
+    }
+
+    -- ---- by the exact bounds, where there is no limit
+
+    module _ (unlimited : query.limit ≡ None) where
+      no_limits : limit_of net.criteria query ≡ no_limit net.criteria
+      no_limits = ap (limit_or_none net.criteria) unlimited
+
+      pub all_goal_relevant : (f : FoundLists) → HasAllBare net query (λ v h. IsBound net v query.to h) f → HasAllGoalRelevant net (found_in f)
+      all_goal_relevant f all = record {
+        relevant = λ v c.
+            let exact = subst (λ l. Contains (costs_of f.lists v) c ↔ IsRelevantBy net query.from query.to l (λ u h. IsBound net u query.to h) v c) no_limits (all.exact v c) in
+            let by = relevant_by_bounds net is query.from query.to v c in
+            subst (λ s. HasSettled (found_in f) v c ↔ IsGoalRelevant net s f.target v c) (sym all.of_query.start)
+            (subst (λ t. HasSettled (found_in f) v c ↔ IsGoalRelevant net query.from t v c) (sym all.of_query.target)
+            (λ settled. by.0 (exact.0 ((settled_at f v c).0 settled)), λ relevant. (settled_at f v c).1 (exact.1 (by.1 relevant))));
+      }
+
+      pub too_large_by_bounds : IsTooLargeBy net query (λ v h. IsBound net v query.to h) ↔ IsTooLargeToward net query
+      too_large_by_bounds =
+          subst (λ l. PassesBy net query.from query.to l (λ v h. IsBound net v query.to h) query.budget ↔ IsTooLargeToward net query) (sym no_limits)
+          (passes_by_bounds net is query.from query.to query.budget)

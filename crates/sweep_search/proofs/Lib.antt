@@ -1,0 +1,2 @@
+mod BareLemmas
+mod FindingLemmas

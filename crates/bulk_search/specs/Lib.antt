@@ -1,4 +1,3 @@
-pub mod Answers
 pub mod Counting
 pub mod Rounds
 pub mod Widths

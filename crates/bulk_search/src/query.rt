@@ -1,9 +1,9 @@
 ghost use Rattle.std.specs.Prelude.{◌≡◌, ℕ, List, ◌+◌, ◌≤◌, IfOk, IsErrOf, sum};
 ghost use Rattle.bulk_rounds.specs.Cores.{IsNewSearch};
 ghost use Rattle.found_fronts.specs.FoundAtWidth.{found_of as found_at_width};
+ghost use Rattle.walk_readback.specs.Answers.{Answers};
 ghost use Rattle.road_network.specs.Answers.{IsRelevant};
 ghost use Rattle.road_network.specs.Queries.{IsQuery, IsTooLarge, limit_of};
-ghost use Rattle.bulk_search.specs.Answers.{Answers};
 ghost use Rattle.bulk_search.specs.Counting.{CountsRounds, task_of};
 ghost use Rattle.found_fronts.specs.Findings.{found_of};
 ghost use Rattle.bulk_search.specs.Rounds.{IsAnswer};
@@ -34,7 +34,7 @@ pub fn search<R: Threads + Sync, G: Gate, L: Ledger>(
     steps: &mut Steps<L>,
 ) -> Result<Findings, SearchFault>
     requires query { IsQuery network.now query.now }
-    ensures answers { Answers network.now query.now result }
+    ensures answers { Answers found_of network.now query.now result }
 
     // Each counted round is one step. They are few where costs are small.
     ensures rounds { CountsRounds (task_of network.now query.now) query.now.budget

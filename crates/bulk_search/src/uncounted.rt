@@ -1,6 +1,7 @@
 ghost use Rattle.std.specs.Prelude.{◌≡◌, ◌<◌};
+ghost use Rattle.found_fronts.specs.Findings.{found_of};
 ghost use Rattle.road_network.specs.Queries.{IsQuery};
-ghost use Rattle.bulk_search.specs.Answers.{Answers};
+ghost use Rattle.walk_readback.specs.Answers.{Answers};
 
 use crate::query::search;
 use arc_graph::Network;
@@ -22,7 +23,7 @@ pub fn find<R: Threads + Sync, G: Gate>(
     query: &Query,
 ) -> Result<Findings, SearchFault>
     requires query { IsQuery network.now query.now }
-    ensures { Answers network.now query.now result }
+    ensures { Answers found_of network.now query.now result }
 {
     counted::<R, G, Brand>(workers, alloc, network, query, Blank::new(1))
 }
@@ -39,7 +40,7 @@ fn counted<R: Threads + Sync, G: Gate, L: Ledger>(
     requires name { blank.name ≡ L.name }
     requires parts { blank.parts ≡ L.parts }
     requires some_parts { 0 < L.parts }
-    ensures { Answers network.now query.now result }
+    ensures { Answers found_of network.now query.now result }
 {
     let mut steps = Steps::<L>::new(blank);
     search(workers, alloc, network, query, &mut steps)

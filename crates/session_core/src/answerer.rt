@@ -1,7 +1,8 @@
 ghost use Rattle.std.specs.Prelude.{◌≤◌, List};
 ghost use Rattle.road_network.specs.Answers.{IsAnswer, Route};
 ghost use Rattle.walk_readback.specs.Found.{IsOf, IsWellFound, longest_in};
-ghost use Rattle.road_network.specs.Queries.{IsAsked, limit_of};
+ghost use Rattle.road_network.specs.Queries.{HaveNodes, IsAsked, limit_of};
+ghost use Rattle.walk_readback.specs.Answers.{Answers};
 ghost use Rattle.route_io.specs.Sinks.{Sends};
 ghost use Rattle.answer_writer.specs.Replies.{refusal, reply_of};
 ghost use Rattle.session_core.specs.Queries.{RepliesToQuery};
@@ -12,7 +13,7 @@ use crate::fault::ReplyFault;
 use crate::reply::Reply;
 use answer_writer::{put_answer, put_first_line, put_refusal};
 use arc_graph::Network;
-use bulk_search::find;
+use bulk_search::rounds_pay;
 use road_network::{AnswerKind, Query, SearchFault};
 use route_io::{Gate, Sink, WriteFault};
 use std::alloc::Global;
@@ -20,7 +21,7 @@ use std::thread::Threads;
 use walk_readback::{FoundCosts, Room};
 use work_claim::Workers;
 
-/// Who replies to queries over one network, with workers who share each search.
+/// Who replies to queries over one network: one worker searches, or so many that it pays share the rounds of the search.
 #[derive(Drop)]
 pub struct Answerer<'n, R, G> {
     pub workers: &'n Workers<'n, R, G>,
@@ -48,7 +49,33 @@ impl<R: Threads + Sync, G: Gate> Answerer<'_, R, G> {
             return refuse(out, epoch, query, " node");
         }
         prove!(self.network.nodes() >= 1);
-        match find(self.workers, self.alloc, self.network, query) {
+        if rounds_pay(self.workers, self.network.criteria()) {
+            let found = bulk_search::find(self.workers, self.alloc, self.network, query);
+            self.send_found(epoch, kind, query, found, room, out)
+        } else {
+            let found = sweep_search::find(self.alloc, self.network, query);
+            self.send_found(epoch, kind, query, found, room, out)
+        }
+    }
+
+    /// Sends what a search answered.
+    fn send_found<F: FoundCosts + Drop + Sync, K: Sink>(
+        &self,
+        epoch: u32,
+        kind: AnswerKind,
+        query: &Query,
+        found: Result<F, SearchFault>,
+        room: &mut Room,
+        out: &mut K,
+    ) -> Result<Reply, ReplyFault>
+        requires nodes { HaveNodes self.now.network.now query.now }
+        requires asked { IsAsked self.now.network.now.criteria query.now }
+        requires answers { Answers F.state self.now.network.now query.now found }
+        ensures { Replied (RepliesToQuery self.now.network.now epoch kind query.now)
+            (K.state out.old) (K.state out.new) result }
+    {
+        prove!(self.network.nodes() >= 1);
+        match found {
             Ok(found) => self.answer(epoch, kind, query, &found, room, out),
             Err(SearchFault::Budget) => refuse(out, epoch, query, " budget"),
             Err(SearchFault::OutOfMemory) => Err(ReplyFault::OutOfMemory),

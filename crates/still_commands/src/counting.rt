@@ -2,6 +2,7 @@
 ghost use Rattle.std.specs.Prelude.{◌≡◌, ◌+◌, ◌≤◌, ◌<◌, None, IfOk, OnOk, All, length};
 ghost use Rattle.road_network.specs.Limits.{max_budget};
 ghost use Rattle.road_network.specs.Queries.{IsAsked};
+ghost use Rattle.walk_readback.specs.Answers.{Answers};
 ghost use Rattle.walk_readback.specs.Found.{IsFound};
 ghost use Rattle.graph_gen.specs.Plans.{max_pairs};
 ghost use Rattle.gen_laws.specs.Laws.{HasNodes, IsSmall};
@@ -12,7 +13,7 @@ ghost use Rattle.still_commands.specs.Summary.{HasAnswer, HasWhole, SumsUp, pair
 use crate::batch::query_between;
 use crate::summary::Summary;
 use arc_graph::Network;
-use bulk_search::find;
+use bulk_search::rounds_pay;
 use command_words::SearchLimits;
 use out_of_memory::OutOfMemory;
 use query_reader::Pair;
@@ -71,7 +72,35 @@ impl<R: Threads + Sync, G: Gate> Counter<'_, R, G> {
             query.now.budget (pair_of query.now) counts.old counts.new) }
         ensures fits { OnOk result (Fits counts.new) }
     {
-        match find(self.workers, self.alloc, self.network, query) {
+        if rounds_pay(self.workers, self.network.criteria()) {
+            let found = bulk_search::find(self.workers, self.alloc, self.network, query);
+            self.count_found(query, found, room, counts)
+        } else {
+            let found = sweep_search::find(self.alloc, self.network, query);
+            self.count_found(query, found, room, counts)
+        }
+    }
+
+    /// Counts what a search answered.
+    fn count_found<F: FoundCosts + Drop>(
+        &self,
+        query: &Query,
+        found: Result<F, SearchFault>,
+        room: &mut Room,
+        counts: &mut Summary,
+    ) -> Result<(), OutOfMemory>
+        requires small { IsSmall self.now.network.now }
+        requires asked { IsAsked self.now.network.now.criteria query.now }
+        requires unlimited { query.now.limit ≡ None }
+        requires nodes { HasNodes self.now.network.now.nodes (pair_of query.now) }
+        requires answers { Answers F.state self.now.network.now query.now found }
+        requires few { counts.old.pairs < max_pairs }
+        requires fits { Fits counts.old }
+        ensures counts { OnOk result (CountsPair self.now.network.now
+            query.now.budget (pair_of query.now) counts.old counts.new) }
+        ensures fits { OnOk result (Fits counts.new) }
+    {
+        match found {
             Ok(found) => self.count_answer(query, &found, room, counts),
             Err(SearchFault::Budget) => {
                 counts.count_passed();

@@ -21,13 +21,11 @@ use crate::stop::Stop;
 use answer_writer::put_answer;
 use arc_graph::Network;
 use command_words::GoalWords;
-use goal_search::search_toward;
 use road_network::{AnswerKind, Query, SearchFault};
-use route_io::{Folder, Gate, Sink};
+use route_io::{Folder, Sink};
 use std::alloc::Global;
-use std::thread::Threads;
+use sweep_search::search_toward;
 use walk_readback::{FoundCosts, Room};
-use work_claim::Workers;
 
 /// With the same ends, budget and files `goal` answers wherever `one` does, and by the same text. What it refuses, `one`
 /// refuses by the same line.
@@ -43,13 +41,11 @@ pub fn goal_answers_wherever_one_does()
 {}
 
 /// Answers one query over the named files by a search that is directed to its target. One worker makes it.
-pub(crate) fn run<'a, R: Threads + Sync, G: Gate, F: Folder, K: Sink>(
-    rt: &R,
+pub(crate) fn run<'a, F: Folder, K: Sink>(
     alloc: Global,
     asked: &GoalWords<'a>,
     folder: &mut F,
     out: &mut K,
-    gate: &G,
 ) -> Result<(), Stop<'a>>
     requires admitted { All F.admits (names_of (goal (goal_asked asked.now))) }
     requires files { FilesInRange (goal (goal_asked asked.now)) }
@@ -60,13 +56,11 @@ pub(crate) fn run<'a, R: Threads + Sync, G: Gate, F: Folder, K: Sink>(
 {
     let (graph, weights) = read_network(alloc, folder, &asked.files)?;
     let network = Network::new(&graph, &weights);
-    let workers = Workers::new(rt, 1, gate);
-    reply(&workers, alloc, &network, &asked.query, out)
+    reply(alloc, &network, &asked.query, out)
 }
 
 /// Sends the answer to a query, or why it is refused.
-fn reply<'a, R: Threads + Sync, G: Gate, K: Sink>(
-    workers: &Workers<'_, R, G>,
+fn reply<'a, K: Sink>(
     alloc: Global,
     network: &Network<'_>,
     query: &Query,
@@ -81,7 +75,7 @@ fn reply<'a, R: Threads + Sync, G: Gate, K: Sink>(
         return refuse(out, query, " node");
     }
     prove!(network.nodes() >= 1);
-    match search_toward(workers, alloc, network, query) {
+    match search_toward(alloc, network, query) {
         Ok(found) => put_found(alloc, network, query, &found, out),
         Err(SearchFault::Budget) => refuse(out, query, " budget"),
         Err(SearchFault::OutOfMemory) => Err(Stop::OutOfMemory),

@@ -142,7 +142,7 @@ fn carry_out<'a, R: Threads + Sync, G: Gate, F: Folder, K: Sink>(
 {
     match command {
         Command::Single(asked) => single::run(rt, alloc, asked, folder, out, gate),
-        Command::Goal(asked) => goal::run(rt, alloc, asked, folder, out, gate),
+        Command::Goal(asked) => goal::run(alloc, asked, folder, out),
         Command::Check(asked) => check::run(alloc, asked, folder, out),
         Command::Batch(asked) => batch::run(rt, alloc, asked, folder, out, gate),
         Command::Gen(asked) => generate::run(rt, alloc, asked, out, gate),

@@ -1,8 +1,8 @@
 //! The command `prove`.
 ghost use Rattle.std.specs.Prelude.{◌≡◌, ◌≤◌, All, None};
 ghost use Rattle.road_network.specs.Queries.{HaveNodes, IsTooLarge, limit_of};
+ghost use Rattle.walk_readback.specs.Answers.{Answers};
 ghost use Rattle.walk_readback.specs.Found.{HasAllRelevant, IsOf};
-ghost use Rattle.found_fronts.specs.Findings.{found_of};
 ghost use Rattle.command_words.specs.Ranges.{max_listed};
 ghost use Rattle.command_words.specs.Words.{FilesInRange, ProveInRange, names_of};
 ghost use Rattle.command_words.specs.Words.{prove, prove_asked};
@@ -14,14 +14,14 @@ use crate::network::read_network;
 use crate::reply::{has_nodes, refuse};
 use crate::stop::Stop;
 use arc_graph::Network;
-use bulk_search::find;
+use bulk_search::rounds_pay;
 use cert_writer::{list_labels, write_cert};
 use command_words::ProveWords;
-use found_fronts::Findings;
 use road_network::{Query, SearchFault};
 use route_io::{Folder, Gate, Sink};
 use std::alloc::Global;
 use std::thread::Threads;
+use walk_readback::SettledCosts;
 use work_claim::{Helpers, Workers};
 
 /// Sends a certificate of the answer to one query over the named files.
@@ -64,7 +64,31 @@ fn reply<'a, R: Threads + Sync, G: Gate, K: Sink>(
         return refuse(out, query, " node");
     }
     prove!(network.nodes() >= 1);
-    match find(workers, alloc, network, query) {
+    if rounds_pay(workers, network.criteria()) {
+        let found = bulk_search::find(workers, alloc, network, query);
+        put_found(alloc, network, query, found, out)
+    } else {
+        let found = sweep_search::find(alloc, network, query);
+        put_found(alloc, network, query, found, out)
+    }
+}
+
+/// Sends the certificate of what a search answered.
+fn put_found<'a, F: SettledCosts + Drop, K: Sink>(
+    alloc: Global,
+    network: &Network<'_>,
+    query: &Query,
+    found: Result<F, SearchFault>,
+    out: &mut K,
+) -> Result<(), Stop<'a>>
+    requires unlimited { query.now.limit ≡ None }
+    requires budget { query.now.budget ≤ max_listed }
+    requires nodes { HaveNodes network.now query.now }
+    requires answers { Answers F.FoundCosts.state network.now query.now found }
+    ensures { Replies (ProveReplies query.now network.now)
+        (K.state out.old) (K.state out.new) (run_outcome result) }
+{
+    match found {
         Ok(found) => put_cert(alloc, network, query, &found, out),
         Err(SearchFault::Budget) => refuse(out, query, " budget"),
         Err(SearchFault::OutOfMemory) => Err(Stop::OutOfMemory),
@@ -72,17 +96,17 @@ fn reply<'a, R: Threads + Sync, G: Gate, K: Sink>(
 }
 
 /// Sends the certificate of what was found for a query. All its labels are listed before the first byte.
-fn put_cert<'a, K: Sink>(
+fn put_cert<'a, F: SettledCosts, K: Sink>(
     alloc: Global,
     network: &Network<'_>,
     query: &Query,
-    found: &Findings,
+    found: &F,
     out: &mut K,
 ) -> Result<(), Stop<'a>>
-    requires of_query { IsOf network.now query.now (found_of found.now) }
+    requires of_query { IsOf network.now query.now (F.FoundCosts.state found.now) }
     requires unlimited { query.now.limit ≡ None }
     requires relevant { HasAllRelevant network.now (limit_of network.now.criteria query.now)
-        (found_of found.now) }
+        (F.FoundCosts.state found.now) }
     requires nodes { HaveNodes network.now query.now }
     requires budget { query.now.budget ≤ max_listed }
     requires in_budget { ¬ IsTooLarge network.now query.now }

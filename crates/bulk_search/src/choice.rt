@@ -7,12 +7,12 @@ use work_claim::Workers;
 const MANY_WORKERS: u32 = 8;
 
 /// From how many criteria on.
-const MANY_CRITERIA: u32 = 3;
+const MANY_CRITERIA: usize = 3;
 
 /// Whether these workers are to search by rounds. One worker's search in the order of cost is several times faster than one worker's
 /// rounds, and under two criteria also than those of all processors. A gate that has all work shared asks for rounds. The answers
 /// are the same.
-pub fn rounds_pay<R, G: Gate>(workers: &Workers<'_, R, G>, criteria: u32) -> bool
+pub fn rounds_pay<R, G: Gate>(workers: &Workers<'_, R, G>, criteria: usize) -> bool
     ensures { IsTrue result ↔ ((G.SHARED_FROM ≡ 0) ⊎ ((8 ≤ workers.now.count) × (3 ≤ criteria))) }
 {
     let many = workers.count() >= MANY_WORKERS && criteria >= MANY_CRITERIA;

@@ -1,8 +1,8 @@
 /// Asks what was found, whichever of these it is.
 macro_rules! ask {
-    ($found:expr, [$($variant:path),*], $method:ident($($argument:expr),*)) => {
-        match $found {
-            $($variant(found) => found.$method($($argument),*),)*
+    ($whole:expr, [$($variant:path),*], $found:ident => $answer:expr) => {
+        match $whole {
+            $($variant($found) => $answer,)*
         }
     };
 }

@@ -30,8 +30,8 @@ pub(crate) fn find_by<
     potential: &mut P,
 ) -> Result<SweptAtWidth<D>, SearchFault>
 where
-    NarrowCost<D>: StoredCost<D, Part = u32>,
-    WideCost<D>: StoredCost<D, Part = u64>,
+    N::Cost: StoredCost<D, Part = u32>,
+    W::Cost: StoredCost<D, Part = u64>,
     requires query { IsQuery network.now query.now }
     requires criteria { network.now.criteria ≡ D }
     requires tells { P.tells potential.old network.now query.now.to }
@@ -59,7 +59,7 @@ fn find_wide<const D: usize, W: SettledList<D, Cost = WideCost<D>>, P: Potential
     potential: &mut P,
 ) -> Result<SweptAtWidth<D>, SearchFault>
 where
-    WideCost<D>: StoredCost<D, Part = u64>,
+    W::Cost: StoredCost<D, Part = u64>,
     requires query { IsQuery network.now query.now }
     requires criteria { network.now.criteria ≡ D }
     requires tells { P.tells potential.old network.now query.now.to }

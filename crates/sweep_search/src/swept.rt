@@ -36,7 +36,7 @@ impl Swept {
         ensures { OnOk result (HasAllBare network.now query.now
             (P.height network.now query.now.to) (lists_of self.new)) }
     {
-        ask!(self, [Swept::Two, Swept::Three, Swept::Four], lower(network, query, potential))
+        ask!(self, [Swept::Two, Swept::Three, Swept::Four], found => found.lower(network, query, potential))
     }
 }
 
@@ -46,36 +46,36 @@ impl FoundCosts for Swept {
     ghost state = { found_of };
 
     fn start(&self) -> NodeNo {
-        ask!(self, [Swept::Two, Swept::Three, Swept::Four], start())
+        ask!(self, [Swept::Two, Swept::Three, Swept::Four], found => found.start())
     }
 
     fn target(&self) -> NodeNo {
-        ask!(self, [Swept::Two, Swept::Three, Swept::Four], target())
+        ask!(self, [Swept::Two, Swept::Three, Swept::Four], found => found.target())
     }
 
     fn count(&self) -> usize {
-        ask!(self, [Swept::Two, Swept::Three, Swept::Four], count())
+        ask!(self, [Swept::Two, Swept::Three, Swept::Four], found => found.count())
     }
 
     fn cost(&self, i: usize) -> Cost {
-        ask!(self, [Swept::Two, Swept::Three, Swept::Four], cost(i))
+        ask!(self, [Swept::Two, Swept::Three, Swept::Four], found => found.cost(i))
     }
 
     fn has(&self, node: NodeNo, cost: &Cost) -> bool {
-        ask!(self, [Swept::Two, Swept::Three, Swept::Four], has(node, cost))
+        ask!(self, [Swept::Two, Swept::Three, Swept::Four], found => found.has(node, cost))
     }
 
     fn longest(&self) -> u32 {
-        ask!(self, [Swept::Two, Swept::Three, Swept::Four], longest())
+        ask!(self, [Swept::Two, Swept::Three, Swept::Four], found => found.longest())
     }
 }
 
 impl SettledCosts for Swept {
     fn settled(&self) -> usize {
-        ask!(self, [Swept::Two, Swept::Three, Swept::Four], settled())
+        ask!(self, [Swept::Two, Swept::Three, Swept::Four], found => found.settled())
     }
 
     fn costs_of(&self, alloc: Global, node: NodeNo) -> Result<Vec<Cost>, OutOfMemory> {
-        ask!(self, [Swept::Two, Swept::Three, Swept::Four], costs_of(alloc, node))
+        ask!(self, [Swept::Two, Swept::Three, Swept::Four], found => found.costs_of(alloc, node))
     }
 }

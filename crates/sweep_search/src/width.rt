@@ -51,36 +51,36 @@ impl<const D: usize> FoundCosts for SweptAtWidth<D> {
     ghost state = { found_at_width };
 
     fn start(&self) -> NodeNo {
-        ask!(self, [SweptAtWidth::Narrow, SweptAtWidth::Wide], start())
+        ask!(self, [SweptAtWidth::Narrow, SweptAtWidth::Wide], found => found.start())
     }
 
     fn target(&self) -> NodeNo {
-        ask!(self, [SweptAtWidth::Narrow, SweptAtWidth::Wide], target())
+        ask!(self, [SweptAtWidth::Narrow, SweptAtWidth::Wide], found => found.target())
     }
 
     fn count(&self) -> usize {
-        ask!(self, [SweptAtWidth::Narrow, SweptAtWidth::Wide], count())
+        ask!(self, [SweptAtWidth::Narrow, SweptAtWidth::Wide], found => found.count())
     }
 
     fn cost(&self, i: usize) -> Cost {
-        ask!(self, [SweptAtWidth::Narrow, SweptAtWidth::Wide], cost(i))
+        ask!(self, [SweptAtWidth::Narrow, SweptAtWidth::Wide], found => found.cost(i))
     }
 
     fn has(&self, node: NodeNo, cost: &Cost) -> bool {
-        ask!(self, [SweptAtWidth::Narrow, SweptAtWidth::Wide], has(node, cost))
+        ask!(self, [SweptAtWidth::Narrow, SweptAtWidth::Wide], found => found.has(node, cost))
     }
 
     fn longest(&self) -> u32 {
-        ask!(self, [SweptAtWidth::Narrow, SweptAtWidth::Wide], longest())
+        ask!(self, [SweptAtWidth::Narrow, SweptAtWidth::Wide], found => found.longest())
     }
 }
 
 impl<const D: usize> SettledCosts for SweptAtWidth<D> {
     fn settled(&self) -> usize {
-        ask!(self, [SweptAtWidth::Narrow, SweptAtWidth::Wide], settled())
+        ask!(self, [SweptAtWidth::Narrow, SweptAtWidth::Wide], found => found.settled())
     }
 
     fn costs_of(&self, alloc: Global, node: NodeNo) -> Result<Vec<Cost>, OutOfMemory> {
-        ask!(self, [SweptAtWidth::Narrow, SweptAtWidth::Wide], costs_of(alloc, node))
+        ask!(self, [SweptAtWidth::Narrow, SweptAtWidth::Wide], found => found.costs_of(alloc, node))
     }
 }

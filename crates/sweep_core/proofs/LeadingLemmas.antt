@@ -17,7 +17,7 @@ use Rattle.waiting_item.specs.Waiting.{Spot, Waiting}
 use Rattle.sweep_core.specs.Potentials.{IsConsistent, Potential}
 use Rattle.sweep_core.specs.Relaxing.{IsGivenFrom, LeadsOn}
 use Rattle.sweep_core.specs.Sweeps.{IsLifted, IsOutOf, lifted}
-use Rattle.sweep_core.proofs.Settling.{one_cost}
+use Rattle.sweep_core.proofs.Lifted.{one_cost}
 
 -- k is one of the first i arcs
 abbrev pub IsAmong : List ArcNo → ℕ → ℕ → Type 0

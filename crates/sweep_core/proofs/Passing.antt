@@ -17,7 +17,7 @@ use Rattle.sweep_core.specs.Potentials.{IsConsistent, IsRelevantBy, PassesBy, Po
 use Rattle.sweep_core.specs.Sweeps.{IsLifted, IsNext, IsSameSearch, IsSettledIn, SettlesAll, Sweep, lifted, with_queue}
 use Rattle.sweep_core.proofs.Frontier.{next_is_relevant}
 use Rattle.sweep_core.proofs.Leaving.{there}
-use Rattle.sweep_core.proofs.Settling.{one_cost}
+use Rattle.sweep_core.proofs.Lifted.{one_cost}
 
 -- the spot of a pair
 abbrev spot_at : (ℕ × List ℕ) → Spot

@@ -5,7 +5,7 @@ use Rattle.std.proofs.lemmas.Bool.{cases_eq}
 use Rattle.std.proofs.lemmas.List.Elements.{All-replicate, All-weaker, Contains-append_left, Contains-push}
 use Rattle.list_laws.proofs.Members.{all_got, cases_push, each_in}
 use Rattle.cost_vector.specs.Costs.{AtMost, LexLess, plus}
-use Rattle.cost_vector.proofs.Vectors.{All-plus, LexLess-irrefl, plus_cancel}
+use Rattle.cost_vector.proofs.Vectors.{All-plus, LexLess-irrefl}
 use Rattle.road_network.specs.Limits.{max_budget}
 use Rattle.road_network.specs.Network.{Network}
 use Rattle.arc_graph.specs.Graph.{IsRoadNetwork}
@@ -17,13 +17,7 @@ use Rattle.sweep_core.specs.Potentials.{IsConsistent, IsRelevantBy, Potential}
 use Rattle.sweep_core.specs.Sweeps.{CameFromBelow, Follows, IsExpanded, IsFromSettled, IsHandled, IsLifted, IsRelaxing, IsSettledIn, IsSweep, Sweep, costs_at, with_both}
 use Rattle.sweep_core.proofs.Ascending.{all_behind_above, behind_pushed}
 use Rattle.sweep_core.proofs.Leaving.{still, there, waited}
-
--- a spot is that of one cost alone
-pub one_cost : (net : Network) (t : ℕ) (P : Potential) → IsConsistent net t P → (x : Spot) (a b : IsLifted net P x) → a.cost ≡ b.cost
-one_cost net t P is x a b =
-    let same = is.one x.node a.height b.height a.has b.has in
-    let long = is.whole x.node b.height b.has in
-    plus_cancel a.cost b.cost b.height (a.whole ∙ sym long) (b.whole ∙ sym long) (ap (plus a.cost) (sym same) ∙ sym a.sum ∙ b.sum)
+use Rattle.sweep_core.proofs.Lifted.{one_cost}
 
 module _ (net : Network) (road : IsRoadNetwork net) (t : ℕ) (P : Potential) (is : IsConsistent net t P) (s : Sweep) (sweep : IsSweep net P s)
     (i : Waiting) (rest : List Waiting) (leaves : Leaves s.queue i rest)

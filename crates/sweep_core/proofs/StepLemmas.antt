@@ -20,7 +20,8 @@ use Rattle.sweep_core.proofs.FollowLemmas.{all_follow, can_tell_given}
 use Rattle.sweep_core.proofs.Frontier.{next_is_relevant}
 use Rattle.sweep_core.proofs.Leaving.{leaves_behind, leaves_node, spent_leave, there}
 use Rattle.sweep_core.proofs.CostLemmas.{moved_is_small, no_room}
-use Rattle.sweep_core.proofs.Settling.{one_cost, relaxing_now, settling_keeps}
+use Rattle.sweep_core.proofs.Lifted.{one_cost}
+use Rattle.sweep_core.proofs.Settling.{relaxing_now, settling_keeps}
 
 -- what is known of something that was taken is known of it, if anything was
 pub some_of : {A E : Type 0} (F G : A → Type 0) → ((a : A) → F a → G a) → (r : Result (Option A) E) → IfOk r (λ o. IfSome o F) → IfOk r (λ o. IfSome o G)

@@ -16,7 +16,7 @@ use Rattle.sweep_parts.specs.Settled.{costs_of}
 use Rattle.node_lists.specs.FoundLists.{FoundLists, found_in}
 use Rattle.sweep_core.specs.Potentials.{IsConsistent, IsRelevantBy, PassesBy, Potential, Zero}
 use Rattle.sweep_core.specs.Sweeps.{IsLifted, SettlesAll, lifted}
-use Rattle.sweep_core.proofs.Settling.{one_cost}
+use Rattle.sweep_core.proofs.Lifted.{one_cost}
 use Rattle.sweep_core.proofs.Uses.{passes_by_bounds, passes_by_zero, relevant_by_bounds, relevant_by_zero}
 use Rattle.sweep_search.specs.Answers.{IsTooLargeToward}
 use Rattle.sweep_search.specs.Finding.{HasAllBare, HasAllBy, HasLifted, IsBareAt, IsSameFind, IsTooLargeBy}

@@ -8,7 +8,7 @@ use Rattle.sweep_search.specs.declared.swept.Swept.{Swept}
 use Rattle.sweep_search.specs.declared.swept.Swept.TheVariants.{Two, Three, Four}
 
 -- the costs of all nodes in order
-abbrev pub lists_at_width : {D : ℕ} → SweptAtWidth D → FoundLists
+abbrev pub lists_at_width : {D : ℕ} {N NPart W WPart : Type 0} → SweptAtWidth D N NPart W WPart → FoundLists
 lists_at_width (Narrow found) = found
 lists_at_width (Wide found) = found
 
@@ -18,7 +18,7 @@ lists_of (Three found) = lists_at_width found
 lists_of (Four found) = lists_at_width found
 
 -- and what was found by them
-abbrev pub found_at_width : {D : ℕ} → SweptAtWidth D → FoundCosts
+abbrev pub found_at_width : {D : ℕ} {N NPart W WPart : Type 0} → SweptAtWidth D N NPart W WPart → FoundCosts
 found_at_width found = found_in (lists_at_width found)
 
 abbrev pub found_of : Swept → FoundCosts

@@ -6,4 +6,5 @@ macro_rules! ask {
         }
     };
 }
+
 pub(crate) use ask;

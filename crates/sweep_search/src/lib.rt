@@ -2,9 +2,9 @@
 #![tactic(auto)]
 
 mod ask;
-mod find;
 mod lowering;
 mod query;
+mod searching;
 mod swept;
 mod width;
 

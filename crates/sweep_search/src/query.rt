@@ -6,7 +6,7 @@ ghost use Rattle.sweep_search.specs.Finding.{HasAllBy, IsTooLargeBy};
 ghost use Rattle.sweep_search.specs.Swept.{found_of, lists_of};
 
 use crate::Swept;
-use crate::find::find_by;
+use crate::searching::find_by;
 use arc_graph::Network;
 use block_list::BlockList;
 use cost_vector::NodeNo;
@@ -20,11 +20,7 @@ use sweep_core::{Potential, ZeroPotential};
 use walk_readback::FoundCosts;
 
 /// Answers a query: the settled costs of what was found are exactly its relevant pairs.
-pub fn find(
-    alloc: Global,
-    network: &Network<'_>,
-    query: &Query,
-) -> Result<Swept, SearchFault>
+pub fn find(alloc: Global, network: &Network<'_>, query: &Query) -> Result<Swept, SearchFault>
     requires query { IsQuery network.now query.now }
     ensures { Answers found_of network.now query.now result }
 {
@@ -73,18 +69,15 @@ fn find_all<P: Potential>(
     match network.criteria() {
         2 => find_by::<2, SecondList<NarrowCost<2>>, SecondList<WideCost<2>>, P>(
             alloc, network, query, potential,
-        )
-        .map(Swept::Two),
+        ).map(Swept::Two),
         3 => find_by::<3, StairList<NarrowCost<3>>, StairList<WideCost<3>>, P>(
             alloc, network, query, potential,
-        )
-        .map(Swept::Three),
+        ).map(Swept::Three),
         _ => find_by::<
             4,
             BlockList<BlockFront<3, NarrowBlock<3>>>,
             BlockList<BlockFront<3, WideBlock<3>>>,
             P,
-        >(alloc, network, query, potential)
-        .map(Swept::Four),
+        >(alloc, network, query, potential).map(Swept::Four),
     }
 }

@@ -10,15 +10,16 @@ use cost_vector::{Cost, NodeNo};
 use out_of_memory::OutOfMemory;
 use road_network::Query;
 use std::alloc::Global;
+use stored_cost::{NarrowCost, WideCost};
 use sweep_core::Potential;
 use walk_readback::{FoundCosts, SettledCosts};
 
 /// What a query found, by the number of its criteria.
 #[derive(Drop)]
 pub enum Swept {
-    Two(SweptAtWidth<2>),
-    Three(SweptAtWidth<3>),
-    Four(SweptAtWidth<4>),
+    Two(SweptAtWidth<2, NarrowCost<2>, WideCost<2>>),
+    Three(SweptAtWidth<3, NarrowCost<3>, WideCost<3>>),
+    Four(SweptAtWidth<4, NarrowCost<4>, WideCost<4>>),
 }
 
 impl Swept {

@@ -11,18 +11,18 @@ use node_lists::FoundLists;
 use out_of_memory::OutOfMemory;
 use road_network::Query;
 use std::alloc::Global;
-use stored_cost::{NarrowCost, WideCost};
+use stored_cost::StoredCost;
 use sweep_core::Potential;
 use walk_readback::{FoundCosts, SettledCosts};
 
 /// What a search has found, at the width at which it ended.
 #[derive(Drop)]
-pub enum SweptAtWidth<const D: usize> {
-    Narrow(FoundLists<D, NarrowCost<D>>),
-    Wide(FoundLists<D, WideCost<D>>),
+pub enum SweptAtWidth<const D: usize, N: StoredCost<D>, W: StoredCost<D>> {
+    Narrow(FoundLists<D, N>),
+    Wide(FoundLists<D, W>),
 }
 
-impl<const D: usize> SweptAtWidth<D> {
+impl<const D: usize, N: StoredCost<D>, W: StoredCost<D>> SweptAtWidth<D, N, W> {
     /// Takes the height of each node off its costs.
     pub(crate) fn lower<P: Potential>(
         &mut self,
@@ -45,7 +45,7 @@ impl<const D: usize> SweptAtWidth<D> {
     }
 }
 
-impl<const D: usize> FoundCosts for SweptAtWidth<D> {
+impl<const D: usize, N: StoredCost<D>, W: StoredCost<D>> FoundCosts for SweptAtWidth<D, N, W> {
     ghost use Rattle.sweep_search.specs.Swept.{found_at_width};
 
     ghost state = { found_at_width };
@@ -75,7 +75,7 @@ impl<const D: usize> FoundCosts for SweptAtWidth<D> {
     }
 }
 
-impl<const D: usize> SettledCosts for SweptAtWidth<D> {
+impl<const D: usize, N: StoredCost<D>, W: StoredCost<D>> SettledCosts for SweptAtWidth<D, N, W> {
     fn settled(&self) -> usize {
         ask!(self, [SweptAtWidth::Narrow, SweptAtWidth::Wide], found => found.settled())
     }

@@ -13,27 +13,20 @@ use node_lists::{FoundLists, NodeLists};
 use road_network::{Query, SearchFault};
 use settled_list::SettledList;
 use std::alloc::Global;
-use stored_cost::{NarrowCost, StoredCost, WideCost};
+use stored_cost::StoredCost;
 use sweep_core::{Potential, Sweep, SweepFault};
 
-/// All that a potential makes relevant to a query, with costs in 32 bits a component, or in 64 where there is no room: then from the
-/// start, as what was found so far isn't all. The height of its node is in each cost.
-pub(crate) fn find_by<
-    const D: usize,
-    N: SettledList<D, Cost = NarrowCost<D>>,
-    W: SettledList<D, Cost = WideCost<D>>,
-    P: Potential,
->(
+/// All that a potential makes relevant to a query, with costs stored narrow, or wide where there is no room: then from the start. The
+/// height of its node is in each cost.
+pub(crate) fn find_by<const D: usize, N: SettledList<D>, W: SettledList<D>, P: Potential>(
     alloc: Global,
     network: &Network<'_>,
     query: &Query,
     potential: &mut P,
-) -> Result<SweptAtWidth<D>, SearchFault>
-where
-    N::Cost: StoredCost<D, Part = u32>,
-    W::Cost: StoredCost<D, Part = u64>,
+) -> Result<SweptAtWidth<D, N::Cost, W::Cost>, SearchFault>
     requires query { IsQuery network.now query.now }
     requires criteria { network.now.criteria ≡ D }
+    requires room { 2 ^ 60 ≤ W.Cost.Part.bound }
     requires tells { P.tells potential.old network.now query.now.to }
     ensures tells { OnOk result (P.tells potential.new network.now query.now.to) }
     ensures all { IfOk result
@@ -45,23 +38,22 @@ where
 {
     match find_at_width::<D, N, P>(alloc, network, query, potential) {
         Ok(found) => Ok(SweptAtWidth::Narrow(found)),
-        Err(SweepFault::TooWide) => find_wide::<D, W, P>(alloc, network, query, potential),
+        Err(SweepFault::TooWide) => find_wide::<D, N::Cost, W, P>(alloc, network, query, potential),
         Err(SweepFault::Budget) => Err(SearchFault::Budget),
         Err(SweepFault::OutOfMemory) => Err(SearchFault::OutOfMemory),
     }
 }
 
-/// The same in 64 bits a component: there is room for all costs.
-fn find_wide<const D: usize, W: SettledList<D, Cost = WideCost<D>>, P: Potential>(
+/// The same with costs stored wide: there is room for all of them.
+fn find_wide<const D: usize, N: StoredCost<D>, W: SettledList<D>, P: Potential>(
     alloc: Global,
     network: &Network<'_>,
     query: &Query,
     potential: &mut P,
-) -> Result<SweptAtWidth<D>, SearchFault>
-where
-    W::Cost: StoredCost<D, Part = u64>,
+) -> Result<SweptAtWidth<D, N, W::Cost>, SearchFault>
     requires query { IsQuery network.now query.now }
     requires criteria { network.now.criteria ≡ D }
+    requires room { 2 ^ 60 ≤ W.Cost.Part.bound }
     requires tells { P.tells potential.old network.now query.now.to }
     ensures tells { OnOk result (P.tells potential.new network.now query.now.to) }
     ensures all { IfOk result

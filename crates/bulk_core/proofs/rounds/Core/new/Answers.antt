@@ -1,6 +1,6 @@
 use Rattle.std.proofs.Common.{◌≡◌, ◌∷◌, ◌++◌, [], map, refl}
 use Rattle.waiting_item.specs.Waiting.{as_waiting}
-use Rattle.bulk_core.proofs.StartLemmas.{new_is_kept, none_settled, start_of, start_waits}
+use Rattle.bulk_core.proofs.StartLemmas.{is_new, new_is_kept, start_of}
 use Rattle.bulk_core.proofs.rounds.Core.new.Goals as goal
 
 -- the start alone waits
@@ -10,18 +10,9 @@ waits g c = rw (c.new-2.ensures, c.in_ok-push.ensures.items, c.new-fresh.ensures
 
 pub invariant_of-result : goal.invariant_of-result
 invariant_of-result g c = let settled = c.in_ok-new.ensures in
-    rw c.new-3.ensures.items (new_is_kept settled.none (waits g c) c.requires.criteria (rw settled.nodes c.requires.start)
+    rw c.new-3.ensures.items (new_is_kept _ settled.none (waits g c) c.requires.criteria (rw settled.nodes c.requires.start)
     (rw (settled.nodes, settled.target) c.requires.target) c.requires.budget)
 
 pub returns : goal.returns
-returns g c = let settled = c.in_ok-new.ensures in record {
-  nodes_are = settled.nodes;
-  criteria_are = refl;
-  start_is = refl;
-  target_is = settled.target;
-  limit_is = settled.limit;
-  budget_is = refl;
-  none_settled = none_settled settled.none (waits g c);
-  waiting = start_waits settled.none (waits g c);
-  none_taken = rw c.new-3.ensures.items refl;
-}
+returns g c = let settled = c.in_ok-new.ensures in
+    is_new _ settled.none (waits g c) settled.nodes settled.target settled.limit (rw c.new-3.ensures.items refl)

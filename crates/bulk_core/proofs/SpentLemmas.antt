@@ -1,30 +1,14 @@
--- What tells which spots are spent: the greatest cost within the limit, a dominating cost that is less in some component, and what is settled.
-use Rattle.std.proofs.Common.{◌⊎◌, ℕ, zero, suc, ◌-◌, ◌^◌, ◌<◌, ◌↔◌, List, [], ◌∷◌, Option, length, get_or, set, inl, inr, refl, sym, arith}
-use Rattle.std.specs.Prelude.{All, Bool, true, false, IsTrue, not}
+-- What tells which spots are spent: a dominating cost that is less in some component, and what is settled.
+use Rattle.std.proofs.Common.{◌⊎◌, ℕ, zero, suc, ◌-◌, ◌<◌, ◌↔◌, List, [], ◌∷◌, length, get_or, set, inl, inr, refl, sym, arith}
+use Rattle.std.specs.Prelude.{Bool, true, false, IsTrue, not}
 use Rattle.std.proofs.lemmas.Bool.{cases_lt, false≢true}
-use Rattle.std.proofs.lemmas.List.Elements.{All-head, All-tail}
-use Rattle.cost_vector.specs.Costs.{AtMost, Within}
+use Rattle.cost_vector.specs.Costs.{AtMost}
 use Rattle.cost_vector.proofs.Components.{AtMost_from_places}
 use Rattle.cost_vector.proofs.Vectors.{AtMost-antisymm, AtMost-length}
 use Rattle.settled_front.specs.Fronts.{IsCovered}
 use Rattle.bulk_rounds.specs.Cores.{Core, IsSpent, Spot}
 use Rattle.bulk_core.specs.Kept.{settled_of}
-use Rattle.bulk_core.specs.Settled.{HasDominating, HasDominatingAt, IsGreatestWithin, IsSpentBy}
-
--- ---- the limit
-
--- a cost of 64 bits in each component is within the limit exactly where it is at most the greatest one
-pub within_greatest : (limit : List (Option ℕ)) (most c : List ℕ) → IsGreatestWithin limit most → All (λ x. x < 2 ^ 64) c → AtMost c most ↔ Within limit c
-within_greatest [] [] [] greatest fits = (λ h. h, λ h. h)
-within_greatest [] [] (x ∷ xs) greatest fits = (λ h. h, λ h. h)
-within_greatest [] (m ∷ ms) c greatest fits = absurd (omega (arith, greatest.long))
-within_greatest (p ∷ ps) [] c greatest fits = absurd (omega (arith, greatest.long))
-within_greatest (p ∷ ps) (m ∷ ms) [] greatest fits = (λ h. h, λ h. h)
-within_greatest (p ∷ ps) (m ∷ ms) (x ∷ xs) greatest fits =
-    let first = greatest.allowed 0 x (omega arith) (All-head (λ y. y < 2 ^ 64) x xs fits) in
-    let rest = within_greatest ps ms xs
-    (record { long = omega (arith, greatest.long); allowed = λ k y below. greatest.allowed (suc k) y (omega (arith, below)) }) (All-tail (λ y. y < 2 ^ 64) x xs fits) in
-    (λ h. (first.1 h.0, rest.0 h.1), λ h. (first.0 h.0, rest.1 h.1))
+use Rattle.bulk_core.specs.Settled.{HasDominating, HasDominatingAt, IsSpentBy}
 
 -- ---- the costs of the target
 

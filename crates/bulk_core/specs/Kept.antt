@@ -1,10 +1,10 @@
 -- What a core of this crate keeps, and what its steps change.
-use Rattle.std.specs.Prelude.{◌≡◌, ◌≢◌, ℕ, ◌≤◌, List, [], Option, All, Contains, map}
+use Rattle.std.specs.Prelude.{◌≡◌, ◌≢◌, ℕ, ◌≤◌, List, All, Contains, map}
 use Rattle.bulk_core.specs.Settled.{IsSpentBy, Settled}
 use Rattle.bulk_rounds.specs.declared.begin.Begun.{Begun}
 use Rattle.bulk_rounds.specs.declared.begin.Begun.TheVariants.{Done}
 use Rattle.bulk_rounds.specs.Begins.{BeginsAs}
-use Rattle.bulk_rounds.specs.Cores.{Core, IsSettledIn, Item, SameSearch, Spot}
+use Rattle.bulk_rounds.specs.Cores.{Core, Item, SameSearch, Spot}
 use Rattle.bulk_rounds.specs.Kept.{IsFrom, IsKept, IsKeptItem}
 use Rattle.road_network.specs.Limits.{max_budget}
 use Rattle.waiting_queue.specs.Taking.{TakesOpenSpots}
@@ -23,18 +23,6 @@ core_of criteria start budget s queue taken = record {
   queue = queue;
   taken = taken;
 }
-
--- a search for this in which nothing is settled and nothing waits
-pub record IsEmptySearch (nodes criteria start target : ℕ) (limit : List (Option ℕ)) (budget : ℕ) (core : Core) : Type 0 where
-  pub nodes_are : core.nodes ≡ nodes
-  pub criteria_are : core.criteria ≡ criteria
-  pub start_is : core.start ≡ start
-  pub target_is : core.target ≡ target
-  pub limit_is : core.limit ≡ limit
-  pub budget_is : core.budget ≡ budget
-  pub none_settled : (x : Spot) → ¬ IsSettledIn core x
-  pub none_waits : core.queue ≡ []
-  pub none_taken : core.taken ≡ []
 
 -- All is kept in so many criteria, so many spots are settled, the budget isn't greater than any may be, and what was taken came from a settled cost.
 pub record IsKeptCore (core : Core) (count : ℕ) (took : List Item) : Type 0 where

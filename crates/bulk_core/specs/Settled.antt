@@ -1,10 +1,11 @@
 -- What is settled, and which spots it makes spent.
-use Rattle.std.specs.Prelude.{◌≡◌, ◌≢◌, ℕ, ◌+◌, ◌^◌, ◌<◌, ◌≤◌, ◌⊎◌, ◌↔◌, List, ◌++◌, Option, None, length, slice_index, slice_index_or, take, AllPairs, Contains}
+use Rattle.std.specs.Prelude.{◌≡◌, ◌≢◌, ℕ, ◌+◌, ◌<◌, ◌≤◌, ◌⊎◌, ◌↔◌, List, ◌++◌, Option, length, slice_index, take, AllPairs, Contains}
 use Rattle.bulk_rounds.specs.Cores.{Spot}
-use Rattle.cost_vector.specs.Costs.{AtMost, Dominates, IsAllowed, Within, max_criteria, min_criteria}
+use Rattle.cost_vector.specs.Costs.{AtMost, Dominates, Within, max_criteria, min_criteria}
 use Rattle.road_network.specs.Network.{IsNode}
 use Rattle.settled_front.specs.Fronts.{IsCovered}
 use Rattle.settled_fronts.specs.NodeFronts.{Fronts, costs_at}
+use Rattle.sweep_parts.specs.Limits.{IsGreatestWithin}
 
 -- the target, the limit, and the settled costs of all nodes
 pub record Settled : Type 0 where
@@ -70,11 +71,6 @@ pub record AppendsOpen {X : Type 0} (Open : X → Type 0) (candidates seen befor
   pub rest : (x : X) → Contains seen x → Contains added x ⊎ (¬ Open x)
 
 -- ---- how it is kept
-
--- at each place just those numbers of 64 bits are allowed that are at most the one here
-pub record IsGreatestWithin (limit : List (Option ℕ)) (most : List ℕ) : Type 0 where
-  pub long : length most ≡ length limit
-  pub allowed : (k x : ℕ) → k < length limit → x < 2 ^ 64 → IsAllowed (slice_index_or limit k None) x ↔ (x ≤ slice_index most k)
 
 -- the target is a node, and the greatest cost tells what is within the limit, in so many criteria
 pub record AreBounds (d target : ℕ) (limit : List (Option ℕ)) (most : List ℕ) (fronts : Fronts) : Type 0 where

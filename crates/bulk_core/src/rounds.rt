@@ -1,5 +1,4 @@
 ghost use Rattle.std.specs.Prelude.{◌≡◌, ◌<◌, ◌≤◌, ◌↔◌, ℕ, List, [], length, map, replicate, All, Contains, IfOk};
-ghost use Rattle.bulk_core.specs.Kept.{IsEmptySearch};
 ghost use Rattle.bulk_core.specs.Settled.{IsSpentBy};
 ghost use Rattle.bulk_rounds.specs.Cores.{IsNewSearch, IsSpent, Spot};
 ghost use Rattle.bulk_rounds.specs.Kept.{IsFrom};
@@ -79,35 +78,15 @@ impl<const D: usize, F: SettledFront<D>> Core<D, F> {
         requires room { 0 < F.Cost.Part.bound }
         ensures { IfOk result (IsNewSearch nodes D start.0 target.0 limit.now budget) }
     {
-        let mut core = Core::empty(alloc, nodes, start, target, limit, budget)?;
-        core.fresh.push(start_item(start))?;
-        Ok(core)
-    }
-
-    /// A search in which nothing waits yet; `finish` puts its first spots.
-    pub fn empty(
-        alloc: Global,
-        nodes: u32,
-        start: NodeNo,
-        target: NodeNo,
-        limit: &Limit,
-        budget: u32,
-    ) -> Result<Core<D, F>, OutOfMemory>
-        requires criteria { AreCriteria D }
-        requires nodes { nodes ≤ max_nodes }
-        requires start { IsNode nodes start.0 }
-        requires target { IsNode nodes target.0 }
-        requires limit { length limit.now ≡ D }
-        requires budget { budget ≤ max_budget }
-        ensures { IfOk result (IsEmptySearch nodes D start.0 target.0 limit.now budget) }
-    {
+        let mut fresh = Vec::new(alloc);
+        fresh.push(start_item(start))?;
         Ok(Core {
             start,
             budget,
             settled: Settled::new(alloc, nodes, target, limit)?,
             count: 0,
             queue: Queue::new(alloc),
-            fresh: Vec::new(alloc),
+            fresh,
             taken: Vec::new(alloc),
         })
     }

@@ -1,6 +1,6 @@
-ghost use Rattle.std.specs.Prelude.{◌≡◌, ℕ, ◌+◌, ◌-◌, ◌^◌, ◌<◌, ◌≤◌, ◌↔◌, List, Option, [], ◌∷◌, length, map, All, IfOk, IsPermutation, IsTrue, OnErr};
-ghost use Rattle.bulk_core.specs.Settled.{AppendsOpen, CanSettle, IsBarredBy, HasDominating, HasDominatingAt, IsGreatestWithin, IsSpentBy, SameBounds, SettlesSome};
-ghost use Rattle.cost_vector.specs.Costs.{Dominates, Within, max_criteria, min_criteria};
+ghost use Rattle.std.specs.Prelude.{◌≡◌, ℕ, ◌+◌, ◌-◌, ◌<◌, ◌≤◌, ◌↔◌, [], ◌∷◌, length, map, All, IfOk, IsPermutation, IsTrue, OnErr};
+ghost use Rattle.bulk_core.specs.Settled.{AppendsOpen, CanSettle, IsBarredBy, HasDominating, HasDominatingAt, IsSpentBy, SameBounds, SettlesSome};
+ghost use Rattle.cost_vector.specs.Costs.{Dominates, max_criteria, min_criteria};
 ghost use Rattle.road_network.specs.Limits.{max_budget, max_nodes};
 ghost use Rattle.road_network.specs.Network.{IsNode};
 ghost use Rattle.settled_front.specs.Fronts.{IsCovered};
@@ -14,6 +14,7 @@ use settled_fronts::Fronts;
 use std::alloc::Global;
 use std::marker::Model;
 use stored_cost::StoredCost;
+use sweep_parts::{greatest_within, is_within};
 use waiting_item::Item;
 use waiting_queue::Look;
 
@@ -195,30 +196,4 @@ fn covers_less<const D: usize, F: SettledFront<D>>(front: &F, cost: &F::Cost, k:
     }
     numbers[k] -= 1;
     front.covers(&F::Cost::of(&numbers))
-}
-
-/// Whether the cost is within the limit of this greatest cost.
-fn is_within<const D: usize>(most: &CompactCost<D>, cost: &CompactCost<D>) -> bool
-    ensures { (limit : List (Option ℕ)) → IsGreatestWithin limit most.now.0
-        → IsTrue result ↔ Within limit cost.now.0 }
-{
-    have_64_bits(&cost.0);
-    cost.at_most(most)
-}
-
-/// Components have 64 bits.
-fn have_64_bits(components: &[u64])
-    ensures { All (λ x. x < 2 ^ 64) components.now }
-{}
-
-/// The limit as a cost: where it has no bound, the component is as great as can be.
-fn greatest_within<const D: usize>(limit: &Limit) -> CompactCost<D>
-    requires { length limit.now ≡ D }
-    ensures { IsGreatestWithin limit.now result.0 }
-{
-    let mut most = [u64::MAX; D];
-    for (i, component) in most.iter_mut().enumerate() {
-        *component = limit.place(i).unwrap_or(u64::MAX);
-    }
-    CompactCost(most)
 }

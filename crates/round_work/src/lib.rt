@@ -12,6 +12,6 @@ mod runs;
 
 pub use fault::RelaxFault;
 pub use marks::Marks;
-pub use merging::{leave_out_closed, merge};
+pub use merging::merge;
 pub use pieces::PIECE_SIZE;
 pub use relaxing::{relax, relax_open};

@@ -88,7 +88,7 @@ fn append_all<C: Copy>(lists: &[Vec<Item<C>>], all: &mut Vec<Item<C>>) -> Result
 
 /// Keeps the open candidates, in their order: less than merging them, and all that a search on one thread needs.
 #[tactic(auto, using(crate::proofs::OpenLemmas::sifting_none, crate::proofs::OpenLemmas::sifted))]
-pub fn leave_out_closed<const D: usize, C: StoredCost<D>, K: Look<D, C>>(
+pub(crate) fn leave_out_closed<const D: usize, C: StoredCost<D>, K: Look<D, C>>(
     look: &K,
     candidates: &mut Vec<Item<C>>,
 )

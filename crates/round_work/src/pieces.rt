@@ -5,7 +5,8 @@ ghost use Rattle.round_work.specs.Onward.{IsTooWide, onward};
 ghost use Rattle.round_work.specs.Pieces.{Appends, AreWithRoom, CanDo, items_of, onward_in, piece_size};
 ghost use Rattle.round_work.specs.declared.fault.RelaxFault.TheVariants as fault;
 
-use crate::{RelaxFault, leave_out_closed};
+use crate::RelaxFault;
+use crate::merging::leave_out_closed;
 use arc_graph::Network;
 use out_of_memory::OutOfMemory;
 use std::alloc::Global;

@@ -6,8 +6,9 @@ ghost use Rattle.round_work.specs.Pieces.{Appends, AppendsFound, AreReady, AreWi
 ghost use Rattle.round_work.specs.Survivors.{KeepsOpen};
 ghost use Rattle.round_work.specs.declared.fault.RelaxFault.TheVariants as fault;
 
+use crate::RelaxFault;
+use crate::merging::leave_out_closed;
 use crate::pieces::{OpenPieces, TakenItems};
-use crate::{RelaxFault, leave_out_closed};
 use arc_graph::Network;
 use route_io::{Gate, Phase};
 use std::alloc::Global;

@@ -1,16 +1,18 @@
-use Rattle.std.proofs.Common.{refl, append_assoc}
-use Rattle.std.proofs.lemmas.List.{map-append}
+use Rattle.std.proofs.Common.{◌≡◌, ◌∷◌, ◌++◌, [], map, refl}
 use Rattle.waiting_item.specs.Waiting.{as_waiting}
-use Rattle.bulk_core.proofs.FinishLemmas.{appends_each, kept_with_more}
-use Rattle.bulk_core.proofs.StartLemmas.{is_new, start_is_kept}
+use Rattle.bulk_core.proofs.StartLemmas.{is_new, new_is_kept, start_of}
 use Rattle.bulk_core.proofs.rounds.Core.new.Goals as goal
 
-pub invariant_of-core : goal.invariant_of-core
-invariant_of-core g c = let is = rw (← c.core.view_is) at c.in_ok-core.ensures in
-    rw c.in_ok-push.ensures.items (kept_with_more (as_waiting g.F.Cost.StoredCost.components) c.core.invariant c.core.inside.queue refl
-    (appends_each {Open = λ _. ⊥} c.core.inside.fresh.items) _ c.core.invariant.from (start_is_kept is c.requires.start c.start_item.ensures))
+-- the start alone waits
+waits : (g : _) (c : goal.After-new-3 g)
+    → c.new-2.result ++ map (as_waiting g.F.Cost.StoredCost.components) c.push.new.self.items ≡ start_of g.row.D c.args.start.0 ∷ []
+waits g c = rw (c.new-2.ensures, c.in_ok-push.ensures.items, c.new-fresh.ensures.items, c.start_item.ensures) refl
+
+pub invariant_of-result : goal.invariant_of-result
+invariant_of-result g c = let settled = c.in_ok-new.ensures in
+    rw c.new-3.ensures.items (new_is_kept _ settled.none (waits g c) c.requires.criteria (rw settled.nodes c.requires.start)
+    (rw (settled.nodes, settled.target) c.requires.target) c.requires.budget)
 
 pub returns : goal.returns
-returns g c =
-    let is = rw (← c.core.view_is) at c.in_ok-core.ensures in
-    rw (c.in_ok-push.ensures.items, map-append, ← append_assoc, is.none_waits, c.start_item.ensures) (is_new is)
+returns g c = let settled = c.in_ok-new.ensures in
+    is_new _ settled.none (waits g c) settled.nodes settled.target settled.limit (rw c.new-3.ensures.items refl)

@@ -1,6 +1,0 @@
-use Rattle.bulk_core.proofs.SpentLemmas.{within_greatest}
-use Rattle.list_laws.proofs.OnceLaws.{alike_through}
-use Rattle.bulk_core.proofs.settled.is_within.Goals as goal
-
-pub returns : goal.returns
-returns g c limit greatest = alike_through c.at_most.ensures (within_greatest limit c.args.most.now.0 c.args.cost.now.0 greatest c.have_64_bits.ensures)

@@ -1,6 +1,6 @@
 -- What was found, by zero and by the exact bounds.
-use Rattle.std.proofs.Common.{◌≡◌, ◌↔◌, ℕ, ◌+◌, ◌-◌, List, Option, None, length, refl, sym, ap, subst, ◌∙◌, arith}
-use Rattle.std.specs.Prelude.{Contains}
+use Rattle.std.proofs.Common.{◌≡◌, ◌↔◌, ℕ, ◌+◌, ◌-◌, List, Option, None, Result, Ok, Err, length, refl, sym, ap, subst, ◌∙◌, arith}
+use Rattle.std.specs.Prelude.{Contains, OnOk}
 use Rattle.cost_vector.specs.Costs.{no_limit, plus}
 use Rattle.cost_vector.proofs.Vectors.{plus-zeros}
 use Rattle.road_network.specs.Network.{Network, IsNetwork}
@@ -9,9 +9,10 @@ use Rattle.road_network.specs.Queries.{IsTooLarge, limit_of, limit_or_none}
 use Rattle.road_network.specs.declared.query.Query.{Query}
 use Rattle.road_network.proofs.WalkLaws.{length_of_walk}
 use Rattle.settled_fronts.proofs.PairLemmas.{in_settled_pairs}
-use Rattle.walk_readback.specs.Found.{HasAllRelevant, HasSettled, IsOf}
+use Rattle.walk_readback.specs.Found.{HasAllRelevant, HasSettled, IsFound, IsWellFound}
 use Rattle.goal_laws.specs.Goal.{IsBound, IsGoalRelevant}
 use Rattle.goal_laws.specs.FoundGoal.{HasAllGoalRelevant}
+use Rattle.goal_laws.proofs.FoundGoalLaws.{well_found_by_goal}
 use Rattle.sweep_parts.specs.Settled.{costs_of}
 use Rattle.node_lists.specs.FoundLists.{FoundLists, found_in}
 use Rattle.sweep_core.specs.Potentials.{IsConsistent, IsRelevantBy, PassesBy, Potential, Zero}
@@ -19,7 +20,16 @@ use Rattle.sweep_core.specs.Sweeps.{IsLifted, SettlesAll, lifted}
 use Rattle.sweep_core.proofs.Lifted.{one_cost}
 use Rattle.sweep_core.proofs.Uses.{passes_by_bounds, passes_by_zero, relevant_by_bounds, relevant_by_zero}
 use Rattle.sweep_search.specs.Answers.{IsTooLargeToward}
-use Rattle.sweep_search.specs.Finding.{HasAllBare, HasAllBy, HasLifted, IsBareAt, IsSameFind, IsTooLargeBy}
+use Rattle.sweep_search.specs.Finding.{AreLiftedAt, HasAllBare, HasAllBy, HasLifted, IsBareAt, IsSameFind, IsTooLargeBy}
+
+-- of two facts where all went well a third follows
+pub on_both : {A E : Type 0} (F G H : Type 0) → (F → G → H) → (r : Result A E) → OnOk r F → OnOk r G → OnOk r H
+on_both F G H f (Err e) h k = tt
+on_both F G H f (Ok a) h k = f h k
+
+-- each cost has the height of its node in it
+pub are_lifted : {net : Network} {query : Query} {P : Potential} {f : FoundLists} → HasAllBy net query P f → (v : ℕ) → AreLiftedAt net P f.lists v
+are_lifted all v c there = (all.settles.relevant (record { cost = c; node = v }) there).is_lifted
 
 -- what is settled at a node are its costs
 settled_at : (f : FoundLists) (v : ℕ) (c : List ℕ) → HasSettled (found_in f) v c ↔ Contains (costs_of f.lists v) c
@@ -105,6 +115,11 @@ module _ (net : Network) (query : Query) where
             (subst (λ t. HasSettled (found_in f) v c ↔ IsGoalRelevant net query.from t v c) (sym all.of_query.target)
             (λ settled. by.0 (exact.0 ((settled_at f v c).0 settled)), λ relevant. (settled_at f v c).1 (exact.1 (by.1 relevant))));
       }
+
+      pub goal_well_found : (f : FoundLists) → HasAllBare net query (λ v h. IsBound net v query.to h) f → IsFound (found_in f)
+          → IsWellFound net (limit_of net.criteria query) (found_in f)
+      goal_well_found f all found =
+          subst (λ l. IsWellFound net l (found_in f)) (sym no_limits) (well_found_by_goal net is (found_in f) found (all_goal_relevant f all))
 
       pub too_large_by_bounds : IsTooLargeBy net query (λ v h. IsBound net v query.to h) ↔ IsTooLargeToward net query
       too_large_by_bounds =

@@ -17,7 +17,7 @@ pub(crate) fn lower_all<const D: usize, C: StoredCost<D>, P: Potential>(
     potential: &mut P,
     found: &mut FoundLists<D, C>,
 ) -> Result<(), OutOfMemory>
-    requires criteria { network.now.criteria ≡ D }
+    requires criteria { found.old.criteria ≡ network.now.criteria }
     requires target { IsNode network.now.nodes target.0 }
     requires tells { P.tells potential.old network.now target.0 }
     requires count { length found.old.lists ≡ network.now.nodes + 1 }
@@ -42,7 +42,7 @@ fn lower<const D: usize, C: StoredCost<D>, P: Potential>(
     node: NodeNo,
     found: &mut FoundLists<D, C>,
 ) -> Result<(), OutOfMemory>
-    requires criteria { network.now.criteria ≡ D }
+    requires criteria { found.old.criteria ≡ network.now.criteria }
     requires target { IsNode network.now.nodes target.0 }
     requires node { IsNode network.now.nodes node.0 }
     requires tells { P.tells potential.old network.now target.0 }

@@ -19,6 +19,12 @@ use stored_cost::{NarrowCost, WideCost};
 use sweep_core::{Potential, ZeroPotential};
 use walk_readback::FoundCosts;
 
+/// The settled costs of a node in four components, each in 32 bits.
+type NarrowBlocks = BlockList<BlockFront<3, NarrowBlock<3>>>;
+
+/// The same in 64 bits.
+type WideBlocks = BlockList<BlockFront<3, WideBlock<3>>>;
+
 /// Answers a query: the settled costs of what was found are exactly its relevant pairs.
 pub fn find(alloc: Global, network: &Network<'_>, query: &Query) -> Result<Swept, SearchFault>
     requires query { IsQuery network.now query.now }
@@ -67,17 +73,23 @@ fn find_all<P: Potential>(
         → IsTooLargeBy network.now query.now (P.height network.now query.now.to) }
 {
     match network.criteria() {
-        2 => find_by::<2, SecondList<NarrowCost<2>>, SecondList<WideCost<2>>, P>(
-            alloc, network, query, potential,
-        ).map(Swept::Two),
-        3 => find_by::<3, StairList<NarrowCost<3>>, StairList<WideCost<3>>, P>(
-            alloc, network, query, potential,
-        ).map(Swept::Three),
-        _ => find_by::<
-            4,
-            BlockList<BlockFront<3, NarrowBlock<3>>>,
-            BlockList<BlockFront<3, WideBlock<3>>>,
-            P,
-        >(alloc, network, query, potential).map(Swept::Four),
+        2 => {
+            let found = find_by::<2, SecondList<NarrowCost<2>>, SecondList<WideCost<2>>, P>(
+                alloc, network, query, potential,
+            )?;
+            Ok(Swept::Two(found))
+        }
+        3 => {
+            let found = find_by::<3, StairList<NarrowCost<3>>, StairList<WideCost<3>>, P>(
+                alloc, network, query, potential,
+            )?;
+            Ok(Swept::Three(found))
+        }
+        _ => {
+            let found = find_by::<4, NarrowBlocks, WideBlocks, P>(
+                alloc, network, query, potential,
+            )?;
+            Ok(Swept::Four(found))
+        }
     }
 }

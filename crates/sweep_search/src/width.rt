@@ -37,6 +37,7 @@ impl<const D: usize, N: StoredCost<D>, W: StoredCost<D>> SweptAtWidth<D, N, W> {
         ensures { OnOk result (HasAllBare network.now query.now
             (P.height network.now query.now.to) (lists_at_width self.new)) }
     {
+        prove!(network.nodes() >= 1);
         let target = NodeNo(query.to);
         match self {
             SweptAtWidth::Narrow(found) => lower_all(network, target, potential, found),

@@ -6,7 +6,7 @@ use Rattle.still_commands.proofs.RunsLemmas.{starves}
 use Rattle.still_commands.proofs.goal.reply.Goals as goal
 
 pub search_toward-requires-clause-query : goal.search_toward-requires-clause-query
-search_toward-requires-clause-query g c = λ κs within.
+search_toward-requires-clause-query g c =
     is_query_unlimited c.args.query.now c.args.network.now c.requires.unlimited c.requires.budget (c.if-not-has_nodes.ensures.0 (cc))
 
 pub returns-then-not-has_nodes : goal.returns-then-not-has_nodes

@@ -6,7 +6,7 @@ use Rattle.std.proofs.lemmas.Bool.{cases_eq, cases_lt}
 use Rattle.std.proofs.lemmas.List.{get_or-set_other, get_or-set_same, length-set}
 use Rattle.std.proofs.lemmas.List.Elements.{All-get_or, All-weaker}
 use Rattle.cost_vector.specs.Costs.{plus}
-use Rattle.cost_vector.proofs.Vectors.{All-plus, length-plus}
+use Rattle.cost_vector.proofs.Vectors.{length-plus}
 use Rattle.cost_vector.proofs.Components.{get_or-plus}
 
 module _ (d : ℕ) (cost own c : List ℕ) (own_long : length own ≡ d) (long : length c ≡ d) (sum : cost ≡ plus c own) where
@@ -56,15 +56,6 @@ moved_more d cost own by bound i x components so_far within here = record {
       let other : k ≢ i = λ e. omega (arith, above, e) in
       get_or-set_other components i k x 0 other ∙ so_far.others k (omega (arith, above));
 }
-
--- it stays small
-pub moved_is_small : (c w g : List ℕ) → All (λ x. x < 2 ^ 59) c → All (λ x. x < 2 ^ 32) w → All (λ x. x < 2 ^ 55) g → All (λ x. x < 2 ^ 60) (plus (plus c w) g)
-moved_is_small c w g small_c small_w small_g =
-    let a = All-weaker (λ x. x < 2 ^ 59) (λ x. x ≤ 2 ^ 59) (λ x below. omega (arith, below)) c small_c in
-    let b = All-weaker (λ x. x < 2 ^ 32) (λ x. x ≤ 2 ^ 32) (λ x below. omega (arith, below)) w small_w in
-    let d = All-weaker (λ x. x < 2 ^ 55) (λ x. x ≤ 2 ^ 55) (λ x below. omega (arith, below)) g small_g in
-    All-weaker (λ x. x ≤ (2 ^ 59 + 2 ^ 32) + 2 ^ 55) (λ x. x < 2 ^ 60) (λ x below. omega (arith, below)) (plus (plus c w) g)
-    (All-plus (2 ^ 59 + 2 ^ 32) (2 ^ 55) (plus c w) g (All-plus (2 ^ 59) (2 ^ 32) c w a b) d)
 
 -- where some component is too great for a width, though all are small, the width is less
 pub no_room : (most bound : ℕ) (xs : List ℕ) → All (λ x. x < most) xs → ¬ All (λ x. x < bound) xs → bound < most

@@ -13,7 +13,7 @@ use Rattle.waiting_item.specs.Waiting.{Spot, Waiting}
 use Rattle.settled_fronts.specs.NodeFronts.{pairs_from}
 use Rattle.settled_fronts.proofs.PairLemmas.{in_settled_pairs, pairs_counted, settled_pairs_once}
 use Rattle.sweep_parts.specs.Settled.{IsSettledList, costs_of, count_settled}
-use Rattle.sweep_core.specs.Potentials.{IsConsistent, IsRelevantBy, PassesBy, Potential}
+use Rattle.sweep_core.specs.Potentials.{HasNoRoom, IsConsistent, IsRelevantBy, PassesBy, Potential}
 use Rattle.sweep_core.specs.Sweeps.{IsLifted, IsNext, IsSameSearch, IsSettledIn, SettlesAll, Sweep, lifted, with_queue}
 use Rattle.sweep_core.proofs.Frontier.{next_is_relevant}
 use Rattle.sweep_core.proofs.Leaving.{there}
@@ -187,6 +187,12 @@ pub settles_same : (net : Network) (P : Potential) (a b : Sweep) → IsSameSearc
 settles_same net P a b same h =
     subst (λ u. SettlesAll net u a.target a.limit P b.settled) same.start
     (subst (λ u. SettlesAll net b.start u a.limit P b.settled) same.target (subst (λ l. SettlesAll net b.start b.target l P b.settled) same.limit h))
+
+pub no_room_same : (net : Network) (P : Potential) (bound : ℕ) (a b : Sweep) → IsSameSearch a b → HasNoRoom net b.start b.target b.limit P bound
+    → HasNoRoom net a.start a.target a.limit P bound
+no_room_same net P bound a b same h =
+    subst (λ u. HasNoRoom net u a.target a.limit P bound) same.start
+    (subst (λ u. HasNoRoom net b.start u a.limit P bound) same.target (subst (λ l. HasNoRoom net b.start b.target l P bound) same.limit h))
 
 pub same_back : (a b : Sweep) → IsSameSearch a b → IsSameSearch b a
 same_back a b same = record { start = sym same.start; target = sym same.target; limit = sym same.limit; budget = sym same.budget }

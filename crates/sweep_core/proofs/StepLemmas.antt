@@ -1,25 +1,22 @@
 -- One step: an item is taken, settled, and what follows it waits.
-use Rattle.std.proofs.Common.{◌≡◌, ℕ, ◌+◌, ◌-◌, ◌^◌, ◌<◌, ◌≤◌, List, [], ◌∷◌, ◌++◌, Option, Some, None, Result, Ok, Err, suc, get_or, map, take, length, inl, inr, refl, sym, ap, subst, ◌∙◌, arith}
+use Rattle.std.proofs.Common.{◌≡◌, ℕ, ◌+◌, ◌<◌, ◌≤◌, List, [], ◌∷◌, ◌++◌, Option, Some, None, Result, Ok, Err, suc, get_or, map, take, length, inl, inr, refl, sym, ap, subst, ◌∙◌, arith}
 use Rattle.std.specs.Prelude.{All, Contains, IfNone, IfOk, IfSome, OnOk}
 use Rattle.std.proofs.Math.Seq.{take-suc}
 use Rattle.std.proofs.lemmas.List.{map-append}
-use Rattle.list_laws.proofs.Members.{all_from_in, all_got, in_map, in_none}
+use Rattle.list_laws.proofs.Members.{all_from_in, in_map, in_none}
 use Rattle.road_network.specs.Limits.{max_budget}
 use Rattle.cost_vector.specs.Costs.{plus}
 use Rattle.road_network.specs.Network.{Network, IsNode}
-use Rattle.road_network.specs.Walks.{IsWalk}
-use Rattle.road_network.proofs.WalkLaws.{walk_on}
 use Rattle.arc_graph.specs.Graph.{IsRoadNetwork}
 use Rattle.waiting_item.specs.Waiting.{Waiting}
 use Rattle.sweep_parts.specs.Settled.{IsBehind, Pushes, count_settled}
 use Rattle.sweep_parts.specs.Leaving.{LosesSpent}
-use Rattle.sweep_core.specs.Potentials.{HasNoRoom, IsConsistent, Potential}
+use Rattle.sweep_core.specs.Potentials.{HasNoRoom, IsConsistent, IsRelevantBy, Potential}
 use Rattle.sweep_core.specs.Sweeps.{CanTell, Follows, IsEnded, IsLifted, IsNext, IsRelaxing, IsSpentBy, IsSweep, LetsAllWait, Settles, Sweep, TakesUnspent, costs_at, with_both, with_queue, without_queue}
 use Rattle.sweep_core.specs.Relaxing.{HasNoRoomFrom, IsSmallLifted, LeadsOn}
 use Rattle.sweep_core.proofs.FollowLemmas.{all_follow, can_tell_given}
 use Rattle.sweep_core.proofs.Frontier.{next_is_relevant}
 use Rattle.sweep_core.proofs.Leaving.{leaves_behind, leaves_node, spent_leave, there}
-use Rattle.sweep_core.proofs.CostLemmas.{moved_is_small, no_room}
 use Rattle.sweep_core.proofs.Lifted.{one_cost}
 use Rattle.sweep_core.proofs.Settling.{relaxing_now, settling_keeps}
 
@@ -90,17 +87,24 @@ module _ (net : Network) (road : IsRoadNetwork net) (t : ℕ) (P : Potential) (i
   pub next_lifted : IsLifted net P x.spot
   next_lifted = (next.sweep.waiting_from x waits).lifted
 
-  -- where what follows it has no room, the cost of some walk has none
-  pub no_room_on : (bound : ℕ) → HasNoRoomFrom net P x.spot bound → HasNoRoom net s.start P bound
+  -- where what follows it has no room, what follows a relevant pair has none
+  pub no_room_on : (bound : ℕ) → HasNoRoomFrom net P x.spot bound → HasNoRoom net s.start s.target s.limit P bound
   no_room_on bound h =
       let b = h.given.is_lifted in
-      let best = (next_is_relevant net road.network t P is was next.sweep x s.queue next.leaves waits (λ covered. next.unspent (inl covered))
-      (λ dominated. next.unspent (inr dominated)) (next.sweep.within x waits) target).best.reached in
-      let walk = subst (IsWalk net s.start best.0 x.spot.node) (one_cost net t P is x.spot (next.sweep.waiting_from x waits).lifted b) best.1 in record {
+      let relevant = next_is_relevant net road.network t P is was next.sweep x s.queue next.leaves waits (λ covered. next.unspent (inl covered))
+      (λ dominated. next.unspent (inr dominated)) (next.sweep.within x waits) target in
+      record {
         node = h.spot.node;
-        arcs = best.0 ++ h.given.arc ∷ [];
         cost = plus b.cost h.given.by;
-        walk = walk_on net road.network best.0 s.start x.spot.node h.spot.node h.given.arc b.cost h.given.by walk h.given.leads;
+        from = inr (record {
+          from = x.spot.node;
+          cost = b.cost;
+          relevant = subst (IsRelevantBy net s.start s.target s.limit P x.spot.node) (one_cost net t P is x.spot (next.sweep.waiting_from x waits).lifted b) relevant;
+          arc = h.given.arc;
+          by = h.given.by;
+          leads = h.given.leads;
+          sum = refl;
+        });
         height = h.given.height;
         has = h.given.has;
         exceeds = subst (λ c. ¬ All (λ y. y < bound) c) h.given.cost h.exceeds;
@@ -128,14 +132,6 @@ module _ (net : Network) (road : IsRoadNetwork net) (t : ℕ) (P : Potential) (i
 
   pub small_lifted : IsSmallLifted net P x.spot
   small_lifted = record { is_lifted = relaxing.lifted; small = relaxing.small }
-
-  pub narrow_on : (bound : ℕ) → HasNoRoomFrom net P x.spot bound → bound < 2 ^ 60
-  narrow_on bound h =
-      let b = h.given.is_lifted in
-      let small = subst (All (λ c. c < 2 ^ 59)) (one_cost net t P is x.spot relaxing.lifted b) relaxing.small in
-      let by = all_got (λ st. IfSome st (All (λ y. y < 2 ^ 32))) net.states (h.given.arc - 1) (Some h.given.by) road.small h.given.leads.passable in
-      let all = moved_is_small b.cost h.given.by h.given.height small by (is.small h.spot.node h.given.height h.given.has) in
-      no_room (2 ^ 60) bound h.spot.cost (subst (All (λ c. c < 2 ^ 60)) (sym h.given.cost) all) h.exceeds
 
   pub told_of : {X : Type 0} (f : X → Waiting) (fresh : List X) → LeadsOn net P x (λ k. Unit {0}) [] (map f fresh)
       → All (λ i. CanTell pushed.settled pushed.target (f i).spot) fresh

@@ -36,6 +36,7 @@ without_queue s = with_queue s []
 abbrev pub costs_at : Sweep → ℕ → List (List ℕ)
 costs_at s = costs_of s.settled
 
+-- the spot's cost is settled at its node
 abbrev pub IsSettledIn : List (List (List ℕ)) → Spot → Type 0
 IsSettledIn settled x = Contains (costs_of settled x.node) x.cost
 
@@ -43,9 +44,9 @@ IsSettledIn settled x = Contains (costs_of settled x.node) x.cost
 abbrev pub IsSpentBy : List (List (List ℕ)) → ℕ → Spot → Type 0
 IsSpentBy settled target x = IsCovered (costs_of settled x.node) x.cost ⊎ IsDominated (costs_of settled target) x.cost
 
--- it is never to be settled any more
-abbrev pub IsSpent : Sweep → Spot → Type 0
-IsSpent s x = IsSpentBy s.settled s.target x ⊎ (¬ Within s.limit x.cost)
+-- it is spent or beyond the limit: never to be settled
+abbrev pub IsRuledOut : Sweep → Spot → Type 0
+IsRuledOut s x = IsSpentBy s.settled s.target x ⊎ (¬ Within s.limit x.cost)
 
 -- what waits at its node costs at most as much
 pub record HasWaitingBelow (queue : List Waiting) (x : Spot) : Type 0 where
@@ -54,8 +55,9 @@ pub record HasWaitingBelow (queue : List Waiting) (x : Spot) : Type 0 where
   pub node : item.spot.node ≡ x.node
   pub at_most : AtMost item.spot.cost x.cost
 
+-- it is ruled out, or what waits at its node is at most it
 abbrev pub IsHandled : Sweep → Spot → Type 0
-IsHandled s x = IsSpent s x ⊎ HasWaitingBelow s.queue x
+IsHandled s x = IsRuledOut s x ⊎ HasWaitingBelow s.queue x
 
 -- the spot of the node v at the cost c with the height h added
 abbrev pub lifted : ℕ → List ℕ → List ℕ → Spot
@@ -157,7 +159,7 @@ pub record IsFollowing (net : Network) (P : Potential) (s : Sweep) (x j : Waitin
   pub above : AtMost x.spot.cost j.spot.cost
   pub came : j.from ≡ x.spot.node
 
--- What the arcs of which K holds give, from the settled item x on, waits now unless it is spent, and nothing else has come.
+-- What the arcs of which K holds give, from the settled item x on, waits now unless it is ruled out, and nothing else has come.
 pub record Follows (net : Network) (P : Potential) (s : Sweep) (x : Waiting) (K : ℕ → Type 0) (before after : List Waiting) : Type 0 where
   pub kept : (j : Waiting) → Contains before j → Contains after j
   pub come : (j : Waiting) → Contains after j → Contains before j ⊎ IsFollowing net P s x j
@@ -176,11 +178,11 @@ pub record TakesUnspent (settled : List (List (List ℕ))) (target : ℕ) (befor
   pub takes : TakesLeast (IsSpentBy settled target) before i after
   pub unspent : ¬ IsSpentBy settled target i.spot
 
--- the item waits now, or is spent and nothing has come
+-- the item waits now, or is ruled out and nothing has come
 abbrev pub LetsWait : Sweep → Waiting → List Waiting → List Waiting → Type 0
-LetsWait s i before after = (IsSpent s i.spot × (after ≡ before)) ⊎ (Within s.limit i.spot.cost × IsPermutation (i ∷ before) after)
+LetsWait s i before after = (IsRuledOut s i.spot × (after ≡ before)) ⊎ (Within s.limit i.spot.cost × IsPermutation (i ∷ before) after)
 
--- Each of the items waits now or is spent, and nothing else has come.
+-- Each of the items waits now or is ruled out, and nothing else has come.
 pub record LetsAllWait (s : Sweep) (items before after : List Waiting) : Type 0 where
   pub kept : (j : Waiting) → Contains before j → Contains after j
   pub come : (j : Waiting) → Contains after j → Contains before j ⊎ (Contains items j × Within s.limit j.spot.cost)

@@ -1,7 +1,7 @@
 use out_of_memory::OutOfMemory;
 use std::alloc::AllocFailed;
 
-/// Why a cost couldn't be stored.
+/// Why a search couldn't go on, but for its budget.
 #[derive(Clone, Copy, Debug, PartialEq, Eq)]
 pub enum StoreFault {
     /// There was no memory for it.

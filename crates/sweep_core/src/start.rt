@@ -1,4 +1,4 @@
-ghost use Rattle.std.specs.Prelude.{◌≡◌, ◌^◌, ◌<◌, length, Err, IfOk, OnOk};
+ghost use Rattle.std.specs.Prelude.{◌≡◌, length, Err, IfOk, OnOk};
 ghost use Rattle.std.specs.Option.{option_map};
 ghost use Rattle.road_network.specs.Network.{IsNode};
 ghost use Rattle.sweep_core.specs.Potentials.{HasNoRoom};
@@ -14,7 +14,7 @@ use stored_cost::StoredCost;
 use sweep_parts::{greatest_within, is_within};
 use waiting_item::Item;
 
-/// Of so many arcs the weights are looked at.
+/// Of fewer arcs than this the weights are looked at.
 const LOOKED_AT: u32 = 1024;
 
 /// The item that stands for the start at its height, unless it has none or that is beyond the limit.
@@ -36,8 +36,7 @@ pub(crate) fn start_item<const D: usize, C: StoredCost<D>, P: Potential>(
     ensures tells_still { result ≡ Err fault.TooWide
         → P.tells potential.new network.now target.0 }
     ensures too_wide { result ≡ Err fault.TooWide
-        → HasNoRoom network.now start.0 (P.height network.now target.0) C.Part.bound }
-    ensures narrow { result ≡ Err fault.TooWide → C.Part.bound < 2 ^ 60 }
+        → HasNoRoom network.now start.0 target.0 limit.now (P.height network.now target.0) C.Part.bound }
 {
     prove!(network.nodes() >= 1);
     prove!(network.criteria() == D);

@@ -1,9 +1,9 @@
-ghost use Rattle.std.specs.Prelude.{◌≡◌, ◌+◌, ◌^◌, ◌<◌, ◌≤◌, ◌↔◌, ℕ, [], ◌∷◌, length, map, All, Err, IfNone, IfOk, IfSome, IsPermutation, IsTrue, OnOk};
+ghost use Rattle.std.specs.Prelude.{◌≡◌, ◌+◌, ◌<◌, ◌≤◌, ◌↔◌, ℕ, [], ◌∷◌, length, map, All, Err, IfNone, IfOk, IfSome, IsPermutation, IsTrue, OnOk};
 ghost use Rattle.cost_vector.specs.Costs.{Within};
 ghost use Rattle.road_network.specs.Limits.{max_budget};
 ghost use Rattle.road_network.specs.Queries.{IsQuery, limit_of};
 ghost use Rattle.sweep_core.specs.Potentials.{HasNoRoom, PassesBy};
-ghost use Rattle.sweep_core.specs.Sweeps.{CanTell, IsEnded, IsNext, IsSameSearch, IsSearchFor, IsSpent, IsSweep, LetsAllWait, LetsWait, Settles, SettlesAll, costs_at, with_both, with_queue, without_queue};
+ghost use Rattle.sweep_core.specs.Sweeps.{CanTell, IsEnded, IsNext, IsSameSearch, IsRuledOut, IsSearchFor, IsSweep, LetsAllWait, LetsWait, Settles, SettlesAll, costs_at, with_both, with_queue, without_queue};
 ghost use Rattle.sweep_core.specs.declared.fault.StoreFault.TheVariants as store;
 ghost use Rattle.sweep_core.specs.declared.fault.SweepFault.TheVariants as fault;
 ghost use Rattle.settled_front.specs.Fronts.{IsCovered};
@@ -73,8 +73,8 @@ impl<const D: usize, S: SettledLists<D>, Q: LeastQueue<D, S::Cost>> Sweep<D, S, 
         ensures tells_still { result ≡ Err store.TooWide
             → P.tells potential.new network.now query.now.to }
         ensures too_wide { result ≡ Err store.TooWide → HasNoRoom network.now query.now.from
+            query.now.to (limit_of network.now.criteria query.now)
             (P.height network.now query.now.to) S.Cost.Part.bound }
-        ensures narrow { result ≡ Err store.TooWide → S.Cost.Part.bound < 2 ^ 60 }
     {
         prove!(network.nodes() >= 1);
         prove!(network.criteria() == D);
@@ -114,8 +114,7 @@ impl<const D: usize, S: SettledLists<D>, Q: LeastQueue<D, S::Cost>> Sweep<D, S, 
         ensures tells_still { result ≡ Err fault.TooWide
             → P.tells potential.new network.now self.old.target }
         ensures too_wide { result ≡ Err fault.TooWide → HasNoRoom network.now self.old.start
-            (P.height network.now self.old.target) S.Cost.Part.bound }
-        ensures narrow { result ≡ Err fault.TooWide → S.Cost.Part.bound < 2 ^ 60 }
+            self.old.target self.old.limit (P.height network.now self.old.target) S.Cost.Part.bound }
     {
         prove!(network.nodes() >= 1);
         let mut fresh = Vec::new(alloc);
@@ -171,8 +170,7 @@ impl<const D: usize, S: SettledLists<D>, Q: LeastQueue<D, S::Cost>> Sweep<D, S, 
         ensures tells_still { result ≡ Err store.TooWide
             → P.tells potential.new network.now self.old.target }
         ensures too_wide { result ≡ Err store.TooWide → HasNoRoom network.now self.old.start
-            (P.height network.now self.old.target) S.Cost.Part.bound }
-        ensures narrow { result ≡ Err store.TooWide → S.Cost.Part.bound < 2 ^ 60 }
+            self.old.target self.old.limit (P.height network.now self.old.target) S.Cost.Part.bound }
     {
         prove!(network.nodes() >= 1);
         self.push(item)?;
@@ -212,11 +210,11 @@ impl<const D: usize, S: SettledLists<D>, Q: LeastQueue<D, S::Cost>> Sweep<D, S, 
     /// Whether an item is within the limit and isn't spent.
     fn can_settle(&self, item: &Item<S::Cost>) -> bool
         requires { CanTell self.now.settled self.now.target (spot_in S.Cost.components item.now) }
-        ensures open { IsTrue result → ¬ IsSpent (without_queue self.now)
+        ensures open { IsTrue result → ¬ IsRuledOut (without_queue self.now)
             (spot_in S.Cost.components item.now) }
         ensures within { IsTrue result
             → Within self.now.limit (S.Cost.components item.now.cost) }
-        ensures spent { ¬ IsTrue result → IsSpent (without_queue self.now)
+        ensures ruled_out { ¬ IsTrue result → IsRuledOut (without_queue self.now)
             (spot_in S.Cost.components item.now) }
     {
         let look = Spent {

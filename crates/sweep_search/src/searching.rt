@@ -1,6 +1,6 @@
 ghost use Rattle.std.specs.Prelude.{◌≡◌, ◌^◌, ◌<◌, ◌≤◌, Err, IfOk, IsErrOf, OnOk};
 ghost use Rattle.road_network.specs.Queries.{IsQuery, limit_of};
-ghost use Rattle.sweep_core.specs.Potentials.{PassesBy};
+ghost use Rattle.sweep_core.specs.Potentials.{HasNoRoom};
 ghost use Rattle.sweep_core.specs.declared.fault.SweepFault.TheVariants as fault;
 ghost use Rattle.sweep_search.specs.Swept.{lists_at_width};
 ghost use Rattle.sweep_search.specs.Finding.{HasAllBy, IsTooLargeBy};
@@ -63,6 +63,7 @@ fn find_wide<const D: usize, N: StoredCost<D>, W: SettledList<D>, P: Potential>(
     ensures budget { IsErrOf result SearchFault.Budget
         → IsTooLargeBy network.now query.now (P.height network.now query.now.to) }
 {
+    prove!(network.nodes() >= 1);
     match find_at_width::<D, W, P>(alloc, network, query, potential) {
         Ok(found) => Ok(SweptAtWidth::Wide(found)),
         Err(SweepFault::TooWide) => unreachable!(),
@@ -90,7 +91,9 @@ fn find_at_width<const D: usize, L: SettledList<D>, P: Potential>(
         → IsTooLargeBy network.now query.now (P.height network.now query.now.to) }
     ensures tells_still { result ≡ Err fault.TooWide
         → P.tells potential.new network.now query.now.to }
-    ensures narrow { result ≡ Err fault.TooWide → L.Cost.Part.bound < 2 ^ 60 }
+    ensures too_wide { result ≡ Err fault.TooWide → HasNoRoom network.now query.now.from
+        query.now.to (limit_of network.now.criteria query.now)
+        (P.height network.now query.now.to) L.Cost.Part.bound }
 {
     prove!(network.nodes() >= 1);
     prove!(network.criteria() == D);

@@ -1,11 +1,9 @@
-use Rattle.std.proofs.Common.{◌^◌, ◌<◌, [], replicate, refl, sym, subst, ◌∙◌, arith, rules}
+use Rattle.std.proofs.Common.{◌<◌, inl, replicate, refl, sym, subst, ◌∙◌, rules}
 use Rattle.std.specs.Prelude.{All}
 use Rattle.std.proofs.lemmas.Bool.{iff_false}
-use Rattle.std.proofs.lemmas.List.Elements.{All-weaker}
 use Rattle.cost_vector.specs.Costs.{Within}
 use Rattle.cost_vector.proofs.Vectors.{zeros-plus}
 use Rattle.sweep_core.specs.Potentials.{IsHeightIfAny}
-use Rattle.sweep_core.proofs.CostLemmas.{no_room}
 use Rattle.sweep_core.proofs.start.start_item.Goals as goal
 
 pub of-height-requires : goal.of-height-requires
@@ -30,18 +28,9 @@ returns-in_default-stored-clause-too_wide g c = λ _.
     let has = subst (IsHeightIfAny (g.P.Potential.height net t) c.args.start.0) c.in-Some.is c.in_ok-height.ensures.exact in
     let sum = c.of-height.ensures ∙ sym (zeros-plus net.criteria c.in-Some.height (is.whole c.args.start.0 c.in-Some.height has)) in record {
       node = c.args.start.0;
-      arcs = [];
       cost = replicate net.criteria 0;
-      walk = (c.requires.start, refl, refl);
+      from = inl (refl, refl);
       height = c.in-Some.height;
       has = has;
       exceeds = subst (λ z. ¬ All (λ x. x < g.C.Part.Part.bound) z) sum c.in_default-stored.ensures.room;
     }
-
-pub returns-in_default-stored-clause-narrow : goal.returns-in_default-stored-clause-narrow
-returns-in_default-stored-clause-narrow g c = λ _.
-    let net = c.args.network.now in let t = c.args.target.0 in
-    let is = g.met.P.Potential.consistent net t c.nodes.ensures.network c.requires.target in
-    let has = subst (IsHeightIfAny (g.P.Potential.height net t) c.args.start.0) c.in-Some.is c.in_ok-height.ensures.exact in
-    let small = All-weaker (λ x. x < 2 ^ 55) (λ x. x < 2 ^ 60) (λ x less. omega (arith, less)) c.in-Some.height (is.small c.args.start.0 c.in-Some.height has) in
-    no_room (2 ^ 60) g.C.Part.Part.bound c.of-height.result.0 (subst (All (λ x. x < 2 ^ 60)) (sym c.of-height.ensures) small) c.in_default-stored.ensures.room

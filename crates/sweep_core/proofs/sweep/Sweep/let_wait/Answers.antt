@@ -7,7 +7,7 @@ use Rattle.sweep_core.proofs.StepLemmas.{on_ok, on_ok_of}
 use Rattle.sweep_core.proofs.sweep.Sweep.let_wait.Goals as goal
 
 pub returns-then-not-can_settle-clause-waits : goal.returns-then-not-can_settle-clause-waits
-returns-then-not-can_settle-clause-waits g c = inl (c.can_settle.ensures.spent (λ yes. false≢true (sym c.if-not-can_settle.true ∙ yes)), refl)
+returns-then-not-can_settle-clause-waits g c = inl (c.can_settle.ensures.ruled_out (λ yes. false≢true (sym c.if-not-can_settle.true ∙ yes)), refl)
 
 pub returns-clause-rest : goal.returns-clause-rest
 returns-clause-rest g c =

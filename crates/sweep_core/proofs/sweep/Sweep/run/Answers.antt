@@ -4,7 +4,7 @@ use Rattle.sweep_core.specs.Potentials.{HasNoRoom}
 use Rattle.sweep_core.specs.Sweeps.{IsEnded, IsNext}
 use Rattle.sweep_core.proofs.Ending.{ended_settles_all}
 use Rattle.sweep_core.proofs.FaultLemmas.{was_wide_store}
-use Rattle.sweep_core.proofs.Passing.{not_passed, passes, passes_same, same_back, same_with_queue, settles_same}
+use Rattle.sweep_core.proofs.Passing.{no_room_same, not_passed, passes, passes_same, same_back, same_with_queue, settles_same}
 use Rattle.sweep_core.proofs.sweep.Sweep.run.Goals as goal
 
 pub returns-then-is_full-clause-budget : goal.returns-then-is_full-clause-budget
@@ -31,8 +31,9 @@ returns-in_err-settle-clause-too_wide g c = λ wide.
     let now = c.take_next.new.self in
     let same = same_with_queue s c.labels.self now c.in_ok-item.ensures.rest c.labels.invariant.same in
     let was = was_wide_store c.from_residual-in_err-settle.result c.in_err-settle.field-0.0 c.from_residual-in_err-settle.ensures.1 wide in
-    subst (λ u. HasNoRoom net u (g.P.Potential.height net s.target) g.S.Cost.Part.Part.bound) same.start
-    (subst (λ u. HasNoRoom net now.start (g.P.Potential.height net u) g.S.Cost.Part.Part.bound) same.target (c.in_err-settle.ensures.too_wide (ap (λ f. Err f) was)))
+    let P = g.P.Potential.height net s.target in let bound = g.S.Cost.Part.Part.bound in
+    no_room_same net P bound s now same (subst (λ u. HasNoRoom net now.start now.target now.limit (g.P.Potential.height net u) bound) same.target
+    (c.in_err-settle.ensures.too_wide (ap (λ f. Err f) was)))
 
 pub returns-clause-all : goal.returns-clause-all
 returns-clause-all g c =

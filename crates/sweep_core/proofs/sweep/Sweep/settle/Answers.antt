@@ -4,7 +4,7 @@ use Rattle.waiting_item.specs.Waiting.{as_waiting, spot_in}
 use Rattle.sweep_core.specs.Relaxing.{HasNoRoomFrom, IsSmallLifted, LeadsOn}
 use Rattle.sweep_core.specs.Sweeps.{CanTell, LetsAllWait, Sweep, without_queue}
 use Rattle.sweep_core.proofs.FaultLemmas.{was_wide}
-use Rattle.sweep_core.proofs.StepLemmas.{narrow_on, next_behind, next_node, no_room_on, settled_by, small_lifted, told_of}
+use Rattle.sweep_core.proofs.StepLemmas.{next_behind, next_node, no_room_on, settled_by, small_lifted, told_of}
 use Rattle.sweep_core.proofs.sweep.Sweep.settle.Goals as goal
 
 pub push-requires : goal.push-requires
@@ -81,15 +81,3 @@ returns-in_err-relax-clause-too_wide g c = λ wide.
     let was = was_wide c.from_residual-in_err-relax.result c.in_err-relax.field-0.0 c.from_residual-in_err-relax.ensures.1 wide in
     let none = subst (λ n. HasNoRoomFrom net (g.P.Potential.height net n) x.spot bound) here (c.in_err-relax.ensures.too_wide (ap (λ f. Err f) was)) in
     no_room_on net road t P is s refl x next bound none
-
-pub returns-in_err-relax-clause-narrow : goal.returns-in_err-relax-clause-narrow
-returns-in_err-relax-clause-narrow g c = λ wide.
-    let net = c.args.network.now in let road = c.nodes.ensures.network in let s = c.args.self.now in let t = s.target in
-    let P = g.P.Potential.height net t in let x = as_waiting g.S.Cost.StoredCost.components c.args.item.now in let next = c.requires.next in
-    let is = g.met.P.Potential.consistent net t road next.sweep.target_node in
-    let bound = g.S.Cost.Part.Part.bound in
-    let pushed = c.in_ok-push.ensures in
-    let here = c.target.ensures ∙ ap (λ (z : Sweep). z.target) pushed.rest in
-    let was = was_wide c.from_residual-in_err-relax.result c.in_err-relax.field-0.0 c.from_residual-in_err-relax.ensures.1 wide in
-    let none = subst (λ n. HasNoRoomFrom net (g.P.Potential.height net n) x.spot bound) here (c.in_err-relax.ensures.too_wide (ap (λ f. Err f) was)) in
-    narrow_on net road t P is s refl x next c.requires.room c.requires.most c.push.new.self pushed.pushed pushed.rest bound none

@@ -5,14 +5,26 @@ ghost use Rattle.walk_readback.specs.Found.{IsOf, IsWellFound};
 use answer_writer::put_answer;
 use arc_graph::Network;
 use road_network::{AnswerKind, Query, SearchFault};
-use route_io::OpenGate;
 use route_io::sure::SureSink;
+use route_io::{Gate, Phase};
 use std::alloc::Global;
 use std::process::Abort;
 use std::test::Fail;
 use std::thread::Threads;
 use walk_readback::{FoundCosts, Room};
 use work_claim::Workers;
+
+/// Has all work shared, however little.
+#[derive(Drop)]
+struct AllShared;
+
+impl Gate for AllShared {
+    const SHARED_FROM: usize = 0;
+
+    ghost SHARED_FROM = { 0 };
+
+    fn pass(&self, _phase: Phase, _piece: u64) {}
+}
 
 /// A form of search.
 #[derive(Clone, Copy, Debug)]
@@ -61,7 +73,7 @@ fn reply_by_rounds<R: Threads + Sync + Abort>(
     requires { IsQuery network.now query.now }
 {
     assert!(rt; 1 <= count && count <= 64);
-    let workers = Workers::new(rt, count, &OpenGate);
+    let workers = Workers::new(rt, count, &AllShared);
     match bulk_search::find(&workers, alloc, network, query) {
         Ok(found) => Ok(Ok(reply(alloc, network, query, &found)?)),
         Err(fault) => Ok(Err(fault)),

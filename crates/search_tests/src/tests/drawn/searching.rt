@@ -16,6 +16,9 @@ use std::thread::Threads;
 /// How many networks are drawn.
 const NETWORKS: u64 = 240;
 
+/// One of so many is also searched by as many workers as there can be, whose threads take most of the time.
+const MANY_WORKERS_EACH: u64 = 8;
+
 /// Compares the reply after such a search with the one that is wanted. With a budget of one less than the relevant pairs the query
 /// is refused.
 fn compare<R: Threads + Sync + Abort>(
@@ -113,8 +116,11 @@ fn compare_plainly(
 fn compare_drawn<R: Threads + Sync + Abort>(rt: &R, alloc: Global, name: u64) -> Result<(), Fail> {
     let drawn = draw(alloc, name)?;
     let wanted = enumerate(alloc, &drawn)?;
-    for count in [1, 2, 3, 64] {
+    for count in [1, 2, 3] {
         compare(rt, alloc, &drawn, &wanted, Search::Rounds(count))?;
+    }
+    if name % MANY_WORKERS_EACH == 0 {
+        compare(rt, alloc, &drawn, &wanted, Search::Rounds(64))?;
     }
     compare(rt, alloc, &drawn, &wanted, Search::Sweep)?;
     compare_plainly(rt, alloc, &drawn, &wanted)

@@ -4,6 +4,7 @@ use super::networks::{Drawn, DrawnArc, graph};
 use super::searches::{Search, reply, reply_by};
 use arc_graph::Network;
 use road_network::{MAX_BUDGET, Query, SearchFault};
+use route_io::sure::SureSink;
 use route_io::{Gate, Phase};
 use std::alloc::Global;
 use std::process::Abort;
@@ -295,6 +296,32 @@ fn compare_rounds<R: Threads + Sync + Abort>(
     Ok(())
 }
 
+/// The reply to the query of an example after such a search within a budget, or why it was refused.
+fn reply_within<R: Threads + Sync + Abort>(
+    rt: &R,
+    alloc: Global,
+    example: &Example,
+    search: Search,
+    budget: u32,
+) -> Result<Result<SureSink, SearchFault>, Fail> {
+    let (graph, weights) = graph(rt, alloc, &drawn(alloc, example)?)?;
+    let network = Network::new(&graph, &weights);
+    let query = query_of(rt, example, &network, budget);
+    reply_by(rt, alloc, &network, &query, search)
+}
+
+/// Whether such a search is refused for this budget.
+fn refuses_at<R: Threads + Sync + Abort>(
+    rt: &R,
+    alloc: Global,
+    example: &Example,
+    search: Search,
+    budget: u32,
+) -> Result<bool, Fail> {
+    let fault = reply_within(rt, alloc, example, search, budget)?.err();
+    Ok(fault == Some(SearchFault::Budget))
+}
+
 /// Compares the reply after such a search within a budget that just suffices. With one less the query is refused.
 fn compare<R: Threads + Sync + Abort>(
     rt: &R,
@@ -304,18 +331,11 @@ fn compare<R: Threads + Sync + Abort>(
     budget: u32,
 ) -> Result<(), Fail> {
     let name = example.name;
-    let (graph, weights) = graph(rt, alloc, &drawn(alloc, example)?)?;
-    let network = Network::new(&graph, &weights);
-    let query = query_of(rt, example, &network, budget);
-    let text = reply_by(rt, alloc, &network, &query, search)??;
+    let text = reply_within(rt, alloc, example, search, budget)??;
     let is_sent = text.sent() == example.reply.as_bytes();
     assert!(rt; is_sent, "{name}: the reply by {search:?}");
-    if budget > 0 {
-        let less = query_of(rt, example, &network, budget - 1);
-        let refused = reply_by(rt, alloc, &network, &less, search)?.err();
-        let is_refused = refused == Some(SearchFault::Budget);
-        assert!(rt; is_refused, "{name}: the refusal by {search:?}");
-    }
+    let is_refused = budget == 0 || refuses_at(rt, alloc, example, search, budget - 1)?;
+    assert!(rt; is_refused, "{name}: the refusal by {search:?}");
     Ok(())
 }
 

@@ -1,23 +1,17 @@
 //! Searches that are directed to the target, beside such that aren't.
 ghost use Rattle.std.specs.Prelude.{◌≡◌, None};
-ghost use Rattle.road_network.specs.Queries.{IsQuery, limit_of};
-ghost use Rattle.walk_readback.specs.Found.{IsOf, IsWellFound};
+ghost use Rattle.road_network.specs.Queries.{IsQuery};
 
 use super::bounds::count_goal_relevant;
 use super::networks::{Drawn, Ties, draw, graph, with_ties};
-use answer_writer::put_answer;
+use super::searches::{Search, reply_by};
 use arc_graph::Network;
-use bulk_search::find;
-use goal_search::search_toward;
-use road_network::{AnswerKind, MAX_BUDGET, Query, SearchFault};
-use route_io::OpenGate;
+use road_network::{MAX_BUDGET, Query, SearchFault};
 use route_io::sure::SureSink;
 use std::alloc::Global;
 use std::process::Abort;
 use std::test::Fail;
 use std::thread::Threads;
-use walk_readback::{FoundCosts, Room};
-use work_claim::Workers;
 
 /// How many networks are drawn.
 const NETWORKS: u64 = 240;
@@ -37,121 +31,74 @@ fn query_of(rt: &impl Abort, drawn: &Drawn, network: &Network<'_>, budget: u32) 
     }
 }
 
-/// The reply of what was found for a query.
-fn reply<F: FoundCosts>(
-    alloc: Global,
-    network: &Network<'_>,
-    query: &Query,
-    found: &F,
-) -> Result<SureSink, Fail>
-    requires of_query { IsOf network.now query.now (F.state found.now) }
-    requires well_found { IsWellFound network.now (limit_of network.now.criteria query.now)
-        (F.state found.now) }
-{
-    let mut room = Room::with(alloc, found.longest())?;
-    let mut text = SureSink::new(alloc);
-    put_answer(
-        &mut text,
-        0,
-        AnswerKind::Walks,
-        query,
-        network,
-        found,
-        &mut room,
-    )?;
-    Ok(text)
-}
-
-/// The reply of the search that isn't directed.
-fn plain_reply(
-    rt: &(impl Threads + Sync + Abort),
-    alloc: Global,
-    drawn: &Drawn,
-) -> Result<SureSink, Fail> {
-    let (graph, weights) = graph(rt, alloc, drawn)?;
-    let network = Network::new(&graph, &weights);
-    let query = query_of(rt, drawn, &network, MAX_BUDGET);
-    let workers = Workers::new(rt, 1, &OpenGate);
-    let found = find(&workers, alloc, &network, &query)?;
-    reply(alloc, &network, &query, &found)
-}
-
-/// The reply of the search that is directed to the target, by so many workers within a budget.
-fn directed_reply<R: Threads + Sync + Abort>(
+/// The reply to that query within a budget.
+fn reply_within<R: Threads + Sync + Abort>(
     rt: &R,
     alloc: Global,
     drawn: &Drawn,
     budget: u32,
-    count: u32,
+    search: Search,
 ) -> Result<Result<SureSink, SearchFault>, Fail> {
     let (graph, weights) = graph(rt, alloc, drawn)?;
     let network = Network::new(&graph, &weights);
     let query = query_of(rt, drawn, &network, budget);
-    assert!(rt; 1 <= count && count <= 64);
-    let workers = Workers::new(rt, count, &OpenGate);
-    match search_toward(&workers, alloc, &network, &query) {
-        Ok(found) => Ok(Ok(reply(alloc, &network, &query, &found)?)),
-        Err(fault) => Ok(Err(fault)),
-    }
+    reply_by(rt, alloc, &network, &query, search)
 }
 
-/// Whether the search within this budget replies what the other one does.
+/// Whether the directed search within this budget sends that reply.
 fn replies_within<R: Threads + Sync + Abort>(
     rt: &R,
     alloc: Global,
     drawn: &Drawn,
     budget: u32,
-    count: u32,
+    reply: &[u8],
 ) -> Result<bool, Fail> {
-    let plain = plain_reply(rt, alloc, drawn)?;
-    match directed_reply(rt, alloc, drawn, budget, count)? {
-        Ok(directed) => Ok(directed.sent() == plain.sent()),
+    match reply_within(rt, alloc, drawn, budget, Search::Directed)? {
+        Ok(directed) => Ok(directed.sent() == reply),
         Err(_) => Ok(false),
     }
 }
 
-/// Whether the search is refused for this budget.
+/// Whether the directed search is refused for this budget.
 fn refuses_at<R: Threads + Sync + Abort>(
     rt: &R,
     alloc: Global,
     drawn: &Drawn,
     budget: u32,
-    count: u32,
 ) -> Result<bool, Fail> {
-    let fault = directed_reply(rt, alloc, drawn, budget, count)?.err();
+    let fault = reply_within(rt, alloc, drawn, budget, Search::Directed)?.err();
     Ok(fault == Some(SearchFault::Budget))
 }
 
-/// The search answers just where the budget is at least the number of goal-relevant pairs, and then as the other one does.
+/// Whether the directed search answers just where the budget is at least the number of goal-relevant pairs, and then as the other
+/// one does.
 fn is_alike<R: Threads + Sync + Abort>(
     rt: &R,
     alloc: Global,
     drawn: &Drawn,
-    count: u32,
+    other: Search,
 ) -> Result<bool, Fail> {
     let exact = count_goal_relevant(alloc, drawn)?;
     let more = exact.saturating_add(1);
-    let is_refused = exact == 0 || refuses_at(rt, alloc, drawn, exact - 1, count)?;
+    let is_refused = exact == 0 || refuses_at(rt, alloc, drawn, exact - 1)?;
+    let plain = reply_within(rt, alloc, drawn, MAX_BUDGET, other)??;
     Ok(
         is_refused
-            && replies_within(rt, alloc, drawn, exact, count)?
-            && replies_within(rt, alloc, drawn, more, count)?,
+            && replies_within(rt, alloc, drawn, exact, plain.sent())?
+            && replies_within(rt, alloc, drawn, more, plain.sent())?,
     )
 }
 
-/// Both searches of the drawn network of this number answer alike, whatever the ties of its costs.
+/// The searches of the drawn network of this number answer alike, whatever the ties of its costs.
 fn compare<R: Threads + Sync + Abort>(rt: &R, alloc: Global, name: u64) -> Result<(), Fail> {
     for ties in [Ties::AsDrawn, Ties::ZeroOrOne, Ties::AllAlike] {
         let drawn = with_ties(draw(alloc, name)?, ties);
-        assert!(rt;
-            is_alike(rt, alloc, &drawn, 1)?,
-            "{name}: {ties:?}, one worker"
-        );
-        assert!(rt;
-            is_alike(rt, alloc, &drawn, 3)?,
-            "{name}: {ties:?}, three workers"
-        );
+        let is_alike = is_alike(rt, alloc, &drawn, Search::Sweep)?;
+        assert!(rt; is_alike, "{name}: {ties:?}, beside the sweep");
     }
+    let drawn = with_ties(draw(alloc, name)?, Ties::ZeroOrOne);
+    let is_alike = is_alike(rt, alloc, &drawn, Search::Rounds(1))?;
+    assert!(rt; is_alike, "{name}: beside the rounds");
     Ok(())
 }
 

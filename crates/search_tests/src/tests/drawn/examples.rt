@@ -1,10 +1,9 @@
 ghost use Rattle.road_network.specs.Queries.{IsQuery};
 
 use super::networks::{Drawn, DrawnArc, graph};
-use answer_writer::put_answer;
+use super::searches::{Search, reply, reply_by};
 use arc_graph::Network;
-use bulk_search::find;
-use road_network::{AnswerKind, MAX_BUDGET, Query, SearchFault};
+use road_network::{MAX_BUDGET, Query, SearchFault};
 use route_io::sure::SureSink;
 use route_io::{Gate, Phase};
 use std::alloc::Global;
@@ -12,21 +11,25 @@ use std::process::Abort;
 use std::sync::atomic::{AtomicU64, Ordering};
 use std::test::Fail;
 use std::thread::Threads;
-use walk_readback::{FoundCosts, Room};
 use work_claim::Workers;
 
-/// A graph, a query, its reply with walks, how many relevant pairs it has, and how many pieces its rounds relax and merge, worked
-/// out by hand.
+/// A graph, a query, its reply with walks, how many relevant and goal-relevant pairs it has, and how many pieces its rounds relax and
+/// merge, worked out by hand.
 struct Example {
     name: &'static str,
+    criteria: usize,
     nodes: u32,
     arcs: &'static [DrawnArc],
     from: u32,
     to: u32,
     reply: &'static str,
     relevant: u32,
+    goal_relevant: u32,
     pieces: (u64, u64),
 }
+
+/// The greatest weight.
+const MOST: u32 = u32::MAX;
 
 /// Two ways from node 1 to 4, an arc between them, and an arc past both.
 const DIAMOND: [DrawnArc; 6] = [
@@ -41,36 +44,43 @@ const DIAMOND: [DrawnArc; 6] = [
 const EXAMPLES: &[Example] = &[
     Example {
         name: "two trade-offs",
+        criteria: 2,
         nodes: 4,
         arcs: &DIAMOND,
         from: 1,
         to: 4,
         reply: "r 0 1 4 2\np 2 8 2 1 3\np 4 2 2 2 4\n",
         relevant: 5,
+        goal_relevant: 5,
         pieces: (3, 5),
     },
     Example {
         name: "equal ends",
+        criteria: 2,
         nodes: 4,
         arcs: &DIAMOND,
         from: 4,
         to: 4,
         reply: "r 0 4 4 1\np 0 0 0\n",
         relevant: 1,
+        goal_relevant: 1,
         pieces: (1, 0),
     },
     Example {
         name: "out of reach",
+        criteria: 2,
         nodes: 4,
         arcs: &DIAMOND,
         from: 4,
         to: 1,
         reply: "r 0 4 1 0\n",
         relevant: 1,
+        goal_relevant: 0,
         pieces: (1, 0),
     },
     Example {
         name: "of two walks of one cost, the backward-least",
+        criteria: 2,
         nodes: 4,
         arcs: &[
             [1, 2, 1, 1, 0, 0],
@@ -82,20 +92,24 @@ const EXAMPLES: &[Example] = &[
         to: 4,
         reply: "r 0 1 4 1\np 2 2 2 2 3\n",
         relevant: 4,
+        goal_relevant: 4,
         pieces: (3, 3),
     },
     Example {
         name: "of two equal arcs, the first",
+        criteria: 2,
         nodes: 2,
         arcs: &[[1, 2, 5, 5, 0, 0], [1, 2, 5, 5, 0, 0]],
         from: 1,
         to: 2,
         reply: "r 0 1 2 1\np 5 5 1 1\n",
         relevant: 2,
+        goal_relevant: 2,
         pieces: (2, 1),
     },
     Example {
         name: "components that are zero",
+        criteria: 2,
         nodes: 3,
         arcs: &[
             [1, 2, 0, 3, 0, 0],
@@ -107,7 +121,99 @@ const EXAMPLES: &[Example] = &[
         to: 3,
         reply: "r 0 1 3 3\np 0 6 2 1 3\np 3 3 2 2 3\np 6 0 2 2 4\n",
         relevant: 6,
+        goal_relevant: 6,
         pieces: (3, 2),
+    },
+    Example {
+        name: "a chain whose first components are zero",
+        criteria: 2,
+        nodes: 4,
+        arcs: &[
+            [1, 2, 0, 2, 0, 0],
+            [2, 3, 0, 2, 0, 0],
+            [3, 4, 0, 2, 0, 0],
+            [1, 4, 1, 1, 0, 0],
+            [1, 3, 0, 5, 0, 0],
+        ],
+        from: 1,
+        to: 4,
+        reply: "r 0 1 4 2\np 0 6 3 1 2 3\np 1 1 1 4\n",
+        relevant: 5,
+        goal_relevant: 5,
+        pieces: (4, 5),
+    },
+    Example {
+        name: "a best cost whose rest a later one covers",
+        criteria: 3,
+        nodes: 3,
+        arcs: &[
+            [1, 2, 1, 5, 5, 0],
+            [1, 2, 2, 4, 4, 0],
+            [2, 3, 1, 1, 1, 0],
+            [1, 2, 2, 5, 3, 0],
+        ],
+        from: 1,
+        to: 3,
+        reply: "r 0 1 3 3\np 2 6 6 2 1 3\np 3 5 5 2 2 3\np 3 6 4 2 4 3\n",
+        relevant: 7,
+        goal_relevant: 7,
+        pieces: (3, 2),
+    },
+];
+
+/// Costs of more than 32 bits, in each component of some query.
+const WIDE: &[Example] = &[
+    Example {
+        name: "two wide components",
+        criteria: 2,
+        nodes: 3,
+        arcs: &[
+            [1, 2, MOST, 1, 0, 0],
+            [1, 2, 1, MOST, 0, 0],
+            [2, 3, MOST, 1, 0, 0],
+            [2, 3, 1, MOST, 0, 0],
+        ],
+        from: 1,
+        to: 3,
+        reply: "r 0 1 3 3\np 2 8589934590 2 2 4\np 4294967296 4294967296 2 2 3\np 8589934590 2 2 1 3\n",
+        relevant: 6,
+        goal_relevant: 6,
+        pieces: (4, 2),
+    },
+    Example {
+        name: "three components, the last one wide",
+        criteria: 3,
+        nodes: 3,
+        arcs: &[
+            [1, 2, 1, 2, MOST, 0],
+            [1, 2, 2, 1, MOST, 0],
+            [2, 3, 1, 1, MOST, 0],
+        ],
+        from: 1,
+        to: 3,
+        reply: "r 0 1 3 2\np 2 3 8589934590 2 1 3\np 3 2 8589934590 2 2 3\n",
+        relevant: 5,
+        goal_relevant: 5,
+        pieces: (4, 2),
+    },
+    Example {
+        name: "four components, the last one wide",
+        criteria: 4,
+        nodes: 3,
+        arcs: &[
+            [1, 2, 1, 2, 0, MOST],
+            [1, 2, 2, 1, 0, MOST],
+            [2, 3, 1, 1, 1, MOST],
+            [2, 3, 1, 1, MOST, 1],
+        ],
+        from: 1,
+        to: 3,
+        reply: "r 0 1 3 4\n\
+            p 2 3 1 8589934590 2 1 3\np 2 3 4294967295 4294967296 2 1 4\n\
+            p 3 2 1 8589934590 2 2 3\np 3 2 4294967295 4294967296 2 2 4\n",
+        relevant: 7,
+        goal_relevant: 7,
+        pieces: (4, 2),
     },
 ];
 
@@ -118,8 +224,9 @@ fn drawn(alloc: Global, example: &Example) -> Result<Drawn, Fail> {
         arcs.push(*arc)?;
     }
     let mut limit = Vec::new(alloc);
-    limit.push(None)?;
-    limit.push(None)?;
+    for _ in 0..example.criteria {
+        limit.push(None)?;
+    }
     Ok(Drawn {
         name: 0,
         nodes: example.nodes,
@@ -157,9 +264,9 @@ fn no_pieces() -> Counts {
     }
 }
 
-/// Searches by so many workers, and compares the reply and the number of pieces. With a budget of one less than the relevant
+/// Searches by rounds of so many workers, and compares the reply and the number of pieces. With a budget of one less than the relevant
 /// pairs the query is refused.
-fn compare<R: Threads + Sync + Abort>(
+fn compare_rounds<R: Threads + Sync + Abort>(
     rt: &R,
     alloc: Global,
     example: &Example,
@@ -172,28 +279,63 @@ fn compare<R: Threads + Sync + Abort>(
     let query = query_of(rt, example, &network, example.relevant);
     let counts = no_pieces();
     let workers = Workers::new(rt, count, &counts);
-    let found = find(&workers, alloc, &network, &query)?;
+    let found = bulk_search::find(&workers, alloc, &network, &query)?;
     let pieces = (
         counts.relaxes.load(Ordering::SeqCst),
         counts.merges.load(Ordering::SeqCst),
     );
-    assert!(rt; pieces == example.pieces, "{name}: pieces");
-    let mut room = Room::with(alloc, found.longest())?;
-    let mut text = SureSink::new(alloc);
-    let sent = put_answer(
-        &mut text,
-        0,
-        AnswerKind::Walks,
-        &query,
-        &network,
-        &found,
-        &mut room,
+    assert!(rt; pieces == example.pieces, "{name}: pieces {pieces:?}");
+    let text = reply(alloc, &network, &query, &found)?;
+    assert!(rt;
+        text.sent() == example.reply.as_bytes(),
+        "{name}: the reply"
     );
-    let is_sent = sent.is_ok() && text.sent() == example.reply.as_bytes();
-    assert!(rt; is_sent, "{name}: the reply");
     let less = query_of(rt, example, &network, example.relevant - 1);
-    let refused = find(&workers, alloc, &network, &less).err();
+    let refused = bulk_search::find(&workers, alloc, &network, &less).err();
     assert!(rt; refused == Some(SearchFault::Budget), "{name}: refusal");
+    Ok(())
+}
+
+/// The reply to the query of an example after such a search within a budget, or why it was refused.
+fn reply_within<R: Threads + Sync + Abort>(
+    rt: &R,
+    alloc: Global,
+    example: &Example,
+    search: Search,
+    budget: u32,
+) -> Result<Result<SureSink, SearchFault>, Fail> {
+    let (graph, weights) = graph(rt, alloc, &drawn(alloc, example)?)?;
+    let network = Network::new(&graph, &weights);
+    let query = query_of(rt, example, &network, budget);
+    reply_by(rt, alloc, &network, &query, search)
+}
+
+/// Whether such a search is refused for this budget.
+fn refuses_at<R: Threads + Sync + Abort>(
+    rt: &R,
+    alloc: Global,
+    example: &Example,
+    search: Search,
+    budget: u32,
+) -> Result<bool, Fail> {
+    let fault = reply_within(rt, alloc, example, search, budget)?.err();
+    Ok(fault == Some(SearchFault::Budget))
+}
+
+/// Compares the reply after such a search within a budget that just suffices. With one less the query is refused.
+fn compare<R: Threads + Sync + Abort>(
+    rt: &R,
+    alloc: Global,
+    example: &Example,
+    search: Search,
+    budget: u32,
+) -> Result<(), Fail> {
+    let name = example.name;
+    let text = reply_within(rt, alloc, example, search, budget)??;
+    let is_sent = text.sent() == example.reply.as_bytes();
+    assert!(rt; is_sent, "{name}: the reply by {search:?}");
+    let is_refused = budget == 0 || refuses_at(rt, alloc, example, search, budget - 1)?;
+    assert!(rt; is_refused, "{name}: the refusal by {search:?}");
     Ok(())
 }
 
@@ -201,7 +343,7 @@ fn compare<R: Threads + Sync + Abort>(
 fn query_of(rt: &impl Abort, example: &Example, network: &Network<'_>, budget: u32) -> Query
     ensures { IsQuery network.now result }
 {
-    assert!(rt; network.criteria() == 2 && budget <= MAX_BUDGET);
+    assert!(rt; budget <= MAX_BUDGET);
     assert!(rt; network.has_node(example.from) && network.has_node(example.to));
     Query {
         from: example.from,
@@ -215,16 +357,22 @@ fn examples() -> &'static [Example] {
     EXAMPLES
 }
 
-/// Each example, by one worker and by several.
+fn wide_examples() -> &'static [Example] {
+    WIDE
+}
+
+/// Each example, by rounds of one worker and of several, and by the sweeps.
 fn compare_all<R: Threads + Sync + Abort>(
     rt: &R,
     alloc: Global,
     examples: &[Example],
 ) -> Result<(), Fail> {
     for example in examples {
-        compare(rt, alloc, example, 1)?;
-        compare(rt, alloc, example, 3)?;
-        compare(rt, alloc, example, 64)?;
+        for count in [1, 3, 64] {
+            compare_rounds(rt, alloc, example, count)?;
+        }
+        compare(rt, alloc, example, Search::Sweep, example.relevant)?;
+        compare(rt, alloc, example, Search::Directed, example.goal_relevant)?;
     }
     Ok(())
 }
@@ -232,4 +380,9 @@ fn compare_all<R: Threads + Sync + Abort>(
 #[test]
 fn answers_worked_examples(rt: HostRuntime) -> Result<(), Fail> {
     compare_all(&rt, rt.alloc(), examples())
+}
+
+#[test]
+fn answers_worked_examples_of_wide_costs(rt: HostRuntime) -> Result<(), Fail> {
+    compare_all(&rt, rt.alloc(), wide_examples())
 }

@@ -1,57 +1,49 @@
 ghost use Rattle.std.specs.Prelude.{◌≡◌};
 ghost use Rattle.road_network.specs.Queries.{IsQuery};
 
-use super::networks::{Drawn, draw, graph};
+use super::networks::{Drawn, Ties, draw, graph, with_ties};
+use super::searches::{Search, reply_by};
 use super::walks::{Sums, Walk, Wanted, enumerate, wanted_reply};
-use answer_writer::put_answer;
 use arc_graph::Network;
-use bulk_search::find;
 use cost_vector::{Cost, Limit};
 use plain_search::plain_search;
-use road_network::{AnswerKind, MAX_BUDGET, Query, SearchFault};
-use route_io::OpenGate;
-use route_io::sure::SureSink;
+use road_network::{MAX_BUDGET, Query, SearchFault};
 use std::alloc::Global;
 use std::process::Abort;
 use std::test::Fail;
 use std::thread::Threads;
-use walk_readback::{FoundCosts, Room};
-use work_claim::Workers;
 
 /// How many networks are drawn.
 const NETWORKS: u64 = 240;
 
-/// Searches by so many workers, and compares the reply with what is wanted. With a budget of one less than the relevant pairs
-/// the query is refused.
+/// One of so many is also searched by as many workers as there can be, whose threads take most of the time.
+const MANY_WORKERS_EACH: u64 = 8;
+
+/// Compares the reply after such a search with the one that is wanted. With a budget of one less than the relevant pairs the query
+/// is refused.
 fn compare<R: Threads + Sync + Abort>(
     rt: &R,
     alloc: Global,
     drawn: &Drawn,
     wanted: &Wanted,
-    count: u32,
+    search: Search,
 ) -> Result<(), Fail> {
     let (graph, weights) = graph(rt, alloc, drawn)?;
     let network = Network::new(&graph, &weights);
-    assert!(rt; 1 <= wanted.relevant && 1 <= count && count <= 64);
+    assert!(rt; 1 <= wanted.relevant);
     let query = query_of(rt, drawn, &network, wanted.relevant);
-    let workers = Workers::new(rt, count, &OpenGate);
-    let found = find(&workers, alloc, &network, &query)?;
-    let mut room = Room::with(alloc, found.longest())?;
-    let mut text = SureSink::new(alloc);
-    let kind = AnswerKind::Walks;
-    let sent = put_answer(&mut text, 0, kind, &query, &network, &found, &mut room);
-    let reply = wanted_reply(alloc, drawn, wanted)?;
-    let is_sent = sent.is_ok() && text.sent() == reply.as_bytes();
+    let text = reply_by(rt, alloc, &network, &query, search)??;
+    let is_sent = text.sent() == wanted_reply(alloc, drawn, wanted)?.as_bytes();
     let less = query_of(rt, drawn, &network, wanted.relevant - 1);
-    let refused = find(&workers, alloc, &network, &less).err();
+    let refused = reply_by(rt, alloc, &network, &less, search)?.err();
     let is_refused = refused == Some(SearchFault::Budget);
-    assert_both(rt, is_sent, is_refused, drawn.name, count);
+    assert_both(rt, is_sent, is_refused, drawn.name, search);
     Ok(())
 }
 
-fn assert_both(rt: &impl Abort, is_sent: bool, is_refused: bool, name: u64, count: u32) {
-    assert!(rt; is_sent, "{name}: the reply by {count} workers");
-    assert!(rt; is_refused, "{name}: the refusal by {count} workers");
+fn assert_both(rt: &impl Abort, is_sent: bool, is_refused: bool, name: u64, search: Search) {
+    assert!(rt; is_sent, "{name}: the reply by {search:?}");
+    assert!(rt; is_refused, "{name}: the refusal by {search:?}");
 }
 
 /// The query of a drawn network: from its first node to its last.
@@ -124,15 +116,27 @@ fn compare_plainly(
 fn compare_drawn<R: Threads + Sync + Abort>(rt: &R, alloc: Global, name: u64) -> Result<(), Fail> {
     let drawn = draw(alloc, name)?;
     let wanted = enumerate(alloc, &drawn)?;
-    for count in 1..4 {
-        compare(rt, alloc, &drawn, &wanted, count)?;
+    for count in [1, 2, 3] {
+        compare(rt, alloc, &drawn, &wanted, Search::Rounds(count))?;
     }
+    if name % MANY_WORKERS_EACH == 0 {
+        compare(rt, alloc, &drawn, &wanted, Search::Rounds(64))?;
+    }
+    compare(rt, alloc, &drawn, &wanted, Search::Sweep)?;
     compare_plainly(rt, alloc, &drawn, &wanted)
+}
+
+/// The sweep of that network finds what an enumeration does where many costs tie.
+fn compare_ties<R: Threads + Sync + Abort>(rt: &R, alloc: Global, name: u64) -> Result<(), Fail> {
+    let drawn = with_ties(draw(alloc, name)?, Ties::ZeroOrOne);
+    let wanted = enumerate(alloc, &drawn)?;
+    compare(rt, alloc, &drawn, &wanted, Search::Sweep)
 }
 
 fn compare_all<R: Threads + Sync + Abort>(rt: &R, alloc: Global) -> Result<(), Fail> {
     for name in 0..NETWORKS {
         compare_drawn(rt, alloc, name)?;
+        compare_ties(rt, alloc, name)?;
     }
     Ok(())
 }

@@ -1,0 +1,106 @@
+//! Searches of several forms, each with the reply that it leads to.
+ghost use Rattle.road_network.specs.Queries.{IsQuery, limit_of};
+ghost use Rattle.walk_readback.specs.Found.{IsOf, IsWellFound};
+
+use answer_writer::put_answer;
+use arc_graph::Network;
+use road_network::{AnswerKind, Query, SearchFault};
+use route_io::sure::SureSink;
+use route_io::{Gate, Phase};
+use std::alloc::Global;
+use std::process::Abort;
+use std::test::Fail;
+use std::thread::Threads;
+use walk_readback::{FoundCosts, Room};
+use work_claim::Workers;
+
+/// Has all work shared, however little.
+#[derive(Drop)]
+struct AllShared;
+
+impl Gate for AllShared {
+    const SHARED_FROM: usize = 0;
+
+    ghost SHARED_FROM = { 0 };
+
+    fn pass(&self, _phase: Phase, _piece: u64) {}
+}
+
+/// A form of search.
+#[derive(Clone, Copy, Debug)]
+pub(super) enum Search {
+    /// In rounds, by so many workers.
+    Rounds(u32),
+    /// In the order of cost.
+    Sweep,
+    /// In the order of cost, directed to the target.
+    Directed,
+}
+
+/// The reply to a query after such a search, or why it was refused.
+pub(super) fn reply_by<R: Threads + Sync + Abort>(
+    rt: &R,
+    alloc: Global,
+    network: &Network<'_>,
+    query: &Query,
+    search: Search,
+) -> Result<Result<SureSink, SearchFault>, Fail>
+    requires { IsQuery network.now query.now }
+{
+    match search {
+        Search::Rounds(count) => reply_by_rounds(rt, alloc, network, query, count),
+        Search::Sweep => match sweep_search::find(alloc, network, query) {
+            Ok(found) => Ok(Ok(reply(alloc, network, query, &found)?)),
+            Err(fault) => Ok(Err(fault)),
+        },
+        Search::Directed => {
+            assert!(rt; query.limit.is_none());
+            match sweep_search::search_toward(alloc, network, query) {
+                Ok(found) => Ok(Ok(reply(alloc, network, query, &found)?)),
+                Err(fault) => Ok(Err(fault)),
+            }
+        }
+    }
+}
+
+fn reply_by_rounds<R: Threads + Sync + Abort>(
+    rt: &R,
+    alloc: Global,
+    network: &Network<'_>,
+    query: &Query,
+    count: u32,
+) -> Result<Result<SureSink, SearchFault>, Fail>
+    requires { IsQuery network.now query.now }
+{
+    assert!(rt; 1 <= count && count <= 64);
+    let workers = Workers::new(rt, count, &AllShared);
+    match bulk_search::find(&workers, alloc, network, query) {
+        Ok(found) => Ok(Ok(reply(alloc, network, query, &found)?)),
+        Err(fault) => Ok(Err(fault)),
+    }
+}
+
+/// The reply of what was found for a query.
+pub(super) fn reply<F: FoundCosts>(
+    alloc: Global,
+    network: &Network<'_>,
+    query: &Query,
+    found: &F,
+) -> Result<SureSink, Fail>
+    requires of_query { IsOf network.now query.now (F.state found.now) }
+    requires well_found { IsWellFound network.now (limit_of network.now.criteria query.now)
+        (F.state found.now) }
+{
+    let mut room = Room::with(alloc, found.longest())?;
+    let mut text = SureSink::new(alloc);
+    put_answer(
+        &mut text,
+        0,
+        AnswerKind::Walks,
+        query,
+        network,
+        found,
+        &mut room,
+    )?;
+    Ok(text)
+}

@@ -1,8 +1,8 @@
 -- What the searches for the components say of bounds.
-use Rattle.std.proofs.Common.{◌≡◌, ℕ, ◌+◌, ◌^◌, ◌<◌, ◌≤◌, List, [], ◌∷◌, ◌++◌, length, get_or, set, take, inl, inr, sym, subst, ◌∙◌, arith}
+use Rattle.std.proofs.Common.{◌≡◌, ℕ, ◌+◌, ◌^◌, ◌<◌, ◌≤◌, List, [], ◌∷◌, ◌++◌, length, get_or, set, inl, inr, sym, subst, ◌∙◌, arith}
 use Rattle.std.specs.Prelude.{All}
 use Rattle.std.proofs.lemmas.Bool.{cases_eq, cases_lt}
-use Rattle.std.proofs.lemmas.List.{get_or_append_left, get_or_default, get_or-take, length-take-le, get_or-set_same, get_or-set_other, length-set}
+use Rattle.std.proofs.lemmas.List.{get_or_append_left, get_or_default, get_or-set_same, get_or-set_other, length-set}
 use Rattle.std.proofs.Math.Seq.{get_or-append_seam}
 use Rattle.std.proofs.lemmas.List.Elements.{AllZip-get_or}
 use Rattle.cost_vector.proofs.Components.{AtMost_from_places}
@@ -35,15 +35,6 @@ module _ (net : Network) (road : IsRoadNetwork net) (v t : ℕ) where
 -- the numbers so far are the least components of the criteria so far
 pub record AreLeastBefore (net : Network) (v t count : ℕ) (components : List ℕ) : Type 0 where
   pub each : (i : ℕ) → i < count → IsLeastOf net v t i (get_or components i 0)
-
--- so those of all criteria, at the front of the places, are the bound
-pub bound_of_components : (net : Network) → IsRoadNetwork net → (v t count : ℕ) (components : List ℕ) → count ≡ net.criteria → net.criteria ≤ length components
-    → AreLeastBefore net v t count components → IsBound net v t (take count components)
-bound_of_components net road v t count components all room least =
-    let whole : length (take count components) ≡ net.criteria = length-take-le count components (omega (arith, all, room)) ∙ all in
-    bound_of_least net road v t (take count components) whole
-    (λ j within. let inside : j < count = omega (arith, all, within) in
-    subst (IsLeastOf net v t j) (sym (get_or-take count components j 0 inside)) (least.each j inside))
 
 -- the same search, which has gone on
 pub still_reverse : (net : Network) (t j : ℕ) (before after : ReverseSearch) → IsReverse net t j before → IsReverse net before.target before.criterion after

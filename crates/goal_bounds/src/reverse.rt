@@ -77,6 +77,7 @@ impl ReverseSearch {
 
     /// The least component that walks from the node to the target have, or `None` where none leads there. The search goes on
     /// until it is known.
+    #[inline(always)]
     pub fn least(&mut self, network: &Network<'_>, node: NodeNo) -> Result<Option<u64>, OutOfMemory>
         requires node { IsNode network.now.nodes node.0 }
         requires reverse { IsReverse network.now self.old.target self.old.criterion self.old }
@@ -99,6 +100,7 @@ impl ReverseSearch {
     }
 
     /// Whether no item that waits is less than what is known for the node.
+    #[inline(always)]
     fn is_final(&self, node: NodeNo) -> bool
         requires { node.0 < length self.now.values }
         ensures { IsTrue result ↔ IsFinal self.now node.0 }

@@ -4,7 +4,7 @@ ghost use Rattle.goal_bounds.specs.Bounds.{IsBoundIfAny, IsBoundSearch};
 
 use crate::reverse::ReverseSearch;
 use arc_graph::Network;
-use cost_vector::{Cost, MAX_CRITERIA, NodeNo};
+use cost_vector::{Cost, NodeNo};
 use out_of_memory::OutOfMemory;
 use std::alloc::Global;
 use std::marker::Model;
@@ -50,6 +50,7 @@ impl BoundSearch {
     }
 
     /// The bound of a node, or `None` where no walk leads from it to the target. The search is that of the same network.
+    #[inline(always)]
     pub fn bound(
         &mut self,
         network: &Network<'_>,
@@ -60,15 +61,35 @@ impl BoundSearch {
         ensures search { OnOk result (IsBoundSearch network.now self.old.target self.new) }
         ensures exact { IfOk result (IsBoundIfAny network.now node.0 self.old.target) }
     {
+        match network.criteria() {
+            2 => self.bound_in::<2>(network, node),
+            3 => self.bound_in::<3>(network, node),
+            _ => self.bound_in::<4>(network, node),
+        }
+    }
+
+    /// The same where the number of criteria is known.
+    #[inline(always)]
+    fn bound_in<const D: usize>(
+        &mut self,
+        network: &Network<'_>,
+        node: NodeNo,
+    ) -> Result<Option<Cost>, OutOfMemory>
+        requires criteria { network.now.criteria ≡ D }
+        requires node { IsNode network.now.nodes node.0 }
+        requires search { IsBoundSearch network.now self.old.target self.old }
+        ensures search { OnOk result (IsBoundSearch network.now self.old.target self.new) }
+        ensures exact { IfOk result (IsBoundIfAny network.now node.0 self.old.target) }
+    {
         prove!(network.nodes() >= 1);
-        let mut components = [0; MAX_CRITERIA];
-        let count = network.criteria();
-        for j in 0..count {
+        prove!(network.criteria() == D);
+        let mut components = [0; D];
+        for j in 0..D {
             let Some(least) = self.searches[j].least(network, node)? else {
                 return Ok(None);
             };
             components[j] = least;
         }
-        Ok(Some(Cost::of_numbers(&components[..count])))
+        Ok(Some(Cost::of_numbers(&components)))
     }
 }

@@ -15,7 +15,8 @@ use Rattle.settled_front.specs.Fronts.{IsCovered}
 use Rattle.settled_front.specs.Staircase.{IsStaircase, IsUpTo, first, second}
 use Rattle.settled_front.proofs.Covers.{covers_at}
 use Rattle.settled_front.proofs.Stairs.{last_decides}
-use Rattle.settled_list.specs.Stairs.{IsPlaceFor, PutsIn}
+use Rattle.settled_list.specs.Stairs.{IsPlaceFor, PutsIn, SecondsFit}
+use Rattle.settled_list.specs.declared.staircase.Rest.{Rest}
 
 -- a pair is at most another exactly if both components are
 pub pair_at_most : (a b : List ℕ) → length a ≡ 2 → length b ≡ 2 → AtMost a b ↔ ((first a ≤ first b) × (second a ≤ second b))
@@ -25,6 +26,14 @@ pair_at_most _ _ long long_too = absurd (omega arith)
 -- what stands for others is seen so too
 pub map-splice : {X Y : Type 0} (f : X → Y) (xs : List X) (i j : ℕ) (x : X) → map f (splice xs i j (x ∷ [])) ≡ splice (map f xs) i j (f x ∷ [])
 map-splice f xs i j x = map-append f (take i xs) (x ∷ drop j xs) ∙ (λ t. sym (take-map f i xs) t ++ f x ∷ sym (drop-map f j xs) t)
+
+-- a rest that fits joins those that do
+pub seconds_put : {P : Type 0} (value : P → ℕ) (bound : ℕ) (rests : List (Rest P)) (r : Rest P) (start end : ℕ) → SecondsFit value bound rests
+    → value r.second < bound → SecondsFit value bound (splice rests start end (r ∷ []))
+seconds_put {P} value bound rests r start end fit fits =
+    let Fits = λ (x : Rest P). value x.second < bound in
+    All-append Fits (take start rests) (r ∷ drop end rests) (All-take Fits start rests fit)
+    (All-cons Fits r (drop end rests) fits (All-drop Fits end rests fit))
 
 -- of those with a first component that isn't greater the last one decides, by its second
 pub last_second_of_pairs : {pairs : List (List ℕ)} → IsStaircase pairs → (r : List ℕ) → length r ≡ 2 → (place : ℕ) → IsUpTo pairs (first r) place → 0 < place

@@ -1,22 +1,14 @@
 -- A search among stored pairs that stand as a staircase.
-use Rattle.std.proofs.Common.{◌≡◌, ◌↔◌, ℕ, ◌<◌, ◌≤◌, List, [], length, get_or, map, true, false, inl, inr, refl, sym, ◌∙◌, arith, Bool, leb, ltb}
-use Rattle.std.specs.Prelude.{IsTrue}
+use Rattle.std.proofs.Common.{◌≡◌, ℕ, ◌<◌, ◌≤◌, List, [], length, get_or, map, true, false, inl, inr, refl, arith, ltb}
 use Rattle.std.specs.List.{AllWithin}
 use Rattle.std.specs.List.Sorted.{IsNonDecreasingBy, IsPartitionPoint}
-use Rattle.std.proofs.lemmas.Bool.{cases_Bool, cases_lt, iff_false, le-leb, leb-false, leb-true, lt-leb, ltb-false, ltb-true}
+use Rattle.std.proofs.lemmas.Bool.{cases_lt, ltb-false, ltb-true}
 use Rattle.std.proofs.lemmas.List.{get_or-map, length-map}
 use Rattle.std.proofs.lemmas.Option.{slice_get_cases}
-use Rattle.settled_front.specs.Staircase.{IsStaircase, IsUpTo, first, second}
+use Rattle.settled_front.specs.Staircase.{IsStaircase, first, second}
 use Rattle.settled_list.specs.Stairs.{IsPlaceFor, as_pair}
 use Rattle.settled_list.specs.declared.staircase.Rest.{Rest}
 use Rattle.settled_list.proofs.Places.{pair_at_most}
-
--- a test by its contract
-pub leb_from_iff : {b : Bool} {m n : ℕ} → (IsTrue b ↔ (m ≤ n)) → b ≡ leb m n
-leb_from_iff {b} {m} {n} tells = elim (cases_Bool b) [
-  | inl holds ↦ holds ∙ sym (le-leb m n (tells.0 holds))
-  | inr fails ↦ fails ∙ sym (lt-leb m n (omega (arith, iff_false tells fails)))
-]
 
 module _ {P : Type 0} (value : P → ℕ) (rests : List (Rest P)) (s : IsStaircase (map (as_pair value) rests)) where
   abbrev pairs : List (List ℕ)
@@ -39,22 +31,6 @@ module _ {P : Type 0} (value : P → ℕ) (rests : List (Rest P)) (s : IsStairca
         | inl before ↦ omega (arith, here, there, (s.descends i j [] before (omega (arith, within, length-map rests (as_pair value)))).0)
         | inr same ↦ let is : i ≡ j = omega (arith, order, same) in rw is (omega arith)
       ]
-
-  -- by the test whether the second component isn't greater
-  pub up_to_from : (t i : ℕ) → i ≤ length rests → IsPartitionPoint (λ r. leb (value r.second) t ≡ true) (λ r. leb (value r.second) t ≡ false) rests i
-      → IsUpTo pairs t i
-  up_to_from t i within point = record {
-    left = omega arith;
-    within = omega (arith, within, length-map rests (as_pair value));
-    before = λ k near.
-        let inside : k < length rests = omega (arith, near, within) in
-        let d = some_at k inside in
-        omega (arith, (pair_at k d inside).0, leb-true (value (get_or rests k d).second) t (point.0 k d (omega arith) (omega (arith, near))));
-    after = λ k far inside_too.
-        let inside : k < length rests = omega (arith, inside_too, length-map rests (as_pair value)) in
-        let d = some_at k inside in
-        omega (arith, (pair_at k d inside).0, leb-false (value (get_or rests k d).second) t (point.1 k d far inside));
-  }
 
   -- by the test whether it is less
   pub below_from : (t i : ℕ) → IsPartitionPoint (λ r. ltb (value r.second) t ≡ true) (λ r. ltb (value r.second) t ≡ false) rests i

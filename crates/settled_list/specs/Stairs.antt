@@ -1,5 +1,5 @@
 -- Costs of three components without their first one, as a staircase.
-use Rattle.std.specs.Prelude.{ℕ, ◌<◌, ◌≤◌, List, [], ◌∷◌, length, slice_index_or}
+use Rattle.std.specs.Prelude.{ℕ, ◌<◌, ◌≤◌, List, [], ◌∷◌, length, slice_index_or, All}
 use Rattle.list_laws.specs.Sets.{SameMembers}
 use Rattle.list_laws.specs.Without.{IsWithout}
 use Rattle.cost_vector.specs.Costs.{AtMost}
@@ -9,6 +9,10 @@ use Rattle.settled_list.specs.declared.staircase.Rest.{Rest}
 -- the two components that are stored
 abbrev pub as_pair : {P : Type 0} → (P → ℕ) → Rest P → List ℕ
 as_pair value r = value r.second ∷ value r.third ∷ []
+
+-- their first stored components are below the bound
+abbrev pub SecondsFit : {P : Type 0} → (P → ℕ) → ℕ → List (Rest P) → Type 0
+SecondsFit value bound rests = All (λ r. value r.second < bound) rests
 
 -- where r belongs in a staircase: those before it are less in the first component, those behind it
 -- in the second, and it is at most those between

@@ -3,7 +3,7 @@ ghost use Rattle.std.specs.List.{splice};
 ghost use Rattle.std.specs.List.Sorted.{IsPartitionPoint};
 ghost use Rattle.settled_front.specs.Fronts.{IsCovered};
 ghost use Rattle.settled_front.specs.Staircase.{IsStaircase, IsUpTo};
-ghost use Rattle.settled_list.specs.Stairs.{IsPlaceFor, PutsIn, as_pair};
+ghost use Rattle.settled_list.specs.Stairs.{IsPlaceFor, PutsIn, SecondsFit, as_pair};
 
 use out_of_memory::OutOfMemory;
 use std::alloc::Global;
@@ -27,13 +27,14 @@ pub(crate) struct Staircase<P: Part> {
 impl<P: Part> Model for Staircase<P> {
     ghost use Rattle.std.specs.Prelude.{ℕ, List, map};
     ghost use Rattle.settled_front.specs.Staircase.{IsStaircase};
-    ghost use Rattle.settled_list.specs.Stairs.{as_pair};
+    ghost use Rattle.settled_list.specs.Stairs.{SecondsFit, as_pair};
 
     ghost Value = { List (List ℕ) };
 
     ghost view = { λ s. map (as_pair P.value) s.rests.items };
 
-    ghost invariant = { λ s. IsStaircase (map (as_pair P.value) s.rests.items) };
+    ghost invariant = { λ s. IsStaircase (map (as_pair P.value) s.rests.items)
+        × SecondsFit P.value P.bound s.rests.items };
 }
 
 impl<P: Part> Staircase<P> {
@@ -48,6 +49,7 @@ impl<P: Part> Staircase<P> {
 
     /// Whether a rest is at most this one.
     pub(crate) fn covers(&self, rest: &Rest<P>) -> bool
+        requires fits { P.value rest.now.second < P.bound }
         ensures { IsTrue result ↔ IsCovered self.now (as_pair P.value rest.now) }
     {
         let place = up_to(&self.rests, rest.second);
@@ -56,6 +58,7 @@ impl<P: Part> Staircase<P> {
 
     /// Puts in this rest, which none is at most. Those that it is at most go.
     pub(crate) fn put(&mut self, rest: Rest<P>) -> Result<(), OutOfMemory>
+        requires fits { P.value rest.second < P.bound }
         requires uncovered { ¬ IsCovered self.old (as_pair P.value rest) }
         ensures put { IfOk result (λ _. PutsIn self.old (as_pair P.value rest) self.new) }
         ensures same { OnErr result (self.new ≡ self.old) }
@@ -66,16 +69,22 @@ impl<P: Part> Staircase<P> {
     }
 }
 
-/// How many rests have a second component that isn't greater.
+/// How many rests have a second component that isn't greater. The search has no branch that couldn't be foreseen: of the rests that
+/// are left the later half goes where its first one is greater.
 fn up_to<P: Part>(rests: &[Rest<P>], second: P) -> usize
-    requires { IsStaircase (map (as_pair P.value) rests.now) }
+    requires stairs { IsStaircase (map (as_pair P.value) rests.now) }
+    requires seconds { SecondsFit P.value P.bound rests.now }
+    requires fits { P.value second < P.bound }
     ensures { IsUpTo (map (as_pair P.value) rests.now) (P.value second) result }
 {
-    rests.partition_point(
-        |rest| -> bool
-            ensures { IsTrue result ↔ (P.value rest.now.second ≤ P.value second) }
-        { rest.second.is_at_most(second) },
-    )
+    let mut end = rests.len();
+    let mut size = rests.len();
+    while size > 0 {
+        let half = size - size / 2;
+        end -= half * second.less_bit(rests[end - half].second);
+        size -= half;
+    }
+    end
 }
 
 /// How many rests have a lesser second component.

@@ -1,4 +1,4 @@
-ghost use Rattle.std.specs.Prelude.{◌≡◌, length};
+ghost use Rattle.std.specs.Prelude.{◌≡◌, ◌<◌, length};
 ghost use Rattle.settled_list.specs.Ascending.{rest};
 ghost use Rattle.settled_list.specs.Stairs.{as_pair};
 
@@ -66,6 +66,7 @@ impl<C: StoredCost<3>> SettledList<3> for StairList<C> {
 fn rest_of<C: StoredCost<3>>(cost: &C) -> Rest<C::Part>
     ensures rest { as_pair C.Part.value result ≡ rest (C.components cost.now) }
     ensures long { length (C.components cost.now) ≡ 3 }
+    ensures fits { C.Part.value result.second < C.Part.bound }
 {
     Rest {
         second: cost.part(1),

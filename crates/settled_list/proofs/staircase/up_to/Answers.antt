@@ -1,14 +1,20 @@
-use Rattle.std.proofs.Common.{rules, leb}
-use Rattle.std.proofs.lemmas.List.Sorted.{IsPartitionPoint-from_clause, IsPartitionedBy-leb}
-use Rattle.settled_list.proofs.StairSearch.{leb_from_iff, rising, up_to_from}
+use Rattle.std.proofs.Common.{◌≡◌, ◌-◌, ◌/◌, ◌⊎◌, ◌<◌, ◌≤◌, subst, arith}
+use Rattle.std.proofs.lemmas.List.{length-map}
+use Rattle.settled_front.proofs.Stairs.{halved}
+use Rattle.settled_list.specs.Stairs.{as_pair}
+use Rattle.settled_list.proofs.StairSearch.{pair_at}
 use Rattle.settled_list.proofs.staircase.up_to.Goals as goal
 
-pub returns : goal.returns
-returns g c =
+pub loop-size-preserved : goal.loop-size-preserved
+loop-size-preserved g c =
     let value = g.P.Part.value in
     let rests = c.args.rests.now in
     let t = value c.args.second in
-    let found = c.partition_point in
-    up_to_from value rests c.requires t found.result found.ensures.bound
-    (IsPartitionPoint-from_clause (λ r. leb (value r.second) t) rests found.result found.ensures.partitioned
-    (IsPartitionedBy-leb (λ r. value r.second) rests t (rising value rests c.requires)) (λ a r f k. (leb_from_iff (search rules), search rules)))
+    let end = c.loop-size.end in
+    let half = c.loop-size.size - c.loop-size.size / 2 in
+    let bit = c.less_bit.result in
+    let cut = c.loop-size.invariant in
+    let here = pair_at value rests c.requires.stairs (end - half) c.index-rests-end.result
+    (omega (arith, cut.left, cut.within, c.loop-size-test.true, length-map rests (as_pair value))) in
+    halved c.requires.stairs t end c.loop-size.size half bit cut (omega (arith, c.loop-size-test.true)) (omega arith) (omega arith)
+    (subst (λ n. ((t < n) × (bit ≡ 1)) ⊎ ((n ≤ t) × (bit ≡ 0))) here.0 c.less_bit.ensures)

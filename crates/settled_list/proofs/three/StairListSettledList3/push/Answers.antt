@@ -10,7 +10,7 @@ put-requires g c =
     let rest = c.rest_of.ensures in
     let decides = covered_by_rests (map f c.self.inside.costs.items) c.self.inside.stair c.self.invariant.1 (f c.args.cost.now)
     (omega (arith, rest.long)) (rw (← c.self.view_is) at c.requires.behind) in
-    record { uncovered = λ h. (rw (← c.self.view_is) at c.requires.uncovered) (decides.1 (rw rest.rest at h)) }
+    record { fits = rest.fits; uncovered = λ h. (rw (← c.self.view_is) at c.requires.uncovered) (decides.1 (rw rest.rest at h)) }
 
 pub invariant_of-self-2 : goal.invariant_of-self-2
 invariant_of-self-2 g c =

@@ -1,11 +1,11 @@
 -- A search among stored pairs that stand as a staircase.
-use Rattle.std.proofs.Common.{◌≡◌, ℕ, ◌<◌, ◌≤◌, List, [], length, get_or, map, true, false, inl, inr, refl, arith, ltb}
+use Rattle.std.proofs.Common.{◌≡◌, ℕ, ◌-◌, ◌<◌, ◌≤◌, List, [], length, get_or, map, inl, inr, refl, arith}
 use Rattle.std.specs.List.{AllWithin}
 use Rattle.std.specs.List.Sorted.{IsNonDecreasingBy, IsPartitionPoint}
-use Rattle.std.proofs.lemmas.Bool.{cases_lt, ltb-false, ltb-true}
+use Rattle.std.proofs.lemmas.Bool.{cases_lt}
 use Rattle.std.proofs.lemmas.List.{get_or-map, length-map}
 use Rattle.std.proofs.lemmas.Option.{slice_get_cases}
-use Rattle.settled_front.specs.Staircase.{IsStaircase, first, second}
+use Rattle.settled_front.specs.Staircase.{IsStaircase, IsUpTo, first, second}
 use Rattle.settled_list.specs.Stairs.{IsPlaceFor, as_pair}
 use Rattle.settled_list.specs.declared.staircase.Rest.{Rest}
 use Rattle.settled_list.proofs.Places.{pair_at_most}
@@ -32,13 +32,33 @@ module _ {P : Type 0} (value : P → ℕ) (rests : List (Rest P)) (s : IsStairca
         | inr same ↦ let is : i ≡ j = omega (arith, order, same) in rw is (omega arith)
       ]
 
-  -- by the test whether it is less
-  pub below_from : (t i : ℕ) → IsPartitionPoint (λ r. ltb (value r.second) t ≡ true) (λ r. ltb (value r.second) t ≡ false) rests i
-      → IsPartitionPoint (λ r. value r.second < t) (λ r. t ≤ value r.second) rests i
-  below_from t i point = (
-    λ k d some near. ltb-true (value (get_or rests k d).second) t (point.0 k d some near),
-    λ k d far within. ltb-false (value (get_or rests k d).second) t (point.1 k d far within),
-  )
+  module _ (t place : ℕ) (cut : IsUpTo pairs t place) where
+    -- where the last of those that aren't greater isn't less either, those before it are less
+    pub below_last : (last : Rest P) → 0 < place → t ≤ value (get_or rests (place - 1) last).second
+        → IsPartitionPoint (λ r. value r.second < t) (λ r. t ≤ value r.second) rests (place - 1)
+    below_last last some same =
+        let long = length-map rests (as_pair value) in
+        let inside : place - 1 < length rests = omega (arith, some, cut.within, long) in (
+          λ k d from near. omega (
+            arith,
+            (pair_at k d (omega (arith, near, inside))).0,
+            (s.descends k (place - 1) [] near (omega (arith, inside, long))).0,
+            cut.before (place - 1) (omega (arith, some)),
+          ),
+          λ k d far within. omega (arith, same, (pair_at (place - 1) last inside).0, (pair_at (place - 1) d inside).0, rising (place - 1) k d far within),
+        )
+
+    -- where the last of them is less, all are
+    pub below_all : (0 < place → first (get_or pairs (place - 1) []) < t)
+        → IsPartitionPoint (λ r. value r.second < t) (λ r. t ≤ value r.second) rests place
+    below_all less =
+        let long = length-map rests (as_pair value) in (
+          λ k d from near.
+              let some : 0 < place = omega (arith, near) in
+              let inside : place - 1 < length rests = omega (arith, some, cut.within, long) in
+              omega (arith, rising k (place - 1) d (omega (arith, near)) inside, (pair_at (place - 1) d inside).0, less some),
+          λ k d far within. omega (arith, (pair_at k d within).0, cut.after k far (omega (arith, within, long))),
+        )
 
   -- behind those of a lesser second component, and with those that come next and aren't less in the third
   pub place_from : (r : Rest P) (start end : ℕ) → start ≤ end → end ≤ length rests

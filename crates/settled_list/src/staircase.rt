@@ -87,24 +87,28 @@ fn up_to<P: Part>(rests: &[Rest<P>], second: P) -> usize
     end
 }
 
-/// How many rests have a lesser second component.
+/// How many rests have a lesser second component: one that has the same one is the last that isn't greater.
 fn below<P: Part>(rests: &[Rest<P>], second: P) -> usize
-    requires { IsStaircase (map (as_pair P.value) rests.now) }
+    requires stairs { IsStaircase (map (as_pair P.value) rests.now) }
+    requires seconds { SecondsFit P.value P.bound rests.now }
+    requires fits { P.value second < P.bound }
     ensures within { result ≤ length rests.now }
     ensures cut { IsPartitionPoint (λ r. P.value r.second < P.value second)
         (λ r. P.value second ≤ P.value r.second) rests.now result }
 {
-    rests.partition_point(
-        |rest| -> bool
-            ensures { IsTrue result ↔ (P.value rest.now.second < P.value second) }
-        { !second.is_at_most(rest.second) },
-    )
+    let place = up_to(rests, second);
+    if place > 0 && second.is_at_most(rests[place - 1].second) {
+        return place - 1;
+    }
+    place
 }
 
 /// Where the rest belongs: behind those with a lesser second component, in the place of those that
 /// it is at most.
 fn place_for<P: Part>(rests: &[Rest<P>], rest: &Rest<P>) -> (usize, usize)
-    requires { IsStaircase (map (as_pair P.value) rests.now) }
+    requires stairs { IsStaircase (map (as_pair P.value) rests.now) }
+    requires seconds { SecondsFit P.value P.bound rests.now }
+    requires fits { P.value rest.now.second < P.bound }
     ensures { IsPlaceFor (map (as_pair P.value) rests.now) (as_pair P.value rest.now)
         result.0 result.1 }
 {

@@ -36,8 +36,9 @@ impl MadeReply {
 }
 
 impl<R: Threads + Sync, G: Gate> Answerer<'_, R, G> {
-    /// The replies to the first of these queries, made in memory side by side: each query is searched by one of the workers. They are the replies to all, or to so many that they come to 64 MiB or somewhat more.
-    /// There is `None` where memory ran out for the reply to a query.
+    /// The replies to the first of these queries, made in memory side by side: each query is searched by one of the workers.
+    /// They are the replies to all, or to so many that they come to 64 MiB or somewhat more. There is `None` where memory ran
+    /// out for the reply to a query.
     pub fn make_replies(
         &self,
         epoch: u32,

@@ -36,8 +36,8 @@ pub fn find(alloc: Global, network: &Network<'_>, query: &Query) -> Result<Swept
     Ok(found)
 }
 
-/// Answers a query without a limit: the settled costs of what was found are exactly its goal-relevant pairs. Lower bounds are looked
-/// for as far as they are asked for.
+/// Answers a query without a limit: the settled costs of what was found are exactly its goal-relevant pairs. Lower bounds are
+/// looked for as far as they are asked for.
 pub fn search_toward(
     alloc: Global,
     network: &Network<'_>,

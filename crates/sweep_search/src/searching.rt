@@ -16,8 +16,8 @@ use std::alloc::Global;
 use stored_cost::StoredCost;
 use sweep_core::{Potential, Sweep, SweepFault};
 
-/// All that a potential makes relevant to a query, with costs stored narrow, or wide where there is no room: then from the start. The
-/// height of its node is in each cost.
+/// All that a potential makes relevant to a query, with costs stored narrow, or wide where there is no room: then from the start.
+/// The height of its node is in each cost.
 pub(crate) fn find_by<const D: usize, N: SettledList<D>, W: SettledList<D>, P: Potential>(
     alloc: Global,
     network: &Network<'_>,

@@ -1,5 +1,5 @@
 #!/usr/bin/python3
-"""HTTP and JSON in front of running servers of a network: alternatives as GeoJSON, many pairs,
+"""Serves HTTP and JSON in front of running servers of a network: alternatives as GeoJSON, many pairs,
 closures by token, health and metrics.
 """
 
@@ -150,7 +150,8 @@ def log_to(audit: Path | None) -> None:
         log = logging.getLogger(name)
         log.addHandler(handler)
         log.propagate = False
-    logging.getLogger("uvicorn").setLevel(logging.WARNING)
+    for name in ("uvicorn.error", "uvicorn.asgi"):
+        logging.getLogger(name).setLevel(logging.WARNING)
 
 
 async def serve(words: argparse.Namespace) -> None:
@@ -182,6 +183,7 @@ async def serve(words: argparse.Namespace) -> None:
             service.closing.begin(pool, words.operator)
         config = uvicorn.Config(
             make_app(service, bounds),
+            http="h11",  # the other one tells some faults in words of its own
             lifespan="off",
             access_log=False,
             log_config=None,

@@ -157,4 +157,4 @@ class _Bounded:
 
 def peer_of(scope: Scope) -> str:
     client = scope.get("client")
-    return str(client[0]) if client else "local"
+    return str(client[0] or "local") if client else "local"

@@ -383,8 +383,10 @@ def test_health_metrics_and_log(here):
     assert ok in text and 'saminoha_http_links_in_use{server="leader"} 0.0' in text
     assert "saminoha_http_queue_requests 0.0" in text and "saminoha_http_epoch{" in text
     assert 'saminoha_http_request_seconds_bucket{le="0.1",route="/v1/alternatives"}' in text
-    entry = here.entries("path")[-1]
-    assert entry["path"] == "/metrics" and entry["status"] == 200 and entry["bytes"] == len(text)
+    end = time.monotonic() + 10
+    while (entry := here.entries("path")[-1])["path"] != "/metrics":
+        assert time.monotonic() < end  # the log comes behind the reply
+    assert entry["status"] == 200 and entry["bytes"] == len(text.encode())
 
 
 def test_document(here):

@@ -338,10 +338,12 @@ class Pool:
             await asyncio.sleep(WATCH)
             now = time.monotonic()
             due = [one for one in self.servers if one.is_up and now - one.heard >= WATCH]
-            await asyncio.gather(*(self._look(one) for one in due if one.busy < one.room))
+            await asyncio.gather(*map(self._look, due))
             self._serve_waiting()
 
     async def _look(self, server: Backend) -> None:
+        if server.busy >= server.room:
+            return
         server.busy += 1
         try:
             link = await self._link(server)

@@ -1,6 +1,6 @@
 #!/usr/bin/python3
-"""Serves HTTP and JSON in front of running servers of a network: alternatives as GeoJSON, many pairs,
-closures by token, health and metrics.
+"""Serves HTTP and JSON in front of running servers of a network: alternatives as GeoJSON, many
+pairs, closures by token, health and metrics.
 """
 
 from __future__ import annotations

@@ -1,4 +1,4 @@
-"""The pool over servers that are drawn here: slow ones, some that break off, some with few lanes."""
+"""The pool over servers drawn here: slow ones, some that break off, some with few lanes."""
 
 from __future__ import annotations
 

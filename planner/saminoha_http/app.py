@@ -86,6 +86,13 @@ def _add_answers(app: FastAPI, service: Service) -> None:
     word = _parameter("q", {"type": "string", "maxLength": LONGEST}, "a part of a name", True)
     text = "Places and streets of a name"
     _add(app, "GET", "/v1/places", service.places, text, {"parameters": [word]})
+    numbers = [
+        {"name": name, "in": "path", "required": True, "schema": {"type": "integer", "minimum": 0}}
+        for name in ("z", "x", "y")
+    ]
+    path, text = "/v1/tiles/{z}/{x}/{y}", "A tile of the roads, in the page's form"
+    media = "application/octet-stream"
+    _add(app, "GET", path, service.tile, text, {"parameters": numbers}, media)
 
 
 def _add_closures(app: FastAPI, service: Service) -> None:

@@ -3,7 +3,10 @@
 from __future__ import annotations
 
 import asyncio
+import functools
+import gzip
 import json
+import re
 from collections.abc import AsyncIterator, Callable, Sequence
 from concurrent.futures import ThreadPoolExecutor
 from typing import TypeVar
@@ -11,12 +14,14 @@ from typing import TypeVar
 from starlette.requests import Request
 from starlette.responses import Response, StreamingResponse
 
+from saminoha_planner.background import load_background
 from saminoha_planner.client import Answer, ClientError, Costs, answered
 from saminoha_planner.closures import LOG, Log
 from saminoha_planner.command import Fault
 from saminoha_planner.ends import End, Ends
 from saminoha_planner.network import Network
 from saminoha_planner.roads import Roads, roads_of
+from saminoha_planner.tiles import Tiles
 
 from .answers import alternatives, matrix_entry, told_criterion, told_end
 from .closing import Closing, told_closure
@@ -148,6 +153,26 @@ class Service:
             except Fault:  # a street whose name is taken for another thing
                 continue
         return found
+
+    @functools.cached_property
+    def _tiles(self) -> Tiles:
+        return Tiles(self.roads, load_background(self.network.folder))
+
+    async def tile(self, request: Request) -> Response:
+        """A tile in the page's form (`saminoha_planner/tiles.py`)."""
+        numbers = [request.path_params[name] for name in ("z", "x", "y")]
+        if not all(re.fullmatch("[0-9]{1,6}", text) for text in numbers):
+            raise Problem("not-found", "a tile has a zoom and two numbers")
+        zoom, x, y = map(int, numbers)
+        try:
+            packed = await self._beside(lambda: self._tiles.tile(zoom, x, y))
+        except Fault as fault:
+            raise Problem("not-found", str(fault)) from None
+        headers = {"Cache-Control": "max-age=60", "Vary": "Accept-Encoding"}
+        if "gzip" in request.headers.get("accept-encoding", ""):
+            headers["Content-Encoding"] = "gzip"
+            packed = gzip.compress(packed, 5)
+        return Response(packed, 200, headers, "application/octet-stream")
 
     # Closures.
 

@@ -4,6 +4,7 @@ it names, closures are by token alone, and what is wrong is told as the problem 
 
 from __future__ import annotations
 
+import gzip
 import os
 import random
 import socket
@@ -12,6 +13,7 @@ from collections.abc import Iterator
 from itertools import product
 from urllib.parse import quote, urlencode
 
+import numpy as np
 import pytest
 from conftest import PLANNER
 
@@ -24,9 +26,12 @@ from http_here import HOST, TOKEN, Here, service  # noqa: E402
 
 from saminoha_http.guard import Rates  # noqa: E402
 from saminoha_http.tokens import Tokens  # noqa: E402
+from saminoha_planner.background import load_background  # noqa: E402
 from saminoha_planner.client import Publish, Query, ShutArc, Wait, answered  # noqa: E402
 from saminoha_planner.closures import LOG  # noqa: E402
 from saminoha_planner.command import Fault  # noqa: E402
+from saminoha_planner.roads import roads_of  # noqa: E402
+from saminoha_planner.tiles import SIDE, Tiles, world  # noqa: E402
 
 DRAWN = int(os.environ.get("DRAWN_REQUESTS", "200"))
 FREELY = ("--rate", "100000", "--burst", "100000")
@@ -171,6 +176,16 @@ def test_network_and_places(here, town):
     assert places[0]["node"] == town.find("Northend")
 
 
+def test_tiles(here, town):
+    """They are the page's."""
+    zoom = 16
+    x, y = (int(place) // SIDE for place in world(np.array([[10.0045, 50.0]]), zoom)[0])
+    due = Tiles(roads_of(town), load_background(town.folder)).tile(zoom, x, y)
+    path = f"/v1/tiles/{zoom}/{x}/{y}"
+    assert due and here.get(path).body == due
+    assert gzip.decompress(here.get(path, Accept_Encoding="gzip").body) == due
+
+
 # Problems.
 
 
@@ -196,6 +211,8 @@ def test_network_and_places(here, town):
         ("/v1/places", 400, "bad-parameter"),
         ("/v1/elsewhere", 404, "not-found"),
         ("/docs", 404, "not-found"),
+        ("/v1/tiles/3/9/0", 404, "not-found"),
+        ("/v1/tiles/3/x/0", 404, "not-found"),
         ("/v1/matrix", 405, "method"),
     ],
 )
@@ -394,6 +411,7 @@ def test_document(here):
     told = here.get("/openapi.json").told
     assert told["openapi"].startswith("3.") and "token" in told["components"]["securitySchemes"]
     wanted = {"alternatives", "matrix", "network", "places", "closures", "closures/{name}"}
+    wanted.add("tiles/{z}/{x}/{y}")
     assert {f"/v1/{name}" for name in wanted} | {"/health", "/metrics"} == set(told["paths"])
     for path in told["paths"].values():
         for one in path.values():

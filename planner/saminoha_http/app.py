@@ -43,15 +43,15 @@ def make_app(service: Service, bounds: Bounds) -> ASGIApp:
     _add_state(app, service)
     _tell_problems(app, service)
     _describe_tokens(app)
-    guarded: ASGIApp = Guard(app, bounds, service.metrics)
+    named: ASGIApp = app
     if bounds.origins:
-        guarded = CORSMiddleware(
-            guarded,
+        named = CORSMiddleware(
+            app,
             allow_origins=list(bounds.origins),
             allow_methods=["GET", "POST", "DELETE"],
             allow_headers=["Authorization", "Content-Type"],
         )
-    return guarded
+    return Guard(named, bounds, service.metrics)
 
 
 def _add_answers(app: FastAPI, service: Service) -> None:

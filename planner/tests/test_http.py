@@ -331,6 +331,12 @@ def test_a_named_origin(program, town, tmp_path):
         assert here.get(TRIP, Origin=origin).headers["access-control-allow-origin"] == origin
         other = here.get(TRIP, Origin="https://elsewhere.example")
         assert "access-control-allow-origin" not in other.headers
+        due = {"Access_Control_Request_Method": "POST"}
+        due |= {"Access_Control_Request_Headers": "authorization"}
+        first = here.ask("OPTIONS", "/v1/closures", Origin=origin, **due)
+        assert first.status == 200 and "POST" in first.headers["access-control-allow-methods"]
+        foreign = here.ask("OPTIONS", "/v1/closures", Origin="https://elsewhere.example", **due)
+        assert foreign.status == 403
         body = {"road": "Toll Bridge", "measure": "slow=2"}
         assert here.ask("POST", "/v1/closures", body, Origin=origin, **ANN).status == 201
     (town.folder / LOG).unlink()

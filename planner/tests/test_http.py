@@ -7,7 +7,9 @@ from __future__ import annotations
 import gzip
 import os
 import random
+import shutil
 import socket
+import subprocess
 import time
 from collections.abc import Iterator
 from itertools import product
@@ -410,6 +412,15 @@ def test_health_metrics_and_log(here):
     while (entry := here.entries("path")[-1])["path"] != "/metrics":
         assert time.monotonic() < end  # the log comes behind the reply
     assert entry["status"] == 200 and entry["bytes"] == len(text.encode())
+
+
+def test_metrics_are_well_formed(here):
+    if not shutil.which("promtool"):
+        pytest.skip("promtool is missing (prometheus): the metrics' form isn't checked")
+    words = ["promtool", "check", "metrics"]
+    text = here.get("/metrics").body
+    done = subprocess.run(words, input=text, capture_output=True, timeout=60)
+    assert done.returncode == 0, done.stdout + done.stderr
 
 
 def test_document(here):

@@ -11,12 +11,15 @@ from types import TracebackType
 
 PACKAGES = {
     "distributed": "python3-distributed",
+    "fastapi": "python3-fastapi",
     "flask": "python3-flask",
     "matplotlib": "python3-matplotlib",
     "numpy": "python3-numpy",
     "osmium": "python3-pyosmium",
+    "prometheus_client": "python3-prometheus-client",
     "pyproj": "python3-pyproj",
     "scipy": "python3-scipy",
+    "uvicorn": "python3-uvicorn",
 }
 
 

@@ -1,0 +1,237 @@
+"""Closures by HTTP: the planner's keeper of the log over the pool's leader, and an audit line for
+each change.
+"""
+
+from __future__ import annotations
+
+import asyncio
+import functools
+import json
+import logging
+import threading
+from collections.abc import Callable, Mapping, Sequence
+from concurrent.futures import ThreadPoolExecutor
+from datetime import datetime
+from typing import TypeVar
+
+from saminoha_planner.client import Answer, Change, ClientError, Epoch, Now, Operator
+from saminoha_planner.closures import Closure, Log, State
+from saminoha_planner.keeper import PAUSE, Keeper
+from saminoha_planner.network import Network
+from saminoha_planner.roads import Roads
+from saminoha_planner.stretches import Piece, Stretches
+
+from .links import Address
+from .pool import Pool
+from .problems import Problem
+
+AUDIT = logging.getLogger("saminoha.audit")
+NEAR = 100.0  # metres from a point to the road that it means
+T = TypeVar("T")
+MOST_CHANGES = 65_536  # that a server keeps pending
+WORDS = {"road", "points", "measure", "reason", "begin", "end"}
+
+
+class LeaderAsker:
+    """What the keeper asks and publishes, from its own thread: the epoch by the pool's links, and
+    changes at the operator's address.
+    """
+
+    can_change: bool = True
+    is_own: bool = False
+    starting: float | None = None
+
+    def __init__(self, pool: Pool, operator: Address, loop: asyncio.AbstractEventLoop) -> None:
+        self._pool, self._operator, self._loop = pool, operator, loop
+
+    def epoch(self) -> int:
+        asked = self._pool.ask(Now(), only_leader=True)
+        reply = asyncio.run_coroutine_threadsafe(asked, self._loop).result()
+        assert isinstance(reply, Epoch)
+        return reply.number
+
+    def query(self, source: int, target: int) -> Answer:
+        raise NotImplementedError("the pool answers queries")
+
+    def publish(self, changes: Sequence[Change]) -> int:
+        with Operator(*self._operator, timeout=self._pool.limits.answer_time) as operator:
+            for change in changes:
+                operator.order(change)
+            return operator.publish()
+
+
+class Closing:
+    """The closures of one network. Whatever publishes does so one after another."""
+
+    def __init__(self, network: Network, roads: Callable[[], Roads], log: Log) -> None:
+        self._network, self._roads, self.log = network, roads, log
+        self._keeper: Keeper | None = None
+        self._thread = ThreadPoolExecutor(1, "closures")
+        self._ended = threading.Event()
+
+    def begin(self, pool: Pool, operator: Address) -> None:
+        """From now on what the log has is published when it is due."""
+        asker = LeaderAsker(pool, operator, asyncio.get_running_loop())
+        self._keeper = Keeper(self._network, asker, self.log)
+        threading.Thread(target=self._watch, args=(self._keeper,), daemon=True).start()
+
+    def end(self) -> None:
+        self._ended.set()
+        self._thread.shutdown(wait=False)
+
+    def _watch(self, keeper: Keeper) -> None:
+        while not self._ended.wait(PAUSE):
+            keeper.look()
+
+    @property
+    def told(self) -> dict[str, object]:
+        """All that the log has, and how many epochs it doesn't explain."""
+        keeper = self._keeper
+        return {
+            "closures": [told_closure(one) for one in self.log.read()],
+            "unexplained_epochs": keeper.unknown if keeper else None,
+            "fault": (keeper.fault if keeper else "") or None,
+        }
+
+    async def close(self, asked: Mapping[str, object], who: str, peer: str) -> Closure:
+        keeper = self._due()
+        closure = await self._run(lambda: self._closure(keeper, asked, who))
+        await self._run(lambda: self._publish(keeper, closure))
+        found = self._find(closure.name) or closure
+        audit("close", who, peer, found)
+        return found
+
+    def _publish(self, keeper: Keeper, closure: Closure) -> None:
+        """It stands once it is in the log, also where no server answers any more behind that."""
+        try:
+            keeper.close(closure)
+        except ClientError:
+            if self._find(closure.name) is None:
+                raise
+
+    async def undo(self, name: str, who: str, peer: str) -> Closure:
+        keeper = self._due()
+        found = self._find(name)
+        if found is None:
+            raise Problem("no-such-closure", f"there is no closure {name[:40]!r}")
+        if found.state() is State.ENDED:
+            raise Problem("over", f"closure {name} is over")
+        await self._run(lambda: self._lift(keeper, name, who))
+        found = self._find(name) or found
+        audit("open", who, peer, found)
+        return found
+
+    def _lift(self, keeper: Keeper, name: str, who: str) -> None:
+        try:
+            keeper.undo(name, who)
+        except ClientError:
+            found = self._find(name)
+            if found is None or found.state() is not State.ENDED:
+                raise
+
+    def _find(self, name: str) -> Closure | None:
+        return next((one for one in self.log.read() if one.name == name), None)
+
+    def _due(self) -> Keeper:
+        if self._keeper is None:
+            raise Problem("no-operator", "no operator's address was given to this service")
+        return self._keeper
+
+    async def _run(self, work: Callable[[], T]) -> T:
+        return await asyncio.get_running_loop().run_in_executor(self._thread, work)
+
+    def _closure(self, keeper: Keeper, asked: Mapping[str, object], who: str) -> Closure:
+        if unknown := set(asked) - WORDS:
+            raise Problem(
+                "bad-body", f"{min(unknown)[:40]!r} is none of {', '.join(sorted(WORDS))}"
+            )
+        measure, piece = _text(asked, "measure", 60) or "shut", self._piece(asked)
+        arcs = self._roads().arcs(piece.roads)
+        closure = Closure(
+            road=piece.title,
+            measure=measure,
+            changes=tuple(keeper.changes(arcs, measure)),
+            piece=piece.text,
+            reason=_text(asked, "reason", 200),
+            author=who,
+            begin=_time(asked, "begin"),
+            end=_time(asked, "end"),
+        )
+        if len(closure.changes) > MOST_CHANGES:
+            raise Problem("bad-body", f"{len(arcs)} arcs are more than one epoch can change")
+        if closure.end and closure.end <= (closure.begin or closure.at):
+            raise Problem("bad-body", "it would end before it begins")
+        return closure
+
+    @functools.cached_property
+    def _stretches(self) -> Stretches:
+        return Stretches(self._roads())
+
+    def _piece(self, asked: Mapping[str, object]) -> Piece:
+        """A road by its name, or what lies at a point, or between two."""
+        if ("road" in asked) == ("points" in asked):
+            raise Problem("bad-body", "name a road, or one or two points")
+        if "road" in asked:
+            return self._stretches.of_road(_text(asked, "road", 100))
+        points = _points(asked["points"])
+        if len(points) == 2:
+            return self._stretches.between(points[0], points[1], NEAR)
+        return self._stretches.at(points[0], NEAR)
+
+
+def told_closure(one: Closure) -> dict[str, object]:
+    begin, end = one.begin or one.at, one.lifted or one.end
+    return {
+        "id": one.name,
+        "state": one.state().value,
+        "road": one.road,
+        "piece": one.piece,
+        "measure": one.measure,
+        "arcs": len(one.changes),
+        "reason": one.reason,
+        "author": one.author,
+        "begin": begin.isoformat(),
+        "end": end.isoformat() if end else None,
+        "epoch": one.epoch,
+    }
+
+
+def audit(action: str, who: str, peer: str, closure: Closure) -> None:
+    told = {"audit": action, "who": who, "peer": peer} | told_closure(closure)
+    AUDIT.info("%s", json.dumps(told))
+
+
+def _text(asked: Mapping[str, object], name: str, most: int) -> str:
+    value = asked.get(name) or ""
+    if not isinstance(value, str) or len(value) > most:
+        raise Problem("bad-body", f"{name} is a text of {most} letters at most")
+    if not value.isprintable():
+        raise Problem("bad-body", f"{name} has letters that can't be shown")
+    return " ".join(value.split())
+
+
+def _time(asked: Mapping[str, object], name: str) -> datetime | None:
+    value = asked.get(name)
+    if value is None:
+        return None
+    try:
+        when = datetime.fromisoformat(str(value))
+    except ValueError:
+        raise Problem("bad-body", f"{name} is no time as 2026-05-04T07:00:00Z") from None
+    if when.tzinfo is None:
+        raise Problem("bad-body", f"{name} has no zone")
+    return when
+
+
+def _points(value: object) -> list[tuple[float, float]]:
+    """Longitude and latitude of points that are told as [lat, lon]."""
+    if not isinstance(value, list) or not 1 <= len(value) <= 2:
+        raise Problem("bad-body", "points are one or two of [lat, lon]")
+    return [_point(one) for one in value]
+
+
+def _point(value: object) -> tuple[float, float]:
+    match value:
+        case [int() | float() as lat, int() | float() as lon] if abs(lat) <= 90 and abs(lon) <= 180:
+            return float(lon), float(lat)
+    raise Problem("bad-body", "a point is [lat, lon]")

@@ -4,7 +4,5 @@ pub mod Gets
 pub mod Least
 pub mod Ascending
 pub mod FirstDifference
-pub mod LeastMember
-pub mod Retained
 pub mod SetLaws
 pub mod OnceLaws

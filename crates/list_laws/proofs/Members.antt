@@ -66,16 +66,6 @@ module _ {X : Type 0} where
   pub found_in : (P : X → Type 0) (xs : List X) → Any P xs → (x : X) × Contains xs x × P x
   found_in P xs any = (any.1, (any.0, any.2, any.3), any.4)
 
-  -- something else holds of some element of another list
-  pub any_from : (P Q : X → Type 0) (xs ys : List X) → ((x : X) → Contains xs x → P x → Any Q ys) → Any P xs → Any Q ys
-  any_from P Q xs ys each any = let found = found_in P xs any in each found.0 found.1 found.2
-
-  -- of one of before, or of the last one that was added
-  pub cases_any_push : (P : X → Type 0) (xs : List X) (y : X) → Any P (xs ++ y ∷ []) → Any P xs ⊎ P y
-  cases_any_push P xs y any =
-      let found = found_in P (xs ++ y ∷ []) any in
-      elim (cases_push xs y found.0 found.1) [ inl old ↦ inl (any_in P xs found.0 old found.2) | inr last ↦ inr (subst P last found.2) ]
-
 -- ---- lists made from lists
 
 module _ {X : Type 0} (p : X → Bool) where

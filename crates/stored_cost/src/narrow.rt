@@ -1,4 +1,6 @@
-ghost use Rattle.std.specs.Prelude.{◌≡◌, ◌+◌, ◌*◌, ◌^◌, ◌↔◌, length, IsTrue, refl};
+ghost use Rattle.std.specs.Prelude.{◌≡◌, ◌+◌, ◌*◌, ◌^◌, ◌↔◌, Some, length, IsTrue, refl};
+ghost use Rattle.std.specs.Ordering.{nat_cmp};
+ghost use Rattle.std.specs.Cmp.Lexicographic.{slice_cmp, nat_list_cmp_total, texts_po, texts_ties};
 ghost use Rattle.cost_vector.specs.Costs.{AtMost, lex_cmp};
 
 use crate::StoredCost;
@@ -8,7 +10,7 @@ use std::marker::Model;
 use std::simd::prelude::*;
 
 /// A cost in 32 bits a component, each below 2^31. A contract sees the list of its components.
-#[derive(Clone, Copy, Debug, PartialEq, Eq, PartialOrd, Ord)]
+#[derive(Clone, Copy, Debug, PartialEq, Eq)]
 pub struct NarrowCost<const D: usize> {
     parts: [u32; D],
 }
@@ -24,6 +26,33 @@ impl<const D: usize> Model for NarrowCost<D> {
     ghost invariant = { λ c. IsStored D (2 ^ 31) c.parts };
 
     ghost inverse = { λ xs. record { parts = xs } };
+}
+
+impl<const D: usize> PartialOrd for NarrowCost<D> {
+    ghost partial_cmp = { λ a b. Some (slice_cmp nat_cmp a b) };
+
+    ghost laws = { texts_po };
+
+    fn partial_cmp(&self, other: &NarrowCost<D>) -> Option<Ordering> {
+        Some(self.cmp(other))
+    }
+}
+
+impl<const D: usize> Ord for NarrowCost<D> {
+    ghost cmp = { slice_cmp nat_cmp };
+
+    ghost total = { nat_list_cmp_total };
+
+    ghost matches_partial_cmp = { λ a b. refl };
+
+    ghost matches_eq = { texts_ties };
+
+    fn cmp(&self, other: &NarrowCost<D>) -> Ordering {
+        if D == 2 {
+            return compare_two(&self.parts, &other.parts);
+        }
+        self.parts.cmp(&other.parts)
+    }
 }
 
 impl<const D: usize> StoredCost<D> for NarrowCost<D> {
@@ -67,10 +96,7 @@ impl<const D: usize> StoredCost<D> for NarrowCost<D> {
     }
 
     fn compare(&self, other: &NarrowCost<D>) -> Ordering {
-        if D == 2 {
-            return compare_two(&self.parts, &other.parts);
-        }
-        self.parts.cmp(&other.parts)
+        self.cmp(other)
     }
 
     fn at_most(&self, other: &NarrowCost<D>) -> bool {

@@ -1,8 +1,0 @@
-use Rattle.std.proofs.Common.{rules}
-use Rattle.event_machine.specs.Machine.{Beats}
-use Rattle.machine_model.specs.Views.{label_of}
-use Rattle.machine_model.proofs.ViewLemmas.{any_through}
-use Rattle.machine_model.proofs.labels.any_beats.Goals as goal
-
-pub returns : goal.returns
-returns c = any_through label_of (λ y. Beats y (label_of c.args.label.now)) c.args.labels.now c.any.result (search rules)

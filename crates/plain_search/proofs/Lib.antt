@@ -1,3 +1,0 @@
-pub mod PrunesLemmas
-pub mod SearchLemmas
-pub mod StepLemmas

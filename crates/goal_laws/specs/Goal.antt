@@ -5,6 +5,8 @@ use Rattle.cost_vector.specs.Costs.{AtMost, Dominates, Within, plus}
 use Rattle.road_network.specs.Network.{Network}
 use Rattle.road_network.specs.Walks.{IsWalk}
 use Rattle.road_network.specs.Best.{IsBest}
+use Rattle.road_network.specs.Queries.{limit_of}
+use Rattle.road_network.specs.declared.query.Query.{Query}
 
 -- some walk from v to t has the number x as component j of its cost, counted from 0
 pub record HasWalkOf (net : Network) (v t j x : ℕ) : Type 0 where
@@ -40,3 +42,7 @@ pub record GoalPasses (net : Network) (s t : ℕ) (limit : List (Option ℕ)) (b
   pub more : length pairs ≡ budget + 1
   pub distinct : AllPairs ◌≢◌ pairs
   pub relevant : All (λ p. IsGoalRelevant net s t limit p.0 p.1) pairs
+
+-- the query has more goal-relevant pairs within its limit than its budget allows
+abbrev pub IsTooLargeToward : Network → Query → Type 0
+IsTooLargeToward net query = GoalPasses net query.from query.to (limit_of net.criteria query) query.budget

@@ -10,7 +10,7 @@ use Rattle.road_network.specs.declared.query.Query.{Query}
 use Rattle.road_network.proofs.WalkLaws.{length_of_walk}
 use Rattle.settled_fronts.proofs.PairLemmas.{in_settled_pairs}
 use Rattle.walk_readback.specs.Found.{HasAllRelevant, HasSettled}
-use Rattle.goal_laws.specs.Goal.{IsBound, IsGoalRelevant}
+use Rattle.goal_laws.specs.Goal.{IsBound, IsGoalRelevant, IsTooLargeToward}
 use Rattle.goal_laws.specs.FoundGoal.{HasAllGoalRelevant}
 use Rattle.sweep_parts.specs.Settled.{costs_of}
 use Rattle.node_lists.specs.FoundLists.{FoundLists, found_in}
@@ -18,7 +18,6 @@ use Rattle.sweep_core.specs.Potentials.{IsConsistent, IsRelevantBy, Potential, Z
 use Rattle.sweep_core.specs.Sweeps.{IsLifted, SettlesAll, lifted}
 use Rattle.sweep_core.proofs.Lifted.{one_cost}
 use Rattle.sweep_core.proofs.Uses.{passes_by_bounds, passes_by_zero, relevant_by_bounds, relevant_by_zero}
-use Rattle.sweep_search.specs.Answers.{IsTooLargeToward}
 use Rattle.sweep_search.specs.Finding.{AreLiftedAt, HasAllBare, HasAllBy, HasLifted, IsBareAt, IsSameFind, IsTooLargeBy}
 
 -- of two facts where all went well a third follows

@@ -6,14 +6,10 @@ use Rattle.road_network.specs.Queries.{limit_of}
 use Rattle.road_network.specs.declared.query.Query.{Query}
 use Rattle.road_network.specs.declared.query.SearchFault.{SearchFault}
 use Rattle.road_network.specs.declared.query.SearchFault.TheVariants.{Budget}
-use Rattle.goal_laws.specs.Goal.{GoalPasses}
+use Rattle.goal_laws.specs.Goal.{IsTooLargeToward}
 use Rattle.goal_laws.specs.FoundGoal.{HasAllGoalRelevant}
 use Rattle.sweep_search.specs.declared.swept.Swept.{Swept}
 use Rattle.sweep_search.specs.Swept.{found_of}
-
--- the query has more goal-relevant pairs within its limit than its budget allows
-abbrev pub IsTooLargeToward : Network → Query → Type 0
-IsTooLargeToward net query = GoalPasses net query.from query.to (limit_of net.criteria query) query.budget
 
 -- What such a search answers to a query: all of it exactly where the query doesn't pass its budget, but for want of memory.
 pub record AnswersToward (net : Network) (query : Query) (result : Result Swept SearchFault) : Type 0 where

@@ -29,7 +29,7 @@ pub use answerer::Answerer;
 pub use context::ServeContext;
 pub use end::SessionEnd;
 pub use fault::ReplyFault;
-pub use laws::session_runs_stay;
+pub use laws::{goal_answers_wherever_plain_does, session_runs_stay};
 pub use made::MadeReply;
 pub use mode::SearchMode;
 pub use operator::serve_operator;

@@ -1,11 +1,11 @@
 //! Searches that are directed to the target, beside such that aren't.
-ghost use Rattle.std.specs.Prelude.{◌≡◌, None};
 ghost use Rattle.road_network.specs.Queries.{IsQuery};
 
 use super::bounds::count_goal_relevant;
 use super::networks::{Drawn, Ties, draw, graph, with_ties};
 use super::searches::{Search, reply_by};
 use arc_graph::Network;
+use cost_vector::Limit;
 use road_network::{MAX_BUDGET, Query, SearchFault};
 use route_io::sure::SureSink;
 use std::alloc::Global;
@@ -16,17 +16,18 @@ use std::thread::Threads;
 /// How many networks are drawn.
 const NETWORKS: u64 = 240;
 
-/// The query of a drawn network without its limit: from its first node to its last.
+/// The query of a drawn network: from its first node to its last.
 fn query_of(rt: &impl Abort, drawn: &Drawn, network: &Network<'_>, budget: u32) -> Query
     ensures query { IsQuery network.now result }
-    ensures unlimited { result.limit ≡ None }
 {
+    let limit = drawn.limit.as_slice();
+    assert!(rt; 2 <= limit.len() && limit.len() <= 4 && limit.len() == network.criteria());
     assert!(rt; network.has_node(1) && network.has_node(drawn.nodes));
     assert!(rt; budget <= MAX_BUDGET);
     Query {
         from: 1,
         to: drawn.nodes,
-        limit: None,
+        limit: Some(Limit::of_places(limit)),
         budget,
     }
 }

@@ -53,13 +53,10 @@ pub(super) fn reply_by<R: Threads + Sync + Abort>(
             Ok(found) => Ok(Ok(reply(alloc, network, query, &found)?)),
             Err(fault) => Ok(Err(fault)),
         },
-        Search::Directed => {
-            assert!(rt; query.limit.is_none());
-            match sweep_search::search_toward(alloc, network, query) {
-                Ok(found) => Ok(Ok(reply(alloc, network, query, &found)?)),
-                Err(fault) => Ok(Err(fault)),
-            }
-        }
+        Search::Directed => match sweep_search::search_toward(alloc, network, query) {
+            Ok(found) => Ok(Ok(reply(alloc, network, query, &found)?)),
+            Err(fault) => Ok(Err(fault)),
+        },
     }
 }
 

@@ -103,7 +103,7 @@ pub(super) fn best_walks(alloc: Global, all: Vec<Walk>) -> Result<Vec<Walk>, All
     Ok(best)
 }
 
-fn is_within(limit: &[Option<u64>], cost: &Sums) -> bool {
+pub(super) fn is_within(limit: &[Option<u64>], cost: &Sums) -> bool {
     limit
         .iter()
         .zip(cost)

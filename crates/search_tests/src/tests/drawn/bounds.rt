@@ -40,15 +40,11 @@ fn lower(bounds: &mut [Option<Sums>], arc: &DrawnArc) {
     }
 }
 
-/// Of each node, by its number, the least sums of single weights along walks to the last node, or none where no walk leads there.
+/// Of each node, by its number, the least sums of single weights along walks to the target, or none where no walk leads there.
 fn all_bounds(alloc: Global, drawn: &Drawn) -> Result<Vec<Option<Sums>>, AllocError> {
     let mut bounds = Vec::new(alloc);
     for node in 0..=drawn.nodes {
-        bounds.push(if node == drawn.nodes {
-            Some([0; 4])
-        } else {
-            None
-        })?;
+        bounds.push(if node == drawn.to { Some([0; 4]) } else { None })?;
     }
     for _ in 0..drawn.nodes {
         for arc in &drawn.arcs {
@@ -75,13 +71,13 @@ fn added(a: &Sums, b: &Sums) -> Sums {
     sums
 }
 
-/// How many goal-relevant pairs the query from the first node to the last one has, without a limit.
+/// How many goal-relevant pairs the query has, without a limit.
 pub(super) fn count_goal_relevant(alloc: Global, drawn: &Drawn) -> Result<u32, AllocError> {
     let best = best_walks(alloc, all_walks(alloc, drawn)?)?;
     let bounds = all_bounds(alloc, drawn)?;
     let mut count: u32 = 0;
     for walk in &best {
-        if is_goal_relevant(&best, &bounds, drawn.nodes, walk) {
+        if is_goal_relevant(&best, &bounds, drawn.to, walk) {
             count = count.saturating_add(1);
         }
     }

@@ -352,7 +352,33 @@ const ASKED: &[Row] = &[
         out: "operator\nlane 1\nx 0 1 3 budget\nr 0 1 3 1\np 2 1 1 2\nr 0 2 1 0\nx 0 2 1 budget\nx 0 1 4 budget\nl 0 1 4 - 1 0\nl 0 1 3 1 1 0\nl 0 1 3 2 - 1\np 2 1 1 2\n",
         err: "",
     },
-    // The bounds are those of the epoch: arc 2 is shut, and opened again with other weights.
+    // A limit is asked of costs with the bounds of their nodes: none is within it, and by costs alone two would be.
+    Row {
+        words: "lanes --budget 1 --operator op --sessions s A.gr B.gr",
+        files: &[
+            ("A.gr", A),
+            ("B.gr", B),
+            ("op", ""),
+            ("s1", "h 1 4 - 1\nl 1 4 - 1\nh 1 4 3 -\n"),
+        ],
+        status: 0,
+        out: "operator\nlane 1\nl 0 1 4 - 1 0\nx 0 1 4 budget\nx 0 1 4 budget\n",
+        err: "",
+    },
+    // The bounds are those of the epoch: by those of the files' weights a fourth pair would count.
+    Row {
+        words: "lanes --budget 3 --operator op --sessions s A.gr B.gr",
+        files: &[
+            ("A.gr", A),
+            ("B.gr", B),
+            ("op", "x 3\npublish\n"),
+            ("s1", "w 1\ng 1 4\n"),
+        ],
+        status: 0,
+        out: "operator\nok\nk 1\nlane 1\nk 1\nr 1 1 4 1\np 4 2 2 2 4\n",
+        err: "",
+    },
+    // Arc 2 is shut, and opened again with other weights.
     Row {
         words: "lanes --operator op --sessions s A.gr B.gr",
         files: &[

@@ -40,15 +40,11 @@ fn lower(bounds: &mut [Option<Sums>], arc: &DrawnArc) {
     }
 }
 
-/// Of each node, by its number, the least sums of single weights along walks to the last node, or none where no walk leads there.
+/// Of each node, by its number, the least sums of single weights along walks to the target, or none where no walk leads there.
 fn all_bounds(alloc: Global, drawn: &Drawn) -> Result<Vec<Option<Sums>>, AllocError> {
     let mut bounds = Vec::new(alloc);
     for node in 0..=drawn.nodes {
-        bounds.push(if node == drawn.nodes {
-            Some([0; 4])
-        } else {
-            None
-        })?;
+        bounds.push(if node == drawn.to { Some([0; 4]) } else { None })?;
     }
     for _ in 0..drawn.nodes {
         for arc in &drawn.arcs {
@@ -69,9 +65,8 @@ fn is_goal_relevant(
         return false;
     };
     let bounded = added(&walk.cost, &bound);
-    let target = drawn.nodes;
     is_within(&drawn.limit, &bounded)
-        && !best.iter().any(|other| other.end == target && dominates(&other.cost, &bounded))
+        && !best.iter().any(|other| other.end == drawn.to && dominates(&other.cost, &bounded))
 }
 
 fn added(a: &Sums, b: &Sums) -> Sums {
@@ -82,7 +77,7 @@ fn added(a: &Sums, b: &Sums) -> Sums {
     sums
 }
 
-/// How many goal-relevant pairs the query from the first node to the last one has within its limit.
+/// How many goal-relevant pairs the query has within its limit.
 pub(super) fn count_goal_relevant(alloc: Global, drawn: &Drawn) -> Result<u32, AllocError> {
     let best = best_walks(alloc, all_walks(alloc, drawn)?)?;
     let bounds = all_bounds(alloc, drawn)?;

@@ -1,4 +1,4 @@
-//! Options whose values are numbers.
+//! Flags, and options whose values are numbers.
 ghost use Rattle.std.specs.Prelude.{◌≡◌, ◌↔◌, IfNone, IfSome, IsTrue, None, option_map};
 ghost use Rattle.clap.specs.Words.{first_of, found_of, rows_of};
 ghost use Rattle.command_words.specs.Words.{IsGiven, IsGivenIf, IsGivenOr, IsNumber, is_set};

@@ -9,6 +9,7 @@ use Rattle.goal_laws.proofs.GoalLaws.{passes_by_goal}
 use Rattle.answer_writer.specs.Replies.{reply_of}
 use Rattle.session_core.specs.Queries.{RepliesToQuery}
 use Rattle.session_core.specs.declared.mode.SearchMode.TheVariants.{Plain, Goal}
+use Rattle.session_core.specs.declared.reply.Reply.{Reply}
 use Rattle.session_core.specs.declared.reply.Reply.TheVariants.{Answer, Refusal}
 
 module _ (net : Network) (epoch : ℕ) (kind : AnswerKind) (query : Query) where
@@ -38,3 +39,11 @@ module _ (net : Network) (epoch : ℕ) (kind : AnswerKind) (query : Query) where
   goal_alike text other plain directed =
       let same = one_answer net query.from query.to (limit_of net.criteria query) plain.routes directed.routes plain.answer directed.answer in
       plain.reply ∙ ap (λ routes. reply_of kind epoch query routes) same ∙ sym directed.reply
+
+  -- so each reply of a directed search is the answer of a plain one, where that answers
+  pub goal_says_the_same : (is : IsNetwork net) (text other : List ℕ) → RepliesToQuery net Plain epoch kind query Answer text → (reply : Reply)
+      → RepliesToQuery net Goal epoch kind query reply other → text ≡ other
+  goal_says_the_same is text other plain Answer directed = goal_alike text other plain directed
+  goal_says_the_same is text other plain Refusal (inl lacks) = absurd (lacks.no_nodes plain.nodes)
+  goal_says_the_same is text other plain Refusal (inr large) =
+      absurd (plain.within (passes_by_goal net is query.from query.to (limit_of net.criteria query) query.budget large.passes))

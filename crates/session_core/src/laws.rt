@@ -1,4 +1,4 @@
-ghost use Rattle.std.specs.Prelude.{◌≡◌, ℕ, List, None};
+ghost use Rattle.std.specs.Prelude.{◌≡◌, ℕ, List, Option, None, Some};
 ghost use mathlib.Core.List.{IsPrefix};
 ghost use Rattle.arc_graph.specs.History.{History, IsHistory};
 ghost use Rattle.epoch_store.specs.Origin.{arcs_of, criteria_of};
@@ -22,8 +22,9 @@ pub fn session_runs_stay()
         → SessionRun scene g0 g1 exchanges }
 {}
 
-/// Where a plain search answers, a directed one gives the same text, whatever the limit and the budget. What a directed search
-/// refuses, a plain one refuses by the same line. So who asks a session for `q` may ask for `g`.
+/// Where a plain search answers, a directed one gives the same text, with the same limit and budget, whatever they are. What a
+/// directed search refuses, a plain one refuses by the same line. So who asks a session for `q` or `l` may ask for `g` or `h`:
+/// where the former is answered, each reply to the latter is that answer.
 pub fn goal_answers_wherever_plain_does()
     ensures answers { (net : Network) (epoch : ℕ) (kind : AnswerKind) (query : Query) (text : List ℕ)
         → IsNetwork net → RepliesToQuery net Plain epoch kind query Answer text
@@ -34,8 +35,13 @@ pub fn goal_answers_wherever_plain_does()
     ensures alike { (net : Network) (epoch : ℕ) (kind : AnswerKind) (query : Query)
         (text other : List ℕ) → RepliesToQuery net Plain epoch kind query Answer text
         → RepliesToQuery net Goal epoch kind query Answer other → text ≡ other }
-    ensures in_sessions { (scene : Scene) (h : History) (k s t : ℕ) (text : List ℕ)
+    ensures in_sessions { (scene : Scene) (h : History) (k s t : ℕ) (text other : List ℕ)
         → IsNetwork (network_at scene h k) → RepliesToQuery (network_at scene h k) Plain k Walks
         (record { from = s; to = t; limit = None; budget = scene.budget }) Answer text
-        → RepliesTo scene h k (asks.Goal s t) text }
+        → RepliesTo scene h k (asks.Goal s t) other → text ≡ other }
+    ensures within_bounds { (scene : Scene) (h : History) (k s t : ℕ) (limit : List (Option ℕ))
+        (text other : List ℕ) → IsNetwork (network_at scene h k)
+        → RepliesToQuery (network_at scene h k) Plain k Walks
+        (record { from = s; to = t; limit = Some limit; budget = scene.budget }) Answer text
+        → RepliesTo scene h k (asks.GoalWithin s t limit) other → text ≡ other }
 {}

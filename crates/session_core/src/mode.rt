@@ -3,6 +3,6 @@
 pub enum SearchMode {
     /// By costs alone: the relevant pairs count.
     Plain,
-    /// Directed to its target by lower bounds: the goal-relevant pairs count, which are fewer.
+    /// Directed to its target by lower bounds: the goal-relevant pairs count, which are at most as many.
     Goal,
 }

@@ -45,15 +45,36 @@ impl<R: Threads + Sync, G: Gate> ServeContext<'_, R, G> {
         match *request {
             SessionRequest::Costs { from, to } => {
                 let query = self.query(from, to, None);
-                self.search(last, SearchMode::Plain, AnswerKind::Costs, &query, room, out)
+                self.search(
+                    last,
+                    SearchMode::Plain,
+                    AnswerKind::Costs,
+                    &query,
+                    room,
+                    out,
+                )
             }
             SessionRequest::Walks { from, to } => {
                 let query = self.query(from, to, None);
-                self.search(last, SearchMode::Plain, AnswerKind::Walks, &query, room, out)
+                self.search(
+                    last,
+                    SearchMode::Plain,
+                    AnswerKind::Walks,
+                    &query,
+                    room,
+                    out,
+                )
             }
             SessionRequest::Within { from, to, limit } => {
                 let query = self.query(from, to, Some(limit));
-                self.search(last, SearchMode::Plain, AnswerKind::Walks, &query, room, out)
+                self.search(
+                    last,
+                    SearchMode::Plain,
+                    AnswerKind::Walks,
+                    &query,
+                    room,
+                    out,
+                )
             }
             SessionRequest::Goal { from, to } => {
                 let query = self.query(from, to, None);

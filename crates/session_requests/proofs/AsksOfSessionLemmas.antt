@@ -5,7 +5,7 @@ use Rattle.std.specs.List.{AllZip}
 use Rattle.line_text.specs.Fields.{fields_of}
 use Rattle.session_requests.specs.declared.session.SessionRequest.{SessionRequest}
 use Rattle.session_requests.specs.declared.session.SessionRequest.TheVariants as session
-use Rattle.session_requests.specs.Readings.{one_from, session_alone, session_behind, session_limited, two_from, within_from}
+use Rattle.session_requests.specs.Readings.{one_from, session_alone, session_behind, session_other, two_from, within_from}
 use Rattle.session_requests.specs.Requests.{AsksOfSession, LimitsEach, session_tokens}
 use Rattle.session_requests.specs.Tokens.{Writes}
 use Rattle.session_requests.proofs.WritesLemmas.{chosen, mapped, reads_one, reads_two, reads_within, writes_one, writes_two, writes_within}
@@ -24,8 +24,8 @@ alone_asked d word [] r e =
     (λ is some. subst Asked (let same : session.Bye ≡ r = cc in same) ((is, tt), tt))
     (λ none. absurd cc))
 
-limited_asked : (d : ℕ) (word : List ℕ) (fields : List (List ℕ)) (r : SessionRequest) → session_limited d word fields ≡ Some r → SessionAsked d (word ∷ fields) r
-limited_asked d word fields r e =
+other_asked : (d : ℕ) (word : List ℕ) (fields : List (List ℕ)) (r : SessionRequest) → session_other d word fields ≡ Some r → SessionAsked d (word ∷ fields) r
+other_asked d word fields r e =
     let Asked = SessionAsked d (word ∷ fields) in
     chosen (Asked r) word (codes "l") _ _ r e
     (λ is some. mapped (λ parts. session.Within parts.0 parts.1 parts.2) Asked (within_from d fields) r some
@@ -46,7 +46,7 @@ session_asked d word fields r e =
     (λ is some. mapped (λ ends. session.Costs ends.0 ends.1) Asked (two_from fields) r some (λ ends two. ((is, writes_two fields ends two), tt)))
     (λ e. chosen (Asked r) word (codes "g") _ _ r e
     (λ is some. mapped (λ ends. session.Goal ends.0 ends.1) Asked (two_from fields) r some (λ ends two. ((is, writes_two fields ends two), tt)))
-    (λ e. limited_asked d word fields r e)))
+    (λ e. other_asked d word fields r e)))
 
 session_read : (d : ℕ) (word : List ℕ) (fields : List (List ℕ)) (r : SessionRequest) → SessionAsked d (word ∷ fields) r → session_behind d word fields ≡ Some r
 session_read d word fields (session.Costs from to) asked = rw (asked.0.0, reads_two fields from to asked.0.1) refl

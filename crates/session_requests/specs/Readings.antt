@@ -68,9 +68,9 @@ session_alone word [] =
     if bytes_eq word (codes "e") then Some session.Epoch
     else (if bytes_eq word (codes "bye") then Some session.Bye else None)
 
--- a session's request within a limit, or one that isn't a query, whose line begins with this word
-abbrev pub session_limited : ℕ → List ℕ → List (List ℕ) → Option SessionRequest
-session_limited d word fields =
+-- a session's request whose line begins with this word, where it is none of a query without a limit
+abbrev pub session_other : ℕ → List ℕ → List (List ℕ) → Option SessionRequest
+session_other d word fields =
     if bytes_eq word (codes "l") then option_map (λ parts. session.Within parts.0 parts.1 parts.2) (within_from d fields)
     else (if bytes_eq word (codes "h") then option_map (λ parts. session.GoalWithin parts.0 parts.1 parts.2) (within_from d fields)
     else (if bytes_eq word (codes "w") then option_map session.Wait (one_from fields)
@@ -82,7 +82,7 @@ session_behind d word fields =
     if bytes_eq word (codes "q") then option_map (λ ends. session.Walks ends.0 ends.1) (two_from fields)
     else (if bytes_eq word (codes "c") then option_map (λ ends. session.Costs ends.0 ends.1) (two_from fields)
     else (if bytes_eq word (codes "g") then option_map (λ ends. session.Goal ends.0 ends.1) (two_from fields)
-    else session_limited d word fields))
+    else session_other d word fields))
 
 -- an operator's request of a word and no further field
 abbrev pub operator_alone : List ℕ → List (List ℕ) → Option OperatorRequest

@@ -1,7 +1,7 @@
 ghost use Rattle.std.specs.Prelude.{◌≡◌, ◌↔◌, ◌≤◌, [], ◌∷◌, length};
 ghost use Rattle.cost_vector.specs.Costs.{max_criteria, min_criteria};
 ghost use Rattle.line_text.specs.Fields.{fields_of};
-ghost use Rattle.session_requests.specs.Readings.{session_alone, session_behind, session_limited, within_from};
+ghost use Rattle.session_requests.specs.Readings.{session_alone, session_behind, session_other, within_from};
 ghost use Rattle.session_requests.specs.Requests.{AsksOfSession};
 
 use crate::Line;
@@ -65,15 +65,15 @@ fn request_behind(word: &[u8], rest: &[u8], criteria: usize) -> Option<SessionRe
         let (from, to) = two_numbers(rest)?;
         Some(SessionRequest::Goal { from, to })
     } else {
-        limited_behind(word, rest, criteria)
+        other_behind(word, rest, criteria)
     }
 }
 
-/// The request within a limit whose line has this word first, or one that isn't a query.
-fn limited_behind(word: &[u8], rest: &[u8], criteria: usize) -> Option<SessionRequest>
+/// The request whose line has this word first, where it is none of a query without a limit.
+fn other_behind(word: &[u8], rest: &[u8], criteria: usize) -> Option<SessionRequest>
     requires at_least_two { min_criteria ≤ criteria }
     requires at_most_four { criteria ≤ max_criteria }
-    ensures { result ≡ session_limited criteria word.now (fields_of rest.now) }
+    ensures { result ≡ session_other criteria word.now (fields_of rest.now) }
 {
     if word == b"l".as_slice() {
         let (from, to, limit) = within(rest, criteria)?;

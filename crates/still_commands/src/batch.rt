@@ -126,7 +126,7 @@ fn take_next(ahead: &mut Vec<Option<MadeReply>>) -> Option<MadeReply>
 }
 
 /// Where no reply is left that was made ahead, has the workers make those to the first of these pairs side by side. None are
-/// made by one worker, nor to a last pair, whose search the workers share, nor where memory runs out.
+/// made by one worker, nor to a last pair, of which the workers may share the search, nor where memory runs out.
 fn refill<R: Threads + Sync, G: Gate>(
     answerer: &Answerer<'_, R, G>,
     limits: SearchLimits,

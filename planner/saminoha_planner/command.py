@@ -75,7 +75,7 @@ def add_program_options(parser: argparse.ArgumentParser) -> None:
         type=int,
         default=DEFAULT_BUDGET,
         metavar="LABELS",
-        help="labels of a query at most (10 million)",
+        help="labels of a query at most, counted as the command `goal` does (10 million)",
     )
     group.add_argument(
         "--workers", type=int, default=1, metavar="W", help="threads that share each search (1)"

@@ -83,6 +83,19 @@ def test_faults_of_the_program(program, six_arcs, tmp_path):
         Program.find("/no/such/program")
 
 
+def test_routes_are_asked_toward_their_targets(program, six_arcs):
+    """From 1 to 3 two labels are goal-relevant, and three are relevant."""
+    poor = Program(program.path, budget=2)
+    answer = Answer(0, 1, 3, (Route((2, 1), (2,)),))
+    assert poor.query(six_arcs, 1, 3) == answer
+    assert list(poor.batch(six_arcs, [(1, 3)])) == [answer]
+    with poor.serve(six_arcs) as server, Session(server.host, server.port) as session:
+        assert session.query(1, 3) == answer
+        assert session.query(1, 3, (None, 1)).routes == answer.routes
+        with pytest.raises(Refused):
+            session.costs(1, 3)
+
+
 def test_a_slow_program_is_ended(tmp_path, six_arcs):
     slow = tmp_path / "slow"
     slow.write_text("#!/bin/sh\nexec sleep 60\n")

@@ -47,7 +47,7 @@ class Drawn:
         async with self.gate:
             while line := (await reader.readline()).decode().split():
                 match line:
-                    case ["l", *_]:
+                    case ["h", *_]:
                         writer.write(b"l %d 9 9 - - 1\np 0 0 0\n" % self.epoch)
                     case ["c", *_]:
                         writer.write(b"x %d 10 10 node\n" % self.epoch)

@@ -50,7 +50,9 @@ class TimedOut(ClientError):
 
 
 class Refused(ClientError):
-    """The query was refused: a node isn't there, or the query passes its budget."""
+    """The query was refused: a node isn't there, or the query passes its budget, which counts
+    goal-relevant labels, or of `costs` all relevant ones.
+    """
 
     budget: int | None = None  # the labels that were allowed, where that is known
 
@@ -129,6 +131,8 @@ Reply = Answer | Refusal | Epoch
 
 @dataclass(frozen=True)
 class Query:
+    """All trade-offs with their walks, by a search toward the target."""
+
     source: int
     target: int
     limits: tuple[int | None, ...] | None = None
@@ -136,9 +140,9 @@ class Query:
     @property
     def line(self) -> str:
         if self.limits is None:
-            return f"q {self.source} {self.target}"
+            return f"g {self.source} {self.target}"
         bounds = " ".join("-" if bound is None else str(bound) for bound in self.limits)
-        return f"l {self.source} {self.target} {bounds}"
+        return f"h {self.source} {self.target} {bounds}"
 
 
 @dataclass(frozen=True)

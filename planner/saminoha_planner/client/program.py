@@ -107,11 +107,14 @@ class Program:
                 raise ProtocolError(f"to check came {' '.join(other)!r}")
 
     def query(self, files: Files, source: int, target: int, limits: Limits | None = None) -> Answer:
-        """All trade-offs with their walks. `Refused` is raised where the program refuses."""
+        """All trade-offs with their walks, by a search toward the target. `Refused` is raised
+        where the program refuses.
+        """
         if limits is not None and any(bound is not None for bound in limits):
             request = Query(source, target, tuple(limits))
             return self.answered(self.lanes(files, [], [[request]]).sessions[0][0])
-        return self._ask("goal" if self.knows("goal") else "one", files, Query(source, target))
+        options = [*_ends(source, target), "--budget", str(self.budget)]
+        return self._ask("goal", options, files, Query(source, target))
 
     def answered(self, reply: Reply) -> Answer:
         """The answer, or `Refused` raised, which knows this budget."""
@@ -122,16 +125,18 @@ class Program:
             raise
 
     def costs(self, files: Files, source: int, target: int) -> Answer:
-        return self._ask("costs", files, Costs(source, target))
+        options = [*_ends(source, target), *self._search_options()]
+        return self._ask("costs", options, files, Costs(source, target))
 
     def batch(self, files: Files, pairs: Sequence[tuple[int, int]]) -> Iterator[Answer | Refusal]:
-        """The reply to each pair in order, as they come."""
+        """The reply to each pair in order, as they come, by searches toward their targets."""
         with tempfile.TemporaryDirectory(prefix="saminoha-") as folder:
             name = Path(folder, "pairs.p2p")
             with name.open("w") as out:
                 out.write(f"p aux sp p2p {len(pairs)}\n")
                 out.writelines(f"q {source} {target}\n" for source, target in pairs)
-            words = self._words("batch", ["--pairs", str(name), *self._search_options()], files)
+            options = ["--goal", "--pairs", str(name), *self._search_options()]
+            words = self._words("batch", options, files)
             with self._streamed(words) as lines:
                 replies = Replies(lines, len(files))
                 for source, target in pairs:
@@ -188,9 +193,9 @@ class Program:
     def _words(self, command: str, options: Sequence[str], files: Files) -> list[str]:
         return [self.path, command, *options, "--", *(os.fspath(file) for file in files)]
 
-    def _ask(self, command: str, files: Files, request: Query | Costs) -> Answer:
-        search = ["--budget", str(self.budget)] if command == "goal" else self._search_options()
-        options = [*_ends(request.source, request.target), *search]
+    def _ask(
+        self, command: str, options: Sequence[str], files: Files, request: Query | Costs
+    ) -> Answer:
         _, text = self._finish(command, options, files)
         return self.answered(_replies(text, files).reply_to(request))
 
@@ -247,7 +252,6 @@ def _replies(text: str, files: Files) -> Replies:
 def _knows(path: str, command: str) -> bool:
     query = _ends(1, 1)
     options = {
-        "goal": query,
         "one": query,
         "costs": query,
         "prove": query,

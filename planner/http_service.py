@@ -9,6 +9,7 @@ import argparse
 import asyncio
 import logging
 import os
+import signal
 import socket
 import sys
 from pathlib import Path
@@ -181,6 +182,7 @@ async def serve(words: argparse.Namespace) -> None:
         service = Service(network, pool, tokens, words.pairs)
         if words.operator:
             service.closing.begin(pool, words.operator)
+        asyncio.get_running_loop().add_signal_handler(signal.SIGHUP, pool.begin_anew)
         config = uvicorn.Config(
             make_app(service, bounds),
             http="h11",  # the other one tells some faults in words of its own

@@ -11,6 +11,7 @@ import logging
 import threading
 from collections.abc import Callable, Mapping, Sequence
 from concurrent.futures import ThreadPoolExecutor
+from contextlib import suppress
 from datetime import datetime
 from typing import TypeVar
 
@@ -26,9 +27,11 @@ from .pool import Pool
 from .problems import Problem
 
 AUDIT = logging.getLogger("saminoha.audit")
+LOG = logging.getLogger("saminoha.closing")
 NEAR = 100.0  # metres from a point to the road that it means
 T = TypeVar("T")
 MOST_CHANGES = 65_536  # that a server keeps pending
+MOST_CLIMB = 10_000  # epochs without changes that are published, so that numbers go on
 WORDS = {"road", "points", "measure", "reason", "begin", "end"}
 
 
@@ -59,6 +62,58 @@ class LeaderAsker:
                 operator.order(change)
             return operator.publish()
 
+    def climb(self, epoch: int, floor: int) -> int:
+        """Publishes epochs without changes, up to a number."""
+        with Operator(*self._operator, timeout=self._pool.limits.answer_time) as operator:
+            while epoch < floor:
+                epoch = operator.publish()
+        return epoch
+
+
+class Restorer:
+    """Looks again and again. A leader that came, for the first time or anew, is asked by others
+    only once all that is due has been published to it, and its epochs have gone on to where they
+    were; where that is too far, their numbers begin anew.
+    """
+
+    def __init__(
+        self, keeper: Keeper, asker: LeaderAsker, pool: Pool, loop: asyncio.AbstractEventLoop
+    ) -> None:
+        self._keeper, self._asker, self._pool, self._loop = keeper, asker, pool, loop
+        self._life = 0
+
+    def look(self) -> None:
+        life = self._pool.leader.life
+        if life == self._life:
+            self._keeper.look()
+        elif life:
+            self._restore(life)
+
+    def _restore(self, life: int) -> None:
+        self._keeper.forget()
+        self._keeper.look()
+        if self._keeper.fault or self._keeper.epoch is None:
+            return
+        try:
+            epoch = self._climbed(self._keeper.epoch, self._pool.leader.floor)
+        except ClientError as fault:
+            self._keeper.fault = str(fault)
+            return
+        self._keeper.knows(epoch)
+        self._life = life
+        self._tell(lambda: self._pool.restored(life, epoch))
+
+    def _climbed(self, epoch: int, floor: int) -> int:
+        if floor - epoch > MOST_CLIMB:
+            LOG.warning("the leader's epochs begin anew: they were at %d", floor)
+            self._tell(self._pool.begin_anew)
+            return epoch
+        return self._asker.climb(epoch, floor) if epoch < floor else epoch
+
+    def _tell(self, work: Callable[[], None]) -> None:
+        with suppress(RuntimeError):  # the loop has ended
+            self._loop.call_soon_threadsafe(work)
+
 
 class Closing:
     """The closures of one network. Whatever publishes does so one after another."""
@@ -67,21 +122,28 @@ class Closing:
         self._network, self._roads, self.log = network, roads, log
         self._keeper: Keeper | None = None
         self._thread = ThreadPoolExecutor(1, "closures")
-        self._ended = threading.Event()
+        self._woken, self._has_ended = threading.Event(), False
 
     def begin(self, pool: Pool, operator: Address) -> None:
         """From now on what the log has is published when it is due."""
-        asker = LeaderAsker(pool, operator, asyncio.get_running_loop())
+        loop = asyncio.get_running_loop()
+        asker = LeaderAsker(pool, operator, loop)
         self._keeper = Keeper(self._network, asker, self.log)
-        threading.Thread(target=self._watch, args=(self._keeper,), daemon=True).start()
+        pool.has_keeper, pool.leader.is_restored = True, False
+        pool.leader_came = self._woken.set
+        words = (Restorer(self._keeper, asker, pool, loop),)
+        threading.Thread(target=self._watch, args=words, daemon=True).start()
 
     def end(self) -> None:
-        self._ended.set()
+        self._has_ended = True
+        self._woken.set()
         self._thread.shutdown(wait=False)
 
-    def _watch(self, keeper: Keeper) -> None:
-        while not self._ended.wait(PAUSE):
-            keeper.look()
+    def _watch(self, restorer: Restorer) -> None:
+        while not self._has_ended:
+            restorer.look()
+            self._woken.wait(PAUSE)
+            self._woken.clear()
 
     @property
     def told(self) -> dict[str, object]:

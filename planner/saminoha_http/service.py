@@ -207,6 +207,8 @@ class Service:
                 "name": one.name,
                 "up": one.is_up,
                 "stale": self.pool.is_stale(one),
+                "behind": one.is_behind,
+                "restored": one.is_restored,
                 "epoch": one.epoch,
             }
             for one in self.pool.servers

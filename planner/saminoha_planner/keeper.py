@@ -50,6 +50,16 @@ class Keeper:
         except (ClientError, Fault, OSError) as fault:
             self.fault = str(fault)
 
+    def forget(self) -> None:
+        """The server may have begun anew: the next look publishes all that is wanted."""
+        with self._lock:
+            self._stands = None
+
+    def knows(self, epoch: int) -> None:
+        """The epochs up to this one are no others' than this keeper's."""
+        with self._lock:
+            self.epoch = epoch
+
     @property
     def stands(self) -> list[Change]:
         """What is published, as far as this keeper knows."""

@@ -13,7 +13,7 @@ import shutil
 from collections.abc import Iterable, Iterator, Sequence
 from dataclasses import asdict, dataclass, field, replace
 from pathlib import Path
-from typing import overload
+from typing import NamedTuple, overload
 
 import numpy as np
 
@@ -57,6 +57,16 @@ class Arc:
     @property
     def title(self) -> str:
         return self.name or self.ref
+
+
+class Leg(NamedTuple):
+    """What tells one way from another on an arc: its road, which is the same for all arcs of one
+    stretch, the road's title, and the arc's metres.
+    """
+
+    road: int
+    title: str
+    metres: float
 
 
 @dataclass(frozen=True)
@@ -196,6 +206,19 @@ class Network:
         """The same for all arcs of one stretch of road."""
         stretch = int(self.arrays.stretches[number - 1])
         return stretch if stretch >= 0 else -number
+
+    @functools.cached_property
+    def _legs(self) -> dict[int, Leg]:
+        return {}
+
+    def leg(self, number: int) -> Leg:
+        """Of an arc; each is made once, as it is asked for."""
+        found = self._legs.get(number)
+        if found is None:
+            metres = float(self.metres_per_arc[number - 1])
+            found = Leg(self.road_key(number), self.arc(number).title, metres)
+            self._legs[number] = found
+        return found
 
     def nearest(self, lon: float, lat: float) -> int:
         """The junction nearest to a point."""

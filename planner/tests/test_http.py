@@ -435,9 +435,9 @@ def test_document(here):
             assert one["responses"]["default"] and one["summary"] and one["operationId"]
 
 
-def test_fuzz(here):
+def test_fuzz(closed):
     count = int(os.environ.get("FUZZ_REQUESTS", "1000"))
-    statuses = fuzz(HOST, here.port, here.get("/openapi.json").told, count, TOKEN)
+    statuses = fuzz(HOST, closed.port, closed.get("/openapi.json").told, count, TOKEN)
     assert sum(statuses.values()) == count
     assert max(statuses) < 500, statuses
     assert statuses[200] > count / 20 and statuses[400] > count / 20

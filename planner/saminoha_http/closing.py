@@ -146,6 +146,11 @@ class Closing:
             self._woken.clear()
 
     @property
+    def keeper(self) -> Keeper | None:
+        """Who publishes, where an operator's address was given."""
+        return self._keeper
+
+    @property
     def told(self) -> dict[str, object]:
         """All that the log has, and how many epochs it doesn't explain."""
         keeper = self._keeper
@@ -157,7 +162,13 @@ class Closing:
 
     async def close(self, asked: Mapping[str, object], who: str, peer: str) -> Closure:
         keeper = self._due()
-        closure = await self._run(lambda: self._closure(keeper, asked, who))
+        return await self.add(await self._run(lambda: self._closure(keeper, asked, who)), who, peer)
+
+    async def add(self, closure: Closure, who: str, peer: str) -> Closure:
+        keeper = self._due()
+        if len(closure.changes) > MOST_CHANGES:
+            text = f"{len(closure.changes)} arcs are more than one epoch can change"
+            raise Problem("bad-body", text)
         await self._run(lambda: self._publish(keeper, closure))
         found = self._find(closure.name) or closure
         audit("close", who, peer, found)
@@ -219,8 +230,6 @@ class Closing:
             begin=_time(asked, "begin"),
             end=_time(asked, "end"),
         )
-        if len(closure.changes) > MOST_CHANGES:
-            raise Problem("bad-body", f"{len(arcs)} arcs are more than one epoch can change")
         if closure.end and closure.end <= (closure.begin or closure.at):
             raise Problem("bad-body", "it would end before it begins")
         return closure

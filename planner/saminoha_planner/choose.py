@@ -56,15 +56,20 @@ def thinned(routes: Sequence[Route], epsilon: float) -> list[Route]:
     return sorted(kept, key=lambda route: route.cost)
 
 
-def few(network: Network, routes: Sequence[Route], keep: int = 5) -> list[Option]:
+def few(
+    network: Network,
+    routes: Sequence[Route],
+    keep: int = 5,
+    criteria: Sequence[Criterion] | None = None,
+) -> list[Option]:
     """The least of each criterion, the compromise, and then those that share least road with
-    these, by letters.
+    these, by letters. The criteria are those of the costs, if these aren't the network's.
     """
     reasons: dict[int, list[str]] = defaultdict(list)
     if routes:
         away = _to_ideal(routes)
         if keep > 1:
-            for place, criterion in enumerate(network.criteria):
+            for place, criterion in enumerate(criteria or network.criteria):
                 reasons[_least(routes, place, away)].append(f"least {criterion.label}")
                 if len(reasons) >= keep:
                     break
@@ -109,6 +114,8 @@ def shared(network: Network, one: Route, other: Route) -> float:
 
 def _to_ideal(routes: Sequence[Route]) -> np.ndarray:
     """How far each cost is from the least of every criterion, each of which counts from 0 to 1."""
+    if len(routes) == 1:
+        return np.zeros(1)
     costs = np.array([route.cost for route in routes], dtype=float)
     least, span = costs.min(axis=0), np.ptp(costs, axis=0)
     return np.sqrt((((costs - least) / np.where(span > 0, span, 1)) ** 2).sum(axis=1))

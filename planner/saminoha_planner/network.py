@@ -10,7 +10,7 @@ import hashlib
 import json
 import os
 import shutil
-from collections.abc import Iterable, Iterator, Sequence
+from collections.abc import Callable, Iterable, Iterator, Sequence
 from dataclasses import asdict, dataclass, field, replace
 from pathlib import Path
 from typing import NamedTuple, overload
@@ -35,6 +35,7 @@ PLACES = (
     "farm",
     "locality",
 )
+MOST_KEPT = 2**16  # arcs of which what was made of them is kept
 Line = tuple[tuple[float, float], ...]
 
 
@@ -86,7 +87,7 @@ class Arcs(Sequence[Arc]):
 
     def __init__(self, arrays: Arrays) -> None:
         self.arrays = arrays
-        self._made: dict[int, Arc] = {}
+        self._made = functools.lru_cache(MOST_KEPT)(self._make)
 
     def __len__(self) -> int:
         return len(self.arrays.tails)
@@ -107,10 +108,7 @@ class Arcs(Sequence[Arc]):
             return [self[one] for one in range(*place.indices(len(self)))]
         if not -len(self) <= place < len(self):
             raise IndexError(place)
-        place %= len(self)
-        if place not in self._made:
-            self._made[place] = self._make(place)
-        return self._made[place]
+        return self._made(place % len(self))
 
     def _make(self, place: int) -> Arc:
         arrays, stretch = self.arrays, int(self.arrays.stretches[place])
@@ -207,18 +205,17 @@ class Network:
         stretch = int(self.arrays.stretches[number - 1])
         return stretch if stretch >= 0 else -number
 
-    @functools.cached_property
-    def _legs(self) -> dict[int, Leg]:
-        return {}
-
     def leg(self, number: int) -> Leg:
-        """Of an arc; each is made once, as it is asked for."""
-        found = self._legs.get(number)
-        if found is None:
-            metres = float(self.metres_per_arc[number - 1])
-            found = Leg(self.road_key(number), self.arc(number).title, metres)
-            self._legs[number] = found
-        return found
+        """Of an arc; what was made is kept, up to a bound."""
+        return self._leg(number)
+
+    @functools.cached_property
+    def _leg(self) -> Callable[[int], Leg]:
+        return functools.lru_cache(MOST_KEPT)(self._make_leg)
+
+    def _make_leg(self, number: int) -> Leg:
+        metres = float(self.metres_per_arc[number - 1])
+        return Leg(self.road_key(number), self.arc(number).title, metres)
 
     def nearest(self, lon: float, lat: float) -> int:
         """The junction nearest to a point."""

@@ -10,10 +10,12 @@ import time
 import urllib.error
 import urllib.request
 from collections.abc import Iterator, Sequence
-from contextlib import contextmanager
+from contextlib import ExitStack, contextmanager
 from dataclasses import dataclass, field
 from pathlib import Path
 from typing import Any
+
+from http_follow import Feeding
 
 from saminoha_planner.client import Program, free_ports
 from saminoha_planner.network import Network
@@ -129,19 +131,40 @@ def service(
     *options: str,
     followers: int = 0,
     lanes: int = LANES,
+    links: int | None = None,
     server_options: Sequence[str] = (),
 ) -> Iterator[Here]:
-    """A leader, followers, and the service over them, whose log goes to a file of the folder."""
+    """A leader, followers that follow it, and the service over them, whose log goes to a file of
+    the folder.
+    """
     servers = [ServerHere(program, network.files, lanes) for _ in range(1 + followers)]
     for server in servers:
         server.begin(*server_options)
+    with ExitStack() as until:
+        operator = servers[0].operator
+        if followers:
+            words = (program, network.files, servers[0], servers[1:], folder)
+            operator = until.enter_context(Feeding(*words)).address
+        with _service(network, folder, servers, operator, links or lanes, options) as here:
+            yield here
+
+
+@contextmanager
+def _service(
+    network: Network,
+    folder: Path,
+    servers: list[ServerHere],
+    operator: str,
+    links: int,
+    options: Sequence[str],
+) -> Iterator[Here]:
     tokens, log = folder / "tokens", folder / "log"
     tokens.write_text(f"# who closes roads\nann {TOKEN}\n")
     tokens.chmod(0o600)
     [port] = free_ports(HOST, 1)
     words = [sys.executable, str(PLANNER / "http_service.py"), str(network.folder)]
-    words += ["--leader", servers[0].session, "--operator", servers[0].operator]
-    words += ["--tokens", str(tokens), "--listen", f"{HOST}:{port}", "--links", str(lanes)]
+    words += ["--leader", servers[0].session, "--operator", operator]
+    words += ["--tokens", str(tokens), "--listen", f"{HOST}:{port}", "--links", str(links)]
     for follower in servers[1:]:
         words += ["--follower", follower.session]
     with log.open("wb") as out:

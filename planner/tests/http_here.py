@@ -113,6 +113,12 @@ class Here:
             assert time.monotonic() < end, self.get("/health").body
             time.sleep(0.1)
 
+    def wait_epoch(self, epoch: int, seconds: float = 20.0) -> None:
+        end = time.monotonic() + seconds
+        while self.get("/health").told["epoch"] != epoch:
+            assert time.monotonic() < end, self.get("/health").body
+            time.sleep(0.1)
+
     def entries(self, member: str) -> list[dict[str, Any]]:
         """The lines of the service's log that have this member."""
         lines = [line for line in self.log.read_text().splitlines() if line.startswith("{")]
@@ -133,6 +139,7 @@ def service(
     lanes: int = LANES,
     links: int | None = None,
     server_options: Sequence[str] = (),
+    has_operator: bool = True,
 ) -> Iterator[Here]:
     """A leader, followers that follow it, and the service over them, whose log goes to a file of
     the folder.
@@ -141,8 +148,8 @@ def service(
     for server in servers:
         server.begin(*server_options)
     with ExitStack() as until:
-        operator = servers[0].operator
-        if followers:
+        operator = servers[0].operator if has_operator else ""
+        if followers and has_operator:
             words = (program, network.files, servers[0], servers[1:], folder)
             operator = until.enter_context(Feeding(*words)).address
         with _service(network, folder, servers, operator, links or lanes, options) as here:
@@ -163,8 +170,9 @@ def _service(
     tokens.chmod(0o600)
     [port] = free_ports(HOST, 1)
     words = [sys.executable, str(PLANNER / "http_service.py"), str(network.folder)]
-    words += ["--leader", servers[0].session, "--operator", operator]
-    words += ["--tokens", str(tokens), "--listen", f"{HOST}:{port}", "--links", str(links)]
+    words += ["--leader", servers[0].session, "--listen", f"{HOST}:{port}", "--links", str(links)]
+    if operator:
+        words += ["--operator", operator, "--tokens", str(tokens)]
     for follower in servers[1:]:
         words += ["--follower", follower.session]
     with log.open("wb") as out:

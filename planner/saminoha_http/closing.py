@@ -23,7 +23,7 @@ from saminoha_planner.roads import Roads
 from saminoha_planner.stretches import Piece, Stretches
 
 from .links import Address
-from .pool import Pool
+from .pool import Busy, Pool
 from .problems import Problem
 
 AUDIT = logging.getLogger("saminoha.audit")
@@ -48,9 +48,12 @@ class LeaderAsker:
         self._pool, self._operator, self._loop = pool, operator, loop
 
     def epoch(self) -> int:
-        asked = self._pool.ask(Now(), only_leader=True)
+        """Of the leader whose life it was as this was asked."""
+        life, asked = self._pool.leader.life, self._pool.ask(Now(), only_leader=True)
         reply = asyncio.run_coroutine_threadsafe(asked, self._loop).result()
         assert isinstance(reply, Epoch)
+        if self._pool.leader.life != life:
+            raise Busy("the leader came anew meanwhile")
         return reply.number
 
     def query(self, source: int, target: int) -> Answer:
@@ -72,8 +75,9 @@ class LeaderAsker:
 
 class Restorer:
     """Looks again and again. A leader that came, for the first time or anew, is asked by others
-    only once all that is due has been published to it, and its epochs have gone on to where they
-    were; where that is too far, their numbers begin anew.
+    only once all that is due stands on it. Before that is published, epochs without changes bring
+    their numbers to where they were, so that no number comes to mean another thing, and who
+    follows the leader goes on; where that is too far, the numbers begin anew.
     """
 
     def __init__(
@@ -90,25 +94,24 @@ class Restorer:
             self._restore(life)
 
     def _restore(self, life: int) -> None:
-        self._keeper.forget()
-        self._keeper.look()
-        if self._keeper.fault or self._keeper.epoch is None:
-            return
         try:
-            epoch = self._climbed(self._keeper.epoch, self._pool.leader.floor)
+            self._climb(self._asker.epoch(), self._pool.leader.floor)
         except ClientError as fault:
             self._keeper.fault = str(fault)
             return
-        self._keeper.knows(epoch)
-        self._life = life
-        self._tell(lambda: self._pool.restored(life, epoch))
+        self._keeper.forget()
+        self._keeper.look()
+        epoch = self._keeper.epoch
+        if not self._keeper.fault and epoch is not None:
+            self._life = life
+            self._tell(functools.partial(self._pool.restored, life, epoch))
 
-    def _climbed(self, epoch: int, floor: int) -> int:
+    def _climb(self, epoch: int, floor: int) -> None:
         if floor - epoch > MOST_CLIMB:
             LOG.warning("the leader's epochs begin anew: they were at %d", floor)
             self._tell(self._pool.begin_anew)
-            return epoch
-        return self._asker.climb(epoch, floor) if epoch < floor else epoch
+        elif floor > epoch:
+            self._keeper.knows(self._asker.climb(epoch, floor))
 
     def _tell(self, work: Callable[[], None]) -> None:
         with suppress(RuntimeError):  # the loop has ended
@@ -264,6 +267,7 @@ def told_closure(one: Closure) -> dict[str, object]:
         "begin": begin.isoformat(),
         "end": end.isoformat() if end else None,
         "epoch": one.epoch,
+        "lifted_epoch": one.lifted_epoch,
     }
 
 

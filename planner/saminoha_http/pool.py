@@ -258,7 +258,10 @@ class Pool:
         if len(self._waiting) >= self.limits.queue:
             raise Busy(f"{len(self._waiting)} requests wait for a link already")
         waiter = Waiter(asyncio.get_running_loop().create_future(), only_leader)
-        self._waiting.append(waiter)
+        if only_leader:
+            self._waiting.appendleft(waiter)  # the keeper doesn't stand behind all others
+        else:
+            self._waiting.append(waiter)
         try:
             async with asyncio.timeout(max(0.0, deadline - time.monotonic())):
                 return await waiter.place

@@ -41,7 +41,11 @@ def _operation(method: str, path: str, told: Schema) -> str:
 
 def _row(name: str, one: Schema) -> str:
     schema = one["schema"]
-    form = ", ".join(f"{key} {value}" for key, value in schema.items() if key != "items")
+    form = ", ".join(f"{key} {_plain(it)}" for key, it in schema.items() if key != "items")
     due = " (wanted)" if one.get("required") else ""
     text = one.get("description", "")
     return f"<tr><td><code>{escape(name)}</code>{due}<td>{escape(text)}<td>{escape(form)}</tr>"
+
+
+def _plain(value: object) -> str:
+    return f"{value:g}" if isinstance(value, float) else str(value)

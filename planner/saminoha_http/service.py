@@ -15,7 +15,7 @@ from starlette.requests import Request
 from starlette.responses import Response, StreamingResponse
 
 from saminoha_planner.background import load_background
-from saminoha_planner.client import Answer, ClientError, Costs, answered
+from saminoha_planner.client import ClientError, Costs, answered
 from saminoha_planner.closures import LOG, Log
 from saminoha_planner.command import Fault
 from saminoha_planner.ends import End, Ends
@@ -250,6 +250,7 @@ async def body_of(request: Request, known: set[str] | None) -> dict[str, object]
     try:
         async with asyncio.timeout(BODY_TIME):
             asked = json.loads(await request.body())
+        as_json(asked).encode()  # which fails on letters that are none
     except TimeoutError:
         raise Problem("bad-body", f"the body didn't come in {BODY_TIME:g} s") from None
     except (ValueError, RecursionError):

@@ -16,6 +16,7 @@ import os
 import random
 import sys
 import tempfile
+import threading
 import time
 from collections import Counter
 from collections.abc import Sequence
@@ -30,7 +31,7 @@ sys.path[:0] = [str(HERE.parent), str(HERE)]
 from http_here import HOST, TOKEN, Here, service  # noqa: E402
 
 from saminoha_planner.client import Change, Program, Publish, Query, Wait, answered  # noqa: E402
-from saminoha_planner.closures import LOG, Log, active  # noqa: E402
+from saminoha_planner.closures import LOG, Log  # noqa: E402
 from saminoha_planner.network import Network, read_network  # noqa: E402
 
 NEAR = 30  # numbers of nodes apart, at most
@@ -40,26 +41,37 @@ ANN = {"Authorization": f"Bearer {TOKEN}"}
 Costs = list[list[int]]
 Pair = tuple[int, int]
 HEADS = (
-    "| Run | Requests | A second | Median | 99th percentile | 503 | Wrong, lost | Processor | Memory |",
-    "|---|---|---|---|---|---|---|---|---|",
+    "| Run | Answers | A second | Median | 99th percentile | 503 | Wrong | Lost | CPU | Memory |",
+    "|---|---|---|---|---|---|---|---|---|---|",
 )
 
 
 @dataclass
 class Due:
-    """What is to be answered, by epoch and address. The road that is closed is the busiest one."""
+    """What is to be answered at an epoch: by the program itself, with the closures that the log has
+    of it. `steady` is held by who closes and opens, since the log has a line behind its epoch.
+    """
 
     program: Program
     network: Network
     pairs: list[Pair]
-    by_epoch: dict[int, dict[str, Costs]] = field(default_factory=dict)
+    steady: threading.Lock = field(default_factory=threading.Lock)
+    _known: dict[tuple[Change, ...], dict[str, Costs]] = field(default_factory=dict)
 
-    def mind(self, epoch: int) -> None:
-        """The epoch of which the log's closures are what is published."""
-        stands = active(Log(self.network.folder / LOG).read()).values()
-        self.by_epoch[epoch] = dict(zip(map(path_of, self.pairs), self._costs(list(stands))))
+    def costs(self, epoch: int, path: str) -> Costs:
+        with self.steady:
+            stands = self._stands(epoch)
+            if stands not in self._known:
+                self._known[stands] = dict(zip(map(path_of, self.pairs), self._all(stands)))
+            return self._known[stands][path]
 
-    def _costs(self, changes: Sequence[Change]) -> list[Costs]:
+    def _stands(self, epoch: int) -> tuple[Change, ...]:
+        read = Log(self.network.folder / LOG).read()
+        begun = [one for one in read if one.epoch is not None and one.epoch <= epoch]
+        open_yet = [one for one in begun if one.lifted_epoch is None or one.lifted_epoch > epoch]
+        return tuple(change for one in open_yet for change in one.changes)
+
+    def _all(self, changes: Sequence[Change]) -> list[Costs]:
         queries = [Query(source, self.network.arrival(target)) for source, target in self.pairs]
         orders = [*changes, Publish()]
         [replies] = self.program.lanes(self.network.files, orders, [[Wait(1), *queries]]).sessions
@@ -131,18 +143,16 @@ async def client(port: int, due: Due, number: int, end: float, told: Told) -> No
 
 
 async def fit(due: Due, path: str, status: int, body: bytes, told: Told) -> None:
-    """Whether it is the answer of its epoch, once that is known here."""
+    """Whether it is the answer of its epoch."""
     answer = json.loads(body)
-    for _ in range(100):
-        if answer.get("epoch") in due.by_epoch:
-            break
-        await asyncio.sleep(0.1)
-    wanted = due.by_epoch.get(answer.get("epoch"), {}).get(path)
     costs = [one["weights"] for one in answer["all"]] if status == 200 else []
-    if wanted == costs and status in (200, 404):
+    epoch = answer.get("epoch", 0)
+    wanted = await asyncio.to_thread(due.costs, epoch, path)
+    if wanted == costs and status in (200, 404) and epoch > 0:
         told.fits.add((path, body))
     else:
         told.wrong += 1
+        print("wrong:", status, path, body[:200], f"{wanted} were due", file=sys.stderr)
 
 
 async def quiet(here: Here, due: Due, seconds: float) -> None:
@@ -173,15 +183,14 @@ async def kills(here: Here, due: Due, seconds: float) -> None:
 
 
 def toggle(here: Here, due: Due, work: str) -> None:
-    """Closes the road, or opens it. What is due stands before anybody can have its epoch."""
-    if work == "close":
-        told = here.ask("POST", "/v1/closures", {"road": due.road(), "measure": "shut"}, **ANN).told
-        due.mind(told["epoch"])
-        return
-    for one in here.get("/v1/closures", **ANN).told["closures"]:
-        if one["state"] == "active":
-            here.ask("DELETE", f"/v1/closures/{one['id']}", **ANN)
-    due.mind(here.get("/v1/network").told["epoch"])
+    """Closes the road, or opens it."""
+    with due.steady:
+        if work == "close":
+            here.ask("POST", "/v1/closures", {"road": due.road()}, **ANN)
+            return
+        for one in here.get("/v1/closures", **ANN).told["closures"]:
+            if one["state"] == "active":
+                here.ask("DELETE", f"/v1/closures/{one['id']}", **ANN)
 
 
 async def load(here: Here, words: argparse.Namespace, due: Due, does_kill: bool) -> Told:
@@ -217,7 +226,8 @@ def row(name: str, told: Told, words: argparse.Namespace, took: float, most: int
         f"{cuts[49]:.0f} ms",
         f"{cuts[98]:.0f} ms",
         f"{100 * told.statuses[503] / count:.2f} %",
-        f"{told.wrong}, {told.lost}",
+        f"{told.wrong}",
+        f"{told.lost}",
         f"{1000 * took / count:.2f} ms",
         f"{most} MB",
     ]
@@ -236,7 +246,6 @@ def run(words: argparse.Namespace, due: Due, does_kill: bool) -> tuple[str, bool
         lanes=lanes,
         links=words.links,
     ) as here:
-        due.by_epoch.clear()
         toggle(here, due, "close")
         time.sleep(1)  # the follower has it by now
         begun = processor(here.process.pid)

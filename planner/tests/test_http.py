@@ -16,6 +16,7 @@ import subprocess
 import threading
 import time
 from collections.abc import Iterator
+from datetime import datetime, timedelta, timezone
 from itertools import product
 from urllib.parse import quote, urlencode
 
@@ -185,23 +186,23 @@ def test_drawn_requests(program, town, tmp_path):
         for _ in range(DRAWN // 4):
             compare(here, program, town, next(words), shut_at)
         here.followers[0].begin()
-        here.ask("DELETE", f"/v1/closures/{told['id']}", **ANN)
-        shut_at[told["epoch"] + 1] = []
+        told = here.ask("DELETE", f"/v1/closures/{told['id']}", **ANN).told
+        shut_at[told["lifted_epoch"]] = []
         for one in words:
             compare(here, program, town, one, shut_at)
-        await_epochs(here, told["epoch"] + 1)
+        await_epochs(here, told["lifted_epoch"])
     (town.folder / LOG).unlink()
 
 
 def await_epochs(here, epoch: int) -> None:
     """All servers are there, and are asked."""
     end = time.monotonic() + 10
-    while [one["epoch"] for one in here.get("/health").told["servers"]] != [epoch] * 3:
+    while {one["epoch"] for one in here.get("/health").told["servers"]} != {epoch}:
         assert time.monotonic() < end, here.get("/health").told
         time.sleep(0.1)
     lines = here.get("/metrics").body.decode().splitlines()
     ups = [line.split()[-1] for line in lines if line.startswith("saminoha_http_server_up{")]
-    assert ups == ["1.0"] * 3
+    assert set(ups) == {"1.0"}
 
 
 @pytest.mark.parametrize("names", ["time,distance", "distance,toll", "toll,time", "time", "toll"])
@@ -635,6 +636,25 @@ def test_a_leader_that_begins_anew(program, town, tmp_path):
             told = here.get(TRIP).told
             assert told["features"] == after["features"] and told["epoch"] >= 3
         assert here.get("/v1/closures", **ANN).told["unexplained_epochs"] == 0
+    (town.folder / LOG).unlink()
+
+
+def test_a_closure_that_ends_while_no_leader_is_there(program, town, tmp_path):
+    """The follower is told too, by the epoch in which the leader is restored."""
+    with service(program, town, tmp_path, *FREELY, followers=1) as here:
+        before = here.get(TRIP).told["features"]
+        end = datetime.now(timezone.utc) + timedelta(seconds=4)
+        body = {"road": "Toll Bridge", "end": end.isoformat()}
+        assert here.ask("POST", "/v1/closures", body, **ANN).told["epoch"] == 1
+        await_epochs(here, 1)
+        here.leader.kill()
+        assert here.get(TRIP).told["features"] != before
+        time.sleep(max(0.0, (end - datetime.now(timezone.utc)).total_seconds()) + 1)
+        here.leader.begin()
+        await_epochs(here, 2)
+        here.leader.kill()
+        told = here.get(TRIP).told
+        assert told["epoch"] == 2 and told["features"] == before
     (town.folder / LOG).unlink()
 
 

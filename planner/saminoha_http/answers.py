@@ -52,6 +52,7 @@ class Teller:
     def __init__(self, network: Network, roads: Roads) -> None:
         self._network, self._roads = network, roads
         self._shapes = Shapes(network)
+        self._attribution = as_json(network.attribution)
         self._told_end = functools.lru_cache(MOST_ENDS)(lambda end: as_json(told_end(end)))
         self._told_criteria = functools.lru_cache(MOST_CHOICES)(self._tell_criteria)
 
@@ -72,7 +73,7 @@ class Teller:
             f'{{"type":"FeatureCollection","epoch":{answer.epoch}'
             f',"from":{self._told_end(question.source)},"to":{self._told_end(question.target)}'
             f',"criteria":{self._told_criteria(question.criteria)},"trade_offs":{len(routes)}'
-            f',"attribution":{as_json(self._network.attribution)}'
+            f',"attribution":{self._attribution}'
             + (f',"all":{every}' if every else "")
             + f',"features":[{features}]}}'
         )

@@ -12,7 +12,7 @@ from starlette.middleware.cors import CORSMiddleware
 from starlette.requests import Request
 from starlette.responses import HTMLResponse, Response
 from starlette.routing import Match, Route
-from starlette.types import ASGIApp, Scope
+from starlette.types import ASGIApp, Receive, Scope, Send
 
 from saminoha_planner.client import ClientError
 from saminoha_planner.command import Fault
@@ -37,6 +37,30 @@ class Plain(Route):
         return match, found | {"route": self}
 
 
+class Direct:
+    """Answers the address that is asked most without what a framework does for each request."""
+
+    def __init__(self, app: ASGIApp, path: str, service: Service) -> None:
+        self._app, self.path, self._service = app, path, service
+
+    async def __call__(self, scope: Scope, receive: Receive, send: Send) -> None:
+        if scope["type"] != "http" or scope["path"] != self.path or scope["method"] != "GET":
+            await self._app(scope, receive, send)
+            return
+        scope["route"] = self
+        try:
+            response = await self._service.alternatives(Request(scope, receive))
+        except (Problem, Fault, ClientError) as fault:
+            response = tell(self._service, fault)
+        await response(scope, receive, send)
+
+
+def tell(service: Service, fault: Exception) -> Response:
+    problem = problem_of(fault)
+    service.metrics.problems.labels(problem.kind).inc()
+    return problem.response()
+
+
 def make_app(service: Service, bounds: Bounds, log: AccessLog, page: Page | None = None) -> ASGIApp:
     app = FastAPI(
         title="Saminoha",
@@ -53,10 +77,11 @@ def make_app(service: Service, bounds: Bounds, log: AccessLog, page: Page | None
         for path, endpoint, method in page.addresses:
             app.router.routes.append(Plain(path, endpoint, methods=[method]))
     _tell_problems(app, service)
-    return Guard(_named(app, bounds), bounds, service.metrics, log)
+    direct = Direct(app, "/v1/alternatives", service)
+    return Guard(_named(direct, bounds), bounds, service.metrics, log)
 
 
-def _named(app: FastAPI, bounds: Bounds) -> ASGIApp:
+def _named(app: ASGIApp, bounds: Bounds) -> ASGIApp:
     """Pages of the origins that are named may ask and close."""
     if not bounds.origins:
         return app
@@ -75,7 +100,6 @@ def _add_answers(app: FastAPI, service: Service) -> None:
     )
     extra = document.of_alternatives(service.network.criteria)
     _add(app, "GET", path, service.alternatives, text, extra)
-    app.router.routes.insert(0, Plain(path, service.alternatives, methods=["GET"]))
     path, text = "/v1/matrix", "For each pair the least of each criterion, as lines of JSON"
     extra = document.of_matrix(service.most_pairs)
     _add(app, "POST", path, service.matrix, text, extra, "application/jsonl")
@@ -138,17 +162,13 @@ def _add(
 
 
 def _tell_problems(app: FastAPI, service: Service) -> None:
-    def tell(problem: Problem) -> Response:
-        service.metrics.problems.labels(problem.kind).inc()
-        return problem.response()
-
     async def of_ours(_: Request, fault: Exception) -> Response:
-        return tell(problem_of(fault))
+        return tell(service, fault)
 
     async def of_routing(_: Request, fault: Exception) -> Response:
         is_method = isinstance(fault, HTTPException) and fault.status_code == 405
         text = "another method is answered here" if is_method else "no address is like this"
-        return tell(Problem("method" if is_method else "not-found", text))
+        return tell(service, Problem("method" if is_method else "not-found", text))
 
     for kind in (Problem, Fault, ClientError):
         app.add_exception_handler(kind, of_ours)

@@ -10,6 +10,7 @@ import re
 from collections.abc import AsyncIterator, Callable, Sequence
 from concurrent.futures import ThreadPoolExecutor
 from typing import TypeVar
+from urllib.parse import parse_qsl
 
 from starlette.requests import Request
 from starlette.responses import Response, StreamingResponse
@@ -58,7 +59,7 @@ class Service:
     # Answers.
 
     async def alternatives(self, request: Request) -> Response:
-        words = request.query_params.multi_items()
+        words = words_of(request)
         if self.asked.is_quick(words):
             question = self.asked.question(words)
         else:
@@ -141,7 +142,7 @@ class Service:
         )
 
     async def places(self, request: Request) -> Response:
-        words = request.query_params.multi_items()
+        words = words_of(request)
         if [name for name, _ in words] != ["q"] or len(words[0][1]) > LONGEST:
             text = f"q is wanted once and alone, with {LONGEST} letters at most"
             raise Problem("bad-parameter", text, parameter="q")
@@ -232,6 +233,10 @@ class Service:
     def end(self) -> None:
         self.closing.end()
         self._work.shutdown(wait=False)
+
+
+def words_of(request: Request) -> list[tuple[str, str]]:
+    return parse_qsl(request.scope["query_string"].decode("latin-1"), keep_blank_values=True)
 
 
 def _told(text: str) -> Response:

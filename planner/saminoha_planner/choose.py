@@ -88,7 +88,7 @@ def via(routes: Sequence[Route], network: Network) -> list[str]:
     """For each route up to three roads, in the order of travel, that tell most how it differs
     from the others.
     """
-    legs = [[network.leg(arc) for arc in route.arcs or ()] for route in routes]
+    legs = [list(map(network.leg, route.arcs or ())) for route in routes]
     users = Counter(road for part in legs for road in {leg.road for leg in part})
     texts = []
     for part in legs:
@@ -106,8 +106,8 @@ def via(routes: Sequence[Route], network: Network) -> list[str]:
 
 def shared(network: Network, one: Route, other: Route) -> float:
     """How much of the one's length the other goes too, in whichever direction."""
-    there = {network.leg(arc).road for arc in other.arcs or ()}
-    legs = [network.leg(arc) for arc in one.arcs or ()]
+    there = {leg.road for leg in map(network.leg, other.arcs or ())}
+    legs = list(map(network.leg, one.arcs or ()))
     total = sum(leg.metres for leg in legs)
     return sum(leg.metres for leg in legs if leg.road in there) / total if total else 1.0
 

@@ -205,12 +205,9 @@ class Network:
         stretch = int(self.arrays.stretches[number - 1])
         return stretch if stretch >= 0 else -number
 
-    def leg(self, number: int) -> Leg:
-        """Of an arc; what was made is kept, up to a bound."""
-        return self._leg(number)
-
     @functools.cached_property
-    def _leg(self) -> Callable[[int], Leg]:
+    def leg(self) -> Callable[[int], Leg]:
+        """Of an arc; what was made is kept, up to a bound."""
         return functools.lru_cache(MOST_KEPT)(self._make_leg)
 
     def _make_leg(self, number: int) -> Leg:

@@ -3,6 +3,7 @@
 from __future__ import annotations
 
 import http.server
+import os
 import threading
 from collections.abc import Iterator
 from concurrent.futures import ThreadPoolExecutor
@@ -15,6 +16,7 @@ for library in ("fastapi", "uvicorn", "prometheus_client"):
     name = library.replace("_", "-")
     pytest.importorskip(library, reason=f"python3-{name} is missing: the service isn't tried")
 
+from http_fuzz import fuzz  # noqa: E402
 from http_here import HOST, TOKEN, Here, service  # noqa: E402
 
 from saminoha_planner.closures import LOG  # noqa: E402
@@ -149,6 +151,46 @@ def test_closures_of_another_origin(opened):
     assert opened.ask("POST", "/api/close", asked, **ANN, **own).status == 200
 
 
+def document() -> dict[str, object]:
+    """What the page asks, in the form in which requests are drawn."""
+    text, number = {"type": "string"}, {"type": "number"}
+    point = {"type": "array", "items": number, "minItems": 1, "maxItems": 3}
+    asked = {
+        "network": {},
+        "state": {},
+        "labels": {"box": text, "zoom": number},
+        "nearest": {"lon": number, "lat": number},
+        "find": {"text": text},
+        "suggest": {"text": text},
+        "ask": {"from": {"type": "integer"}, "to": {"type": "integer"}, "limits": text},
+        "geojson": {"from": {"type": "integer"}, "to": {"type": "integer"}, "bounds": text},
+    }
+    asked["ask"] |= {"epsilon": text, "criteria": text, "budget": number, "coarser": text}
+    sent = {
+        "preview": {"road": text, "points": {"type": "array", "items": point}, "metres": number},
+        "close": {"roads": {"type": "array", "items": {"type": "integer"}}, "measure": text},
+        "undo": {"id": text},
+    }
+    sent["close"] |= {"reason": text, "from": text, "until": {"format": "date-time"} | text}
+    paths: dict[str, object] = {}
+    for name, words in asked.items():
+        names = words.items()
+        parameters = [{"name": it, "in": "query", "required": True, "schema": v} for it, v in names]
+        paths[f"/api/{name}"] = {"get": {"parameters": parameters}}
+    for name, members in sent.items():
+        schema = {"type": "object", "properties": members}
+        content = {"content": {"application/json": {"schema": schema}}}
+        paths[f"/api/{name}"] = {"post": {"requestBody": content}}
+    return {"paths": paths}
+
+
+def test_fuzz(opened):
+    count = int(os.environ.get("FUZZ_REQUESTS", "1000"))
+    statuses = fuzz(HOST, opened.port, document(), count, TOKEN)
+    assert sum(statuses.values()) == count and max(statuses) < 500, statuses
+    assert statuses[200] > count / 20 and statuses[400] > count / 20
+
+
 # Chromium.
 
 
@@ -241,7 +283,8 @@ def test_a_page_of_another_origin(browser, here, town):
         const plain = {method: "POST", mode: "no-cors", body};
         (async () => {
           for (const path of ["/v1/closures", "/api/close"]) {
-            try { await fetch(address + path, {method: "POST", headers, body}); told[path] = "came"; }
+            const asked = {method: "POST", headers, body};
+            try { await fetch(address + path, asked); told[path] = "came"; }
             catch (fault) { told[path] = fault.name; }
             await fetch(address + path, plain);
           }

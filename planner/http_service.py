@@ -156,7 +156,8 @@ async def serve(words: argparse.Namespace) -> None:
     from saminoha_http.app import make_app
     from saminoha_http.guard import Bounds
     from saminoha_http.page import Page
-    from saminoha_http.pool import Limits, Pool
+    from saminoha_http.pool import Pool
+    from saminoha_http.servers import Limits
     from saminoha_http.service import Service
     from saminoha_http.tokens import Tokens
     from saminoha_http.wire import protocol

@@ -23,8 +23,9 @@ from saminoha_planner.roads import Roads
 from saminoha_planner.stretches import Piece, Stretches
 
 from .links import Address
-from .pool import Busy, Pool
+from .pool import Pool
 from .problems import Problem
+from .servers import Busy
 
 AUDIT = logging.getLogger("saminoha.audit")
 LOG = logging.getLogger("saminoha.closing")
@@ -124,6 +125,7 @@ class Closing:
     def __init__(self, network: Network, roads: Callable[[], Roads], log: Log) -> None:
         self._network, self._roads, self.log = network, roads, log
         self._keeper: Keeper | None = None
+        self._pool: Pool | None = None
         self._thread = ThreadPoolExecutor(1, "closures")
         self._woken, self._has_ended = threading.Event(), False
 
@@ -131,7 +133,7 @@ class Closing:
         """From now on what the log has is published when it is due."""
         loop = asyncio.get_running_loop()
         asker = LeaderAsker(pool, operator, loop)
-        self._keeper = Keeper(self._network, asker, self.log)
+        self._keeper, self._pool = Keeper(self._network, asker, self.log), pool
         pool.has_keeper, pool.leader.is_restored = True, False
         pool.leader_came = self._woken.set
         words = (Restorer(self._keeper, asker, pool, loop),)
@@ -209,8 +211,11 @@ class Closing:
         return next((one for one in self.log.read() if one.name == name), None)
 
     def _due(self) -> Keeper:
-        if self._keeper is None:
+        """The keeper, once all that it had published stands on the leader."""
+        if self._keeper is None or self._pool is None:
             raise Problem("no-operator", "no operator's address was given to this service")
+        if not self._pool.is_usable(self._pool.leader):
+            raise Busy("the leader is gone, or has come anew and isn't restored yet")
         return self._keeper
 
     async def _run(self, work: Callable[[], T]) -> T:

@@ -18,7 +18,7 @@ import time
 from collections import deque
 from collections.abc import AsyncIterator, Callable, Coroutine, Sequence
 from contextlib import asynccontextmanager
-from dataclasses import dataclass, field
+from dataclasses import dataclass
 
 from saminoha_planner.client import (
     Answer,
@@ -33,74 +33,13 @@ from saminoha_planner.client import (
 )
 
 from .links import Address, Broken, Link
+from .servers import Backend, Busy, LeaderEpochs, Limits
 
 LOG = logging.getLogger("saminoha.pool")
 FIRST_PAUSE, LONGEST_PAUSE = 0.1, 10.0  # seconds before a server that is gone is tried again
 WATCH = 1.0  # seconds between looks at servers that nobody asks
 FULL = 30.0  # seconds until a server that had no lane left is asked for one again
 IDLE = 300.0  # seconds until a link that nobody uses is closed; servers end such after ten minutes
-MOST_EPOCHS = 1000  # of the leader, whose times are known
-
-
-class Busy(ClientError):
-    """No link came free in time: `seconds` is when to ask again."""
-
-    def __init__(self, text: str, seconds: int = 1) -> None:
-        super().__init__(text)
-        self.seconds = seconds
-
-
-@dataclass(frozen=True)
-class Limits:
-    """Links to each server, requests that wait, and seconds."""
-
-    links: int = 8
-    queue: int = 256
-    queue_time: float = 5.0
-    answer_time: float = 30.0
-    open_time: float = 2.0
-    stale: float = 10.0
-
-
-@dataclass
-class Backend:
-    """A server as the pool sees it: `room` is how many links it had lanes for, `epoch` the
-    greatest that it named in this life, and `greatest` in all of them.
-    """
-
-    name: str
-    address: Address
-    room: int
-    is_leader: bool = False
-    is_up: bool = False
-    is_restored: bool = True
-    life: int = 0
-    epoch: int | None = None
-    greatest: int = 0
-    floor: int = 0
-    busy: int = 0
-    idle: list[Link] = field(default_factory=list)
-    heard: float = 0.0
-    differs_since: float | None = None
-    fault: str = "it wasn't asked yet"
-
-    @property
-    def opened(self) -> int:
-        return self.busy + len(self.idle)
-
-    @property
-    def is_behind(self) -> bool:
-        """Whether it isn't yet where it was in an earlier life."""
-        return self.epoch is not None and self.epoch < self.floor
-
-    def named(self, epoch: int) -> None:
-        self.epoch = max(epoch, self.epoch or 0)
-        self.greatest = max(epoch, self.greatest)
-
-    def drop_idle(self) -> None:
-        for link in self.idle:
-            link.close()
-        self.idle.clear()
 
 
 @dataclass
@@ -125,7 +64,7 @@ class Pool:
         self.has_keeper = False
         self.leader_came: Callable[[], None] = lambda: None
         self._waiting: deque[Waiter] = deque()
-        self._leader_epochs: deque[tuple[int, float]] = deque(maxlen=MOST_EPOCHS)
+        self._leader_epochs = LeaderEpochs()
         self._tasks: set[asyncio.Task[None]] = set()
 
     async def __aenter__(self) -> Pool:
@@ -478,20 +417,7 @@ class Pool:
     def _mind_epoch(self, server: Backend) -> None:
         """Since when the epochs of followers are others than the leader's."""
         server.heard = time.monotonic()
-        last = self._leader_epochs[-1][0] if self._leader_epochs else None
-        if server.is_leader and server.epoch is not None and server.epoch != last:
-            if last is not None and server.epoch < last:
-                self._leader_epochs.clear()  # it has begun anew
-            self._leader_epochs.append((server.epoch, server.heard))
+        if server.is_leader:
+            self._leader_epochs.mind(server)
         for one in self.servers[1:]:
-            one.differs_since = self._since(one)
-
-    def _since(self, server: Backend) -> float | None:
-        if server.epoch is None or not self._leader_epochs:
-            return None
-        last = self._leader_epochs[-1][0]
-        if server.epoch == last:
-            return None
-        if server.epoch > last:
-            return server.differs_since or server.heard
-        return next(at for epoch, at in self._leader_epochs if epoch > server.epoch)
+            one.differs_since = self._leader_epochs.since(one)

@@ -12,7 +12,7 @@ from saminoha_planner.command import Fault
 from saminoha_planner.ends import EndFault
 
 from .links import TooLong
-from .pool import Busy
+from .servers import Busy
 
 MEDIA_TYPE = "application/problem+json"
 KINDS = {  # by the last part of a problem's `type`: its status and title

@@ -28,20 +28,18 @@ class Shapes:
         """The coordinates of a walk. Of one that has no length it is twice the node's, since
         GeoJSON wants two.
         """
-        texts, last, count = [], "", 0
+        texts, last = [], ""
         for part in map(self._part, arcs):
-            if part.first != last:
-                texts.append("," + part.first)
-                count += 1
-            texts.append(part.rest)
-            count += len(part.rest)
+            texts.append(part.rest if part.first == last else f",{part.first}{part.rest}")
             last = part.last
-        if count < 2:
-            point = self._point(
-                float(self._network.lon[here - 1]), float(self._network.lat[here - 1])
-            )
-            return f"[{point},{point}]"
-        return f"[{''.join(texts)[1:]}]"
+        line = "".join(texts)[1:]
+        if "],[" not in line:
+            point = self._point(*self._place(here))
+            line = f"{point},{point}"
+        return f"[{line}]"
+
+    def _place(self, node: int) -> tuple[float, float]:
+        return float(self._network.lon[node - 1]), float(self._network.lat[node - 1])
 
     def _make(self, number: int) -> Part:
         points = [self._point(lon, lat) for lon, lat in self._network.arc(number).line]

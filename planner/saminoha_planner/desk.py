@@ -43,6 +43,7 @@ from .twins import grouped
 MEASURES = ("shut", "slow=1.5", "slow=2", "slow=4")
 MOST_ANSWERS = 20
 COARSER = 10
+MOST_NUMBER = 1e9  # of degrees and metres
 
 
 @dataclass(frozen=True)
@@ -463,8 +464,8 @@ def _numbers_of(text: str) -> list[int]:
 
 
 def _plain_number(value: object) -> float:
-    if not isinstance(value, int | float):
-        raise Fault(f"{value!r} is no number")
+    if not isinstance(value, int | float) or not abs(value) < MOST_NUMBER:
+        raise Fault("what should be a number is none, or a large one")
     return float(value)
 
 

@@ -268,7 +268,7 @@ def test_closing_on_the_page(browser, opened, town):
     browser.wait(lambda: "Toll Bridge" in browser.text("closures"))
     browser.wait(lambda: browser.costs() != before)
     assert opened.get(path_of(town)).told["costs"] != before
-    browser.press("#closures li button:last-child")
+    browser.run("document.querySelector('#closures li button:last-child').click()")
     browser.wait(lambda: browser.costs() == before)
     browser.errors()  # that of the refusal
 

@@ -9,7 +9,8 @@ from dataclasses import dataclass, field
 
 import pytest
 
-from saminoha_http.pool import Busy, Limits, Pool
+from saminoha_http.pool import Pool
+from saminoha_http.servers import Busy, Limits
 from saminoha_planner.client import Answer, Now, Query, Route, Sizes, TimedOut
 
 SIZES = Sizes(9, 20, 2)

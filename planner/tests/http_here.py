@@ -195,4 +195,7 @@ def _await_ready(here: Here) -> None:
     while b"ready" not in here.log.read_bytes():
         assert here.process.poll() is None and time.monotonic() < end, here.log.read_text()
         time.sleep(0.05)
+    while not here.get("/health").told["servers"][0]["restored"]:
+        assert time.monotonic() < end, here.log.read_text()
+        time.sleep(0.05)
     here.wait()

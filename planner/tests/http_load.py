@@ -36,6 +36,7 @@ from saminoha_planner.network import Network, read_network  # noqa: E402
 
 NEAR = 30  # numbers of nodes apart, at most
 PAIRS = 300
+MOST_SHOWN = 3  # of wrong answers
 LANES_BESIDE = 2  # for who watches and feeds, beside the service's links
 ANN = {"Authorization": f"Bearer {TOKEN}"}
 Costs = list[list[int]]
@@ -152,7 +153,8 @@ async def fit(due: Due, path: str, status: int, body: bytes, told: Told) -> None
         told.fits.add((path, body))
     else:
         told.wrong += 1
-        print("wrong:", status, path, body[:200], f"{wanted} were due", file=sys.stderr)
+        if told.wrong <= MOST_SHOWN:
+            print("wrong:", status, path, body[:200], f"{wanted} were due", file=sys.stderr)
 
 
 async def quiet(here: Here, due: Due, seconds: float) -> None:
@@ -186,11 +188,13 @@ def toggle(here: Here, due: Due, work: str) -> None:
     """Closes the road, or opens it."""
     with due.steady:
         if work == "close":
-            here.ask("POST", "/v1/closures", {"road": due.road()}, **ANN)
+            made = here.ask("POST", "/v1/closures", {"road": due.road()}, **ANN)
+            assert made.status == 201, made.body
             return
         for one in here.get("/v1/closures", **ANN).told["closures"]:
             if one["state"] == "active":
-                here.ask("DELETE", f"/v1/closures/{one['id']}", **ANN)
+                lifted = here.ask("DELETE", f"/v1/closures/{one['id']}", **ANN)
+                assert lifted.status == 200, lifted.body
 
 
 async def load(here: Here, words: argparse.Namespace, due: Due, does_kill: bool) -> Told:

@@ -9,6 +9,7 @@ import argparse
 import asyncio
 import logging
 import os
+import signal
 import socket
 import sys
 from pathlib import Path
@@ -134,34 +135,32 @@ def listening(address: tuple[str, int]) -> socket.socket:
 
 
 def log_to(audit: Path | None) -> None:
-    """The access log and audit lines are JSON on standard output; what else is told, on standard
+    """Audit lines are JSON on standard output or in a file; what else is told, on standard
     error.
     """
-    plain = logging.StreamHandler(sys.stdout)
     logging.basicConfig(format="%(levelname)s %(name)s: %(message)s", level=logging.INFO)
-    own: logging.Handler = plain
+    own: logging.Handler = logging.StreamHandler(sys.stdout)
     if audit:
         own = logging.FileHandler(audit)
-    handlers: list[tuple[str, logging.Handler]] = [
-        ("saminoha.access", plain),
-        ("saminoha.audit", own),
-    ]
-    for name, handler in handlers:
-        log = logging.getLogger(name)
-        log.addHandler(handler)
-        log.propagate = False
+    log = logging.getLogger("saminoha.audit")
+    log.addHandler(own)
+    log.propagate = False
     for name in ("uvicorn.error", "uvicorn.asgi"):
-        logging.getLogger(name).setLevel(logging.WARNING)
+        logging.getLogger(name).setLevel(logging.ERROR)  # what peers do wrong is told to them
 
 
 async def serve(words: argparse.Namespace) -> None:
     import uvicorn  # it takes a while, and --help needs none of it
 
+    from saminoha_http.access import AccessLog
     from saminoha_http.app import make_app
     from saminoha_http.guard import Bounds
-    from saminoha_http.pool import Limits, Pool
+    from saminoha_http.page import Page
+    from saminoha_http.pool import Pool
+    from saminoha_http.servers import Limits
     from saminoha_http.service import Service
     from saminoha_http.tokens import Tokens
+    from saminoha_http.wire import protocol
 
     network = read_network(words.network)
     tokens = Tokens.read(words.tokens) if words.tokens else Tokens()
@@ -176,14 +175,16 @@ async def serve(words: argparse.Namespace) -> None:
         at_once=words.at_once,
         origins=tuple(words.origin),
     )
-    place = listening(words.listen)
+    place, log = listening(words.listen), AccessLog(sys.stdout)
     async with Pool([words.leader, *words.follower], sizes, limits) as pool:
         service = Service(network, pool, tokens, words.pairs)
         if words.operator:
             service.closing.begin(pool, words.operator)
+        asyncio.get_running_loop().add_signal_handler(signal.SIGHUP, pool.begin_anew)
         config = uvicorn.Config(
-            make_app(service, bounds),
-            http="h11",  # the other one tells some faults in words of its own
+            make_app(service, bounds, log, Page(service) if Page.is_there() else None),
+            http=protocol(),
+            ws="none",
             lifespan="off",
             access_log=False,
             log_config=None,
@@ -197,12 +198,16 @@ async def serve(words: argparse.Namespace) -> None:
             await uvicorn.Server(config).serve(sockets=[place])
         finally:
             service.end()
+            log.flush()
 
 
 def main() -> None:
     words = parse_words()
     check(words)
     log_to(words.audit)
+    from saminoha_http.wire import use_fast_loop
+
+    use_fast_loop()
     asyncio.run(serve(words))
 
 

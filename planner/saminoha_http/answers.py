@@ -2,6 +2,8 @@
 
 from __future__ import annotations
 
+import functools
+import json
 from collections.abc import Sequence
 
 from saminoha_planner.choose import Option, few
@@ -10,13 +12,16 @@ from saminoha_planner.criteria import Criterion
 from saminoha_planner.ends import End
 from saminoha_planner.network import Network
 from saminoha_planner.roads import Roads
-from saminoha_planner.tell import line_of
 from saminoha_planner.twins import grouped
 
 from .problems import Problem
+from .projection import projected
 from .questions import Question
+from .shapes import Shapes
 
 PLAIN = {"km": "m", "min": "s"}  # the unit of a bare number, by the one that is shown
+MOST_ENDS, MOST_CHOICES = 2**14, 64  # of which what is told is kept
+as_json = json.JSONEncoder(ensure_ascii=False, separators=(",", ":")).encode
 
 
 def unit_of(criterion: Criterion) -> str:
@@ -41,47 +46,52 @@ def costs_of(criteria: Sequence[Criterion], weights: Sequence[int]) -> dict[str,
     return {one.name: round(weight / one.plain, 3) for one, weight in zip(criteria, weights)}
 
 
-def alternatives(
-    network: Network, roads: Roads, question: Question, answer: Answer
-) -> dict[str, object]:
-    """The chosen few as a collection of GeoJSON, with what else is told as further members."""
-    if not answer.routes:
-        within = " within these limits" if question.limits else ""
-        raise Problem("no-route", f"no route leads there{within}", epoch=answer.epoch)
-    options = few(network, list(grouped(answer.routes, roads)), question.keep)
-    told: dict[str, object] = {
-        "type": "FeatureCollection",
-        "epoch": answer.epoch,
-        "from": told_end(question.source),
-        "to": told_end(question.target),
-        "criteria": [told_criterion(one) for one in network.criteria],
-        "trade_offs": len(answer.routes),
-        "attribution": network.attribution,
-        "features": [_feature(network, question, option) for option in options],
-    }
-    if question.has_all:
-        told["all"] = [_costs(network, route) for route in answer.routes]
-    return told
+class Teller:
+    """Tells the answers of one network, as text: what is the same in many is put together once."""
+
+    def __init__(self, network: Network, roads: Roads) -> None:
+        self._network, self._roads = network, roads
+        self._shapes = Shapes(network)
+        self._attribution = as_json(network.attribution)
+        self._told_end = functools.lru_cache(MOST_ENDS)(lambda end: as_json(told_end(end)))
+        self._told_criteria = functools.lru_cache(MOST_CHOICES)(self._tell_criteria)
+
+    def alternatives(self, question: Question, answer: Answer) -> str:
+        """The chosen few as a collection of GeoJSON, with what else is told as further members."""
+        if not answer.routes:
+            within = " within these limits" if question.limits else ""
+            raise Problem("no-route", f"no route leads there{within}", epoch=answer.epoch)
+        criteria = [self._network.criteria[place] for place in question.criteria]
+        routes: Sequence[Route] = answer.routes
+        if len(criteria) < len(self._network.criteria) or criteria != self._network.criteria:
+            routes = projected(routes, question.criteria)
+        chosen = list(grouped(routes, self._roads))
+        options = few(self._network, chosen, question.keep, criteria)
+        features = ",".join(self._feature(criteria, question, option) for option in options)
+        every = as_json([_costs(criteria, route) for route in routes]) if question.has_all else ""
+        return (
+            f'{{"type":"FeatureCollection","epoch":{answer.epoch}'
+            f',"from":{self._told_end(question.source)},"to":{self._told_end(question.target)}'
+            f',"criteria":{self._told_criteria(question.criteria)},"trade_offs":{len(routes)}'
+            f',"attribution":{self._attribution}'
+            + (f',"all":{every}' if every else "")
+            + f',"features":[{features}]}}'
+        )
+
+    def _feature(self, criteria: list[Criterion], question: Question, option: Option) -> str:
+        told = {"letter": option.letter, "why": option.why, "via": option.via}
+        line = self._shapes.line(option.route.arcs or (), question.target.node)
+        return (
+            f'{{"type":"Feature","properties":{as_json(told | _costs(criteria, option.route))}'
+            f',"geometry":{{"type":"LineString","coordinates":{line}}}}}'
+        )
+
+    def _tell_criteria(self, places: tuple[int, ...]) -> str:
+        return as_json([told_criterion(self._network.criteria[place]) for place in places])
 
 
-def _costs(network: Network, route: Route) -> dict[str, object]:
-    return {"costs": costs_of(network.criteria, route.cost), "weights": route.cost}
-
-
-def _feature(network: Network, question: Question, option: Option) -> dict[str, object]:
-    chosen = {"letter": option.letter, "why": option.why, "via": option.via}
-    return {
-        "type": "Feature",
-        "properties": chosen | _costs(network, option.route),
-        "geometry": {"type": "LineString", "coordinates": _line(network, question, option.route)},
-    }
-
-
-def _line(network: Network, question: Question, route: Route) -> list[list[float]]:
-    """Of two points at least, as GeoJSON wants, also where nothing is to go."""
-    points = [list(point) for point in line_of(network, route)]
-    here = [question.target.lon, question.target.lat]
-    return points if len(points) > 1 else [here, here]
+def _costs(criteria: Sequence[Criterion], route: Route) -> dict[str, object]:
+    return {"costs": costs_of(criteria, route.cost), "weights": route.cost}
 
 
 def matrix_entry(network: Network, answer: Answer, has_all: bool) -> dict[str, object]:
@@ -95,5 +105,5 @@ def matrix_entry(network: Network, answer: Answer, has_all: bool) -> dict[str, o
         "least": costs_of(network.criteria, least),
     }
     if has_all:
-        entry["all"] = [_costs(network, route) for route in answer.routes]
+        entry["all"] = [_costs(network.criteria, route) for route in answer.routes]
     return entry

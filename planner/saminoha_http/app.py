@@ -1,4 +1,4 @@
-"""The addresses, their description by OpenAPI, and how problems are told."""
+"""The addresses, and how problems are told."""
 
 from __future__ import annotations
 
@@ -10,27 +10,58 @@ from fastapi.exceptions import RequestValidationError
 from starlette.exceptions import HTTPException
 from starlette.middleware.cors import CORSMiddleware
 from starlette.requests import Request
-from starlette.responses import Response
-from starlette.types import ASGIApp
+from starlette.responses import HTMLResponse, Response
+from starlette.routing import Match, Route
+from starlette.types import ASGIApp, Receive, Scope, Send
 
-from saminoha_planner.choose import MOST
 from saminoha_planner.client import ClientError
 from saminoha_planner.command import Fault
 
-from .answers import unit_of
+from . import document
+from .access import AccessLog
+from .document import JSON, Schema
 from .guard import Bounds, Guard
-from .problems import KINDS, MEDIA_TYPE, Problem, problem_of
-from .questions import KEEP, LONGEST
+from .page import Page
+from .problems import Problem, problem_of
+from .reading import page_of
 from .service import Service
 
 Endpoint = Callable[[Request], Coroutine[Any, Any, Response]]
-Schema = dict[str, Any]
-JSON = "application/json"
-END_TEXT = "node:N, lat,lon, a place, a street, or place, street"
-TOKEN: list[Schema] = [{"token": []}]
 
 
-def make_app(service: Service, bounds: Bounds) -> ASGIApp:
+class Plain(Route):
+    """A route without what FastAPI does for each request. It names itself to who counts."""
+
+    def matches(self, scope: Scope) -> tuple[Match, Scope]:
+        match, found = super().matches(scope)
+        return match, found | {"route": self}
+
+
+class Direct:
+    """Answers the address that is asked most without what a framework does for each request."""
+
+    def __init__(self, app: ASGIApp, path: str, service: Service) -> None:
+        self._app, self.path, self._service = app, path, service
+
+    async def __call__(self, scope: Scope, receive: Receive, send: Send) -> None:
+        if scope["type"] != "http" or scope["path"] != self.path or scope["method"] != "GET":
+            await self._app(scope, receive, send)
+            return
+        scope["route"] = self
+        try:
+            response = await self._service.alternatives(Request(scope, receive))
+        except (Problem, Fault, ClientError) as fault:
+            response = tell(self._service, fault)
+        await response(scope, receive, send)
+
+
+def tell(service: Service, fault: Exception) -> Response:
+    problem = problem_of(fault)
+    service.metrics.problems.labels(problem.kind).inc()
+    return problem.response()
+
+
+def make_app(service: Service, bounds: Bounds, log: AccessLog, page: Page | None = None) -> ASGIApp:
     app = FastAPI(
         title="Saminoha",
         version="1",
@@ -41,84 +72,70 @@ def make_app(service: Service, bounds: Bounds) -> ASGIApp:
     _add_answers(app, service)
     _add_closures(app, service)
     _add_state(app, service)
+    _add_reading(app)
+    if page:
+        for path, endpoint, method in page.addresses:
+            app.router.routes.append(Plain(path, endpoint, methods=[method]))
     _tell_problems(app, service)
-    _describe_tokens(app)
-    named: ASGIApp = app
-    if bounds.origins:
-        named = CORSMiddleware(
-            app,
-            allow_origins=list(bounds.origins),
-            allow_methods=["GET", "POST", "DELETE"],
-            allow_headers=["Authorization", "Content-Type"],
-        )
-    return Guard(named, bounds, service.metrics)
+    direct = Direct(app, "/v1/alternatives", service)
+    return Guard(_named(direct, bounds), bounds, service.metrics, log)
+
+
+def _named(app: ASGIApp, bounds: Bounds) -> ASGIApp:
+    """Pages of the origins that are named may ask and close."""
+    if not bounds.origins:
+        return app
+    return CORSMiddleware(
+        app,
+        allow_origins=list(bounds.origins),
+        allow_methods=["GET", "POST", "DELETE"],
+        allow_headers=["Authorization", "Content-Type"],
+    )
 
 
 def _add_answers(app: FastAPI, service: Service) -> None:
-    end = {"type": "string", "minLength": 1, "maxLength": LONGEST}
-    limits = [
-        _parameter(
-            f"limit.{one.name}",
-            {"type": "string", "maxLength": 30},
-            f"no more than this: a number of {unit_of(one) or one.unit}, or one with its unit",
-        )
-        for one in service.network.criteria
-    ]
-    words = [
-        _parameter("from", end, END_TEXT, True),
-        _parameter("to", end, END_TEXT, True),
-        *limits,
-        _parameter(
-            "keep", {"type": "integer", "minimum": 1, "maximum": MOST, "default": KEEP}, "how many"
-        ),
-        _parameter("all", {"type": "boolean", "default": False}, "tell the costs of all"),
-    ]
-    text = "The chosen few of all trade-offs, with their lines, as GeoJSON"
-    _add(app, "GET", "/v1/alternatives", service.alternatives, text, {"parameters": words})
-    ends = {"type": "array", "items": end, "minItems": 1}
-    pair = {"type": "array", "items": end, "minItems": 2, "maxItems": 2}
-    pairs = {"type": "array", "items": pair, "minItems": 1, "maxItems": service.most_pairs}
-    members = {"pairs": pairs, "from": ends, "to": ends, "all": {"type": "boolean"}}
-    body = _object(members)
-    text = "For each pair the least of each criterion, as lines of JSON"
-    _add(app, "POST", "/v1/matrix", service.matrix, text, _body(body), "application/jsonl")
+    path, text = (
+        "/v1/alternatives",
+        "The chosen few of all trade-offs, with their lines, as GeoJSON",
+    )
+    extra = document.of_alternatives(service.network.criteria)
+    _add(app, "GET", path, service.alternatives, text, extra)
+    path, text = "/v1/matrix", "For each pair the least of each criterion, as lines of JSON"
+    extra = document.of_matrix(service.most_pairs)
+    _add(app, "POST", path, service.matrix, text, extra, "application/jsonl")
     _add(app, "GET", "/v1/network", service.about, "The network")
-    word = _parameter("q", {"type": "string", "maxLength": LONGEST}, "a part of a name", True)
-    text = "Places and streets of a name"
-    _add(app, "GET", "/v1/places", service.places, text, {"parameters": [word]})
-    numbers = [
-        {"name": name, "in": "path", "required": True, "schema": {"type": "integer", "minimum": 0}}
-        for name in ("z", "x", "y")
-    ]
+    path, text = "/v1/places", "Places and streets of a name"
+    _add(app, "GET", path, service.places, text, document.of_places())
     path, text = "/v1/tiles/{z}/{x}/{y}", "A tile of the roads, in the page's form"
     media = "application/octet-stream"
-    _add(app, "GET", path, service.tile, text, {"parameters": numbers}, media)
+    _add(app, "GET", path, service.tile, text, document.of_tiles(), media)
 
 
 def _add_closures(app: FastAPI, service: Service) -> None:
-    path, own = "/v1/closures", {"security": TOKEN}
-    point = {"type": "array", "items": {"type": "number"}, "minItems": 2, "maxItems": 2}
-    time = {"type": "string", "format": "date-time"}
-    members = {
-        "road": {"type": "string", "maxLength": 100},
-        "points": {"type": "array", "items": point, "minItems": 1, "maxItems": 2},
-        "measure": {"type": "string", "default": "shut", "example": "slow=1.5"},
-        "reason": {"type": "string", "maxLength": 200},
-        "begin": time,
-        "end": time,
-    }
-    body = _object(members)
-    _add(app, "GET", path, service.closures, "All closures of the log", own)
+    path, text = "/v1/closures", "All closures of the log"
+    _add(app, "GET", path, service.closures, text, document.BY_TOKEN)
     text = "Shuts, slows or charges a road, or a stretch between two points (lat, lon)"
-    _add(app, "POST", path, service.close, text, _body(body) | own, status=201)
-    name = {"name": "name", "in": "path", "required": True, "schema": {"type": "string"}}
-    text = "Lifts a closure"
-    _add(app, "DELETE", path + "/{name}", service.undo, text, {"parameters": [name]} | own)
+    _add(app, "POST", path, service.close, text, document.of_closing(), status=201)
+    path, text = "/v1/closures/{name}", "Lifts a closure"
+    _add(app, "DELETE", path, service.undo, text, document.of_lifting())
 
 
 def _add_state(app: FastAPI, service: Service) -> None:
     _add(app, "GET", "/health", service.health, "Whether requests can be answered")
     _add(app, "GET", "/metrics", service.counted, "Metrics of Prometheus", media="text/plain")
+
+
+def _add_reading(app: FastAPI) -> None:
+    """The document as a page. Nothing in it can run or fetch a thing."""
+    told = app.openapi()
+    document.with_tokens(told)
+    text = page_of(told)
+    only = {"Content-Security-Policy": "default-src 'none'; style-src 'unsafe-inline'"}
+
+    async def read(_: Request) -> Response:
+        return HTMLResponse(text, headers=only)
+
+    app.router.routes.append(Plain("/docs", read, methods=["GET"]))
 
 
 def _add(
@@ -131,7 +148,6 @@ def _add(
     media: str = JSON,
     status: int = 200,
 ) -> None:
-    problem = {"description": "A problem", "content": {MEDIA_TYPE: {"schema": PROBLEM}}}
     app.add_api_route(
         path,
         endpoint,
@@ -140,59 +156,21 @@ def _add(
         status_code=status,
         response_class=Response,
         response_model=None,
-        responses={
-            status: {"description": summary, "content": {media: {}}},
-            "default": problem,
-        },
+        responses=document.responses(status, summary, media),
         openapi_extra=extra,
     )
 
 
 def _tell_problems(app: FastAPI, service: Service) -> None:
-    def tell(problem: Problem) -> Response:
-        service.metrics.problems.labels(problem.kind).inc()
-        return problem.response()
-
     async def of_ours(_: Request, fault: Exception) -> Response:
-        return tell(problem_of(fault))
+        return tell(service, fault)
 
     async def of_routing(_: Request, fault: Exception) -> Response:
         is_method = isinstance(fault, HTTPException) and fault.status_code == 405
         text = "another method is answered here" if is_method else "no address is like this"
-        return tell(Problem("method" if is_method else "not-found", text))
+        return tell(service, Problem("method" if is_method else "not-found", text))
 
     for kind in (Problem, Fault, ClientError):
         app.add_exception_handler(kind, of_ours)
     for kind in (HTTPException, RequestValidationError):
         app.add_exception_handler(kind, of_routing)
-
-
-def _describe_tokens(app: FastAPI) -> None:
-    document = app.openapi()
-    schemes = document.setdefault("components", {}).setdefault("securitySchemes", {})
-    schemes["token"] = {"type": "http", "scheme": "bearer"}
-
-
-def _parameter(name: str, schema: Schema, text: str, is_due: bool = False) -> Schema:
-    told = {"name": name, "in": "query", "schema": schema, "description": text}
-    return told | {"required": is_due}
-
-
-def _object(members: Schema) -> Schema:
-    return {"type": "object", "properties": members, "additionalProperties": False}
-
-
-def _body(schema: Schema) -> Schema:
-    return {"requestBody": {"required": True, "content": {JSON: {"schema": schema}}}}
-
-
-PROBLEM: Schema = {
-    "type": "object",
-    "required": ["type", "title", "status", "detail"],
-    "properties": {
-        "type": {"type": "string", "enum": [f"urn:saminoha:problem:{kind}" for kind in KINDS]},
-        "title": {"type": "string"},
-        "status": {"type": "integer"},
-        "detail": {"type": "string"},
-    },
-}

@@ -11,6 +11,7 @@ import logging
 import threading
 from collections.abc import Callable, Mapping, Sequence
 from concurrent.futures import ThreadPoolExecutor
+from contextlib import suppress
 from datetime import datetime
 from typing import TypeVar
 
@@ -24,11 +25,14 @@ from saminoha_planner.stretches import Piece, Stretches
 from .links import Address
 from .pool import Pool
 from .problems import Problem
+from .servers import Busy
 
 AUDIT = logging.getLogger("saminoha.audit")
+LOG = logging.getLogger("saminoha.closing")
 NEAR = 100.0  # metres from a point to the road that it means
 T = TypeVar("T")
 MOST_CHANGES = 65_536  # that a server keeps pending
+MOST_CLIMB = 10_000  # epochs without changes that are published, so that numbers go on
 WORDS = {"road", "points", "measure", "reason", "begin", "end"}
 
 
@@ -45,9 +49,12 @@ class LeaderAsker:
         self._pool, self._operator, self._loop = pool, operator, loop
 
     def epoch(self) -> int:
-        asked = self._pool.ask(Now(), only_leader=True)
+        """Of the leader whose life it was as this was asked."""
+        life, asked = self._pool.leader.life, self._pool.ask(Now(), only_leader=True)
         reply = asyncio.run_coroutine_threadsafe(asked, self._loop).result()
         assert isinstance(reply, Epoch)
+        if self._pool.leader.life != life:
+            raise Busy("the leader came anew meanwhile")
         return reply.number
 
     def query(self, source: int, target: int) -> Answer:
@@ -59,6 +66,58 @@ class LeaderAsker:
                 operator.order(change)
             return operator.publish()
 
+    def climb(self, epoch: int, floor: int) -> int:
+        """Publishes epochs without changes, up to a number."""
+        with Operator(*self._operator, timeout=self._pool.limits.answer_time) as operator:
+            while epoch < floor:
+                epoch = operator.publish()
+        return epoch
+
+
+class Restorer:
+    """Looks again and again. A leader that came, for the first time or anew, is asked by others
+    only once all that is due stands on it. Before that is published, epochs without changes bring
+    their numbers to where they were, so that no number comes to mean another thing, and who
+    follows the leader goes on; where that is too far, the numbers begin anew.
+    """
+
+    def __init__(
+        self, keeper: Keeper, asker: LeaderAsker, pool: Pool, loop: asyncio.AbstractEventLoop
+    ) -> None:
+        self._keeper, self._asker, self._pool, self._loop = keeper, asker, pool, loop
+        self._life = 0
+
+    def look(self) -> None:
+        life = self._pool.leader.life
+        if life == self._life:
+            self._keeper.look()
+        elif life:
+            self._restore(life)
+
+    def _restore(self, life: int) -> None:
+        try:
+            self._climb(self._asker.epoch(), self._pool.leader.floor)
+        except ClientError as fault:
+            self._keeper.fault = str(fault)
+            return
+        self._keeper.forget()
+        self._keeper.look()
+        epoch = self._keeper.epoch
+        if not self._keeper.fault and epoch is not None:
+            self._life = life
+            self._tell(functools.partial(self._pool.restored, life, epoch))
+
+    def _climb(self, epoch: int, floor: int) -> None:
+        if floor - epoch > MOST_CLIMB:
+            LOG.warning("the leader's epochs begin anew: they were at %d", floor)
+            self._tell(self._pool.begin_anew)
+        elif floor > epoch:
+            self._keeper.knows(self._asker.climb(epoch, floor))
+
+    def _tell(self, work: Callable[[], None]) -> None:
+        with suppress(RuntimeError):  # the loop has ended
+            self._loop.call_soon_threadsafe(work)
+
 
 class Closing:
     """The closures of one network. Whatever publishes does so one after another."""
@@ -66,22 +125,35 @@ class Closing:
     def __init__(self, network: Network, roads: Callable[[], Roads], log: Log) -> None:
         self._network, self._roads, self.log = network, roads, log
         self._keeper: Keeper | None = None
+        self._pool: Pool | None = None
         self._thread = ThreadPoolExecutor(1, "closures")
-        self._ended = threading.Event()
+        self._woken, self._has_ended = threading.Event(), False
 
     def begin(self, pool: Pool, operator: Address) -> None:
         """From now on what the log has is published when it is due."""
-        asker = LeaderAsker(pool, operator, asyncio.get_running_loop())
-        self._keeper = Keeper(self._network, asker, self.log)
-        threading.Thread(target=self._watch, args=(self._keeper,), daemon=True).start()
+        loop = asyncio.get_running_loop()
+        asker = LeaderAsker(pool, operator, loop)
+        self._keeper, self._pool = Keeper(self._network, asker, self.log), pool
+        pool.has_keeper, pool.leader.is_restored = True, False
+        pool.leader_came = self._woken.set
+        words = (Restorer(self._keeper, asker, pool, loop),)
+        threading.Thread(target=self._watch, args=words, daemon=True).start()
 
     def end(self) -> None:
-        self._ended.set()
+        self._has_ended = True
+        self._woken.set()
         self._thread.shutdown(wait=False)
 
-    def _watch(self, keeper: Keeper) -> None:
-        while not self._ended.wait(PAUSE):
-            keeper.look()
+    def _watch(self, restorer: Restorer) -> None:
+        while not self._has_ended:
+            restorer.look()
+            self._woken.wait(PAUSE)
+            self._woken.clear()
+
+    @property
+    def keeper(self) -> Keeper | None:
+        """Who publishes, where an operator's address was given."""
+        return self._keeper
 
     @property
     def told(self) -> dict[str, object]:
@@ -95,7 +167,13 @@ class Closing:
 
     async def close(self, asked: Mapping[str, object], who: str, peer: str) -> Closure:
         keeper = self._due()
-        closure = await self._run(lambda: self._closure(keeper, asked, who))
+        return await self.add(await self._run(lambda: self._closure(keeper, asked, who)), who, peer)
+
+    async def add(self, closure: Closure, who: str, peer: str) -> Closure:
+        keeper = self._due()
+        if len(closure.changes) > MOST_CHANGES:
+            text = f"{len(closure.changes)} arcs are more than one epoch can change"
+            raise Problem("bad-body", text)
         await self._run(lambda: self._publish(keeper, closure))
         found = self._find(closure.name) or closure
         audit("close", who, peer, found)
@@ -133,8 +211,11 @@ class Closing:
         return next((one for one in self.log.read() if one.name == name), None)
 
     def _due(self) -> Keeper:
-        if self._keeper is None:
+        """The keeper, once all that it had published stands on the leader."""
+        if self._keeper is None or self._pool is None:
             raise Problem("no-operator", "no operator's address was given to this service")
+        if not self._pool.is_usable(self._pool.leader):
+            raise Busy("the leader is gone, or has come anew and isn't restored yet")
         return self._keeper
 
     async def _run(self, work: Callable[[], T]) -> T:
@@ -157,8 +238,6 @@ class Closing:
             begin=_time(asked, "begin"),
             end=_time(asked, "end"),
         )
-        if len(closure.changes) > MOST_CHANGES:
-            raise Problem("bad-body", f"{len(arcs)} arcs are more than one epoch can change")
         if closure.end and closure.end <= (closure.begin or closure.at):
             raise Problem("bad-body", "it would end before it begins")
         return closure
@@ -193,6 +272,7 @@ def told_closure(one: Closure) -> dict[str, object]:
         "begin": begin.isoformat(),
         "end": end.isoformat() if end else None,
         "epoch": one.epoch,
+        "lifted_epoch": one.lifted_epoch,
     }
 
 

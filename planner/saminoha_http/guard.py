@@ -4,24 +4,21 @@ origin of what changes something, the access log, and what is counted.
 
 from __future__ import annotations
 
-import json
-import logging
 import time
 from collections import OrderedDict
 from collections.abc import Collection
-from dataclasses import dataclass, field
+from dataclasses import dataclass
 
-from starlette.datastructures import Headers
 from starlette.requests import ClientDisconnect
 from starlette.types import ASGIApp, Message, Receive, Scope, Send
 
+from .access import AccessLog, Told
 from .metrics import Metrics
 from .problems import Problem
 
-ACCESS = logging.getLogger("saminoha.access")
 MOST_PEERS = 10_000  # whose rates are known
 GONE = 499  # in the log alone: the peer went before it was answered
-CHANGING = "/v1/closures"
+CHANGING = ("/v1/closures", "/api/")
 FREE = ("/health", "/metrics")  # answered also where all else is refused for its rate
 
 
@@ -53,24 +50,9 @@ class Rates:
         return left >= 1
 
 
-@dataclass
-class Told:
-    """What became of one request, for the log."""
-
-    begun: float = field(default_factory=time.monotonic)
-    status: int = 0
-    bytes: int = 0
-
-    def mind(self, message: Message) -> None:
-        if message["type"] == "http.response.start":
-            self.status = message["status"]
-        elif message["type"] == "http.response.body":
-            self.bytes += len(message.get("body", b""))
-
-
 class Guard:
-    def __init__(self, app: ASGIApp, bounds: Bounds, metrics: Metrics) -> None:
-        self._app, self._bounds, self._metrics = app, bounds, metrics
+    def __init__(self, app: ASGIApp, bounds: Bounds, metrics: Metrics, log: AccessLog) -> None:
+        self._app, self._bounds, self._metrics, self._log = app, bounds, metrics, log
         self._rates = Rates(bounds.rate, bounds.burst)
         self._at_once = 0
 
@@ -101,17 +83,24 @@ class Guard:
             await problem.response()(scope, receive, minded)
 
     def _check(self, scope: Scope) -> None:
-        bounds, headers = self._bounds, Headers(scope=scope)
+        bounds = self._bounds
         if len(scope.get("raw_path") or b"") + len(scope["query_string"]) > bounds.url:
             raise Problem("uri-too-long", f"an address has {bounds.url} bytes at most")
         if scope["path"] not in FREE:
             self._check_rate(peer_of(scope))
-        length = headers.get("content-length", "0")
-        if not length.isdecimal() or int(length) > bounds.body:
-            raise Problem("too-large", f"a body has {bounds.body} bytes at most")
-        changes = scope["path"].startswith(CHANGING) and scope["method"] not in ("GET", "HEAD")
-        origin = headers.get("origin")
-        if changes and origin is not None and origin not in bounds.origins:
+        for name, value in scope["headers"]:
+            if name == b"content-length":
+                self._check_length(value)
+            elif name == b"origin" and is_changing(scope):
+                self._check_origin(value.decode("latin-1"), scope)
+
+    def _check_length(self, value: bytes) -> None:
+        if not value.isdigit() or int(value) > self._bounds.body:
+            raise Problem("too-large", f"a body has {self._bounds.body} bytes at most")
+
+    def _check_origin(self, origin: str, scope: Scope) -> None:
+        """A page may change what its own service has; others only if they are named."""
+        if origin not in self._bounds.origins and not is_own(origin, scope):
             raise Problem("foreign-origin", f"the origin {origin[:100]!r} isn't named here")
 
     def _check_rate(self, peer: str) -> None:
@@ -126,18 +115,8 @@ class Guard:
         seconds = time.monotonic() - told.begun
         route = getattr(scope.get("route"), "path", "other")
         method = scope["method"] if scope["method"] in ("GET", "POST", "DELETE") else "other"
-        self._metrics.requests.labels(route, method, str(told.status)).inc()
-        self._metrics.seconds.labels(route).observe(seconds)
-        line = {
-            "time": time.strftime("%Y-%m-%dT%H:%M:%SZ", time.gmtime()),
-            "peer": peer_of(scope),
-            "method": method,
-            "path": scope["path"],
-            "status": told.status,
-            "seconds": round(seconds, 4),
-            "bytes": told.bytes,
-        }
-        ACCESS.info("%s", json.dumps(line))
+        self._metrics.count(route, method, told.status, seconds)
+        self._log.add(peer_of(scope), method, scope["path"], told, seconds)
 
 
 class _Bounded:
@@ -153,6 +132,16 @@ class _Bounded:
             if self._come > self._most:
                 raise Problem("too-large", f"a body has {self._most} bytes at most")
         return message
+
+
+def is_changing(scope: Scope) -> bool:
+    return scope["path"].startswith(CHANGING) and scope["method"] not in ("GET", "HEAD")
+
+
+def is_own(origin: str, scope: Scope) -> bool:
+    """Whether it is the origin of the pages that are served here, by the name that was asked."""
+    hosts = [value.decode("latin-1") for name, value in scope["headers"] if name == b"host"]
+    return len(hosts) == 1 and origin == f"{scope['scheme']}://{hosts[0]}"
 
 
 def peer_of(scope: Scope) -> str:

@@ -3,6 +3,8 @@
 from __future__ import annotations
 
 import asyncio
+from collections.abc import Callable
+from typing import cast
 
 from saminoha_planner.client import (
     Answer,
@@ -19,7 +21,7 @@ from saminoha_planner.client import (
 from saminoha_planner.client.lines import Replies
 
 Address = tuple[str, int]
-MOST_BYTES, MOST_LINE = 2**26, 2**22  # of one reply, and of a line of it
+MOST_BYTES = 2**26  # of one reply
 LONG = 2**16  # bytes of a reply that is parsed beside the loop
 
 
@@ -31,25 +33,34 @@ class TooLong(ClientError):
     """The reply has more bytes than are held for one request."""
 
 
-class Link:
-    """`is_whole` tells whether no reply is under way, so that the link can be used again."""
+class Link(asyncio.Protocol):
+    """`is_whole` tells whether no reply is under way, so that the link can be used again, and
+    `has_ended` whether the server is known to have closed it.
+    """
 
-    def __init__(
-        self, reader: asyncio.StreamReader, writer: asyncio.StreamWriter, criteria: int
-    ) -> None:
-        self._reader, self._writer, self._criteria = reader, writer, criteria
-        self.is_whole = True
+    def __init__(self, criteria: int, ended: Callable[[Link], None] | None = None) -> None:
+        self._criteria, self._ended = criteria, ended
+        self._transport: asyncio.Transport | None = None
+        self._due: asyncio.Future[bytes] | None = None
+        self._parts: list[bytes] = []
+        self._bytes, self._lines, self._lines_due = 0, 0, 0
+        self.is_whole, self.has_ended = True, False
+        self.life, self.used = 0, 0.0  # its server's life, and when it was used last
 
     @staticmethod
-    async def open(address: Address, sizes: Sizes) -> Link:
-        """A link to a server that has a lane for it and serves a network of these sizes."""
+    async def open(
+        address: Address, sizes: Sizes, ended: Callable[[Link], None] | None = None
+    ) -> Link:
+        """A link to a server that has a lane for it and serves a network of these sizes. Once it
+        has ended, whoever opened it is told.
+        """
+        loop = asyncio.get_running_loop()
+        link = Link(sizes.criteria, ended)
         try:
-            reader, writer = await asyncio.open_connection(*address, limit=MOST_LINE)
+            await loop.create_connection(lambda: link, *address)
+            await link._greet(sizes)
         except OSError as fault:
             raise Broken(f"it can't be reached: {fault.strerror or fault}") from fault
-        link = Link(reader, writer, sizes.criteria)
-        try:
-            await link._greet(sizes)
         except BaseException:
             link.close()
             raise
@@ -71,49 +82,78 @@ class Link:
         return reply.number
 
     async def ask(self, request: Request) -> Reply:
+        if self.has_ended or not self._transport:
+            raise Broken("the link has ended")
         self.is_whole = False
-        try:
-            self._writer.write(request.line.encode("ascii") + b"\n")
-            await self._writer.drain()
-            lines = await self._reply()
-        except (OSError, ValueError) as fault:
-            raise Broken(f"the link broke: {fault}") from fault
+        self._due = asyncio.get_running_loop().create_future()
+        self._transport.write(request.line.encode("ascii") + b"\n")
+        text = await self._due
         self.is_whole = True
-        if sum(map(len, lines)) > LONG:
-            return await asyncio.to_thread(self._parsed, lines, request)
-        return self._parsed(lines, request)
+        if len(text) > LONG:
+            return await asyncio.to_thread(self._parsed, text, request)
+        return self._parsed(text, request)
 
-    def _parsed(self, lines: list[str], request: Request) -> Reply:
+    def _parsed(self, text: bytes, request: Request) -> Reply:
         try:
+            lines = text.decode("ascii").splitlines()
             return Replies(iter(lines), self._criteria).reply_to(request)
         except ValueError as fault:
             raise ProtocolError(f"to {request.line!r} came what is no reply") from fault
 
-    async def _reply(self) -> list[str]:
-        """The first line, and as many more as it announces."""
-        lines = [await self._line()]
-        words = lines[0].split()
-        count = int(words[-1]) if words and words[0] in ("r", "l") else 0
-        left = MOST_BYTES
-        for _ in range(count):
-            lines.append(await self._line())
-            left -= len(lines[-1])
-            if left < 0:
-                raise TooLong(f"the answer has {count} trade-offs, and more bytes than are held")
-        return lines
-
-    async def _line(self) -> str:
-        line = await self._reader.readline()
-        if not line.endswith(b"\n"):
-            raise Broken("the link ended within a reply")
-        return line.decode("ascii")
-
-    @property
-    def has_ended(self) -> bool:
-        """Whether the server is known to have closed it."""
-        return self._reader.at_eof() or self._writer.is_closing()
-
     def close(self) -> None:
         """At once: what was sent and not replied to is given up."""
-        self.is_whole = False
-        self._writer.transport.abort()
+        self.is_whole, self._ended = False, None
+        self._abort()
+
+    def _abort(self) -> None:
+        if self._transport:
+            self._transport.abort()
+
+    # What asyncio calls.
+
+    def connection_made(self, transport: asyncio.BaseTransport) -> None:
+        self._transport = cast(asyncio.Transport, transport)
+
+    def data_received(self, data: bytes) -> None:
+        """A reply is whole with its first line and as many more as that announces."""
+        self._parts.append(data)
+        self._bytes += len(data)
+        self._lines += data.count(b"\n")
+        if not self._lines_due and self._lines:
+            self._lines_due = 1 + announced(b"".join(self._parts))
+        if self._bytes > MOST_BYTES:
+            self._ended = None
+            self._fail(TooLong(f"the answer has more than {MOST_BYTES} bytes"))
+        elif self._lines_due and self._lines >= self._lines_due:
+            self._hand_over()
+
+    def _hand_over(self) -> None:
+        text, lines = b"".join(self._parts), self._lines
+        due, is_exact = self._due, lines == self._lines_due and text.endswith(b"\n")
+        self._parts, self._bytes, self._lines, self._lines_due = [], 0, 0, 0
+        self._due = None
+        if due is None or not is_exact:
+            self._due = due
+            self._fail(Broken("more came than was asked for"))
+        elif not due.done():
+            due.set_result(text)
+
+    def _fail(self, fault: ClientError) -> None:
+        due, self._due = self._due, None
+        if due is not None and not due.done():
+            due.set_exception(fault)
+        self._parts = []
+        self._abort()
+
+    def connection_lost(self, fault: Exception | None) -> None:
+        self.has_ended = True
+        self._fail(Broken(f"the link broke: {fault}" if fault else "the link ended"))
+        if self._ended:
+            self._ended(self)
+
+
+def announced(text: bytes) -> int:
+    """How many lines follow the first one."""
+    words = text.partition(b"\n")[0].split()
+    is_answer = words and words[0] in (b"r", b"l") and words[-1].isdigit()
+    return int(words[-1]) if is_answer else 0

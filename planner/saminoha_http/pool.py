@@ -3,6 +3,11 @@
 A request takes a link for its lines and gives it back. Where none is free it waits in a queue
 that has a bound and a time. A server that is gone is left out and tried again, after pauses that
 grow; one whose epoch stays other than the leader's is left out as well.
+
+A server that begins anew has its files alone, and numbers its epochs from the beginning. So a link
+that ends by itself ends the server's *life*, and in the next one nobody is asked before he is at
+his *floor*: the epoch where he was, and for a follower the one where the leader was. Where a
+keeper publishes closures, a leader isn't asked either before that has looked at this life.
 """
 
 from __future__ import annotations
@@ -11,13 +16,14 @@ import asyncio
 import logging
 import time
 from collections import deque
-from collections.abc import AsyncIterator, Coroutine, Sequence
+from collections.abc import AsyncIterator, Callable, Coroutine, Sequence
 from contextlib import asynccontextmanager
-from dataclasses import dataclass, field
+from dataclasses import dataclass
 
 from saminoha_planner.client import (
     Answer,
     ClientError,
+    Epoch,
     ProtocolError,
     Refusal,
     Reply,
@@ -27,58 +33,13 @@ from saminoha_planner.client import (
 )
 
 from .links import Address, Broken, Link
+from .servers import Backend, Busy, LeaderEpochs, Limits
 
 LOG = logging.getLogger("saminoha.pool")
 FIRST_PAUSE, LONGEST_PAUSE = 0.1, 10.0  # seconds before a server that is gone is tried again
 WATCH = 1.0  # seconds between looks at servers that nobody asks
 FULL = 30.0  # seconds until a server that had no lane left is asked for one again
-MOST_EPOCHS = 1000  # of the leader, whose times are known
-
-
-class Busy(ClientError):
-    """No link came free in time: `seconds` is when to ask again."""
-
-    def __init__(self, text: str, seconds: int = 1) -> None:
-        super().__init__(text)
-        self.seconds = seconds
-
-
-@dataclass(frozen=True)
-class Limits:
-    """Links to each server, requests that wait, and seconds."""
-
-    links: int = 8
-    queue: int = 256
-    queue_time: float = 5.0
-    answer_time: float = 30.0
-    open_time: float = 2.0
-    stale: float = 10.0
-
-
-@dataclass
-class Backend:
-    """A server as the pool sees it. `room` is how many links it had lanes for."""
-
-    name: str
-    address: Address
-    room: int
-    is_leader: bool = False
-    is_up: bool = False
-    epoch: int | None = None
-    busy: int = 0
-    idle: list[Link] = field(default_factory=list)
-    heard: float = 0.0
-    differs_since: float | None = None
-    fault: str = "it wasn't asked yet"
-
-    @property
-    def opened(self) -> int:
-        return self.busy + len(self.idle)
-
-    def drop_idle(self) -> None:
-        for link in self.idle:
-            link.close()
-        self.idle.clear()
+IDLE = 300.0  # seconds until a link that nobody uses is closed; servers end such after ten minutes
 
 
 @dataclass
@@ -100,8 +61,10 @@ class Pool:
             for at, address in enumerate(addresses)
         ]
         self.retried = 0
+        self.has_keeper = False
+        self.leader_came: Callable[[], None] = lambda: None
         self._waiting: deque[Waiter] = deque()
-        self._leader_epochs: deque[tuple[int, float]] = deque(maxlen=MOST_EPOCHS)
+        self._leader_epochs = LeaderEpochs()
         self._tasks: set[asyncio.Task[None]] = set()
 
     async def __aenter__(self) -> Pool:
@@ -130,21 +93,23 @@ class Pool:
     @property
     def epoch(self) -> int | None:
         """The latest that a server in use has told of: the leader's, where it answers."""
-        if self.leader.is_up:
+        if self.is_usable(self.leader):
             return self.leader.epoch
-        told = [one.epoch for one in self.servers if one.is_up and one.epoch is not None]
-        return max(told, default=None)
+        usable = filter(self.is_usable, self.servers)
+        return max((one.epoch for one in usable if one.epoch is not None), default=None)
 
     @property
     def is_ready(self) -> bool:
         return any(self.is_usable(server) for server in self.servers)
 
     def is_usable(self, server: Backend) -> bool:
-        return server.is_up and not self.is_stale(server)
+        if not server.is_up or server.is_behind:
+            return False
+        return server.is_restored if server.is_leader else not self.is_stale(server)
 
     def is_stale(self, server: Backend) -> bool:
         since = server.differs_since
-        if since is None or server.is_leader or not self.leader.is_up:
+        if since is None or server.is_leader or not self.is_usable(self.leader):
             return False
         return time.monotonic() - since > self.limits.stale
 
@@ -172,10 +137,28 @@ class Pool:
             except (Broken, ProtocolError) as fault:
                 link.close()
                 broken.append(server)
-                server.drop_idle()  # they are of the same server, which may be another by now
+                self._end_life(server, link, str(fault))
                 raise Broken(str(fault)) from fault
             self._heard(server, reply)
             return reply
+
+    # What a keeper of closures and who runs the service tell.
+
+    def restored(self, life: int, epoch: int) -> None:
+        """In this life of the leader all stands that is to stand."""
+        if self.leader.life == life and self.leader.is_up:
+            self.leader.is_restored = True
+            self.leader.named(epoch)
+            self._mind_epoch(self.leader)
+            self._serve_waiting()
+
+    def begin_anew(self) -> None:
+        """The numbers of epochs have begun anew: what servers name now is right."""
+        self._leader_epochs.clear()
+        for server in self.servers:
+            server.greatest, server.floor = server.epoch or 0, 0
+            server.differs_since = None
+        self._serve_waiting()
 
     # Links.
 
@@ -188,7 +171,10 @@ class Pool:
             server = await self._place(only_leader, avoided, deadline)
             try:
                 link = await self._link(server)
-                break
+                if self._is_fit(server, only_leader):
+                    break
+                self._keep(server, link)
+                self._free(server)
             except Broken as fault:
                 self._free(server)
                 LOG.info("%s: %s", server.name, fault)
@@ -198,10 +184,7 @@ class Pool:
         try:
             yield server, link
         finally:
-            if link.is_whole and server.is_up:
-                server.idle.append(link)
-            else:
-                link.close()
+            self._keep(server, link)
             self._free(server)
 
     async def _place(
@@ -214,7 +197,10 @@ class Pool:
         if len(self._waiting) >= self.limits.queue:
             raise Busy(f"{len(self._waiting)} requests wait for a link already")
         waiter = Waiter(asyncio.get_running_loop().create_future(), only_leader)
-        self._waiting.append(waiter)
+        if only_leader:
+            self._waiting.appendleft(waiter)  # the keeper doesn't stand behind all others
+        else:
+            self._waiting.append(waiter)
         try:
             async with asyncio.timeout(max(0.0, deadline - time.monotonic())):
                 return await waiter.place
@@ -248,8 +234,11 @@ class Pool:
         return min(found, key=rank) if found else None
 
     def _has_place(self, server: Backend, only_leader: bool) -> bool:
-        fits = server.is_leader or not only_leader
-        return fits and server.busy < server.room and self.is_usable(server)
+        return server.busy < server.room and self._is_fit(server, only_leader)
+
+    def _is_fit(self, server: Backend, only_leader: bool) -> bool:
+        """The keeper, who asks the leader alone, also asks one that isn't restored."""
+        return server.is_leader and server.is_up if only_leader else self.is_usable(server)
 
     def _free(self, server: Backend) -> None:
         server.busy -= 1
@@ -273,26 +262,45 @@ class Pool:
             link = server.idle.pop()
             if not link.has_ended:
                 return link
-            link.close()
+        life = server.life
         try:
-            return await self._open(server)
+            link = await self._open(server)
         except TimedOut as late:
             if server.opened > 1:  # the others work: it has no lane left
                 self._narrow(server)
             else:
-                self._leave_out(server, str(late))
+                self._leave_out(server, str(late), life)
             raise Broken(str(late)) from late
         except Broken as fault:
-            self._leave_out(server, str(fault))
+            self._leave_out(server, str(fault), life)
             raise
+        if not server.is_up or server.life != life:
+            link.close()
+            raise Broken("it was left out meanwhile")
+        return link
+
+    def _keep(self, server: Backend, link: Link) -> None:
+        if link.is_whole and server.is_up and link.life == server.life:
+            link.used = time.monotonic()
+            server.idle.append(link)
+        else:
+            link.close()
 
     async def _open(self, server: Backend) -> Link:
+        def ended(link: Link) -> None:
+            self._end_life(server, link, "a link ended")
+
         try:
             async with asyncio.timeout(self.limits.open_time):
-                link = await Link.open(server.address, self.sizes)
-                server.epoch = await link.epoch()
+                link = await Link.open(server.address, self.sizes, ended)
+                epoch = await link.epoch()
         except TimeoutError:
             raise TimedOut("it gives no lane") from None
+        link.life = server.life
+        if server.is_up and epoch < (server.epoch or 0):
+            link.close()
+            raise Broken(f"it has begun anew, at epoch {epoch}")
+        server.named(epoch)
         self._mind_epoch(server)
         return link
 
@@ -307,12 +315,19 @@ class Pool:
 
     # Servers that are gone, and come again.
 
-    def _leave_out(self, server: Backend, why: str) -> None:
-        if server.is_up:
+    def _leave_out(self, server: Backend, why: str, life: int) -> None:
+        """Whatever was learned of an earlier life says nothing of this one."""
+        if server.is_up and server.life == life:
             LOG.warning("%s is left out: %s", server.name, why)
             server.is_up, server.fault, server.epoch = False, why, None
             server.drop_idle()
             self._begin(self._revive(server))
+
+    def _end_life(self, server: Backend, link: Link, why: str) -> None:
+        """A link that ended by itself may have been the server's end."""
+        if link in server.idle:
+            server.idle.remove(link)
+        self._leave_out(server, why, link.life)
 
     async def _revive(self, server: Backend) -> None:
         pause = FIRST_PAUSE
@@ -320,26 +335,44 @@ class Pool:
             try:
                 link = await self._open(server)
             except ClientError as fault:
-                server.fault = str(fault)
+                server.fault, server.epoch = str(fault), None
                 await asyncio.sleep(pause)
                 pause = min(2 * pause, LONGEST_PAUSE)
             else:
-                server.is_up, server.fault, server.room = True, "", self.limits.links
-                server.idle.append(link)
-                LOG.info("%s answers, at epoch %s", server.name, server.epoch)
-                self._mind_epoch(server)
-                self._serve_waiting()
+                self._begin_life(server, link)
+
+    def _begin_life(self, server: Backend, link: Link) -> None:
+        server.life += 1
+        server.is_up, server.fault, server.room = True, "", self.limits.links
+        server.floor = max(server.greatest, self.leader.greatest)
+        server.is_restored = not (server.is_leader and self.has_keeper)
+        link.life = server.life
+        self._keep(server, link)
+        LOG.info("%s answers, at epoch %s", server.name, server.epoch)
+        if server.is_behind:
+            LOG.warning("%s isn't asked before it is at epoch %s", server.name, server.floor)
+        self._mind_epoch(server)
+        if server.is_leader:
+            self.leader_came()
+        self._serve_waiting()
 
     async def _watch(self) -> None:
         """Servers that nobody asked of late are asked for their epoch, so that what is gone or
-        stale is known.
+        stale is known, and links that idle too long are closed.
         """
         while True:
             await asyncio.sleep(WATCH)
             now = time.monotonic()
             due = [one for one in self.servers if one.is_up and now - one.heard >= WATCH]
             await asyncio.gather(*map(self._look, due))
+            for server in self.servers:
+                self._close_unused(server, now)
             self._serve_waiting()
+
+    def _close_unused(self, server: Backend, now: float) -> None:
+        for link in [one for one in server.idle if now - one.used > IDLE]:
+            server.idle.remove(link)
+            link.close()
 
     async def _look(self, server: Backend) -> None:
         if server.busy >= server.room:
@@ -349,12 +382,12 @@ class Pool:
             link = await self._link(server)
             try:
                 async with asyncio.timeout(self.limits.open_time):
-                    server.epoch = await link.epoch()
-                server.idle.append(link)
-                self._mind_epoch(server)
+                    epoch = await link.epoch()
+                self._keep(server, link)
+                self._heard(server, Epoch(epoch))
             except (Broken, ProtocolError, TimeoutError) as fault:
                 link.close()
-                self._leave_out(server, str(fault) or "it doesn't answer")
+                self._leave_out(server, str(fault) or "it doesn't answer", link.life)
         except Broken as fault:
             LOG.info("%s: %s", server.name, fault)
         finally:
@@ -368,29 +401,23 @@ class Pool:
     # Epochs.
 
     def _heard(self, server: Backend, reply: Reply) -> None:
-        epoch = reply.epoch if isinstance(reply, Answer | Refusal) else reply.number
-        if epoch != server.epoch or server.differs_since is not None:
-            server.epoch = epoch
-            self._mind_epoch(server)
+        """A search may have begun at an epoch before the latest; who is asked for his epoch tells
+        the latest.
+        """
         server.heard = time.monotonic()
+        is_search = isinstance(reply, Answer | Refusal)
+        epoch = reply.epoch if isinstance(reply, Answer | Refusal) else reply.number
+        latest = server.epoch or 0
+        if epoch < latest and not is_search:
+            self._leave_out(server, f"it has gone back from {latest} to {epoch}", server.life)
+        elif epoch > latest or server.differs_since is not None:
+            server.named(epoch)
+            self._mind_epoch(server)
 
     def _mind_epoch(self, server: Backend) -> None:
         """Since when the epochs of followers are others than the leader's."""
         server.heard = time.monotonic()
-        last = self._leader_epochs[-1][0] if self._leader_epochs else None
-        if server.is_leader and server.epoch is not None and server.epoch != last:
-            if last is not None and server.epoch < last:
-                self._leader_epochs.clear()  # it has begun anew
-            self._leader_epochs.append((server.epoch, server.heard))
+        if server.is_leader:
+            self._leader_epochs.mind(server)
         for one in self.servers[1:]:
-            one.differs_since = self._since(one)
-
-    def _since(self, server: Backend) -> float | None:
-        if server.epoch is None or not self._leader_epochs:
-            return None
-        last = self._leader_epochs[-1][0]
-        if server.epoch == last:
-            return None
-        if server.epoch > last:
-            return server.differs_since or server.heard
-        return next(at for epoch, at in self._leader_epochs if epoch > server.epoch)
+            one.differs_since = self._leader_epochs.since(one)

@@ -12,10 +12,11 @@ from saminoha_planner.command import Fault
 from saminoha_planner.ends import EndFault
 
 from .links import TooLong
-from .pool import Busy
+from .servers import Busy
 
 MEDIA_TYPE = "application/problem+json"
 KINDS = {  # by the last part of a problem's `type`: its status and title
+    "no-request": (400, "This is no request"),
     "bad-parameter": (400, "A parameter isn't as it should be"),
     "bad-body": (400, "The body isn't as it should be"),
     "unauthorized": (401, "A token is wanted"),

@@ -2,6 +2,7 @@
 
 from __future__ import annotations
 
+import functools
 import re
 from collections.abc import Iterable, Mapping
 from dataclasses import dataclass
@@ -17,6 +18,8 @@ from .problems import Problem
 LONGEST = 100  # letters of an end's name
 MOST_BOUND = 2**64 - 1  # as FORMATS has it
 KEEP = 5
+MOST_NODES = 2**14  # whose ends are kept
+NODE = re.compile(r"node:([0-9]{1,10})")
 POINT = re.compile(r"\s*(-?\d{1,3}(?:\.\d{1,12})?)\s*,\s*(-?\d{1,3}(?:\.\d{1,12})?)\s*", re.ASCII)
 
 
@@ -25,6 +28,7 @@ class Question:
     source: End
     target: End
     limits: tuple[int | None, ...] | None
+    criteria: tuple[int, ...]  # places among the network's
     keep: int
     has_all: bool
 
@@ -37,15 +41,23 @@ class Asked:
 
     def __init__(self, network: Network, ends: Ends) -> None:
         self._network, self._ends = network, ends
+        self._names = [one.name for one in network.criteria]
+        self._limit_names = [f"limit.{name}" for name in self._names]
+        self._known = {"from", "to", "criteria", "keep", "all", *self._limit_names}
+        self._node = functools.lru_cache(MOST_NODES)(self._make_node)
+
+    def is_quick(self, words: Iterable[tuple[str, str]]) -> bool:
+        """Whether no name or point has to be looked up, so that it can be read within the loop."""
+        return all(NODE.fullmatch(text) for name, text in words if name in ("from", "to"))
 
     def question(self, words: Iterable[tuple[str, str]]) -> Question:
-        given = self._once(words, {"from", "to", "keep", "all", *self._limit_names})
+        given = self._once(words, self._known)
         for name in ("from", "to"):
             if name not in given:
                 raise Problem("bad-parameter", f"{name} is missing", parameter=name)
         source, target = (self.end(given[name], name) for name in ("from", "to"))
-        limits = self._limits(given)
-        return Question(source, target, limits, keep_of(given), flag_of(given, "all"))
+        limits, criteria = self._limits(given), self._criteria(given)
+        return Question(source, target, limits, criteria, keep_of(given), flag_of(given, "all"))
 
     def end(self, text: str, parameter: str) -> End:
         """Of `node:N`, `lat,lon`, a place, a street, or `place, street`."""
@@ -59,7 +71,7 @@ class Asked:
     def _end(self, text: str) -> End:
         if len(text) > LONGEST:
             raise EndFault("long", f"an end has {LONGEST} letters at most")
-        if found := re.fullmatch(r"node:([0-9]{1,10})", text):
+        if found := NODE.fullmatch(text):
             return self._node(int(found[1]))
         if point := POINT.fullmatch(text):
             return self._ends.at(float(point[2]), float(point[1]))
@@ -67,15 +79,21 @@ class Asked:
             raise EndFault("no_end", f"{text!r} is no place, no lat,lon and no node:N")
         return self._ends.find(text)
 
-    def _node(self, number: int) -> End:
+    def _make_node(self, number: int) -> End:
         count = self._network.junctions
         if not 1 <= number <= count:
             raise EndFault("unknown", f"there is no node {number}; the network has {count}")
         return self._ends.of(number)
 
-    @property
-    def _limit_names(self) -> list[str]:
-        return [f"limit.{one.name}" for one in self._network.criteria]
+    def _criteria(self, given: Mapping[str, str]) -> tuple[int, ...]:
+        """In the order of their names, or all."""
+        if "criteria" not in given:
+            return tuple(range(len(self._names)))
+        names = given["criteria"].split(",")
+        if len(set(names)) < len(names) or not set(names) <= set(self._names):
+            text = f"criteria are some of {', '.join(self._names)}, each once, between commas"
+            raise Problem("bad-parameter", text, parameter="criteria")
+        return tuple(map(self._names.index, names))
 
     def _limits(self, given: Mapping[str, str]) -> tuple[int | None, ...] | None:
         limits = [self._limit(given.get(name), name) for name in self._limit_names]

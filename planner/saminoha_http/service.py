@@ -10,12 +10,13 @@ import re
 from collections.abc import AsyncIterator, Callable, Sequence
 from concurrent.futures import ThreadPoolExecutor
 from typing import TypeVar
+from urllib.parse import parse_qsl
 
 from starlette.requests import Request
 from starlette.responses import Response, StreamingResponse
 
 from saminoha_planner.background import load_background
-from saminoha_planner.client import Answer, ClientError, Costs, answered
+from saminoha_planner.client import ClientError, Costs, answered
 from saminoha_planner.closures import LOG, Log
 from saminoha_planner.command import Fault
 from saminoha_planner.ends import End, Ends
@@ -23,13 +24,13 @@ from saminoha_planner.network import Network
 from saminoha_planner.roads import Roads, roads_of
 from saminoha_planner.tiles import Tiles
 
-from .answers import alternatives, matrix_entry, told_criterion, told_end
+from .answers import Teller, as_json, matrix_entry, told_criterion, told_end
 from .closing import Closing, told_closure
 from .guard import peer_of
 from .metrics import Metrics
 from .pool import Pool
 from .problems import Problem, problem_of
-from .questions import LONGEST, Asked, Question
+from .questions import LONGEST, Asked
 from .tokens import Tokens
 
 T = TypeVar("T")
@@ -47,6 +48,7 @@ class Service:
         self.most_pairs = most_pairs
         self.metrics = Metrics(pool)
         self.roads: Roads = roads_of(network)
+        self.teller = Teller(network, self.roads)
         self.ends = Ends(network, lambda: self.roads)
         self.asked = Asked(network, self.ends)
         self.closing = Closing(network, lambda: self.roads, Log(network.folder / LOG))
@@ -57,22 +59,23 @@ class Service:
     # Answers.
 
     async def alternatives(self, request: Request) -> Response:
-        question = self.asked.question(request.query_params.multi_items())
+        words = words_of(request)
+        if self.asked.is_quick(words):
+            question = self.asked.question(words)
+        else:
+            question = await self.beside(lambda: self.asked.question(words))
         answer = answered(await self.pool.ask(question.query(self.network)))
         count = sum(len(route.arcs or ()) for route in answer.routes)
         if count <= SMALL:
-            return _json(self._alternatives(question, answer))
-        return _json(await self._beside(lambda: self._alternatives(question, answer)))
-
-    def _alternatives(self, question: Question, answer: Answer) -> dict[str, object]:
-        return alternatives(self.network, self.roads, question, answer)
+            return _told(self.teller.alternatives(question, answer))
+        return _told(await self.beside(lambda: self.teller.alternatives(question, answer)))
 
     async def matrix(self, request: Request) -> Response:
         """All ends are looked up before the first line, so that a bad one is told as a problem."""
-        asked = await _body(request, {"pairs", "from", "to", "all"})
+        asked = await body_of(request, {"pairs", "from", "to", "all"})
         if not isinstance(asked.get("all", False), bool):
             raise Problem("bad-body", "all is true or false")
-        pairs = await self._beside(lambda: self._pairs(asked))
+        pairs = await self.beside(lambda: self._pairs(asked))
         lines = self._lines(pairs, bool(asked.get("all")))
         return StreamingResponse(lines, media_type="application/jsonl")
 
@@ -139,11 +142,11 @@ class Service:
         )
 
     async def places(self, request: Request) -> Response:
-        words = request.query_params.multi_items()
+        words = words_of(request)
         if [name for name, _ in words] != ["q"] or len(words[0][1]) > LONGEST:
             text = f"q is wanted once and alone, with {LONGEST} letters at most"
             raise Problem("bad-parameter", text, parameter="q")
-        return _json({"places": await self._beside(lambda: self._places(words[0][1]))})
+        return _json({"places": await self.beside(lambda: self._places(words[0][1]))})
 
     def _places(self, text: str) -> list[dict[str, object]]:
         found = []
@@ -165,7 +168,7 @@ class Service:
             raise Problem("not-found", "a tile has a zoom and two numbers")
         zoom, x, y = map(int, numbers)
         try:
-            packed = await self._beside(lambda: self._tiles.tile(zoom, x, y))
+            packed = await self.beside(lambda: self._tiles.tile(zoom, x, y))
         except Fault as fault:
             raise Problem("not-found", str(fault)) from None
         headers = {"Cache-Control": "max-age=60", "Vary": "Accept-Encoding"}
@@ -176,7 +179,10 @@ class Service:
 
     # Closures.
 
-    def _who(self, request: Request) -> str:
+    def is_known(self, request: Request) -> bool:
+        return self.tokens.name_of(request.headers.get("authorization", "")) is not None
+
+    def who(self, request: Request) -> str:
         name = self.tokens.name_of(request.headers.get("authorization", ""))
         if name is None:
             challenge = {"WWW-Authenticate": 'Bearer realm="closures"'}
@@ -184,18 +190,18 @@ class Service:
         return name
 
     async def closures(self, request: Request) -> Response:
-        self._who(request)
+        self.who(request)
         return _json(self.closing.told)
 
     async def close(self, request: Request) -> Response:
-        who = self._who(request)
-        asked = await _body(request, None)
+        who = self.who(request)
+        asked = await body_of(request, None)
         closure = await self.closing.close(asked, who, peer_of(request.scope))
         at = {"Location": f"/v1/closures/{closure.name}"}
         return _json(told_closure(closure), 201, at)
 
     async def undo(self, request: Request) -> Response:
-        who = self._who(request)
+        who = self.who(request)
         name = str(request.path_params["name"])
         return _json(told_closure(await self.closing.undo(name, who, peer_of(request.scope))))
 
@@ -207,6 +213,8 @@ class Service:
                 "name": one.name,
                 "up": one.is_up,
                 "stale": self.pool.is_stale(one),
+                "behind": one.is_behind,
+                "restored": one.is_restored,
                 "epoch": one.epoch,
             }
             for one in self.pool.servers
@@ -219,7 +227,7 @@ class Service:
         text = self.metrics.text()
         return Response(text, media_type="text/plain; version=0.0.4; charset=utf-8")
 
-    async def _beside(self, work: Callable[[], T]) -> T:
+    async def beside(self, work: Callable[[], T]) -> T:
         return await asyncio.get_running_loop().run_in_executor(self._work, work)
 
     def end(self) -> None:
@@ -227,12 +235,19 @@ class Service:
         self._work.shutdown(wait=False)
 
 
+def words_of(request: Request) -> list[tuple[str, str]]:
+    return parse_qsl(request.scope["query_string"].decode("latin-1"), keep_blank_values=True)
+
+
+def _told(text: str) -> Response:
+    return Response(text, media_type="application/json")
+
+
 def _json(told: object, status: int = 200, headers: dict[str, str] | None = None) -> Response:
-    body = json.dumps(told, ensure_ascii=False, separators=(",", ":"))
-    return Response(body, status, headers, "application/json")
+    return Response(as_json(told), status, headers, "application/json")
 
 
-async def _body(request: Request, known: set[str] | None) -> dict[str, object]:
+async def body_of(request: Request, known: set[str] | None) -> dict[str, object]:
     """An object of JSON, with members of these names alone."""
     kind = request.headers.get("content-type", "").partition(";")[0].strip().casefold()
     if kind != "application/json":
@@ -240,6 +255,7 @@ async def _body(request: Request, known: set[str] | None) -> dict[str, object]:
     try:
         async with asyncio.timeout(BODY_TIME):
             asked = json.loads(await request.body())
+        as_json(asked).encode()  # which fails on letters that are none
     except TimeoutError:
         raise Problem("bad-body", f"the body didn't come in {BODY_TIME:g} s") from None
     except (ValueError, RecursionError):

@@ -19,6 +19,7 @@ PACKAGES = {
     "prometheus_client": "python3-prometheus-client",
     "pyproj": "python3-pyproj",
     "scipy": "python3-scipy",
+    "starlette": "python3-starlette",
     "uvicorn": "python3-uvicorn",
 }
 

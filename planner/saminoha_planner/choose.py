@@ -56,15 +56,20 @@ def thinned(routes: Sequence[Route], epsilon: float) -> list[Route]:
     return sorted(kept, key=lambda route: route.cost)
 
 
-def few(network: Network, routes: Sequence[Route], keep: int = 5) -> list[Option]:
+def few(
+    network: Network,
+    routes: Sequence[Route],
+    keep: int = 5,
+    criteria: Sequence[Criterion] | None = None,
+) -> list[Option]:
     """The least of each criterion, the compromise, and then those that share least road with
-    these, by letters.
+    these, by letters. The criteria are those of the costs, if these aren't the network's.
     """
     reasons: dict[int, list[str]] = defaultdict(list)
     if routes:
         away = _to_ideal(routes)
         if keep > 1:
-            for place, criterion in enumerate(network.criteria):
+            for place, criterion in enumerate(criteria or network.criteria):
                 reasons[_least(routes, place, away)].append(f"least {criterion.label}")
                 if len(reasons) >= keep:
                     break
@@ -83,34 +88,34 @@ def via(routes: Sequence[Route], network: Network) -> list[str]:
     """For each route up to three roads, in the order of travel, that tell most how it differs
     from the others.
     """
-    used = [[network.road_key(arc) for arc in route.arcs or ()] for route in routes]
-    users = Counter(key for keys in used for key in set(keys))
+    legs = [list(map(network.leg, route.arcs or ())) for route in routes]
+    users = Counter(road for part in legs for road in {leg.road for leg in part})
     texts = []
-    for route, keys in zip(routes, used):
+    for part in legs:
         weight: defaultdict[str, float] = defaultdict(float)
-        for arc, key in zip(route.arcs or (), keys):
-            if title := network.arc(arc).title:
-                weight[title] += network.metres_per_arc[arc - 1] / users[key] ** 2
+        for leg in part:
+            if leg.title:
+                weight[leg.title] += leg.metres / users[leg.road] ** 2
         best = {
             title for title, _ in sorted(weight.items(), key=lambda item: (-item[1], item[0]))[:3]
         }
-        titles = dict.fromkeys(network.arc(arc).title for arc in route.arcs or ())
+        titles = dict.fromkeys(leg.title for leg in part)
         texts.append(", ".join(title for title in titles if title in best))
     return texts
 
 
 def shared(network: Network, one: Route, other: Route) -> float:
     """How much of the one's length the other goes too, in whichever direction."""
-    there = {network.road_key(arc) for arc in other.arcs or ()}
-    lengths = [
-        (network.metres_per_arc[arc - 1], network.road_key(arc) in there) for arc in one.arcs or ()
-    ]
-    total = sum(length for length, _ in lengths)
-    return sum(length for length, common in lengths if common) / total if total else 1.0
+    there = {leg.road for leg in map(network.leg, other.arcs or ())}
+    legs = list(map(network.leg, one.arcs or ()))
+    total = sum(leg.metres for leg in legs)
+    return sum(leg.metres for leg in legs if leg.road in there) / total if total else 1.0
 
 
 def _to_ideal(routes: Sequence[Route]) -> np.ndarray:
     """How far each cost is from the least of every criterion, each of which counts from 0 to 1."""
+    if len(routes) == 1:
+        return np.zeros(1)
     costs = np.array([route.cost for route in routes], dtype=float)
     least, span = costs.min(axis=0), np.ptp(costs, axis=0)
     return np.sqrt((((costs - least) / np.where(span > 0, span, 1)) ** 2).sum(axis=1))
@@ -127,6 +132,8 @@ def _add_differing(
     reasons: dict[int, list[str]],
     keep: int,
 ) -> None:
+    if len(reasons) >= min(keep, len(routes)):
+        return
     most = {
         at: max((shared(network, route, routes[one]) for one in reasons), default=0.0)
         for at, route in enumerate(routes)

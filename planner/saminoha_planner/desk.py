@@ -43,6 +43,7 @@ from .twins import grouped
 MEASURES = ("shut", "slow=1.5", "slow=2", "slow=4")
 MOST_ANSWERS = 20
 COARSER = 10
+MOST_NUMBER = 1e9  # of degrees and metres
 
 
 @dataclass(frozen=True)
@@ -66,7 +67,9 @@ class Question:
 
 
 class Desk:
-    """`tiles` is the address of others' map tiles, where these are wanted."""
+    """`tiles` is the address of others' map tiles, where these are wanted, and `keeper` one that
+    others look after.
+    """
 
     def __init__(
         self,
@@ -76,10 +79,11 @@ class Desk:
         keep: int = 5,
         tiles: str = "",
         tiles_attribution: str = "",
+        keeper: Keeper | None = None,
     ) -> None:
         self.network, self.asker, self.program, self.keep = network, asker, program, keep
         self.tiles, self.tiles_attribution = tiles, tiles_attribution
-        self.keeper = Keeper(network, asker, log_of(network))
+        self.keeper = keeper or Keeper(network, asker, log_of(network))
         self.ends = Ends(network, lambda: self.roads)
         self._answers: dict[tuple[Question, int], Answer] = {}
 
@@ -171,13 +175,15 @@ class Desk:
             raise Fault(f"this is no question: {fault}") from fault
 
     def ask(self, question: Question) -> dict[str, object]:
-        answer = self._answer(question)
-        network = self._network_of(question)
+        return self.told(question, self._answer(question))
+
+    def told(self, question: Question, answer: Answer) -> dict[str, object]:
+        criteria = self._criteria_of(question)
         within = _within(answer, question.limits)
         groups = grouped(thinned(within, question.epsilon), self.roads)
-        options = few(network, list(groups), self.keep)
+        options = few(self.network, list(groups), self.keep, criteria)
         places = {route: place for place, route in enumerate(answer.routes)}
-        digits = _digits(network.criteria, options)
+        digits = _digits(criteria, options)
         return {
             "epoch": answer.epoch,
             "time": time.time(),
@@ -201,13 +207,14 @@ class Desk:
         }
 
     def export(self, question: Question) -> str:
-        answer = self._answer(question)
-        network = self._network_of(question)
+        return self.exported(question, self._answer(question))
+
+    def exported(self, question: Question, answer: Answer) -> str:
+        criteria = self._criteria_of(question)
         within = thinned(_within(answer, question.limits), question.epsilon)
-        groups = grouped(within, self.roads)
-        return json.dumps(
-            geojson(network, within, few(network, list(groups), self.keep)), ensure_ascii=False
-        )
+        options = few(self.network, list(grouped(within, self.roads)), self.keep, criteria)
+        network = replace(self.network, criteria=criteria)
+        return json.dumps(geojson(network, within, options), ensure_ascii=False)
 
     def advice(self, refused: Refused) -> dict[str, object]:
         """What may be done where a search passed its budget."""
@@ -233,12 +240,9 @@ class Desk:
         values = {"budget": budget / 1_000_000}
         return {"code": "refused_budget", "values": values, "offers": offers}
 
-    def _network_of(self, question: Question) -> Network:
-        if not question.criteria:
-            return self.network
-        return replace(
-            self.network, criteria=[self.network.criteria[place] for place in question.criteria]
-        )
+    def _criteria_of(self, question: Question) -> list[Criterion]:
+        every = self.network.criteria
+        return [every[place] for place in question.criteria] if question.criteria else every
 
     def _answer(self, question: Question) -> Answer:
         """From those that were asked at this epoch already, where it is among them."""
@@ -319,6 +323,11 @@ class Desk:
         return self._piece(piece)
 
     def close(self, asked: Mapping[str, object]) -> dict[str, object]:
+        closure = self.closure_of(asked)
+        self.keeper.close(closure)
+        return {"state": self.state(), "closure_state": closure.state().value}
+
+    def closure_of(self, asked: Mapping[str, object]) -> Closure:
         if not self.asker.can_change:
             raise EndFault("no_operator", "no operator's address was given")
         roads = asked.get("roads")
@@ -338,8 +347,7 @@ class Desk:
         )
         if closure.end and closure.end <= (closure.begin or closure.at):
             raise EndFault("bad_times", "it would end before it begins")
-        self.keeper.close(closure)
-        return {"state": self.state(), "closure_state": closure.state().value}
+        return closure
 
     def undo(self, name: str) -> dict[str, object]:
         self.keeper.undo(name)
@@ -456,8 +464,8 @@ def _numbers_of(text: str) -> list[int]:
 
 
 def _plain_number(value: object) -> float:
-    if not isinstance(value, int | float):
-        raise Fault(f"{value!r} is no number")
+    if not isinstance(value, int | float) or not abs(value) < MOST_NUMBER:
+        raise Fault("what should be a number is none, or a large one")
     return float(value)
 
 

@@ -28,6 +28,7 @@ class Keeper:
         self._network, self._asker, self._log = network, asker, log
         self._lock = threading.RLock()
         self._stands: dict[int, Change] | None = None  # by arc, what is published; None at first
+        self._lost: dict[int, Change] = {}  # what stood before the server may have begun anew
         self._states: dict[str, State] = {}
         self._came_due = -TOGETHER  # when a closure's time came last
         self._unexplained: dict[int, float] = {}  # epochs that came from elsewhere, and when
@@ -49,6 +50,19 @@ class Keeper:
             self.fault = ""
         except (ClientError, Fault, OSError) as fault:
             self.fault = str(fault)
+
+    def forget(self) -> None:
+        """The server may have begun anew: the next look publishes all that is wanted, and for who
+        follows the server opens what stood and isn't wanted any more.
+        """
+        with self._lock:
+            self._lost |= self._stands or {}
+            self._stands = None
+
+    def knows(self, epoch: int) -> None:
+        """The epochs up to this one are no others' than this keeper's."""
+        with self._lock:
+            self.epoch = epoch
 
     @property
     def stands(self) -> list[Change]:
@@ -132,7 +146,7 @@ class Keeper:
         """
         stands = self._stands or {}
         due = [change for arc, change in wanted.items() if stands.get(arc) != change]
-        due += [self._open(arc) for arc in stands if arc not in wanted]
+        due += [self._open(arc) for arc in stands | self._lost if arc not in wanted]
         epoch = None
         if due:
             if not self._asker.can_change:
@@ -140,7 +154,7 @@ class Keeper:
             before = self.epoch
             epoch = self._asker.publish(due)
             self._mind_own(before, epoch)
-        self._stands = dict(wanted)
+        self._stands, self._lost = dict(wanted), {}
         return epoch
 
     def _mind_own(self, before: int | None, epoch: int) -> None:

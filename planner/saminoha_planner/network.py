@@ -10,10 +10,10 @@ import hashlib
 import json
 import os
 import shutil
-from collections.abc import Iterable, Iterator, Sequence
+from collections.abc import Callable, Iterable, Iterator, Sequence
 from dataclasses import asdict, dataclass, field, replace
 from pathlib import Path
-from typing import overload
+from typing import NamedTuple, overload
 
 import numpy as np
 
@@ -35,6 +35,7 @@ PLACES = (
     "farm",
     "locality",
 )
+MOST_KEPT = 2**16  # arcs of which what was made of them is kept
 Line = tuple[tuple[float, float], ...]
 
 
@@ -59,6 +60,16 @@ class Arc:
         return self.name or self.ref
 
 
+class Leg(NamedTuple):
+    """What tells one way from another on an arc: its road, which is the same for all arcs of one
+    stretch, the road's title, and the arc's metres.
+    """
+
+    road: int
+    title: str
+    metres: float
+
+
 @dataclass(frozen=True)
 class NamedNode:
     name: str
@@ -76,7 +87,7 @@ class Arcs(Sequence[Arc]):
 
     def __init__(self, arrays: Arrays) -> None:
         self.arrays = arrays
-        self._made: dict[int, Arc] = {}
+        self._made = functools.lru_cache(MOST_KEPT)(self._make)
 
     def __len__(self) -> int:
         return len(self.arrays.tails)
@@ -97,10 +108,7 @@ class Arcs(Sequence[Arc]):
             return [self[one] for one in range(*place.indices(len(self)))]
         if not -len(self) <= place < len(self):
             raise IndexError(place)
-        place %= len(self)
-        if place not in self._made:
-            self._made[place] = self._make(place)
-        return self._made[place]
+        return self._made(place % len(self))
 
     def _make(self, place: int) -> Arc:
         arrays, stretch = self.arrays, int(self.arrays.stretches[place])
@@ -196,6 +204,15 @@ class Network:
         """The same for all arcs of one stretch of road."""
         stretch = int(self.arrays.stretches[number - 1])
         return stretch if stretch >= 0 else -number
+
+    @functools.cached_property
+    def leg(self) -> Callable[[int], Leg]:
+        """Of an arc; what was made is kept, up to a bound."""
+        return functools.lru_cache(MOST_KEPT)(self._make_leg)
+
+    def _make_leg(self, number: int) -> Leg:
+        metres = float(self.metres_per_arc[number - 1])
+        return Leg(self.road_key(number), self.arc(number).title, metres)
 
     def nearest(self, lon: float, lat: float) -> int:
         """The junction nearest to a point."""

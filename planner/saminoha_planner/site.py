@@ -3,8 +3,6 @@
 from __future__ import annotations
 
 import gzip
-from pathlib import Path
-from urllib.parse import urlsplit
 
 from flask import Flask, Response, abort, jsonify, request, send_from_directory
 
@@ -12,9 +10,8 @@ from .client import ClientError, Refused
 from .command import Fault
 from .desk import Desk
 from .ends import EndFault
+from .web_files import LEAFLET, WEB, content_policy
 
-LEAFLET = Path("/usr/share/javascript/leaflet")
-WEB = Path(__file__).parent / "web"
 OWN_NAMES = ("127.0.0.1", "localhost", "[::1]")
 
 
@@ -30,8 +27,7 @@ def make_site(desk: Desk) -> Flask:
 
 
 def _guard(site: Flask, desk: Desk) -> None:
-    tiles = urlsplit(desk.tiles)
-    images = f"{tiles.scheme}://{tiles.netloc.replace('{s}', '*')}" if desk.tiles else ""
+    policy = content_policy(desk.tiles)
 
     @site.before_request
     def only_from_here() -> None:
@@ -45,10 +41,7 @@ def _guard(site: Flask, desk: Desk) -> None:
 
     @site.after_request
     def only_own(response: Response) -> Response:
-        """Names of an extract are others' texts: nothing in them can fetch or run a thing."""
-        response.headers[
-            "Content-Security-Policy"
-        ] = f"default-src 'self'; img-src 'self' data: {images}; style-src 'self' 'unsafe-inline'"
+        response.headers["Content-Security-Policy"] = policy
         return response
 
 

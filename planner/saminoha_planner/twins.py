@@ -4,6 +4,7 @@ their road.
 
 from __future__ import annotations
 
+import functools
 from collections.abc import Sequence
 
 import numpy as np
@@ -18,10 +19,17 @@ def grouped(routes: Sequence[Route], roads: Roads) -> dict[Route, list[Route]]:
     """Some of the routes, each with those that are nearly the same. The least of each criterion
     are among them, and so is the compromise.
     """
-    if not routes:
-        return {}
+    if len(routes) < 2:
+        return {route: [] for route in routes}
     costs = np.array([route.cost for route in routes], dtype=float)
-    used = [_roads_of(route, roads) for route in routes]
+
+    @functools.cache
+    def used(at: int) -> np.ndarray:
+        return _roads_of(routes[at], roads)
+
+    def is_along(one: int, other: int) -> bool:
+        return share_of(used(one), used(other), roads.metres) >= NEAR_ROAD
+
     left = np.ones(len(routes), dtype=bool)
     groups: dict[Route, list[Route]] = {}
     for at in _order(costs):
@@ -29,7 +37,7 @@ def grouped(routes: Sequence[Route], roads: Roads) -> dict[Route, list[Route]]:
             continue
         left[at] = False
         near = np.flatnonzero(left & _is_near(costs, costs[at]))
-        twins = [one for one in near if share_of(used[one], used[at], roads.metres) >= NEAR_ROAD]
+        twins = [one for one in near if is_along(one, at)]
         left[twins] = False
         groups[routes[at]] = [routes[one] for one in twins]
     return groups

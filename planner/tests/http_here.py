@@ -10,10 +10,12 @@ import time
 import urllib.error
 import urllib.request
 from collections.abc import Iterator, Sequence
-from contextlib import contextmanager
+from contextlib import ExitStack, contextmanager
 from dataclasses import dataclass, field
 from pathlib import Path
 from typing import Any
+
+from http_follow import Feeding
 
 from saminoha_planner.client import Program, free_ports
 from saminoha_planner.network import Network
@@ -111,6 +113,12 @@ class Here:
             assert time.monotonic() < end, self.get("/health").body
             time.sleep(0.1)
 
+    def wait_epoch(self, epoch: int, seconds: float = 20.0) -> None:
+        end = time.monotonic() + seconds
+        while self.get("/health").told["epoch"] != epoch:
+            assert time.monotonic() < end, self.get("/health").body
+            time.sleep(0.1)
+
     def entries(self, member: str) -> list[dict[str, Any]]:
         """The lines of the service's log that have this member."""
         lines = [line for line in self.log.read_text().splitlines() if line.startswith("{")]
@@ -129,19 +137,42 @@ def service(
     *options: str,
     followers: int = 0,
     lanes: int = LANES,
+    links: int | None = None,
     server_options: Sequence[str] = (),
+    has_operator: bool = True,
 ) -> Iterator[Here]:
-    """A leader, followers, and the service over them, whose log goes to a file of the folder."""
+    """A leader, followers that follow it, and the service over them, whose log goes to a file of
+    the folder.
+    """
     servers = [ServerHere(program, network.files, lanes) for _ in range(1 + followers)]
     for server in servers:
         server.begin(*server_options)
+    with ExitStack() as until:
+        operator = servers[0].operator if has_operator else ""
+        if followers and has_operator:
+            words = (program, network.files, servers[0], servers[1:], folder)
+            operator = until.enter_context(Feeding(*words)).address
+        with _service(network, folder, servers, operator, links or lanes, options) as here:
+            yield here
+
+
+@contextmanager
+def _service(
+    network: Network,
+    folder: Path,
+    servers: list[ServerHere],
+    operator: str,
+    links: int,
+    options: Sequence[str],
+) -> Iterator[Here]:
     tokens, log = folder / "tokens", folder / "log"
     tokens.write_text(f"# who closes roads\nann {TOKEN}\n")
     tokens.chmod(0o600)
     [port] = free_ports(HOST, 1)
     words = [sys.executable, str(PLANNER / "http_service.py"), str(network.folder)]
-    words += ["--leader", servers[0].session, "--operator", servers[0].operator]
-    words += ["--tokens", str(tokens), "--listen", f"{HOST}:{port}", "--links", str(lanes)]
+    words += ["--leader", servers[0].session, "--listen", f"{HOST}:{port}", "--links", str(links)]
+    if operator:
+        words += ["--operator", operator, "--tokens", str(tokens)]
     for follower in servers[1:]:
         words += ["--follower", follower.session]
     with log.open("wb") as out:
@@ -163,5 +194,8 @@ def _await_ready(here: Here) -> None:
     end = time.monotonic() + 60
     while b"ready" not in here.log.read_bytes():
         assert here.process.poll() is None and time.monotonic() < end, here.log.read_text()
+        time.sleep(0.05)
+    while not here.get("/health").told["servers"][0]["restored"]:
+        assert time.monotonic() < end, here.log.read_text()
         time.sleep(0.05)
     here.wait()

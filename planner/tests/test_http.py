@@ -5,13 +5,18 @@ it names, closures are by token alone, and what is wrong is told as the problem 
 from __future__ import annotations
 
 import gzip
+import json
 import os
 import random
+import re
 import shutil
+import signal
 import socket
 import subprocess
+import threading
 import time
 from collections.abc import Iterator
+from datetime import datetime, timedelta, timezone
 from itertools import product
 from urllib.parse import quote, urlencode
 
@@ -23,13 +28,18 @@ for library in ("fastapi", "uvicorn", "prometheus_client"):
     name = library.replace("_", "-")
     pytest.importorskip(library, reason=f"python3-{name} is missing: the service isn't tried")
 
+import uvicorn  # noqa: E402
+from fastapi.openapi.models import OpenAPI  # noqa: E402
 from http_fuzz import fuzz  # noqa: E402
 from http_here import HOST, TOKEN, Here, service  # noqa: E402
 
+from saminoha_http import wire  # noqa: E402
 from saminoha_http.guard import Rates  # noqa: E402
+from saminoha_http.metrics import Recent  # noqa: E402
 from saminoha_http.tokens import Tokens  # noqa: E402
+from saminoha_http.wire import has  # noqa: E402
 from saminoha_planner.background import load_background  # noqa: E402
-from saminoha_planner.client import Publish, Query, ShutArc, Wait, answered  # noqa: E402
+from saminoha_planner.client import Operator, Publish, Query, ShutArc, Wait, answered  # noqa: E402
 from saminoha_planner.closures import LOG  # noqa: E402
 from saminoha_planner.command import Fault  # noqa: E402
 from saminoha_planner.roads import roads_of  # noqa: E402
@@ -107,23 +117,44 @@ def drawn(town, count: int) -> Iterator[dict[str, str]]:
             words["limit.time"] = f"{dice.randint(20, 300)}s"
         if dice.random() < 0.3:
             words["limit.toll"] = dice.choice(("0", "1.50 EUR", "3"))
+        if dice.random() < 0.3:
+            names = [one.name for one in town.criteria]
+            words["criteria"] = ",".join(dice.sample(names, dice.randint(1, len(names))))
         yield words
 
 
+def places_of(town, words) -> list[int]:
+    names = [one.name for one in town.criteria]
+    return [names.index(name) for name in words["criteria"].split(",")]
+
+
 def expected(program, town, words, shut):
-    """The costs that the program itself answers, with these arcs shut."""
+    """The costs that the program itself answers, with these arcs shut; of a choice of criteria
+    those that no other one dominates.
+    """
     limits = [None] * len(town.criteria)
     for place, one in enumerate(town.criteria):
         if text := words.get(f"limit.{one.name}"):
             limits[place] = one.weight(text)
     source, target = (int(words[end].removeprefix("node:")) for end in ("from", "to"))
     if not shut and not any(limit is not None for limit in limits):
-        routes = program.query(town.files, source, town.arrival(target)).routes
-        return [list(route.cost) for route in routes]
-    query = Query(source, town.arrival(target), tuple(limits))
-    orders = [*map(ShutArc, shut), Publish()]
-    [replies] = program.lanes(town.files, orders, [[Wait(1), query]]).sessions
-    return [list(route.cost) for route in answered(replies[1]).routes]
+        answer = program.query(town.files, source, town.arrival(target))
+    else:
+        query = Query(source, town.arrival(target), tuple(limits))
+        orders = [*map(ShutArc, shut), Publish()]
+        [replies] = program.lanes(town.files, orders, [[Wait(1), query]]).sessions
+        answer = answered(replies[1])
+    costs = [list(route.cost) for route in answer.routes]
+    return best_of(costs, places_of(town, words)) if "criteria" in words else costs
+
+
+def best_of(costs, places):
+    cut = {tuple(cost[place] for place in places) for cost in costs}
+
+    def is_beaten(one):
+        return any(other != one and all(a <= b for a, b in zip(other, one)) for other in cut)
+
+    return [list(one) for one in sorted(cut) if not is_beaten(one)]
 
 
 def compare(here, program, town, words, shut_at) -> None:
@@ -138,21 +169,58 @@ def compare(here, program, town, words, shut_at) -> None:
     assert all(one["properties"]["weights"] in wanted for one in told["features"])
 
 
-def test_drawn_requests(closed, program, town):
-    """Each answer is that of the epoch that it names, before a closure, with it, and behind it."""
-    epoch = closed.get("/health").told["epoch"]
-    shut_at: dict[int, list[int]] = {epoch: []}
-    words = drawn(town, DRAWN)
-    for _ in range(DRAWN // 3):
-        compare(closed, program, town, next(words), shut_at)
-    told = closed.ask("POST", "/v1/closures", {"road": "Toll Bridge"}, **ANN).told
-    shut_at[told["epoch"]] = bridge_of(town)
-    for _ in range(DRAWN // 3):
-        compare(closed, program, town, next(words), shut_at)
-    closed.ask("DELETE", f"/v1/closures/{told['id']}", **ANN)
-    shut_at[closed.get("/health").told["epoch"]] = []
-    for one in words:
-        compare(closed, program, town, one, shut_at)
+def test_drawn_requests(program, town, tmp_path):
+    """Each answer is that of the epoch that it names, before a closure, with it, and behind it,
+    whether the leader gave it or one of two followers, of which one is killed meanwhile.
+    """
+    with service(program, town, tmp_path, *FREELY, followers=2) as here:
+        shut_at: dict[int, list[int]] = {here.get("/health").told["epoch"]: []}
+        words = drawn(town, DRAWN)
+        for _ in range(DRAWN // 4):
+            compare(here, program, town, next(words), shut_at)
+        told = here.ask("POST", "/v1/closures", {"road": "Toll Bridge"}, **ANN).told
+        shut_at[told["epoch"]] = bridge_of(town)
+        for _ in range(DRAWN // 4):
+            compare(here, program, town, next(words), shut_at)
+        here.followers[0].kill()
+        for _ in range(DRAWN // 4):
+            compare(here, program, town, next(words), shut_at)
+        here.followers[0].begin()
+        told = here.ask("DELETE", f"/v1/closures/{told['id']}", **ANN).told
+        shut_at[told["lifted_epoch"]] = []
+        for one in words:
+            compare(here, program, town, one, shut_at)
+        await_epochs(here, told["lifted_epoch"])
+    (town.folder / LOG).unlink()
+
+
+def await_epochs(here, epoch: int) -> None:
+    """All servers are there, and are asked."""
+    end = time.monotonic() + 10
+    while {one["epoch"] for one in here.get("/health").told["servers"]} != {epoch}:
+        assert time.monotonic() < end, here.get("/health").told
+        time.sleep(0.1)
+    lines = here.get("/metrics").body.decode().splitlines()
+    ups = [line.split()[-1] for line in lines if line.startswith("saminoha_http_server_up{")]
+    assert set(ups) == {"1.0"}
+
+
+@pytest.mark.parametrize("names", ["time,distance", "distance,toll", "toll,time", "time", "toll"])
+def test_criteria(here, program, town, names):
+    """They are what the program answers over the files of these criteria alone."""
+    places = places_of(town, {"criteria": names})
+    told = here.get(f"{TRIP}&criteria={names}&all=true").told
+    assert [one["name"] for one in told["criteria"]] == names.split(",")
+    costs = [one["weights"] for one in told["all"]]
+    ends = [told[end]["node"] for end in ("from", "to")]
+    if len(places) > 1:
+        files = [town.files[place] for place in places]
+        answer = program.query(files, ends[0], town.arrival(ends[1]))
+        assert costs == [list(route.cost) for route in answer.routes]
+    else:
+        answer = program.query(town.files, ends[0], town.arrival(ends[1]))
+        assert costs == [[min(route.cost[places[0]] for route in answer.routes)]]
+    assert set(told["features"][0]["properties"]["costs"]) == set(names.split(","))
 
 
 def test_matrix(here, program, town):
@@ -206,13 +274,18 @@ def test_tiles(here, town):
         (TRIP + "&keep=0", 400, "bad-parameter"),
         (TRIP + "&keep=99", 400, "bad-parameter"),
         (TRIP + "&all=1", 400, "bad-parameter"),
+        (TRIP + "&criteria=", 400, "bad-parameter"),
+        (TRIP + "&criteria=time,houses", 400, "bad-parameter"),
+        (TRIP + "&criteria=time,time", 400, "bad-parameter"),
         (TRIP + "&limit.houses=3", 400, "bad-parameter"),
         (TRIP + "&limit.time=soon", 400, "bad-parameter"),
         (TRIP + "&limit.time=1s", 404, "no-route"),
         (TRIP + "&x=" + "x" * 3000, 414, "uri-too-long"),
         ("/v1/places", 400, "bad-parameter"),
         ("/v1/elsewhere", 404, "not-found"),
-        ("/docs", 404, "not-found"),
+        ("/web/../desk.py", 404, "not-found"),
+        ("/web/%2e%2e%2fdesk.py", 404, "not-found"),
+        ("/leaflet//etc/passwd", 404, "not-found"),
         ("/v1/tiles/3/9/0", 404, "not-found"),
         ("/v1/tiles/3/x/0", 404, "not-found"),
         ("/v1/matrix", 405, "method"),
@@ -258,6 +331,50 @@ def test_a_body_without_a_length(here):
         for _ in range(5):
             peer.sendall(b"10000\r\n" + b"x" * 65_536 + b"\r\n")
         assert peer.recv(100).startswith(b"HTTP/1.1 413")
+
+
+@pytest.mark.parametrize("text", [b"what\r\n\r\n", b"GET /health HTTP/1.1\r\nno header\r\n\r\n"])
+def test_no_request(here, text):
+    with socket.create_connection((HOST, here.port)) as peer:
+        peer.sendall(text)
+        told = peer.makefile("rb").read()
+    assert told.startswith(b"HTTP/1.1 400 ")
+    if has("httptools"):
+        assert b"application/problem+json" in told and b"urn:saminoha:problem:no-request" in told
+
+
+def test_a_head_that_does_not_come(monkeypatch):
+    """A connection that sends nothing, or its head too slowly, is closed; one that is asked on
+    goes on.
+    """
+    if not has("httptools"):
+        pytest.skip("python3-httptools is missing")
+    monkeypatch.setattr(wire, "HEAD_TIME", 0.6)
+
+    async def answer(scope, receive, send):
+        await send({"type": "http.response.start", "status": 204, "headers": []})
+        await send({"type": "http.response.body"})
+
+    config = uvicorn.Config(
+        answer, http=wire.protocol(), ws="none", lifespan="off", log_config=None, port=0
+    )
+    server = uvicorn.Server(config)
+    place = socket.create_server((HOST, 0))
+    thread = threading.Thread(target=server.run, kwargs={"sockets": [place]})
+    thread.start()
+    try:
+        for head in (b"", b"GET / HTTP/1.1\r\nHost: "):
+            with socket.create_connection(place.getsockname(), timeout=5) as peer:
+                peer.sendall(head)
+                assert peer.recv(100) == b""
+        with socket.create_connection(place.getsockname(), timeout=5) as peer:
+            for _ in range(4):
+                peer.sendall(b"GET / HTTP/1.1\r\nHost: x\r\n\r\n")
+                assert peer.recv(1000).startswith(b"HTTP/1.1 204")
+                time.sleep(0.3)
+    finally:
+        server.should_exit = True
+        thread.join(10)
 
 
 def test_budget(program, town, tmp_path):
@@ -423,6 +540,37 @@ def test_metrics_are_well_formed(here):
     assert done.returncode == 0, done.stdout + done.stderr
 
 
+def test_quantiles():
+    recent = Recent()
+    for number in range(1, 101):
+        recent.add("/v1/alternatives", number / 100)
+    [told] = recent.collect()
+    values = {one.labels.get("quantile", one.name): one.value for one in told.samples}
+    assert [values[share] for share in ("0.5", "0.9", "0.99")] == [0.5, 0.9, 0.99]
+    name = "saminoha_http_recent_request_seconds"
+    assert values[f"{name}_count"] == 100 and values[f"{name}_sum"] == pytest.approx(50.5)
+
+
+def test_document_is_valid(here):
+    """By the model of OpenAPI that FastAPI has; and each name of a path is a parameter."""
+    told = here.get("/openapi.json").told
+    OpenAPI.parse_obj(told)
+    for path, methods in told["paths"].items():
+        for one in methods.values():
+            due = re.findall(r"\{(\w+)\}", path)
+            named = [it["name"] for it in one.get("parameters", []) if it["in"] == "path"]
+            assert sorted(due) == sorted(named)
+    assert "$ref" not in json.dumps(told)
+
+
+def test_document_to_read(here):
+    reply = here.get("/docs")
+    assert reply.headers["content-security-policy"].startswith("default-src 'none'")
+    for path in here.get("/openapi.json").told["paths"]:
+        assert f" {path}</code>".encode() in reply.body
+    assert b"<script" not in reply.body and b"http" not in reply.body.replace(b"/http", b"")
+
+
 def test_document(here):
     """All that it names is answered, and what it refers to is there."""
     told = here.get("/openapi.json").told
@@ -435,9 +583,9 @@ def test_document(here):
             assert one["responses"]["default"] and one["summary"] and one["operationId"]
 
 
-def test_fuzz(here):
+def test_fuzz(closed):
     count = int(os.environ.get("FUZZ_REQUESTS", "1000"))
-    statuses = fuzz(HOST, here.port, here.get("/openapi.json").told, count, TOKEN)
+    statuses = fuzz(HOST, closed.port, closed.get("/openapi.json").told, count, TOKEN)
     assert sum(statuses.values()) == count
     assert max(statuses) < 500, statuses
     assert statuses[200] > count / 20 and statuses[400] > count / 20
@@ -472,30 +620,84 @@ def test_a_server_that_is_killed(program, town, tmp_path):
 
 
 def test_a_leader_that_begins_anew(program, town, tmp_path):
-    """What was closed is closed again, by the log."""
+    """What was closed is closed again, by the log, and until then nobody is answered by the bare
+    files; the epochs go on where they were.
+    """
     with service(program, town, tmp_path, *FREELY) as here:
         before = here.get(TRIP).told["features"]
-        assert here.ask("POST", "/v1/closures", {"road": "Toll Bridge"}, **ANN).status == 201
-        after = here.get(TRIP).told["features"]
+        closed = here.ask("POST", "/v1/closures", {"road": "Quay"}, **ANN).told
+        here.ask("POST", "/v1/closures", {"road": "Toll Bridge"}, **ANN)
+        here.ask("DELETE", f"/v1/closures/{closed['id']}", **ANN)
+        after = here.get(TRIP).told
+        assert after["epoch"] == 3 and before != after["features"]
         here.leader.kill()
         here.leader.begin()
-        end = time.monotonic() + 15
-        while here.get(TRIP).told.get("features") != after:
-            assert time.monotonic() < end
-            time.sleep(0.2)
-        assert before != after
+        for _ in range(50):
+            told = here.get(TRIP).told
+            assert told["features"] == after["features"] and told["epoch"] >= 3
+        assert here.get("/v1/closures", **ANN).told["unexplained_epochs"] == 0
     (town.folder / LOG).unlink()
+
+
+def test_a_closure_that_ends_while_no_leader_is_there(program, town, tmp_path):
+    """The follower is told too, by the epoch in which the leader is restored."""
+    with service(program, town, tmp_path, *FREELY, followers=1) as here:
+        before = here.get(TRIP).told["features"]
+        end = datetime.now(timezone.utc) + timedelta(seconds=4)
+        body = {"road": "Toll Bridge", "end": end.isoformat()}
+        assert here.ask("POST", "/v1/closures", body, **ANN).told["epoch"] == 1
+        await_epochs(here, 1)
+        here.leader.kill()
+        assert here.get(TRIP).told["features"] != before
+        time.sleep(max(0.0, (end - datetime.now(timezone.utc)).total_seconds()) + 1)
+        here.leader.begin()
+        await_epochs(here, 2)
+        here.leader.kill()
+        told = here.get(TRIP).told
+        assert told["epoch"] == 2 and told["features"] == before
+    (town.folder / LOG).unlink()
+
+
+def test_a_leader_whose_epochs_go_back(program, town, tmp_path):
+    """Where nobody publishes anew it isn't asked, until it is said that the numbers begin anew."""
+    options = (*FREELY, "--queue-time", "1")
+    with service(program, town, tmp_path, *options, has_operator=False) as here:
+        with Operator(HOST, here.leader.ports[1]) as operator:
+            operator.shut(1)
+            assert operator.publish() == 1
+        here.wait_epoch(1)
+        here.leader.kill()
+        here.leader.begin()
+        here.wait(is_ready=False)
+        assert here.get(TRIP).status == 503
+        [told] = here.get("/health").told["servers"]
+        assert told["up"] and told["behind"] and told["epoch"] == 0
+        here.process.send_signal(signal.SIGHUP)
+        here.wait()
+        assert here.get(TRIP).told["epoch"] == 0
+
+
+def test_a_leader_that_is_there_again(program, town, tmp_path):
+    options = (*FREELY, "--queue-time", "1")
+    with service(program, town, tmp_path, *options, has_operator=False) as here:
+        with Operator(HOST, here.leader.ports[1]) as operator:
+            operator.publish()
+        here.wait_epoch(1)
+        here.leader.kill()
+        here.leader.begin("--epoch", "1")
+        here.wait()
+        assert here.get(TRIP).told["epoch"] == 1
 
 
 def test_a_stale_follower(program, town, tmp_path):
     """A server that doesn't follow is left out once it had its time."""
     options = (*FREELY, "--stale", "2")
-    with service(program, town, tmp_path, *options, followers=1) as here:
-        here.ask("POST", "/v1/closures", {"road": "Toll Bridge"}, **ANN)
+    with service(program, town, tmp_path, *options, followers=1, has_operator=False) as here:
+        with Operator(HOST, here.leader.ports[1]) as operator:
+            operator.publish()
         time.sleep(4)
         assert [one["stale"] for one in here.get("/health").told["servers"]] == [False, True]
         assert {here.get(TRIP).told["epoch"] for _ in range(20)} == {1}
-    (town.folder / LOG).unlink()
 
 
 def test_another_network(program, six_arcs, town, tmp_path):

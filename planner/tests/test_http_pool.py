@@ -9,8 +9,9 @@ from dataclasses import dataclass, field
 
 import pytest
 
-from saminoha_http.pool import Busy, Limits, Pool
-from saminoha_planner.client import Answer, Query, Route, Sizes, TimedOut
+from saminoha_http.pool import Pool
+from saminoha_http.servers import Busy, Limits
+from saminoha_planner.client import Answer, Now, Query, Route, Sizes, TimedOut
 
 SIZES = Sizes(9, 20, 2)
 ASKED = Query(1, 2)
@@ -27,6 +28,7 @@ class Drawn:
     epoch: int = 0
     asked: int = 0
     port: int = 0
+    writers: set[asyncio.StreamWriter] = field(default_factory=set)
     gate: asyncio.Semaphore = field(default_factory=lambda: asyncio.Semaphore(8))
 
     async def __aenter__(self) -> Drawn:
@@ -36,14 +38,28 @@ class Drawn:
         return self
 
     async def __aexit__(self, *_: object) -> None:
-        self.server.close()
+        self.end()
         await self.server.wait_closed()
+
+    def end(self) -> None:
+        for writer in self.writers:
+            writer.transport.abort()
+        self.writers.clear()
+        self.server.close()
+
+    async def begin_anew(self, epoch: int) -> None:
+        """As a program that is killed and started again."""
+        self.end()
+        await self.server.wait_closed()
+        self.epoch = epoch
+        await self.__aenter__()
 
     @property
     def address(self) -> tuple[str, int]:
         return "127.0.0.1", self.port
 
     async def serve(self, reader: asyncio.StreamReader, writer: asyncio.StreamWriter) -> None:
+        self.writers.add(writer)
         async with self.gate:
             while line := (await reader.readline()).decode().split():
                 match line:
@@ -184,3 +200,79 @@ def test_followers_that_differ():
         assert servers[0].asked == before + 5 and pool.epoch == 3
 
     over(servers, work, stale=0.2)
+
+
+async def until(condition: Callable[[], bool]) -> None:
+    async with asyncio.timeout(10):
+        while not condition():
+            await asyncio.sleep(0.01)
+
+
+def test_a_server_that_goes_back():
+    """It isn't asked before it is where it was, or it is said that the numbers begin anew."""
+    server = Drawn(epoch=7)
+
+    async def work(pool):
+        assert whole(await pool.ask(ASKED)) and pool.leader.life == 1
+        await server.begin_anew(epoch=2)
+        with pytest.raises(Busy, match="no server answers"):
+            await pool.ask(ASKED)
+        assert pool.leader.is_up and pool.leader.is_behind and not pool.is_ready
+        server.epoch = 7
+        await until(lambda: pool.is_ready)
+        assert (await pool.ask(ASKED)).epoch == 7
+        await server.begin_anew(epoch=1)
+        await until(lambda: pool.leader.is_up and pool.leader.is_behind)
+        pool.begin_anew()
+        assert (await pool.ask(ASKED)).epoch == 1
+
+    over([server], work, queue_time=0.5)
+
+
+def test_a_follower_that_comes_again():
+    """It isn't asked before it is where the leader was as it came."""
+    servers = [Drawn(epoch=5), Drawn(epoch=5)]
+
+    async def work(pool):
+        await servers[1].begin_anew(epoch=0)
+        await until(lambda: pool.servers[1].life == 2)
+        before = servers[1].asked
+        await together([pool.ask(ASKED) for _ in range(10)])
+        assert servers[1].asked == before and not pool.is_usable(pool.servers[1])
+        servers[1].epoch = 5
+        await until(lambda: pool.is_usable(pool.servers[1]))
+
+    over(servers, work)
+
+
+def test_a_leader_that_is_not_restored():
+    """The keeper asks it; others wait until it tells that what is closed is closed."""
+    server = Drawn(epoch=0)
+
+    async def work(pool):
+        lives = []
+        pool.has_keeper, pool.leader_came = True, lambda: lives.append(pool.leader.life)
+        await server.begin_anew(epoch=0)
+        asked = asyncio.create_task(pool.ask(ASKED))
+        await until(lambda: pool.leader.life == 2)
+        assert not pool.is_ready and (await pool.ask(Now(), only_leader=True)).number == 0
+        pool.restored(1, 0)
+        assert not pool.is_ready and not asked.done()
+        server.epoch = 1
+        pool.restored(2, 1)
+        assert (await asked).epoch == 1 and lives == [2]
+
+    over([server], work)
+
+
+def test_a_search_of_an_earlier_epoch():
+    """An answer that comes late names the epoch at which it was begun, and is no server's end."""
+    server = Drawn(epoch=3)
+
+    async def work(pool):
+        assert (await pool.ask(ASKED)).epoch == 3
+        pool.leader.named(4)
+        server.epoch = 3
+        assert (await pool.ask(ASKED)).epoch == 3 and pool.leader.life == 1
+
+    over([server], work)

@@ -1,6 +1,6 @@
 // Closures: the list of what is closed or changed, on the map too; a preview before a road is closed; undo.
 import {clock, number, say} from "./texts.js";
-import {byId, element, guarded, map, post, tell} from "./common.js";
+import {byId, element, guarded, map, post, tell, token} from "./common.js";
 
 const marks = L.layerGroup();
 const drafts = L.layerGroup();
@@ -15,6 +15,10 @@ export function beginClosures(network) {
   byId("closing").hidden = !network.can_close;
   for (const measure of network.measures) byId("measure").append(element("option", {value: measure}, measureText(measure)));
   byId("author").value = localStorage.getItem("author") || "";
+  byId("with_token").hidden = !network.wants_token;
+  byId("with_author").hidden = network.wants_token;
+  byId("token").value = token.get();
+  byId("token").onchange = () => token.set(byId("token").value.trim());
 }
 
 function measureText(measure) {

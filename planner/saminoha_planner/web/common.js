@@ -8,7 +8,7 @@ map.getPane("names").style.pointerEvents = "none";
 
 export class PageError extends Error {
   constructor(told) {
-    super(told.code && has(told.code) ? say(told.code, told.values) : told.error);
+    super(told.code && has(told.code) ? say(told.code, told.values) : told.error ?? told.detail);
     this.told = told;
   }
 }
@@ -20,8 +20,17 @@ export async function fetchJson(path, options) {
   return told;
 }
 
-export const post = (path, body) =>
-  fetchJson(path, {method: "POST", headers: {"Content-Type": "application/json"}, body: JSON.stringify(body)});
+// The token by which one may close roads, where the page is served to many; it is kept as long as the window.
+export const token = {
+  get: () => sessionStorage.getItem("token") || "",
+  set: (text) => sessionStorage.setItem("token", text),
+};
+
+export function post(path, body) {
+  const headers = {"Content-Type": "application/json"};
+  if (token.get()) headers.Authorization = `Bearer ${token.get()}`;
+  return fetchJson(path, {method: "POST", headers, body: JSON.stringify(body)});
+}
 
 export function tell(text, isError = false) {
   byId("status").textContent = text;

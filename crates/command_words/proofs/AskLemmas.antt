@@ -1,5 +1,5 @@
 -- What shows that the words ask for a command.
-use Rattle.std.proofs.Common.{◌≡◌, ◌≢◌, ◌∙◌, ℕ, ap, ap₂, refl, subst, sym, true, List, [], Option, Some, None}
+use Rattle.std.proofs.Common.{◌≡◌, ◌≢◌, ◌∙◌, ℕ, ap, ap₂, refl, subst, sym, Bool, true, List, [], Option, Some, None}
 use Rattle.std.specs.Prelude.{codes, if◌then◌else◌, option_and_then}
 use Rattle.std.specs.Str.{bytes_eq}
 use Rattle.clap.specs.Words.{App, Row, Text, fault_of, first_of, is_simple_and_free, matches_of}
@@ -170,8 +170,9 @@ same_batch rows a b x y =
     let pairs : Some a.pairs ≡ Some b.pairs = sym x.pairs ∙ y.pairs in
     let limits = same_limits rows a.limits b.limits x.limits y.limits in
     let files = same_files rows a.files b.files x.files y.files in
-    let asked : Text → SearchLimits → List Text → BatchAsked = λ p n f. record { pairs = p; limits = n; files = f } in
-    let e : asked a.pairs a.limits a.files ≡ asked b.pairs b.limits b.files = cc in e
+    let flag : a.goal ≡ b.goal = x.goal ∙ sym y.goal in
+    let asked : Text → Bool → SearchLimits → List Text → BatchAsked = λ p g n f. record { pairs = p; goal = g; limits = n; files = f } in
+    let e : asked a.pairs a.goal a.limits a.files ≡ asked b.pairs b.goal b.limits b.files = cc in e
 
 pub same_plan : (rows : List Row) (a b : GenPlan) → AsksPlan rows a → AsksPlan rows b → a ≡ b
 same_plan rows a b x y =

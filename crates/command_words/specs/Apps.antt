@@ -1,7 +1,7 @@
 -- The commands by name, and what `clap` is told of each.
 use Rattle.std.specs.Prelude.{Bool, true, false, List, [], ◌∷◌, Some, codes, fold}
 use Rattle.clap.specs.Words.{App, Rule, Text, new_app, new_rule, with_rule}
-use Rattle.clap.specs.declared.builder.action.ArgAction.TheVariants.{Append, Set}
+use Rattle.clap.specs.declared.builder.action.ArgAction.TheVariants.{Append, Set, SetTrue}
 use Rattle.road_network.specs.declared.query.AnswerKind.TheVariants.{Costs, Walks}
 use Rattle.command_words.specs.declared.apps.Name.{Name}
 use Rattle.command_words.specs.declared.apps.Name.TheVariants.{Batch, Check, Follow, Gen, Goal, Lanes, Prove, Serve, Single, Verify}
@@ -27,6 +27,10 @@ option_rule name is_required = record (new_rule name) {
   action = Some Set;
   required = is_required;
 }
+
+-- a flag, `--name`, given at most once
+abbrev pub flag_rule : Text → Rule
+flag_rule name = record (new_rule name) { long = Some name; action = Some SetTrue }
 
 -- the words that are no option and no value of one, of which there is at least one
 abbrev pub files_rule : Rule
@@ -74,7 +78,8 @@ with_options is_required = fold (λ app name. with_rule app (option_rule name is
 abbrev pub options_app : Name → App
 options_app name = with_options false (with_options true (bare_app (word_of name)) (needed_of name)) (taken_of name)
 
--- the arguments of a command: its options, and, except for `gen`, the names of files
+-- the arguments of a command: its options, of `batch` the flag `--goal`, and, except for `gen`, the names of files
 abbrev pub app_for : Name → App
 app_for Gen = options_app Gen
+app_for Batch = with_rule (with_rule (options_app Batch) (flag_rule (codes "goal"))) files_rule
 app_for name = with_rule (options_app name) files_rule

@@ -1,7 +1,8 @@
 -- What the words of a command line ask for.
-use Rattle.std.specs.Prelude.{◌≡◌, ◌≤◌, ◌⊎◌, ◌++◌, ◌∷◌, ℕ, List, [], Option, Some, None, IfSome, codes, decimal, length, map}
+use Rattle.std.specs.Prelude.{◌≡◌, ◌≤◌, ◌⊎◌, ◌++◌, ◌∷◌, ℕ, Bool, false, List, [], Option, Some, None, IfSome, codes, decimal, length, map}
 use Rattle.std.specs.Prelude.{slice_get, String}
 use Rattle.std.specs.List.{range_with_len}
+use Rattle.std.specs.Str.{bytes_eq}
 use Rattle.std.specs.String.{string_bytes}
 use Rattle.clap.specs.Words.{Row, Text, all_of, fault_of, first_of, matches_of}
 use Rattle.command_words.specs.Apps.{app_for, word_of}
@@ -58,9 +59,10 @@ pub record VerifyAsked : Type 0 where
   pub cert : Text
   pub files : List Text
 
--- queries over the network of the files, between the pairs of a file
+-- queries over the network of the files, between the pairs of a file, and whether each search is directed to its target
 pub record BatchAsked : Type 0 where
   pub pairs : Text
+  pub goal : Bool
   pub limits : SearchLimits
   pub files : List Text
 
@@ -315,6 +317,11 @@ IsGivenIf least greatest (Some text) None = ⊥
 IsGivenIf least greatest None (Some n) = ⊥
 IsGivenIf least greatest None None = Unit {0}
 
+-- a flag is given
+abbrev pub is_set : Option Text → Bool
+is_set (Some text) = bytes_eq text (codes "true")
+is_set None = false
+
 -- the names of the weight files, as many as a network may have criteria
 pub record NamesFiles (rows : List Row) (files : List Text) : Type 0 where
   pub all : all_of (codes "files") rows ≡ Some files
@@ -366,6 +373,7 @@ pub record AsksVerify (rows : List Row) (asked : VerifyAsked) : Type 0 where
 -- the values are those of `batch`
 pub record AsksBatch (rows : List Row) (asked : BatchAsked) : Type 0 where
   pub pairs : first_of (codes "pairs") rows ≡ Some asked.pairs
+  pub goal : asked.goal ≡ is_set (first_of (codes "goal") rows)
   pub limits : AsksLimits rows asked.limits
   pub files : NamesFiles rows asked.files
 
@@ -496,7 +504,7 @@ check_asked c = map (λ s. s.now) c.files.items
 
 -- the words of `batch`, as what they ask for
 abbrev pub batch_asked : BatchWords → BatchAsked
-batch_asked b = record { pairs = b.pairs.now; limits = b.limits; files = map (λ s. s.now) b.files.items }
+batch_asked b = record { pairs = b.pairs.now; goal = b.goal; limits = b.limits; files = map (λ s. s.now) b.files.items }
 
 -- the words of `gen`, as what they ask for
 abbrev pub gen_asked : GenWords → GenAsked

@@ -1,7 +1,7 @@
 //! The commands by name, and what `clap` is told of each.
 ghost use Rattle.std.specs.Prelude.{◌≡◌, IfOk, map};
 ghost use Rattle.clap.specs.Words.{app_of, with_rule};
-ghost use Rattle.command_words.specs.Apps.{bare_app, files_rule, option_rule, with_options};
+ghost use Rattle.command_words.specs.Apps.{bare_app, files_rule, flag_rule, option_rule, with_options};
 
 use clap::{Arg, ArgAction, Command};
 use road_network::AnswerKind;
@@ -32,6 +32,7 @@ impl Name {
         let command = self.with_its_options(alloc)?;
         match self {
             Name::Gen => Ok(command),
+            Name::Batch => with_files(alloc, with_flag(alloc, command, "goal")?),
             _ => with_files(alloc, command),
         }
     }
@@ -136,6 +137,19 @@ fn with_option<'a>(
         .action(ArgAction::Set)
         .required(required);
     command.arg(option)
+}
+
+// The command with a flag of this name besides.
+fn with_flag<'a>(
+    alloc: Global,
+    command: Command<'a>,
+    name: &'a str,
+) -> Result<Command<'a>, AllocError>
+    ensures { IfOk result (λ c.
+        app_of c ≡ with_rule (app_of command.entry) (flag_rule name.entry.now)) }
+{
+    let flag = Arg::new(alloc, name).long(name).action(ArgAction::SetTrue);
+    command.arg(flag)
 }
 
 fn with_files<'a>(alloc: Global, command: Command<'a>) -> Result<Command<'a>, AllocError>

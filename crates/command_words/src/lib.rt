@@ -108,6 +108,8 @@ pub struct CheckWords<'a> {
 pub struct BatchWords<'a> {
     /// The name of the file of pairs.
     pub pairs: &'a str,
+    /// Whether each search is directed to its target.
+    pub goal: bool,
     /// How each query is searched.
     pub limits: SearchLimits,
     pub files: Vec<&'a str>,

@@ -1,7 +1,7 @@
-//! Options whose values are numbers.
+//! Flags, and options whose values are numbers.
 ghost use Rattle.std.specs.Prelude.{◌≡◌, ◌↔◌, IfNone, IfSome, IsTrue, None, option_map};
 ghost use Rattle.clap.specs.Words.{first_of, found_of, rows_of};
-ghost use Rattle.command_words.specs.Words.{IsGiven, IsGivenIf, IsGivenOr, IsNumber};
+ghost use Rattle.command_words.specs.Words.{IsGiven, IsGivenIf, IsGivenOr, IsNumber, is_set};
 
 use clap::ArgMatches;
 use line_text::{Numeral, decimal};
@@ -70,6 +70,16 @@ pub(crate) fn is_absent(matches: &ArgMatches, id: &str) -> bool
     ensures { IsTrue result ↔ (first_of id.now (rows_of (found_of matches.now)) ≡ None) }
 {
     value(matches, id).is_none()
+}
+
+/// Whether a flag is given.
+pub(crate) fn is_set(matches: &ArgMatches, id: &str) -> bool
+    ensures { result ≡ is_set (first_of id.now (rows_of (found_of matches.now))) }
+{
+    match value(matches, id) {
+        Some(text) => text == "true",
+        None => false,
+    }
 }
 
 fn number(text: &str, least: u32, greatest: u32) -> Option<u32>

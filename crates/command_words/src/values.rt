@@ -8,7 +8,7 @@ ghost use Rattle.command_words.specs.Words.{AsksQuery, AsksSingle, IsGivenOr, Na
 ghost use Rattle.command_words.specs.Words.{asked_of, batch_asked, follow_asked, gen_asked, goal_asked, lanes_asked, prove_asked, serve_asked, single_asked, take_asked, verify_asked, write_asked};
 
 use crate::apps::Name;
-use crate::numbers::{is_absent, number_if, number_or, required_number, value};
+use crate::numbers::{is_absent, is_set, number_if, number_or, required_number, value};
 use crate::{
     BatchWords, CheckWords, Command, DEFAULT_BUDGET, DEFAULT_EPOCH, DEFAULT_FEEDS, DEFAULT_LANES,
     DEFAULT_LINKS, DEFAULT_LISTED, DEFAULT_WORKERS, FollowWords, GenWords, GoalWords, LanesWords,
@@ -144,10 +144,12 @@ fn read_batch<'a>(alloc: Global, matches: &ArgMatches<'a>) -> Result<BatchWords<
         → (asked : _) → ¬ AsksBatch (rows_of (found_of matches.now)) asked }
 {
     let pairs = value(matches, "pairs").ok_or(WordsFault::Refused)?;
+    let goal = is_set(matches, "goal");
     let limits = read_limits(matches).ok_or(WordsFault::Refused)?;
     let files = read_files(alloc, matches)?;
     Ok(BatchWords {
         pairs,
+        goal,
         limits,
         files,
     })

@@ -1,2 +1,1 @@
 mod KnownCostsLemmas
-mod EachNodeLemmas

@@ -1,2 +1,1 @@
 pub mod KnownCosts
-pub mod EachNode

@@ -1,6 +1,3 @@
 mod answers;
 mod drawn;
-mod machine;
 mod networks;
-mod plain;
-mod readback;

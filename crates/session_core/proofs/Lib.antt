@@ -9,3 +9,4 @@ mod OperatorRunLemmas
 mod LinesLemmas
 mod FeedLemmas
 mod ServesLemmas
+mod GoalLemmas

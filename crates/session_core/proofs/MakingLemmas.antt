@@ -7,6 +7,7 @@ use Rattle.road_network.specs.declared.query.AnswerKind.{AnswerKind}
 use Rattle.road_network.specs.declared.query.Query.{Query}
 use Rattle.work_claim.specs.Results.{GivesAll}
 use Rattle.session_core.specs.declared.made.MadeReply.{MadeReply}
+use Rattle.session_core.specs.declared.mode.SearchMode.{SearchMode}
 use Rattle.session_core.specs.Making.{AreMade, IsMade}
 
 -- what holds at each place of two lists of one length holds of them place by place
@@ -28,10 +29,10 @@ zipped_first R (x ∷ xs) [] (suc n) all = tt
 zipped_first R (x ∷ xs) (y ∷ ys) (suc n) all = (all.0, zipped_first R xs ys n all.1)
 
 -- the first of what calls with the places of the queries gave are the replies to the first of these
-pub first_made : (net : Network) (epoch : ℕ) (kind : AnswerKind) (queries : List Query) (outs : List (Option MadeReply)) (n : ℕ)
-    → GivesAll (λ k made. IfSome (slice_get queries k) (λ query. IfSome made (IsMade net epoch kind query))) (length queries) outs
-    → AreMade net epoch kind (take (length (take n outs)) queries) (take n outs)
-first_made net epoch kind queries outs n gives =
-    let each = λ (query : Query) (made : Option MadeReply). IfSome made (IsMade net epoch kind query) in
+pub first_made : (net : Network) (mode : SearchMode) (epoch : ℕ) (kind : AnswerKind) (queries : List Query) (outs : List (Option MadeReply)) (n : ℕ)
+    → GivesAll (λ k made. IfSome (slice_get queries k) (λ query. IfSome made (IsMade net mode epoch kind query))) (length queries) outs
+    → AreMade net mode epoch kind (take (length (take n outs)) queries) (take n outs)
+first_made net mode epoch kind queries outs n gives =
+    let each = λ (query : Query) (made : Option MadeReply). IfSome made (IsMade net mode epoch kind query) in
     zipped_first each queries outs n (zipped each queries outs gives.count
     (λ k query made at to. subst (λ o. IfSome o (λ q. each q made)) at (gives.each k made to)))

@@ -10,6 +10,7 @@ use Rattle.arc_graph.specs.History.{History, ends_closed, epoch_after, sets, set
 use Rattle.arc_graph.proofs.HistoryLemmas.{epoch_earlier, sets_of_both}
 use Rattle.road_network.specs.declared.query.AnswerKind.{AnswerKind}
 use Rattle.road_network.specs.declared.query.Query.{Query}
+use Rattle.session_core.specs.declared.mode.SearchMode.{SearchMode}
 use Rattle.session_core.specs.Queries.{RepliesToQuery}
 use Rattle.epoch_store.specs.Origin.{Origin, arcs_of, criteria_of, last_number}
 use Rattle.epoch_store.proofs.ClosedLemmas.{no_further}
@@ -38,11 +39,11 @@ network_stays scene h g k begins upto =
     let grown = ap (λ (later : History). epoch_after scene.origin.base later (k - scene.origin.first)) begins.1 in
     ap (network scene.graph) (sym same ∙ grown)
 
-reply_at_stays : (scene : Scene) (h g : History) (k : ℕ) (kind : AnswerKind) (s t : ℕ) (limit : Option (List (Option ℕ))) (text : List ℕ)
-    → IsPrefix h g → k ≤ last_number scene.origin h → RepliesAt scene h k kind s t limit text → RepliesAt scene g k kind s t limit text
-reply_at_stays scene h g k kind s t limit text begins upto is =
+reply_at_stays : (scene : Scene) (h g : History) (k : ℕ) (mode : SearchMode) (kind : AnswerKind) (s t : ℕ) (limit : Option (List (Option ℕ))) (text : List ℕ)
+    → IsPrefix h g → k ≤ last_number scene.origin h → RepliesAt scene h k mode kind s t limit text → RepliesAt scene g k mode kind s t limit text
+reply_at_stays scene h g k mode kind s t limit text begins upto is =
     let query : Query = record { from = s; to = t; limit = limit; budget = scene.budget } in
-    (is.0, subst (λ (net : Network). RepliesToQuery net k kind query is.0 text) (network_stays scene h g k begins upto) is.1)
+    (is.0, subst (λ (net : Network). RepliesToQuery net mode k kind query is.0 text) (network_stays scene h g k begins upto) is.1)
 
 -- a wait that ended closed has seen the whole history
 wait_stays : (scene : Scene) (h g : History) (k e : ℕ) (text : List ℕ) → IsPrefix h g → IsHistory (arcs_of scene.origin) (criteria_of scene.origin) g
@@ -55,9 +56,11 @@ wait_stays scene h g k e text begins allowed (inr ended) =
 
 reply_stays : (scene : Scene) (h g : History) (k : ℕ) (r : SessionRequest) (text : List ℕ) → IsPrefix h g → IsHistory (arcs_of scene.origin) (criteria_of scene.origin) g
     → k ≤ last_number scene.origin h → RepliesTo scene h k r text → RepliesTo scene g k r text
-reply_stays scene h g k (asks.Costs s t) text begins allowed upto is = reply_at_stays scene h g k _ s t _ text begins upto is
-reply_stays scene h g k (asks.Walks s t) text begins allowed upto is = reply_at_stays scene h g k _ s t _ text begins upto is
-reply_stays scene h g k (asks.Within s t limit) text begins allowed upto is = reply_at_stays scene h g k _ s t _ text begins upto is
+reply_stays scene h g k (asks.Costs s t) text begins allowed upto is = reply_at_stays scene h g k _ _ s t _ text begins upto is
+reply_stays scene h g k (asks.Walks s t) text begins allowed upto is = reply_at_stays scene h g k _ _ s t _ text begins upto is
+reply_stays scene h g k (asks.Within s t limit) text begins allowed upto is = reply_at_stays scene h g k _ _ s t _ text begins upto is
+reply_stays scene h g k (asks.Goal s t) text begins allowed upto is = reply_at_stays scene h g k _ _ s t _ text begins upto is
+reply_stays scene h g k (asks.GoalWithin s t limit) text begins allowed upto is = reply_at_stays scene h g k _ _ s t _ text begins upto is
 reply_stays scene h g k (asks.Wait e) text begins allowed upto is = wait_stays scene h g k e text begins allowed is
 reply_stays scene h g k asks.Epoch text begins allowed upto is = is
 reply_stays scene h g k asks.Bye text begins allowed upto is = is

@@ -8,6 +8,8 @@ use Rattle.answer_writer.specs.Replies.{and_number, end_line}
 use Rattle.road_network.specs.declared.query.AnswerKind.{AnswerKind}
 use Rattle.road_network.specs.declared.query.AnswerKind.TheVariants.{Costs, Walks}
 use Rattle.session_core.specs.Queries.{RepliesToQuery}
+use Rattle.session_core.specs.declared.mode.SearchMode.{SearchMode}
+use Rattle.session_core.specs.declared.mode.SearchMode.TheVariants as mode
 use Rattle.session_core.specs.declared.reply.Reply.{Reply}
 use Rattle.epoch_store.specs.Origin.{Origin, last_number}
 use Rattle.session_requests.specs.Requests.{AsksOfSession}
@@ -41,9 +43,9 @@ abbrev pub line_refusal : List ℕ
 line_refusal = codes "x line" ++ end_line
 
 -- the reply to a query is its answer or its refusal, at the epoch of number k
-abbrev pub RepliesAt : Scene → History → ℕ → AnswerKind → ℕ → ℕ → Option (List (Option ℕ)) → List ℕ → Type 0
-RepliesAt scene h k kind s t limit text =
-    (reply : Reply) × RepliesToQuery (network_at scene h k) k kind
+abbrev pub RepliesAt : Scene → History → ℕ → SearchMode → AnswerKind → ℕ → ℕ → Option (List (Option ℕ)) → List ℕ → Type 0
+RepliesAt scene h k mode kind s t limit text =
+    (reply : Reply) × RepliesToQuery (network_at scene h k) mode k kind
     (record { from = s; to = t; limit = limit; budget = scene.budget }) reply text
 
 -- the reply to a wait for an epoch of at least the number e: there is one, or there never will be, since k is the last
@@ -54,9 +56,11 @@ EndsWait scene h k e text =
 
 -- the reply to a request, which names the epoch of number k; to the one that ends the session there is none
 abbrev pub RepliesTo : Scene → History → ℕ → SessionRequest → List ℕ → Type 0
-RepliesTo scene h k (asks.Costs s t) text = RepliesAt scene h k Costs s t None text
-RepliesTo scene h k (asks.Walks s t) text = RepliesAt scene h k Walks s t None text
-RepliesTo scene h k (asks.Within s t limit) text = RepliesAt scene h k Walks s t (Some limit) text
+RepliesTo scene h k (asks.Costs s t) text = RepliesAt scene h k mode.Plain Costs s t None text
+RepliesTo scene h k (asks.Walks s t) text = RepliesAt scene h k mode.Plain Walks s t None text
+RepliesTo scene h k (asks.Within s t limit) text = RepliesAt scene h k mode.Plain Walks s t (Some limit) text
+RepliesTo scene h k (asks.Goal s t) text = RepliesAt scene h k mode.Goal Walks s t None text
+RepliesTo scene h k (asks.GoalWithin s t limit) text = RepliesAt scene h k mode.Goal Walks s t (Some limit) text
 RepliesTo scene h k (asks.Wait e) text = EndsWait scene h k e text
 RepliesTo scene h k asks.Epoch text = text ≡ epoch_reply k
 RepliesTo scene h k asks.Bye text = ⊥

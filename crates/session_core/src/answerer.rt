@@ -1,15 +1,16 @@
-ghost use Rattle.std.specs.Prelude.{◌≤◌, List};
+ghost use Rattle.std.specs.Prelude.{◌≡◌, ◌≤◌, IfOk, IsErrOf, List, OnOk};
 ghost use Rattle.road_network.specs.Answers.{IsAnswer, Route};
 ghost use Rattle.walk_readback.specs.Found.{IsOf, IsWellFound, longest_in};
 ghost use Rattle.road_network.specs.Queries.{HaveNodes, IsAsked, limit_of};
-ghost use Rattle.walk_readback.specs.Answers.{Answers};
 ghost use Rattle.route_io.specs.Sinks.{Sends};
 ghost use Rattle.answer_writer.specs.Replies.{refusal, reply_of};
-ghost use Rattle.session_core.specs.Queries.{RepliesToQuery};
+ghost use Rattle.session_core.specs.Queries.{IsTooLargeIn, RepliesToQuery};
 ghost use Rattle.session_core.specs.Sending.{IsReplyOf, Replied};
+ghost use Rattle.session_core.specs.declared.mode.SearchMode.TheVariants.{Plain};
 ghost use Rattle.session_core.specs.declared.reply.Reply.TheVariants.{Answer, Refusal};
 
 use crate::fault::ReplyFault;
+use crate::mode::SearchMode;
 use crate::reply::Reply;
 use answer_writer::{put_answer, put_first_line, put_refusal};
 use arc_graph::Network;
@@ -18,15 +19,18 @@ use road_network::{AnswerKind, Query, SearchFault};
 use route_io::{Gate, Sink, WriteFault};
 use std::alloc::Global;
 use std::thread::Threads;
+use sweep_search::search_toward;
 use walk_readback::{FoundCosts, Room};
 use work_claim::Workers;
 
-/// Who replies to queries over one network: one worker searches, or so many that it pays share the rounds of the search.
+/// Who replies to queries over one network, each searched in one way: one worker searches, or so many that it pays share the
+/// rounds of a plain search.
 #[derive(Drop)]
 pub struct Answerer<'n, R, G> {
     pub workers: &'n Workers<'n, R, G>,
     pub alloc: Global,
     pub network: &'n Network<'n>,
+    pub mode: SearchMode,
 }
 
 impl<R: Threads + Sync, G: Gate> Answerer<'_, R, G> {
@@ -42,12 +46,37 @@ impl<R: Threads + Sync, G: Gate> Answerer<'_, R, G> {
         out: &mut K,
     ) -> Result<Reply, ReplyFault>
         requires { IsAsked self.now.network.now.criteria query.now }
-        ensures { Replied (RepliesToQuery self.now.network.now epoch kind query.now)
+        ensures { Replied (RepliesToQuery self.now.network.now self.now.mode epoch kind query.now)
             (K.state out.old) (K.state out.new) result }
     {
         if !self.network.has_node(query.from) || !self.network.has_node(query.to) {
             return refuse(out, epoch, query, " node");
         }
+        prove!(self.network.nodes() >= 1);
+        match self.mode {
+            SearchMode::Plain => self.search_plainly(epoch, kind, query, room, out),
+            SearchMode::Goal => {
+                let found = search_toward(self.alloc, self.network, query);
+                self.send_found(epoch, kind, query, found, room, out)
+            }
+        }
+    }
+
+    /// Searches plainly, and sends what was found.
+    fn search_plainly<K: Sink>(
+        &self,
+        epoch: u32,
+        kind: AnswerKind,
+        query: &Query,
+        room: &mut Room,
+        out: &mut K,
+    ) -> Result<Reply, ReplyFault>
+        requires mode { self.now.mode ≡ Plain }
+        requires nodes { HaveNodes self.now.network.now query.now }
+        requires asked { IsAsked self.now.network.now.criteria query.now }
+        ensures { Replied (RepliesToQuery self.now.network.now self.now.mode epoch kind query.now)
+            (K.state out.old) (K.state out.new) result }
+    {
         prove!(self.network.nodes() >= 1);
         if rounds_pay(self.workers, self.network.criteria()) {
             let found = bulk_search::find(self.workers, self.alloc, self.network, query);
@@ -69,9 +98,14 @@ impl<R: Threads + Sync, G: Gate> Answerer<'_, R, G> {
         out: &mut K,
     ) -> Result<Reply, ReplyFault>
         requires nodes { HaveNodes self.now.network.now query.now }
-        requires asked { IsAsked self.now.network.now.criteria query.now }
-        requires answers { Answers F.state self.now.network.now query.now found }
-        ensures { Replied (RepliesToQuery self.now.network.now epoch kind query.now)
+        requires of_query { IfOk found (λ f. IsOf self.now.network.now query.now (F.state f)) }
+        requires well_found { IfOk found (λ f. IsWellFound self.now.network.now
+            (limit_of self.now.network.now.criteria query.now) (F.state f)) }
+        requires in_budget { OnOk found
+            (¬ IsTooLargeIn self.now.mode self.now.network.now query.now) }
+        requires refused { IsErrOf found SearchFault.Budget
+            → IsTooLargeIn self.now.mode self.now.network.now query.now }
+        ensures { Replied (RepliesToQuery self.now.network.now self.now.mode epoch kind query.now)
             (K.state out.old) (K.state out.new) result }
     {
         prove!(self.network.nodes() >= 1);

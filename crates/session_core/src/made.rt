@@ -47,7 +47,7 @@ impl<R: Threads + Sync, G: Gate> Answerer<'_, R, G> {
     ) -> Result<Vec<Option<MadeReply>>, OutOfMemory>
         requires few { length queries.now < 2 ^ 32 }
         requires asked { All (IsAsked self.now.network.now.criteria) queries.now }
-        ensures { IfOk result (λ made. AreMade self.now.network.now epoch kind
+        ensures { IfOk result (λ made. AreMade self.now.network.now self.now.mode epoch kind
             (take (length made.items) queries.now) made.items) }
     {
         let held = Held::new();
@@ -55,7 +55,7 @@ impl<R: Threads + Sync, G: Gate> Answerer<'_, R, G> {
             requires { IsSync R.row × IsSync G.row
                 × IsSomeAnd (slice_get queries.now place) (IsAsked self.now.network.now.criteria) }
             ensures { IfOk result (λ made. IfSome (slice_get queries.entry.now place)
-                (λ query. IfSome made (IsMade self.entry.now.network.now epoch kind query))) }
+                (λ query. IfSome made (IsMade self.entry.now.network.now self.entry.now.mode epoch kind query))) }
         { Ok(self.make_held(epoch, kind, place, &queries[place], &held)) };
         let calls = Calls { call: &each };
         let mut made = run_pieces(
@@ -79,7 +79,7 @@ impl<R: Threads + Sync, G: Gate> Answerer<'_, R, G> {
         held: &Held,
     ) -> Option<MadeReply>
         requires { IsAsked self.now.network.now.criteria query.now }
-        ensures { IfSome result (IsMade self.now.network.now epoch kind query.now) }
+        ensures { IfSome result (IsMade self.now.network.now self.now.mode epoch kind query.now) }
     {
         if !held.begin(place) {
             return None;
@@ -97,7 +97,7 @@ impl<R: Threads + Sync, G: Gate> Answerer<'_, R, G> {
         query: &Query,
     ) -> Result<MadeReply, OutOfMemory>
         requires { IsAsked self.now.network.now.criteria query.now }
-        ensures { IfOk result (IsMade self.now.network.now epoch kind query.now) }
+        ensures { IfOk result (IsMade self.now.network.now self.now.mode epoch kind query.now) }
     {
         let mut room = Room::with(self.alloc, 0)?;
         let mut text = SureSink::new(self.alloc);
@@ -122,8 +122,8 @@ impl<R: Threads + Sync, G: Gate> Answerer<'_, R, G> {
         out: &mut K,
     ) -> Result<Reply, ReplyFault>
         requires asked { IsAsked self.now.network.now.criteria query.now }
-        requires made { IfSome made (IsMade self.now.network.now epoch kind query.now) }
-        ensures { Replied (RepliesToQuery self.now.network.now epoch kind query.now)
+        requires made { IfSome made (IsMade self.now.network.now self.now.mode epoch kind query.now) }
+        ensures { Replied (RepliesToQuery self.now.network.now self.now.mode epoch kind query.now)
             (K.state out.old) (K.state out.new) result }
     {
         match made {

@@ -13,6 +13,7 @@ ghost use Rattle.session_core.specs.Sessions.{RepliesTo};
 use crate::answerer::Answerer;
 use crate::context::ServeContext;
 use crate::fault::ReplyFault;
+use crate::mode::SearchMode;
 use crate::short::{put_closed, put_epoch};
 use arc_graph::Network;
 use cost_vector::Limit;
@@ -44,15 +45,44 @@ impl<R: Threads + Sync, G: Gate> ServeContext<'_, R, G> {
         match *request {
             SessionRequest::Costs { from, to } => {
                 let query = self.query(from, to, None);
-                self.search(last, AnswerKind::Costs, &query, room, out)
+                self.search(
+                    last,
+                    SearchMode::Plain,
+                    AnswerKind::Costs,
+                    &query,
+                    room,
+                    out,
+                )
             }
             SessionRequest::Walks { from, to } => {
                 let query = self.query(from, to, None);
-                self.search(last, AnswerKind::Walks, &query, room, out)
+                self.search(
+                    last,
+                    SearchMode::Plain,
+                    AnswerKind::Walks,
+                    &query,
+                    room,
+                    out,
+                )
             }
             SessionRequest::Within { from, to, limit } => {
                 let query = self.query(from, to, Some(limit));
-                self.search(last, AnswerKind::Walks, &query, room, out)
+                self.search(
+                    last,
+                    SearchMode::Plain,
+                    AnswerKind::Walks,
+                    &query,
+                    room,
+                    out,
+                )
+            }
+            SessionRequest::Goal { from, to } => {
+                let query = self.query(from, to, None);
+                self.search(last, SearchMode::Goal, AnswerKind::Walks, &query, room, out)
+            }
+            SessionRequest::GoalWithin { from, to, limit } => {
+                let query = self.query(from, to, Some(limit));
+                self.search(last, SearchMode::Goal, AnswerKind::Walks, &query, room, out)
             }
             SessionRequest::Wait { epoch } => {
                 if last.number < epoch {
@@ -87,6 +117,7 @@ impl<R: Threads + Sync, G: Gate> ServeContext<'_, R, G> {
     fn search<K: Sink>(
         &self,
         last: &Snapshot,
+        mode: SearchMode,
         kind: AnswerKind,
         query: &Query,
         room: &mut Room,
@@ -95,7 +126,7 @@ impl<R: Threads + Sync, G: Gate> ServeContext<'_, R, G> {
         requires weights { Match self.now.graph.now last.now.weights }
         requires query { IsAsked self.now.graph.now.criteria query.now }
         ensures { RepliesOneOf (λ text. (reply : Reply)
-            × RepliesToQuery (network self.now.graph.now last.now.weights) last.now.number kind
+            × RepliesToQuery (network self.now.graph.now last.now.weights) mode last.now.number kind
             query.now reply text) (K.state out.old) (K.state out.new) result }
     {
         let network = Network::new(self.graph, &last.weights);
@@ -103,6 +134,7 @@ impl<R: Threads + Sync, G: Gate> ServeContext<'_, R, G> {
             workers: self.workers,
             alloc: self.alloc,
             network: &network,
+            mode,
         };
         answerer.reply(last.number, kind, query, room, out)?;
         Ok(())

@@ -7,7 +7,7 @@ use Rattle.std.proofs.lemmas.Slice.Eq.{bytes_eq-Decides}
 use Rattle.line_text.specs.Numerals.{numeral_of}
 use Rattle.line_text.specs.declared.numerals.Numeral.{Numeral}
 use Rattle.line_text.specs.declared.numerals.Numeral.TheVariants.{NotDigits, Above, Value}
-use Rattle.session_requests.specs.Readings.{each_of, number_of, one_from, pair_of, place_of, two_from, value_in}
+use Rattle.session_requests.specs.Readings.{each_of, number_of, one_from, pair_of, place_of, two_from, value_in, within_from}
 use Rattle.session_requests.specs.Tokens.{Token, Writes, max_number, max_bound}
 use Rattle.session_requests.specs.Tokens.Token.{Number, Bound}
 
@@ -109,3 +109,30 @@ module _ {A : Type 0} (read : List ℕ → Option A) (token : A → Token) where
   reads_each each d (field ∷ fields) [] writes e = absurd writes
   reads_each each d (field ∷ fields) (a ∷ items) writes e =
       rw (sym e) (rw (each field a writes.0, reads_each each (length items) fields items writes.1 refl) refl)
+
+-- two numbers and a place for each of d criteria write what is read of them
+pub writes_within : (d : ℕ) (fields : List (List ℕ)) (parts : ℕ × ℕ × List (Option ℕ)) → within_from d fields ≡ Some parts
+    → AllZip Writes fields (Number parts.0 ∷ Number parts.1 ∷ map Bound parts.2) × (length parts.2 ≡ d)
+writes_within d [] parts e = absurd cc
+writes_within d (from ∷ []) parts e = absurd cc
+writes_within d (from ∷ to ∷ places) parts e =
+    mapped (λ pair. (pair.0, pair.1.0, pair.1.1))
+    (λ all. AllZip Writes (from ∷ to ∷ places) (Number all.0 ∷ Number all.1 ∷ map Bound all.2) × (length all.2 ≡ d))
+    (pair_of (number_of from) (pair_of (number_of to) (each_of place_of d places))) parts e
+    (λ pair some.
+    let ends = both _ _ pair some in
+    let others = both _ _ pair.1 ends.1 in
+    let bounds = writes_each place_of Bound writes_place d places pair.1.1 others.1 in
+    ((writes_number from pair.0 ends.0, (writes_number to pair.1.0 others.0, bounds.0)), bounds.1))
+
+-- what they write is read of them
+pub reads_within : (d : ℕ) (fields : List (List ℕ)) (from to : ℕ) (limit : List (Option ℕ))
+    → AllZip Writes fields (Number from ∷ Number to ∷ map Bound limit) → length limit ≡ d → within_from d fields ≡ Some (from, to, limit)
+reads_within d [] from to limit writes long = absurd writes
+reads_within d (first ∷ []) from to limit writes long = absurd writes.1
+reads_within d (first ∷ second ∷ places) from to limit writes long =
+    rw (
+      reads_number first from writes.0,
+      reads_number second to writes.1.0,
+      reads_each place_of Bound reads_place d places limit writes.1.1 long,
+    ) refl

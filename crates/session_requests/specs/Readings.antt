@@ -50,10 +50,9 @@ each_of read (suc n) (field ∷ fields) =
     option_map (λ pair. pair.0 ∷ pair.1) (pair_of (read field) (each_of read n fields))
 
 -- two numbers, and a place for each of d criteria
-abbrev pub within_from : ℕ → List (List ℕ) → Option SessionRequest
+abbrev pub within_from : ℕ → List (List ℕ) → Option (ℕ × ℕ × List (Option ℕ))
 within_from d (from ∷ to ∷ places) =
-    option_map (λ parts. session.Within parts.0 parts.1.0 parts.1.1)
-    (pair_of (number_of from) (pair_of (number_of to) (each_of place_of d places)))
+    option_map (λ parts. (parts.0, parts.1.0, parts.1.1)) (pair_of (number_of from) (pair_of (number_of to) (each_of place_of d places)))
 within_from d fields = None
 
 -- an arc's number, and a component for each of d criteria
@@ -69,14 +68,21 @@ session_alone word [] =
     if bytes_eq word (codes "e") then Some session.Epoch
     else (if bytes_eq word (codes "bye") then Some session.Bye else None)
 
+-- a session's request whose line begins with this word, where it is none of a query without a limit
+abbrev pub session_other : ℕ → List ℕ → List (List ℕ) → Option SessionRequest
+session_other d word fields =
+    if bytes_eq word (codes "l") then option_map (λ parts. session.Within parts.0 parts.1 parts.2) (within_from d fields)
+    else (if bytes_eq word (codes "h") then option_map (λ parts. session.GoalWithin parts.0 parts.1 parts.2) (within_from d fields)
+    else (if bytes_eq word (codes "w") then option_map session.Wait (one_from fields)
+    else session_alone word fields))
+
 -- a session's request whose line begins with this word
 abbrev pub session_behind : ℕ → List ℕ → List (List ℕ) → Option SessionRequest
 session_behind d word fields =
     if bytes_eq word (codes "q") then option_map (λ ends. session.Walks ends.0 ends.1) (two_from fields)
     else (if bytes_eq word (codes "c") then option_map (λ ends. session.Costs ends.0 ends.1) (two_from fields)
-    else (if bytes_eq word (codes "l") then within_from d fields
-    else (if bytes_eq word (codes "w") then option_map session.Wait (one_from fields)
-    else session_alone word fields)))
+    else (if bytes_eq word (codes "g") then option_map (λ ends. session.Goal ends.0 ends.1) (two_from fields)
+    else session_other d word fields))
 
 -- an operator's request of a word and no further field
 abbrev pub operator_alone : List ℕ → List (List ℕ) → Option OperatorRequest

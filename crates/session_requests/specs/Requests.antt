@@ -14,6 +14,8 @@ abbrev pub session_tokens : SessionRequest → List Token
 session_tokens (session.Costs from to) = Word (codes "c") ∷ Number from ∷ Number to ∷ []
 session_tokens (session.Walks from to) = Word (codes "q") ∷ Number from ∷ Number to ∷ []
 session_tokens (session.Within from to limit) = Word (codes "l") ∷ Number from ∷ Number to ∷ map Bound limit
+session_tokens (session.Goal from to) = Word (codes "g") ∷ Number from ∷ Number to ∷ []
+session_tokens (session.GoalWithin from to limit) = Word (codes "h") ∷ Number from ∷ Number to ∷ map Bound limit
 session_tokens (session.Wait epoch) = Word (codes "w") ∷ Number epoch ∷ []
 session_tokens session.Epoch = Word (codes "e") ∷ []
 session_tokens session.Bye = Word (codes "bye") ∷ []
@@ -29,6 +31,7 @@ operator_tokens operator.Bye = Word (codes "bye") ∷ []
 -- a limit has a place for each of d criteria
 abbrev pub LimitsEach : ℕ → SessionRequest → Type 0
 LimitsEach d (session.Within from to limit) = length limit ≡ d
+LimitsEach d (session.GoalWithin from to limit) = length limit ≡ d
 LimitsEach d other = ⊤
 
 -- a weight has a component for each of d criteria

@@ -1,7 +1,7 @@
 ghost use Rattle.std.specs.Prelude.{◌≡◌, ◌↔◌, ◌≤◌, [], ◌∷◌, length};
 ghost use Rattle.cost_vector.specs.Costs.{max_criteria, min_criteria};
 ghost use Rattle.line_text.specs.Fields.{fields_of};
-ghost use Rattle.session_requests.specs.Readings.{session_alone, session_behind, within_from};
+ghost use Rattle.session_requests.specs.Readings.{session_alone, session_behind, session_other, within_from};
 ghost use Rattle.session_requests.specs.Requests.{AsksOfSession};
 
 use crate::Line;
@@ -18,6 +18,10 @@ pub enum SessionRequest {
     Walks { from: u32, to: u32 },
     /// The best costs within a limit, each with its walk.
     Within { from: u32, to: u32, limit: Limit },
+    /// The best costs, each with its walk, by a search that is directed to the target.
+    Goal { from: u32, to: u32 },
+    /// The same within a limit.
+    GoalWithin { from: u32, to: u32, limit: Limit },
     /// To wait for an epoch of at least this number.
     Wait { epoch: u32 },
     /// The number of the epoch.
@@ -57,8 +61,26 @@ fn request_behind(word: &[u8], rest: &[u8], criteria: usize) -> Option<SessionRe
     } else if word == b"c".as_slice() {
         let (from, to) = two_numbers(rest)?;
         Some(SessionRequest::Costs { from, to })
-    } else if word == b"l".as_slice() {
-        within(rest, criteria)
+    } else if word == b"g".as_slice() {
+        let (from, to) = two_numbers(rest)?;
+        Some(SessionRequest::Goal { from, to })
+    } else {
+        other_behind(word, rest, criteria)
+    }
+}
+
+/// The request whose line has this word first, where it is none of a query without a limit.
+fn other_behind(word: &[u8], rest: &[u8], criteria: usize) -> Option<SessionRequest>
+    requires at_least_two { min_criteria ≤ criteria }
+    requires at_most_four { criteria ≤ max_criteria }
+    ensures { result ≡ session_other criteria word.now (fields_of rest.now) }
+{
+    if word == b"l".as_slice() {
+        let (from, to, limit) = within(rest, criteria)?;
+        Some(SessionRequest::Within { from, to, limit })
+    } else if word == b"h".as_slice() {
+        let (from, to, limit) = within(rest, criteria)?;
+        Some(SessionRequest::GoalWithin { from, to, limit })
     } else if word == b"w".as_slice() {
         let epoch = one_number(rest)?;
         Some(SessionRequest::Wait { epoch })
@@ -82,8 +104,8 @@ fn request_alone(word: &[u8], rest: &[u8]) -> Option<SessionRequest>
     }
 }
 
-/// The query within a limit that two numbers and as many places as criteria say.
-fn within(text: &[u8], criteria: usize) -> Option<SessionRequest>
+/// The ends and the limit that two numbers and as many places as criteria say.
+fn within(text: &[u8], criteria: usize) -> Option<(u32, u32, Limit)>
     requires at_least_two { min_criteria ≤ criteria }
     requires at_most_four { criteria ≤ max_criteria }
     ensures { result ≡ within_from criteria (fields_of text.now) }
@@ -93,5 +115,5 @@ fn within(text: &[u8], criteria: usize) -> Option<SessionRequest>
     let from = number(from)?;
     let to = number(to)?;
     let limit = limit(rest, criteria)?;
-    Some(SessionRequest::Within { from, to, limit })
+    Some((from, to, limit))
 }

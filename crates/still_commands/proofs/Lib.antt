@@ -1,7 +1,6 @@
 pub mod RunsLemmas
 pub mod QueryLemmas
 mod ProveLemmas
-mod GoalLemmas
 pub mod FilesReadLemmas
 mod VerifyLemmas
 pub mod BatchLemmas

@@ -6,13 +6,14 @@ use Rattle.road_network.specs.declared.query.AnswerKind.TheVariants.{Walks}
 use Rattle.query_reader.specs.declared.pairs.Pair.{Pair}
 use Rattle.session_core.specs.declared.made.MadeReply.{MadeReply}
 use Rattle.session_core.specs.Making.{IsMade}
+use Rattle.session_core.specs.declared.mode.SearchMode.{SearchMode}
 use Rattle.command_words.specs.declared.SearchLimits.{SearchLimits}
 use Rattle.still_commands.specs.Batch.{query_between}
 
 -- what was made for the pair is the reply to it, where memory sufficed
-abbrev pub IsAhead : SearchLimits → Network → Pair → Option MadeReply → Type 0
-IsAhead limits net pair made = IfSome made (IsMade net 0 Walks (query_between limits pair))
+abbrev pub IsAhead : SearchMode → SearchLimits → Network → Pair → Option MadeReply → Type 0
+IsAhead mode limits net pair made = IfSome made (IsMade net mode 0 Walks (query_between limits pair))
 
 -- these were made for the first of the pairs, the first of them last
-abbrev pub AreAhead : SearchLimits → Network → List Pair → List (Option MadeReply) → Type 0
-AreAhead limits net pairs ahead = AllZip (IsAhead limits net) (take (length ahead) pairs) (reverse ahead)
+abbrev pub AreAhead : SearchMode → SearchLimits → Network → List Pair → List (Option MadeReply) → Type 0
+AreAhead mode limits net pairs ahead = AllZip (IsAhead mode limits net) (take (length ahead) pairs) (reverse ahead)

@@ -1,6 +1,6 @@
 -- What the command `batch` does over a network: it reads a file of pairs, and replies to each of them in order. What is
 -- said of the file's bytes holds where the folder tells its files.
-use Rattle.std.specs.Prelude.{◌≡◌, ℕ, ◌<◌, List, [], Option, None, length, take}
+use Rattle.std.specs.Prelude.{◌≡◌, ℕ, ◌<◌, Bool, true, false, List, [], Option, None, length, take}
 use Rattle.std.specs.List.{AllZip, concat}
 use Rattle.route_io.specs.Files.{FileMap}
 use Rattle.road_network.specs.Network.{Network}
@@ -9,6 +9,8 @@ use Rattle.query_reader.specs.Grammar.{IsPairs, PairFault}
 use Rattle.query_reader.specs.declared.pairs.Pair.{Pair}
 use Rattle.session_core.specs.declared.reply.Reply.{Reply}
 use Rattle.session_core.specs.Queries.{RepliesToQuery}
+use Rattle.session_core.specs.declared.mode.SearchMode.{SearchMode}
+use Rattle.session_core.specs.declared.mode.SearchMode.TheVariants as search
 use Rattle.road_network.specs.declared.query.AnswerKind.TheVariants.{Walks}
 use Rattle.road_network.specs.declared.query.Query.{Query}
 use Rattle.command_words.specs.declared.SearchLimits.{SearchLimits}
@@ -38,33 +40,38 @@ pub data PairsEnd (After : List Pair → Outcome → List ℕ → Type 0) (files
   pairs_read : {outcome : Outcome} {text : List ℕ} (pairs : List Pair) → SaysPairs files name pairs
       → After pairs outcome text → PairsEnd After files name outcome text
 
+-- how each query of a batch is searched
+abbrev pub mode_of : Bool → SearchMode
+mode_of true = search.Goal
+mode_of false = search.Plain
+
 -- the query from one node of a pair to the other, without a limit
 abbrev pub query_between : SearchLimits → Pair → Query
 query_between limits pair = record { from = pair.from; to = pair.to; limit = None; budget = limits.budget }
 
 -- the reply to a pair is the answer with walks, or a refusal
-abbrev pub RepliesTo : SearchLimits → Network → Pair → List ℕ → Type 0
-RepliesTo limits net pair text =
-    (reply : Reply) × RepliesToQuery net 0 Walks (query_between limits pair) reply text
+abbrev pub RepliesTo : SearchMode → SearchLimits → Network → Pair → List ℕ → Type 0
+RepliesTo mode limits net pair text =
+    (reply : Reply) × RepliesToQuery net mode 0 Walks (query_between limits pair) reply text
 
 -- The text is the replies to these pairs, one for each, in order.
-pub record RepliesToEach (limits : SearchLimits) (net : Network) (pairs : List Pair) (text : List ℕ) : Type 0 where
+pub record RepliesToEach (mode : SearchMode) (limits : SearchLimits) (net : Network) (pairs : List Pair) (text : List ℕ) : Type 0 where
   pub replies : List (List ℕ)
-  pub each : AllZip (RepliesTo limits net) pairs replies
+  pub each : AllZip (RepliesTo mode limits net) pairs replies
   pub whole : text ≡ concat replies
 
 -- Memory ran out at a pair, before the first byte of its reply; those before it have theirs.
-pub record StarvesAtPair (limits : SearchLimits) (net : Network) (pairs : List Pair) (text : List ℕ) : Type 0 where
+pub record StarvesAtPair (mode : SearchMode) (limits : SearchLimits) (net : Network) (pairs : List Pair) (text : List ℕ) : Type 0 where
   pub before : ℕ
   pub more : before < length pairs
-  pub replied : RepliesToEach limits net (take before pairs) text
+  pub replied : RepliesToEach mode limits net (take before pairs) text
 
 -- each pair has its reply, unless memory runs out at one of them; a refused pair ends nothing
-abbrev pub PairsReplies : SearchLimits → Network → List Pair → Outcome → List ℕ → Type 0
-PairsReplies limits net pairs done text = RepliesToEach limits net pairs text
-PairsReplies limits net pairs no_memory text = StarvesAtPair limits net pairs text
-PairsReplies limits net pairs outcome text = ⊥
+abbrev pub PairsReplies : SearchMode → SearchLimits → Network → List Pair → Outcome → List ℕ → Type 0
+PairsReplies mode limits net pairs done text = RepliesToEach mode limits net pairs text
+PairsReplies mode limits net pairs no_memory text = StarvesAtPair mode limits net pairs text
+PairsReplies mode limits net pairs outcome text = ⊥
 
 -- how a batch ends over a network, and what it sends
 abbrev pub BatchReplies : Option FileMap → BatchAsked → Network → Outcome → List ℕ → Type 0
-BatchReplies files asked net = PairsEnd (PairsReplies asked.limits net) files asked.pairs
+BatchReplies files asked net = PairsEnd (PairsReplies (mode_of asked.goal) asked.limits net) files asked.pairs

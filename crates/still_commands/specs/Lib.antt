@@ -2,7 +2,6 @@ pub mod Texts
 pub mod Outcome
 pub mod FilesRead
 pub mod Queries
-pub mod Goal
 pub mod Check
 pub mod Batch
 pub mod Ahead

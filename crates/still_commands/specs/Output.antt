@@ -5,12 +5,13 @@ use Rattle.route_io.specs.Files.{FileMap}
 use Rattle.route_io.specs.Sinks.{SinkState, Sends, WritesTo}
 use Rattle.route_io.specs.Sources.{SourceState, ReadsFrom}
 use Rattle.route_io.specs.declared.fault.WriteFault.{WriteFault}
+use Rattle.road_network.specs.declared.query.AnswerKind.TheVariants.{Walks}
+use Rattle.session_core.specs.declared.mode.SearchMode.TheVariants as search
 use Rattle.command_words.specs.Words.{Asked, Asks, IsStill, batch, check, follow, generate, goal, lanes, names_of, prove, serve, single, verify}
 use Rattle.still_commands.specs.Batch.{BatchReplies}
 use Rattle.still_commands.specs.Check.{CheckReplies}
 use Rattle.still_commands.specs.FilesRead.{FilesEnd}
 use Rattle.still_commands.specs.Gen.{GenEnds}
-use Rattle.still_commands.specs.Goal.{GoalReplies}
 use Rattle.still_commands.specs.Outcome.{Outcome, bad_words, out_failed, no_memory, out_wanted}
 use Rattle.still_commands.specs.Outcome.{status_of, note_of, out_has_wanted}
 use Rattle.still_commands.specs.Prove.{ProveReplies}
@@ -32,8 +33,8 @@ IsAskedName IsAsked name = (asked : Asked) × IsAsked asked × Contains (names_o
 
 -- how a run of a command that waits for nobody ends, and what it sends to `out`, where nothing cuts that short
 abbrev pub StillEnds : Option FileMap → Asked → Outcome → List ℕ → Type 0
-StillEnds files (single asked) = FilesEnd (QueryReplies asked.kind asked.query) files asked.files
-StillEnds files (goal asked) = FilesEnd (GoalReplies asked.query) files asked.files
+StillEnds files (single asked) = FilesEnd (QueryReplies search.Plain asked.kind asked.query) files asked.files
+StillEnds files (goal asked) = FilesEnd (QueryReplies search.Goal Walks asked.query) files asked.files
 StillEnds files (check names) = FilesEnd CheckReplies files names
 StillEnds files (batch asked) = FilesEnd (BatchReplies files asked) files asked.files
 StillEnds files (generate asked) = GenEnds asked

@@ -12,6 +12,7 @@ use Rattle.front_cert.specs.declared.fault.CertFault.{CertFault}
 use Rattle.cert_writer.specs.Text.{Accepts, cert_text}
 use Rattle.session_core.specs.declared.reply.Reply.TheVariants.{Refusal}
 use Rattle.session_core.specs.Queries.{RepliesToQuery}
+use Rattle.session_core.specs.declared.mode.SearchMode.TheVariants.{Plain}
 use Rattle.still_commands.specs.Outcome.{Outcome, done, refused, no_memory}
 
 -- The text is that of the certificate of the query's relevant pairs, each with the last arc of its backward-least walk, and a
@@ -31,6 +32,6 @@ pub record HasCertificate (net : Network) (query : Query) (text : List ℕ) : Ty
 -- out before its first byte.
 abbrev pub ProveReplies : Query → Network → Outcome → List ℕ → Type 0
 ProveReplies query net done text = HasCertificate net query text
-ProveReplies query net refused text = RepliesToQuery net 0 Walks query Refusal text
+ProveReplies query net refused text = RepliesToQuery net Plain 0 Walks query Refusal text
 ProveReplies query net no_memory text = text ≡ []
 ProveReplies query net outcome text = ⊥

@@ -5,7 +5,7 @@ ghost use Rattle.road_network.specs.Queries.{IsAsked};
 ghost use Rattle.command_words.specs.Words.{FilesInRange, AreSearchLimits, batch, batch_asked, names_of};
 ghost use Rattle.route_io.specs.Sources.{ReadsFrom};
 ghost use Rattle.still_commands.specs.Ahead.{AreAhead, IsAhead};
-ghost use Rattle.still_commands.specs.Batch.{PairsReplies, query_between};
+ghost use Rattle.still_commands.specs.Batch.{PairsReplies, mode_of, query_between};
 ghost use Rattle.still_commands.specs.Outcome.{status_of};
 ghost use Rattle.still_commands.specs.Output.{RunsCommand, StillEnds};
 ghost use Rattle.still_commands.specs.ReadResults.{PairsRead};
@@ -21,7 +21,7 @@ use out_of_memory::OutOfMemory;
 use query_reader::{Pair, read_p2p};
 use road_network::{AnswerKind, Query};
 use route_io::{Folder, Gate, Sink};
-use session_core::{Answerer, MadeReply};
+use session_core::{Answerer, MadeReply, SearchMode};
 use std::alloc::Global;
 use std::thread::Threads;
 use walk_readback::Room;
@@ -56,8 +56,20 @@ pub(crate) fn run<'a, R: Threads + Sync, G: Gate, F: Folder, K: Sink>(
         workers: &workers,
         alloc,
         network: &network,
+        mode: mode_of(asked.goal),
     };
     reply_each(&answerer, asked.limits, &pairs, &mut room, out)
+}
+
+/// How each query is searched, by whether the flag for the directed search is given.
+fn mode_of(goal: bool) -> SearchMode
+    ensures { result ≡ mode_of goal }
+{
+    if goal {
+        SearchMode::Goal
+    } else {
+        SearchMode::Plain
+    }
 }
 
 /// Reads the file of pairs.
@@ -91,7 +103,7 @@ fn reply_each<'a, R: Threads + Sync, G: Gate, K: Sink>(
     out: &mut K,
 ) -> Result<(), Stop<'a>>
     requires limits { AreSearchLimits limits }
-    ensures { Replies (PairsReplies limits answerer.now.network.now pairs.now)
+    ensures { Replies (PairsReplies answerer.now.mode limits answerer.now.network.now pairs.now)
         (K.state out.old) (K.state out.new) (run_outcome result) }
 {
     let mut ahead = Vec::new(answerer.alloc);
@@ -106,15 +118,15 @@ fn reply_each<'a, R: Threads + Sync, G: Gate, K: Sink>(
 
 /// The reply that was made ahead to the next pair, if it was.
 fn take_next(ahead: &mut Vec<Option<MadeReply>>) -> Option<MadeReply>
-    ensures { (limits : SearchLimits) (net : Network) (pair : Pair) (pairs : List Pair)
-        → AreAhead limits net (pair ∷ pairs) ahead.old.items
-        → IsAhead limits net pair result × AreAhead limits net pairs ahead.new.items }
+    ensures { (mode : SearchMode) (limits : SearchLimits) (net : Network) (pair : Pair)
+        (pairs : List Pair) → AreAhead mode limits net (pair ∷ pairs) ahead.old.items
+        → IsAhead mode limits net pair result × AreAhead mode limits net pairs ahead.new.items }
 {
     ahead.pop().flatten()
 }
 
 /// Where no reply is left that was made ahead, has the workers make those to the first of these pairs side by side. None are
-/// made by one worker, nor to a last pair, whose search the workers share, nor where memory runs out.
+/// made by one worker, nor to a last pair, of which the workers may share the search, nor where memory runs out.
 fn refill<R: Threads + Sync, G: Gate>(
     answerer: &Answerer<'_, R, G>,
     limits: SearchLimits,
@@ -122,8 +134,8 @@ fn refill<R: Threads + Sync, G: Gate>(
     ahead: &mut Vec<Option<MadeReply>>,
 )
     requires limits { AreSearchLimits limits }
-    requires ahead { AreAhead limits answerer.now.network.now pairs.now ahead.old.items }
-    ensures { AreAhead limits answerer.now.network.now pairs.now ahead.new.items }
+    requires ahead { AreAhead answerer.now.mode limits answerer.now.network.now pairs.now ahead.old.items }
+    ensures { AreAhead answerer.now.mode limits answerer.now.network.now pairs.now ahead.new.items }
 {
     if !ahead.is_empty() {
         return;
@@ -160,7 +172,7 @@ fn make_ahead<R: Threads + Sync, G: Gate>(
 ) -> Result<Vec<Option<MadeReply>>, OutOfMemory>
     requires limits { AreSearchLimits limits }
     requires few { length pairs.now < 2 ^ 32 }
-    ensures { IfOk result (λ ahead. AreAhead limits answerer.now.network.now pairs.now ahead.items) }
+    ensures { IfOk result (λ ahead. AreAhead answerer.now.mode limits answerer.now.network.now pairs.now ahead.items) }
 {
     let mut queries = Vec::with_capacity(answerer.alloc, pairs.len())?;
     for pair in pairs {

@@ -15,7 +15,6 @@ mod batch;
 mod check;
 mod counting;
 mod generate;
-mod goal;
 mod network;
 mod plan;
 mod prove;
@@ -27,7 +26,6 @@ mod summary;
 mod verify;
 
 use command_words::{Command, WordsFault, read_words};
-pub use goal::goal_answers_wherever_one_does;
 pub use network::read_network;
 use route_io::{Folder, Gate, Sink};
 use status::DONE;
@@ -142,7 +140,7 @@ fn carry_out<'a, R: Threads + Sync, G: Gate, F: Folder, K: Sink>(
 {
     match command {
         Command::Single(asked) => single::run(rt, alloc, asked, folder, out, gate),
-        Command::Goal(asked) => goal::run(alloc, asked, folder, out),
+        Command::Goal(asked) => single::run_goal(rt, alloc, asked, folder, out, gate),
         Command::Check(asked) => check::run(alloc, asked, folder, out),
         Command::Batch(asked) => batch::run(rt, alloc, asked, folder, out, gate),
         Command::Gen(asked) => generate::run(rt, alloc, asked, out, gate),

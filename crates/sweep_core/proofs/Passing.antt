@@ -1,6 +1,6 @@
 -- Where the budget is settled and one more is to be, one more than it is relevant. Where all is settled within the budget, it isn't so.
-use Rattle.std.proofs.Common.{◌≡◌, ◌≢◌, ℕ, ◌+◌, ◌≤◌, List, Option, [], ◌∷◌, get_or, length, inl, inr, refl, sym, ap, subst, ◌∙◌, arith}
-use Rattle.std.specs.Prelude.{All, AllPairs, Contains}
+use Rattle.std.proofs.Common.{◌≡◌, ◌≢◌, ℕ, ◌≤◌, List, [], ◌∷◌, get_or, length, inl, inr, refl, sym, ap, subst, ◌∙◌, arith}
+use Rattle.std.specs.Prelude.{AllPairs, Contains}
 use Rattle.std.proofs.lemmas.List.Sums.{sum-map}
 use Rattle.list_laws.proofs.Members.{all_from_in, cases_in, each_in, in_first, in_none, in_rest}
 use Rattle.list_laws.proofs.Pairs.{pair_with_first, pairs_cons, pairs_none, pairs_rest, pigeonhole}

@@ -1,5 +1,5 @@
 -- A search in the order of cost, between its steps and within one.
-use Rattle.std.specs.Prelude.{◌≡◌, ◌≢◌, ℕ, ◌+◌, ◌*◌, ◌-◌, ◌^◌, ◌<◌, ◌≤◌, ◌⊎◌, List, [], ◌∷◌, Option, Some, None, length, replicate, All, AllPairs, Contains, IsPermutation}
+use Rattle.std.specs.Prelude.{◌≡◌, ℕ, ◌+◌, ◌*◌, ◌-◌, ◌^◌, ◌<◌, ◌≤◌, ◌⊎◌, List, [], ◌∷◌, Option, Some, None, length, replicate, All, Contains, IsPermutation}
 use Rattle.cost_vector.specs.Costs.{AtMost, Within, plus}
 use Rattle.cost_vector.specs.declared.label.ArcNo.{ArcNo}
 use Rattle.road_network.specs.Network.{Network, IsNode, Leads}
@@ -178,15 +178,9 @@ pub record TakesUnspent (settled : List (List (List ℕ))) (target : ℕ) (befor
   pub takes : TakesLeast (IsSpentBy settled target) before i after
   pub unspent : ¬ IsSpentBy settled target i.spot
 
--- the item waits now, or is ruled out and nothing has come
-abbrev pub LetsWait : Sweep → Waiting → List Waiting → List Waiting → Type 0
-LetsWait s i before after = (IsRuledOut s i.spot × (after ≡ before)) ⊎ (Within s.limit i.spot.cost × IsPermutation (i ∷ before) after)
-
--- Each of the items waits now or is ruled out, and nothing else has come.
-pub record LetsAllWait (s : Sweep) (items before after : List Waiting) : Type 0 where
-  pub kept : (j : Waiting) → Contains before j → Contains after j
-  pub come : (j : Waiting) → Contains after j → Contains before j ⊎ (Contains items j × Within s.limit j.spot.cost)
-  pub each : (j : Waiting) → Contains items j → IsHandled (with_queue s after) j.spot
+-- the item waits now, or is spent and nothing has come
+abbrev pub LetsWait : List (List (List ℕ)) → ℕ → Waiting → List Waiting → List Waiting → Type 0
+LetsWait settled target i before after = (IsSpentBy settled target i.spot × (after ≡ before)) ⊎ IsPermutation (i ∷ before) after
 
 -- The item stands for the start, which is within the limit with its height; or the start has none such.
 abbrev pub IsStartIfAny : Potential → ℕ → List (Option ℕ) → Option Waiting → Type 0

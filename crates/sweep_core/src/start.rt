@@ -1,4 +1,4 @@
-ghost use Rattle.std.specs.Prelude.{◌≡◌, length, Err, IfOk, OnOk};
+ghost use Rattle.std.specs.Prelude.{◌≡◌, Err, IfOk, OnOk};
 ghost use Rattle.std.specs.Option.{option_map};
 ghost use Rattle.road_network.specs.Network.{IsNode};
 ghost use Rattle.sweep_core.specs.Potentials.{HasNoRoom};
@@ -6,12 +6,12 @@ ghost use Rattle.sweep_core.specs.Sweeps.{IsStartIfAny};
 ghost use Rattle.sweep_core.specs.declared.fault.StoreFault.TheVariants as fault;
 ghost use Rattle.waiting_item.specs.Waiting.{as_waiting};
 
+use crate::limit::CostLimit;
 use crate::moving::stored;
 use crate::{Potential, StoreFault};
 use arc_graph::Network;
-use cost_vector::{ArcNo, CompactCost, Limit, NodeNo};
+use cost_vector::{ArcNo, CompactCost, NodeNo};
 use stored_cost::StoredCost;
-use sweep_parts::{greatest_within, is_within};
 use waiting_item::Item;
 
 /// Of fewer arcs than this the weights are looked at.
@@ -23,10 +23,9 @@ pub(crate) fn start_item<const D: usize, C: StoredCost<D>, P: Potential>(
     potential: &mut P,
     start: NodeNo,
     target: NodeNo,
-    limit: &Limit,
+    limit: &CostLimit<D>,
 ) -> Result<Option<Item<C>>, StoreFault>
     requires criteria { network.now.criteria ≡ D }
-    requires limit { length limit.now ≡ D }
     requires start { IsNode network.now.nodes start.0 }
     requires target { IsNode network.now.nodes target.0 }
     requires tells { P.tells potential.old network.now target.0 }
@@ -44,7 +43,7 @@ pub(crate) fn start_item<const D: usize, C: StoredCost<D>, P: Potential>(
         return Ok(None);
     };
     let height = CompactCost::<D>::of(&height);
-    if !is_within(&greatest_within(limit), &height) {
+    if !limit.allows(&height) {
         return Ok(None);
     }
     let Some(cost) = stored(&height) else {

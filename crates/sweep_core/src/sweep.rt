@@ -1,27 +1,28 @@
-ghost use Rattle.std.specs.Prelude.{◌≡◌, ◌+◌, ◌<◌, ◌≤◌, ◌↔◌, ℕ, [], ◌∷◌, length, map, All, Err, IfNone, IfOk, IfSome, IsPermutation, IsTrue, OnOk};
-ghost use Rattle.cost_vector.specs.Costs.{Within};
+ghost use Rattle.std.specs.Prelude.{◌≡◌, ◌+◌, ◌<◌, ◌≤◌, ◌↔◌, ℕ, [], ◌∷◌, length, Err, IfNone, IfOk, IfSome, IsPermutation, IsTrue, OnOk};
 ghost use Rattle.road_network.specs.Limits.{max_budget};
 ghost use Rattle.road_network.specs.Queries.{IsQuery, limit_of};
 ghost use Rattle.sweep_core.specs.Potentials.{HasNoRoom, PassesBy};
-ghost use Rattle.sweep_core.specs.Sweeps.{CanTell, IsEnded, IsNext, IsSameSearch, IsRuledOut, IsSearchFor, IsSweep, LetsAllWait, LetsWait, Settles, SettlesAll, costs_at, with_both, with_queue, without_queue};
+ghost use Rattle.sweep_core.specs.Relaxing.{HasNoRoomFrom};
+ghost use Rattle.sweep_core.specs.Sweeps.{CanTell, Follows, IsEnded, IsNext, IsRelaxing, IsSameSearch, IsSearchFor, IsSpentBy, IsSweep, LetsWait, Settles, SettlesAll, costs_at, with_both, with_queue, without_queue};
 ghost use Rattle.sweep_core.specs.declared.fault.StoreFault.TheVariants as store;
 ghost use Rattle.sweep_core.specs.declared.fault.SweepFault.TheVariants as fault;
 ghost use Rattle.settled_front.specs.Fronts.{IsCovered};
 ghost use Rattle.sweep_parts.specs.Settled.{IsBehind, IsSettledList, Pushes, count_settled};
 ghost use Rattle.waiting_item.specs.Waiting.{AreCriteria, as_waiting, spot_in};
 
+use crate::limit::CostLimit;
 use crate::look::{Spent, take_unspent};
-use crate::relaxing::relax;
+use crate::relaxing::relax_arc;
 use crate::start::{start_item, step_of};
 use crate::{Potential, StoreFault, SweepFault};
 use arc_graph::Network;
-use cost_vector::{CompactCost, Limit, NodeNo};
+use cost_vector::NodeNo;
 use out_of_memory::OutOfMemory;
 use road_network::Query;
 use std::alloc::Global;
 use std::marker::Model;
 use stored_cost::{Part, StoredCost};
-use sweep_parts::{LeastQueue, Look, SettledLists, greatest_within, is_within};
+use sweep_parts::{LeastQueue, Look, SettledLists};
 use waiting_item::Item;
 
 /// A search by one worker in the order of cost, with costs stored at one width: each settled label is the lexicographically least
@@ -30,9 +31,7 @@ use waiting_item::Item;
 pub struct Sweep<const D: usize, S: SettledLists<D>, Q: LeastQueue<D, S::Cost>> {
     start: NodeNo,
     target: NodeNo,
-    limit: Limit,
-    /// The greatest cost within the limit that has 64 bits in each component.
-    most: CompactCost<D>,
+    limit: CostLimit<D>,
     budget: u32,
     lists: S,
     queue: Q,
@@ -40,7 +39,6 @@ pub struct Sweep<const D: usize, S: SettledLists<D>, Q: LeastQueue<D, S::Cost>> 
 
 impl<const D: usize, S: SettledLists<D>, Q: LeastQueue<D, S::Cost>> Model for Sweep<D, S, Q> {
     ghost use Rattle.sweep_core.specs.Sweeps.{Sweep};
-    ghost use Rattle.sweep_parts.specs.Limits.{IsGreatestWithin};
 
     ghost Value = { Sweep };
 
@@ -52,8 +50,6 @@ impl<const D: usize, S: SettledLists<D>, Q: LeastQueue<D, S::Cost>> Model for Sw
       settled = S.lists s.lists;
       queue = Q.waiting s.queue;
     } };
-
-    ghost invariant = { λ s. IsGreatestWithin s.limit s.most.0 };
 }
 
 impl<const D: usize, S: SettledLists<D>, Q: LeastQueue<D, S::Cost>> Sweep<D, S, Q> {
@@ -79,13 +75,12 @@ impl<const D: usize, S: SettledLists<D>, Q: LeastQueue<D, S::Cost>> Sweep<D, S, 
         prove!(network.nodes() >= 1);
         prove!(network.criteria() == D);
         let (start, target) = (NodeNo(query.from), NodeNo(query.to));
-        let limit = query.limit_in(network.criteria());
+        let limit = CostLimit::new(query.limit_in(network.criteria()));
         let first = start_item::<D, S::Cost, P>(network, potential, start, target, &limit)?;
         Ok(Sweep {
             start,
             target,
             limit,
-            most: greatest_within(&limit),
             budget: query.budget,
             lists: S::new(alloc, network.nodes())?,
             queue: queue_of(alloc, step_of(network), first)?,
@@ -95,7 +90,6 @@ impl<const D: usize, S: SettledLists<D>, Q: LeastQueue<D, S::Cost>> Sweep<D, S, 
     /// Settles all that is relevant by the potential, within the budget.
     pub fn run<P: Potential>(
         &mut self,
-        alloc: Global,
         network: &Network<'_>,
         potential: &mut P,
     ) -> Result<(), SweepFault>
@@ -117,12 +111,11 @@ impl<const D: usize, S: SettledLists<D>, Q: LeastQueue<D, S::Cost>> Sweep<D, S, 
             self.old.target self.old.limit (P.height network.now self.old.target) S.Cost.Part.bound }
     {
         prove!(network.nodes() >= 1);
-        let mut fresh = Vec::new(alloc);
         'labels: while let Some(item) = self.take_next::<P>(network)? {
             if self.is_full() {
                 return Err(SweepFault::Budget);
             }
-            self.settle(network, potential, &item, &mut fresh)?;
+            self.settle(network, potential, &item)?;
         }
         Ok(())
     }
@@ -150,13 +143,12 @@ impl<const D: usize, S: SettledLists<D>, Q: LeastQueue<D, S::Cost>> Sweep<D, S, 
         take_unspent(&self.lists, self.target, &mut self.queue)
     }
 
-    /// Settles the least item that waited and isn't spent, and lets wait what follows it. What is fresh is room that is used anew.
+    /// Settles the least item that waited and isn't spent, and lets wait what follows it.
     fn settle<P: Potential>(
         &mut self,
         network: &Network<'_>,
         potential: &mut P,
         item: &Item<S::Cost>,
-        fresh: &mut Vec<Item<S::Cost>>,
     ) -> Result<(), StoreFault>
         requires criteria { network.now.criteria ≡ D }
         requires most { self.old.budget ≤ max_budget }
@@ -174,54 +166,70 @@ impl<const D: usize, S: SettledLists<D>, Q: LeastQueue<D, S::Cost>> Sweep<D, S, 
     {
         prove!(network.nodes() >= 1);
         self.push(item)?;
-        fresh.clear();
-        relax(network, potential, self.target(), item, fresh)?;
-        self.let_all_wait(fresh)?;
+        self.relax(network, potential, item)?;
         Ok(())
     }
 
-    /// Lets items wait, but for what is spent or beyond the limit.
-    fn let_all_wait(&mut self, items: &[Item<S::Cost>]) -> Result<(), OutOfMemory>
-        requires { All (λ i. CanTell self.old.settled self.old.target
-            (spot_in S.Cost.components i)) items.now }
+    /// Lets wait what follows the item that was settled last, arc by arc, but for what is spent or beyond the limit.
+    fn relax<P: Potential>(
+        &mut self,
+        network: &Network<'_>,
+        potential: &mut P,
+        item: &Item<S::Cost>,
+    ) -> Result<(), StoreFault>
+        requires criteria { network.now.criteria ≡ D }
+        requires tells { P.tells potential.old network.now self.old.target }
+        requires settled { IsRelaxing network.now (P.height network.now self.old.target)
+            (without_queue self.old) (as_waiting S.Cost.components item.now) }
+        ensures tells { OnOk result (P.tells potential.new network.now self.old.target) }
         ensures rest { OnOk result (self.new ≡ with_queue self.old self.new.queue) }
-        ensures waits { OnOk result (LetsAllWait (without_queue self.old)
-            (map (as_waiting S.Cost.components) items.now) self.old.queue self.new.queue) }
+        ensures follows { OnOk result (Follows network.now (P.height network.now self.old.target)
+            (without_queue self.old) (as_waiting S.Cost.components item.now) (λ _. Unit {0})
+            self.old.queue self.new.queue) }
+        ensures tells_still { result ≡ Err store.TooWide
+            → P.tells potential.new network.now self.old.target }
+        ensures too_wide { result ≡ Err store.TooWide → HasNoRoomFrom network.now
+            (P.height network.now self.old.target) self.old.limit
+            (spot_in S.Cost.components item.now) S.Cost.Part.bound }
     {
-        for item in items {
-            self.let_wait(item)?;
+        prove!(network.nodes() >= 1);
+        let target = self.target();
+        let Some(own) = potential.at(network, target, item.node)? else {
+            return Ok(());
+        };
+        for &arc in network.out_arcs(item.node) {
+            let limit = self.limit();
+            if let Some(next) = relax_arc(network, potential, target, limit, item, &own, arc)? {
+                self.let_wait(&next)?;
+            }
         }
         Ok(())
     }
 
-    /// Lets an item wait unless it is spent or beyond the limit.
+    /// Lets an item wait unless it is spent.
     fn let_wait(&mut self, item: &Item<S::Cost>) -> Result<(), OutOfMemory>
         requires { CanTell self.old.settled self.old.target (spot_in S.Cost.components item.now) }
         ensures rest { OnOk result (self.new ≡ with_queue self.old self.new.queue) }
-        ensures waits { OnOk result (LetsWait (without_queue self.old)
+        ensures waits { OnOk result (LetsWait self.old.settled self.old.target
             (as_waiting S.Cost.components item.now) self.old.queue self.new.queue) }
     {
-        if !self.can_settle(item) {
+        if self.is_spent(item) {
             return Ok(());
         }
         self.queue.put(*item)
     }
 
-    /// Whether an item is within the limit and isn't spent.
-    fn can_settle(&self, item: &Item<S::Cost>) -> bool
+    /// Whether an item is spent.
+    fn is_spent(&self, item: &Item<S::Cost>) -> bool
         requires { CanTell self.now.settled self.now.target (spot_in S.Cost.components item.now) }
-        ensures open { IsTrue result → ¬ IsRuledOut (without_queue self.now)
-            (spot_in S.Cost.components item.now) }
-        ensures within { IsTrue result
-            → Within self.now.limit (S.Cost.components item.now.cost) }
-        ensures ruled_out { ¬ IsTrue result → IsRuledOut (without_queue self.now)
+        ensures { IsTrue result ↔ IsSpentBy self.now.settled self.now.target
             (spot_in S.Cost.components item.now) }
     {
         let look = Spent {
             lists: &self.lists,
             target: self.target,
         };
-        is_within(&self.most, &item.cost.to_compact()) && !look.is_spent(item)
+        look.is_spent(item)
     }
 
     /// The node to which walks lead.
@@ -229,6 +237,13 @@ impl<const D: usize, S: SettledLists<D>, Q: LeastQueue<D, S::Cost>> Sweep<D, S, 
         ensures { result.0 ≡ self.now.target }
     {
         self.target
+    }
+
+    /// The limit of the query.
+    fn limit(&self) -> &CostLimit<D>
+        ensures { result.now ≡ self.now.limit }
+    {
+        &self.limit
     }
 
     /// Whether as much is settled as the budget allows.

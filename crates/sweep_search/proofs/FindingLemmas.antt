@@ -1,25 +1,23 @@
 -- What was found, by zero and by the exact bounds.
-use Rattle.std.proofs.Common.{◌≡◌, ◌↔◌, ℕ, ◌+◌, ◌-◌, List, Option, None, Result, Ok, Err, length, refl, sym, ap, subst, ◌∙◌, arith}
+use Rattle.std.proofs.Common.{◌≡◌, ◌↔◌, ℕ, ◌+◌, ◌-◌, List, Option, Result, Ok, Err, length, refl, sym, ap, subst, ◌∙◌, arith}
 use Rattle.std.specs.Prelude.{Contains, OnOk}
-use Rattle.cost_vector.specs.Costs.{no_limit, plus}
+use Rattle.cost_vector.specs.Costs.{plus}
 use Rattle.cost_vector.proofs.Vectors.{plus-zeros}
 use Rattle.road_network.specs.Network.{Network, IsNetwork}
 use Rattle.road_network.specs.Answers.{IsRelevant}
-use Rattle.road_network.specs.Queries.{IsTooLarge, limit_of, limit_or_none}
+use Rattle.road_network.specs.Queries.{IsTooLarge, limit_of}
 use Rattle.road_network.specs.declared.query.Query.{Query}
 use Rattle.road_network.proofs.WalkLaws.{length_of_walk}
 use Rattle.settled_fronts.proofs.PairLemmas.{in_settled_pairs}
-use Rattle.walk_readback.specs.Found.{HasAllRelevant, HasSettled, IsFound, IsWellFound}
-use Rattle.goal_laws.specs.Goal.{IsBound, IsGoalRelevant}
+use Rattle.walk_readback.specs.Found.{HasAllRelevant, HasSettled}
+use Rattle.goal_laws.specs.Goal.{IsBound, IsGoalRelevant, IsTooLargeToward}
 use Rattle.goal_laws.specs.FoundGoal.{HasAllGoalRelevant}
-use Rattle.goal_laws.proofs.FoundGoalLaws.{well_found_by_goal}
 use Rattle.sweep_parts.specs.Settled.{costs_of}
 use Rattle.node_lists.specs.FoundLists.{FoundLists, found_in}
-use Rattle.sweep_core.specs.Potentials.{IsConsistent, IsRelevantBy, PassesBy, Potential, Zero}
+use Rattle.sweep_core.specs.Potentials.{IsConsistent, IsRelevantBy, Potential, Zero}
 use Rattle.sweep_core.specs.Sweeps.{IsLifted, SettlesAll, lifted}
 use Rattle.sweep_core.proofs.Lifted.{one_cost}
 use Rattle.sweep_core.proofs.Uses.{passes_by_bounds, passes_by_zero, relevant_by_bounds, relevant_by_zero}
-use Rattle.sweep_search.specs.Answers.{IsTooLargeToward}
 use Rattle.sweep_search.specs.Finding.{AreLiftedAt, HasAllBare, HasAllBy, HasLifted, IsBareAt, IsSameFind, IsTooLargeBy}
 
 -- of two facts where all went well a third follows
@@ -100,28 +98,18 @@ module _ (net : Network) (query : Query) where
       );
     }
 
-    -- ---- by the exact bounds, where there is no limit
+    -- ---- by the exact bounds
 
-    module _ (unlimited : query.limit ≡ None) where
-      no_limits : limit_of net.criteria query ≡ no_limit net.criteria
-      no_limits = ap (limit_or_none net.criteria) unlimited
+    pub all_goal_relevant : (f : FoundLists) → HasAllBare net query (λ v h. IsBound net v query.to h) f
+        → HasAllGoalRelevant net (limit_of net.criteria query) (found_in f)
+    all_goal_relevant f all = record {
+      relevant = λ v c.
+          let limit = limit_of net.criteria query in
+          let by = relevant_by_bounds net is query.from query.to v c limit in
+          subst (λ s. HasSettled (found_in f) v c ↔ IsGoalRelevant net s f.target limit v c) (sym all.of_query.start)
+          (subst (λ t. HasSettled (found_in f) v c ↔ IsGoalRelevant net query.from t limit v c) (sym all.of_query.target)
+          (λ settled. by.0 ((all.exact v c).0 ((settled_at f v c).0 settled)), λ relevant. (settled_at f v c).1 ((all.exact v c).1 (by.1 relevant))));
+    }
 
-      pub all_goal_relevant : (f : FoundLists) → HasAllBare net query (λ v h. IsBound net v query.to h) f → HasAllGoalRelevant net (found_in f)
-      all_goal_relevant f all = record {
-        relevant = λ v c.
-            let exact = subst (λ l. Contains (costs_of f.lists v) c ↔ IsRelevantBy net query.from query.to l (λ u h. IsBound net u query.to h) v c) no_limits (all.exact v c) in
-            let by = relevant_by_bounds net is query.from query.to v c in
-            subst (λ s. HasSettled (found_in f) v c ↔ IsGoalRelevant net s f.target v c) (sym all.of_query.start)
-            (subst (λ t. HasSettled (found_in f) v c ↔ IsGoalRelevant net query.from t v c) (sym all.of_query.target)
-            (λ settled. by.0 (exact.0 ((settled_at f v c).0 settled)), λ relevant. (settled_at f v c).1 (exact.1 (by.1 relevant))));
-      }
-
-      pub goal_well_found : (f : FoundLists) → HasAllBare net query (λ v h. IsBound net v query.to h) f → IsFound (found_in f)
-          → IsWellFound net (limit_of net.criteria query) (found_in f)
-      goal_well_found f all found =
-          subst (λ l. IsWellFound net l (found_in f)) (sym no_limits) (well_found_by_goal net is (found_in f) found (all_goal_relevant f all))
-
-      pub too_large_by_bounds : IsTooLargeBy net query (λ v h. IsBound net v query.to h) ↔ IsTooLargeToward net query
-      too_large_by_bounds =
-          subst (λ l. PassesBy net query.from query.to l (λ v h. IsBound net v query.to h) query.budget ↔ IsTooLargeToward net query) (sym no_limits)
-          (passes_by_bounds net is query.from query.to query.budget)
+    pub too_large_by_bounds : IsTooLargeBy net query (λ v h. IsBound net v query.to h) ↔ IsTooLargeToward net query
+    too_large_by_bounds = passes_by_bounds net is query.from query.to (limit_of net.criteria query) query.budget

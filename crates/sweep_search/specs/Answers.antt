@@ -6,22 +6,17 @@ use Rattle.road_network.specs.Queries.{limit_of}
 use Rattle.road_network.specs.declared.query.Query.{Query}
 use Rattle.road_network.specs.declared.query.SearchFault.{SearchFault}
 use Rattle.road_network.specs.declared.query.SearchFault.TheVariants.{Budget}
-use Rattle.goal_laws.specs.Goal.{GoalPasses}
+use Rattle.goal_laws.specs.Goal.{IsTooLargeToward}
 use Rattle.goal_laws.specs.FoundGoal.{HasAllGoalRelevant}
 use Rattle.sweep_search.specs.declared.swept.Swept.{Swept}
 use Rattle.sweep_search.specs.Swept.{found_of}
 
--- the query has more goal-relevant pairs than its budget allows
-abbrev pub IsTooLargeToward : Network → Query → Type 0
-IsTooLargeToward net query = GoalPasses net query.from query.to query.budget
-
--- What such a search answers to a query without a limit: all of it exactly where the query doesn't pass its budget, but for want
--- of memory.
+-- What such a search answers to a query: all of it exactly where the query doesn't pass its budget, but for want of memory.
 pub record AnswersToward (net : Network) (query : Query) (result : Result Swept SearchFault) : Type 0 where
   -- what was found is of this network, and leads from the one end of the query to the other
   pub of_query : IfOk result (λ f. IsOf net query (found_of f))
   -- its settled costs are exactly the goal-relevant pairs of the query
-  pub relevant : IfOk result (λ f. HasAllGoalRelevant net (found_of f))
+  pub relevant : IfOk result (λ f. HasAllGoalRelevant net (limit_of net.criteria query) (found_of f))
   -- so the walks of its costs can be read back
   pub well_found : IfOk result (λ f. IsWellFound net (limit_of net.criteria query) (found_of f))
   -- it comes only where the query doesn't pass its budget

@@ -1,4 +1,4 @@
-ghost use Rattle.std.specs.Prelude.{◌≡◌, IfOk, IsErrOf, None, OnOk};
+ghost use Rattle.std.specs.Prelude.{IfOk, IsErrOf, OnOk};
 ghost use Rattle.road_network.specs.Queries.{IsQuery};
 ghost use Rattle.walk_readback.specs.Answers.{Answers};
 ghost use Rattle.sweep_search.specs.Answers.{AnswersToward};
@@ -36,15 +36,14 @@ pub fn find(alloc: Global, network: &Network<'_>, query: &Query) -> Result<Swept
     Ok(found)
 }
 
-/// Answers a query without a limit: the settled costs of what was found are exactly its goal-relevant pairs. Lower bounds are
-/// looked for as far as they are asked for.
+/// Answers a query: the settled costs of what was found are exactly its goal-relevant pairs within its limit. Lower bounds
+/// are looked for as far as they are asked for.
 pub fn search_toward(
     alloc: Global,
     network: &Network<'_>,
     query: &Query,
 ) -> Result<Swept, SearchFault>
     requires query { IsQuery network.now query.now }
-    requires unlimited { query.now.limit ≡ None }
     ensures { AnswersToward network.now query.now result }
 {
     prove!(network.nodes() >= 1);

@@ -100,7 +100,7 @@ fn find_at_width<const D: usize, L: SettledList<D>, P: Potential>(
     let mut sweep = Sweep::<D, NodeLists<D, L>, BucketQueue<D, L::Cost>>::new::<P>(
         alloc, network, query, potential,
     )?;
-    sweep.run(alloc, network, potential)?;
+    sweep.run(network, potential)?;
     let found = sweep
         .into_lists()
         .into_found(NodeNo(query.from), NodeNo(query.to))?;

@@ -133,8 +133,8 @@ const BUDGETS: &[Row] = &[
     Row {
         words: "goal --from 1 --to 3 X.gr Y.gr",
         files: &[
-            ("X.gr", "p sp 3 4\na 1 2 1\na 2 3 0\na 2 3 3\na 1 3 1\n"),
-            ("Y.gr", "p sp 3 4\na 1 2 1\na 2 3 3\na 2 3 0\na 1 3 3\n"),
+            ("X.gr", ZERO_FIRST),
+            ("Y.gr", ZERO_SECOND),
         ],
         status: 0,
         out: "r 0 1 3 2\np 1 3 1 4\np 4 1 2 1 3\n",
@@ -145,6 +145,10 @@ const BUDGETS: &[Row] = &[
 fn budget_rows() -> &'static [Row] {
     BUDGETS
 }
+
+/// Two files in which the bound of node 2 toward 3 is the cost of no walk.
+const ZERO_FIRST: &str = "p sp 3 4\na 1 2 1\na 2 3 0\na 2 3 3\na 1 3 1\n";
+const ZERO_SECOND: &str = "p sp 3 4\na 1 2 1\na 2 3 3\na 2 3 0\na 1 3 3\n";
 
 /// Two walks of one cost from 1 to 3, of which that of two arcs ends by the lesser arc.
 const LATE: &str = "p sp 3 3\na 2 3 1\na 1 3 2\na 1 2 1\n";
@@ -221,9 +225,207 @@ fn equal_rows() -> &'static [Row] {
     EQUALS
 }
 
+/// Six arcs, and pairs of which some pass small budgets.
+const PAIRS: &[(&str, &str)] = &[
+    ("A.gr", A),
+    ("B.gr", B),
+    ("P", "p aux sp p2p 4\nq 1 3\nq 2 1\nq 1 4\nq 9 1\n"),
+];
+
+/// Batches by directed searches: the replies of `goal` to each pair.
+const BATCHED: &[Row] = &[
+    Row {
+        words: "batch --goal --pairs P A.gr B.gr",
+        files: PAIRS,
+        status: 0,
+        out: "r 0 1 3 1\np 2 1 1 2\nr 0 2 1 0\nr 0 1 4 2\np 2 8 2 1 3\np 4 2 2 2 4\nx 0 9 1 node\n",
+        err: "",
+    },
+    // Goal-relevant pairs count: of 1 to 3 two, of 2 to 1 none, of 1 to 4 five.
+    Row {
+        words: "batch --pairs P --budget 2 --workers 3 --goal A.gr B.gr",
+        files: PAIRS,
+        status: 0,
+        out: "r 0 1 3 1\np 2 1 1 2\nr 0 2 1 0\nx 0 1 4 budget\nx 0 9 1 node\n",
+        err: "",
+    },
+    Row {
+        words: "batch --pairs P --budget 4 --goal A.gr B.gr",
+        files: PAIRS,
+        status: 0,
+        out: "r 0 1 3 1\np 2 1 1 2\nr 0 2 1 0\nx 0 1 4 budget\nx 0 9 1 node\n",
+        err: "",
+    },
+    // Relevant pairs count where the flag isn't given.
+    Row {
+        words: "batch --pairs P --budget 2 A.gr B.gr",
+        files: PAIRS,
+        status: 0,
+        out: "x 0 1 3 budget\nx 0 2 1 budget\nx 0 1 4 budget\nx 0 9 1 node\n",
+        err: "",
+    },
+    // Walks of one cost: the backward-least.
+    Row {
+        words: "batch --goal --pairs P L.gr L.gr L.gr",
+        files: &[("L.gr", LATE), ("P", "p aux sp p2p 2\nq 1 3\nq 2 3\n")],
+        status: 0,
+        out: "r 0 1 3 1\np 2 2 2 2 3 1\nr 0 2 3 1\np 1 1 1 1 1\n",
+        err: "",
+    },
+    Row {
+        words: "batch --goal --budget 4 --pairs P L.gr L.gr",
+        files: &[("L.gr", LONGER), ("P", "p aux sp p2p 1\nq 1 4\n")],
+        status: 0,
+        out: "r 0 1 4 1\np 3 3 3 3 4 1\n",
+        err: "",
+    },
+    // Components that are zero.
+    Row {
+        words: "batch --goal --pairs P X.gr Y.gr",
+        files: &[
+            ("X.gr", ZERO_FIRST),
+            ("Y.gr", ZERO_SECOND),
+            ("P", "p aux sp p2p 1\nq 1 3\n"),
+        ],
+        status: 0,
+        out: "r 0 1 3 2\np 1 3 1 4\np 4 1 2 1 3\n",
+        err: "",
+    },
+    // A flag has no value, is given once, and is no other command's.
+    Row {
+        words: "batch --goal=1 --pairs P A.gr B.gr",
+        files: PAIRS,
+        status: 2,
+        out: "",
+        err: "route: words\n",
+    },
+    Row {
+        words: "batch --goal --goal --pairs P A.gr B.gr",
+        files: PAIRS,
+        status: 2,
+        out: "",
+        err: "route: words\n",
+    },
+    Row {
+        words: "one --goal --from 1 --to 4 A.gr B.gr",
+        files: PAIRS,
+        status: 2,
+        out: "",
+        err: "route: words\n",
+    },
+];
+
+fn batched_rows() -> &'static [Row] {
+    BATCHED
+}
+
+/// Lines of sessions whose searches are directed.
+const ASKED: &[Row] = &[
+    Row {
+        words: "lanes --operator op --sessions s A.gr B.gr",
+        files: &[
+            ("A.gr", A),
+            ("B.gr", B),
+            ("op", ""),
+            (
+                "s1",
+                "g 1 4\ng 4 1\nh 1 4 3 -\nh 1 4 - 2\nh 1 4 - 1\ng 9 1\nh 1 0 - -\ng 1\nh 1 4 3\ng 1 4 1\n",
+            ),
+        ],
+        status: 0,
+        out: "operator\nlane 1\nr 0 1 4 2\np 2 8 2 1 3\np 4 2 2 2 4\nr 0 4 1 0\nl 0 1 4 3 - 1\np 2 8 2 1 3\nl 0 1 4 - 2 1\np 4 2 2 2 4\nl 0 1 4 - 1 0\nx 0 9 1 node\nx 0 1 0 node\nx line\nx line\nx line\n",
+        err: "",
+    },
+    // Budgets that are enough for goal-relevant pairs; bounds leave some of them out, and relevant ones count for `q`.
+    Row {
+        words: "lanes --budget 2 --operator op --sessions s A.gr B.gr",
+        files: &[
+            ("A.gr", A),
+            ("B.gr", B),
+            ("op", ""),
+            (
+                "s1",
+                "q 1 3\ng 1 3\ng 2 1\nq 2 1\ng 1 4\nh 1 4 - 1\nh 1 3 1 1\nh 1 3 2 -\n",
+            ),
+        ],
+        status: 0,
+        out: "operator\nlane 1\nx 0 1 3 budget\nr 0 1 3 1\np 2 1 1 2\nr 0 2 1 0\nx 0 2 1 budget\nx 0 1 4 budget\nl 0 1 4 - 1 0\nl 0 1 3 1 1 0\nl 0 1 3 2 - 1\np 2 1 1 2\n",
+        err: "",
+    },
+    // A limit is asked of costs with the bounds of their nodes: none is within it, and by costs alone two would be.
+    Row {
+        words: "lanes --budget 1 --operator op --sessions s A.gr B.gr",
+        files: &[
+            ("A.gr", A),
+            ("B.gr", B),
+            ("op", ""),
+            ("s1", "h 1 4 - 1\nl 1 4 - 1\nh 1 4 3 -\n"),
+        ],
+        status: 0,
+        out: "operator\nlane 1\nl 0 1 4 - 1 0\nx 0 1 4 budget\nx 0 1 4 budget\n",
+        err: "",
+    },
+    // The bounds are those of the epoch: by those of the files' weights a fourth pair would count.
+    Row {
+        words: "lanes --budget 3 --operator op --sessions s A.gr B.gr",
+        files: &[
+            ("A.gr", A),
+            ("B.gr", B),
+            ("op", "x 3\npublish\n"),
+            ("s1", "w 1\ng 1 4\n"),
+        ],
+        status: 0,
+        out: "operator\nok\nk 1\nlane 1\nk 1\nr 1 1 4 1\np 4 2 2 2 4\n",
+        err: "",
+    },
+    // Arc 2 is shut, and opened again with other weights.
+    Row {
+        words: "lanes --operator op --sessions s A.gr B.gr",
+        files: &[
+            ("A.gr", A),
+            ("B.gr", B),
+            ("op", "x 2\npublish\ns 2 3 3\npublish\n"),
+            ("s1", "w 2\ng 1 4\nh 1 4 - 7\n"),
+        ],
+        status: 0,
+        out: "operator\nok\nk 1\nok\nk 2\nlane 1\nk 2\nr 2 1 4 3\np 2 8 2 1 3\np 4 6 3 1 5 4\np 5 4 2 2 4\nl 2 1 4 - 7 2\np 4 6 3 1 5 4\np 5 4 2 2 4\n",
+        err: "",
+    },
+    Row {
+        words: "lanes --operator op --sessions s A.gr B.gr",
+        files: &[
+            ("A.gr", A),
+            ("B.gr", B),
+            ("op", "x 2\npublish\n"),
+            ("s1", "w 1\ng 1 4\ng 1 3\n"),
+        ],
+        status: 0,
+        out: "operator\nok\nk 1\nlane 1\nk 1\nr 1 1 4 2\np 2 8 2 1 3\np 4 6 3 1 5 4\nr 1 1 3 1\np 2 5 2 1 5\n",
+        err: "",
+    },
+    // Walks of one cost: the backward-least, in three criteria.
+    Row {
+        words: "lanes --operator op --sessions s L.gr L.gr L.gr",
+        files: &[("L.gr", LATE), ("op", ""), ("s1", "g 1 3\nh 1 3 - 2 -\n")],
+        status: 0,
+        out: "operator\nlane 1\nr 0 1 3 1\np 2 2 2 2 3 1\nl 0 1 3 - 2 - 1\np 2 2 2 2 3 1\n",
+        err: "",
+    },
+];
+
+fn asked_rows() -> &'static [Row] {
+    ASKED
+}
+
 /// The tables of these rows.
-pub(super) fn tables() -> [&'static [Row]; 3] {
-    [alike_rows(), budget_rows(), equal_rows()]
+pub(super) fn tables() -> [&'static [Row]; 5] {
+    [
+        alike_rows(),
+        budget_rows(),
+        equal_rows(),
+        batched_rows(),
+        asked_rows(),
+    ]
 }
 
 const WORDS: &str = "goal --from 1 --to 4 A.gr B.gr";

@@ -1,4 +1,6 @@
 mod bounds;
+mod cases;
+mod checked;
 mod directed;
 mod examples;
 mod networks;

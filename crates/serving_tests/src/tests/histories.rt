@@ -2,3 +2,4 @@ mod drawing;
 mod lanes;
 mod replay;
 mod replies;
+mod walks;

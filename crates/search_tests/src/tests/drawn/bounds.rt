@@ -1,6 +1,6 @@
 //! Which pairs are goal-relevant, by lower bounds that are lowered arc by arc.
 use super::networks::{Drawn, DrawnArc};
-use super::walks::{Sums, Walk, all_walks, best_walks, dominates};
+use super::walks::{Sums, Walk, all_walks, best_walks, dominates, is_within};
 use std::alloc::{AllocError, Global};
 
 /// The sums with the weights of an arc added.
@@ -40,15 +40,11 @@ fn lower(bounds: &mut [Option<Sums>], arc: &DrawnArc) {
     }
 }
 
-/// Of each node, by its number, the least sums of single weights along walks to the last node, or none where no walk leads there.
+/// Of each node, by its number, the least sums of single weights along walks to the target, or none where no walk leads there.
 fn all_bounds(alloc: Global, drawn: &Drawn) -> Result<Vec<Option<Sums>>, AllocError> {
     let mut bounds = Vec::new(alloc);
     for node in 0..=drawn.nodes {
-        bounds.push(if node == drawn.nodes {
-            Some([0; 4])
-        } else {
-            None
-        })?;
+        bounds.push(if node == drawn.to { Some([0; 4]) } else { None })?;
     }
     for _ in 0..drawn.nodes {
         for arc in &drawn.arcs {
@@ -58,13 +54,19 @@ fn all_bounds(alloc: Global, drawn: &Drawn) -> Result<Vec<Option<Sums>>, AllocEr
     Ok(bounds)
 }
 
-/// Whether no best cost of the target dominates the walk's with the bound of its node added.
-fn is_goal_relevant(best: &[Walk], bounds: &[Option<Sums>], target: u32, walk: &Walk) -> bool {
+/// Whether the walk's cost with the bound of its node added is within the limit, and no best cost of the target dominates it.
+fn is_goal_relevant(
+    drawn: &Drawn,
+    best: &[Walk],
+    bounds: &[Option<Sums>],
+    walk: &Walk,
+) -> bool {
     let Some(bound) = bound_of(bounds, walk.end) else {
         return false;
     };
     let bounded = added(&walk.cost, &bound);
-    !best.iter().any(|other| other.end == target && dominates(&other.cost, &bounded))
+    is_within(&drawn.limit, &bounded)
+        && !best.iter().any(|other| other.end == drawn.to && dominates(&other.cost, &bounded))
 }
 
 fn added(a: &Sums, b: &Sums) -> Sums {
@@ -75,13 +77,13 @@ fn added(a: &Sums, b: &Sums) -> Sums {
     sums
 }
 
-/// How many goal-relevant pairs the query from the first node to the last one has, without a limit.
+/// How many goal-relevant pairs the query has within its limit.
 pub(super) fn count_goal_relevant(alloc: Global, drawn: &Drawn) -> Result<u32, AllocError> {
     let best = best_walks(alloc, all_walks(alloc, drawn)?)?;
     let bounds = all_bounds(alloc, drawn)?;
     let mut count: u32 = 0;
     for walk in &best {
-        if is_goal_relevant(&best, &bounds, drawn.nodes, walk) {
+        if is_goal_relevant(drawn, &best, &bounds, walk) {
             count = count.saturating_add(1);
         }
     }

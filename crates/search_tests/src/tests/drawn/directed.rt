@@ -1,13 +1,8 @@
 //! Searches that are directed to the target, beside such that aren't.
-ghost use Rattle.std.specs.Prelude.{◌≡◌, None};
-ghost use Rattle.road_network.specs.Queries.{IsQuery};
-
 use super::bounds::count_goal_relevant;
-use super::networks::{Drawn, Ties, draw, graph, with_ties};
-use super::searches::{Search, reply_by};
-use arc_graph::Network;
-use road_network::{MAX_BUDGET, Query, SearchFault};
-use route_io::sure::SureSink;
+use super::networks::{Drawn, Ties, draw, with_ties};
+use super::searches::{Search, refuses_at, reply_within};
+use road_network::MAX_BUDGET;
 use std::alloc::Global;
 use std::process::Abort;
 use std::test::Fail;
@@ -15,35 +10,6 @@ use std::thread::Threads;
 
 /// How many networks are drawn.
 const NETWORKS: u64 = 240;
-
-/// The query of a drawn network without its limit: from its first node to its last.
-fn query_of(rt: &impl Abort, drawn: &Drawn, network: &Network<'_>, budget: u32) -> Query
-    ensures query { IsQuery network.now result }
-    ensures unlimited { result.limit ≡ None }
-{
-    assert!(rt; network.has_node(1) && network.has_node(drawn.nodes));
-    assert!(rt; budget <= MAX_BUDGET);
-    Query {
-        from: 1,
-        to: drawn.nodes,
-        limit: None,
-        budget,
-    }
-}
-
-/// The reply to that query within a budget.
-fn reply_within<R: Threads + Sync + Abort>(
-    rt: &R,
-    alloc: Global,
-    drawn: &Drawn,
-    budget: u32,
-    search: Search,
-) -> Result<Result<SureSink, SearchFault>, Fail> {
-    let (graph, weights) = graph(rt, alloc, drawn)?;
-    let network = Network::new(&graph, &weights);
-    let query = query_of(rt, drawn, &network, budget);
-    reply_by(rt, alloc, &network, &query, search)
-}
 
 /// Whether the directed search within this budget sends that reply.
 fn replies_within<R: Threads + Sync + Abort>(
@@ -59,17 +25,6 @@ fn replies_within<R: Threads + Sync + Abort>(
     }
 }
 
-/// Whether the directed search is refused for this budget.
-fn refuses_at<R: Threads + Sync + Abort>(
-    rt: &R,
-    alloc: Global,
-    drawn: &Drawn,
-    budget: u32,
-) -> Result<bool, Fail> {
-    let fault = reply_within(rt, alloc, drawn, budget, Search::Directed)?.err();
-    Ok(fault == Some(SearchFault::Budget))
-}
-
 /// Whether the directed search answers just where the budget is at least the number of goal-relevant pairs, and then as the other
 /// one does.
 fn is_alike<R: Threads + Sync + Abort>(
@@ -80,7 +35,7 @@ fn is_alike<R: Threads + Sync + Abort>(
 ) -> Result<bool, Fail> {
     let exact = count_goal_relevant(alloc, drawn)?;
     let more = exact.saturating_add(1);
-    let is_refused = exact == 0 || refuses_at(rt, alloc, drawn, exact - 1)?;
+    let is_refused = exact == 0 || refuses_at(rt, alloc, drawn, exact - 1, Search::Directed)?;
     let plain = reply_within(rt, alloc, drawn, MAX_BUDGET, other)??;
     Ok(
         is_refused

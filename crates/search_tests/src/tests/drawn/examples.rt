@@ -1,12 +1,9 @@
-ghost use Rattle.road_network.specs.Queries.{IsQuery};
-
-use super::networks::{Drawn, DrawnArc, graph};
-use super::searches::{Search, reply, reply_by};
+use super::networks::{Drawn, DrawnArc, graph, query_of};
+use super::searches::{Search, refuses_at, reply, reply_within};
 use arc_graph::Network;
-use road_network::{MAX_BUDGET, Query, SearchFault};
-use route_io::sure::SureSink;
+use road_network::SearchFault;
 use route_io::{Gate, Phase};
-use std::alloc::Global;
+use std::alloc::{AllocError, Global};
 use std::process::Abort;
 use std::sync::atomic::{AtomicU64, Ordering};
 use std::test::Fail;
@@ -159,6 +156,36 @@ const EXAMPLES: &[Example] = &[
         goal_relevant: 7,
         pieces: (3, 2),
     },
+    Example {
+        name: "the second cost goes by another arc, and the first by the lesser of two",
+        criteria: 2,
+        nodes: 3,
+        arcs: &[
+            [1, 2, 2, 1, 0, 0],
+            [1, 2, 2, 2, 0, 0],
+            [1, 2, 3, 0, 0, 0],
+            [2, 3, 1, 1, 0, 0],
+            [2, 3, 1, 1, 0, 0],
+        ],
+        from: 1,
+        to: 3,
+        reply: "r 0 1 3 2\np 3 2 2 1 4\np 4 1 2 3 4\n",
+        relevant: 5,
+        goal_relevant: 5,
+        pieces: (3, 2),
+    },
+    Example {
+        name: "an arc past the other node, and the way through it",
+        criteria: 2,
+        nodes: 3,
+        arcs: &[[1, 2, 1, 2, 0, 0], [2, 3, 2, 5, 0, 0], [1, 3, 6, 0, 0, 0]],
+        from: 1,
+        to: 3,
+        reply: "r 0 1 3 2\np 3 7 2 1 2\np 6 0 1 3\n",
+        relevant: 4,
+        goal_relevant: 4,
+        pieces: (3, 3),
+    },
 ];
 
 /// Costs of more than 32 bits, in each component of some query.
@@ -217,21 +244,15 @@ const WIDE: &[Example] = &[
     },
 ];
 
-/// The network of an example.
-fn drawn(alloc: Global, example: &Example) -> Result<Drawn, Fail> {
-    let mut arcs = Vec::new(alloc);
-    for arc in example.arcs {
-        arcs.push(*arc)?;
-    }
-    let mut limit = Vec::new(alloc);
-    for _ in 0..example.criteria {
-        limit.push(None)?;
-    }
+/// The network and the query of an example.
+fn drawn(alloc: Global, example: &Example) -> Result<Drawn, AllocError> {
     Ok(Drawn {
-        name: 0,
         nodes: example.nodes,
-        arcs,
-        limit,
+        criteria: example.criteria,
+        arcs: Vec::from_slice(alloc, example.arcs)?,
+        from: example.from,
+        to: example.to,
+        limit: Vec::new(alloc),
     })
 }
 
@@ -273,10 +294,11 @@ fn compare_rounds<R: Threads + Sync + Abort>(
     count: u32,
 ) -> Result<(), Fail> {
     let name = example.name;
-    let (graph, weights) = graph(rt, alloc, &drawn(alloc, example)?)?;
+    let drawn = drawn(alloc, example)?;
+    let (graph, weights) = graph(rt, alloc, &drawn)?;
     let network = Network::new(&graph, &weights);
     assert!(rt; 1 <= example.relevant && 1 <= count && count <= 64);
-    let query = query_of(rt, example, &network, example.relevant);
+    let query = query_of(rt, &drawn, &network, example.relevant);
     let counts = no_pieces();
     let workers = Workers::new(rt, count, &counts);
     let found = bulk_search::find(&workers, alloc, &network, &query)?;
@@ -290,36 +312,10 @@ fn compare_rounds<R: Threads + Sync + Abort>(
         text.sent() == example.reply.as_bytes(),
         "{name}: the reply"
     );
-    let less = query_of(rt, example, &network, example.relevant - 1);
+    let less = query_of(rt, &drawn, &network, example.relevant - 1);
     let refused = bulk_search::find(&workers, alloc, &network, &less).err();
     assert!(rt; refused == Some(SearchFault::Budget), "{name}: refusal");
     Ok(())
-}
-
-/// The reply to the query of an example after such a search within a budget, or why it was refused.
-fn reply_within<R: Threads + Sync + Abort>(
-    rt: &R,
-    alloc: Global,
-    example: &Example,
-    search: Search,
-    budget: u32,
-) -> Result<Result<SureSink, SearchFault>, Fail> {
-    let (graph, weights) = graph(rt, alloc, &drawn(alloc, example)?)?;
-    let network = Network::new(&graph, &weights);
-    let query = query_of(rt, example, &network, budget);
-    reply_by(rt, alloc, &network, &query, search)
-}
-
-/// Whether such a search is refused for this budget.
-fn refuses_at<R: Threads + Sync + Abort>(
-    rt: &R,
-    alloc: Global,
-    example: &Example,
-    search: Search,
-    budget: u32,
-) -> Result<bool, Fail> {
-    let fault = reply_within(rt, alloc, example, search, budget)?.err();
-    Ok(fault == Some(SearchFault::Budget))
 }
 
 /// Compares the reply after such a search within a budget that just suffices. With one less the query is refused.
@@ -331,26 +327,13 @@ fn compare<R: Threads + Sync + Abort>(
     budget: u32,
 ) -> Result<(), Fail> {
     let name = example.name;
-    let text = reply_within(rt, alloc, example, search, budget)??;
+    let drawn = drawn(alloc, example)?;
+    let text = reply_within(rt, alloc, &drawn, budget, search)??;
     let is_sent = text.sent() == example.reply.as_bytes();
     assert!(rt; is_sent, "{name}: the reply by {search:?}");
-    let is_refused = budget == 0 || refuses_at(rt, alloc, example, search, budget - 1)?;
+    let is_refused = budget == 0 || refuses_at(rt, alloc, &drawn, budget - 1, search)?;
     assert!(rt; is_refused, "{name}: the refusal by {search:?}");
     Ok(())
-}
-
-/// The query of an example.
-fn query_of(rt: &impl Abort, example: &Example, network: &Network<'_>, budget: u32) -> Query
-    ensures { IsQuery network.now result }
-{
-    assert!(rt; budget <= MAX_BUDGET);
-    assert!(rt; network.has_node(example.from) && network.has_node(example.to));
-    Query {
-        from: example.from,
-        to: example.to,
-        limit: None,
-        budget,
-    }
 }
 
 fn examples() -> &'static [Example] {

@@ -1,8 +1,11 @@
-ghost use Rattle.std.specs.Prelude.{IfOk};
+ghost use Rattle.std.specs.Prelude.{◌≡◌, length, IfOk};
 ghost use Rattle.arc_graph.specs.Graph.{Match};
+ghost use Rattle.road_network.specs.Queries.{IsQuery, limit_or_none};
 
 use crate::tests::networks::join;
-use arc_graph::{Graph, Weights};
+use arc_graph::{Graph, Network, Weights};
+use cost_vector::Limit;
+use road_network::{MAX_BUDGET, Query};
 use std::alloc::{AllocError, Global};
 use std::process::Abort;
 use std::test::Fail;
@@ -34,13 +37,15 @@ impl Draws {
 /// An arc with its tail, its head and the weights of four criteria, of which those in use aren't all 0.
 pub(super) type DrawnArc = [u32; 6];
 
-/// A network of few nodes with loops, parallel arcs, equal weights and zeros, and the limit of a query from node 1 to the
-/// last one.
+/// A network of few nodes, and a query over it.
 #[derive(Drop)]
 pub(super) struct Drawn {
-    pub name: u64,
     pub nodes: u32,
+    pub criteria: usize,
     pub arcs: Vec<DrawnArc>,
+    pub from: u32,
+    pub to: u32,
+    /// The places of its limit, or none where it has no limit.
     pub limit: Vec<Option<u64>>,
 }
 
@@ -63,6 +68,7 @@ fn draw_arc(draws: &mut Draws, nodes: u32, criteria: u32, most: u32) -> DrawnArc
     arc
 }
 
+/// A network with loops, parallel arcs, equal weights and zeros, and a query from its first node to its last.
 pub(super) fn draw(alloc: Global, name: u64) -> Result<Drawn, AllocError> {
     let mut draws = Draws::new(name);
     let criteria = draws.below(3).saturating_add(2);
@@ -80,9 +86,11 @@ pub(super) fn draw(alloc: Global, name: u64) -> Result<Drawn, AllocError> {
         limit.push(if is_free { None } else { Some(place) })?;
     }
     Ok(Drawn {
-        name,
         nodes,
+        criteria: criteria as usize,
         arcs,
+        from: 1,
+        to: nodes,
         limit,
     })
 }
@@ -121,6 +129,31 @@ fn tie(arc: &mut DrawnArc, ties: Ties) {
 pub(super) fn graph(rt: &impl Abort, alloc: Global, drawn: &Drawn) -> Result<(Graph, Weights), Fail>
     ensures { IfOk result (λ r. Match r.0 r.1) }
 {
-    let criteria = drawn.limit.len();
-    Ok(join(rt, alloc, drawn.nodes, &drawn.arcs, criteria)?)
+    Ok(join(rt, alloc, drawn.nodes, &drawn.arcs, drawn.criteria)?)
+}
+
+/// The query within a budget.
+pub(super) fn query_of(rt: &impl Abort, drawn: &Drawn, network: &Network<'_>, budget: u32) -> Query
+    ensures query { IsQuery network.now result }
+    ensures budget { result.budget ≡ budget }
+{
+    assert!(rt; network.has_node(drawn.from) && network.has_node(drawn.to));
+    assert!(rt; budget <= MAX_BUDGET);
+    Query {
+        from: drawn.from,
+        to: drawn.to,
+        limit: limit_of(rt, &drawn.limit, network),
+        budget,
+    }
+}
+
+/// The limit with these places over a network, if there are some.
+fn limit_of(rt: &impl Abort, places: &[Option<u64>], network: &Network<'_>) -> Option<Limit>
+    ensures { length (limit_or_none network.now.criteria result) ≡ network.now.criteria }
+{
+    if places.is_empty() {
+        return None;
+    }
+    assert!(rt; 2 <= places.len() && places.len() <= 4 && places.len() == network.criteria());
+    Some(Limit::of_places(places))
 }

@@ -2,6 +2,7 @@
 ghost use Rattle.road_network.specs.Queries.{IsQuery, limit_of};
 ghost use Rattle.walk_readback.specs.Found.{IsOf, IsWellFound};
 
+use super::networks::{Drawn, graph, query_of};
 use answer_writer::put_answer;
 use arc_graph::Network;
 use road_network::{AnswerKind, Query, SearchFault};
@@ -37,8 +38,34 @@ pub(super) enum Search {
     Directed,
 }
 
+/// The reply to the query of a drawn network within a budget, after such a search, or why it was refused.
+pub(super) fn reply_within<R: Threads + Sync + Abort>(
+    rt: &R,
+    alloc: Global,
+    drawn: &Drawn,
+    budget: u32,
+    search: Search,
+) -> Result<Result<SureSink, SearchFault>, Fail> {
+    let (graph, weights) = graph(rt, alloc, drawn)?;
+    let network = Network::new(&graph, &weights);
+    let query = query_of(rt, drawn, &network, budget);
+    reply_by(rt, alloc, &network, &query, search)
+}
+
+/// Whether such a search is refused for this budget.
+pub(super) fn refuses_at<R: Threads + Sync + Abort>(
+    rt: &R,
+    alloc: Global,
+    drawn: &Drawn,
+    budget: u32,
+    search: Search,
+) -> Result<bool, Fail> {
+    let fault = reply_within(rt, alloc, drawn, budget, search)?.err();
+    Ok(fault == Some(SearchFault::Budget))
+}
+
 /// The reply to a query after such a search, or why it was refused.
-pub(super) fn reply_by<R: Threads + Sync + Abort>(
+fn reply_by<R: Threads + Sync + Abort>(
     rt: &R,
     alloc: Global,
     network: &Network<'_>,
@@ -53,13 +80,10 @@ pub(super) fn reply_by<R: Threads + Sync + Abort>(
             Ok(found) => Ok(Ok(reply(alloc, network, query, &found)?)),
             Err(fault) => Ok(Err(fault)),
         },
-        Search::Directed => {
-            assert!(rt; query.limit.is_none());
-            match sweep_search::search_toward(alloc, network, query) {
-                Ok(found) => Ok(Ok(reply(alloc, network, query, &found)?)),
-                Err(fault) => Ok(Err(fault)),
-            }
-        }
+        Search::Directed => match sweep_search::search_toward(alloc, network, query) {
+            Ok(found) => Ok(Ok(reply(alloc, network, query, &found)?)),
+            Err(fault) => Ok(Err(fault)),
+        },
     }
 }
 

@@ -5,7 +5,7 @@ use std::alloc::{AllocError, Global};
 /// Components of a cost, of which those not in use are 0.
 pub(super) type Sums = [u64; 4];
 
-/// A walk from node 1.
+/// A walk from the first node of a query.
 #[derive(Drop)]
 pub(super) struct Walk {
     pub arcs: Vec<u32>,
@@ -46,15 +46,15 @@ pub(super) fn dominates(a: &Sums, b: &Sums) -> bool {
     a != b && a.iter().zip(b).all(|(x, y)| x <= y)
 }
 
-/// All walks from node 1 that come to no node twice.
+/// All walks from the query's first node that come to no node twice.
 pub(super) fn all_walks(alloc: Global, drawn: &Drawn) -> Result<Vec<Walk>, AllocError> {
     let mut nodes = Vec::new(alloc);
-    nodes.push(1)?;
+    nodes.push(drawn.from)?;
     let mut last = Vec::new(alloc);
     last.push(Walk {
         arcs: Vec::new(alloc),
         nodes,
-        end: 1,
+        end: drawn.from,
         cost: [0; 4],
     })?;
     let mut all = Vec::new(alloc);
@@ -75,7 +75,7 @@ pub(super) fn all_walks(alloc: Global, drawn: &Drawn) -> Result<Vec<Walk>, Alloc
     Ok(all)
 }
 
-/// What a query is to answer: the best costs of the last node within the limit, ascending, each with its backward-least
+/// What a query is to answer: the best costs of its target within the limit, ascending, each with its backward-least
 /// walk, and how many relevant pairs there are.
 #[derive(Drop)]
 pub(super) struct Wanted {
@@ -103,7 +103,7 @@ pub(super) fn best_walks(alloc: Global, all: Vec<Walk>) -> Result<Vec<Walk>, All
     Ok(best)
 }
 
-fn is_within(limit: &[Option<u64>], cost: &Sums) -> bool {
+pub(super) fn is_within(limit: &[Option<u64>], cost: &Sums) -> bool {
     limit
         .iter()
         .zip(cost)
@@ -112,7 +112,7 @@ fn is_within(limit: &[Option<u64>], cost: &Sums) -> bool {
 
 pub(super) fn enumerate(alloc: Global, drawn: &Drawn) -> Result<Wanted, AllocError> {
     let best = best_walks(alloc, all_walks(alloc, drawn)?)?;
-    let target = drawn.nodes;
+    let target = drawn.to;
     let mut relevant: u32 = 0;
     for walk in &best {
         let is_beaten = best.iter().any(|other| other.end == target
@@ -137,7 +137,8 @@ pub(super) fn wanted_reply(
     drawn: &Drawn,
     wanted: &Wanted,
 ) -> Result<String, AllocError> {
-    let mut text = format!(in alloc; "l 0 1 {}", drawn.nodes)?;
+    let head = if drawn.limit.is_empty() { "r" } else { "l" };
+    let mut text = format!(in alloc; "{head} 0 {} {}", drawn.from, drawn.to)?;
     for place in &drawn.limit {
         match place {
             Some(most) => put_number(alloc, &mut text, *most)?,
@@ -147,7 +148,7 @@ pub(super) fn wanted_reply(
     put_number(alloc, &mut text, wanted.walks.len() as u64)?;
     text.push_str("\n")?;
     for walk in &wanted.walks {
-        put_walk(alloc, &mut text, walk, drawn.limit.len())?;
+        put_walk(alloc, &mut text, walk, drawn.criteria)?;
     }
     Ok(text)
 }

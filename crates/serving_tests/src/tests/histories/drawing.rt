@@ -100,7 +100,7 @@ impl Draws {
     /// A line of a session, also one of a node or an epoch that isn't there.
     fn asked(&mut self, nodes: u32, first: u32) -> Asked {
         let (from, to) = (self.draw(1, nodes), self.draw(0, nodes.saturating_add(2)));
-        let (word, limit) = match self.draw(0, 8) {
+        let (word, limit) = match self.draw(0, 11) {
             0 => return Asked::Epoch,
             1..=2 => {
                 return Asked::Wait {
@@ -109,7 +109,9 @@ impl Draws {
             }
             3..=4 => ("q", [None; 2]),
             5 => ("c", [None; 2]),
-            _ => ("l", [self.place(), self.place()]),
+            6..=7 => ("g", [None; 2]),
+            8 => ("l", [self.place(), self.place()]),
+            _ => ("h", [self.place(), self.place()]),
         };
         Asked::Query(AskedQuery {
             word,

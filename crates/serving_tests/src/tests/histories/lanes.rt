@@ -159,7 +159,7 @@ fn compare(
 ) -> Result<(), Fail> {
     assert_numbered(rt, history.name, report, asked.len());
     let numbers = report.numbers();
-    let wanted = wanted_lines(rt, alloc, history, replay, numbers, asked)?;
+    let wanted = wanted_lines(alloc, history, replay, numbers, asked)?;
     assert_lines(rt, history.name, from_utf8(link.to.sent())?, &wanted);
     Ok(())
 }
@@ -174,7 +174,6 @@ fn assert_numbered(rt: &impl Abort, name: u64, report: &LaneReport, count: usize
 
 /// The lines that are wanted, where the replies name these numbers.
 fn wanted_lines(
-    rt: &impl Abort,
     alloc: Global,
     history: &History,
     replay: &Replay,
@@ -185,7 +184,7 @@ fn wanted_lines(
     for (asked, &number) in asked.iter().zip(numbers) {
         let states = states_of(history, replay, number).ok_or("an epoch that never was")?;
         let epoch = Epoch { number, states };
-        put_reply(rt, alloc, history, &epoch, asked, &mut wanted)?;
+        put_reply(alloc, history, &epoch, asked, &mut wanted)?;
     }
     Ok(wanted)
 }

@@ -1,12 +1,10 @@
-//! What a session's lines are replied at the epochs that the replies name, by a plain search.
+//! What a session's lines are replied at the epochs that the replies name, by an enumeration of walks.
 ghost use Rattle.std.specs.Prelude.{IfOk};
 ghost use Rattle.arc_graph.specs.Graph.{Match};
 
 use super::drawing::{Asked, AskedQuery, History, State};
-use arc_graph::{ArcFile, ArcLine, Graph, Network, Weights, join_files};
-use cost_vector::{Cost, Limit};
-use plain_search::plain_search;
-use road_network::{MAX_BUDGET, Query, SearchFault};
+use super::walks::{Sums, enumerate};
+use arc_graph::{ArcFile, ArcLine, Graph, Weights, join_files};
 use std::alloc::{AllocError, Global};
 use std::process::Abort;
 use std::test::Fail;
@@ -66,7 +64,7 @@ pub(super) fn sent(alloc: Global, asked: &Asked) -> Result<String, AllocError> {
 /// The bounds of a line, which one of costs or of walks lacks.
 fn bounds(alloc: Global, query: &AskedQuery) -> Result<String, AllocError> {
     let mut text = String::new(alloc);
-    if query.word == "l" {
+    if query.word == "l" || query.word == "h" {
         for place in query.limit {
             match place {
                 Some(most) => text.push_str(&format!(in alloc; " {most}")?)?,
@@ -86,16 +84,15 @@ pub(super) struct Epoch<'e> {
 
 /// Appends the lines of a reply at an epoch. Of a walk's line it is the front, which has its cost.
 pub(super) fn put_reply(
-    rt: &impl Abort,
     alloc: Global,
     history: &History,
     epoch: &Epoch<'_>,
     asked: &Asked,
     lines: &mut Vec<String>,
-) -> Result<(), Fail> {
+) -> Result<(), AllocError> {
     let number = epoch.number;
     let line = match *asked {
-        Asked::Query(query) => return put_answer(rt, alloc, history, epoch, &query, lines),
+        Asked::Query(query) => return put_answer(alloc, history, epoch, &query, lines),
         Asked::Wait { epoch } if number < epoch => format!(in alloc; "x {number} closed")?,
         _ => format!(in alloc; "k {number}")?,
     };
@@ -104,60 +101,35 @@ pub(super) fn put_reply(
 
 /// Appends the lines of an answer or of a refusal.
 fn put_answer(
-    rt: &impl Abort,
     alloc: Global,
     history: &History,
     epoch: &Epoch<'_>,
     query: &AskedQuery,
     lines: &mut Vec<String>,
-) -> Result<(), Fail> {
+) -> Result<(), AllocError> {
     let (number, from, to) = (epoch.number, query.from, query.to);
     let nodes = 1..=history.nodes;
     if !nodes.contains(&from) || !nodes.contains(&to) {
         return Ok(lines.push(format!(in alloc; "x {number} {from} {to} node")?)?);
     }
-    match best_costs(rt, alloc, history, epoch, query)? {
-        Ok(costs) => put_costs(rt, alloc, number, query, &costs, lines),
-        Err(SearchFault::Budget) => {
-            Ok(lines.push(format!(in alloc; "x {number} {from} {to} budget")?)?)
-        }
-        Err(fault) => Err(fault.into()),
+    let wanted = enumerate(alloc, history, epoch.states, query)?;
+    if wanted.relevant > history.budget {
+        return Ok(lines.push(format!(in alloc; "x {number} {from} {to} budget")?)?);
     }
-}
-
-/// What the plain search answers.
-fn best_costs(
-    rt: &impl Abort,
-    alloc: Global,
-    history: &History,
-    epoch: &Epoch<'_>,
-    query: &AskedQuery,
-) -> Result<Result<Vec<Cost>, SearchFault>, Fail> {
-    let (graph, weights) = network(rt, alloc, history, epoch.states)?;
-    let network = Network::new(&graph, &weights);
-    assert!(rt; network.criteria() == 2 && history.budget <= MAX_BUDGET);
-    assert!(rt; network.has_node(query.from) && network.has_node(query.to));
-    let query = Query {
-        from: query.from,
-        to: query.to,
-        limit: Some(Limit::of_places(&query.limit)),
-        budget: history.budget,
-    };
-    Ok(plain_search(alloc, &network, &query))
+    put_costs(alloc, number, query, &wanted.costs, lines)
 }
 
 /// Appends the lines of an answer of these costs.
 fn put_costs(
-    rt: &impl Abort,
     alloc: Global,
     number: u32,
     query: &AskedQuery,
-    costs: &[Cost],
+    costs: &[Sums],
     lines: &mut Vec<String>,
-) -> Result<(), Fail> {
+) -> Result<(), AllocError> {
     let (from, to, count) = (query.from, query.to, costs.len());
     let bounds = bounds(alloc, query)?;
-    let head = if query.word == "l" { "l" } else { "r" };
+    let head = if bounds.is_empty() { "r" } else { "l" };
     lines.push(format!(in alloc; "{head} {number} {from} {to}{bounds} {count}")?)?;
     let (word, behind) = if query.word == "c" {
         ("v", "")
@@ -165,8 +137,7 @@ fn put_costs(
         ("p", " ")
     };
     for cost in costs {
-        assert!(rt; cost.count() == 2);
-        let (one, two) = (cost.component(0), cost.component(1));
+        let (one, two) = (cost[0], cost[1]);
         lines.push(format!(in alloc; "{word} {one} {two}{behind}")?)?;
     }
     Ok(())

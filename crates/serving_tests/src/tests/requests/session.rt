@@ -21,15 +21,27 @@ fn shown_request(alloc: Global, request: &SessionRequest) -> Result<String, Allo
     match request {
         SessionRequest::Costs { from, to } => format!(in alloc; "costs {from} {to}"),
         SessionRequest::Walks { from, to } => format!(in alloc; "walks {from} {to}"),
-        SessionRequest::Within { from, to, limit } => shown_within(alloc, *from, *to, limit),
+        SessionRequest::Goal { from, to } => format!(in alloc; "goal {from} {to}"),
+        SessionRequest::Within { from, to, limit } => {
+            shown_within(alloc, "within", *from, *to, limit)
+        }
+        SessionRequest::GoalWithin { from, to, limit } => {
+            shown_within(alloc, "goal within", *from, *to, limit)
+        }
         SessionRequest::Wait { epoch } => format!(in alloc; "wait {epoch}"),
         SessionRequest::Epoch => String::from_str(alloc, "epoch"),
         SessionRequest::Bye => String::from_str(alloc, "bye"),
     }
 }
 
-fn shown_within(alloc: Global, from: u32, to: u32, limit: &Limit) -> Result<String, AllocError> {
-    let mut text = format!(in alloc; "within {from} {to}:")?;
+fn shown_within(
+    alloc: Global,
+    word: &str,
+    from: u32,
+    to: u32,
+    limit: &Limit,
+) -> Result<String, AllocError> {
+    let mut text = format!(in alloc; "{word} {from} {to}:")?;
     for place in 0..limit.count() {
         match limit.place(place) {
             Some(most) => write!(text, " {most}")?,
@@ -47,6 +59,8 @@ const QUERIES: &[Reading] = &[
     ("q 0001 04", "walks 1 4"),
     ("q 0 0", "walks 0 0"),
     ("q 4294967295 1", "walks 4294967295 1"),
+    ("g 1 4", "goal 1 4"),
+    ("  g 4\t01", "goal 4 1"),
     ("q 00004294967295 1", "walks 4294967295 1"),
 ];
 
@@ -62,6 +76,10 @@ const NO_QUERIES: &[Reading] = &[
     ("q", "other"),
     ("q 1 4 1", "other"),
     ("Q 1 4", "other"),
+    ("g 1", "other"),
+    ("g 1 4 1", "other"),
+    ("g 1 4294967296", "other"),
+    ("G 1 4", "other"),
     ("q1 4", "other"),
     ("q 1 4\r", "other"),
 ];
@@ -103,6 +121,7 @@ const LIMITS: &[Reading] = &[
     ("l 1 4 3 -", "within 1 4: 3 -"),
     ("l 1 4 3 3", "within 1 4: 3 3"),
     ("l 1 4 - -", "within 1 4: - -"),
+    ("h 1 4 - 3", "goal within 1 4: - 3"),
     (" l\t1 4 - 007", "within 1 4: - 7"),
     ("l 1 4 0 4294967296", "within 1 4: 0 4294967296"),
     (
@@ -114,6 +133,9 @@ const LIMITS: &[Reading] = &[
 const NO_LIMITS: &[Reading] = &[
     ("l 1 4 18446744073709551616 -", "other"),
     ("l 1 4 3", "other"),
+    ("h 1 4 3", "other"),
+    ("h 1 4 3 - -", "other"),
+    ("h 1 4", "other"),
     ("l 1 4", "other"),
     ("l 1", "other"),
     ("l", "other"),

@@ -31,4 +31,4 @@ pub returns : goal.returns
 returns g c =
     let read = rw c.deref.ensures.value at c.in_ok-graph.ensures.read in
     ends_over_pairs (batch_asked c.args.asked.now) _ _ _ _ read c.in_ok-graph.ensures.folder _ _ _ _ c.in_ok-pairs.ensures.read
-    c.in_ok-pairs.ensures.folder (rw (c.deref-2.ensures.value, c.new-network.ensures) at c.reply_each.ensures)
+    c.in_ok-pairs.ensures.folder (rw (c.deref-2.ensures.value, c.new-network.ensures, c.mode_of.ensures) at c.reply_each.ensures)

@@ -1,5 +1,6 @@
 use Rattle.std.proofs.Common.{rules}
 use Rattle.std.proofs.lemmas.Result.{err_from_is_err_and}
+use Rattle.session_core.specs.declared.mode.SearchMode.TheVariants.{Plain}
 use Rattle.still_commands.specs.Queries.{QueryReplies}
 use Rattle.still_commands.proofs.FilesReadLemmas.{ends_at_files, ends_over}
 use Rattle.still_commands.proofs.QueryLemmas.{asked_unlimited}
@@ -9,7 +10,7 @@ pub returns-in_err-graph : goal.returns-in_err-graph
 returns-in_err-graph g c =
     let p = err_from_is_err_and c.from_residual.result c.from_residual.ensures.1 in
     let stop = rw c.deref.ensures.value at c.in_err-graph.ensures.read in
-    rw (p.1, p.2) (ends_at_files (QueryReplies c.args.asked.now.kind c.args.asked.now.query) _ _ _ _ stop c.in_err-graph.ensures.folder)
+    rw (p.1, p.2) (ends_at_files (QueryReplies Plain c.args.asked.now.kind c.args.asked.now.query) _ _ _ _ stop c.in_err-graph.ensures.folder)
 
 pub reply_once-requires : goal.reply_once-requires
 reply_once-requires g c = (search rules, (search rules, asked_unlimited _ c.args.asked.now.query c.requires.limits.unlimited c.requires.limits.limits.budget))
@@ -17,4 +18,4 @@ reply_once-requires g c = (search rules, (search rules, asked_unlimited _ c.args
 pub returns : goal.returns
 returns g c =
     let read = rw c.deref.ensures.value at c.in_ok-graph.ensures.read in
-    ends_over (QueryReplies c.args.asked.now.kind c.args.asked.now.query) _ _ _ _ _ _ _ _ read c.in_ok-graph.ensures.folder (rw c.new-network.ensures at c.reply_once.ensures _)
+    ends_over (QueryReplies Plain c.args.asked.now.kind c.args.asked.now.query) _ _ _ _ _ _ _ _ read c.in_ok-graph.ensures.folder (rw c.new-network.ensures at c.reply_once.ensures _)

@@ -13,12 +13,12 @@ of-height-requires g c =
     let has = subst (IsHeightIfAny (g.P.Potential.height net t) c.args.start.0) c.in-Some.is c.in_ok-height.ensures.exact in
     (search rules, is.whole c.args.start.0 c.in-Some.height has ∙ c.requires.criteria)
 
-pub returns-then-not-is_within-clause-start : goal.returns-then-not-is_within-clause-start
-returns-then-not-is_within-clause-start g c = λ h other within.
+pub returns-then-not-allows-clause-start : goal.returns-then-not-allows-clause-start
+returns-then-not-allows-clause-start g c = λ h other within.
     let net = c.args.network.now in let t = c.args.target.0 in
     let is = g.met.P.Potential.consistent net t c.nodes.ensures.network c.requires.target in
     let has = subst (IsHeightIfAny (g.P.Potential.height net t) c.args.start.0) c.in-Some.is c.in_ok-height.ensures.exact in
-    iff_false (c.is_within.ensures c.args.limit.now c.greatest_within.ensures) c.if-not-is_within.true
+    iff_false c.allows.ensures c.if-not-allows.true
     (subst (Within c.args.limit.now) (is.one c.args.start.0 h c.in-Some.height other has ∙ sym c.of-height.ensures) within)
 
 pub returns-in_default-stored-clause-too_wide : goal.returns-in_default-stored-clause-too_wide
@@ -32,5 +32,6 @@ returns-in_default-stored-clause-too_wide g c = λ _.
       from = inl (refl, refl);
       height = c.in-Some.height;
       has = has;
+      within = subst (Within c.args.limit.now) sum (c.allows.ensures.0 c.if-not-allows.false);
       exceeds = subst (λ z. ¬ All (λ x. x < g.C.Part.Part.bound) z) sum c.in_default-stored.ensures.room;
     }

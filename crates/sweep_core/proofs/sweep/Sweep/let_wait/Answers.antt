@@ -1,13 +1,12 @@
-use Rattle.std.proofs.Common.{◌≡◌, ◌∙◌, ◌∷◌, inl, inr, refl, sym, subst}
+use Rattle.std.proofs.Common.{◌≡◌, ◌∷◌, inl, inr, refl, sym, subst}
 use Rattle.std.specs.Prelude.{IsPermutation, OnOk}
-use Rattle.std.proofs.lemmas.Bool.{false≢true}
 use Rattle.waiting_item.specs.Waiting.{as_waiting}
-use Rattle.sweep_core.specs.Sweeps.{LetsWait, Sweep, with_queue, without_queue}
+use Rattle.sweep_core.specs.Sweeps.{LetsWait, Sweep, with_queue}
 use Rattle.sweep_core.proofs.StepLemmas.{on_ok, on_ok_of}
 use Rattle.sweep_core.proofs.sweep.Sweep.let_wait.Goals as goal
 
-pub returns-then-not-can_settle-clause-waits : goal.returns-then-not-can_settle-clause-waits
-returns-then-not-can_settle-clause-waits g c = inl (c.can_settle.ensures.ruled_out (λ yes. false≢true (sym c.if-not-can_settle.true ∙ yes)), refl)
+pub returns-then-is_spent-clause-waits : goal.returns-then-is_spent-clause-waits
+returns-then-is_spent-clause-waits g c = inl (c.is_spent.ensures.0 c.if-is_spent.true, refl)
 
 pub returns-clause-rest : goal.returns-clause-rest
 returns-clause-rest g c =
@@ -18,7 +17,5 @@ pub returns-clause-waits : goal.returns-clause-waits
 returns-clause-waits g c =
     let s = c.args.self.now in let after = g.Q.LeastQueue.waiting c.put.new.self in
     let i = as_waiting g.S.Cost.StoredCost.components c.args.item.now in
-    on_ok_of _ (LetsWait (without_queue s) i s.queue after) (λ _ moved. inr (
-      c.can_settle.ensures.within c.if-not-can_settle.false,
-      subst (λ (z : Sweep). IsPermutation (i ∷ z.queue) after) c.self.view_is moved,
-    )) c.put.result c.put.ensures
+    on_ok_of _ (LetsWait s.settled s.target i s.queue after) (λ _ moved. inr (subst (λ (z : Sweep). IsPermutation (i ∷ z.queue) after) c.self.view_is moved))
+    c.put.result c.put.ensures

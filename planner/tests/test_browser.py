@@ -96,8 +96,10 @@ class Browser:
             time.sleep(0.05)
 
     def rest(self) -> None:
-        self.wait(lambda: not self.run("return page.roads.isLoading()"))
-        time.sleep(0.4)
+        """Waits for the map to have moved, and for its tiles."""
+        for _ in range(2):
+            time.sleep(0.4)
+            self.wait(lambda: not self.run("return page.roads.isLoading()"))
 
     def ask(self, source: str, target: str) -> None:
         self.type("from", source)

@@ -10,6 +10,7 @@ import hashlib
 import sys
 from pathlib import Path
 
+from saminoha_planner.aside import Aside
 from saminoha_planner.background import read_background, save_background
 from saminoha_planner.command import Fault, run
 from saminoha_planner.criteria import CRITERIA, Criterion, coarser, parse_criteria, with_currency
@@ -17,7 +18,7 @@ from saminoha_planner.cut import Wanted, build
 from saminoha_planner.heights import read_grids
 from saminoha_planner.modes import MODES
 from saminoha_planner.network import Network, refuse_other_files, write_network
-from saminoha_planner.osm import Extract, read_extract
+from saminoha_planner.osm import Extract, read_extract, read_points
 from saminoha_planner.progress import Watch, waiting
 from saminoha_planner.rules import NO_RULES, Rules, read_rules
 from saminoha_planner.tolls import charged, currency_of, report, warnings
@@ -87,14 +88,20 @@ def main() -> None:
     if not words.extract.is_file():
         raise Fault(f"{words.extract} is no file")
     refuse_other_files(words.network, words.replace)
+    file, mode = str(words.extract), rules.applied_to(MODES[words.mode])
+    points = Aside(read_points, file, mode, words.turns)
+    background = Aside(read_background, file)
     with waiting(f"reading {words.extract.name}", steady=True) as watch:
-        extract = read(words, criteria, rules, watch)
+        try:
+            with_houses = any(one.name == "houses" for one in criteria)
+            extract = read_extract(file, mode, rules, points, with_houses, watch)
+        except RuntimeError as fault:
+            raise Fault(f"{words.extract} can't be read: {fault}") from fault
         network = make(words, extract, criteria, rules, watch)
         watch.now("writing")
         write_network(network, words.table)
         watch.now("reading water and woods")
-        watch.now("reading water and woods")
-        save_background(read_background(str(words.extract)), words.network)
+        save_background(background.result(), words.network)
     for line in warnings(network.info["tolls"]) if "tolls" in network.info else []:
         print(f"import_osm.py: {line}", file=sys.stderr)
     names = ", ".join(criterion.name for criterion in criteria)
@@ -102,18 +109,6 @@ def main() -> None:
         f"{len(network.lon)} nodes, {len(network.arcs)} arcs, {len(network.places)} places,"
         f" {names}: {words.network}"
     )
-
-
-def read(
-    words: argparse.Namespace, criteria: list[Criterion], rules: Rules, watch: Watch
-) -> Extract:
-    wanted = [criterion.name for criterion in criteria] + ["bans"] * words.turns
-    try:
-        return read_extract(
-            str(words.extract), rules.applied_to(MODES[words.mode]), rules, wanted, watch
-        )
-    except RuntimeError as fault:
-        raise Fault(f"{words.extract} can't be read: {fault}") from fault
 
 
 def make(

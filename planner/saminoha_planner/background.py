@@ -59,8 +59,10 @@ def kind_of(tags: Tags) -> int | None:
     return WOOD if natural == "wood" or landuse == "forest" else None
 
 
-def read_background(extract: str) -> list[Shape]:
-    """By two readings: of the relations, which name the ways of large areas, and of the ways."""
+def read_background(extract: str) -> dict[str, np.ndarray]:
+    """The arrays of the file. By two readings: of the relations, which name the ways of large
+    areas, and of the ways.
+    """
     import osmium
 
     outer: dict[int, tuple[int, int]] = {}  # by way, its relation and what that shows
@@ -92,7 +94,7 @@ def read_background(extract: str) -> list[Shape]:
     Ways().apply_file(extract, locations=True)
     for (_, kind), lines in pieces.items():
         found += [(kind, ring) for ring in rings_of(lines)]
-    return found
+    return _packed(found)
 
 
 def rings_of(lines: Iterable[list[tuple[int, int]]]) -> list[list[tuple[int, int]]]:
@@ -111,12 +113,17 @@ def rings_of(lines: Iterable[list[tuple[int, int]]]) -> list[list[tuple[int, int
     return rings
 
 
-def save_background(shapes: list[Shape], folder: Path) -> None:
+def _packed(shapes: list[Shape]) -> dict[str, np.ndarray]:
     counts = [len(points) for _, points in shapes]
-    first = np.concatenate([[0], np.cumsum(counts)]).astype(np.int64)
-    points = np.array([point for _, line in shapes for point in line], np.int32).reshape(-1, 2)
-    kinds = np.array([kind for kind, _ in shapes], np.uint8)
-    np.savez_compressed(folder / FILE, kinds=kinds, first=first, points=points)
+    return {
+        "kinds": np.array([kind for kind, _ in shapes], np.uint8),
+        "first": np.concatenate([[0], np.cumsum(counts)]).astype(np.int64),
+        "points": np.array([one for _, line in shapes for one in line], np.int32).reshape(-1, 2),
+    }
+
+
+def save_background(arrays: dict[str, np.ndarray], folder: Path) -> None:
+    np.savez_compressed(folder / FILE, **arrays)
 
 
 def load_background(folder: Path) -> Areas:

@@ -15,17 +15,7 @@ from pathlib import Path
 from .ask import Asker, once
 from .background import load_background
 from .choose import Option, few, thinned
-from .client import (
-    MOST_BUDGET,
-    Answer,
-    Change,
-    Program,
-    Proof,
-    Query,
-    Refused,
-    Route,
-    SetArc,
-)
+from .client import MOST_BUDGET, Answer, Change, Program, Proof, Query, Refused, Route, SetArc
 from .closures import Closure
 from .colours import COLOURS
 from .command import BYTES_OF_LABEL, Fault

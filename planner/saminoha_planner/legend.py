@@ -165,6 +165,7 @@ def _paint_disc(ax: Axes, letter: str, at: tuple[float, float]) -> None:
 
 def _paint_mark(ax: Axes, left: float, y: float) -> None:
     middle = y + SIZE * 0.38
-    ax.plot([left, left + 26], [middle, middle], color=CLOSED, linewidth=7)
+    ends = [left, left + 26], [middle, middle]
+    ax.plot(*ends, color=CLOSED, linewidth=7, solid_capstyle="butt")
     ax.plot(left + 13, middle, marker="X", color="#222222", markeredgecolor="white", markersize=8)
     ax.text(left + 34, y, "closed or changed", fontsize=SIZE, va="baseline")

@@ -3,19 +3,20 @@
 from __future__ import annotations
 
 from array import array
-from collections.abc import Iterable, Iterator
+from collections.abc import Iterator
 from dataclasses import dataclass, field
 
 import numpy as np
 import osmium
 from osmium.geom import WKBFactory, use_nodes
 
+from .aside import Aside
 from .heights import Grid, heights_at
 from .modes import Mode, blocks, duration, use_of
 from .network import PLACES
 from .progress import Watch
 from .rules import Rules
-from .tolls import Found, is_booth, is_toll, price_of
+from .tolls import Found, Price, is_booth, is_toll, price_of
 
 WKB_HEAD = 9  # bytes before the points: the order of bytes, the kind, the count
 NEWS = 5000  # ways between two counts for who waits
@@ -115,38 +116,39 @@ class _Columns:
     places: bytearray = field(default_factory=bytearray)
 
 
-class _Reader(osmium.SimpleHandler):
-    def __init__(
-        self, mode: Mode, rules: Rules, with_houses: bool, with_bans: bool, watch: Watch
-    ) -> None:
+@dataclass
+class Points:
+    """What single points say, and relations of them."""
+
+    heights: dict[int, float] = field(default_factory=dict)
+    blocked: set[int] = field(default_factory=set)
+    booths: dict[int, Price | None] = field(default_factory=dict)
+    named: list[Place] = field(default_factory=list)
+    bans: list[Ban] = field(default_factory=list)
+    bans_left_out: int = 0
+
+
+class _PointsReader(osmium.SimpleHandler):
+    def __init__(self, mode: Mode, with_bans: bool) -> None:
         super().__init__()
-        self.mode, self.rules, self.watch = mode, rules, watch
-        self.with_houses, self.with_bans = with_houses, with_bans
-        self.columns, self.tolls = _Columns(), Found()
-        self.classes, self.texts = _Texts(), _Texts("")
-        self.heights: dict[int, float] = {}
-        self.blocked: set[int] = set()
-        self.houses = bytearray()
-        self.named: list[Place] = []
-        self.bans: list[Ban] = []
-        self.bans_left_out = self.points_missing = self.ways_seen = 0
-        self._wkb = WKBFactory()
+        self.mode, self.with_bans, self.found = mode, with_bans, Points()
 
     def node(self, node: osmium.osm.Node) -> None:
         if not len(node.tags):
             return
         tags = {tag.k: tag.v for tag in node.tags}
         if ("barrier" in tags or "access" in tags) and blocks(tags, self.mode):
-            self.blocked.add(node.id)
+            self.found.blocked.add(node.id)
         if "ele" in tags:
             try:
-                self.heights[node.id] = float(tags["ele"].removesuffix("m"))
+                self.found.heights[node.id] = float(tags["ele"].removesuffix("m"))
             except ValueError:
                 pass
-        self._toll_at(node.id, tags)
+        if is_booth(tags):
+            self.found.booths[node.id] = price_of(tags, self.mode)
         if tags.get("place") in PLACES and "name" in tags and node.location.valid():
             people = tags.get("population", "").replace("'", "").replace(" ", "")
-            self.named.append(
+            self.found.named.append(
                 Place(
                     tags["name"].replace("\t", " "),
                     tags["place"],
@@ -155,19 +157,6 @@ class _Reader(osmium.SimpleHandler):
                     node.location.lat,
                 )
             )
-
-    def _toll_at(self, point: int, tags: dict[str, str]) -> None:
-        if is_booth(tags):
-            self.tolls.booths[point] = price_of(tags, self.mode)
-
-    def way(self, way: osmium.osm.Way) -> None:
-        self.ways_seen += 1
-        if self.ways_seen % NEWS == 0:
-            self.watch.count(self.ways_seen)
-        if "highway" in way.tags or "route" in way.tags:
-            self._road(way)
-        if self.with_houses and "building" in way.tags:
-            self.houses += self._places_of(way) or b""
 
     def relation(self, relation: osmium.osm.Relation) -> None:
         if not self.with_bans or relation.tags.get("type") != "restriction":
@@ -184,9 +173,29 @@ class _Reader(osmium.SimpleHandler):
             case [("n", via)] if kind.startswith(("no_", "only_")):
                 for _, source in members.get("from", []):
                     for _, target in members.get("to", []):
-                        self.bans.append(Ban(source, via, target, kind.startswith("only_")))
+                        self.found.bans.append(Ban(source, via, target, kind.startswith("only_")))
             case _:
-                self.bans_left_out += 1
+                self.found.bans_left_out += 1
+
+
+class _WaysReader(osmium.SimpleHandler):
+    def __init__(self, mode: Mode, rules: Rules, with_houses: bool, watch: Watch) -> None:
+        super().__init__()
+        self.mode, self.rules, self.with_houses, self.watch = mode, rules, with_houses, watch
+        self.columns, self.tolls = _Columns(), Found()
+        self.classes, self.texts = _Texts(), _Texts("")
+        self.houses = bytearray()
+        self.points_missing = self.ways_seen = 0
+        self._wkb = WKBFactory()
+
+    def way(self, way: osmium.osm.Way) -> None:
+        self.ways_seen += 1
+        if self.ways_seen % NEWS == 0:
+            self.watch.count(self.ways_seen)
+        if "highway" in way.tags or "route" in way.tags:
+            self._road(way)
+        if self.with_houses and "building" in way.tags:
+            self.houses += self._places_of(way) or b""
 
     def _road(self, way: osmium.osm.Way) -> None:
         tags = {tag.k: tag.v for tag in way.tags}
@@ -262,8 +271,9 @@ class _Reader(osmium.SimpleHandler):
                 if point in ids:
                     self.tolls.rules_at.setdefault(point, []).append(one)
 
-    def found(self) -> Extract:
+    def found(self, at: Points) -> Extract:
         columns = self.columns
+        self.tolls.booths = at.booths
         points = np.frombuffer(columns.points, np.int64) if columns.points else np.zeros(0, int)
         ids, first_at, places_of_points = np.unique(points, return_index=True, return_inverse=True)
         self._mind_rules_at_points(ids)
@@ -284,12 +294,12 @@ class _Reader(osmium.SimpleHandler):
             roads,
             ids,
             _pairs(columns.places)[first_at],
-            self.heights,
-            np.isin(ids, list(self.blocked)),
+            at.heights,
+            np.isin(ids, list(at.blocked)),
             _pairs(self.houses),
-            self.named,
-            self.bans,
-            self.bans_left_out,
+            at.named,
+            at.bans,
+            at.bans_left_out,
             self.points_missing,
             self.tolls,
         )
@@ -303,12 +313,22 @@ def _pairs(floats: bytearray) -> np.ndarray:
     return np.frombuffer(floats, np.float64).reshape(-1, 2)
 
 
+def read_points(file: str, mode: Mode, with_bans: bool) -> Points:
+    reader = _PointsReader(mode, with_bans)
+    reader.apply_file(file)
+    return reader.found
+
+
 def read_extract(
-    file: str, mode: Mode, rules: Rules, wanted: Iterable[str], watch: Watch
+    file: str,
+    mode: Mode,
+    rules: Rules,
+    points: Aside[Points],
+    with_houses: bool,
+    watch: Watch,
 ) -> Extract:
-    """`wanted` may have `houses` and `bans`, which are read only then."""
-    wanted = set(wanted)
-    reader = _Reader(mode, rules, "houses" in wanted, "bans" in wanted, watch)
+    """The ways, while another process reads the points."""
+    reader = _WaysReader(mode, rules, with_houses, watch)
     reader.apply_file(file, locations=True)
     watch.now("putting roads together")
-    return reader.found()
+    return reader.found(points.result())

@@ -5,7 +5,9 @@ rounded sums at its ends.
 
 from __future__ import annotations
 
+import os
 from collections.abc import Mapping
+from concurrent.futures import ThreadPoolExecutor
 from dataclasses import dataclass
 
 import numpy as np
@@ -83,17 +85,16 @@ class Weigher:
     def _metres(self) -> np.ndarray:
         """Each step's length on the ellipsoid; 0 from one road to the next."""
         self.watch.now("measuring roads")
-        metres, geod = np.zeros(len(self.rows)), Geod(ellps="WGS84")
-        lon, lat = self.places[:, 0], self.places[:, 1]
-        for begin in range(0, len(metres), AT_ONCE):
-            part = slice(begin, begin + AT_ONCE)
-            ends = slice(begin + 1, begin + 1 + AT_ONCE)
-            count = len(metres[part])
-            _, _, metres[part] = geod.inv(
-                lon[part][:count], lat[part][:count], lon[ends], lat[ends]
-            )
-            self.watch.count(begin, len(metres))
+        metres, begins = np.zeros(len(self.rows)), range(0, len(self.rows), AT_ONCE)
+        with ThreadPoolExecutor(os.cpu_count()) as threads:
+            for begin, part in zip(begins, threads.map(self._metres_from, begins)):
+                metres[begin : begin + AT_ONCE] = part
+                self.watch.count(begin, len(metres))
         return np.where(self.inner, metres, 0.0)
+
+    def _metres_from(self, begin: int) -> np.ndarray:
+        lon, lat = self.places[begin : begin + AT_ONCE + 1].T
+        return Geod(ellps="WGS84").inv(lon[:-1], lat[:-1], lon[1:], lat[1:])[2]
 
     def _amounts(self, name: str) -> tuple[np.ndarray, np.ndarray]:
         """Along the road and against it, for each step."""
@@ -207,7 +208,7 @@ def _share_near(
     share = ((order + 0.5) / counts[place])[:, None]
     at = inner[place]
     samples = points[at] * (1 - share) + points[at + 1] * share
-    distance, _ = tree.query(samples, distance_upper_bound=HOUSE_METRES)
+    distance, _ = tree.query(samples, distance_upper_bound=HOUSE_METRES, workers=-1)
     found = np.zeros(len(steps))
     found[inner - steps[0]] = np.bincount(place, np.isfinite(distance), len(inner)) / counts
     return found

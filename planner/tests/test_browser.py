@@ -1,4 +1,4 @@
-"""The page in Chromium: over the town, and over the extract that PLANNER_EXTRACT names."""
+"""The page in Chromium: over the town, and over extracts that the environment names."""
 
 from __future__ import annotations
 
@@ -9,14 +9,16 @@ import shutil
 import subprocess
 import time
 from contextlib import contextmanager
+from dataclasses import dataclass
 from pathlib import Path
 
+import numpy as np
 import pytest
 from test_page import page_of
 
 from saminoha_planner.client import Operator
 from saminoha_planner.closures import LOG
-from saminoha_planner.network import read_network
+from saminoha_planner.network import Network, read_network
 from saminoha_planner.site import LEAFLET
 
 webdriver = pytest.importorskip("selenium.webdriver", reason="python3-selenium is missing")
@@ -94,8 +96,10 @@ class Browser:
             time.sleep(0.05)
 
     def rest(self) -> None:
-        self.wait(lambda: not self.run("return page.roads.isLoading()"))
-        time.sleep(0.4)
+        """Waits for the map to have moved, and for its tiles."""
+        for _ in range(2):
+            time.sleep(0.4)
+            self.wait(lambda: not self.run("return page.roads.isLoading()"))
 
     def ask(self, source: str, target: str) -> None:
         self.type("from", source)
@@ -267,25 +271,28 @@ def test_words_that_mean_no_place(english, address):
     english.wait(lambda: "Did you mean Northend" in english.text("status"))
 
 
-def test_print(english, address, tmp_path):
+def print_page(browser: Browser, paper: Path, title: str) -> None:
     """The whole map, the table and the plot are on paper."""
-    english.open(address)
-    english.ask("Northend", "Southend")
-    english.driver.execute_async_script("page.lay_out().then(arguments[arguments.length - 1])")
-    pdf = english.driver.execute_cdp_cmd("Page.printToPDF", {"preferCSSPageSize": True})
-    paper = tmp_path / "page.pdf"
+    browser.driver.execute_async_script("page.lay_out().then(arguments[arguments.length - 1])")
+    pdf = browser.driver.execute_cdp_cmd("Page.printToPDF", {"preferCSSPageSize": True})
     paper.write_bytes(base64.b64decode(pdf["data"]))
     if folder := os.environ.get("SCREENSHOTS"):
         shutil.copy(paper, folder)
     if shutil.which("pdftotext"):
         told = subprocess.run(["pdftotext", paper, "-"], capture_output=True, text=True).stdout
-        assert "Northend – Southend" in told and "least distance" in told
+        assert title in told and "least distance" in told
         assert "Printed" in told and "Show alternatives" not in told
-    assert english.run(
+    assert browser.run(
         """const shown = page.map.getBounds();
         return page.answer.options.every((one) =>
             one.shape.getLatLngs().every((place) => shown.contains(place)))"""
     )
+
+
+def test_print(english, address, tmp_path):
+    english.open(address)
+    english.ask("Northend", "Southend")
+    print_page(english, tmp_path / "page.pdf", "Northend – Southend")
 
 
 def test_phone(english, address):
@@ -334,32 +341,98 @@ def test_what_helps_where_a_search_is_refused(english, town):
         english.driver.get_log("browser")  # its refusals are told there too
 
 
-@pytest.fixture(scope="module")
-def extract(tool, tmp_path_factory):
-    file = os.environ.get("PLANNER_EXTRACT")
-    if not file:
-        pytest.skip("PLANNER_EXTRACT names no extract (Liechtenstein's of osm2pgsql)")
+# Over extracts: one of Liechtenstein, and a region that make_region.py draws.
+
+EXTRACTS = {
+    "PLANNER_EXTRACT": ("Vaduz", "Ruggell"),
+    "PLANNER_REGION": ("City 312-312", "Town 362-362"),
+}
+
+
+@dataclass
+class Scene:
+    """A network with the ends of a trip, a server over it, and the page of both."""
+
+    name: str
+    network: Network
+    ends: tuple[str, str]
+    operator: str
+    address: str
+
+    def ask(self, browser: Browser) -> list[list[int]]:
+        browser.open(self.address)
+        browser.ask(*self.ends)
+        return browser.costs()
+
+
+@pytest.fixture(scope="module", params=EXTRACTS)
+def scene(request, tool, served, tmp_path_factory):
+    if not (file := os.environ.get(request.param)):
+        pytest.skip(f"{request.param} names no extract")
     folder = tmp_path_factory.mktemp("extract") / "network"
     tool("import_osm.py", file, folder)
-    return read_network(folder)
+    network = read_network(folder)
+    with served(network.files) as server:
+        operator = f"127.0.0.1:{server.operator_port}"
+        words = ["--session", f"127.0.0.1:{server.port}", "--operator", operator]
+        with page_of(folder, *words) as (address, _):
+            name = request.param.removeprefix("PLANNER_").lower()
+            yield Scene(name, network, EXTRACTS[request.param], operator, address)
 
 
-def test_an_extract(english, extract):
-    """A real one, with a server of the page's own: Vaduz to Ruggell, before and after a closure."""
-    with page_of(extract.folder) as (address, _):
-        english.open(address)
-        assert "Vaduz" in english.run("return page.names._shown")
-        english.ask("Vaduz", "Ruggell")
-        before = english.costs()
-        english.picture("extract")
-        english.type("road", "Benderer Strasse")
-        english.press("#preview")
-        english.wait(lambda: english.driver.find_element("id", "previewed").is_displayed())
-        english.press("#close")
-        english.wait(lambda: "is closed" in english.text("status"))
-        assert min(cost[0] for cost in english.costs()) > min(cost[0] for cost in before)
-        english.rest()
-        english.picture("extract_closed")
-        english.press("#closures button:last-child")
-        english.wait(lambda: "is undone" in english.text("status"))
-        assert english.costs() == before
+def test_an_extract(english, scene, program):
+    """Its first answer is the program's, and each line on the map is a walk of that answer."""
+    costs = scene.ask(english)
+    files, network = scene.network.files, scene.network
+    nodes = [network.find(name) for name in scene.ends]
+    answer = program.query(files, *nodes)
+    assert costs == [list(route.cost) for route in answer.routes]
+    for index, roads in english.run(
+        "return page.answer.options.map((one) => [one.index, one.roads])"
+    ):
+        stretches = network.arrays.stretches[np.array(answer.routes[index].arcs) - 1]
+        assert [road for road, _ in roads] == stretches.tolist()
+    english.picture(scene.name)
+
+
+def test_closures_over_an_extract(english, scene, tool):
+    """Another operator's closure is seen and outlives a reload; undone, all is as before."""
+    before = scene.ask(english)
+    road = english.run("return page.answer.options[0].via").split(", ")[-1]
+    tool("ops.py", scene.network.folder, "shut", "--road", road, "--send", scene.operator)
+    english.wait(lambda: "have changed" in english.text("status"), 20)
+    after = english.costs()
+    assert after != before
+    assert scene.ask(english) == after
+    assert road in english.text("closures") and "1 closure" in english.text("stand")
+    english.picture(f"{scene.name}_closed")
+    english.press("#closures button:last-child")
+    english.wait(lambda: "is undone" in english.text("status"))
+    assert english.costs() == before
+    english.type("road", road)  # and by the page itself
+    english.press("#preview")
+    english.wait(lambda: english.driver.find_element("id", "previewed").is_displayed())
+    english.press("#close")
+    english.wait(lambda: "is closed" in english.text("status"))
+    assert english.costs() == after
+    english.press("#closures button:last-child")
+    english.wait(lambda: "is undone" in english.text("status"))
+    assert english.costs() == before
+
+
+def test_an_extract_on_paper_and_phone(english, scene, tmp_path):
+    scene.ask(english)
+    print_page(english, tmp_path / f"{scene.name}.pdf", " – ".join(scene.ends))
+    english.driver.set_window_size(400, 860)
+    scene.ask(english)
+    wide = english.run("return [document.documentElement.scrollWidth, innerWidth]")
+    assert wide[0] <= wide[1]
+    english.picture(f"{scene.name}_phone")
+    english.driver.set_window_size(1280, 900)
+
+
+def test_an_extract_in_german(scene):
+    with chromium("de-DE") as browser:
+        scene.ask(browser)
+        assert "kürzeste Strecke" in browser.text("rows") and "Stand" in browser.text("stand")
+        browser.picture(f"{scene.name}_german")

@@ -3,6 +3,7 @@
 from __future__ import annotations
 
 import itertools
+import re
 
 import networkx
 import pytest
@@ -84,3 +85,42 @@ def test_turn_bans_are_kept(imported, program, source, target):
     assert [(metres - 1, time) for metres, time in (route.cost for route in answer.routes)] == best(
         set(allowed)
     )
+
+
+MEASURES = {
+    "shut": lambda weights: None,
+    "slow=3": lambda weights: (weights[0], round(weights[1] * 3), weights[2]),
+    "surcharge=toll:5/km": lambda weights: (
+        *weights[:2],
+        weights[2] + round(500 * weights[0] / 1000),
+    ),
+}
+
+
+@pytest.mark.parametrize("measure", MEASURES)
+@pytest.mark.parametrize("road", ["Old Bridge", "Toll Bridge", "North Street"])
+def test_differences_before_and_after(town, tool, measure, road):
+    """What ops.py tells of both are the costs of all paths, with and without the measure."""
+    ends, changed = ("Northend", "Southend"), {}
+    for number, arc in enumerate(town.arcs, start=1):
+        changed[number] = MEASURES[measure](arc.weights) if arc.name == road else arc.weights
+    graph = graph_of(town)
+    nodes = [town.find(name) for name in ends]
+    paths = [[key for _, _, key in path] for path in networkx.all_simple_edge_paths(graph, *nodes)]
+    before = best({sum_of(town, path) for path in paths})
+    open_paths = [path for path in paths if all(changed[arc] for arc in path)]
+    after = best({tuple(map(sum, zip(*map(changed.get, path)))) for path in open_paths})
+    trip = ("--from", ends[0], "--to", ends[1])
+    told = tool("ops.py", town.folder, measure, "--road", road, *trip)
+    if not after:
+        assert "no way leads there after" in told
+        return
+    assert f"before: {len(before)} trade-offs" in told and f"after: {len(after)} trade-offs" in told
+    for place, (label, unit) in enumerate((("distance", 1000), ("time", 600), ("toll", 100))):
+        least = [min(cost[place] for cost in costs) / unit for costs in (before, after)]
+        [line] = [one for one in told.splitlines() if one.startswith(f"least {label}: ")]
+        shown = [float(one) for one in re.findall(r"\d+\.\d+", line.replace(",", ""))]
+        assert shown[:2] == pytest.approx(least, abs=0.051)
+        assert shown[2] == pytest.approx(abs(least[1] - least[0]), abs=0.051)
+        more = round(least[1] - least[0], 6)
+        assert ("+" if more > 0 else "−" if more < 0 else "±") in line

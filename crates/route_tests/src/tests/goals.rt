@@ -132,10 +132,7 @@ const BUDGETS: &[Row] = &[
     // The bound of node 2 is the cost of no walk.
     Row {
         words: "goal --from 1 --to 3 X.gr Y.gr",
-        files: &[
-            ("X.gr", ZERO_FIRST),
-            ("Y.gr", ZERO_SECOND),
-        ],
+        files: &[("X.gr", ZERO_FIRST), ("Y.gr", ZERO_SECOND)],
         status: 0,
         out: "r 0 1 3 2\np 1 3 1 4\np 4 1 2 1 3\n",
         err: "",
@@ -148,6 +145,7 @@ fn budget_rows() -> &'static [Row] {
 
 /// Two files in which the bound of node 2 toward 3 is the cost of no walk.
 const ZERO_FIRST: &str = "p sp 3 4\na 1 2 1\na 2 3 0\na 2 3 3\na 1 3 1\n";
+
 const ZERO_SECOND: &str = "p sp 3 4\na 1 2 1\na 2 3 3\na 2 3 0\na 1 3 3\n";
 
 /// Two walks of one cost from 1 to 3, of which that of two arcs ends by the lesser arc.

@@ -55,12 +55,7 @@ fn all_bounds(alloc: Global, drawn: &Drawn) -> Result<Vec<Option<Sums>>, AllocEr
 }
 
 /// Whether the walk's cost with the bound of its node added is within the limit, and no best cost of the target dominates it.
-fn is_goal_relevant(
-    drawn: &Drawn,
-    best: &[Walk],
-    bounds: &[Option<Sums>],
-    walk: &Walk,
-) -> bool {
+fn is_goal_relevant(drawn: &Drawn, best: &[Walk], bounds: &[Option<Sums>], walk: &Walk) -> bool {
     let Some(bound) = bound_of(bounds, walk.end) else {
         return false;
     };

@@ -1,5 +1,6 @@
 """How requests come in: uvicorn's parser in C where Debian's httptools is installed, else that in
-Python. What is no request of HTTP is told as a problem, and a head has to come in a time.
+Python. With the one in C, what is no request of HTTP is told as a problem, and a head has to come
+in a time; with the other, let a proxy stand before it where strangers come.
 """
 
 from __future__ import annotations

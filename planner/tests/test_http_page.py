@@ -123,6 +123,15 @@ def test_problems(here, path, status, code):
     assert reply.status == status and reply.kind and reply.told.get("code") == code
 
 
+def test_a_search_that_passes_the_budget(program, town, tmp_path):
+    """The page offers limits, by which fewer routes count."""
+    options = ("--budget", "3")
+    with service(program, town, tmp_path, *FREELY, server_options=options) as poor:
+        reply = poor.get(path_of(town))
+        assert (reply.status, reply.kind) == (422, "budget")
+        assert reply.told["offers"] == [{"kind": "limits"}] and "budget" in reply.told["error"]
+
+
 def test_closures_by_token(opened, town):
     asked, before = closing(opened), opened.get(path_of(town)).told
     for headers in ({}, {"Authorization": f"Bearer {TOKEN}x"}):

@@ -42,7 +42,8 @@ class Roads:
     """Stretch k has the points `first[k]` to `first[k + 1]`, and both its directions' arcs."""
 
     classes: np.ndarray  # places in CLASSES
-    titles: np.ndarray  # places in names
+    titles: np.ndarray  # places in names: of its name, or else of its ref
+    refs: np.ndarray  # places in names
     names: Sequence[str]
     first: np.ndarray
     points: np.ndarray  # longitude and latitude
@@ -83,10 +84,11 @@ class Roads:
         )
 
     def titled(self, text: str) -> np.ndarray:
-        """The stretches of the road of this name, whatever the case of its letters."""
+        """The stretches of the road of this name or ref, whatever the case of its letters."""
         wanted = text.strip().casefold()
         same = [place for place, name in enumerate(self.names) if name.casefold() == wanted]
-        return np.flatnonzero(np.isin(self.titles, same)) if wanted else np.zeros(0, int)
+        found = np.isin(self.titles, same) | np.isin(self.refs, same)
+        return np.flatnonzero(found) if wanted else np.zeros(0, int)
 
     @cached_property
     def metres(self) -> np.ndarray:
@@ -128,6 +130,7 @@ def roads_of(network: Network) -> Roads:
     return Roads(
         ranks[arrays.classes],
         np.where(arrays.names > 0, arrays.names, arrays.refs),
+        arrays.refs,
         arrays.texts,
         arrays.first,
         degrees(arrays.points),

@@ -341,10 +341,12 @@ def test_what_helps_where_a_search_is_refused(english, town):
         english.driver.get_log("browser")  # its refusals are told there too
 
 
-# Over extracts: one of Liechtenstein, and a region that make_region.py draws.
+# Over extracts: one of Liechtenstein, one of Harrogate (examples/osm/map.osm of Debian's source
+# package marble), and a region that make_region.py draws.
 
 EXTRACTS = {
     "PLANNER_EXTRACT": ("Vaduz", "Ruggell"),
+    "PLANNER_HARROGATE": ("Harrogate", "Beckwithshaw"),
     "PLANNER_REGION": ("City 312-312", "Town 362-362"),
 }
 
@@ -414,10 +416,10 @@ def test_closures_over_an_extract(english, scene, tool):
     english.wait(lambda: english.driver.find_element("id", "previewed").is_displayed())
     english.press("#close")
     english.wait(lambda: "is closed" in english.text("status"))
-    assert english.costs() == after
+    english.wait(lambda: english.costs() == after)
     english.press("#closures button:last-child")
     english.wait(lambda: "is undone" in english.text("status"))
-    assert english.costs() == before
+    english.wait(lambda: english.costs() == before)
 
 
 def test_an_extract_on_paper_and_phone(english, scene, tmp_path):

@@ -117,8 +117,13 @@ class Browser:
         actions = webdriver.ActionChains(self.driver)
         actions.move_to_element_with_offset(box, round(right), round(down)).click().perform()
 
+    def each(self, selector: str, what: str) -> list:
+        """Of each element at once, since the page may draw anew between two questions."""
+        script = f"return [...document.querySelectorAll(arguments[0])].map((one) => {what})"
+        return self.run(script, selector)
+
     def letters(self, selector: str) -> list[str]:
-        return [one.get_attribute("data-letter") for one in self.all(selector)]
+        return self.each(selector, "one.getAttribute('data-letter')")
 
     def costs(self) -> list[list[int]]:
         return self.run("return page.answer.costs")
@@ -162,7 +167,8 @@ def test_two_clicks(english, address):
     assert len(english.all("#map .pin svg")) == 2
     letters = english.letters("#rows tr")
     assert letters == english.letters("#plot g.option") and len(letters) >= 3
-    assert [one.text for one in english.all("#map .badge")] == letters
+    english.rest()
+    assert english.each("#map .badge", "one.textContent.trim()") == letters
     assert "least distance" in english.text("rows")
     assert re.match(r"As of \d\d:\d\d, no closures\.", english.text("stand"))
     english.picture("town")
@@ -171,7 +177,7 @@ def test_two_clicks(english, address):
 def test_letters_stand_apart(english):
     """No disc lies on another one, on the map and in the plot."""
     for selector, least in (("#map .badge", 22), ("#plot g.option", 17)):
-        boxes = [one.rect for one in english.all(selector)]
+        boxes = english.each(selector, "one.getBoundingClientRect().toJSON()")
         middles = [(box["x"] + box["width"] / 2, box["y"] + box["height"] / 2) for box in boxes]
         for place, (x, y) in enumerate(middles):
             for across, down in middles[:place]:

@@ -1,5 +1,5 @@
 -- Costs without the heights of their nodes, node by node.
-use Rattle.std.proofs.Common.{◌≡◌, ◌≢◌, ◌↔◌, ℕ, ◌+◌, ◌<◌, ◌≤◌, List, Option, None, length, map, inl, inr, refl, sym, ap, subst, ◌∙◌, arith}
+use Rattle.std.proofs.Common.{◌≡◌, ◌≢◌, ◌↔◌, ℕ, ◌+◌, ◌<◌, ◌≤◌, List, None, length, inl, inr, refl, sym, ap, subst, ◌∙◌, arith}
 use Rattle.std.specs.Prelude.{All, Contains}
 use Rattle.std.proofs.lemmas.Bool.{cases_eq, cases_lt}
 use Rattle.list_laws.proofs.Members.{all_from_in, each_in, in_map, of_map}
@@ -9,7 +9,6 @@ use Rattle.road_network.specs.Network.{Network, IsNode}
 use Rattle.sweep_parts.specs.Settled.{costs_of}
 use Rattle.node_lists.specs.FoundLists.{AreLowered, FoundLists}
 use Rattle.sweep_core.specs.Potentials.{IsConsistent, IsHeightIfAny, Potential}
-use Rattle.sweep_core.specs.Sweeps.{IsLifted}
 use Rattle.sweep_search.specs.Finding.{AreLiftedAt, HasLifted, IsBareAt, IsSameFind}
 
 abbrev Lists : Type 0

@@ -41,48 +41,29 @@ impl<R: Threads + Sync, G: Gate> ServeContext<'_, R, G> {
             reader.now (last_number T.origin reader.now) request.now)
             (K.state out.old) (K.state out.new) result }
     {
+        use AnswerKind::{Costs, Walks};
+        use SearchMode::{Goal, Plain};
         let last = reader.snapshot();
         match *request {
             SessionRequest::Costs { from, to } => {
                 let query = self.query(from, to, None);
-                self.search(
-                    last,
-                    SearchMode::Plain,
-                    AnswerKind::Costs,
-                    &query,
-                    room,
-                    out,
-                )
+                self.search(last, Plain, Costs, &query, room, out)
             }
             SessionRequest::Walks { from, to } => {
                 let query = self.query(from, to, None);
-                self.search(
-                    last,
-                    SearchMode::Plain,
-                    AnswerKind::Walks,
-                    &query,
-                    room,
-                    out,
-                )
+                self.search(last, Plain, Walks, &query, room, out)
             }
             SessionRequest::Within { from, to, limit } => {
                 let query = self.query(from, to, Some(limit));
-                self.search(
-                    last,
-                    SearchMode::Plain,
-                    AnswerKind::Walks,
-                    &query,
-                    room,
-                    out,
-                )
+                self.search(last, Plain, Walks, &query, room, out)
             }
             SessionRequest::Goal { from, to } => {
                 let query = self.query(from, to, None);
-                self.search(last, SearchMode::Goal, AnswerKind::Walks, &query, room, out)
+                self.search(last, Goal, Walks, &query, room, out)
             }
             SessionRequest::GoalWithin { from, to, limit } => {
                 let query = self.query(from, to, Some(limit));
-                self.search(last, SearchMode::Goal, AnswerKind::Walks, &query, room, out)
+                self.search(last, Goal, Walks, &query, room, out)
             }
             SessionRequest::Wait { epoch } => {
                 if last.number < epoch {

@@ -28,26 +28,20 @@ still_handled s before after kept y (inr below) = inr (record { item = below.ite
 module _ (net : Network) (P : Potential) (s : Sweep) (x : Waiting) where
   -- ---- along one arc after another
 
-  follows_on : (K L M : ℕ → Type 0) (before between after : List Waiting) → Follows net P s x K before between → Follows net P s x L between after
-      → ((k : ℕ) → M k → K k ⊎ L k) → Follows net P s x M before after
-  follows_on K L M before between after first second either = record {
-    kept = λ j there. second.kept j (first.kept j there);
-    come = λ j there. elim (second.come j there) [ inr new ↦ inr new | inl old ↦ first.come j old ];
-    all = λ b k v w h among arc has. elim (either k among) [
-      | inr now ↦ second.all b k v w h now arc has
-      | inl earlier ↦ still_handled s between after second.kept (lifted v (plus b.cost w) h) (first.all b k v w h earlier arc has)
-    ];
-  }
-
   pub none_follows : (arcs : List ArcNo) (queue : List Waiting) → Follows net P s x (IsAmong arcs 0) queue queue
   none_follows arcs queue =
       record { kept = λ j there. there; come = λ j there. inl there; all = λ b k v w h among arc has. absurd (omega (arith, among.1)) }
 
   pub more_follow : (arcs : List ArcNo) (i : ℕ) (before between after : List Waiting) → Follows net P s x (IsAmong arcs i) before between
       → Follows net P s x (λ k. k ≡ (get_or arcs i (record { 0 = 0 })).0) between after → Follows net P s x (IsAmong arcs (i + 1)) before after
-  more_follow arcs i before between after first second =
-      follows_on (IsAmong arcs i) (λ k. k ≡ (get_or arcs i (record { 0 = 0 })).0) (IsAmong arcs (i + 1)) before between after first second
-      (among_one_more arcs i)
+  more_follow arcs i before between after first second = record {
+    kept = λ j there. second.kept j (first.kept j there);
+    come = λ j there. elim (second.come j there) [ inr new ↦ inr new | inl old ↦ first.come j old ];
+    all = λ b k v w h among arc has. elim (among_one_more arcs i k among) [
+      | inr now ↦ second.all b k v w h now arc has
+      | inl earlier ↦ still_handled s between after second.kept (lifted v (plus b.cost w) h) (first.all b k v w h earlier arc has)
+    ];
+  }
 
   pub all_follow : (arcs : List ArcNo) (i : ℕ) (before after : List Waiting) → arcs ≡ out_arcs_of net.ends x.spot.node → length arcs ≤ i
       → Follows net P s x (IsAmong arcs i) before after → Follows net P s x (λ k. Unit {0}) before after

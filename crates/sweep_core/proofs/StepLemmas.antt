@@ -10,7 +10,7 @@ use Rattle.waiting_item.specs.Waiting.{Waiting}
 use Rattle.sweep_parts.specs.Settled.{IsBehind, Pushes, count_settled}
 use Rattle.sweep_parts.specs.Leaving.{LosesSpent}
 use Rattle.sweep_core.specs.Potentials.{HasNoRoom, IsConsistent, IsRelevantBy, Potential}
-use Rattle.sweep_core.specs.Sweeps.{CanTell, Follows, IsEnded, IsLifted, IsNext, IsRelaxing, IsSpentBy, IsSweep, Settles, Sweep, TakesUnspent, costs_at, with_both, with_queue, without_queue}
+use Rattle.sweep_core.specs.Sweeps.{CanTell, Follows, IsEnded, IsNext, IsRelaxing, IsSpentBy, IsSweep, Settles, Sweep, TakesUnspent, costs_at, with_both, with_queue, without_queue}
 use Rattle.sweep_core.specs.Relaxing.{HasNoRoomFrom}
 use Rattle.sweep_core.proofs.Frontier.{next_is_relevant}
 use Rattle.sweep_core.proofs.Leaving.{leaves_behind, leaves_node, spent_leave, there}
@@ -73,9 +73,6 @@ module _ (net : Network) (road : IsRoadNetwork net) (t : ℕ) (P : Potential) (i
 
   pub next_behind : (v : ℕ) → IsBehind (costs_at s v) x.spot.cost
   next_behind = leaves_behind net t P is was next.sweep x s.queue next.leaves
-
-  pub next_lifted : IsLifted net P x.spot
-  next_lifted = (next.sweep.waiting_from x waits).lifted
 
   -- where what follows it has no room, what follows a relevant pair has none
   pub no_room_on : (bound : ℕ) → HasNoRoomFrom net P s.limit x.spot bound → HasNoRoom net s.start s.target s.limit P bound

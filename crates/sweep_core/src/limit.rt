@@ -33,7 +33,6 @@ impl<const D: usize> CostLimit<D> {
     }
 
     /// Whether a cost is within the limit.
-    #[inline(always)]
     pub(crate) fn allows(&self, cost: &CompactCost<D>) -> bool
         ensures { IsTrue result ↔ Within self.now cost.now.0 }
     {

@@ -3,7 +3,7 @@ ghost use Rattle.road_network.specs.Limits.{max_budget};
 ghost use Rattle.road_network.specs.Queries.{IsQuery, limit_of};
 ghost use Rattle.sweep_core.specs.Potentials.{HasNoRoom, PassesBy};
 ghost use Rattle.sweep_core.specs.Relaxing.{HasNoRoomFrom};
-ghost use Rattle.sweep_core.specs.Sweeps.{CanTell, Follows, IsEnded, IsNext, IsRelaxing, IsSameSearch, IsSearchFor, IsSpentBy, IsSweep, LetsWait, Settles, SettlesAll, costs_at, with_both, with_queue, without_queue};
+ghost use Rattle.sweep_core.specs.Sweeps.{CanTell, Follows, IsEnded, IsNext, IsRelaxing, IsSameSearch, IsSearchFor, IsSweep, LetsWait, Settles, SettlesAll, costs_at, with_both, with_queue, without_queue};
 ghost use Rattle.sweep_core.specs.declared.fault.StoreFault.TheVariants as store;
 ghost use Rattle.sweep_core.specs.declared.fault.SweepFault.TheVariants as fault;
 ghost use Rattle.settled_front.specs.Fronts.{IsCovered};
@@ -213,23 +213,14 @@ impl<const D: usize, S: SettledLists<D>, Q: LeastQueue<D, S::Cost>> Sweep<D, S, 
         ensures waits { OnOk result (LetsWait self.old.settled self.old.target
             (as_waiting S.Cost.components item.now) self.old.queue self.new.queue) }
     {
-        if self.is_spent(item) {
-            return Ok(());
-        }
-        self.queue.put(*item)
-    }
-
-    /// Whether an item is spent.
-    fn is_spent(&self, item: &Item<S::Cost>) -> bool
-        requires { CanTell self.now.settled self.now.target (spot_in S.Cost.components item.now) }
-        ensures { IsTrue result ↔ IsSpentBy self.now.settled self.now.target
-            (spot_in S.Cost.components item.now) }
-    {
         let look = Spent {
             lists: &self.lists,
             target: self.target,
         };
-        look.is_spent(item)
+        if look.is_spent(item) {
+            return Ok(());
+        }
+        self.queue.put(*item)
     }
 
     /// The node to which walks lead.

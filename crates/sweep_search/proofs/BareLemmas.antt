@@ -1,15 +1,14 @@
 -- Costs without the heights of their nodes, node by node.
-use Rattle.std.proofs.Common.{◌≡◌, ◌≢◌, ◌↔◌, ℕ, ◌+◌, ◌<◌, ◌≤◌, List, [], Option, None, length, map, inl, inr, refl, sym, ap, subst, ◌∙◌, arith}
+use Rattle.std.proofs.Common.{◌≡◌, ◌≢◌, ◌↔◌, ℕ, ◌+◌, ◌<◌, ◌≤◌, List, None, length, inl, inr, refl, sym, ap, subst, ◌∙◌, arith}
 use Rattle.std.specs.Prelude.{All, Contains}
 use Rattle.std.proofs.lemmas.Bool.{cases_eq, cases_lt}
-use Rattle.list_laws.proofs.Members.{all_from_in, each_in, in_map, in_none, of_map}
+use Rattle.list_laws.proofs.Members.{all_from_in, each_in, in_map, of_map}
 use Rattle.cost_vector.specs.Costs.{AtMost, plus}
 use Rattle.cost_vector.proofs.Vectors.{AtMost-plus_self, plus_cancel, plus_comm}
 use Rattle.road_network.specs.Network.{Network, IsNode}
 use Rattle.sweep_parts.specs.Settled.{costs_of}
 use Rattle.node_lists.specs.FoundLists.{AreLowered, FoundLists}
 use Rattle.sweep_core.specs.Potentials.{IsConsistent, IsHeightIfAny, Potential}
-use Rattle.sweep_core.specs.Sweeps.{IsLifted}
 use Rattle.sweep_search.specs.Finding.{AreLiftedAt, HasLifted, IsBareAt, IsSameFind}
 
 abbrev Lists : Type 0
@@ -25,12 +24,6 @@ module _ (net : Network) (t : ℕ) (P : Potential) (is : IsConsistent net t P) (
 
   pub bare_if_no_node : AreLiftedAt net P before v → costs_of after v ≡ costs_of before v → ¬ IsNode net.nodes v → IsBareAt net P before after v
   bare_if_no_node are same other = bare_without_height are same (λ h has. other (is.nodes v h has))
-
-  pub bare_if_none : costs_of before v ≡ [] → costs_of after v ≡ costs_of before v → IsBareAt net P before after v
-  bare_if_none none same c = (
-    λ there. absurd (in_none c (subst (λ xs. Contains xs c) (same ∙ none) there)),
-    λ has. absurd (in_none (plus c has.height) (subst (λ xs. Contains xs (plus c has.height)) none has.there)),
-  )
 
   module _ (h : List ℕ) (has : P v h) where
     long : length h ≡ net.criteria

@@ -1,5 +1,5 @@
 -- What was found, by zero and by the exact bounds.
-use Rattle.std.proofs.Common.{◌≡◌, ◌↔◌, ℕ, ◌+◌, ◌-◌, List, Option, Result, Ok, Err, length, refl, sym, ap, subst, ◌∙◌, arith}
+use Rattle.std.proofs.Common.{◌≡◌, ◌↔◌, ℕ, ◌-◌, List, Result, Ok, Err, refl, sym, ap, subst, ◌∙◌, arith}
 use Rattle.std.specs.Prelude.{Contains, OnOk}
 use Rattle.cost_vector.specs.Costs.{plus}
 use Rattle.cost_vector.proofs.Vectors.{plus-zeros}
@@ -18,7 +18,7 @@ use Rattle.sweep_core.specs.Potentials.{IsConsistent, IsRelevantBy, Potential, Z
 use Rattle.sweep_core.specs.Sweeps.{IsLifted, SettlesAll, lifted}
 use Rattle.sweep_core.proofs.Lifted.{one_cost}
 use Rattle.sweep_core.proofs.Uses.{passes_by_bounds, passes_by_zero, relevant_by_bounds, relevant_by_zero}
-use Rattle.sweep_search.specs.Finding.{AreLiftedAt, HasAllBare, HasAllBy, HasLifted, IsBareAt, IsSameFind, IsTooLargeBy}
+use Rattle.sweep_search.specs.Finding.{AreLiftedAt, HasAllBare, HasAllBy, IsBareAt, IsSameFind, IsTooLargeBy}
 
 -- of two facts where all went well a third follows
 pub on_both : {A E : Type 0} (F G H : Type 0) → (F → G → H) → (r : Result A E) → OnOk r F → OnOk r G → OnOk r H

@@ -1,12 +1,14 @@
 use Rattle.std.proofs.Common.{◌≡◌, ◌∷◌, inl, inr, refl, sym, subst}
 use Rattle.std.specs.Prelude.{IsPermutation, OnOk}
-use Rattle.waiting_item.specs.Waiting.{as_waiting}
-use Rattle.sweep_core.specs.Sweeps.{LetsWait, Sweep, with_queue}
+use Rattle.waiting_item.specs.Waiting.{as_waiting, spot_in}
+use Rattle.sweep_core.specs.Sweeps.{IsSpentBy, LetsWait, Sweep, with_queue}
 use Rattle.sweep_core.proofs.StepLemmas.{on_ok, on_ok_of}
 use Rattle.sweep_core.proofs.sweep.Sweep.let_wait.Goals as goal
 
 pub returns-then-is_spent-clause-waits : goal.returns-then-is_spent-clause-waits
-returns-then-is_spent-clause-waits g c = inl (c.is_spent.ensures.0 c.if-is_spent.true, refl)
+returns-then-is_spent-clause-waits g c =
+    let spot = spot_in g.S.Cost.StoredCost.components c.args.item.now in
+    inl (subst (λ (z : Sweep). IsSpentBy z.settled z.target spot) c.self.view_is (c.is_spent.ensures.0 c.if-is_spent.true), refl)
 
 pub returns-clause-rest : goal.returns-clause-rest
 returns-clause-rest g c =

@@ -34,7 +34,7 @@ fn is_answer(wanted: &Wanted, case: &Case) -> bool {
     same
 }
 
-/// The enumeration of a case has the answer that is told, and the searches have it too.
+/// The enumeration of a case has the answer that stands in it, and the searches have it too.
 fn check<R: Threads + Sync + Abort>(rt: &R, alloc: Global, case: &Case) -> Result<(), Fail> {
     let name = case.name;
     let drawn = drawn(alloc, case)?;

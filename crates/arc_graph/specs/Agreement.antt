@@ -69,7 +69,7 @@ HasFault files (ZeroArc a) =
 -- what is told of files that aren't joined is theirs, unless memory was wanting
 abbrev pub IsFaultOf : List ArcFile → JoinFault → Type 0
 IsFaultOf files (Files way) = HasFault files way
-IsFaultOf files OutOfMemory = ⊤
+IsFaultOf files (OutOfMemory want) = ⊤
 
 -- the weight of the arc at a place, from 0, in one file
 abbrev pub weight_at : ℕ → ArcFile → ℕ

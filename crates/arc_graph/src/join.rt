@@ -39,17 +39,17 @@ pub enum JoinFault {
     #[error("the files don't agree")]
     Files(Disagreement),
     #[error("out of memory")]
-    OutOfMemory,
+    OutOfMemory(OutOfMemory),
 }
 
 impl From<OutOfMemory> for JoinFault {
     ghost use Rattle.std.specs.Prelude.{◌≡◌};
     ghost use Rattle.arc_graph.specs.declared.join.JoinFault.TheVariants as fault;
 
-    ghost from_gives = { λ _ e. e ≡ fault.OutOfMemory };
+    ghost from_gives = { λ want e. e ≡ fault.OutOfMemory want };
 
-    fn from(_: OutOfMemory) -> JoinFault {
-        JoinFault::OutOfMemory
+    fn from(want: OutOfMemory) -> JoinFault {
+        JoinFault::OutOfMemory(want)
     }
 }
 
@@ -268,7 +268,7 @@ impl Joiner {
     {
         match self.fault() {
             Some(way) => Err(JoinFault::Files(way)),
-            None => self.joined(),
+            None => Ok(self.joined()?),
         }
     }
 
@@ -324,12 +324,11 @@ impl Joiner {
         nodes == self.nodes && arcs as usize == self.ends.len()
     }
 
-    fn joined(self) -> Result<(Graph, Weights), JoinFault>
+    fn joined(self) -> Result<(Graph, Weights), OutOfMemory>
         requires { min_criteria ≤ self.begun }
         ensures criteria { IfOk result (λ r. r.0.criteria ≡ self.begun) }
         ensures matched { IfOk result (λ r. Match r.0 r.1) }
         ensures is_network { IfOk result (λ r. IsNetwork (network r.0 r.1)) }
-        ensures only_memory { IfErr result (λ e. e ≡ JoinFault.OutOfMemory) }
         ensures network { IfOk result (λ r. network r.0 r.1 ≡ record {
           nodes = self.nodes;
           ends = self.ends;

@@ -219,7 +219,7 @@ where
                 Err(RelaxFault::TooWide) => {
                     finish_wide(rounds.widen(alloc)?, workers, alloc, network)
                 }
-                Err(RelaxFault::OutOfMemory) => Err(OutOfMemory),
+                Err(RelaxFault::OutOfMemory(want)) => Err(want),
             },
             Rounds::Wide(rounds) => finish_wide(rounds, workers, alloc, network),
         }
@@ -242,7 +242,7 @@ where
 {
     match rounds.finish(workers, alloc, network) {
         Ok(()) => Ok(Rounds::Wide(rounds)),
-        Err(RelaxFault::OutOfMemory) => Err(OutOfMemory),
+        Err(RelaxFault::OutOfMemory(want)) => Err(want),
         Err(RelaxFault::TooWide) => unreachable!(),
     }
 }

@@ -130,7 +130,6 @@ module _ (net : Network) where
     pub next_err : (fault : LineFault) → Counts old new (Err fault) → Tells old new rest after (Err fault)
         → NextTells net old new rest after (Err (known_as fault (new.number + 1)))
     next_err lines.Read counts tells = tt
-    next_err lines.OutOfMemory counts tells = tt
     next_err lines.TooLong counts tells = breaks lines.TooLong counts.number tells.answer
     next_err lines.Total counts tells = breaks lines.Total counts.number tells.answer
 

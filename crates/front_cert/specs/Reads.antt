@@ -64,7 +64,7 @@ NextTells net old new rest after (Ok false) = (draft : Option Draft) → read_re
 NextTells net old new rest after (Err (Line line)) = (draft : Option Draft) → read_rest net (at old draft) rest ≡ Err line
 NextTells net old new rest after (Err (Rule rule label)) = ⊥
 NextTells net old new rest after (Err Read) = ⊤
-NextTells net old new rest after (Err OutOfMemory) = ⊤
+NextTells net old new rest after (Err (OutOfMemory want)) = ⊤
 
 -- the test that this answer says that the source failed
 abbrev pub cert_failed : {T : Type 0} → Result T CertFault → Bool
@@ -77,14 +77,13 @@ ReadsText net bytes (Ok listing) = read_text net bytes ≡ Ok listing.cert
 ReadsText net bytes (Err (Line line)) = read_text net bytes ≡ Err line
 ReadsText net bytes (Err (Rule rule label)) = ⊥
 ReadsText net bytes (Err Read) = ⊤
-ReadsText net bytes (Err OutOfMemory) = ⊤
+ReadsText net bytes (Err (OutOfMemory want)) = ⊤
 
 -- a fault of the reader of lines, at this line
 abbrev pub known_as : LineFault → ℕ → CertFault
 known_as lines.TooLong line = Line line
 known_as lines.Total line = Line line
 known_as lines.Read line = Read
-known_as lines.OutOfMemory line = OutOfMemory
 
 -- The first line was accepted, and what is left is read with its draft.
 pub record HasHeading (net : Network) (old new : Lines) (rest : List ℕ) (after : Option (List ℕ)) (draft : KeptDraft) : Type 0 where
@@ -98,7 +97,7 @@ BeginTells net old new rest after (Ok draft) = HasHeading net old new rest after
 BeginTells net old new rest after (Err (Line line)) = read_rest net (at old None) rest ≡ Err line
 BeginTells net old new rest after (Err (Rule rule label)) = ⊥
 BeginTells net old new rest after (Err Read) = ⊤
-BeginTells net old new rest after (Err OutOfMemory) = ⊤
+BeginTells net old new rest after (Err (OutOfMemory want)) = ⊤
 
 -- what a check answers for a text: its first faulty line, else the first failure, else the certificate
 abbrev pub ChecksText : Network → List ℕ → Result Listing CertFault → Type 0
@@ -107,4 +106,4 @@ ChecksText net bytes (Err (Line line)) = read_text net bytes ≡ Err line
 ChecksText net bytes (Err (Rule rule label)) =
     (cert : Certificate) × (read_text net bytes ≡ Ok cert) × IsFirstFailure net cert rule label
 ChecksText net bytes (Err Read) = ⊤
-ChecksText net bytes (Err OutOfMemory) = ⊤
+ChecksText net bytes (Err (OutOfMemory want)) = ⊤

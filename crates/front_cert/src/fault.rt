@@ -18,7 +18,7 @@ pub enum CertFault {
     #[error("the source failed")]
     Read,
     #[error("out of memory")]
-    OutOfMemory,
+    OutOfMemory(OutOfMemory),
 }
 
 impl CertFault {
@@ -29,7 +29,6 @@ impl CertFault {
         match fault {
             LineFault::TooLong | LineFault::Total => CertFault::Line { line },
             LineFault::Read => CertFault::Read,
-            LineFault::OutOfMemory => CertFault::OutOfMemory,
         }
     }
 }
@@ -38,9 +37,9 @@ impl From<OutOfMemory> for CertFault {
     ghost use Rattle.std.specs.Prelude.{◌≡◌};
     ghost use Rattle.front_cert.specs.declared.fault.CertFault.TheVariants as fault;
 
-    ghost from_gives = { λ _ e. e ≡ fault.OutOfMemory };
+    ghost from_gives = { λ want e. e ≡ fault.OutOfMemory want };
 
-    fn from(_: OutOfMemory) -> CertFault {
-        CertFault::OutOfMemory
+    fn from(want: OutOfMemory) -> CertFault {
+        CertFault::OutOfMemory(want)
     }
 }

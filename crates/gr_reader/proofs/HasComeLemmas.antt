@@ -52,7 +52,7 @@ module _ {P R : Type 0} (rules : Rules P R) (limits : LineLimits) where
   first_fault bytes records later problem (Line kind line) collects known =
       fault_is_first rules limits bytes kind line (ap (λ known. known.end) collects.parts ∙ ap (λ known. known.end) known)
   first_fault bytes records later problem Read collects known = tt
-  first_fault bytes records later problem OutOfMemory collects known = tt
+  first_fault bytes records later problem (OutOfMemory want) collects known = tt
 
   module _ (start : SourceState) where
     -- the file has a fault where its problem line should be

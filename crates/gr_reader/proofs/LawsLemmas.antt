@@ -62,7 +62,7 @@ module _ {P R : Type 0} (rules : Rules P R) where
       refuses = λ other at first. is_decided.one_fault kind other line at sound first;
     }
     complete IsOf one file (Err Read) sound = record { accepts = λ value is. tt; refuses = λ kind line first. tt }
-    complete IsOf one file (Err OutOfMemory) sound = record { accepts = λ value is. tt; refuses = λ kind line first. tt }
+    complete IsOf one file (Err (OutOfMemory want)) sound = record { accepts = λ value is. tt; refuses = λ kind line first. tt }
 
   -- exactly the files are read to their end
   pub files_are_read : FilesAreRead rules

@@ -61,7 +61,6 @@ pub finds_fault : {P R : Type 0} (rules : Rules P R) (old now new : Lines) (rest
     → Skips rules old now rest more → CountsNone now new → Tells now new more after (Err fault)
     → FindsFault rules old rest (known_as fault (new.number + 1))
 finds_fault rules old now new rest more after lines.Read skips counts tells = tt
-finds_fault rules old now new rest more after lines.OutOfMemory skips counts tells = tt
 finds_fault rules old now new rest more after lines.TooLong skips counts tells =
     let broken = answer_of-broken now more lines.TooLong tells.answer in
     rw counts.number (λ problem come. skips problem come ∙ known_of-broken rules now more problem come broken.0 lines.TooLong LineTooLong refl broken.1)

@@ -25,4 +25,3 @@ abbrev pub known_as : LineFault → ℕ → FileFault
 known_as lines.TooLong line = Line LineTooLong line
 known_as lines.Total line = Line FileTooLong line
 known_as lines.Read line = Read
-known_as lines.OutOfMemory line = OutOfMemory

@@ -83,21 +83,21 @@ ends_with problem end = record { problem = problem; records = []; end = end }
 abbrev pub FaultKnown : {P R : Type 0} → Option P → Known P R → FileFault → Type 0
 FaultKnown problem known (Line kind line) = known ≡ ends_with problem (Some (record { kind = kind; line = line }))
 FaultKnown problem known Read = ⊤
-FaultKnown problem known OutOfMemory = ⊤
+FaultKnown problem known (OutOfMemory want) = ⊤
 
 -- this value is answered, unless the source fails or memory runs out
 abbrev pub Gives : {A : Type 0} → A → Result A FileFault → Type 0
 Gives value (Ok answer) = answer ≡ value
 Gives value (Err (Line kind line)) = ⊥
 Gives value (Err Read) = ⊤
-Gives value (Err OutOfMemory) = ⊤
+Gives value (Err (OutOfMemory want)) = ⊤
 
 -- this fault is answered, unless the source fails or memory runs out
 abbrev pub Refuses : {A : Type 0} → LineKind → ℕ → Result A FileFault → Type 0
 Refuses kind line (Ok answer) = ⊥
 Refuses kind line (Err (Line other at)) = (other ≡ kind) × (at ≡ line)
 Refuses kind line (Err Read) = ⊤
-Refuses kind line (Err OutOfMemory) = ⊤
+Refuses kind line (Err (OutOfMemory want)) = ⊤
 
 module _ {P R : Type 0} (rules : Rules P R) where
   -- A reader may tell this fault: it takes no memory, and a weight is at fault only where one can be out of range.
@@ -105,11 +105,11 @@ module _ {P R : Type 0} (rules : Rules P R) where
   MayTell (Line WeightRange line) = (r : R) × (rules.has_weight r ≡ false)
   MayTell (Line kind line) = ⊤
   MayTell Read = ⊤
-  MayTell OutOfMemory = ⊥
+  MayTell (OutOfMemory want) = ⊥
 
   -- the same of a call that takes memory
   abbrev pub MayAnswer : FileFault → Type 0
-  MayAnswer OutOfMemory = ⊤
+  MayAnswer (OutOfMemory want) = ⊤
   MayAnswer fault = MayTell fault
 
   -- what every reader keeps at a stage: at most all records have come, and the lines go on until the end
@@ -185,7 +185,7 @@ module _ {P R : Type 0} (rules : Rules P R) where
   abbrev pub IsFirstFault : LineLimits → List ℕ → FileFault → Type 0
   IsFirstFault limits bytes (Line kind line) = FirstFault rules limits bytes kind line
   IsFirstFault limits bytes Read = ⊤
-  IsFirstFault limits bytes OutOfMemory = ⊤
+  IsFirstFault limits bytes (OutOfMemory want) = ⊤
 
   -- A whole file was taken, which is that of the text where the text is known.
   pub record TakesWhole (limits : LineLimits) (text : Option (List ℕ)) (HasTaken : P → List R → Type 0) : Type 0 where

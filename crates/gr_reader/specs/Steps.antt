@@ -43,7 +43,7 @@ module _ {P R : Type 0} (rules : Rules P R) where
   FindsFault old rest (Line kind line) =
       AlwaysKnown old rest (λ problem come. ends_with problem (Some (record { kind = kind; line = line })))
   FindsFault old rest Read = ⊤
-  FindsFault old rest OutOfMemory = ⊤
+  FindsFault old rest (OutOfMemory want) = ⊤
 
   -- what an answer says of the rest
   abbrev pub LineKnown : Lines → Lines → List ℕ → Option (List ℕ) → Result Bool FileFault → Type 0

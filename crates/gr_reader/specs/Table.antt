@@ -30,7 +30,6 @@ limit_kind None = None
 limit_kind (Some lines.TooLong) = Some LineTooLong
 limit_kind (Some lines.Total) = Some FileTooLong
 limit_kind (Some lines.Read) = None
-limit_kind (Some lines.OutOfMemory) = None
 
 -- how many bytes a line takes behind `passed` of so many in all: its LF is one of them, which the last line may lack
 abbrev pub size_in : ℕ → ℕ → List ℕ → ℕ

@@ -63,7 +63,7 @@ pub enum FileFault {
     #[error("the source failed")]
     Read,
     #[error("out of memory")]
-    OutOfMemory,
+    OutOfMemory(OutOfMemory),
 }
 
 impl FileFault {
@@ -75,7 +75,6 @@ impl FileFault {
             LineFault::TooLong => LineKind::LineTooLong,
             LineFault::Total => LineKind::FileTooLong,
             LineFault::Read => return FileFault::Read,
-            LineFault::OutOfMemory => return FileFault::OutOfMemory,
         };
         FileFault::Line { kind, line }
     }
@@ -85,9 +84,9 @@ impl From<OutOfMemory> for FileFault {
     ghost use Rattle.std.specs.Prelude.{◌≡◌};
     ghost use Rattle.gr_reader.specs.declared.fault.FileFault.TheVariants as fault;
 
-    ghost from_gives = { λ _ e. e ≡ fault.OutOfMemory };
+    ghost from_gives = { λ want e. e ≡ fault.OutOfMemory want };
 
-    fn from(_: OutOfMemory) -> FileFault {
-        FileFault::OutOfMemory
+    fn from(want: OutOfMemory) -> FileFault {
+        FileFault::OutOfMemory(want)
     }
 }

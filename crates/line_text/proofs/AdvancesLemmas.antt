@@ -5,12 +5,12 @@ use Rattle.std.specs.Io.KnownBytes.{Keeps, Consumes, IsAtEnd, prepend_known}
 use Rattle.route_io.specs.declared.fault.Failed.{Failed}
 use Rattle.route_io.specs.Sources.{SourceState}
 use Rattle.line_text.specs.declared.limits.LineFault.{LineFault}
-use Rattle.line_text.specs.declared.limits.LineFault.TheVariants.{TooLong, Total, Read, OutOfMemory}
+use Rattle.line_text.specs.declared.limits.LineFault.TheVariants.{TooLong, Total, Read}
 use Rattle.line_text.specs.Lines.{first_lf, raw_line, line_size, without_cr}
 use Rattle.line_text.specs.Marks.{first_fault, line_answer}
 use Rattle.line_text.specs.Pieces.{past_line, Refilled, Refills, TakesWhole, LacksLf, Breaks}
 use Rattle.line_text.specs.Reading.{Lines, left_for, rest_of, Counts, CountsLine, CountsNone, Ends, KeepsRest, KnowsEnd, LosesNone, Tells, Advances}
-use Rattle.line_text.proofs.LineLemmas.{BeginsAlike, begins_alike, begins_alike-nil, first_lf-le, first_lf-part, length-raw_line, length-without_cr, lines_of-first, answer_of-some, never_read, never_memory, first_fault-alike, first_fault-broken}
+use Rattle.line_text.proofs.LineLemmas.{BeginsAlike, begins_alike, begins_alike-nil, first_lf-le, first_lf-part, length-raw_line, length-without_cr, lines_of-first, answer_of-some, never_read, first_fault-alike, first_fault-broken}
 
 -- Bytes were taken from a source behind those that were held, and there is no current line.
 pub record Holds (old now : Lines) (before after : SourceState) : Type 0 where
@@ -102,25 +102,23 @@ module _ (old now new : Lines) (before after : SourceState) (holds : Holds old n
 
   -- a step that loses no byte, as its answer says
   advances_by : (next : Lines) (result : Result Bool LineFault) → next.limits ≡ old.limits → next.ended ≡ now.ended → Counts old next result
-      → (result ≡ Err OutOfMemory → ⊥) → (result ≡ Err Read → now.ended ≡ false) → next.passed + length next.held ≡ old.passed + length now.held
+      → (result ≡ Err Read → now.ended ≡ false) → next.passed + length next.held ≡ old.passed + length now.held
       → ((more : List ℕ) → left_for now after ≡ Some more → Tells old next (now.held ++ more) (Some (next.held ++ more)) result)
       → Advances old next before after result
-  advances_by next result limits ended counts memory goes_on kept each = record {
+  advances_by next result limits ended counts goes_on kept each = record {
     limits = limits;
     counts = counts;
     lines = subst (λ is. IfSome (rest_of old before) (λ rest. Tells old next rest (prepend_known next.held (cond is (Some []) after.left)) result))
         (sym ended) (known _ _ now.held (λ rest left. Tells old next rest (prepend_known next.held left) result) holds.rest each);
     loses_none = loses_none-kept old now next before after holds.loses_none (omega (arith, kept, is_same));
     ends = ends_by old now next before after result ended holds.stays_ended holds.knows_end goes_on;
-    takes_no_memory = memory;
   }
 
-  advances_same : (result : Result Bool LineFault) → (CountsNone old same → Counts old same result) → (result ≡ Err OutOfMemory → ⊥)
-      → (result ≡ Err Read → now.ended ≡ false)
+  advances_same : (result : Result Bool LineFault) → (CountsNone old same → Counts old same result) → (result ≡ Err Read → now.ended ≡ false)
       → ((more : List ℕ) → left_for now after ≡ Some more → Tells old same (now.held ++ more) (Some (now.held ++ more)) result)
       → Advances old same before after result
-  advances_same result counts memory goes_on tells =
-      advances_by same result refl refl (counts (record { text = refl; number = refl; passed = refl })) memory goes_on refl tells
+  advances_same result counts goes_on tells =
+      advances_by same result refl refl (counts (record { text = refl; number = refl; passed = refl })) goes_on refl tells
 
   counts_line : 0 < length now.held → CountsLine old (past_line same)
   counts_line some =
@@ -133,7 +131,7 @@ module _ (old now new : Lines) (before after : SourceState) (holds : Holds old n
       → (now.ended ≡ false → first_lf now.held < length now.held)
       → ((more : List ℕ) → left_for now after ≡ Some more → BeginsAlike now.held more) → Advances old (past_line same) before after (Ok true)
   advances_past some within whole alike =
-      advances_by (past_line same) (Ok true) refl refl (counts_line some) (λ e. cc) (λ e. absurd cc)
+      advances_by (past_line same) (Ok true) refl refl (counts_line some) (λ e. absurd cc)
       (omega (arith, length-raw_line now.held, first_lf-le now.held, length-drop {A = ℕ})) (λ more left.
       let line = alike more left in
       let long : 0 < length (now.held ++ more) = omega (arith, length-append now.held more) in
@@ -168,10 +166,10 @@ module _ (old now new : Lines) (before after : SourceState) (holds : Holds old n
   }
 
   advances_fault : (fault : LineFault) → Breaks same new fault → Advances old same before after (Err fault)
-  advances_fault TooLong breaks = advances_same (Err TooLong) (λ none. none) (λ e. cc) (λ e. absurd cc) (λ more left. broken TooLong breaks more)
-  advances_fault Total breaks = advances_same (Err Total) (λ none. none) (λ e. cc) (λ e. absurd cc) (λ more left. broken Total breaks more)
+  advances_fault TooLong breaks = advances_same (Err TooLong) (λ none. none) (λ e. absurd cc) (λ more left. broken TooLong breaks more)
+  advances_fault Total breaks = advances_same (Err Total) (λ none. none) (λ e. absurd cc) (λ more left. broken Total breaks more)
   advances_fault Read breaks = absurd (never_read old.limits old.passed (length (raw_line now.held)) (line_size now.held) breaks.broken)
-  advances_fault OutOfMemory breaks = absurd (never_memory old.limits old.passed (length (raw_line now.held)) (line_size now.held) breaks.broken)
+
 
   pub advances_broken : (fault : LineFault) → Breaks now new fault → Advances old new before after (Err fault)
   advances_broken fault breaks = let step = rw holds.stays at breaks in rw step.same (advances_fault fault step)
@@ -185,12 +183,12 @@ module _ (old now new : Lines) (before after : SourceState) (holds : Holds old n
       (λ more left. let nothing : more ≡ [] = none_left now after more end left in rw nothing (begins_alike-nil now.held)))
   advances_end false whole none within end =
       let last = none refl in
-      rw (last.1, holds.stays) (advances_same (Ok false) (λ none. (none, end)) (λ e. cc) (λ e. absurd cc) (λ more left.
+      rw (last.1, holds.stays) (advances_same (Ok false) (λ none. (none, end)) (λ e. absurd cc) (λ more left.
       let nothing : more ≡ [] = none_left now after more end left in record { answer = rw (last.0, nothing) refl; left = refl }))
 
   -- a read failed
   pub advances_failed : now.ended ≡ false → Advances old now before after (Err Read)
-  advances_failed goes_on = rw holds.stays (advances_same (Err Read) (λ none. none) (λ e. cc) (λ e. goes_on) (λ more left. refl))
+  advances_failed goes_on = rw holds.stays (advances_same (Err Read) (λ none. none) (λ e. goes_on) (λ more left. refl))
 
 -- a read behind the bytes that are held, which have no LF
 module _ (now mid next : Lines) (lacks : LacksLf now mid) (stays : next ≡ record mid { held = next.held; ended = next.ended })

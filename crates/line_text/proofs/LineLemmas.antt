@@ -8,7 +8,7 @@ use Rattle.std.proofs.lemmas.List.Sums.{prefix_len-le-length}
 use Rattle.std.proofs.lemmas.Bool.{cases_lt}
 use Rattle.line_text.specs.Lines.{is_lf, first_lf, raw_line, after_line, line_size, without_cr, lines_of}
 use Rattle.line_text.specs.declared.limits.LineFault.{LineFault}
-use Rattle.line_text.specs.declared.limits.LineFault.TheVariants.{Read, OutOfMemory}
+use Rattle.line_text.specs.declared.limits.LineFault.TheVariants.{Read}
 use Rattle.line_text.specs.declared.limits.LineLimits.{LineLimits}
 use Rattle.line_text.specs.Marks.{line_fault, first_fault, line_answer, answer_of}
 
@@ -106,8 +106,7 @@ answer_of-some limits passed (byte ∷ text) some = refl
 pub never_read : (limits : LineLimits) (passed raw size : ℕ) → line_fault limits passed raw size ≡ Some Read → ⊥
 never_read limits passed raw size e = grind (arith, nat_tests)
 
-pub never_memory : (limits : LineLimits) (passed raw size : ℕ) → line_fault limits passed raw size ≡ Some OutOfMemory → ⊥
-never_memory limits passed raw size e = grind (arith, nat_tests)
+
 
 -- a fault that stands while a line without an LF is known stays when all of it is known
 fault_stays : (limits : LineLimits) (passed known all raw size : ℕ) (fault : LineFault) → all ≡ known → known ≤ raw → raw ≤ size

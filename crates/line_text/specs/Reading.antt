@@ -131,4 +131,3 @@ pub record Advances (old new : Lines) (before after : SourceState) (result : Res
   pub lines : IfSome (rest_of old before) (λ rest. Tells old new rest (rest_of new after) result)
   pub loses_none : LosesNone old new before after
   pub ends : Ends old new before after result
-  pub takes_no_memory : result ≢ Err fault.OutOfMemory

@@ -3,7 +3,7 @@ use Rattle.std.specs.Prelude.{◌≡◌, ◌<◌, ◌≤◌, ◌+◌, ◌-◌, �
 use Rattle.std.specs.Prelude.{Option, Some, None, IfSome, Result, Ok, Err}
 use Rattle.route_io.specs.Sources.{SourceState}
 use Rattle.line_text.specs.declared.limits.LineFault.{LineFault}
-use Rattle.line_text.specs.declared.limits.LineFault.TheVariants.{Total, Read, TooLong, OutOfMemory}
+use Rattle.line_text.specs.declared.limits.LineFault.TheVariants.{Total, Read, TooLong}
 use Rattle.line_text.specs.declared.limits.LineLimits.{LineLimits}
 use Rattle.line_text.specs.declared.limits.Request.{Request}
 use Rattle.line_text.specs.declared.limits.Request.TheVariants.{Whole, Long}
@@ -75,7 +75,6 @@ RequestCounts old new (Ok None) = CountsEnd old new
 RequestCounts old new (Err Read) = FailsRead old new
 RequestCounts old new (Err Total) = ReachesTotal old new
 RequestCounts old new (Err TooLong) = ⊥
-RequestCounts old new (Err OutOfMemory) = ⊥
 
 -- The first line of the rest is this request, and what stands behind it is left.
 pub record TakesFirst (old new : Lines) (rest : List ℕ) (after : Option (List ℕ)) (request : Request) : Type 0 where

@@ -16,8 +16,6 @@ pub enum LineFault {
     TooLong,
     #[error("the input is too long")]
     Total,
-    #[error("out of memory")]
-    OutOfMemory,
 }
 
 /// What the next line is as a request.

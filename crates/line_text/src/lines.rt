@@ -1,4 +1,4 @@
-ghost use Rattle.std.specs.Prelude.{◌≡◌, ◌≢◌, ◌↔◌, ◌+◌, ◌-◌, ◌<◌, ◌≤◌, ◌++◌, List, [], length, take, drop, false, true};
+ghost use Rattle.std.specs.Prelude.{◌≡◌, ◌↔◌, ◌+◌, ◌-◌, ◌<◌, ◌≤◌, ◌++◌, List, [], length, take, drop, false, true};
 ghost use Rattle.std.specs.Prelude.{Ok, Err, Some, IfOk, OnOk, OnErr, IfSome, IfNone, IsTrue, MatchOption, min};
 ghost use Rattle.std.specs.Prelude.{None, IfErr, ◌||◌, nat_lt};
 ghost use Rattle.std.specs.Result.{result_err};
@@ -47,8 +47,7 @@ pub struct Lines {
 }
 
 impl Model for Lines {
-    ghost use Rattle.std.specs.Prelude.{◌≡◌, ◌≢◌, ◌-◌, Some, vec_len};
-    ghost use Rattle.line_text.specs.declared.limits.LineFault.TheVariants.{OutOfMemory};
+    ghost use Rattle.std.specs.Prelude.{◌≡◌, ◌-◌, vec_len};
     ghost use Rattle.line_text.specs.Pieces.{InBounds, LiesIn, part_of};
     ghost use Rattle.line_text.specs.Reading.{Lines, max_held};
 
@@ -67,8 +66,7 @@ impl Model for Lines {
     ghost invariant = { λ lines. (vec_len lines.buffer ≡ max_held)
         × LiesIn max_held lines.text × LiesIn max_held lines.held
         × InBounds lines.limits (lines.text.end - lines.text.start)
-        (lines.held.end - lines.held.start) lines.number lines.passed
-        × (lines.fault ≢ Some OutOfMemory) };
+        (lines.held.end - lines.held.start) lines.number lines.passed };
 }
 
 impl Lines {
@@ -103,7 +101,6 @@ impl Lines {
 
         // A fault is kept, and no other answer leaves one.
         ensures keeps_fault { self.new.fault ≡ result_err result }
-        ensures takes_no_memory { result ≢ Err LineFault.OutOfMemory }
 
         // Over every source the counts are those of lines, and at most one byte past the total is passed or held.
         // Where the source tells its bytes, the lines are those of what is left, in whatever pieces it comes, and no

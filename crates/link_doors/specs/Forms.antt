@@ -86,7 +86,7 @@ memory_town_state town = record {
 abbrev pub after_listen : {T : Type 0} → CallList → Result T TownFault → CallList
 after_listen calls (Ok doors) = counted calls
 after_listen calls (Err town.Failed) = faulted calls
-after_listen calls (Err town.OutOfMemory) = calls
+after_listen calls (Err (town.OutOfMemory want)) = calls
 
 -- what a connection shows as a link: the faults of its reads and of its writes
 abbrev pub host_link_state : Link ℕ ℕ → LinkState

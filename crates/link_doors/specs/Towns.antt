@@ -47,7 +47,7 @@ abbrev pub Listens : TownState → TownState → ℕ → ℕ → Result (List Do
 Listens old new lanes links (Ok doors) = HandsOut old new lanes links doors
 Listens old new lanes links (Err town.Failed) =
     (faults : ℕ) × Rose old.faults faults × (new ≡ record old { asked = true; faults = faults })
-Listens old new lanes links (Err town.OutOfMemory) = new ≡ old
+Listens old new lanes links (Err (town.OutOfMemory want)) = new ≡ old
 
 -- One of these doors has failed.
 abbrev pub any_failed : List DoorState → Bool

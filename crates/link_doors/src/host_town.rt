@@ -78,9 +78,7 @@ impl<R: Net<Listener = TcpListener, Stream = TcpStream>> Town for HostTown<R> {
             lanes links (doors_shown host_door_state result) }
     {
         let count_of_doors = u64::from(lanes) + 1;
-        let Ok(mut doors) = Vec::with_capacity(self.alloc, count_of_doors as usize) else {
-            return Err(TownFault::OutOfMemory);
-        };
+        let mut doors = Vec::with_capacity(self.alloc, count_of_doors as usize)?;
         self.asked = true;
         if open_doors(&self.rt, sessions, operator, lanes, links, &mut doors).is_err() {
             count(&mut self.faults);

@@ -95,9 +95,7 @@ impl Town for MemoryTown {
             lanes links (doors_shown memory_door_state result) }
     {
         let count = u64::from(lanes) + 1;
-        let Ok(mut doors) = Vec::with_capacity(self.alloc, count as usize) else {
-            return Err(TownFault::OutOfMemory);
-        };
+        let mut doors = Vec::with_capacity(self.alloc, count as usize)?;
         self.asked = true;
         if self.calls.make().is_err() {
             return Err(TownFault::Failed);

@@ -2,6 +2,8 @@ ghost use Rattle.std.specs.Prelude.{◌≡◌, ℕ, List, map, length, false};
 ghost use Rattle.link_doors.specs.Towns.{AreNumbered, Listens, TakesBack, TownState, doors_shown};
 
 use crate::Door;
+use out_of_memory::OutOfMemory;
+use std::alloc::AllocError;
 use thiserror::Error;
 
 /// Why a town doesn't listen.
@@ -10,7 +12,18 @@ pub enum TownFault {
     #[error("the town failed")]
     Failed,
     #[error("the town is out of memory")]
-    OutOfMemory,
+    OutOfMemory(OutOfMemory),
+}
+
+impl From<AllocError> for TownFault {
+    ghost use Rattle.std.specs.Prelude.{◌≢◌};
+    ghost use Rattle.link_doors.specs.declared.town.TownFault.TheVariants as town;
+
+    ghost from_gives = { λ _ fault. fault ≢ town.Failed };
+
+    fn from(want: AllocError) -> TownFault {
+        TownFault::OutOfMemory(want.into())
+    }
 }
 
 /// What listens at two addresses, one for sessions and one for their operator.

@@ -7,9 +7,11 @@ use std::alloc::{AllocError, AllocFailed};
 use std::error::Error;
 use std::fmt;
 
-/// An allocation failed.
+/// An allocation failed. It is made of the allocator's own errors alone, so whoever answers it saw one.
 #[derive(Clone, Copy, Debug, PartialEq, Eq)]
-pub struct OutOfMemory;
+pub struct OutOfMemory {
+    error: AllocError,
+}
 
 impl fmt::Display for OutOfMemory {
     ghost output = { λ _. Some (codes "out of memory") };
@@ -22,13 +24,15 @@ impl fmt::Display for OutOfMemory {
 impl Error for OutOfMemory {}
 
 impl From<AllocError> for OutOfMemory {
-    fn from(_error: AllocError) -> OutOfMemory {
-        OutOfMemory
+    fn from(error: AllocError) -> OutOfMemory {
+        OutOfMemory { error }
     }
 }
 
 impl<T: Drop> From<AllocFailed<T>> for OutOfMemory {
-    fn from(_error: AllocFailed<T>) -> OutOfMemory {
-        OutOfMemory
+    fn from(failed: AllocFailed<T>) -> OutOfMemory {
+        OutOfMemory {
+            error: failed.into(),
+        }
     }
 }

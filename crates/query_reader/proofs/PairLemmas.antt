@@ -15,7 +15,7 @@ pub no_weight : (fault : FileFault) → MayAnswer pairs fault → BlamesNoWeight
 no_weight (Line WeightRange line) may = let wrong = may.1 in absurd cc
 no_weight (Line kind line) may = tt
 no_weight Read may = tt
-no_weight OutOfMemory may = tt
+no_weight (OutOfMemory want) may = tt
 
 -- what is sound of a file of pairs is complete
 pub pairs_complete : (limits : LineLimits) (bytes : List ℕ) (result : Result (List Pair) FileFault)

@@ -44,16 +44,16 @@ pub enum SearchFault {
     #[error("the budget is too small")]
     Budget,
     #[error("out of memory")]
-    OutOfMemory,
+    OutOfMemory(OutOfMemory),
 }
 
 impl From<OutOfMemory> for SearchFault {
     ghost use Rattle.std.specs.Prelude.{◌≡◌};
     ghost use Rattle.road_network.specs.declared.query.SearchFault.TheVariants as fault;
 
-    ghost from_gives = { λ _ e. e ≡ fault.OutOfMemory };
+    ghost from_gives = { λ want e. e ≡ fault.OutOfMemory want };
 
-    fn from(_: OutOfMemory) -> SearchFault {
-        SearchFault::OutOfMemory
+    fn from(want: OutOfMemory) -> SearchFault {
+        SearchFault::OutOfMemory(want)
     }
 }

@@ -5,7 +5,7 @@ use std::alloc::{AllocError, AllocFailed};
 #[derive(Clone, Copy, Debug, PartialEq, Eq)]
 pub enum RelaxFault {
     /// Memory ran out.
-    OutOfMemory,
+    OutOfMemory(OutOfMemory),
     /// A candidate's cost has no room at the width of the taken costs.
     TooWide,
 }
@@ -14,31 +14,31 @@ impl From<OutOfMemory> for RelaxFault {
     ghost use Rattle.std.specs.Prelude.{◌≡◌};
     ghost use Rattle.round_work.specs.declared.fault.RelaxFault.TheVariants as fault;
 
-    ghost from_gives = { λ _ e. e ≡ fault.OutOfMemory };
+    ghost from_gives = { λ want e. e ≡ fault.OutOfMemory want };
 
-    fn from(_: OutOfMemory) -> RelaxFault {
-        RelaxFault::OutOfMemory
+    fn from(want: OutOfMemory) -> RelaxFault {
+        RelaxFault::OutOfMemory(want)
     }
 }
 
 impl From<AllocError> for RelaxFault {
-    ghost use Rattle.std.specs.Prelude.{◌≡◌};
+    ghost use Rattle.std.specs.Prelude.{◌≢◌};
     ghost use Rattle.round_work.specs.declared.fault.RelaxFault.TheVariants as fault;
 
-    ghost from_gives = { λ _ e. e ≡ fault.OutOfMemory };
+    ghost from_gives = { λ _ e. e ≢ fault.TooWide };
 
-    fn from(_: AllocError) -> RelaxFault {
-        RelaxFault::OutOfMemory
+    fn from(want: AllocError) -> RelaxFault {
+        RelaxFault::OutOfMemory(want.into())
     }
 }
 
 impl<T: Drop> From<AllocFailed<T>> for RelaxFault {
-    ghost use Rattle.std.specs.Prelude.{◌≡◌};
+    ghost use Rattle.std.specs.Prelude.{◌≢◌};
     ghost use Rattle.round_work.specs.declared.fault.RelaxFault.TheVariants as fault;
 
-    ghost from_gives = { λ _ e. e ≡ fault.OutOfMemory };
+    ghost from_gives = { λ _ e. e ≢ fault.TooWide };
 
-    fn from(_: AllocFailed<T>) -> RelaxFault {
-        RelaxFault::OutOfMemory
+    fn from(want: AllocFailed<T>) -> RelaxFault {
+        RelaxFault::OutOfMemory(want.into())
     }
 }

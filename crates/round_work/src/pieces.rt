@@ -50,7 +50,7 @@ where
         match self.append_piece(piece, &mut candidates) {
             Ok(()) => Ok(Some(candidates)),
             Err(RelaxFault::TooWide) => Ok(None),
-            Err(RelaxFault::OutOfMemory) => Err(OutOfMemory),
+            Err(RelaxFault::OutOfMemory(want)) => Err(want),
         }
     }
 }

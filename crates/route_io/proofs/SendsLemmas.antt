@@ -36,7 +36,7 @@ module _ (old mid new : SinkState) where
   cause-then : {T : Type 0} (result : Result T WriteFault) → WritesTo old mid false false → WriteHasCause mid new result → WriteHasCause old new result
   cause-then (Ok value) first second = WritesTo-then false false first second
   cause-then (Err write.Failed) first second = WritesTo-then _ _ first second
-  cause-then (Err write.OutOfMemory) first second = WritesTo-then _ _ first second
+  cause-then (Err (write.OutOfMemory want)) first second = WritesTo-then _ _ first second
 
   bytes-then : {T : Type 0} (a b : List ℕ) (result : Result T WriteFault) → Appends old.sent mid.sent a → SendsOrPrefix mid.sent new.sent b result
       → SendsOrPrefix old.sent new.sent (a ++ b) result
@@ -91,8 +91,8 @@ sent_part-by old mid new text rest fault some before kept cause =
 pub sent_part : (old mid new : SinkState) (text rest : List ℕ) (fault : WriteFault) → 0 < length rest → SentUpTo old mid text rest
     → Writes mid new rest (Err fault) → Sends {T = Unit {0}} old new text (Err fault)
 sent_part old mid new text rest write.Failed some before refusal = sent_part-by old mid new text rest write.Failed some before refusal.bytes refusal.cause
-sent_part old mid new text rest write.OutOfMemory some before refusal =
-    sent_part-by old mid new text rest write.OutOfMemory some before refusal.bytes refusal.cause
+sent_part old mid new text rest (write.OutOfMemory want) some before refusal =
+    sent_part-by old mid new text rest (write.OutOfMemory want) some before refusal.bytes refusal.cause
 
 -- the whole text was sent, where nothing is left of it
 pub sent_whole : (old new : SinkState) (text rest : List ℕ) → length rest ≡ 0 → SentUpTo old new text rest → Sent old new text

@@ -35,4 +35,4 @@ after_call calls (Err fault) = faulted calls
 abbrev pub after_write : {T : Type 0} → CallList → Result T WriteFault → CallList
 after_write calls (Ok n) = counted calls
 after_write calls (Err write.Failed) = faulted calls
-after_write calls (Err write.OutOfMemory) = counted calls
+after_write calls (Err (write.OutOfMemory want)) = counted calls

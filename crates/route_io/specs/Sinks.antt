@@ -24,7 +24,7 @@ pub record WritesTo (old new : SinkState) (failed wanted : Bool) : Type 0 where
 abbrev pub WriteHasCause : {T : Type 0} → SinkState → SinkState → Result T WriteFault → Type 0
 WriteHasCause old new (Ok n) = WritesTo old new false false
 WriteHasCause old new (Err write.Failed) = WritesTo old new true false
-WriteHasCause old new (Err write.OutOfMemory) = WritesTo old new false true
+WriteHasCause old new (Err (write.OutOfMemory want)) = WritesTo old new false true
 
 -- One write: the sink took at least one byte from the front of the piece, or at a fault nothing.
 pub record Writes (old new : SinkState) (piece : List ℕ) (result : Result ℕ WriteFault) : Type 0 where

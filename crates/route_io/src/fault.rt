@@ -1,3 +1,4 @@
+use out_of_memory::OutOfMemory;
 use thiserror::Error;
 
 /// The outside failed: a read, a write, or the choice of a file.
@@ -11,5 +12,5 @@ pub enum WriteFault {
     #[error("the sink failed")]
     Failed,
     #[error("the sink is out of memory")]
-    OutOfMemory,
+    OutOfMemory(OutOfMemory),
 }

@@ -1,5 +1,5 @@
 //! Forms in memory that fail at a missing name alone. They tell their bytes to contracts.
-ghost use Rattle.std.specs.Prelude.{◌≡◌, ◌<◌, ◌↔◌, [], Some, None, Ok, length, min, IsErr, IfOk, IfErr, OnOk, OnErr};
+ghost use Rattle.std.specs.Prelude.{◌≡◌, ◌≢◌, ◌<◌, ◌↔◌, [], Some, None, Ok, Err, length, min, IsErr, IfOk, OnOk, OnErr};
 ghost use Rattle.route_io.specs.Causes.{count_up};
 ghost use Rattle.route_io.specs.Files.{first_of_name};
 ghost use Rattle.route_io.specs.Forms.{sure_folder_state, sure_sink_state, sure_source_state};
@@ -93,14 +93,14 @@ impl Sink for SureSink {
 
     fn write(&mut self, piece: &[u8]) -> Result<usize, WriteFault>
         requires { 0 < length piece.now }
-        ensures never_fails { IfErr result (λ fault. fault ≡ WriteFault.OutOfMemory) }
+        ensures never_fails { result ≢ Err WriteFault.Failed }
         ensures whole { IfOk result (λ n. n ≡ length piece.now) }
         ensures writes { Writes
             (sure_sink_state self.old) (sure_sink_state self.new) piece.now result }
     {
-        if self.sent.extend_from_slice(piece).is_err() {
+        if let Err(want) = self.sent.extend_from_slice(piece) {
             count(&mut self.wants);
-            return Err(WriteFault::OutOfMemory);
+            return Err(WriteFault::OutOfMemory(want.into()));
         }
         Ok(piece.len())
     }

@@ -10,17 +10,17 @@ pub enum ReplyFault {
     Out(WriteFault),
     /// Memory ran out before its first byte.
     #[error("out of memory")]
-    OutOfMemory,
+    OutOfMemory(OutOfMemory),
 }
 
 impl From<OutOfMemory> for ReplyFault {
     ghost use Rattle.std.specs.Prelude.{◌≡◌};
     ghost use Rattle.session_core.specs.declared.fault.ReplyFault.TheVariants as fault;
 
-    ghost from_gives = { λ _ e. e ≡ fault.OutOfMemory };
+    ghost from_gives = { λ want e. e ≡ fault.OutOfMemory want };
 
-    fn from(_: OutOfMemory) -> ReplyFault {
-        ReplyFault::OutOfMemory
+    fn from(want: OutOfMemory) -> ReplyFault {
+        ReplyFault::OutOfMemory(want)
     }
 }
 

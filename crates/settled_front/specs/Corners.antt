@@ -1,5 +1,5 @@
 -- Blocks of costs with their corners, of which the front of a node under 3 or 4 criteria is made.
-use Rattle.std.specs.Prelude.{◌≡◌, ◌≢◌, ℕ, ◌+◌, ◌*◌, ◌/◌, ◌%◌, ◌<◌, ◌≤◌, ◌++◌, List, [], length, slice_index_or, All, AllPairs}
+use Rattle.std.specs.Prelude.{◌≡◌, ◌≢◌, ℕ, ◌+◌, ◌-◌, ◌*◌, ◌/◌, ◌%◌, ◌^◌, ◌<◌, ◌≤◌, ◌++◌, List, [], length, min, slice_index_or, All, AllPairs}
 use Rattle.std.specs.List.{flat_map}
 use Rattle.cost_vector.specs.Costs.{AtMost, min_criteria}
 use Rattle.settled_front.specs.Blocks.{HasLane, block_size}
@@ -42,8 +42,8 @@ pub record CoversAmong (blocks : List (List (List ℕ))) (lanes : ℕ) (c : List
   pub has : HasLane lanes lane
   pub covered : IsCovered (slice_index_or blocks lane []) c
 
--- so many costs, in blocks and at most as many latest ones as a block has, and no cost twice
+-- so many costs, as far as a number of 64 bits can tell, in blocks and at most as many latest ones as a block has, and no cost twice
 pub record IsBlockFront (in_blocks latest : List (List ℕ)) (len : ℕ) : Type 0 where
   pub few : length latest ≤ block_size
-  pub counted : len ≡ length (in_blocks ++ latest)
+  pub counted : len ≡ min (length (in_blocks ++ latest)) (2 ^ 64 - 1)
   pub once : AllPairs ◌≢◌ (in_blocks ++ latest)

@@ -74,12 +74,9 @@ impl<const D: usize, B: CostBlock<D>> BlockFront<D, B> {
             IsPermutation (B.Cost.components cost.now ∷ self.old) self.new) }
         ensures same { OnErr result (self.new ≡ self.old) }
     {
-        let Some(len) = self.len.checked_add(1) else {
-            return Err(OutOfMemory);
-        };
         make_room(&mut self.blocks, &mut self.latest)?;
         self.latest.push(cost);
-        self.len = len;
+        self.len = self.len.saturating_add(1);
         // The only latest cost comes where a block was just made.
         self.blocks.order_last(self.latest.len() == 1);
         Ok(())

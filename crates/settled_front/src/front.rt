@@ -1,4 +1,4 @@
-ghost use Rattle.std.specs.Prelude.{◌≡◌, ℕ, ◌≤◌, ◌↔◌, List, [], ◌∷◌, length, map, All, IfOk, IsPermutation, IsTrue, OnErr};
+ghost use Rattle.std.specs.Prelude.{◌≡◌, ℕ, ◌-◌, ◌^◌, ◌≤◌, ◌↔◌, List, [], ◌∷◌, length, map, min, All, IfOk, IsPermutation, IsTrue, OnErr};
 ghost use Rattle.cost_vector.specs.Costs.{Dominates, max_criteria, min_criteria};
 ghost use Rattle.settled_front.specs.Fronts.{IsCovered, ListsCosts};
 
@@ -21,9 +21,9 @@ pub trait SettledFront<const D: usize>: Drop {
         requires four { D ≤ max_criteria }
         ensures { costs result ≡ [] };
 
-    /// How many costs are there.
+    /// How many costs are there, as far as a number of 64 bits can tell.
     fn len(&self) -> usize
-        ensures { result ≡ length (costs self.now) };
+        ensures { result ≡ min (length (costs self.now)) (2 ^ 64 - 1) };
 
     /// Whether some cost there is at most this one.
     fn covers(&self, cost: &Self::Cost) -> bool

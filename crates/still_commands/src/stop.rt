@@ -34,7 +34,7 @@ pub enum ScriptFault {
     Folder,
     /// It has more bytes than a script may have.
     TooLong,
-    OutOfMemory,
+    OutOfMemory(OutOfMemory),
 }
 
 /// Why a run isn't done. Commands that wait for nobody are never stopped by a script or by the town.
@@ -81,7 +81,7 @@ pub enum Stop<'a> {
     Refused,
     /// The town failed, or one of its doors.
     Town,
-    OutOfMemory,
+    OutOfMemory(OutOfMemory),
 }
 
 impl Stop<'_> {
@@ -338,10 +338,10 @@ impl From<OutOfMemory> for Stop<'_> {
     ghost use Rattle.std.specs.Prelude.{◌≡◌};
     ghost use Rattle.still_commands.specs.declared.stop.Stop.TheVariants as stop;
 
-    ghost from_gives = { λ _ s. s ≡ stop.OutOfMemory };
+    ghost from_gives = { λ want s. s ≡ stop.OutOfMemory want };
 
-    fn from(_: OutOfMemory) -> Self {
-        Stop::OutOfMemory
+    fn from(want: OutOfMemory) -> Self {
+        Stop::OutOfMemory(want)
     }
 }
 

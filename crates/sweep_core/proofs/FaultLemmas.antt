@@ -17,7 +17,7 @@ was_wide (Err e) f h is = sym h ∙ ap (error_or f) is
 
 of_wide : (f : StoreFault) → fault_of f ≡ sweep.TooWide → f ≡ store.TooWide
 of_wide store.TooWide is = refl
-of_wide store.OutOfMemory is = search rules
+of_wide (store.OutOfMemory want) is = search rules
 
 pub was_wide_store : {A : Type 0} (r : Result A SweepFault) (f : StoreFault) → IsErrAnd r (λ e. e ≡ fault_of f) → r ≡ Err sweep.TooWide → f ≡ store.TooWide
 was_wide_store (Ok a) f h is = absurd h

@@ -6,5 +6,5 @@ use Rattle.sweep_core.specs.declared.fault.SweepFault.TheVariants as sweep
 
 -- the same cause
 abbrev pub fault_of : StoreFault → SweepFault
-fault_of store.OutOfMemory = sweep.OutOfMemory
+fault_of (store.OutOfMemory want) = sweep.OutOfMemory want
 fault_of store.TooWide = sweep.TooWide

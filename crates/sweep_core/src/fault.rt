@@ -5,7 +5,7 @@ use std::alloc::AllocFailed;
 #[derive(Clone, Copy, Debug, PartialEq, Eq)]
 pub enum StoreFault {
     /// There was no memory for it.
-    OutOfMemory,
+    OutOfMemory(OutOfMemory),
     /// It has no room at this width.
     TooWide,
 }
@@ -14,7 +14,7 @@ pub enum StoreFault {
 #[derive(Clone, Copy, Debug, PartialEq, Eq)]
 pub enum SweepFault {
     /// There was no memory for more.
-    OutOfMemory,
+    OutOfMemory(OutOfMemory),
     /// More is relevant than the budget allows.
     Budget,
     /// A cost has no room at this width.
@@ -25,21 +25,21 @@ impl From<OutOfMemory> for StoreFault {
     ghost use Rattle.std.specs.Prelude.{◌≡◌};
     ghost use Rattle.sweep_core.specs.declared.fault.StoreFault.TheVariants as fault;
 
-    ghost from_gives = { λ _ e. e ≡ fault.OutOfMemory };
+    ghost from_gives = { λ want e. e ≡ fault.OutOfMemory want };
 
-    fn from(_: OutOfMemory) -> StoreFault {
-        StoreFault::OutOfMemory
+    fn from(want: OutOfMemory) -> StoreFault {
+        StoreFault::OutOfMemory(want)
     }
 }
 
 impl<T: Drop> From<AllocFailed<T>> for StoreFault {
-    ghost use Rattle.std.specs.Prelude.{◌≡◌};
+    ghost use Rattle.std.specs.Prelude.{◌≢◌};
     ghost use Rattle.sweep_core.specs.declared.fault.StoreFault.TheVariants as fault;
 
-    ghost from_gives = { λ _ e. e ≡ fault.OutOfMemory };
+    ghost from_gives = { λ _ e. e ≢ fault.TooWide };
 
-    fn from(_: AllocFailed<T>) -> StoreFault {
-        StoreFault::OutOfMemory
+    fn from(want: AllocFailed<T>) -> StoreFault {
+        StoreFault::OutOfMemory(want.into())
     }
 }
 
@@ -47,10 +47,10 @@ impl From<OutOfMemory> for SweepFault {
     ghost use Rattle.std.specs.Prelude.{◌≡◌};
     ghost use Rattle.sweep_core.specs.declared.fault.SweepFault.TheVariants as fault;
 
-    ghost from_gives = { λ _ e. e ≡ fault.OutOfMemory };
+    ghost from_gives = { λ want e. e ≡ fault.OutOfMemory want };
 
-    fn from(_: OutOfMemory) -> SweepFault {
-        SweepFault::OutOfMemory
+    fn from(want: OutOfMemory) -> SweepFault {
+        SweepFault::OutOfMemory(want)
     }
 }
 
@@ -62,7 +62,7 @@ impl From<StoreFault> for SweepFault {
 
     fn from(fault: StoreFault) -> SweepFault {
         match fault {
-            StoreFault::OutOfMemory => SweepFault::OutOfMemory,
+            StoreFault::OutOfMemory(want) => SweepFault::OutOfMemory(want),
             StoreFault::TooWide => SweepFault::TooWide,
         }
     }

@@ -40,7 +40,7 @@ pub(crate) fn find_by<const D: usize, N: SettledList<D>, W: SettledList<D>, P: P
         Ok(found) => Ok(SweptAtWidth::Narrow(found)),
         Err(SweepFault::TooWide) => find_wide::<D, N::Cost, W, P>(alloc, network, query, potential),
         Err(SweepFault::Budget) => Err(SearchFault::Budget),
-        Err(SweepFault::OutOfMemory) => Err(SearchFault::OutOfMemory),
+        Err(SweepFault::OutOfMemory(want)) => Err(SearchFault::OutOfMemory(want)),
     }
 }
 
@@ -68,7 +68,7 @@ fn find_wide<const D: usize, N: StoredCost<D>, W: SettledList<D>, P: Potential>(
         Ok(found) => Ok(SweptAtWidth::Wide(found)),
         Err(SweepFault::TooWide) => unreachable!(),
         Err(SweepFault::Budget) => Err(SearchFault::Budget),
-        Err(SweepFault::OutOfMemory) => Err(SearchFault::OutOfMemory),
+        Err(SweepFault::OutOfMemory(want)) => Err(SearchFault::OutOfMemory(want)),
     }
 }
 

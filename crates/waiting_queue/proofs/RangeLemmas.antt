@@ -157,8 +157,8 @@ module _ {C : Type 0} (components : C → List ℕ) where
   -- all parts were filled, and memory sufficed
   module _ (Open : Spot → Type 0) {items others : List (Item C)} {rs : List (Range C)} {old ps after : List (Part C)}
       (are : AreRanges components items others rs) (long : length old ≡ length rs)
-      (filled : AreFilled (λ k p. IsTrue p.is_whole → GivesPart components Open others rs k p) 0 old ps)
-      (same : after ≡ ps) (whole : All (λ p. IsTrue p.is_whole) after) where
+      (filled : AreFilled (λ k p. p.want ≡ None → GivesPart components Open others rs k p) 0 old ps)
+      (same : after ≡ ps) (whole : All (λ p. p.want ≡ None) after) where
     abbrev Passes : Part C → Range C → Type 0
     Passes p r = PassesRange components Open others r p.taken.items p.rest.items p.shadow.items
 

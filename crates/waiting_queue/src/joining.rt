@@ -23,7 +23,8 @@ pub(crate) struct Part<C> {
     pub shadow: Vec<C>,
     /// Room for what came in, in order.
     pub order: Vec<Item<C>>,
-    pub is_whole: bool,
+    /// The allocation that failed, where memory didn't suffice.
+    pub want: Option<OutOfMemory>,
 }
 
 impl<C> Part<C> {
@@ -35,7 +36,7 @@ impl<C> Part<C> {
             rest: Vec::new(alloc),
             shadow: Vec::new(alloc),
             order: Vec::new(alloc),
-            is_whole: true,
+            want: None,
         }
     }
 }

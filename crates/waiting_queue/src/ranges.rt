@@ -1,5 +1,5 @@
 //! A queue cut into ranges, which workers pass side by side, each with a shadow of its own.
-ghost use Rattle.std.specs.Prelude.{◌≡◌, ◌≤◌, ◌↔◌, length, All, IfOk, IsTrue, List};
+ghost use Rattle.std.specs.Prelude.{◌≡◌, ◌≤◌, ◌↔◌, length, All, IfOk, IsOk, IsTrue, List, None};
 ghost use Rattle.waiting_queue.specs.Ranges.{ArePassed, AreRanges, LiesIn, ListsWithin, PassesRange, all_of, others_of};
 ghost use Rattle.waiting_queue.specs.Taking.{AreSorted};
 ghost use Rattle.waiting_item.specs.Waiting.{AreCriteria, spot_in};
@@ -100,11 +100,7 @@ where
         ranges: &ranges,
     };
     fill_each(workers.rt(), &pass, parts);
-    if are_whole(parts) {
-        Ok(())
-    } else {
-        Err(OutOfMemory)
-    }
+    are_whole(parts)
 }
 
 /// Passes over ranges.
@@ -120,18 +116,18 @@ impl<'q, const D: usize, C: StoredCost<D> + Send + Sync, K: Look<D, C> + Sync> F
 where
     C::Part: Send + Sync,
 {
-    ghost use Rattle.std.specs.Prelude.{IsTrue};
+    ghost use Rattle.std.specs.Prelude.{◌≡◌, None};
     ghost use Rattle.waiting_queue.specs.Ranges.{CanPass, GivesPart, others_of};
 
     ghost accepts = { λ pass place. CanPass C.components D pass.ranges.now place };
 
-    ghost gives = { λ pass place part. IsTrue part.is_whole → GivesPart C.components
+    ghost gives = { λ pass place part. part.want ≡ None → GivesPart C.components
         (K.IsOpen pass.look.now) (others_of pass.lists.now) pass.ranges.now place part };
 
     #[tactic(auto, using(std::proofs::lemmas::Option::gets))]
     fn fill(&self, place: usize, part: &mut Part<C>) {
         let passed = pass_range(self.look, self.lists, &self.ranges[place], part);
-        part.is_whole = passed.is_ok();
+        part.want = passed.err();
     }
 }
 
@@ -194,11 +190,16 @@ fn is_within<const D: usize, C: StoredCost<D>>(range: &Range<'_, C>, item: &Item
     is_behind & is_in_front
 }
 
-/// Whether memory sufficed for all parts.
-fn are_whole<C>(parts: &[Part<C>]) -> bool
-    ensures { IsTrue result ↔ All (λ p. IsTrue p.is_whole) parts.now }
+/// Refuses parts for one of which memory didn't suffice.
+fn are_whole<C>(parts: &[Part<C>]) -> Result<(), OutOfMemory>
+    ensures { IsOk result ↔ All (λ p. p.want ≡ None) parts.now }
 {
-    parts.iter().all(|part| part.is_whole)
+    for part in parts {
+        if let Some(want) = part.want {
+            return Err(want);
+        }
+    }
+    Ok(())
 }
 
 /// Brings the parts to so many, whatever they hold.

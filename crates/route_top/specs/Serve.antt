@@ -1,5 +1,5 @@
 -- What the command `serve` does over a network: it has the town listen, says so, and serves the links of its doors.
-use Rattle.std.specs.Prelude.{◌≡◌, ◌≢◌, ◌⊎◌, ℕ, ◌^◌, ltb, Bool, true, false, List, [], ◌++◌, Option, Result, Ok, Err, codes}
+use Rattle.std.specs.Prelude.{◌≡◌, ◌≢◌, ◌⊎◌, ℕ, ◌^◌, is_some, ltb, Bool, true, false, List, [], ◌++◌, Option, Result, Ok, Err, codes}
 use Rattle.route_io.specs.Causes.{Rose}
 use Rattle.route_io.specs.Files.{FileMap}
 use Rattle.route_io.specs.Sinks.{SinkState, Sends}
@@ -35,7 +35,7 @@ ServeReplies asked outcome text = ⊥
 -- how a run ends whose reply wasn't sent whole
 abbrev pub cut_outcome : WriteFault → Outcome
 cut_outcome write.Failed = out_failed
-cut_outcome write.OutOfMemory = out_wanted
+cut_outcome (write.OutOfMemory want) = out_wanted
 
 -- how a run ends by whether memory ran out in a link, and whether a door failed
 abbrev pub served_by : Bool → Bool → Outcome
@@ -45,7 +45,7 @@ served_by false false = done
 
 -- how a run ends by what became of the doors
 abbrev pub served_outcome : Result Served OutOfMemory → Outcome
-served_outcome (Ok served) = served_by (ltb 0 served.starved) (ltb 0 served.failed)
+served_outcome (Ok served) = served_by (is_some served.want) (ltb 0 served.failed)
 served_outcome (Err fault) = no_memory
 
 -- What became of the doors that a town handed out, and how that ends the run.

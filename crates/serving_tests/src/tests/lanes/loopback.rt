@@ -122,7 +122,7 @@ fn links_over_tcp_are_served(rt: HostRuntime) -> Result<(), Fail> {
     let (served, replied) = serve_visits(&rt, &context, weights, &mut doors, addresses);
     let wanted = Served {
         failed: 0,
-        starved: 0,
+        want: None,
     };
     assert!(rt; replied?, "the peers have their replies");
     assert!(rt; served? == wanted, "no door fails");

@@ -69,9 +69,10 @@ impl HostListener {
 
 /// Removes the socket files that were made. One that can't be removed stays.
 pub(crate) fn remove_files<R: Files>(rt: &R, made: &mut Vec<String>) {
-    while let Some(path) = made.pop() {
-        let _ = fs::remove_file(rt, &*path);
+    for path in made.iter() {
+        let _ = fs::remove_file(rt, &**path);
     }
+    made.clear();
 }
 
 /// Makes a socket file and listens there. One that a killed server left behind is replaced.

@@ -124,7 +124,7 @@ impl<F: FoundCosts + Sync> Window<'_, F> {
         ensures room { room.old.holds ≤ room.new.holds }
     {
         match self.make_texts(workers) {
-            Ok(texts) if texts.iter().all(Option::is_some) => self.send_texts(&texts, out),
+            Ok(texts) if texts.iter().all(|made| made.is_some()) => self.send_texts(&texts, out),
             _ => {
                 let places = self.from..self.to;
                 put_routes(out, self.kind, self.network, self.found, places, room)

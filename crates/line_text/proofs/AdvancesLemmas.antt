@@ -170,7 +170,6 @@ module _ (old now new : Lines) (before after : SourceState) (holds : Holds old n
   advances_fault Total breaks = advances_same (Err Total) (λ none. none) (λ e. absurd cc) (λ more left. broken Total breaks more)
   advances_fault Read breaks = absurd (never_read old.limits old.passed (length (raw_line now.held)) (line_size now.held) breaks.broken)
 
-
   pub advances_broken : (fault : LineFault) → Breaks now new fault → Advances old new before after (Err fault)
   advances_broken fault breaks = let step = rw holds.stays at breaks in rw step.same (advances_fault fault step)
 

@@ -106,8 +106,6 @@ answer_of-some limits passed (byte ∷ text) some = refl
 pub never_read : (limits : LineLimits) (passed raw size : ℕ) → line_fault limits passed raw size ≡ Some Read → ⊥
 never_read limits passed raw size e = grind (arith, nat_tests)
 
-
-
 -- a fault that stands while a line without an LF is known stays when all of it is known
 fault_stays : (limits : LineLimits) (passed known all raw size : ℕ) (fault : LineFault) → all ≡ known → known ≤ raw → raw ≤ size
     → line_fault limits passed known all ≡ Some fault → line_fault limits passed raw size ≡ Some fault

@@ -1,5 +1,5 @@
 -- What a reader of lines shows, and what the next line does to it.
-use Rattle.std.specs.Prelude.{◌≡◌, ◌≢◌, ◌+◌, ◌<◌, ◌≤◌, ℕ, if◌then◌else◌, Bool, true, false, List, [], ◌∷◌, length, Option, Some, None}
+use Rattle.std.specs.Prelude.{◌≡◌, ◌+◌, ◌<◌, ◌≤◌, ℕ, if◌then◌else◌, Bool, true, false, List, [], ◌∷◌, length, Option, Some, None}
 use Rattle.std.specs.Prelude.{IfSome, IsSomeAnd, Result, Ok, Err}
 use Rattle.std.specs.Io.KnownBytes.{IsAtEnd, prepend_known}
 use Rattle.route_io.specs.Sources.{SourceState}
@@ -32,6 +32,8 @@ pub record Lines : Type 0 where
   pub fault : Option LineFault
   -- whether the source said that it is at its end
   pub ended : Bool
+  -- whether the line that was taken last as a request is one of HTTP
+  pub http : Bool
 
 -- a reader before its first line
 abbrev pub begun : LineLimits → Lines
@@ -43,6 +45,7 @@ begun limits = record {
   passed = 0;
   fault = None;
   ended = false;
+  http = false;
 }
 
 -- what the source has left for a reader, where it tells: nothing where the input has ended

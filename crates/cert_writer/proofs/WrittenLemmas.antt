@@ -326,7 +326,7 @@ module _ (net : Network) (cert : Certificate) (back : read_text net (cert_text n
       let is : checks.0 ≡ cert = cc in
       none rule label (subst (λ x. Fails net x rule label) is checks.2.fails)
   accepts (Err Read) checks = tt
-  accepts (Err OutOfMemory) checks = tt
+  accepts (Err (OutOfMemory want)) checks = tt
 
 -- ---- there is one such certificate
 

@@ -29,4 +29,4 @@ Accepts cert (Ok listing) = listing.cert ≡ cert
 Accepts cert (Err (Line line)) = ⊥
 Accepts cert (Err (Rule rule label)) = ⊥
 Accepts cert (Err Read) = ⊤
-Accepts cert (Err OutOfMemory) = ⊤
+Accepts cert (Err (OutOfMemory want)) = ⊤

@@ -1,12 +1,11 @@
 -- What became of all doors, by what each lane did.
 use Rattle.std.proofs.Common.{◌≡◌, ℕ, ◌+◌, ◌≤◌, Bool, false, List, [], ◌∷◌, length, map, refl, ap, ap₂, sym, subst, ◌∙◌, arith, Result, Ok, Err, IfOk, OnOk}
-use Rattle.std.specs.Prelude.{min, cond}
-use Rattle.std.specs.List.{All, count_by, flat_map, sum_by}
+use Rattle.std.specs.Prelude.{cond, Option}
+use Rattle.core.specs.Option.{option_or}
+use Rattle.std.specs.List.{All, count_by, flat_map}
 use Rattle.std.proofs.lemmas.List.Concat.{flat_map-cons}
 use Rattle.std.proofs.lemmas.List.Elements.{All-cons, All-head, All-nil, All-tail}
-use Rattle.std.proofs.lemmas.List.Sums.{sum_by-cons}
 use mathlib.Core.List.{IsPrefix}
-use Rattle.route_io.specs.Causes.{max_count}
 use Rattle.arc_graph.specs.Graph.{Graph, Weights}
 use Rattle.arc_graph.specs.History.{History, closed_history}
 use Rattle.epoch_store.specs.Origin.{Origin, IsPublishedIn}
@@ -23,13 +22,13 @@ use Rattle.route_lanes.specs.DoorsServed.{OperatorServesDoor, SessionServesDoor,
 use Rattle.route_lanes.specs.Served.{whole_of}
 use Rattle.route_lanes.specs.Services.{FirstAndAllServe, Service}
 use Rattle.route_lanes.specs.Serving.{DoorLane, FinishesLanes, IsDoorLane, IsFinished, IsSessionLane, ServesLanes, SessionVisit}
-use Rattle.route_lanes.specs.Visits.{ServesDoor, Visit, is_starved, starved_of, unvisited}
+use Rattle.route_lanes.specs.Visits.{ServesDoor, Visit, first_told, unvisited, want_among, want_of}
 use Rattle.route_lanes.proofs.ServingLemmas.{served_over}
-use Rattle.route_lanes.proofs.VisitLemmas.{before_visits, count_both, count_first}
+use Rattle.route_lanes.proofs.VisitLemmas.{before_visits, count_first, told_both}
 
 -- what is told of a lane
 abbrev tally_of : DoorLane → DoorTally
-tally_of lane = record { failed = lane.failed; starved = starved_of lane.visits }
+tally_of lane = record { failed = lane.failed; want = want_among lane.visits }
 
 failed_sum : (lanes : List DoorLane) → count_by (λ tally. tally.failed) (map tally_of lanes) ≡ count_by (λ lane. lane.failed) lanes
 failed_sum [] = refl
@@ -37,23 +36,20 @@ failed_sum (lane ∷ lanes) =
     count_first (λ (t : DoorTally). t.failed) (tally_of lane) (map tally_of lanes)
     ∙ ap (λ (n : ℕ). cond lane.failed 1 0 + n) (failed_sum lanes) ∙ sym (count_first (λ (l : DoorLane). l.failed) lane lanes)
 
-starved_sum : (lanes : List DoorLane) → min (sum_by (λ tally. tally.starved) (map tally_of lanes)) max_count
-    ≡ starved_of (flat_map (λ lane. lane.visits) lanes)
-starved_sum [] = refl
-starved_sum (lane ∷ lanes) =
-    let starved : Visit → Bool = λ visit. is_starved visit.end in
+want_sum : (lanes : List DoorLane) → first_told (λ tally. tally.want) (map tally_of lanes) ≡ want_among (flat_map (λ lane. lane.visits) lanes)
+want_sum [] = refl
+want_sum (lane ∷ lanes) =
     let visits : DoorLane → List Visit = λ l. l.visits in
-    let sum = sum_by-cons (λ (t : DoorTally). t.starved) (tally_of lane) (map tally_of lanes) in
-    let all = ap (count_by starved) (flat_map-cons visits lane lanes) ∙ count_both starved lane.visits (flat_map visits lanes) in
-    let rest = starved_sum lanes in
-    omega (arith, sum, all, rest)
+    let Tells : Visit → Option OutOfMemory = λ visit. want_of visit.end in
+    ap (option_or (want_among lane.visits)) (want_sum lanes)
+    ∙ sym (ap (first_told Tells) (flat_map-cons visits lane lanes) ∙ told_both Tells lane.visits (flat_map visits lanes))
 
 -- what became of all doors, by what each lane did
 sums : (lanes : List DoorLane) → sum_of (map tally_of lanes)
-    ≡ record { failed = count_by (λ lane. lane.failed) lanes; starved = starved_of (flat_map (λ lane. lane.visits) lanes) }
+    ≡ record { failed = count_by (λ lane. lane.failed) lanes; want = want_among (flat_map (λ lane. lane.visits) lanes) }
 sums lanes =
-    let served : ℕ → ℕ → Served = λ f s. record { failed = f; starved = s } in
-    ap₂ served (failed_sum lanes) (starved_sum lanes)
+    let served : ℕ → Option OutOfMemory → Served = λ f w. record { failed = f; want = w } in
+    ap₂ served (failed_sum lanes) (want_sum lanes)
 
 -- the lane of a door that was served
 module _ {P : Type 0} (Visits : P → LinkState → LinkState → SessionEnd → P → Type 0) (first last : P) (before after : DoorState)
@@ -65,7 +61,7 @@ module _ {P : Type 0} (Visits : P → LinkState → LinkState → SessionEnd →
   lane_in_order = record { links = is.back; cause = is.cause }
 
   lane_tally : tally ≡ tally_of lane_of
-  lane_tally = ap (λ (n : ℕ). record { failed = tally.failed; starved = n }) is.starved
+  lane_tally = ap (λ (w : Option OutOfMemory). record { failed = tally.failed; want = w }) is.wants
 
 module _ {T D : Type 0} (show : D → DoorState) (scene : Scene) (bytes : ℕ) (whole : History) (allowed : IsPublishedIn scene.origin whole) where
   abbrev serves : Service (SessionLane T DoorTally) D → Type 0
@@ -173,7 +169,7 @@ module _ (graph : Graph) (o : Origin) (weights : Weights) (first budget bytes : 
             (λ served sum begin. let same = sum ∙ total in record {
               finished = All-cons IsFinished lead rest.lanes operator.serves.ended rest.finished;
               failed = ap (λ (s : Served). s.failed) same;
-              starved = ap (λ (s : Served). s.starved) same;
+              wants = ap (λ (s : Served). s.want) same;
               session_lanes = rest.over (subst (λ (xs : List (SessionLane T DoorTally)). All (λ (x : SessionLane T DoorTally). IsPrefix x.session.seen whole) xs)
                   is.served.parties_became
                   (subst (λ (h : History). All (λ (x : SessionLane T DoorTally). IsPrefix x.session.seen h) lanes') closed begin));

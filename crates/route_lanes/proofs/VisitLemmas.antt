@@ -1,18 +1,19 @@
 -- Links of a door that are served one after another.
 use Rattle.std.proofs.Common.{◌≡◌, ℕ, ◌+◌, Bool, true, false, List, [], ◌∷◌, ◌++◌, Option, Some, None, length, map, append-nil, append_assoc, refl, ap, ap₂, sym, ◌≤◌, ◌∙◌, arith}
-use Rattle.std.specs.Prelude.{min, cond, option_map}
+use Rattle.std.specs.Prelude.{cond, option_map}
+use Rattle.core.specs.Option.{option_or}
 use mir.Val.{bool_byte}
 use Rattle.std.specs.List.{count_by, sum_by}
 use Rattle.std.proofs.lemmas.List.{length-append, map-append}
 use Rattle.std.proofs.lemmas.List.Sums.{sum_by-append, sum_by-cons}
-use Rattle.route_io.specs.Causes.{max_count}
+use Rattle.out_of_memory.specs.declared.OutOfMemory.{OutOfMemory}
 use Rattle.link_doors.specs.Doors.{DoorState, and_link, given_one, returned_one}
 use Rattle.link_doors.specs.Links.{LinkState}
 use Rattle.route_lanes.specs.declared.serve.Served.{Served}
 use Rattle.route_lanes.specs.declared.visits.DoorTally.{DoorTally}
 use Rattle.route_lanes.specs.DoorsServed.{sum_of}
 use Rattle.session_core.specs.declared.end.SessionEnd.{SessionEnd}
-use Rattle.route_lanes.specs.Visits.{ServedSoFar, ServesLink, Visit, after_visits, is_starved, starved_of, then}
+use Rattle.route_lanes.specs.Visits.{ServedSoFar, ServesLink, Visit, after_visits, first_told, then, want_among, want_of}
 
 -- a test as a number
 pub bit_is : (b : Bool) → bool_byte b ≡ cond b 1 0
@@ -76,50 +77,56 @@ pub with_faults : (door now : DoorState) (visits : List Visit) (n faults : ℕ) 
     → record now { faults = faults } ≡ after_visits door visits faults
 with_faults door now visits n faults is = ap (λ (d : DoorState). record d { faults = faults }) is
 
--- how many links ended for want of memory, with one more
-pub one_more_starved : (visits : List Visit) (visit : Visit) (n : ℕ) → n ≡ starved_of visits
-    → min (n + bool_byte (is_starved visit.end)) max_count ≡ starved_of (visits ++ visit ∷ [])
-one_more_starved visits visit n is =
-    let bit = bit_is (is_starved visit.end) in
-    let both = count_both (λ (v : Visit). is_starved v.end) visits (visit ∷ []) in
-    let one = count_first (λ (v : Visit). is_starved v.end) visit [] in
-    let none : count_by (λ (v : Visit). is_starved v.end) [] ≡ 0 = refl in
-    omega (arith, is, bit, both, one, none)
+-- what the first of two lists tells comes before what the other does
+pub told_both : {X Y : Type 0} (tells : X → Option Y) (xs ys : List X) → first_told tells (xs ++ ys) ≡ option_or (first_told tells xs) (first_told tells ys)
+told_both tells [] ys = refl
+told_both {X} {Y} tells (x ∷ xs) ys = ap (option_or (tells x)) (told_both tells xs ys) ∙ by (tells x) where
+  by : (first : Option Y) → option_or first (option_or (first_told tells xs) (first_told tells ys))
+      ≡ option_or (option_or first (first_told tells xs)) (first_told tells ys)
+  by None = refl
+  by (Some y) = refl
+
+-- nothing told behind something changes nothing
+told_last : {Y : Type 0} (last : Option Y) → option_or last None ≡ last
+told_last None = refl
+told_last (Some y) = refl
+
+-- the first want of memory, with one more link
+pub one_more_want : (visits : List Visit) (visit : Visit) (want : Option OutOfMemory) → want ≡ want_among visits
+    → option_or want (want_of visit.end) ≡ want_among (visits ++ visit ∷ [])
+one_more_want visits visit want is =
+    ap₂ option_or is (sym (told_last (want_of visit.end))) ∙ sym (told_both (λ (v : Visit). want_of v.end) visits (visit ∷ []))
 
 -- what became of the first door
-pub first_sum : (tally : DoorTally) → tally.starved ≤ max_count → record { failed = bool_byte tally.failed; starved = tally.starved } ≡ sum_of (tally ∷ [])
-first_sum tally within =
-    let served : ℕ → ℕ → Served = λ f s. record { failed = f; starved = s } in
+pub first_sum : (tally : DoorTally) → record { failed = bool_byte tally.failed; want = tally.want } ≡ sum_of (tally ∷ [])
+first_sum tally =
+    let served : ℕ → Option OutOfMemory → Served = λ f w. record { failed = f; want = w } in
     let failed = count_first (λ (t : DoorTally). t.failed) tally [] in
     let none : count_by (λ (t : DoorTally). t.failed) [] ≡ 0 = refl in
-    let starved = sum_by-cons (λ (t : DoorTally). t.starved) tally [] in
-    let no_more : sum_by (λ (t : DoorTally). t.starved) [] ≡ 0 = refl in
-    ap₂ served (omega (arith, bit_is tally.failed, failed, none)) (omega (arith, within, starved, no_more))
+    ap₂ served (omega (arith, bit_is tally.failed, failed, none)) (sym (told_last tally.want))
 
 -- what became of one door more
 pub sum_more : (tallies : List DoorTally) (tally : DoorTally) → record {
   failed = (sum_of tallies).failed + bool_byte tally.failed;
-  starved = min ((sum_of tallies).starved + tally.starved) max_count;
+  want = option_or (sum_of tallies).want tally.want;
 } ≡ sum_of (tallies ++ tally ∷ [])
 sum_more tallies tally =
-    let served : ℕ → ℕ → Served = λ f s. record { failed = f; starved = s } in
+    let served : ℕ → Option OutOfMemory → Served = λ f w. record { failed = f; want = w } in
     let failed = count_both (λ (t : DoorTally). t.failed) tallies (tally ∷ []) in
     let one = count_first (λ (t : DoorTally). t.failed) tally [] in
     let none : count_by (λ (t : DoorTally). t.failed) [] ≡ 0 = refl in
-    let starved = sum_by-append (λ (t : DoorTally). t.starved) tallies (tally ∷ []) in
-    let more = sum_by-cons (λ (t : DoorTally). t.starved) tally [] in
-    let no_more : sum_by (λ (t : DoorTally). t.starved) [] ≡ 0 = refl in
-    ap₂ served (omega (arith, bit_is tally.failed, failed, one, none)) (omega (arith, starved, more, no_more))
+    ap₂ served (omega (arith, bit_is tally.failed, failed, one, none))
+    (ap (option_or (sum_of tallies).want) (sym (told_last tally.want)) ∙ sym (told_both (λ (t : DoorTally). t.want) tallies (tally ∷ [])))
 
 -- one link more was served and given back
 pub so_far_more : {P : Type 0} (Visits : P → LinkState → LinkState → SessionEnd → P → Type 0) (first mid last : P) (before old new : DoorState)
-    (count more : ℕ) (end : SessionEnd) → ServedSoFar Visits first mid before old count → ServesLink Visits mid last old new end
-    → more ≡ min (count + bool_byte (is_starved end)) max_count → ServedSoFar Visits first last before new more
-so_far_more Visits first mid last before old new count more end so_far one counted =
+    (want more : Option OutOfMemory) (end : SessionEnd) → ServedSoFar Visits first mid before old want → ServesLink Visits mid last old new end
+    → more ≡ option_or want (want_of end) → ServedSoFar Visits first last before new more
+so_far_more Visits first mid last before old new want more end so_far one joined =
     let visit : Visit = record { before = one.before; after = one.left; end = end } in
     let given = ap (λ (d : DoorState). returned_one (given_one d one.before) one.left) so_far.back in record {
       visits = so_far.visits ++ visit ∷ [];
       led = then visit so_far.led one.visits;
       back = one.back ∙ given ∙ one_more_visit before so_far.visits visit before.faults;
-      starved = counted ∙ one_more_starved so_far.visits visit count so_far.starved;
+      wants = joined ∙ one_more_want so_far.visits visit want so_far.wants;
     }

@@ -1,13 +1,12 @@
 -- What becomes of a lane when it serves its door.
-use Rattle.std.specs.Prelude.{◌≡◌, ℕ, min, List, []}
-use Rattle.std.specs.List.{count_by, sum_by}
-use Rattle.route_io.specs.Causes.{max_count}
+use Rattle.std.specs.Prelude.{◌≡◌, ℕ, List, []}
+use Rattle.std.specs.List.{count_by}
 use Rattle.arc_graph.specs.History.{Operator, closed_history}
 use Rattle.epoch_store.specs.Origin.{Origin, IsOperatorIn, IsPublishedIn}
 use Rattle.link_doors.specs.Doors.{DoorState}
 use Rattle.session_core.specs.Sessions.{Scene}
 use Rattle.route_lanes.specs.Serving.{OperatorVisit, SessionVisit}
-use Rattle.route_lanes.specs.Visits.{ServesDoor}
+use Rattle.route_lanes.specs.Visits.{ServesDoor, first_told}
 use Rattle.route_lanes.specs.declared.operator_lane.OperatorLane.{OperatorLane}
 use Rattle.route_lanes.specs.declared.operator_lane.StoreState.{StoreState}
 use Rattle.route_lanes.specs.declared.operator_lane.StoreState.TheVariants.{Open, Closed}
@@ -43,5 +42,5 @@ SessionServesDoor show scene bytes lane door lane_after door_after =
 abbrev pub sum_of : List DoorTally → Served
 sum_of tallies = record {
   failed = count_by (λ tally. tally.failed) tallies;
-  starved = min (sum_by (λ tally. tally.starved) tallies) max_count;
+  want = first_told (λ tally. tally.want) tallies;
 }

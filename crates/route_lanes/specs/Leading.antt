@@ -10,8 +10,7 @@ use Rattle.link_doors.specs.Links.{LinkState}
 use Rattle.session_core.specs.declared.fault.ReplyFault.{ReplyFault}
 use Rattle.session_core.specs.declared.fault.ReplyFault.TheVariants as fault
 use Rattle.session_core.specs.declared.end.SessionEnd.{SessionEnd}
-use Rattle.session_core.specs.declared.end.SessionEnd.TheVariants as ended
-use Rattle.session_core.specs.Links.{Serves}
+use Rattle.session_core.specs.Links.{Serves, is_starved}
 use Rattle.session_core.specs.Operators.{IsOperatorBye, OperatorRun}
 
 -- A link of an operator was served from nothing published on, and memory didn't run out in it; the feed of all that it left
@@ -20,7 +19,7 @@ pub record IsFeedWritten (graph : Graph) (o : Origin) (bytes : ℕ) (before afte
     (result : Result (Unit {0}) WriteFault) : Type 0 where
   pub left : Operator
   pub end : SessionEnd
-  pub remembered : end ≢ ended.OutOfMemory
+  pub remembered : is_starved end ≡ false
   pub serves : Serves (OperatorRun o) (IsOperatorBye o) bytes (record { published = []; pending = [] }) left
       before.from after.from before.to after.to end
   pub sends : Sends out sent (feed_text (head_of graph o.first) left.published 1 (sets left.published)) result
@@ -31,7 +30,7 @@ abbrev pub WritesPublished : Graph → Origin → ℕ → LinkState → LinkStat
 WritesPublished graph o bytes before after out sent (Ok done) = IsFeedWritten graph o bytes before after out sent (Ok tt)
 WritesPublished graph o bytes before after out sent (Err (fault.Out cut)) =
     IsFeedWritten graph o bytes before after out sent (Err cut)
-WritesPublished graph o bytes before after out sent (Err fault.OutOfMemory) = sent ≡ out
+WritesPublished graph o bytes before after out sent (Err (fault.OutOfMemory want)) = sent ≡ out
 
 -- The same over a store that began with this number and these weights.
 pub record WritesFeed (graph : Graph) (weights : Weights) (first bytes : ℕ) (before after : LinkState) (out sent : SinkState)

@@ -12,7 +12,7 @@ use Rattle.session_core.specs.declared.end.SessionEnd.{SessionEnd}
 use Rattle.session_core.specs.Links.{Serves}
 use Rattle.session_core.specs.Operators.{IsOperatorBye, OperatorRun}
 use Rattle.session_core.specs.Sessions.{IsSessionBye, Scene, Session, SessionGoes}
-use Rattle.route_lanes.specs.Visits.{Led, Visit, after_visits, starved_of}
+use Rattle.route_lanes.specs.Visits.{Led, Visit, after_visits, want_among}
 use Rattle.route_lanes.specs.declared.serve.Served.{Served}
 
 -- A link of the operator was served: it goes on from what was published, and what is pending in the end is dropped.
@@ -68,7 +68,7 @@ pub record FinishesLanes (scene : Scene) (bytes : ℕ) (whole : History) (operat
     (served : Served) : Type 0 where
   pub finished : All IsFinished (operator ∷ sessions)
   pub failed : served.failed ≡ count_by (λ lane. lane.failed) (operator ∷ sessions)
-  pub starved : served.starved ≡ starved_of (flat_map (λ lane. lane.visits) (operator ∷ sessions))
+  pub wants : served.want ≡ want_among (flat_map (λ lane. lane.visits) (operator ∷ sessions))
   pub session_lanes : All (IsSessionLane scene bytes whole) sessions
 
 -- Lanes served their doors over one store, which began with this number and these weights, the operator's first: one link at

@@ -1,14 +1,15 @@
 -- What becomes of a door whose links are served, one after another.
-use Rattle.std.specs.Prelude.{◌≡◌, ℕ, ◌+◌, ◌<◌, min, Bool, true, false, List, [], ◌∷◌, ◌++◌, Option, Some, None, Result, Ok, Err}
+use Rattle.std.specs.Prelude.{◌≡◌, ℕ, ◌+◌, ◌<◌, false, List, [], ◌∷◌, ◌++◌, Option, Some, None, Result, Ok, Err}
 use Rattle.std.specs.Prelude.{length, map, option_map}
 use Rattle.std.specs.Borrow.{Bor, MutBor}
-use Rattle.std.specs.List.{count_by}
-use Rattle.route_io.specs.Causes.{IsCounted, Rose, max_count}
+use Rattle.out_of_memory.specs.declared.OutOfMemory.{OutOfMemory}
+use Rattle.core.specs.Option.{option_or}
+use Rattle.route_io.specs.Causes.{IsCounted, Rose}
 use Rattle.route_io.specs.declared.fault.Failed.{Failed}
 use Rattle.link_doors.specs.Doors.{DoorState, HasEnded, given_one, returned_one}
 use Rattle.link_doors.specs.Links.{LinkState}
 use Rattle.session_core.specs.declared.end.SessionEnd.{SessionEnd}
-use Rattle.session_core.specs.declared.end.SessionEnd.TheVariants.{OutOfMemory}
+use Rattle.session_core.specs.declared.end.SessionEnd.TheVariants as ended
 use Rattle.route_lanes.specs.declared.visits.DoorTally.{DoorTally}
 
 -- a link that was served: what it showed when the door gave it and when it was given back, and how its serving ended
@@ -17,14 +18,19 @@ pub record Visit : Type 0 where
   pub after : LinkState
   pub end : SessionEnd
 
--- the test that memory ran out as a link was served
-abbrev pub is_starved : SessionEnd → Bool
-is_starved OutOfMemory = true
-is_starved end = false
+-- the want of memory that ended the serving of a link
+abbrev pub want_of : SessionEnd → Option OutOfMemory
+want_of (ended.OutOfMemory want) = Some want
+want_of end = None
 
--- how many of these links ended for want of memory, in a counter of 64 bits, which stays at its greatest value
-abbrev pub starved_of : List Visit → ℕ
-starved_of visits = min (count_by (λ visit. is_starved visit.end) visits) max_count
+-- the first thing that one of these tells
+pub first_told : {X Y : Type 0} → (X → Option Y) → List X → Option Y
+first_told tells [] = None
+first_told tells (x ∷ xs) = option_or (tells x) (first_told tells xs)
+
+-- the first want of memory that ended one of these links
+abbrev pub want_among : List Visit → Option OutOfMemory
+want_among visits = first_told (λ visit. want_of visit.end) visits
 
 -- these links, served one after another, led a party from there to here, where `Visits` says what serving one does
 pub data Led {P : Type 0} (Visits : P → LinkState → LinkState → SessionEnd → P → Type 0) (first : P) : List Visit → P → Type 0
@@ -64,11 +70,11 @@ ServesNext Visits old new door after (Err fault) =
 
 -- So far these links of a door were served and given back, and no call of it failed.
 pub record ServedSoFar {P : Type 0} (Visits : P → LinkState → LinkState → SessionEnd → P → Type 0) (first last : P)
-    (before now : DoorState) (count : ℕ) : Type 0 where
+    (before now : DoorState) (want : Option OutOfMemory) : Type 0 where
   pub visits : List Visit
   pub led : Led Visits first visits last
   pub back : now ≡ after_visits before visits before.faults
-  pub starved : count ≡ starved_of visits
+  pub wants : want ≡ want_among visits
 
 -- All links of a door were served and given back, until it had ended or failed.
 pub record ServesDoor {P : Type 0} (Visits : P → LinkState → LinkState → SessionEnd → P → Type 0) (first last : P)
@@ -78,7 +84,7 @@ pub record ServesDoor {P : Type 0} (Visits : P → LinkState → LinkState → S
   pub back : after ≡ after_visits before visits after.faults
   pub cause : IsCounted tally.failed before.faults after.faults
   pub ended : tally.failed ≡ false → HasEnded after
-  pub starved : tally.starved ≡ starved_of visits
+  pub wants : tally.want ≡ want_among visits
 
 -- a link can be served in each setting that is ready for it
 abbrev pub IsCallableIn : {C P L : Type 0} → (C → P → Type 0) → (Bor C → MutBor P → MutBor L → Type 0) → Type 0

@@ -139,10 +139,10 @@ fn follow_in_store<
             follow_and_serve(context, &mut follower, feeds, &mut sessions, links);
             report_follow(context.workers.rt(), lanes, follower, sessions)
         }
-        Err(_) => {
+        Err(want) => {
             let OperatorLane { store, end: _ } = follower;
             store.close(context.workers.rt()).end(context.workers.rt());
-            Err(OutOfMemory)
+            Err(want)
         }
     }
 }

@@ -46,9 +46,7 @@ fn write_in_store<R: Wait, G, S: Source, K: Sink, O: Sink, T: Store>(
         (state_of S.state K.state link.old) (state_of S.state K.state link.new)
         (O.state out.old) (O.state out.new) result }
 {
-    let Ok((mut operator, _readers)) = make::<T>(context.alloc, chronicle, first, weights, 1) else {
-        return Err(ReplyFault::OutOfMemory);
-    };
+    let (mut operator, _readers) = make::<T>(context.alloc, chronicle, first, weights, 1)?;
     let written = write_published(context, &mut operator, link, out);
     operator
         .close(context.workers.rt())
@@ -70,7 +68,7 @@ fn write_published<R: Wait, G, S: Source, K: Sink, O: Sink, T: Store>(
         (O.state out.old) (O.state out.new) result }
 {
     match serve_operator(context, operator, link) {
-        SessionEnd::OutOfMemory => Err(ReplyFault::OutOfMemory),
+        SessionEnd::OutOfMemory(want) => Err(ReplyFault::OutOfMemory(want)),
         _ => match put_feed(out, operator, context.graph) {
             Ok(()) => Ok(()),
             Err(fault) => Err(ReplyFault::Out(fault)),

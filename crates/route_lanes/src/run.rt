@@ -91,10 +91,10 @@ fn run_in_store<
                 sessions,
             )
         }
-        Err(_) => {
+        Err(want) => {
             let OperatorLane { store, end: _ } = operator;
             store.close(context.workers.rt()).end(context.workers.rt());
-            Err(OutOfMemory)
+            Err(want)
         }
     }
 }

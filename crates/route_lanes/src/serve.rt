@@ -27,8 +27,8 @@ use std::time::Clock;
 pub struct Served {
     /// How many doors failed.
     pub failed: usize,
-    /// How many links ended for want of memory, in a counter that stays at its greatest value.
-    pub starved: u64,
+    /// The first want of memory that ended a link, in the order of the doors.
+    pub want: Option<OutOfMemory>,
 }
 
 /// Serves the links of all doors at once, the operator's the first, on the caller's thread, and up to 16 of sessions, each on one of
@@ -86,10 +86,10 @@ fn serve_in_store<
             serve_doors(context, &mut operator, &mut sessions, doors);
             finish(context.workers.rt(), operator, sessions)
         }
-        Err(_) => {
+        Err(want) => {
             let OperatorLane { store, end: _ } = operator;
             store.close(context.workers.rt()).end(context.workers.rt());
-            Err(OutOfMemory)
+            Err(want)
         }
     }
 }
@@ -117,11 +117,11 @@ fn sum_up<T: Store>(operator: DoorTally, sessions: &[SessionLane<T, DoorTally>])
 {
     let mut served = Served {
         failed: usize::from(operator.failed),
-        starved: operator.starved,
+        want: operator.want,
     };
     for lane in sessions {
         served.failed += usize::from(lane.end.failed);
-        served.starved = served.starved.saturating_add(lane.end.starved);
+        served.want = served.want.or(lane.end.want);
     }
     served
 }

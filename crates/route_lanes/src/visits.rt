@@ -2,9 +2,10 @@
 ghost use Rattle.std.specs.Prelude.{◌≡◌};
 ghost use Rattle.link_doors.specs.Links.{LinkState, state_of};
 ghost use Rattle.session_core.specs.declared.end.SessionEnd.{SessionEnd};
-ghost use Rattle.route_lanes.specs.Visits.{AttendsEach, IsCallableIn, ServesDoor, ServesNext, is_starved};
+ghost use Rattle.route_lanes.specs.Visits.{AttendsEach, IsCallableIn, ServesDoor, ServesNext, want_of};
 
 use link_doors::Door;
+use out_of_memory::OutOfMemory;
 use route_io::{Failed, Link};
 use session_core::SessionEnd;
 
@@ -23,15 +24,15 @@ pub(crate) trait Attendant<C> {
 pub(crate) struct DoorTally {
     /// It failed.
     pub failed: bool,
-    /// How many of its links ended for want of memory, in a counter that stays at its greatest value.
-    pub starved: u64,
+    /// The first want of memory that ended one of its links.
+    pub want: Option<OutOfMemory>,
 }
 
 impl DoorTally {
     /// Nothing became of it yet.
     pub(crate) const NEW: DoorTally = DoorTally {
         failed: false,
-        starved: 0,
+        want: None,
     };
 }
 
@@ -51,21 +52,18 @@ where
     ensures { ServesDoor (P.visits setting.now) party.old party.new
         (D.state door.old) (D.state door.new) result }
 {
-    let mut starved: u64 = 0;
+    let mut want = None;
     'links: loop {
         match serve_next(setting, party, door, attend) {
-            Ok(Some(end)) => starved = starved.saturating_add(u64::from(has_starved(end))),
+            Ok(Some(end)) => want = want.or(want_of(end)),
             Ok(None) => {
                 return DoorTally {
                     failed: false,
-                    starved,
+                    want,
                 };
             }
             Err(_) => {
-                return DoorTally {
-                    failed: true,
-                    starved,
-                };
+                return DoorTally { failed: true, want };
             }
         }
     }
@@ -99,12 +97,12 @@ where
     }
 }
 
-/// Whether memory ran out as a link was served.
-fn has_starved(end: SessionEnd) -> bool
-    ensures { result ≡ is_starved end }
+/// The want of memory that ended the serving of a link.
+fn want_of(end: SessionEnd) -> Option<OutOfMemory>
+    ensures { result ≡ want_of end }
 {
     match end {
-        SessionEnd::OutOfMemory => true,
-        _ => false,
+        SessionEnd::OutOfMemory(want) => Some(want),
+        _ => None,
     }
 }

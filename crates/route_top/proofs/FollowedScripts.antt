@@ -14,7 +14,7 @@ use Rattle.road_network.specs.Network.{Network}
 use Rattle.route_io.specs.Forms.{SureSink, sure_sink_state, sure_source_state}
 use Rattle.route_io.specs.Sinks.{SinkState, Sends}
 use Rattle.route_io.specs.declared.fault.WriteFault.{WriteFault}
-use Rattle.session_core.specs.declared.end.SessionEnd.TheVariants as ended
+use Rattle.session_core.specs.Links.{is_starved}
 use Rattle.session_core.specs.Operators.{IsOperatorBye, OperatorRun}
 use Rattle.session_core.specs.Sessions.{Scene}
 use Rattle.command_words.specs.Words.{TakeAsked, WriteAsked}
@@ -50,11 +50,11 @@ module _ {L : Type 0} (script_of : L → List ℕ) (sink_of : L → SureSink) wh
       (map (state_of script_of sink_of) olds) (map (state_of script_of sink_of) news) report
       → length feeds ≡ asked.links
       → All (λ link. length (script_of link) ≤ max_script) olds → All (λ link. sink_of link ≡ unsent_sink) olds
-      → All (λ r. r.end ≢ feed.OutOfMemory) report.feeds → All (λ r. r.end ≢ ended.OutOfMemory) report.lanes
+      → All (λ r. r.end ≢ feed.OutOfMemory) report.feeds → All (λ r. is_starved r.end ≡ false) report.lanes
       → RepliesBesideFeeds asked (network g w) (feeds ++ map script_of olds)
       (feed_lines 1 report.feeds ++ lanes_reply 1 (map (λ link. (sink_of link).sent) news))
   followed asked g w matched feeds rests olds news report runs count short unsent no_feed_wants no_lane_wants =
-      let Wantless : LaneReport → Type 0 = λ r. r.end ≢ ended.OutOfMemory in
+      let Wantless : LaneReport → Type 0 = λ r. is_starved r.end ≡ false in
       let none_wants : All (λ (lane : Lane). Wantless lane.report) runs.sessions =
       all_of_map Wantless (λ lane. lane.report) runs.sessions (subst (All Wantless) runs.reported no_lane_wants) in
       let scene : Scene = record { graph = g; origin = runs.origin; budget = asked.limits.budget } in
@@ -84,7 +84,7 @@ module _ {L : Type 0} (script_of : L → List ℕ) (sink_of : L → SureSink) wh
       (map (state_of script_of sink_of) olds) (map (state_of script_of sink_of) news) report
       → length feeds ≡ asked.links
       → All (λ link. length (script_of link) ≤ max_script) items → All (λ link. sink_of link ≡ unsent_sink) items
-      → All (λ r. r.end ≢ feed.OutOfMemory) report.feeds → All (λ r. r.end ≢ ended.OutOfMemory) report.lanes
+      → All (λ r. r.end ≢ feed.OutOfMemory) report.feeds → All (λ r. is_starved r.end ≡ false) report.lanes
       → RepliesBesideFeeds asked (network g w) (feeds ++ map script_of items)
       (feed_lines 1 text ++ lanes_reply 1 (map (λ link. (sink_of link).sent) after))
   followed_over asked g w matched feeds lent rests items olds news after n report text same_feeds same count back shown runs some short unsent no_feed_wants no_lane_wants =
@@ -156,6 +156,6 @@ module _ (asked : WriteAsked) (g : Graph) (w : Weights) (matched : Match g w) (s
   feed_cut (reply.Out cut) is =
       let feed = sends_feed is.origin (Err cut) is.first_is is.base_is is.writes in
       sends_part (WriteReplies asked (network g w) (script ∷ [])) feed.text feed.is out sent cut feed.sends
-  feed_cut reply.OutOfMemory is =
+  feed_cut (reply.OutOfMemory want) is =
       subst (λ (s : SinkState). Replies (WriteReplies asked (network g w) (script ∷ [])) out s no_memory) (sym is.writes)
       (starves (WriteReplies asked (network g w) (script ∷ [])) out refl)

@@ -30,7 +30,7 @@ module _ (files : Option FileMap) (name : List ℕ) (left : Option (List ℕ)) w
   pub reading_stops : (why : ScriptFault) → Opens files name left → WholeRead left (Err why) → ScriptStop files name (script_outcome name why)
   reading_stops fault.Folder opens read = failed
   reading_stops fault.TooLong opens read = too_long (tells files name left (λ all. max_script < length all) opens read)
-  reading_stops fault.OutOfMemory opens read = starved
+  reading_stops (fault.OutOfMemory want) opens read = starved
 
 module _ (files : Option FileMap) (names : List (List ℕ)) (n : ℕ) (within : n < length names) (scripts : List (List ℕ))
     (read : AllZip (SaysScript files) (take n names) scripts) where

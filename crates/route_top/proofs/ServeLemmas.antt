@@ -1,6 +1,6 @@
 -- How a server ends, by what became of its town and its doors.
 use Rattle.std.proofs.Common.{◌≡◌, ◌≢◌, ℕ, ◌+◌, List, [], ◌∷◌, length, map, Bool, true, false, inl, inr, refl, ap, ap₂, sym, subst, ◌∙◌, arith, Ok, Err}
-use Rattle.std.specs.Prelude.{◌||◌, Option, cond, ltb, Result}
+use Rattle.std.specs.Prelude.{◌||◌, Option, cond, is_some, ltb, Result}
 use Rattle.std.specs.List.{All, count_by, range_with_len}
 use Rattle.std.proofs.lemmas.List.{length-map}
 use Rattle.std.proofs.lemmas.List.Elements.{All-head, All-tail}
@@ -43,15 +43,15 @@ module _ (asked : ServeAsked) (out replied : SinkState) where
 
   said_by : Sends {T = Unit {0}} out replied (ready_reply asked.lanes) (Ok tt) → (result : Result Served OutOfMemory)
       → Replies (ServeReplies asked) out replied (served_outcome result)
-  said_by sent (Ok tally) = said_whole sent (ltb 0 tally.starved) (ltb 0 tally.failed)
+  said_by sent (Ok tally) = said_whole sent (is_some tally.want) (ltb 0 tally.failed)
   said_by sent (Err fault) = said_whole sent true true
 
   doors_reply : {net : Network} {doors after : List DoorState} {outcome : Outcome} → ServesDoors asked net doors after out replied outcome
       → Replies (ServeReplies asked) out replied outcome
   doors_reply (unready write.Failed sent same) = replies_so (ServeReplies asked) done (ready_reply asked.lanes) out replied _ refl
       (sent_part done (ready_reply asked.lanes) out replied write.Failed sent)
-  doors_reply (unready write.OutOfMemory sent same) = replies_so (ServeReplies asked) done (ready_reply asked.lanes) out replied _ refl
-      (sent_part done (ready_reply asked.lanes) out replied write.OutOfMemory sent)
+  doors_reply (unready (write.OutOfMemory want) sent same) = replies_so (ServeReplies asked) done (ready_reply asked.lanes) out replied _ refl
+      (sent_part done (ready_reply asked.lanes) out replied (write.OutOfMemory want) sent)
   doors_reply (served result sent lanes) = said_by sent result
 
 -- what a server sends, by what became of its town
@@ -68,13 +68,13 @@ town_replies asked net old new out replied outcome (listened mid doors after han
 pub not_listened : (asked : ServeAsked) (net : Network) (old new : TownState) (out : SinkState) (fault : TownFault)
     → Listens old new asked.lanes asked.links (Err fault) → ServesTown asked net old new out out (outcome_of (stop_of_town fault))
 not_listened asked net old new out town.Failed is = refused is.0 is.1 is.2 refl
-not_listened asked net old new out town.OutOfMemory is = unheard is refl
+not_listened asked net old new out (town.OutOfMemory want) is = unheard is refl
 
 -- doors that weren't asked for a link, since it couldn't be said that links may come in
 pub not_ready : (asked : ServeAsked) (net : Network) (doors : List DoorState) (out replied : SinkState) (fault : WriteFault)
     → Sends {T = Unit {0}} out replied (ready_reply asked.lanes) (Err fault) → ServesDoors asked net doors doors out replied (outcome_of (stop.Out fault))
 not_ready asked net doors out replied write.Failed sent = unready write.Failed sent refl
-not_ready asked net doors out replied write.OutOfMemory sent = unready write.OutOfMemory sent refl
+not_ready asked net doors out replied (write.OutOfMemory want) sent = unready (write.OutOfMemory want) sent refl
 
 -- doors that were served over a graph and weights of its arcs were so over the network of both
 pub serves_over : (asked : ServeAsked) (g : Graph) (w : Weights) → Match g w → (doors after : List DoorState) (out replied : SinkState)
@@ -178,8 +178,8 @@ module _ (asked : ServeAsked) (net : Network) (links : ℕ) (doors after : List 
   -- a run that ends by the town has a failed door
   failed_door : {outcome : Outcome} → ServesDoors asked net doors after out replied outcome → status_of outcome ≡ 10 → any_failed after ≡ true
   failed_door (unready write.Failed sent same) ten = cc
-  failed_door (unready write.OutOfMemory sent same) ten = cc
-  failed_door (served (Ok tally) sent lanes) ten = any_served tally lanes ∙ ten_by (ltb 0 tally.starved) (ltb 0 tally.failed) ten
+  failed_door (unready (write.OutOfMemory want) sent same) ten = cc
+  failed_door (served (Ok tally) sent lanes) ten = any_served tally lanes ∙ ten_by (is_some tally.want) (ltb 0 tally.failed) ten
   failed_door (served (Err fault) sent lanes) ten = cc
 
   -- one that ends otherwise has none, unless memory ran out
@@ -187,7 +187,7 @@ module _ (asked : ServeAsked) (net : Network) (links : ℕ) (doors after : List 
       → any_failed after ≡ false
   no_failed_door (unready fault sent same) not_ten not_nine = ap any_failed same ∙ none_failed links doors fresh
   no_failed_door (served (Ok tally) sent lanes) not_ten not_nine =
-      any_served tally lanes ∙ zero_by (ltb 0 tally.starved) (ltb 0 tally.failed) not_ten not_nine
+      any_served tally lanes ∙ zero_by (is_some tally.want) (ltb 0 tally.failed) not_ten not_nine
   no_failed_door (served (Err fault) sent lanes) not_ten not_nine = absurd (not_nine refl)
 
 module _ (asked : ServeAsked) (net : Network) (old new : TownState) (out replied : SinkState) where
@@ -218,15 +218,15 @@ stop_not_ten unjoined = λ ten. cc
 module _ (IsAsked : Asked → Type 0) (files : Option FileMap) (old new : TownState) (out replied : SinkState) where
   rose_by_words : {outcome : Outcome} → TownByWords IsAsked files old new out replied outcome → status_of outcome ≡ 10 → Rose old.faults new.faults
   rose_by_words (left_alone other never same) ten = absurd (never ten)
-  rose_by_words (unread same) ten = cc
-  rose_by_words (serves asked is (unasked stop same)) ten = absurd (stop_not_ten stop ten)
+  rose_by_words (unread same unsaid) ten = cc
+  rose_by_words (serves asked is (unasked stop same unsaid)) ten = absurd (stop_not_ten stop ten)
   rose_by_words (serves asked is (asks net read town)) ten = town_rose asked net old new out replied town ten
 
   still_by_words : {outcome : Outcome} → TownByWords IsAsked files old new out replied outcome → status_of outcome ≢ 10 → status_of outcome ≢ 9
       → new.faults ≡ old.faults
   still_by_words (left_alone other never same) not_ten not_nine = ap (λ (t : TownState). t.faults) same
-  still_by_words (unread same) not_ten not_nine = ap (λ (t : TownState). t.faults) same
-  still_by_words (serves asked is (unasked stop same)) not_ten not_nine = ap (λ (t : TownState). t.faults) same
+  still_by_words (unread same unsaid) not_ten not_nine = ap (λ (t : TownState). t.faults) same
+  still_by_words (serves asked is (unasked stop same unsaid)) not_ten not_nine = ap (λ (t : TownState). t.faults) same
   still_by_words (serves asked is (asks net read town)) not_ten not_nine = town_still asked net old new out replied town not_ten not_nine
 
   -- what a run did to the town and what the status says of it

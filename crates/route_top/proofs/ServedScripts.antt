@@ -8,7 +8,7 @@ use Rattle.route_io.specs.Forms.{SureSink, sure_sink_state, sure_source_state}
 use Rattle.session_core.specs.declared.end.SessionEnd.{SessionEnd}
 use Rattle.session_core.specs.declared.end.SessionEnd.TheVariants.{Ended, ReadFault, WriteFault, TooLong, OutOfMemory}
 use Rattle.session_core.specs.Lines.{ended_lines}
-use Rattle.session_core.specs.Links.{Serves, TakesLines}
+use Rattle.session_core.specs.Links.{Serves, TakesLines, is_starved}
 use Rattle.session_core.specs.Exchanges.{Exchange, lines_exchanged, text_exchanged}
 use Rattle.std.proofs.lemmas.List.{drop_all, length-map, take_all}
 use Rattle.std.proofs.lemmas.List.Elements.{All-cons, All-head, All-nil, All-tail}
@@ -84,7 +84,7 @@ pub record HasReplied {State : Type 0} (Progresses : State → List Exchange →
 
 module _ {State : Type 0} (Progresses : State → List Exchange → State → Type 0) (IsBye : List ℕ → Type 0) (old new : State)
     (script rest : List ℕ) (to replied : SureSink) (short : length script ≤ max_script) (unsent : to ≡ record { sent = []; wants = 0 }) where
-  pub has_replied : (end : SessionEnd) → end ≢ OutOfMemory
+  pub has_replied : (end : SessionEnd) → is_starved end ≡ false
       → Serves Progresses IsBye most_taken old new (sure_source_state script) (sure_source_state rest) (sure_sink_state to) (sure_sink_state replied) end
       → HasReplied Progresses IsBye old new script replied.sent
   has_replied Ended no_want serves = record {
@@ -98,7 +98,7 @@ module _ {State : Type 0} (Progresses : State → List Exchange → State → Ty
   has_replied TooLong no_want serves =
       let takes = serves.lines in
       absurd (omega (arith, short, takes.begun.0, ap length takes.takes, length-append takes.taken rest))
-  has_replied OutOfMemory no_want serves = absurd (no_want refl)
+  has_replied (OutOfMemory want) no_want serves = absurd (no_want refl)
 
 -- what holds of what a list is mapped to
 pub all_of_map : {A B : Type 0} (P : B → Type 0) (f : A → B) (xs : List A) → All P (map f xs) → All (λ x. P (f x)) xs
@@ -119,7 +119,7 @@ module _ {L : Type 0} (script_of : L → List ℕ) (sink_of : L → SureSink) wh
   -- the links lead from a lane's link before to the one afterwards
   served_by : {State : Type 0} (Progresses : State → List Exchange → State → Type 0) (IsBye : List ℕ → Type 0) (old new : State) (lane : Lane) (link after : L)
       → state_of link ≡ lane.before → state_of after ≡ lane.after → length (script_of link) ≤ max_script → sink_of link ≡ unsent_sink
-      → lane.report.end ≢ OutOfMemory
+      → is_starved lane.report.end ≡ false
       → Serves Progresses IsBye most_taken old new lane.before.from lane.after.from lane.before.to lane.after.to lane.report.end
       → HasReplied Progresses IsBye old new (script_of link) (sink_of after).sent
   served_by Progresses IsBye old new lane link after before_is after_is short unsent no_want serves =
@@ -137,7 +137,7 @@ module _ {L : Type 0} (script_of : L → List ℕ) (sink_of : L → SureSink) wh
   module _ (scene : Scene) (whole : History) where
     pub sessions_exchange : (lanes : List Lane) (olds news : List L) → map state_of olds ≡ map (λ lane. lane.before) lanes
         → map state_of news ≡ map (λ lane. lane.after) lanes → All (λ link. length (script_of link) ≤ max_script) olds
-        → All (λ link. sink_of link ≡ unsent_sink) olds → All (λ lane. lane.report.end ≢ OutOfMemory) lanes
+        → All (λ link. sink_of link ≡ unsent_sink) olds → All (λ lane. is_starved lane.report.end ≡ false) lanes
         → All (IsSessionLane scene most_taken whole) lanes
         → SessionsExchange scene whole (map script_of olds) (map (λ link. (sink_of link).sent) news)
     sessions_exchange [] [] [] e f short unsent no_want each = record { exchanges = []; each = tt; sent_is = refl }
@@ -148,7 +148,7 @@ module _ {L : Type 0} (script_of : L → List ℕ) (sink_of : L → SureSink) wh
     sessions_exchange (lane ∷ lanes) (old ∷ olds) (new ∷ news) e f short unsent no_want each =
         let is_short : L → Type 0 = λ link. length (script_of link) ≤ max_script in
         let is_unsent : L → Type 0 = λ link. sink_of link ≡ unsent_sink in
-        let wants_none : Lane → Type 0 = λ l. l.report.end ≢ OutOfMemory in
+        let wants_none : Lane → Type 0 = λ l. is_starved l.report.end ≡ false in
         let first = served_by (SessionGoes scene) (IsSessionBye scene) (record { seen = []; named = [] })
         (record { seen = whole; named = lane.report.numbers }) lane old new (cc e) (cc f) (All-head is_short old olds short)
         (All-head is_unsent old olds unsent) (All-head wants_none lane lanes no_want) (All-head (IsSessionLane scene most_taken whole) lane lanes each).serves in
@@ -167,14 +167,14 @@ module _ {L : Type 0} (script_of : L → List ℕ) (sink_of : L → SureSink) wh
   pub scripts_exchanged : (asked : LanesAsked) (g : Graph) (w : Weights) → Match g w → (olds news : List L) (reports : List LaneReport)
       → RunsLanes g w asked.epoch asked.limits.budget most_taken (map state_of olds) (map state_of news) reports
       → All (λ link. length (script_of link) ≤ max_script) olds → All (λ link. sink_of link ≡ unsent_sink) olds
-      → All (λ report. report.end ≢ OutOfMemory) reports → (net : Network) → net ≡ network g w
+      → All (λ report. is_starved report.end ≡ false) reports → (net : Network) → net ≡ network g w
       → RepliesToScripts asked net (map script_of olds) (lanes_reply 0 (map (λ link. (sink_of link).sent) news))
   scripts_exchanged asked g w matched [] news reports runs short unsent no_want net is = let none = runs.links_before in absurd cc
   scripts_exchanged asked g w matched (old ∷ olds) [] reports runs short unsent no_want net is = let none = runs.links_after in absurd cc
   scripts_exchanged asked g w matched (old ∷ olds) (new ∷ news) reports runs short unsent no_want net is =
       let is_short : L → Type 0 = λ link. length (script_of link) ≤ max_script in
       let is_unsent : L → Type 0 = λ link. sink_of link ≡ unsent_sink in
-      let Wantless : LaneReport → Type 0 = λ report. report.end ≢ OutOfMemory in
+      let Wantless : LaneReport → Type 0 = λ report. is_starved report.end ≡ false in
       let lanes = runs.operator ∷ runs.sessions in
       let none_wants : All (λ (lane : Lane). Wantless lane.report) lanes =
       all_of_map Wantless (λ lane. lane.report) lanes (subst (All Wantless) runs.reported no_want) in
@@ -210,7 +210,7 @@ module _ {L : Type 0} (script_of : L → List ℕ) (sink_of : L → SureSink) wh
       (reports kept : List LaneReport) → olds ≡ items → n ≡ length items → after ≡ take n (news ++ drop (length news) items) → kept ≡ reports
       → RunsLanes g w asked.epoch asked.limits.budget most_taken (map state_of olds) (map state_of news) reports
       → All (λ link. length (script_of link) ≤ max_script) items → All (λ link. sink_of link ≡ unsent_sink) items
-      → All (λ report. report.end ≢ OutOfMemory) kept
+      → All (λ report. is_starved report.end ≡ false) kept
       → RepliesToScripts asked (network g w) (map script_of items) (lanes_reply 0 (map (λ link. (sink_of link).sent) after))
   links_exchanged asked g w matched items olds news after n reports kept same count back same_reports runs short unsent no_want =
       let Exchange : List L → Type 0 = λ links. RepliesToScripts asked (network g w) (map script_of items) (lanes_reply 0 (map (λ link. (sink_of link).sent) links)) in
@@ -226,6 +226,6 @@ module _ {L : Type 0} (script_of : L → List ℕ) (sink_of : L → SureSink) wh
         length-map lanes (λ lane. lane.after),
       ) in
       let over = subst (λ links. RunsLanes g w asked.epoch asked.limits.budget most_taken (map state_of links) (map state_of news) reports) same runs in
-      let none_wants = subst (All (λ (report : LaneReport). report.end ≢ OutOfMemory)) same_reports no_want in
+      let none_wants = subst (All (λ (report : LaneReport). is_starved report.end ≡ false)) same_reports no_want in
       subst Exchange (sym (back ∙ lent_back n news items count long))
       (scripts_exchanged asked g w matched items news reports over short unsent none_wants (network g w) refl)

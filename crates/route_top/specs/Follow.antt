@@ -72,7 +72,7 @@ end_words (feed.Bad line) = codes " bad" ++ and_number line
 end_words (feed.Gap line) = codes " gap" ++ and_number line
 end_words feed.Long = codes " long"
 end_words feed.Read = codes " read"
-end_words feed.OutOfMemory = codes " memory"
+end_words (feed.OutOfMemory want) = codes " memory"
 
 -- `feed I END K`
 abbrev pub feed_line : ℕ → FeedReport → List ℕ

@@ -1,5 +1,5 @@
 -- What the command `serve` does over a network: it has the town listen, says so, and serves the links of its doors.
-use Rattle.std.specs.Prelude.{◌≡◌, ◌≢◌, ◌⊎◌, ℕ, ◌^◌, ltb, Bool, true, false, List, [], ◌++◌, Option, Result, Ok, Err, codes}
+use Rattle.std.specs.Prelude.{◌≡◌, ◌≢◌, ◌⊎◌, ℕ, ◌^◌, is_some, ltb, Bool, true, false, List, [], ◌++◌, Option, Result, Ok, Err, codes}
 use Rattle.route_io.specs.Causes.{Rose}
 use Rattle.route_io.specs.Files.{FileMap}
 use Rattle.route_io.specs.Sinks.{SinkState, Sends}
@@ -35,7 +35,7 @@ ServeReplies asked outcome text = ⊥
 -- how a run ends whose reply wasn't sent whole
 abbrev pub cut_outcome : WriteFault → Outcome
 cut_outcome write.Failed = out_failed
-cut_outcome write.OutOfMemory = out_wanted
+cut_outcome (write.OutOfMemory want) = out_wanted
 
 -- how a run ends by whether memory ran out in a link, and whether a door failed
 abbrev pub served_by : Bool → Bool → Outcome
@@ -45,7 +45,7 @@ served_by false false = done
 
 -- how a run ends by what became of the doors
 abbrev pub served_outcome : Result Served OutOfMemory → Outcome
-served_outcome (Ok served) = served_by (ltb 0 served.starved) (ltb 0 served.failed)
+served_outcome (Ok served) = served_by (is_some served.want) (ltb 0 served.failed)
 served_outcome (Err fault) = no_memory
 
 -- What became of the doors that a town handed out, and how that ends the run.
@@ -75,8 +75,9 @@ pub data ServesTown (asked : ServeAsked) (net : Network) (old new : TownState) (
 -- What a run of `serve` does to the town, and how that ends it.
 pub data AsksTown (files : Option FileMap) (asked : ServeAsked) (old new : TownState) (out replied : SinkState)
     : Outcome → Type 0 where
-  -- the weight files ended the run, and the town wasn't asked
-  unasked : {outcome : Outcome} → FilesStop files asked.files outcome → new ≡ old → AsksTown files asked old new out replied outcome
+  -- the weight files ended the run, the town wasn't asked, and nothing was said
+  unasked : {outcome : Outcome} → FilesStop files asked.files outcome → new ≡ old → replied ≡ out
+      → AsksTown files asked old new out replied outcome
   -- they say this network, and the town was asked
   asks : {outcome : Outcome} (net : Network) → ReadAs files asked.files net → ServesTown asked net old new out replied outcome
       → AsksTown files asked old new out replied outcome
@@ -87,8 +88,8 @@ pub data TownByWords (IsAsked : Asked → Type 0) (files : Option FileMap) (old 
   -- the words don't ask for `serve`, and the town wasn't asked
   left_alone : {outcome : Outcome} → ((asked : ServeAsked) → ¬ IsAsked (serve asked)) → status_of outcome ≢ 10 → new ≡ old
       → TownByWords IsAsked files old new out replied outcome
-  -- memory ran out while they were read
-  unread : new ≡ old → TownByWords IsAsked files old new out replied no_memory
+  -- memory ran out while they were read, and nothing was said
+  unread : new ≡ old → replied ≡ out → TownByWords IsAsked files old new out replied no_memory
   -- they ask for `serve`
   serves : {outcome : Outcome} (asked : ServeAsked) → IsAsked (serve asked) → AsksTown files asked old new out replied outcome
       → TownByWords IsAsked files old new out replied outcome

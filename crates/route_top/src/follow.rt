@@ -1,10 +1,9 @@
 //! The command `follow`.
-ghost use Rattle.std.specs.Prelude.{◌≡◌, ◌==◌, ◌≢◌, ◌≤◌, ◌+◌, ◌++◌, [], IfErr, IfOk, All, codes, false, map};
+ghost use Rattle.std.specs.Prelude.{◌≡◌, ◌==◌, ◌≤◌, ◌+◌, ◌++◌, [], IfErr, IfOk, OnOk, All, codes, false, map};
 ghost use Rattle.std.specs.List.{AllZip};
 ghost use Rattle.route_io.specs.Sinks.{Sends};
 ghost use Rattle.route_io.specs.Sources.{ReadsFrom};
-ghost use Rattle.epoch_follow.specs.declared.feed_end.FeedEnd.TheVariants as feed;
-ghost use Rattle.session_core.specs.declared.end.SessionEnd.TheVariants as ended;
+ghost use Rattle.epoch_follow.specs.Takes.{feed_starved};
 ghost use Rattle.answer_writer.specs.Replies.{and_number, end_line};
 ghost use Rattle.command_words.specs.Ranges.{max_feeds};
 ghost use Rattle.command_words.specs.Words.{AreFeeds, AreSearchLimits, CountInRange, FollowLanesInRange, FollowLimitsInRange};
@@ -16,7 +15,7 @@ ghost use Rattle.still_commands.specs.Stops.{outcome_of, run_outcome};
 ghost use Rattle.route_top.specs.Follow.{FollowEnds, feed_line, feed_lines, numbered};
 ghost use Rattle.route_top.specs.Lanes.{SaysScript, ScriptsStop, lanes_reply};
 
-use crate::lanes::{MAX_TAKEN, link_of, put_lanes};
+use crate::lanes::{MAX_TAKEN, link_of, memory_sufficed, put_lanes};
 use crate::script::read_script;
 use answer_writer::{Piece, put_line};
 use command_words::{FollowWords, TakeWords, WriteWords};
@@ -25,7 +24,7 @@ use out_of_memory::OutOfMemory;
 use route_io::sure::{SureSink, SureSource};
 use route_io::{Folder, Gate, Link, Sink, SureLink, WriteFault};
 use route_lanes::{FeedReport, FollowReport, run_follow, write_feed};
-use session_core::{ServeContext, SessionEnd};
+use session_core::ServeContext;
 use std::alloc::Global;
 use std::sync::Wait;
 use std::thread::Threads;
@@ -116,9 +115,8 @@ fn take_feeds<'a, R: Threads + Wait + Clock + Sync, G: Gate, F: Folder, K: Sink>
         bytes: MAX_TAKEN,
     };
     let report = run_follow(&context, weights, asked.epoch, &mut feeds, &mut links)?;
-    if has_starved(&report) {
-        return Err(Stop::OutOfMemory);
-    }
+    feeds_sufficed(report.feeds())?;
+    memory_sufficed(report.lanes())?;
     put_report(out, report.feeds(), &links)?;
     Ok(())
 }
@@ -145,9 +143,7 @@ fn read_all<'a, F: Folder>(
 {
     let feeds = read_numbered(alloc, folder, asked.feeds, asked.links)?;
     let scripts = read_numbered(alloc, folder, asked.sessions, asked.lanes)?;
-    let Ok(links) = links_of(alloc, scripts) else {
-        return Err(Stop::OutOfMemory);
-    };
+    let links = links_of(alloc, scripts)?;
     Ok((feeds, links))
 }
 
@@ -171,8 +167,8 @@ fn read_numbered<'a, F: Folder>(
     for place in 0..count {
         let number = place + 1;
         let bytes = read_script(alloc, folder, Script::Session { stem, number })?;
-        if all.push(SureSource::new(bytes)).is_err() {
-            return Err(Stop::OutOfMemory);
+        if let Err(want) = all.push(SureSource::new(bytes)) {
+            return Err(Stop::OutOfMemory(want.into()));
         }
     }
     Ok(all)
@@ -192,20 +188,16 @@ fn links_of(alloc: Global, scripts: Vec<SureSource>) -> Result<Vec<SureLink>, Ou
     Ok(links)
 }
 
-/// Whether memory ran out in a feed or in a lane.
-fn has_starved(report: &FollowReport) -> bool
-    ensures feeds { result ≡ false → All (λ r. r.end ≢ feed.OutOfMemory) report.now.feeds }
-    ensures lanes { result ≡ false → All (λ r. r.end ≢ ended.OutOfMemory) report.now.lanes }
+/// Refuses reports of which one says that memory ran out in its feed.
+fn feeds_sufficed(reports: &[FeedReport]) -> Result<(), OutOfMemory>
+    ensures { OnOk result (All (λ r. feed_starved r.end ≡ false) reports.now) }
 {
-    let feeds = report
-        .feeds()
-        .iter()
-        .any(|feed| feed.end == FeedEnd::OutOfMemory);
-    let lanes = report
-        .lanes()
-        .iter()
-        .any(|lane| lane.end() == SessionEnd::OutOfMemory);
-    feeds || lanes
+    for report in reports {
+        if let FeedEnd::OutOfMemory(want) = report.end {
+            return Err(want);
+        }
+    }
+    Ok(())
 }
 
 /// Sends how each feed ended, and the replies of all lanes.

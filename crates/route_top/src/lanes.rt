@@ -1,9 +1,9 @@
 //! The command `lanes`.
-ghost use Rattle.std.specs.Prelude.{◌≡◌, ◌==◌, ◌≢◌, ◌≤◌, ◌++◌, [], IfErr, IfOk, All, false, get_or, map};
+ghost use Rattle.std.specs.Prelude.{◌≡◌, ◌==◌, ◌≤◌, ◌++◌, [], IfErr, IfOk, OnOk, All, false, get_or, map};
 ghost use Rattle.std.specs.List.{AllZip};
 ghost use Rattle.route_io.specs.Sinks.{Sends};
 ghost use Rattle.route_io.specs.Sources.{ReadsFrom};
-ghost use Rattle.session_core.specs.declared.end.SessionEnd.TheVariants as ended;
+ghost use Rattle.session_core.specs.Links.{is_starved};
 ghost use Rattle.command_words.specs.Words.{FilesInRange, AreLanes, AreSearchLimits, lanes};
 ghost use Rattle.command_words.specs.Words.{lanes_asked, names_of, scripts_of};
 ghost use Rattle.still_commands.specs.Outcome.{status_of};
@@ -15,6 +15,7 @@ ghost use Rattle.route_top.specs.Ends.{Ends};
 use crate::script::read_script;
 use answer_writer::{Piece, put_line};
 use command_words::LanesWords;
+use out_of_memory::OutOfMemory;
 use route_io::sure::{SureSink, SureSource};
 use route_io::{Folder, Gate, Link, Sink, SureLink, WriteFault, put_all};
 use route_lanes::{LaneReport, run_lanes};
@@ -58,9 +59,7 @@ pub(crate) fn run<'a, R: Threads + Wait + Clock + Sync, G: Gate, F: Folder, K: S
         bytes: MAX_TAKEN,
     };
     let reports = run_lanes(&context, weights, asked.epoch, &mut links)?;
-    if has_starved(&reports) {
-        return Err(Stop::OutOfMemory);
-    }
+    memory_sufficed(&reports)?;
     put_lanes(out, 0, &links)?;
     Ok(())
 }
@@ -85,8 +84,8 @@ fn read_scripts<'a, F: Folder>(
     let mut links = Vec::new(alloc);
     for number in 0..asked.lanes + 1 {
         let bytes = read_script(alloc, folder, script_at(asked, number))?;
-        if links.push(link_of(alloc, bytes)).is_err() {
-            return Err(Stop::OutOfMemory);
+        if let Err(want) = links.push(link_of(alloc, bytes)) {
+            return Err(Stop::OutOfMemory(want.into()));
         }
     }
     Ok(links)
@@ -116,13 +115,16 @@ pub(crate) fn link_of(alloc: Global, bytes: Vec<u8>) -> SureLink
     Link { from, to }
 }
 
-/// Whether memory ran out in a lane.
-fn has_starved(reports: &[LaneReport]) -> bool
-    ensures { result ≡ false → All (λ r. r.end ≢ ended.OutOfMemory) reports.now }
+/// Refuses reports of which one says that memory ran out in its lane.
+pub(crate) fn memory_sufficed(reports: &[LaneReport]) -> Result<(), OutOfMemory>
+    ensures { OnOk result (All (λ r. is_starved r.end ≡ false) reports.now) }
 {
-    reports
-        .iter()
-        .any(|report| report.end() == SessionEnd::OutOfMemory)
+    for report in reports {
+        if let SessionEnd::OutOfMemory(want) = report.end() {
+            return Err(want);
+        }
+    }
+    Ok(())
 }
 
 /// Sends the replies of lanes, of which the first has this number: 0 is the operator's.

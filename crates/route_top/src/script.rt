@@ -63,8 +63,8 @@ fn read_whole<S: Source>(alloc: Global, source: &mut S) -> Result<Vec<u8>, Scrip
         if taken == 0 {
             return Ok(bytes);
         }
-        if bytes.extend_from_slice(&buffer[..taken]).is_err() {
-            return Err(ScriptFault::OutOfMemory);
+        if let Err(want) = bytes.extend_from_slice(&buffer[..taken]) {
+            return Err(ScriptFault::OutOfMemory(want.into()));
         }
     }
     Err(ScriptFault::TooLong)

@@ -114,8 +114,8 @@ fn end_of<'a>(served: Result<Served, OutOfMemory>) -> Result<(), Stop<'a>>
     ensures { run_outcome result ≡ served_outcome served }
 {
     let served = served?;
-    if 0 < served.starved {
-        return Err(Stop::OutOfMemory);
+    if let Some(want) = served.want {
+        return Err(Stop::OutOfMemory(want));
     }
     if 0 < served.failed {
         return Err(Stop::Town);

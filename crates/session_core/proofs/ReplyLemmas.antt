@@ -25,7 +25,7 @@ module _ (One Other : Reply → List ℕ → Type 0) (each : (reply : Reply) (te
   pub replied_as : (result : Result Reply ReplyFault) → Replied One out replied result → Replied Other out replied result
   replied_as (Ok reply) sends = sends_as reply (Ok tt) sends
   replied_as (Err (fault.Out cut)) sends = (sends.0, sends_as sends.0 (Err cut) sends.1)
-  replied_as (Err fault.OutOfMemory) same = same
+  replied_as (Err (fault.OutOfMemory want)) same = same
 
 -- the query is within its budget, and the reply is its answer
 pub answers_query : (net : Network) (mode : SearchMode) (epoch : ℕ) (kind : AnswerKind) (query : Query) (out replied : SinkState) (result : Result Reply ReplyFault)

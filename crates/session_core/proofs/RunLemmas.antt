@@ -127,7 +127,7 @@ answers_unnamed scene first old exchanges raw what IsReply to replied (Ok whole)
     tells_unnamed scene first old exchanges raw one.text what to replied _ goes is (reply one.text one.is) one.sent
 answers_unnamed scene first old exchanges raw what IsReply to replied (Err (fault.Out cut)) goes is reply one =
     tells_unnamed scene first old exchanges raw one.text what to replied _ goes is (reply one.text one.is) one.sent
-answers_unnamed scene first old exchanges raw what IsReply to replied (Err fault.OutOfMemory) goes is reply unsent = (goes, unsent)
+answers_unnamed scene first old exchanges raw what IsReply to replied (Err (fault.OutOfMemory want)) goes is reply unsent = (goes, unsent)
 
 -- a request is answered
 pub answers_request : (scene : Scene) (first old new : Session) (exchanges : List Exchange) (raw : List ℕ) (r : SessionRequest)
@@ -137,7 +137,7 @@ pub answers_request : (scene : Scene) (first old new : Session) (exchanges : Lis
 answers_request scene first old new exchanges raw r to replied (Ok whole) goes is last = tells_request scene first old new exchanges raw r to replied _ goes is last
 answers_request scene first old new exchanges raw r to replied (Err (fault.Out cut)) goes is last =
     tells_request scene first old new exchanges raw r to replied _ goes is last
-answers_request scene first old new exchanges raw r to replied (Err fault.OutOfMemory) goes is none =
+answers_request scene first old new exchanges raw r to replied (Err (fault.OutOfMemory want)) goes is none =
     (sees_and_goes scene first old new exchanges goes none.seen none.named, none.unsent)
 
 -- a session of which nothing was asked yet

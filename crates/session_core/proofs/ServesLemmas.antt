@@ -222,16 +222,16 @@ module _ {State : Type 0} (Progresses : State → List Exchange → State → Ty
                 reads = ReadsFrom-then from before after false served.reads source;
                 writes = (sent_one (Err write.Failed) tells).cause;
               }
-              ends_cut write.OutOfMemory tells = record {
-                exchanges = one_exchange (Err write.OutOfMemory) tells;
+              ends_cut (write.OutOfMemory want) tells = record {
+                exchanges = one_exchange (Err (write.OutOfMemory want)) tells;
                 runs = tells.led;
-                each = omega (arith, each_one (Err write.OutOfMemory) tells, within);
-                lines = begun_one (Err write.OutOfMemory) tells OutOfMemory (λ taken first. first);
+                each = omega (arith, each_one (Err (write.OutOfMemory want)) tells, within);
+                lines = begun_one (Err (write.OutOfMemory want)) tells (OutOfMemory want) (λ taken first. first);
                 wanted = true;
                 wants = λ e. refl;
-                sent = cuts_last write.OutOfMemory tells;
+                sent = cuts_last (write.OutOfMemory want) tells;
                 reads = ReadsFrom-then from before after false served.reads source;
-                writes = (sent_one (Err write.OutOfMemory) tells).cause;
+                writes = (sent_one (Err (write.OutOfMemory want)) tells).cause;
               }
 
               -- the line isn't told, and nothing was sent
@@ -259,8 +259,8 @@ module _ {State : Type 0} (Progresses : State → List Exchange → State → Ty
                   ends_silently Ended (λ taken first. inl (record { bye = raw; is_bye = answers.0; first = first })) answers.1 answers.2
                   refl refl served.sent.bytes
               serves_one (Err (reply.Out cut)) answers = ends_cut cut answers
-              serves_one (Err reply.OutOfMemory) answers =
-                  ends_silently OutOfMemory (λ taken first. first_without total taken after.left (lines_exchanged served.exchanges) (raw ∷ []) first) answers.0 answers.1
+              serves_one (Err (reply.OutOfMemory want)) answers =
+                  ends_silently (OutOfMemory want) (λ taken first. first_without total taken after.left (lines_exchanged served.exchanges) (raw ∷ []) first) answers.0 answers.1
                   refl refl served.sent.bytes
 
           -- the next line was answered
@@ -377,4 +377,3 @@ module _ {State : Type 0} (Progresses : State → List Exchange → State → Ty
         serves_fault line.Read requests source = serves_failed requests source
         serves_fault line.Total requests source = serves_total requests source
         serves_fault line.TooLong requests source = absurd requests.counts
-        serves_fault line.OutOfMemory requests source = absurd requests.counts

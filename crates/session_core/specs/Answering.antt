@@ -47,7 +47,7 @@ pub record SendsOneOf (IsText : List ℕ → Type 0) (old new : SinkState) (resu
 abbrev pub RepliesOneOf : (List ℕ → Type 0) → SinkState → SinkState → Result (Unit {0}) ReplyFault → Type 0
 RepliesOneOf IsText old new (Ok sent) = SendsOneOf IsText old new (Ok tt)
 RepliesOneOf IsText old new (Err (fault.Out cut)) = SendsOneOf IsText old new (Err cut)
-RepliesOneOf IsText old new (Err fault.OutOfMemory) = new ≡ old
+RepliesOneOf IsText old new (Err (fault.OutOfMemory want)) = new ≡ old
 
 -- A request had its reply, with this result, at the last epoch that was seen then, and the number was added.
 pub record RepliesLast (scene : Scene) (r : SessionRequest) (old new : Session) (to replied : SinkState)
@@ -67,7 +67,7 @@ abbrev pub AnswersRequest : Scene → SessionRequest → Session → Session →
     → Type 0
 AnswersRequest scene r old new to replied (Ok sent) = RepliesLast scene r old new to replied (Ok tt)
 AnswersRequest scene r old new to replied (Err (fault.Out cut)) = RepliesLast scene r old new to replied (Err cut)
-AnswersRequest scene r old new to replied (Err fault.OutOfMemory) = RepliesNothing scene.origin old new to replied
+AnswersRequest scene r old new to replied (Err (fault.OutOfMemory want)) = RepliesNothing scene.origin old new to replied
 
 -- the answer of a line that isn't the last, by that of its reply
 abbrev pub answer_by : Result (Unit {0}) ReplyFault → Result Answered ReplyFault

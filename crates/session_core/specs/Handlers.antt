@@ -26,7 +26,7 @@ abbrev pub AnswersLine : (List Exchange → Type 0) → (List ℕ → Type 0) �
 AnswersLine Led IsBye exchanges raw to replied (Ok Replied) = TellsOne Led exchanges raw to replied (Ok tt)
 AnswersLine Led IsBye exchanges raw to replied (Ok Bye) = IsBye raw × Led exchanges × (replied ≡ to)
 AnswersLine Led IsBye exchanges raw to replied (Err (fault.Out cut)) = TellsOne Led exchanges raw to replied (Err cut)
-AnswersLine Led IsBye exchanges raw to replied (Err fault.OutOfMemory) = Led exchanges × (replied ≡ to)
+AnswersLine Led IsBye exchanges raw to replied (Err (fault.OutOfMemory want)) = Led exchanges × (replied ≡ to)
 
 -- calls of this kind can be made, in each context that is ready
 abbrev pub IsCallableIn : {C H K : Type 0} → (C → Type 0) → (Bor C → MutBor H → Kind → Bor (List ℕ) → MutBor K → Type 0) → Type 0

@@ -15,6 +15,11 @@ abbrev pub is_read_fault : SessionEnd → Bool
 is_read_fault ReadFault = true
 is_read_fault end = false
 
+-- the test that memory ran out
+abbrev pub is_starved : SessionEnd → Bool
+is_starved (OutOfMemory want) = true
+is_starved end = false
+
 -- the test that a session ended so
 abbrev pub is_write_fault : SessionEnd → Bool
 is_write_fault WriteFault = true
@@ -46,7 +51,7 @@ Begins IsBye total taken left Ended lines =
 Begins IsBye total taken left ReadFault lines = (length taken < total) × (lines ≡ ended_lines taken)
 Begins IsBye total taken left TooLong lines = (length taken ≡ total) × (lines ≡ ended_lines taken)
 Begins IsBye total taken left WriteFault lines = AreFirst total taken left lines
-Begins IsBye total taken left OutOfMemory lines = AreFirst total taken left lines
+Begins IsBye total taken left (OutOfMemory want) lines = AreFirst total taken left lines
 
 -- The lines were begun, by how the session ended, among the bytes that were taken from a source that tells them.
 pub record TakesLines (IsBye : List ℕ → Type 0) (total : ℕ) (before after : Option (List ℕ)) (end : SessionEnd)
@@ -68,7 +73,7 @@ pub record CutsLast (old new : SinkState) (exchanges : List Exchange) : Type 0 w
 -- what was sent, by how the session ended and whether the sink itself wanted memory
 abbrev pub SendsReplies : SessionEnd → Bool → SinkState → SinkState → List Exchange → Type 0
 SendsReplies WriteFault wanted old new exchanges = CutsLast old new exchanges
-SendsReplies OutOfMemory true old new exchanges = CutsLast old new exchanges
+SendsReplies (OutOfMemory want) true old new exchanges = CutsLast old new exchanges
 SendsReplies end wanted old new exchanges = Appends old.sent new.sent (text_exchanged exchanges)
 
 -- Lines that come from a link were replied to on it, one after another, until the session ended so. `Progresses` says how lines
@@ -84,7 +89,7 @@ pub record Serves {State : Type 0} (Progresses : State → List Exchange → Sta
   pub lines : IfSome from.left (λ _. TakesLines IsBye total from.left after.left end (lines_exchanged exchanges))
   -- whether the sink itself wanted memory
   pub wanted : Bool
-  pub wants : wanted ≡ true → end ≡ OutOfMemory
+  pub wants : wanted ≡ true → is_starved end ≡ true
   pub sent : SendsReplies end wanted to replied exchanges
   -- the source's failures alone make a read fault, and those of the sink a write fault
   pub reads : ReadsFrom from after (is_read_fault end)

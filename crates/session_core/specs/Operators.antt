@@ -31,13 +31,13 @@ abbrev pub set_refusal : SetFault → Option (List ℕ)
 set_refusal set.Arc = Some (codes "x arc" ++ end_line)
 set_refusal set.Zero = Some (codes "x zero" ++ end_line)
 set_refusal set.Full = Some (codes "x full" ++ end_line)
-set_refusal set.OutOfMemory = None
+set_refusal (set.OutOfMemory want) = None
 
 -- `x arc` or `x full`: why an arc isn't shut
 abbrev pub shut_refusal : ShutFault → Option (List ℕ)
 shut_refusal shut.Arc = Some (codes "x arc" ++ end_line)
 shut_refusal shut.Full = Some (codes "x full" ++ end_line)
-shut_refusal shut.OutOfMemory = None
+shut_refusal (shut.OutOfMemory want) = None
 
 -- a change of one arc's state
 abbrev pub change_of : ℕ → Option (List ℕ) → Change

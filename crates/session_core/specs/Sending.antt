@@ -21,4 +21,4 @@ IsReplyOf kind whole reply text = (reply ≡ kind) × (text ≡ whole)
 abbrev pub Replied : (Reply → List ℕ → Type 0) → SinkState → SinkState → Result Reply ReplyFault → Type 0
 Replied IsReply old new (Ok reply) = SendsReply IsReply old new reply (Ok tt)
 Replied IsReply old new (Err (fault.Out cut)) = (reply : Reply) × SendsReply IsReply old new reply (Err cut)
-Replied IsReply old new (Err fault.OutOfMemory) = new ≡ old
+Replied IsReply old new (Err (fault.OutOfMemory want)) = new ≡ old

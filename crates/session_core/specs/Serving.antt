@@ -66,12 +66,11 @@ abbrev pub end_by_input : LineFault → SessionEnd
 end_by_input line.Read = ReadFault
 end_by_input line.Total = TooLong
 end_by_input line.TooLong = TooLong
-end_by_input line.OutOfMemory = OutOfMemory
 
 -- whether what became of a line ends a session, and how
 abbrev pub end_by_answer : Result Answered ReplyFault → Option SessionEnd
 end_by_answer (Ok Replied) = None
 end_by_answer (Ok Bye) = Some Ended
 end_by_answer (Err (reply.Out write.Failed)) = Some WriteFault
-end_by_answer (Err (reply.Out write.OutOfMemory)) = Some OutOfMemory
-end_by_answer (Err reply.OutOfMemory) = Some OutOfMemory
+end_by_answer (Err (reply.Out (write.OutOfMemory want))) = Some (OutOfMemory want)
+end_by_answer (Err (reply.OutOfMemory want)) = Some (OutOfMemory want)

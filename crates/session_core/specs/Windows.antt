@@ -1,5 +1,5 @@
 -- The lines of an answer's routes, which are made window by window, and each window piece by piece.
-use Rattle.std.specs.Prelude.{◌≡◌, ℕ, ◌+◌, ◌*◌, ◌<◌, ◌≤◌, List, Some, length, min, slice_get}
+use Rattle.std.specs.Prelude.{◌≡◌, ℕ, ◌+◌, ◌*◌, ◌<◌, ◌≤◌, List, Option, Some, length, min, slice_get}
 use Rattle.road_network.specs.Network.{Network}
 use Rattle.road_network.specs.Answers.{Route}
 use Rattle.road_network.specs.declared.query.AnswerKind.{AnswerKind}
@@ -34,8 +34,8 @@ module _ (net : Network) (f : FoundCosts) where
   IsPiece kind from to piece text = (routes : List Route) → AreRoutes net f routes
       → text ≡ lines_between kind routes (from + piece * piece_size) (min to (from + (piece + 1) * piece_size))
 
-  -- The texts are those of all pieces of a window, in their order.
-  pub record AreTexts (kind : AnswerKind) (from to : ℕ) (texts : List SureSink) : Type 0 where
+  -- The texts are those of all pieces of a window, in their order, where there was memory for them.
+  pub record AreTexts (kind : AnswerKind) (from to : ℕ) (texts : List (Option SureSink)) : Type 0 where
     pub begin : (piece : ℕ) → piece < length texts → from + piece * piece_size < to
     pub end : to ≤ from + length texts * piece_size
-    pub each : (piece : ℕ) (text : SureSink) → slice_get texts piece ≡ Some text → IsPiece kind from to piece text.sent
+    pub each : (piece : ℕ) (text : SureSink) → slice_get texts piece ≡ Some (Some text) → IsPiece kind from to piece text.sent

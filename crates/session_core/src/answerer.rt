@@ -112,7 +112,7 @@ impl<R: Threads + Sync, G: Gate> Answerer<'_, R, G> {
         match found {
             Ok(found) => self.answer(epoch, kind, query, &found, room, out),
             Err(SearchFault::Budget) => refuse(out, epoch, query, " budget"),
-            Err(SearchFault::OutOfMemory) => Err(ReplyFault::OutOfMemory),
+            Err(SearchFault::OutOfMemory(want)) => Err(want.into()),
         }
     }
 

@@ -1,3 +1,5 @@
+use out_of_memory::OutOfMemory;
+
 /// How the serving of a link ended.
 #[derive(Clone, Copy, Debug, PartialEq, Eq)]
 pub enum SessionEnd {
@@ -10,5 +12,5 @@ pub enum SessionEnd {
     /// As many bytes were taken as may be, and no line among them asked for the end.
     TooLong,
     /// Memory ran out before a reply, or the sink itself wanted memory within one.
-    OutOfMemory,
+    OutOfMemory(OutOfMemory),
 }

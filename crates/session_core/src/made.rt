@@ -84,31 +84,26 @@ impl<R: Threads + Sync, G: Gate> Answerer<'_, R, G> {
         if !held.begin(place) {
             return None;
         }
-        let made = self.make_reply(epoch, kind, query).ok();
+        let made = self.make_reply(epoch, kind, query);
         held.end(made.as_ref());
         made
     }
 
-    /// The reply to a query at an epoch, made in memory by one worker.
-    fn make_reply(
-        &self,
-        epoch: u32,
-        kind: AnswerKind,
-        query: &Query,
-    ) -> Result<MadeReply, OutOfMemory>
+    /// The reply to a query at an epoch, made in memory by one worker, where there is memory for it.
+    fn make_reply(&self, epoch: u32, kind: AnswerKind, query: &Query) -> Option<MadeReply>
         requires { IsAsked self.now.network.now.criteria query.now }
-        ensures { IfOk result (IsMade self.now.network.now self.now.mode epoch kind query.now) }
+        ensures { IfSome result (IsMade self.now.network.now self.now.mode epoch kind query.now) }
     {
-        let mut room = Room::with(self.alloc, 0)?;
+        let mut room = Room::with(self.alloc, 0).ok()?;
         let mut text = SureSink::new(self.alloc);
         let answerer = Answerer {
             workers: &self.workers.alone(),
             ..*self
         };
-        match answerer.reply(epoch, kind, query, &mut room, &mut text) {
-            Ok(reply) => Ok(MadeReply { reply, text }),
-            Err(_) => Err(OutOfMemory),
-        }
+        let reply = answerer
+            .reply(epoch, kind, query, &mut room, &mut text)
+            .ok()?;
+        Some(MadeReply { reply, text })
     }
 
     /// Sends the reply to a query, as `reply` does, but as it was made in memory where it was.

@@ -66,7 +66,7 @@ fn set<T: Store>(
         Err(SetFault::Arc) => Ok(OperatorReply::Refused(Refusal::Arc)),
         Err(SetFault::Zero) => Ok(OperatorReply::Refused(Refusal::Zero)),
         Err(SetFault::Full) => Ok(OperatorReply::Refused(Refusal::Full)),
-        Err(SetFault::OutOfMemory) => Err(OutOfMemory),
+        Err(SetFault::OutOfMemory(want)) => Err(want),
     }
 }
 
@@ -80,7 +80,7 @@ fn shut<T: Store>(operator: &mut Operator<T>, arc: u32) -> Result<OperatorReply,
         Ok(()) => Ok(OperatorReply::Done),
         Err(ShutFault::Arc) => Ok(OperatorReply::Refused(Refusal::Arc)),
         Err(ShutFault::Full) => Ok(OperatorReply::Refused(Refusal::Full)),
-        Err(ShutFault::OutOfMemory) => Err(OutOfMemory),
+        Err(ShutFault::OutOfMemory(want)) => Err(want),
     }
 }
 
@@ -104,6 +104,6 @@ fn publish<T: Store, R: Wait>(
     match operator.publish(rt) {
         Ok(number) => Ok(OperatorReply::Epoch(number)),
         Err(PublishFault::LastEpoch) => Ok(OperatorReply::Refused(Refusal::Last)),
-        Err(PublishFault::OutOfMemory) => Err(OutOfMemory),
+        Err(PublishFault::OutOfMemory(want)) => Err(want),
     }
 }

@@ -11,7 +11,6 @@ use crate::SessionEnd;
 use crate::fault::ReplyFault;
 use crate::handler::{Answered, LineHandler};
 use line_text::{LineFault, LineLimits, Lines, Request};
-use out_of_memory::OutOfMemory;
 use route_io::{Link, Sink, Source, WriteFault};
 use std::alloc::Global;
 
@@ -46,7 +45,7 @@ where
     };
     match Lines::new(alloc, limits) {
         Ok(mut lines) => serve_lines(context, handler, link, &mut lines, answer),
-        Err(OutOfMemory) => SessionEnd::OutOfMemory,
+        Err(want) => SessionEnd::OutOfMemory(want),
     }
 }
 
@@ -116,7 +115,6 @@ fn end_by_input(fault: LineFault) -> SessionEnd
     match fault {
         LineFault::Read => SessionEnd::ReadFault,
         LineFault::Total | LineFault::TooLong => SessionEnd::TooLong,
-        LineFault::OutOfMemory => SessionEnd::OutOfMemory,
     }
 }
 
@@ -128,8 +126,8 @@ fn end_by_answer(answer: Result<Answered, ReplyFault>) -> Option<SessionEnd>
         Ok(Answered::Replied) => None,
         Ok(Answered::Bye) => Some(SessionEnd::Ended),
         Err(ReplyFault::Out(WriteFault::Failed)) => Some(SessionEnd::WriteFault),
-        Err(ReplyFault::Out(WriteFault::OutOfMemory) | ReplyFault::OutOfMemory) => {
-            Some(SessionEnd::OutOfMemory)
+        Err(ReplyFault::Out(WriteFault::OutOfMemory(want)) | ReplyFault::OutOfMemory(want)) => {
+            Some(SessionEnd::OutOfMemory(want))
         }
     }
 }

@@ -192,12 +192,12 @@ impl<T: Store> Session<T> {
         ensures { AnswersRequest (scene_of context.now.graph.now T.origin context.now.budget)
             request.now self.old self.new (K.state to.old) (K.state to.new) result }
     {
-        if self.named.reserve(1).is_err() {
-            return Err(ReplyFault::OutOfMemory);
+        if let Err(want) = self.named.reserve(1) {
+            return Err(ReplyFault::OutOfMemory(want.into()));
         }
         let number = look_for(&mut self.reader, context.workers.rt(), request)?;
         let replied = context.reply(&self.reader, request, &mut self.room, to);
-        if replied != Err(ReplyFault::OutOfMemory) {
+        if !matches!(replied, Err(ReplyFault::OutOfMemory(_))) {
             self.named.push_reserved(number);
         }
         replied

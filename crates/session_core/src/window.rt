@@ -40,22 +40,23 @@ struct Window<'w, F> {
 impl<F: FoundCosts + Sync> Job for Window<'_, F> {
     ghost use Rattle.session_core.specs.Windows.{CanMake, IsPiece};
 
-    type Out = SureSink;
+    /// The text, where there was memory for it.
+    type Out = Option<SureSink>;
 
     ghost accepts = { λ w piece. CanMake w.network.now (F.state w.found.now) w.from w.to piece };
 
-    ghost gives = { λ w piece text. IsPiece w.network.now (F.state w.found.now) w.kind
-        w.from w.to piece text.sent };
+    ghost gives = { λ w piece made. IfSome made (λ text. IsPiece w.network.now
+        (F.state w.found.now) w.kind w.from w.to piece text.sent) };
 
-    fn run(&self, piece: usize) -> Result<SureSink, OutOfMemory> {
+    fn run(&self, piece: usize) -> Result<Option<SureSink>, OutOfMemory> {
         let mut room = Room::with(self.alloc, self.found.longest())?;
         let mut text = SureSink::new(self.alloc);
         let out = &mut text;
         let start = self.from + piece * PIECE_SIZE;
         let places = start..start + PIECE_SIZE.min(self.to - start);
         match put_routes(out, self.kind, self.network, self.found, places, &mut room) {
-            Ok(()) => Ok(text),
-            Err(_) => Err(OutOfMemory),
+            Ok(()) => Ok(Some(text)),
+            Err(_) => Ok(None),
         }
     }
 }
@@ -74,7 +75,7 @@ impl<F: FoundCosts + Sync> Window<'_, F> {
     fn make_texts<R: Threads + Sync, G>(
         &self,
         workers: &Workers<'_, R, G>,
-    ) -> Result<Vec<SureSink>, OutOfMemory>
+    ) -> Result<Vec<Option<SureSink>>, OutOfMemory>
         requires { IsWindow self.now.network.now (F.state self.now.found.now)
             self.now.from self.now.to }
         ensures { IfOk result (λ texts. AreTexts self.now.network.now (F.state self.now.found.now)
@@ -85,19 +86,22 @@ impl<F: FoundCosts + Sync> Window<'_, F> {
         run_pieces(&ungated, self.alloc, pieces, Phase::Query, self)
     }
 
-    /// Sends the texts of its pieces in order.
-    fn send_texts<K: Sink>(&self, texts: &[SureSink], out: &mut K) -> Result<(), WriteFault>
+    /// Sends the texts of its pieces in order, all of which were made.
+    fn send_texts<K: Sink>(&self, texts: &[Option<SureSink>], out: &mut K) -> Result<(), WriteFault>
         requires window { IsWindow self.now.network.now (F.state self.now.found.now)
             self.now.from self.now.to }
         requires texts { AreTexts self.now.network.now (F.state self.now.found.now)
             self.now.kind self.now.from self.now.to texts.now }
+        requires whole { All (λ made. IsTrue (is_some made)) texts.now }
         ensures { (routes : List Route)
             → AreRoutes self.now.network.now (F.state self.now.found.now) routes
             → Sends (K.state out.old) (K.state out.new)
             (lines_between self.now.kind routes self.now.from self.now.to) result }
     {
-        for text in texts {
-            put_all(out, text.sent())?;
+        for made in texts {
+            if let Some(text) = made {
+                put_all(out, text.sent())?;
+            }
         }
         Ok(())
     }
@@ -120,8 +124,8 @@ impl<F: FoundCosts + Sync> Window<'_, F> {
         ensures room { room.old.holds ≤ room.new.holds }
     {
         match self.make_texts(workers) {
-            Ok(texts) => self.send_texts(&texts, out),
-            Err(OutOfMemory) => {
+            Ok(texts) if texts.iter().all(Option::is_some) => self.send_texts(&texts, out),
+            _ => {
                 let places = self.from..self.to;
                 put_routes(out, self.kind, self.network, self.found, places, room)
             }

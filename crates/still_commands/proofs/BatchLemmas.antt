@@ -96,7 +96,7 @@ module _ (mode : SearchMode) (limits : SearchLimits) (net : Network) (pairs : Li
     pub ends_at_pair : (why : ReplyFault) → Replied (IsToPair mode limits net pair) mid replied (Err why)
         → Replies (PairsReplies mode limits net pairs) out replied (outcome_of (stop_at why))
     ends_at_pair (fault.Out cut) sends = cut_behind sends.0 cut sends.1 (nat_lt (i + 1) (length pairs)) refl
-    ends_at_pair fault.OutOfMemory same =
+    ends_at_pair (fault.OutOfMemory want) same =
         let starves : StarvesAtPair mode limits net pairs so_far.text = record { before = i; more = inside; replied = so_far.replies } in
         rw same (replies_so (PairsReplies mode limits net pairs) no_memory so_far.text out mid no_memory starves
         (sent_whole no_memory so_far.text out mid (record { no_fault = refl; no_want = refl }) refl so_far.sent))

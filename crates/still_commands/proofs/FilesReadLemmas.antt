@@ -85,7 +85,7 @@ has_all text items i files joiner past has = rw (take_all i (map text items) (om
 pub not_joined : (files : Option FileMap) (names : List (List ℕ)) (joiner : Joiner) (has : HasRead files names joiner) (fault : JoinFault)
     → IsFaultOf has.contents fault → FilesStop files names (outcome_of (stop_of fault))
 not_joined files names joiner has (join.Files way) is = disagree (record { contents = has.contents; read = has.read; fault_is = is })
-not_joined files names joiner has join.OutOfMemory is = unjoined
+not_joined files names joiner has (join.OutOfMemory want) is = unjoined
 
 -- what keeps a file from being read is nothing of the sink of replies
 pub reading_leaves_out : {Fault : ℕ → LineKind → Type 0} {bad : ℕ → LineKind → Outcome} {name : List ℕ} {outcome : Outcome}

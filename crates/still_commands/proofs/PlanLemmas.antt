@@ -36,7 +36,7 @@ use Rattle.gen_laws.specs.Laws.{LeaveRoom, PairFilesAreRead, WeightFilesAgree, W
 use Rattle.command_words.specs.Words.{GenAsked}
 use Rattle.still_commands.specs.declared.summary.Summary.{Summary}
 use Rattle.still_commands.specs.FilesRead.{reading_limits}
-use Rattle.still_commands.specs.Summary.{ComesTo, SumsUp, TakesWhole}
+use Rattle.still_commands.specs.Summary.{ComesTo, IsFileWant, IsJoinWant, SumsUp, TakesWhole}
 
 -- the limits of a run leave room for generated files
 pub leave_room : LeaveRoom reading_limits
@@ -45,16 +45,16 @@ leave_room = record { line = omega arith; file = omega arith }
 -- a file has no fault of a line, and bytes in memory can be read
 pub only_want : {P R : Type 0} (rules : Rules P R) (limits : LineLimits) (bytes left : List ℕ) (problem : P) (records : List R) (fault : FileFault)
     → IsFile rules limits bytes problem records → IsFirstFault rules limits bytes fault
-    → ReadsFrom (sure_source_state bytes) (sure_source_state left) (file_failed {T = Unit {0}} (Err fault)) → fault ≡ file.OutOfMemory
+    → ReadsFrom (sure_source_state bytes) (sure_source_state left) (file_failed {T = Unit {0}} (Err fault)) → IsFileWant fault
 only_want rules limits bytes left problem records (file.Line kind line) is first reads =
     absurd ((is_decided rules limits bytes).never_both problem records kind line is first)
 only_want rules limits bytes left problem records file.Read is first reads = absurd (omega (arith, reads.cause.1))
-only_want rules limits bytes left problem records file.OutOfMemory is first reads = refl
+only_want rules limits bytes left problem records (file.OutOfMemory want) is first reads = tt
 
 -- files that agree are joined, unless memory runs out
-pub only_want_in : (files : List ArcFile) (fault : JoinFault) → Agree files → IsFaultOf files fault → fault ≡ join.OutOfMemory
+pub only_want_in : (files : List ArcFile) (fault : JoinFault) → Agree files → IsFaultOf files fault → IsJoinWant fault
 only_want_in files (join.Files way) agree is = absurd (none_of_agreeing files way agree is)
-only_want_in files join.OutOfMemory agree is = refl
+only_want_in files (join.OutOfMemory want) agree is = tt
 
 -- a text is of one weight file, which is what the joiner has taken
 pub takes_whole : (bytes : List ℕ) (file : ArcFile) (before now : Joiner) → IsGrFile reading_limits bytes file

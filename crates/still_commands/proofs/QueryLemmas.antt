@@ -36,7 +36,7 @@ module _ (mode : SearchMode) (kind : AnswerKind) (query : Query) (net : Network)
       → Replies (QueryReplies mode kind query net) out replied (outcome_of (stop_at why))
   replied_in_part (fault.Out cut) sends = replies_so (QueryReplies mode kind query net) (reply_outcome sends.0) sends.1.text out replied
       (outcome_of (stop.Out cut)) (ends_so sends.0 sends.1.text sends.1.is) (sent_part (reply_outcome sends.0) sends.1.text out replied cut sends.1.sent)
-  replied_in_part fault.OutOfMemory same = rw same (starves (QueryReplies mode kind query net) out refl)
+  replied_in_part (fault.OutOfMemory want) same = rw same (starves (QueryReplies mode kind query net) out refl)
 
 -- a query without a limit can be asked in all criteria
 pub asked_unlimited : (criteria : ℕ) (query : Query) → query.limit ≡ None → query.budget ≤ max_budget → IsAsked criteria query

@@ -63,7 +63,7 @@ module _ (end : Outcome) (reply : List ℕ) (out replied : SinkState) where
     reads = stays folder;
     writes = sends.cause;
   }
-  sent_part write.OutOfMemory sends = λ folder. record {
+  sent_part (write.OutOfMemory want) sends = λ folder. record {
     text = take sends.bytes.0 reply;
     took = sends.bytes.2;
     ends = wanted (part_of sends.bytes.0 sends.bytes.1);

@@ -30,14 +30,14 @@ script_name (Session stem number) = stem.now ++ decimal number
 abbrev pub script_outcome : List ℕ → ScriptFault → Outcome
 script_outcome name script.Folder = folder_failed name
 script_outcome name script.TooLong = script_too_long name
-script_outcome name script.OutOfMemory = no_memory
+script_outcome name (script.OutOfMemory want) = no_memory
 
 -- the outcome that a reason is
 abbrev pub outcome_of : Stop → Outcome
 outcome_of stop.Words = bad_words
 outcome_of (stop.Folder name) = folder_failed name.now
 outcome_of (stop.Out write.Failed) = out_failed
-outcome_of (stop.Out write.OutOfMemory) = out_wanted
+outcome_of (stop.Out (write.OutOfMemory want)) = out_wanted
 outcome_of (stop.File name line kind) = bad_file name.now line kind
 outcome_of (stop.Files way) = bad_files way
 outcome_of (stop.Pairs name line kind) = bad_pairs name.now line kind
@@ -46,7 +46,7 @@ outcome_of (stop.Cert name line) = bad_cert name.now line
 outcome_of (stop.Rule name rule label) = failed_rule name.now rule label
 outcome_of stop.Refused = refused
 outcome_of stop.Town = town_failed
-outcome_of stop.OutOfMemory = no_memory
+outcome_of (stop.OutOfMemory want) = no_memory
 
 -- how a run ended
 abbrev pub run_outcome : {T : Type 0} → Result T Stop → Outcome
@@ -61,17 +61,17 @@ reply_outcome Refusal = refused
 -- why files that give no network end a run
 abbrev pub stop_of : JoinFault → Stop
 stop_of (join.Files way) = stop.Files way
-stop_of join.OutOfMemory = stop.OutOfMemory
+stop_of (join.OutOfMemory want) = stop.OutOfMemory want
 
 -- why a town that doesn't listen ends a run
 abbrev pub stop_of_town : TownFault → Stop
 stop_of_town town.Failed = stop.Town
-stop_of_town town.OutOfMemory = stop.OutOfMemory
+stop_of_town (town.OutOfMemory want) = stop.OutOfMemory want
 
 -- why a reply that wasn't sent whole ends a run
 abbrev pub stop_at : ReplyFault → Stop
 stop_at (reply.Out cut) = stop.Out cut
-stop_at reply.OutOfMemory = stop.OutOfMemory
+stop_at (reply.OutOfMemory want) = stop.OutOfMemory want
 
 -- what is sent is this text, and the run ends so
 abbrev pub IsReply : Outcome → List ℕ → Outcome → List ℕ → Type 0

@@ -21,6 +21,20 @@ use Rattle.command_words.specs.Words.{GenAsked}
 use Rattle.still_commands.specs.declared.summary.Summary.{Summary}
 use Rattle.still_commands.specs.FilesRead.{reading_limits}
 use Rattle.still_commands.specs.Texts.{gen_reply}
+use Rattle.arc_graph.specs.declared.join.JoinFault.{JoinFault}
+use Rattle.arc_graph.specs.declared.join.JoinFault.TheVariants as join
+use Rattle.gr_reader.specs.declared.fault.FileFault.{FileFault}
+use Rattle.gr_reader.specs.declared.fault.FileFault.TheVariants as file
+
+-- a file wasn't read for want of memory alone
+abbrev pub IsFileWant : FileFault → Type 0
+IsFileWant (file.OutOfMemory want) = ⊤
+IsFileWant fault = ⊥
+
+-- files weren't joined for want of memory alone
+abbrev pub IsJoinWant : JoinFault → Type 0
+IsJoinWant (join.OutOfMemory want) = ⊤
+IsJoinWant fault = ⊥
 
 -- The files of the plan say this network and these pairs.
 pub record PlanSays (plan : GenPlan) (net : Network) (pairs : List Pair) : Type 0 where

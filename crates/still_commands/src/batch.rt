@@ -90,7 +90,7 @@ fn read_pairs<'a, F: Folder>(
         Ok(pairs) => Ok(pairs),
         Err(FileFault::Line { kind, line }) => Err(Stop::Pairs { name, line, kind }),
         Err(FileFault::Read) => Err(Stop::Folder { name }),
-        Err(FileFault::OutOfMemory) => Err(Stop::OutOfMemory),
+        Err(FileFault::OutOfMemory(want)) => Err(Stop::OutOfMemory(want)),
     }
 }
 

@@ -106,7 +106,7 @@ impl<R: Threads + Sync, G: Gate> Counter<'_, R, G> {
                 counts.count_passed();
                 Ok(())
             }
-            Err(SearchFault::OutOfMemory) => Err(OutOfMemory),
+            Err(SearchFault::OutOfMemory(want)) => Err(want),
         }
     }
 

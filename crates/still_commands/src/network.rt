@@ -102,6 +102,6 @@ fn read_file<'a, F: Folder>(
         Ok(()) => Ok(()),
         Err(FileFault::Line { kind, line }) => Err(Stop::File { name, line, kind }),
         Err(FileFault::Read) => Err(Stop::Folder { name }),
-        Err(FileFault::OutOfMemory) => Err(Stop::OutOfMemory),
+        Err(FileFault::OutOfMemory(want)) => Err(Stop::OutOfMemory(want)),
     }
 }

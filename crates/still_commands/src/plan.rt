@@ -6,7 +6,7 @@ ghost use Rattle.road_network.specs.Network.{IsNetwork};
 ghost use Rattle.gr_reader.specs.Sinks.{JoinerIsReady};
 ghost use Rattle.graph_gen.specs.Plans.{IsPlan};
 ghost use Rattle.gen_laws.specs.Laws.{file_of, files_of, pairs_of};
-ghost use Rattle.still_commands.specs.Summary.{TakesWhole};
+ghost use Rattle.still_commands.specs.Summary.{IsFileWant, IsJoinWant, TakesWhole};
 
 use crate::network::LIMITS;
 use arc_graph::{Graph, JoinFault, Joiner, Weights};
@@ -38,10 +38,10 @@ pub(crate) fn plan_network(alloc: Global, plan: &GenPlan) -> Result<(Graph, Weig
 
 /// The want of memory that a fault of joining is.
 fn want_in(fault: JoinFault) -> OutOfMemory
-    requires { fault ≡ JoinFault.OutOfMemory }
+    requires { IsJoinWant fault }
 {
     match fault {
-        JoinFault::OutOfMemory => OutOfMemory,
+        JoinFault::OutOfMemory(want) => want,
         JoinFault::Files(_) => unreachable!(),
     }
 }
@@ -82,10 +82,10 @@ pub(crate) fn plan_pairs(alloc: Global, plan: &GenPlan) -> Result<Vec<Pair>, Out
 
 /// The want of memory that a fault is.
 fn want_of(fault: FileFault) -> OutOfMemory
-    requires { fault ≡ FileFault.OutOfMemory }
+    requires { IsFileWant fault }
 {
     match fault {
-        FileFault::OutOfMemory => OutOfMemory,
+        FileFault::OutOfMemory(want) => want,
         FileFault::Line { .. } | FileFault::Read => unreachable!(),
     }
 }

@@ -91,7 +91,7 @@ fn put_found<'a, F: SettledCosts + Drop, K: Sink>(
     match found {
         Ok(found) => put_cert(alloc, network, query, &found, out),
         Err(SearchFault::Budget) => refuse(out, query, " budget"),
-        Err(SearchFault::OutOfMemory) => Err(Stop::OutOfMemory),
+        Err(SearchFault::OutOfMemory(want)) => Err(Stop::OutOfMemory(want)),
     }
 }
 

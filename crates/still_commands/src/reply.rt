@@ -60,7 +60,8 @@ pub(crate) fn kept(written: Result<(), WriteFault>) -> Result<(), OutOfMemory>
 {
     match written {
         Ok(()) => Ok(()),
-        Err(_) => Err(OutOfMemory),
+        Err(WriteFault::OutOfMemory(want)) => Err(want),
+        Err(WriteFault::Failed) => unreachable!(),
     }
 }
 

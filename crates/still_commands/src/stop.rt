@@ -103,7 +103,7 @@ impl Stop<'_> {
             Stop::Rule { .. } => FAILED_RULE,
             Stop::Refused => REFUSED,
             Stop::Town => TOWN_FAILED,
-            Stop::Out(WriteFault::OutOfMemory) | Stop::OutOfMemory => WANT_OF_MEMORY,
+            Stop::Out(WriteFault::OutOfMemory(_)) | Stop::OutOfMemory(_) => WANT_OF_MEMORY,
         }
     }
 
@@ -145,7 +145,7 @@ impl Stop<'_> {
             Stop::Rule { name, rule, label } => note_rule(err, name, *rule, *label),
             Stop::Refused => Ok(()),
             Stop::Town => put_all(err, b"route: town\n"),
-            Stop::Out(WriteFault::OutOfMemory) | Stop::OutOfMemory => {
+            Stop::Out(WriteFault::OutOfMemory(_)) | Stop::OutOfMemory(_) => {
                 put_all(err, b"route: memory\n")
             }
         }
@@ -159,7 +159,7 @@ fn script_status(fault: ScriptFault) -> u8
     match fault {
         ScriptFault::Folder => FOLDER_FAILED,
         ScriptFault::TooLong => LONG_SCRIPT,
-        ScriptFault::OutOfMemory => WANT_OF_MEMORY,
+        ScriptFault::OutOfMemory(_) => WANT_OF_MEMORY,
     }
 }
 
@@ -206,7 +206,7 @@ fn note_named_script<'x, E: Sink>(
                 Text(" too long\n"),
             ],
         ),
-        ScriptFault::OutOfMemory => put_all(err, b"route: memory\n"),
+        ScriptFault::OutOfMemory(_) => put_all(err, b"route: memory\n"),
     }
 }
 
@@ -329,7 +329,7 @@ impl From<TownFault> for Stop<'_> {
     fn from(fault: TownFault) -> Self {
         match fault {
             TownFault::Failed => Stop::Town,
-            TownFault::OutOfMemory => Stop::OutOfMemory,
+            TownFault::OutOfMemory(want) => Stop::OutOfMemory(want),
         }
     }
 }
@@ -354,7 +354,7 @@ impl From<ReplyFault> for Stop<'_> {
     fn from(fault: ReplyFault) -> Self {
         match fault {
             ReplyFault::Out(cut) => Stop::Out(cut),
-            ReplyFault::OutOfMemory => Stop::OutOfMemory,
+            ReplyFault::OutOfMemory(want) => Stop::OutOfMemory(want),
         }
     }
 }
@@ -368,7 +368,7 @@ impl From<JoinFault> for Stop<'_> {
     fn from(fault: JoinFault) -> Self {
         match fault {
             JoinFault::Files(way) => Stop::Files(way),
-            JoinFault::OutOfMemory => Stop::OutOfMemory,
+            JoinFault::OutOfMemory(want) => Stop::OutOfMemory(want),
         }
     }
 }

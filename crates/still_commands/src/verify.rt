@@ -68,7 +68,7 @@ fn read_cert<'a, F: Folder>(
         Err(CertFault::Line { line }) => Err(Stop::Cert { name, line }),
         Err(CertFault::Rule { rule, label }) => Err(Stop::Rule { name, rule, label }),
         Err(CertFault::Read) => Err(Stop::Folder { name }),
-        Err(CertFault::OutOfMemory) => Err(Stop::OutOfMemory),
+        Err(CertFault::OutOfMemory(want)) => Err(Stop::OutOfMemory(want)),
     }
 }
 

@@ -6,7 +6,7 @@ use Rattle.route_lanes.proofs.visits.serve_door.Given as goal
 abbrev pub invariant-links : goal.invariant-links
 invariant-links g l = record {
   ready : g.P.Attendant.ready l.setting l.party;
-  so_far : ServedSoFar (g.P.Attendant.visits l.setting) l.initial.party l.party (g.D.Door.state l.initial.door) (g.D.Door.state l.door) l.starved;
+  so_far : ServedSoFar (g.P.Attendant.visits l.setting) l.initial.party l.party (g.D.Door.state l.initial.door) (g.D.Door.state l.door) l.want;
 }
 
 abbrev pub decreases-links : goal.decreases-links

@@ -66,13 +66,23 @@ returns-in_err-report g c =
     rw (p.1, p.2) (ends_over_named (TakeReplies asked) asked.files (feeds_of asked ++ sessions_of asked) _ _ _ _ read c.in_ok-graph.ensures.folder
     _ _ _ _ says c.in_ok-feeds.ensures.folder (starves (TakeReplies asked _ _) _ refl))
 
-pub returns-then-has_starved : goal.returns-then-has_starved
-returns-then-has_starved g c =
+pub returns-in_err-feeds_sufficed : goal.returns-in_err-feeds_sufficed
+returns-in_err-feeds_sufficed g c =
+    let p = err_from_is_err_and c.from_residual-in_err-feeds_sufficed.result c.from_residual-in_err-feeds_sufficed.ensures.1 in
     let asked = take_asked c.args.asked.now in
     let read = rw c.deref.ensures.value at c.in_ok-graph.ensures.read in
     let says = says_append _ (feeds_of asked) (sessions_of asked) _ _ c.in_ok-feeds.ensures.feeds c.in_ok-feeds.ensures.sessions in
-    ends_over_named (TakeReplies asked) asked.files (feeds_of asked ++ sessions_of asked) _ _ _ _ read c.in_ok-graph.ensures.folder
-    _ _ _ _ says c.in_ok-feeds.ensures.folder (starves (TakeReplies asked _ _) _ refl)
+    rw (p.1, p.2) (ends_over_named (TakeReplies asked) asked.files (feeds_of asked ++ sessions_of asked) _ _ _ _ read c.in_ok-graph.ensures.folder
+    _ _ _ _ says c.in_ok-feeds.ensures.folder (starves (TakeReplies asked _ _) _ refl))
+
+pub returns-in_err-memory_sufficed : goal.returns-in_err-memory_sufficed
+returns-in_err-memory_sufficed g c =
+    let p = err_from_is_err_and c.from_residual-in_err-memory_sufficed.result c.from_residual-in_err-memory_sufficed.ensures.1 in
+    let asked = take_asked c.args.asked.now in
+    let read = rw c.deref.ensures.value at c.in_ok-graph.ensures.read in
+    let says = says_append _ (feeds_of asked) (sessions_of asked) _ _ c.in_ok-feeds.ensures.feeds c.in_ok-feeds.ensures.sessions in
+    rw (p.1, p.2) (ends_over_named (TakeReplies asked) asked.files (feeds_of asked ++ sessions_of asked) _ _ _ _ read c.in_ok-graph.ensures.folder
+    _ _ _ _ says c.in_ok-feeds.ensures.folder (starves (TakeReplies asked _ _) _ refl))
 
 pub returns-in_err-put_report : goal.returns-in_err-put_report
 returns-in_err-put_report g c =
@@ -86,7 +96,7 @@ returns-in_err-put_report g c =
     let count = count_feeds files (feeds_of asked) got.feeds.items got.ensures.feeds ∙ count_numbered asked.feeds asked.links in
     let replies = followed_over {L = SureLink} (λ l. l.from) (λ l. l.to) asked _ _ c.in_ok-graph.ensures.matched got.feeds.items _ _ got.links.items _ _ _ _ _ _
     c.deref_mut.ensures.value c.deref_mut-2.ensures.value got.links.ok.0 c.deref-2.ensures.value c.feeds.ensures c.in_ok-report.ensures count short
-    got.ensures.unsent (c.if-has_starved.ensures.feeds refl) (c.if-has_starved.ensures.lanes refl) in
+    got.ensures.unsent c.in_ok-feeds_sufficed.ensures c.in_ok-memory_sufficed.ensures in
     rw (p.1, p.2) (ends_over_named (TakeReplies asked) asked.files (feeds_of asked ++ sessions_of asked) _ _ _ _ read c.in_ok-graph.ensures.folder
     _ _ _ _ says got.ensures.folder (sends_part (TakeReplies asked _ _) _ replies _ _ _ c.in_err-put_report.ensures))
 
@@ -101,6 +111,6 @@ returns g c =
     let count = count_feeds files (feeds_of asked) got.feeds.items got.ensures.feeds ∙ count_numbered asked.feeds asked.links in
     let replies = followed_over {L = SureLink} (λ l. l.from) (λ l. l.to) asked _ _ c.in_ok-graph.ensures.matched got.feeds.items _ _ got.links.items _ _ _ _ _ _
     c.deref_mut.ensures.value c.deref_mut-2.ensures.value got.links.ok.0 c.deref-2.ensures.value c.feeds.ensures c.in_ok-report.ensures count short
-    got.ensures.unsent (c.if-has_starved.ensures.feeds refl) (c.if-has_starved.ensures.lanes refl) in
+    got.ensures.unsent c.in_ok-feeds_sufficed.ensures c.in_ok-memory_sufficed.ensures in
     ends_over_named (TakeReplies asked) asked.files (feeds_of asked ++ sessions_of asked) _ _ _ _ read c.in_ok-graph.ensures.folder
     _ _ _ _ says got.ensures.folder (sends_whole (TakeReplies asked _ _) _ replies _ _ c.in_ok-put_report.ensures)

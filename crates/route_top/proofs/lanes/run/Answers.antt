@@ -51,11 +51,12 @@ returns-in_err-reports g c =
     rw (p.1, p.2) (ends_over_scripts (lanes_asked c.args.asked.now) _ _ _ _ read c.in_ok-graph.ensures.folder _ _ _ _ c.in_ok-links.ensures.read
     c.in_ok-links.ensures.folder (lanes_starve (lanes_asked c.args.asked.now) _ _ _))
 
-pub returns-then-has_starved : goal.returns-then-has_starved
-returns-then-has_starved g c =
+pub returns-in_err-memory_sufficed : goal.returns-in_err-memory_sufficed
+returns-in_err-memory_sufficed g c =
+    let p = err_from_is_err_and c.from_residual-in_err-memory_sufficed.result c.from_residual-in_err-memory_sufficed.ensures.1 in
     let read = rw c.deref.ensures.value at c.in_ok-graph.ensures.read in
-    ends_over_scripts (lanes_asked c.args.asked.now) _ _ _ _ read c.in_ok-graph.ensures.folder _ _ _ _ c.in_ok-links.ensures.read
-    c.in_ok-links.ensures.folder (lanes_starve (lanes_asked c.args.asked.now) _ _ _)
+    rw (p.1, p.2) (ends_over_scripts (lanes_asked c.args.asked.now) _ _ _ _ read c.in_ok-graph.ensures.folder _ _ _ _ c.in_ok-links.ensures.read
+    c.in_ok-links.ensures.folder (lanes_starve (lanes_asked c.args.asked.now) _ _ _))
 
 pub returns-in_err-put_lanes : goal.returns-in_err-put_lanes
 returns-in_err-put_lanes g c =
@@ -66,7 +67,7 @@ returns-in_err-put_lanes g c =
     c.in_ok-links.ensures.read in
     let exchanges = links_exchanged {L = SureLink} (λ l. l.from) (λ l. l.to) asked _ _ c.in_ok-graph.ensures.matched c.in_ok-links.links.items _ _ _ _ _ _
     c.deref_mut.ensures.value c.in_ok-links.links.ok.0 c.deref-3.ensures.value c.deref-2.ensures.value c.in_ok-reports.ensures short
-    c.in_ok-links.ensures.unsent (c.if-has_starved.ensures refl) in
+    c.in_ok-links.ensures.unsent c.in_ok-memory_sufficed.ensures in
     rw (p.1, p.2) (ends_over_scripts asked _ _ _ _ read c.in_ok-graph.ensures.folder _ _ _ _ c.in_ok-links.ensures.read c.in_ok-links.ensures.folder
     (lanes_cut asked _ _ _ exchanges _ _ _ c.in_err-put_lanes.ensures))
 
@@ -78,6 +79,6 @@ returns g c =
     c.in_ok-links.ensures.read in
     let exchanges = links_exchanged {L = SureLink} (λ l. l.from) (λ l. l.to) asked _ _ c.in_ok-graph.ensures.matched c.in_ok-links.links.items _ _ _ _ _ _
     c.deref_mut.ensures.value c.in_ok-links.links.ok.0 c.deref-3.ensures.value c.deref-2.ensures.value c.in_ok-reports.ensures short
-    c.in_ok-links.ensures.unsent (c.if-has_starved.ensures refl) in
+    c.in_ok-links.ensures.unsent c.in_ok-memory_sufficed.ensures in
     ends_over_scripts asked _ _ _ _ read c.in_ok-graph.ensures.folder _ _ _ _ c.in_ok-links.ensures.read c.in_ok-links.ensures.folder
     (lanes_replied asked _ _ _ exchanges _ _ c.in_ok-put_lanes.ensures)

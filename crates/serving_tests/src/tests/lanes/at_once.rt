@@ -212,7 +212,7 @@ fn serve_doors<R: Threads + Wait + Clock + Sync + Abort>(
     let served = serve_lanes(&context, weights, 0, doors)?;
     let wanted = Served {
         failed: 0,
-        starved: 0,
+        want: None,
     };
     assert!(rt; served == wanted, "no door fails");
     Ok(())

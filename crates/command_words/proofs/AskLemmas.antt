@@ -1,10 +1,9 @@
 -- What words ask for, by a parse for the command that they name.
-use Rattle.std.proofs.Common.{◌≡◌, ◌≢◌, ◌∙◌, ap, refl, sym, subst, true, ◌∷◌, List, [], Option, Some, None, Result, Err}
+use Rattle.std.proofs.Common.{◌≡◌, ◌≢◌, ◌∙◌, ap, refl, sym, true, ◌∷◌, List, [], Some, None}
 use Rattle.std.specs.Prelude.{slice_get}
 use Rattle.clap.specs.Words.{App, Kinds, Row, Text, fault_of, is_simple_and_free, matches_of}
 use Rattle.command_words.specs.Apps.{app_for, name_of}
-use Rattle.command_words.specs.Words.{◌>>=◌, Gives, asked, command_of, rows_if}
-use Rattle.command_words.specs.declared.commands.Command.{Command}
+use Rattle.command_words.specs.Words.{◌>>=◌, Fails, asked, command_of, rows_if}
 use Rattle.command_words.specs.declared.fault.WordsFault.{WordsFault}
 use Rattle.command_words.specs.declared.fault.WordsFault.TheVariants.{OutOfMemory, Refused}
 use Rattle.command_words.specs.declared.apps.Name.{Name}
@@ -42,6 +41,7 @@ module _ (words : List Text) (word : Text) (name : Name) (app : App) (first : sl
   pub asked_by : (rows : List Row) → fault_of app words ≡ [] → rows ≡ matches_of app words → asked words ≡ command_of name rows
   asked_by rows none is = by_rows ∙ ap (λ r. r >>= command_of name) (taken_rows (fault_of app words) (matches_of app words) none) ∙ ap (command_of name) (sym is)
 
-  -- the arguments refuse the words, so these ask for nothing
-  pub asked_nothing : fault_of app words ≢ [] → asked words ≡ None
-  asked_nothing some = by_rows ∙ ap (λ r. r >>= command_of name) (refused_rows (fault_of app words) (matches_of app words) some)
+  -- where the arguments refuse the words, these ask for nothing
+  pub fails_by : (fault : WordsFault) → (fault ≡ Refused → fault_of app words ≢ []) → Fails fault (asked words)
+  fails_by Refused refuses = by_rows ∙ ap (λ r. r >>= command_of name) (refused_rows (fault_of app words) (matches_of app words) (refuses refl))
+  fails_by (OutOfMemory want) refuses = tt

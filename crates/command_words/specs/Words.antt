@@ -1,7 +1,7 @@
 -- What the words of a command line ask for.
 use Rattle.std.specs.Prelude.{◌≡◌, ◌++◌, ◌∷◌, ◌&&◌, ℕ, Bool, false, List, [], Option, Some, None, Result, Ok, Err, codes, decimal, length, map}
 use Rattle.std.specs.Prelude.{if◌then◌else◌, is_none, nat_le, nat_lt, option_map, slice_get, String}
-use Rattle.std.specs.List.{list_all, range_with_len}
+use Rattle.std.specs.List.{range_with_len}
 use Rattle.std.specs.Str.{bytes_eq}
 use Rattle.std.specs.String.{string_bytes}
 use Rattle.clap.specs.Words.{Kinds, Row, Text, all_of, fault_of, first_of, matches_of}
@@ -26,7 +26,6 @@ use Rattle.command_words.specs.declared.commands.StillCommand.{StillCommand}
 use Rattle.command_words.specs.declared.commands.StillCommand.TheVariants as still
 use Rattle.command_words.specs.declared.commands.TakeWords.{TakeWords}
 use Rattle.command_words.specs.declared.commands.VerifyWords.{VerifyWords}
-use Rattle.command_words.specs.declared.commands.WaitingCommand.{WaitingCommand}
 use Rattle.command_words.specs.declared.commands.WaitingCommand.TheVariants as waiting
 use Rattle.command_words.specs.declared.commands.WriteWords.{WriteWords}
 use Rattle.graph_gen.specs.declared.GenPlan.{GenPlan}

@@ -1,6 +1,7 @@
 //! What the words of a command line ask for.
-use crate::limits::{FeedCount, LaneCount, LinkCount, SearchLimits, UnlimitedQuery, WorkerCount};
-use crate::limits::MAX_LISTED;
+use crate::limits::{
+    FeedCount, LaneCount, LinkCount, MAX_LISTED, SearchLimits, UnlimitedQuery, WorkerCount,
+};
 use crate::texts::{FileNames, Word};
 use graph_gen::{GenPlan, MAX_WEIGHT_FILES};
 use ranged_number::Ranged;

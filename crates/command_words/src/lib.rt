@@ -1,8 +1,9 @@
 //! Reads the words of a command line into a command.
 #![tactic(auto)]
 
-ghost use Rattle.std.specs.Prelude.{◌≡◌, ◌≢◌, IfOk, [], true};
+ghost use Rattle.std.specs.Prelude.{◌≡◌, ◌≢◌, IfNone, IfOk, IfSome, None, Some, [], slice_get, true};
 ghost use Rattle.clap.specs.Words.{app_of, fault_of, found_of, is_simple_and_free, matches_of, rows_of};
+ghost use Rattle.command_words.specs.Apps.{name_of};
 ghost use Rattle.command_words.specs.Words.{Gives, asked, texts_of};
 
 mod apps;
@@ -32,14 +33,26 @@ pub use texts::{FileNames, MAX_FILES, MIN_FILES, Word};
 ///
 /// The words after it are `--name value` or `--name=value` in any order, and the names of files. Behind a
 /// word `--` all words name files. The texts of the command are those of the words.
-#[tactic(auto, unfolding(crate::specs::Words::asked))]
 pub fn read_words<'a>(alloc: Global, words: &'a [String]) -> Result<Command<'a>, WordsFault>
     ensures { Gives result (asked (texts_of words.entry.now)) }
 {
-    let first = words.first().ok_or(WordsFault::Refused)?.as_str();
-    let name = Name::of(first).ok_or(WordsFault::Refused)?;
-    let matches = matches_of(name.app(alloc, first)?, words)?;
+    let Some(first) = first_named(words) else {
+        return Err(WordsFault::Refused);
+    };
+    let (word, name) = first;
+    let matches = matches_of(name.app(alloc, word)?, words)?;
     values::read(alloc, name, &matches)
+}
+
+// The first word, and the command that it names.
+#[tactic(auto, unfolding(crate::specs::Words::asked))]
+fn first_named<'a>(words: &'a [String]) -> Option<(&'a str, Name)>
+    ensures word { IfSome result (λ r. slice_get (texts_of words.entry.now) 0 ≡ Some r.0.now) }
+    ensures names { IfSome result (λ r. name_of r.0.now ≡ Some r.1) }
+    ensures none { IfNone result (asked (texts_of words.entry.now) ≡ None) }
+{
+    let word = words.first()?.as_str();
+    Some((word, Name::of(word)?))
 }
 
 // The values that the words give to the command's arguments.

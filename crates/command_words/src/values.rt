@@ -59,11 +59,7 @@ fn file_words<'m, 'a>(matches: &'m ArgMatches<'a>) -> Option<&'m [&'a str]>
 }
 
 /// Reads the values of a command that works over weight files.
-fn read_over<'a>(
-    name: Name,
-    matches: &ArgMatches<'a>,
-    files: FileNames<'a>,
-) -> Option<Command<'a>>
+fn read_over<'a>(name: Name, matches: &ArgMatches<'a>, files: FileNames<'a>) -> Option<Command<'a>>
     ensures { result ≡ command_over name (rows_of (found_of matches.now)) files.entry }
 {
     use StillCommand::{Batch, Check, Goal, Prove, Single, Verify};
@@ -347,9 +343,7 @@ fn number_if<const LEAST: u32, const GREATEST: u32>(
 }
 
 /// The number that a text says.
-fn number_in<const LEAST: u32, const GREATEST: u32>(
-    word: &Word,
-) -> Option<Ranged<LEAST, GREATEST>>
+fn number_in<const LEAST: u32, const GREATEST: u32>(word: &Word) -> Option<Ranged<LEAST, GREATEST>>
     ensures { result ≡ number_in LEAST GREATEST word.now }
 {
     match decimal(word.text().as_bytes(), u64::from(GREATEST)) {

@@ -134,3 +134,5 @@ pub record Advances (old new : Lines) (before after : SourceState) (result : Res
   pub lines : IfSome (rest_of old before) (λ rest. Tells old new rest (rest_of new after) result)
   pub loses_none : LosesNone old new before after
   pub ends : Ends old new before after result
+  -- a read fails only where no whole line is held
+  pub fails_within : result ≡ Err fault.Read → first_lf new.held ≡ length new.held

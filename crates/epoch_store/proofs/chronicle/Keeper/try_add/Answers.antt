@@ -1,6 +1,6 @@
 use Rattle.std.proofs.Common.{◌≡◌, ◌+◌, sym, ◌∙◌, ap}
 use Rattle.epoch_store.proofs.ChronicleLemmas.{adds_moves}
-use Rattle.epoch_store.proofs.chronicle.Keeper.add.Goals as goal
+use Rattle.epoch_store.proofs.chronicle.Keeper.try_add.Goals as goal
 
 pub compare_exchange-found-requires : goal.compare_exchange-found-requires
 compare_exchange-found-requires g c =

@@ -17,7 +17,8 @@ use Rattle.route_io.specs.declared.fault.WriteFault.{WriteFault}
 use Rattle.session_core.specs.Links.{is_starved}
 use Rattle.session_core.specs.Operators.{IsOperatorBye, OperatorRun}
 use Rattle.session_core.specs.Sessions.{Scene}
-use Rattle.command_words.specs.Words.{TakeAsked, WriteAsked}
+use Rattle.command_words.specs.declared.commands.TakeWords.{TakeWords}
+use Rattle.command_words.specs.declared.commands.WriteWords.{WriteWords}
 use Rattle.route_lanes.specs.Following.{FollowReport, RunsFollow}
 use Rattle.route_lanes.specs.Lanes.{Lane, LaneReport}
 use Rattle.route_lanes.specs.Leading.{IsFeedWritten, WritesFeed}
@@ -45,7 +46,7 @@ module _ {L : Type 0} (script_of : L → List ℕ) (sink_of : L → SureSink) wh
   weights_with criteria states = record { criteria = criteria; states = states }
 
   -- all feeds were taken, and all sessions have replied
-  pub followed : (asked : TakeAsked) (g : Graph) (w : Weights) → Match g w → (feeds rests : List (List ℕ)) (olds news : List L) (report : FollowReport)
+  pub followed : (asked : TakeWords) (g : Graph) (w : Weights) → Match g w → (feeds rests : List (List ℕ)) (olds news : List L) (report : FollowReport)
       → RunsFollow g w asked.epoch asked.limits.budget most_taken (map sure_source_state feeds) (map sure_source_state rests)
       (map (state_of script_of sink_of) olds) (map (state_of script_of sink_of) news) report
       → length feeds ≡ asked.links
@@ -77,7 +78,7 @@ module _ {L : Type 0} (script_of : L → List ℕ) (sink_of : L → SureSink) wh
       }
 
   -- the same, where feeds and links were lent out of lists
-  pub followed_over : (asked : TakeAsked) (g : Graph) (w : Weights) → Match g w → (feeds lent rests : List (List ℕ)) (items olds news after : List L) (n : ℕ)
+  pub followed_over : (asked : TakeWords) (g : Graph) (w : Weights) → Match g w → (feeds lent rests : List (List ℕ)) (items olds news after : List L) (n : ℕ)
       (report : FollowReport) (text : List FeedReport) → lent ≡ feeds → olds ≡ items → n ≡ length items → after ≡ take n (news ++ drop (length news) items)
       → text ≡ report.feeds
       → RunsFollow g w asked.epoch asked.limits.budget most_taken (map sure_source_state lent) (map sure_source_state rests)
@@ -109,12 +110,12 @@ module _ {L : Type 0} (script_of : L → List ℕ) (sink_of : L → SureSink) wh
 -- ---- the feed of a script
 
 -- the text that was sent of a feed, and how
-pub record SendsFeed (asked : WriteAsked) (net : Network) (script : List ℕ) (out sent : SinkState) (result : Result (Unit {0}) WriteFault) : Type 0 where
+pub record SendsFeed (asked : WriteWords) (net : Network) (script : List ℕ) (out sent : SinkState) (result : Result (Unit {0}) WriteFault) : Type 0 where
   pub text : List ℕ
   pub is : FeedOfScript asked net (script ∷ []) text
   pub sends : Sends out sent text result
 
-module _ (asked : WriteAsked) (g : Graph) (w : Weights) (matched : Match g w) (script rest : List ℕ) (to replied : SureSink)
+module _ (asked : WriteWords) (g : Graph) (w : Weights) (matched : Match g w) (script rest : List ℕ) (to replied : SureSink)
     (short : length script ≤ max_script) (unsent : to ≡ unsent_sink) (out sent : SinkState) where
   abbrev weights_of_states : ℕ → List (Option (List ℕ)) → Weights
   weights_of_states criteria states = record { criteria = criteria; states = states }

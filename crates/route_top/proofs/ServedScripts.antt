@@ -19,7 +19,7 @@ use Rattle.session_core.specs.Operators.{IsOperatorBye, OperatorRun}
 use Rattle.session_core.specs.Sessions.{IsSessionBye, Scene, SessionGoes}
 use Rattle.link_doors.specs.Links.{LinkState}
 use Rattle.route_lanes.specs.Lanes.{IsSessionLane, Lane, LaneReport, RunsLanes}
-use Rattle.command_words.specs.Words.{LanesAsked}
+use Rattle.command_words.specs.declared.commands.LanesWords.{LanesWords}
 use Rattle.route_top.specs.Lanes.{AreLinesOf, IsSessionExchange, RepliesToScripts, lanes_reply, max_script}
 
 -- ---- the lines that an LF ends in the front of a text are the first ones of the text
@@ -164,7 +164,7 @@ module _ {L : Type 0} (script_of : L → List ℕ) (sink_of : L → SureSink) wh
   weights_by criteria states = record { criteria = criteria; states = states }
 
   -- all lanes have replied to their scripts
-  pub scripts_exchanged : (asked : LanesAsked) (g : Graph) (w : Weights) → Match g w → (olds news : List L) (reports : List LaneReport)
+  pub scripts_exchanged : (asked : LanesWords) (g : Graph) (w : Weights) → Match g w → (olds news : List L) (reports : List LaneReport)
       → RunsLanes g w asked.epoch asked.limits.budget most_taken (map state_of olds) (map state_of news) reports
       → All (λ link. length (script_of link) ≤ max_script) olds → All (λ link. sink_of link ≡ unsent_sink) olds
       → All (λ report. is_starved report.end ≡ false) reports → (net : Network) → net ≡ network g w
@@ -206,7 +206,7 @@ module _ {L : Type 0} (script_of : L → List ℕ) (sink_of : L → SureSink) wh
       ap (λ rest. take n (news ++ rest)) (drop_all (length news) items (omega arith)) ∙ ap (take n) (append-nil news) ∙ take_all n news (omega arith)
 
   -- the same, where the links were lent out of a list, and the reports out of another
-  pub links_exchanged : (asked : LanesAsked) (g : Graph) (w : Weights) → Match g w → (items olds news after : List L) (n : ℕ)
+  pub links_exchanged : (asked : LanesWords) (g : Graph) (w : Weights) → Match g w → (items olds news after : List L) (n : ℕ)
       (reports kept : List LaneReport) → olds ≡ items → n ≡ length items → after ≡ take n (news ++ drop (length news) items) → kept ≡ reports
       → RunsLanes g w asked.epoch asked.limits.budget most_taken (map state_of olds) (map state_of news) reports
       → All (λ link. length (script_of link) ≤ max_script) items → All (λ link. sink_of link ≡ unsent_sink) items

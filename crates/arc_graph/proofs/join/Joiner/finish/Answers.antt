@@ -1,11 +1,10 @@
 use Rattle.std.proofs.Common.{arith, subst, ◌∙◌}
-use Rattle.std.proofs.lemmas.Result.{IfOk-weaker}
 use Rattle.arc_graph.specs.Joiner.{IsJoiner}
 use Rattle.arc_graph.proofs.JoinedLemmas.{network_joined}
 use Rattle.arc_graph.proofs.join.Joiner.finish.Goals as goal
 
-pub returns-in-None-clause-joined : goal.returns-in-None-clause-joined
-returns-in-None-clause-joined c = λ files stands.
+pub returns-in_ok-joined-in-None-clause-joined : goal.returns-in_ok-joined-in-None-clause-joined
+returns-in_ok-joined-in-None-clause-joined c = λ files stands.
     let kept = subst IsJoiner c.self.view_is c.self.invariant in
-    let is = network_joined c.args.self files kept (omega (arith, c.requires.two)) stands (c.in-None.ensures files stands) in
-    IfOk-weaker c.joined.result _ _ (λ r e. e ∙ is) c.joined.ensures.network
+    c.in_ok-joined-in-None.ensures.network
+    ∙ network_joined c.args.self files kept (omega (arith, c.requires.two)) stands (c.in-None.ensures files stands)

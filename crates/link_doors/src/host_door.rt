@@ -1,23 +1,22 @@
-//! TCP's listeners as doors.
+//! The host's listeners as doors.
 ghost use Rattle.std.specs.Prelude.{◌≡◌, ◌+◌, ◌<◌, IfOk, IfSome, OnErr, ltb};
 ghost use Rattle.route_io.specs.Causes.{count_up};
 ghost use Rattle.link_doors.specs.Doors.{Gives, next_shown, returned_one};
 ghost use Rattle.link_doors.specs.Forms.{host_door_state, host_link_state, new_host_door};
 
 use crate::Door;
-use crate::stream::{HostLink, StreamSink, StreamSource, close, link_over};
+use crate::listener::HostListener;
+use crate::stream::{StreamSink, StreamSource, close};
 use route_io::calls::count;
 use route_io::{Failed, Link};
-use std::io;
 use std::marker::Model;
-use std::net::TcpListener;
 use std::time::Duration;
 
 /// A listener that gives so many connections, and is let go of with the last one. It counts each error of the system, of
 /// whatever kind.
 #[derive(Drop)]
 pub struct HostDoor {
-    listener: Option<TcpListener>,
+    listener: Option<HostListener>,
     patience: Option<Duration>,
     place: u64,
     left: u32,
@@ -47,7 +46,7 @@ impl Model for HostDoor {
 impl HostDoor {
     /// A door at this place, which gives so many connections. A read or a write of one that takes longer than this fails.
     pub(crate) fn new(
-        listener: TcpListener,
+        listener: HostListener,
         patience: Option<Duration>,
         place: u64,
         links: u32,
@@ -89,7 +88,7 @@ impl Door for HostDoor {
         let Some(listener) = &self.listener else {
             return Ok(None);
         };
-        let Ok(link) = accept(listener, self.patience) else {
+        let Ok(link) = listener.accept(self.patience) else {
             count(&mut self.faults);
             return Err(Failed);
         };
@@ -110,15 +109,4 @@ impl Door for HostDoor {
         self.returned += 1;
         close(link);
     }
-}
-
-/// Waits for a connection. Short replies leave it at once.
-fn accept(listener: &TcpListener, patience: Option<Duration>) -> io::Result<HostLink>
-    ensures { IfOk result (λ link. (link.from ≡ 0) × (link.to ≡ 0)) }
-{
-    let (stream, _) = listener.accept()?;
-    stream.set_nodelay(true)?;
-    stream.set_read_timeout(patience)?;
-    stream.set_write_timeout(patience)?;
-    link_over(stream)
 }

@@ -1,13 +1,15 @@
-//! TCP's addresses as a town.
+//! The host's addresses as a town.
 ghost use Rattle.std.specs.Prelude.{◌≡◌, ◌+◌, ◌≤◌, [], false, length, ltb, map, Err, IfOk, OnOk, vec_capacity};
 ghost use Rattle.std.specs.List.{list_any};
 ghost use Rattle.route_io.specs.Causes.{IsCounted, count_up};
 ghost use Rattle.link_doors.specs.Forms.{host_door_state, host_town_state, new_host_door, new_host_doors};
 ghost use Rattle.link_doors.specs.Towns.{AreNumbered, Listens, TakesBack, any_failed, doors_shown};
 
+use crate::listener::{HostListener, remove_files};
 use crate::{HostDoor, Town, TownFault};
 use route_io::calls::count;
 use std::alloc::Global;
+use std::fs::{self, Files};
 use std::io;
 use std::marker::Model;
 use std::net::{Net, TcpListener, TcpStream};
@@ -16,7 +18,8 @@ use std::time::Duration;
 /// How many seconds a read or a write of a session's connection may wait.
 const SESSION_PATIENCE: u64 = 600;
 
-/// The host's network, whose listeners are doors. It counts each error of the system, of whatever kind.
+/// The host's network and socket files, whose listeners are doors. It counts each error of the system, of whatever kind, but
+/// for those of removing its socket files in the end.
 #[derive(Drop)]
 pub struct HostTown<R: Net> {
     rt: R,
@@ -24,6 +27,7 @@ pub struct HostTown<R: Net> {
     asked: bool,
     lent: u64,
     doors: Vec<HostDoor>,
+    socket_files: Vec<String>,
     faults: u64,
 }
 
@@ -51,19 +55,21 @@ impl<R: Net> HostTown<R> {
             asked: false,
             lent: 0,
             doors: Vec::new(alloc),
+            socket_files: Vec::new(alloc),
             faults: 0,
         }
     }
 }
 
-impl<R: Net<Listener = TcpListener, Stream = TcpStream>> Town for HostTown<R> {
+impl<R: Net<Listener = TcpListener, Stream = TcpStream> + Files> Town for HostTown<R> {
     type Door = HostDoor;
 
     ghost state = { host_town_state };
 
     ghost admits = { λ _ _ _ _. Unit {0} };
 
-    /// Listens at both addresses, which are a host's name or number and a port, as `127.0.0.1:7001`.
+    /// Listens at both addresses. One is a host's name or number and a port, as `127.0.0.1:7001`, or `unix:` and the path of a
+    /// socket file, which is made then for its owner alone and removed when the doors are taken back.
     fn listen(
         &mut self,
         sessions: &str,
@@ -80,7 +86,11 @@ impl<R: Net<Listener = TcpListener, Stream = TcpStream>> Town for HostTown<R> {
         let count_of_doors = u64::from(lanes) + 1;
         let mut doors = Vec::with_capacity(self.alloc, count_of_doors as usize)?;
         self.asked = true;
-        if open_doors(&self.rt, sessions, operator, lanes, links, &mut doors).is_err() {
+        if self
+            .open_doors(sessions, operator, lanes, links, &mut doors)
+            .is_err()
+        {
+            remove_files(&self.rt, &mut self.socket_files);
             count(&mut self.faults);
             return Err(TownFault::Failed);
         }
@@ -96,6 +106,7 @@ impl<R: Net<Listener = TcpListener, Stream = TcpStream>> Town for HostTown<R> {
             (map host_door_state doors.items) }
     {
         self.lent = 0;
+        remove_files(&self.rt, &mut self.socket_files);
         count_failed(&doors, &mut self.faults);
         self.doors = doors;
     }
@@ -117,30 +128,33 @@ fn any_failed(doors: &[HostDoor]) -> bool
     doors.iter().any(|door| door.has_failed())
 }
 
-/// Binds both addresses, and puts their doors into a list, the operator's first.
-fn open_doors<R: Net<Listener = TcpListener, Stream = TcpStream>>(
-    rt: &R,
-    sessions: &str,
-    operator: &str,
-    lanes: u32,
-    links: u32,
-    doors: &mut Vec<HostDoor>,
-) -> io::Result<()>
-    requires empty { doors.old.items ≡ [] }
-    requires room { lanes + 1 ≤ vec_capacity doors.old }
-    ensures { OnOk result (doors.new.items ≡ new_host_doors links (lanes + 1)) }
-{
-    let listener = TcpListener::bind(rt, operator)?;
-    doors.push_reserved(HostDoor::new(listener, None, 0, links));
-    let shared = TcpListener::bind(rt, sessions)?;
-    for lane in 0..u64::from(lanes) {
-        doors.push_reserved(session_door(&shared, lane + 1, links)?);
+impl<R: Net<Listener = TcpListener, Stream = TcpStream> + Files> HostTown<R> {
+    /// Binds both addresses, and puts their doors into a list, the operator's first.
+    fn open_doors(
+        &mut self,
+        sessions: &str,
+        operator: &str,
+        lanes: u32,
+        links: u32,
+        doors: &mut Vec<HostDoor>,
+    ) -> io::Result<()>
+        requires empty { doors.old.items ≡ [] }
+        requires room { lanes + 1 ≤ vec_capacity doors.old }
+        ensures opened { OnOk result (doors.new.items ≡ new_host_doors links (lanes + 1)) }
+        ensures same { self.new ≡ self.old }
+    {
+        let own = HostListener::bind(&self.rt, self.alloc, operator, &mut self.socket_files)?;
+        doors.push_reserved(HostDoor::new(own, None, 0, links));
+        let shared = HostListener::bind(&self.rt, self.alloc, sessions, &mut self.socket_files)?;
+        for lane in 0..u64::from(lanes) {
+            doors.push_reserved(session_door(&shared, lane + 1, links)?);
+        }
+        Ok(())
     }
-    Ok(())
 }
 
 /// A door of sessions at this place, at a listener that it shares.
-fn session_door(shared: &TcpListener, place: u64, links: u32) -> io::Result<HostDoor>
+fn session_door(shared: &HostListener, place: u64, links: u32) -> io::Result<HostDoor>
     ensures { IfOk result (λ door. door ≡ new_host_door links place) }
 {
     let listener = shared.try_clone()?;

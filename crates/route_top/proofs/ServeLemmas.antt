@@ -218,15 +218,15 @@ stop_not_ten unjoined = λ ten. cc
 module _ (IsAsked : Asked → Type 0) (files : Option FileMap) (old new : TownState) (out replied : SinkState) where
   rose_by_words : {outcome : Outcome} → TownByWords IsAsked files old new out replied outcome → status_of outcome ≡ 10 → Rose old.faults new.faults
   rose_by_words (left_alone other never same) ten = absurd (never ten)
-  rose_by_words (unread same) ten = cc
-  rose_by_words (serves asked is (unasked stop same)) ten = absurd (stop_not_ten stop ten)
+  rose_by_words (unread same unsaid) ten = cc
+  rose_by_words (serves asked is (unasked stop same unsaid)) ten = absurd (stop_not_ten stop ten)
   rose_by_words (serves asked is (asks net read town)) ten = town_rose asked net old new out replied town ten
 
   still_by_words : {outcome : Outcome} → TownByWords IsAsked files old new out replied outcome → status_of outcome ≢ 10 → status_of outcome ≢ 9
       → new.faults ≡ old.faults
   still_by_words (left_alone other never same) not_ten not_nine = ap (λ (t : TownState). t.faults) same
-  still_by_words (unread same) not_ten not_nine = ap (λ (t : TownState). t.faults) same
-  still_by_words (serves asked is (unasked stop same)) not_ten not_nine = ap (λ (t : TownState). t.faults) same
+  still_by_words (unread same unsaid) not_ten not_nine = ap (λ (t : TownState). t.faults) same
+  still_by_words (serves asked is (unasked stop same unsaid)) not_ten not_nine = ap (λ (t : TownState). t.faults) same
   still_by_words (serves asked is (asks net read town)) not_ten not_nine = town_still asked net old new out replied town not_ten not_nine
 
   -- what a run did to the town and what the status says of it

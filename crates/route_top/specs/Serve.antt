@@ -75,8 +75,9 @@ pub data ServesTown (asked : ServeAsked) (net : Network) (old new : TownState) (
 -- What a run of `serve` does to the town, and how that ends it.
 pub data AsksTown (files : Option FileMap) (asked : ServeAsked) (old new : TownState) (out replied : SinkState)
     : Outcome → Type 0 where
-  -- the weight files ended the run, and the town wasn't asked
-  unasked : {outcome : Outcome} → FilesStop files asked.files outcome → new ≡ old → AsksTown files asked old new out replied outcome
+  -- the weight files ended the run, the town wasn't asked, and nothing was said
+  unasked : {outcome : Outcome} → FilesStop files asked.files outcome → new ≡ old → replied ≡ out
+      → AsksTown files asked old new out replied outcome
   -- they say this network, and the town was asked
   asks : {outcome : Outcome} (net : Network) → ReadAs files asked.files net → ServesTown asked net old new out replied outcome
       → AsksTown files asked old new out replied outcome
@@ -87,8 +88,8 @@ pub data TownByWords (IsAsked : Asked → Type 0) (files : Option FileMap) (old 
   -- the words don't ask for `serve`, and the town wasn't asked
   left_alone : {outcome : Outcome} → ((asked : ServeAsked) → ¬ IsAsked (serve asked)) → status_of outcome ≢ 10 → new ≡ old
       → TownByWords IsAsked files old new out replied outcome
-  -- memory ran out while they were read
-  unread : new ≡ old → TownByWords IsAsked files old new out replied no_memory
+  -- memory ran out while they were read, and nothing was said
+  unread : new ≡ old → replied ≡ out → TownByWords IsAsked files old new out replied no_memory
   -- they ask for `serve`
   serves : {outcome : Outcome} (asked : ServeAsked) → IsAsked (serve asked) → AsksTown files asked old new out replied outcome
       → TownByWords IsAsked files old new out replied outcome

@@ -59,4 +59,4 @@ pub returns-in-Err-OutOfMemory-clause-runs : goal.returns-in-Err-OutOfMemory-cla
 returns-in-Err-OutOfMemory-clause-runs g c = starves (EndsByWords Ends (Asks (texts_of c.args.words.now)) _) _ starved _
 
 pub returns-in-Err-OutOfMemory-clause-town : goal.returns-in-Err-OutOfMemory-clause-town
-returns-in-Err-OutOfMemory-clause-town g c = unread refl
+returns-in-Err-OutOfMemory-clause-town g c = unread refl refl

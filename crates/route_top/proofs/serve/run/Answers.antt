@@ -16,7 +16,7 @@ pub returns-in_err-graph-clause-town : goal.returns-in_err-graph-clause-town
 returns-in_err-graph-clause-town g c =
     let p = err_from_is_err_and c.from_residual.result c.from_residual.ensures.1 in
     let stop = rw c.deref.ensures.value at c.in_err-graph.ensures.read in
-    rw (p.1, p.2) (unasked stop refl)
+    rw (p.1, p.2) (unasked stop refl refl)
 
 pub returns-clause-runs : goal.returns-clause-runs
 returns-clause-runs g c =

@@ -11,6 +11,7 @@ use route_io::{Gate, OpenGate};
 use route_lanes::{Served, serve_lanes};
 use session_core::ServeContext;
 use std::alloc::Global;
+use std::fs::Files;
 use std::io::{Read, Write};
 use std::net::{Net, TcpListener, TcpStream};
 use std::sync::Wait;
@@ -37,7 +38,7 @@ const PATIENCE: u64 = 20;
 const ANSWER: &[u8] = b"r 0 1 4 2\nv 2 8\nv 4 2\n";
 
 /// Two doors that listen, of one link each, and their addresses.
-fn listen<R: Net<Listener = TcpListener, Stream = TcpStream>>(
+fn listen<R: Net<Listener = TcpListener, Stream = TcpStream> + Files>(
     rt: &R,
     alloc: Global,
 ) -> Option<(Vec<HostDoor>, Addresses)> {
@@ -51,7 +52,7 @@ fn listen<R: Net<Listener = TcpListener, Stream = TcpStream>>(
 }
 
 /// Sends these lines to an address, and tells whether exactly this is replied, each part of it in good time.
-fn is_replied<R: Net<Listener = TcpListener, Stream = TcpStream>>(
+fn is_replied<R: Net<Listener = TcpListener, Stream = TcpStream> + Files>(
     rt: &R,
     address: &str,
     lines: &[u8],
@@ -67,7 +68,7 @@ fn is_replied<R: Net<Listener = TcpListener, Stream = TcpStream>>(
 }
 
 /// The operator says nothing, and then a session asks, whatever became of the operator: so each door has its link.
-fn visit<R: Net<Listener = TcpListener, Stream = TcpStream>>(
+fn visit<R: Net<Listener = TcpListener, Stream = TcpStream> + Files>(
     rt: &R,
     addresses: Addresses,
 ) -> io::Result<bool> {

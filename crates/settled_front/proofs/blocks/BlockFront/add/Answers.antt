@@ -14,7 +14,7 @@ invariant_of-self-2 g c =
     let moved = comes_late before c.make_room.new.blocks latest late after cost c.push.ensures c.make_room.ensures.same c.order_last.ensures in
     record {
       few = omega (arith, ap length c.push.ensures, length_push latest cost, c.in_ok-make_room.ensures.room);
-      counted = omega (arith, length_permutation (cost ∷ before) (after ++ late) moved, c.self.invariant.counted, c.saturating_add.ensures);
+      counted = omega (arith, length_permutation (cost ∷ before) (after ++ late) moved, c.self.invariant.counted, c.saturating_add-self-inside.ensures);
       once = once_more before (after ++ late) cost (rw (← c.self.view_is) at c.requires) moved c.self.invariant.once;
     }
 

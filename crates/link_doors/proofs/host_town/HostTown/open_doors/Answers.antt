@@ -1,7 +1,7 @@
 use Rattle.std.proofs.Common.{rules, ◌+◌, arith}
 use Rattle.std.proofs.lemmas.List.FromFn.{map-range_with_len_more}
 use Rattle.link_doors.specs.Forms.{new_host_door}
-use Rattle.link_doors.proofs.host_town.open_doors.Goals as goal
+use Rattle.link_doors.proofs.host_town.HostTown.open_doors.Goals as goal
 
 pub loop-lane-preserved : goal.loop-lane-preserved
 loop-lane-preserved g c =

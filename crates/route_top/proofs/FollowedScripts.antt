@@ -32,7 +32,7 @@ use Rattle.route_top.specs.Follow.{FeedOfScript, RepliesBesideFeeds, WriteReplie
 use Rattle.route_top.specs.Lanes.{SaysScript, lanes_reply, max_script}
 use Rattle.route_top.proofs.FollowFeeds.{FeedsRun, feeds_run}
 use Rattle.route_top.proofs.FollowRuns.{sends_part, sends_whole}
-use Rattle.route_top.proofs.ServedScripts.{all_of_map, has_replied, lent_back, most_taken, sessions_exchange, state_of, unsent_sink}
+use Rattle.route_top.proofs.ServedScripts.{all_of_map, has_replied, lent_back, script_policy, sessions_exchange, state_of, unsent_sink}
 
 -- there is a feed for each name
 pub count_feeds : (files : Option FileMap) (names feeds : List (List ℕ)) → AllZip (SaysScript files) names feeds → length feeds ≡ length names
@@ -47,7 +47,7 @@ module _ {L : Type 0} (script_of : L → List ℕ) (sink_of : L → SureSink) wh
 
   -- all feeds were taken, and all sessions have replied
   pub followed : (asked : TakeWords) (g : Graph) (w : Weights) → Match g w → (feeds rests : List (List ℕ)) (olds news : List L) (report : FollowReport)
-      → RunsFollow g w asked.epoch asked.limits.budget most_taken (map sure_source_state feeds) (map sure_source_state rests)
+      → RunsFollow g w asked.epoch asked.limits.budget script_policy (map sure_source_state feeds) (map sure_source_state rests)
       (map (state_of script_of sink_of) olds) (map (state_of script_of sink_of) news) report
       → length feeds ≡ asked.links
       → All (λ link. length (script_of link) ≤ max_script) olds → All (λ link. sink_of link ≡ unsent_sink) olds
@@ -81,7 +81,7 @@ module _ {L : Type 0} (script_of : L → List ℕ) (sink_of : L → SureSink) wh
   pub followed_over : (asked : TakeWords) (g : Graph) (w : Weights) → Match g w → (feeds lent rests : List (List ℕ)) (items olds news after : List L) (n : ℕ)
       (report : FollowReport) (text : List FeedReport) → lent ≡ feeds → olds ≡ items → n ≡ length items → after ≡ take n (news ++ drop (length news) items)
       → text ≡ report.feeds
-      → RunsFollow g w asked.epoch asked.limits.budget most_taken (map sure_source_state lent) (map sure_source_state rests)
+      → RunsFollow g w asked.epoch asked.limits.budget script_policy (map sure_source_state lent) (map sure_source_state rests)
       (map (state_of script_of sink_of) olds) (map (state_of script_of sink_of) news) report
       → length feeds ≡ asked.links
       → All (λ link. length (script_of link) ≤ max_script) items → All (λ link. sink_of link ≡ unsent_sink) items
@@ -101,7 +101,7 @@ module _ {L : Type 0} (script_of : L → List ℕ) (sink_of : L → SureSink) wh
         length-map runs.sessions (λ (lane : Lane). lane.before),
         length-map runs.sessions (λ (lane : Lane). lane.after),
       ) in
-      let Runs : List (List ℕ) → List L → Type 0 = λ fs ls. RunsFollow g w asked.epoch asked.limits.budget most_taken (map sure_source_state fs)
+      let Runs : List (List ℕ) → List L → Type 0 = λ fs ls. RunsFollow g w asked.epoch asked.limits.budget script_policy (map sure_source_state fs)
       (map sure_source_state rests) (map (state_of script_of sink_of) ls) (map (state_of script_of sink_of) news) report in
       let over = subst (λ fs. Runs fs items) same_feeds (subst (Runs lent) same runs) in
       let whole = followed asked g w matched feeds rests items news report over some short unsent no_feed_wants no_lane_wants in
@@ -130,7 +130,7 @@ module _ (asked : WriteWords) (g : Graph) (w : Weights) (matched : Match g w) (s
       (subst (λ n. Keeps n w.criteria o.first) matched.arcs by_base))
 
   sends_feed : (o : Origin) (result : Result (Unit {0}) WriteFault) → o.first ≡ asked.epoch → o.base ≡ w
-      → IsFeedWritten g o most_taken (record { from = sure_source_state script; to = sure_sink_state to })
+      → IsFeedWritten g o script_policy (record { from = sure_source_state script; to = sure_sink_state to })
       (record { from = sure_source_state rest; to = sure_sink_state replied }) out sent result → SendsFeed asked (network g w) script out sent result
   sends_feed o result first base written =
       let replies = has_replied (OperatorRun o) (IsOperatorBye o) (record { published = []; pending = [] }) written.left script rest to replied short unsent
@@ -154,7 +154,7 @@ module _ (asked : WriteWords) (g : Graph) (w : Weights) (matched : Match g w) (s
       }
 
   abbrev writes : Result (Unit {0}) ReplyFault → Type 0
-  writes result = WritesFeed g w asked.epoch most_taken (record { from = sure_source_state script; to = sure_sink_state to })
+  writes result = WritesFeed g w asked.epoch script_policy (record { from = sure_source_state script; to = sure_sink_state to })
       (record { from = sure_source_state rest; to = sure_sink_state replied }) out sent result
 
   -- the feed was sent

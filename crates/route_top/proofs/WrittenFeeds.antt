@@ -1,5 +1,5 @@
 -- What a feed that one run has written leads another one to.
-use Rattle.std.proofs.Common.{◌≡◌, ◌⊎◌, inl, inr, ℕ, ◌+◌, ◌≤◌, ◌×◌, false, true, List, [], ◌∷◌, ◌++◌, Option, Some, None, length, map, refl, sym, ap, ap₂, subst, ◌∙◌, append-nil, arith, length-append}
+use Rattle.std.proofs.Common.{◌≡◌, ◌⊎◌, inl, inr, ℕ, ◌≤◌, false, true, List, [], ◌∷◌, ◌++◌, Option, Some, None, length, map, refl, sym, ap, ap₂, subst, ◌∙◌, arith}
 use Rattle.std.specs.Prelude.{All, Contains, IsSomeAnd}
 use Rattle.std.specs.List.{AllZip}
 use Rattle.std.proofs.lemmas.List.FromFn.{length-map-range_with_len}
@@ -12,19 +12,16 @@ use Rattle.arc_graph.specs.declared.file.ArcLine.{ArcLine}
 use Rattle.arc_graph.specs.Agreement.{joined}
 use Rattle.arc_graph.specs.Files.{ArcFile}
 use Rattle.arc_graph.specs.Graph.{Graph, IsGraph}
-use Rattle.arc_graph.specs.History.{History, HistoryEntry, IsPublished, ends_closed, sets, sets_of}
-use Rattle.arc_graph.specs.History.HistoryEntry.{Changes, Closed}
-use Rattle.arc_graph.proofs.HistoryLemmas.{sets_of_both}
+use Rattle.arc_graph.specs.History.{History, IsPublished, ends_closed, sets}
 use Rattle.gr_reader.specs.Grammar.{IsGr, weights}
 use Rattle.gr_reader.proofs.LawsLemmas.{is_decided}
-use Rattle.epoch_store.proofs.PrefixLemmas.{prefix_same, prefix_self, prefix_shorter, prefix_trans}
+use Rattle.epoch_store.proofs.PrefixLemmas.{prefix_self, prefix_trans}
 use Rattle.epoch_follow.specs.Followers.{ComesFrom}
 use Rattle.epoch_follow.specs.Runs.{begun, feed_run}
 use Rattle.epoch_follow.specs.Text.{FeedHead, feed_text, head_of}
-use Rattle.epoch_follow.specs.declared.feed_end.FeedEnd.TheVariants.{Whole, Long}
-use Rattle.epoch_follow.proofs.FollowLemmas.{Arrives, run_comes}
+use Rattle.epoch_follow.proofs.FollowLemmas.{feed_brings_all}
+use Rattle.epoch_follow.proofs.LeaderLemmas.{one_history}
 use Rattle.epoch_follow.proofs.OnWayLemmas.{run_grows}
-use Rattle.epoch_follow.proofs.RefusalLemmas.{never_long}
 use Rattle.epoch_follow.proofs.WrittenLemmas.{IsHead}
 use Rattle.line_text.specs.Lines.{lines_of}
 use Rattle.route_lanes.specs.Following.{max_feed}
@@ -147,38 +144,6 @@ module _ (files others : FileMap) where
   same_network names other_names net other x y e =
       x.network ∙ ap joined (same_contents names other_names x.contents y.contents x.read y.read e) ∙ sym y.network
 
--- ---- histories
-
--- a history has its end at the end
-ends_last : (h : History) (e : HistoryEntry) (more : History) → ends_closed (h ++ e ∷ more) ≡ ends_closed (e ∷ more)
-ends_last [] e more = refl
-ends_last (x ∷ []) e more = refl
-ends_last (x ∷ y ∷ h) e more = ends_last (y ∷ h) e more
-
--- no set and no end is nothing
-nothing_more : (h : History) → sets h ≡ 0 → ends_closed h ≡ false → h ≡ []
-nothing_more [] none unclosed = refl
-nothing_more (Changes cs ∷ h) none unclosed = absurd (omega (arith, none))
-nothing_more (Closed ∷ []) none unclosed = absurd cc
-nothing_more (Closed ∷ e ∷ h) none unclosed = let rest : e ∷ h ≡ [] = nothing_more (e ∷ h) none unclosed in absurd cc
-
--- a part from the front with all sets of a history that isn't closed is all of it
-all_of : (h whole : History) → IsPrefix h whole → sets whole ≤ sets h → ends_closed whole ≡ false → h ≡ whole
-all_of h whole begins count unclosed = by begins.0 begins.1 where
-  by : (more : History) → h ++ more ≡ whole → h ≡ whole
-  by [] e = sym (append-nil h) ∙ e
-  by (x ∷ more) e =
-      let size : sets h + sets (x ∷ more) ≡ sets whole =
-      sym (length-append (sets_of h) (sets_of (x ∷ more))) ∙ ap length (sym (sets_of_both h (x ∷ more))) ∙ ap sets e in
-      let none : sets (x ∷ more) ≡ 0 = omega (arith, size, count) in
-      let still = sym (ends_last h x more) ∙ ap ends_closed e ∙ unclosed in
-      let nothing : x ∷ more ≡ [] = nothing_more (x ∷ more) none still in absurd cc
-
--- two histories of which each is a part of the other
-one_history : (h whole : History) → IsPrefix h whole → IsPrefix whole h → h ≡ whole
-one_history h whole there back =
-    prefix_same h whole whole there (prefix_self whole) (omega (arith, prefix_shorter h whole there, prefix_shorter whole h back))
-
 -- ---- feeds of one leader
 
 module _ (g : Graph) (first : ℕ) (leader : History) (graph : IsGraph g) (published : IsPublished (length g.ends) g.criteria first leader)
@@ -204,14 +169,6 @@ module _ (g : Graph) (first : ℕ) (leader : History) (graph : IsGraph g) (publi
       let next = (feed_run head max_feed h bytes).history in
       prefix_trans h next (history_after head next feeds) (run_grows head max_feed (length bytes) (begun h) (lines_of bytes)) (feeds_grow next feeds)
 
-  -- the whole text brings all
-  whole_brings : (h : History) → length text ≤ max_feed → IsPrefix h leader → (feed_run head max_feed h text).history ≡ leader
-  whole_brings h short begins =
-      by (run_comes head leader is_head published (sets leader) max_feed h text (omega arith) refl begins) where
-        by : Arrives head leader is_head published (sets leader) (feed_run head max_feed h text) → (feed_run head max_feed h text).history ≡ leader
-        by (inl long) = absurd (never_long head max_feed h text short long)
-        by (inr came) = all_of (feed_run head max_feed h text).history leader (keeps h text text_comes begins) came.1 unclosed
-
   -- it brings all among other feeds
   pub whole_among : (h : History) (feeds : List (List ℕ)) → IsPrefix h leader → All (ComesFrom head leader) feeds → length text ≤ max_feed
       → Contains feeds text → history_after head h feeds ≡ leader
@@ -222,7 +179,7 @@ module _ (g : Graph) (first : ℕ) (leader : History) (graph : IsGraph g) (publi
       let others = All-tail (ComesFrom head leader) bytes feeds come in
       elim (cases_in bytes feeds text there) [
         | inl here ↦
-            let all : next ≡ leader = ap (λ bs. (feed_run head max_feed h bs).history) (sym here) ∙ whole_brings h short begins in
+            let all : next ≡ leader = ap (λ bs. (feed_run head max_feed h bs).history) (sym here) ∙ feed_brings_all head leader is_head published max_feed h short begins unclosed in
             let more = subst (λ l. IsPrefix l (history_after head next feeds)) all (feeds_grow next feeds) in
             one_history (history_after head next feeds) leader (after_keeps g first leader graph published next feeds so_far others) more
         | inr later ↦ whole_among next feeds so_far others short later

@@ -1,3 +1,1 @@
 pub mod AskLemmas
-pub mod StillLemmas
-mod RangeLemmas

@@ -1,24 +1,27 @@
 -- The commands by name, and what `clap` is told of each.
-use Rattle.std.specs.Prelude.{Bool, true, false, List, [], ◌∷◌, Some, codes, fold}
+use Rattle.std.specs.Prelude.{Bool, true, false, List, [], ◌∷◌, Option, Some, None, codes, fold, if◌then◌else◌}
+use Rattle.std.specs.Str.{bytes_eq}
 use Rattle.clap.specs.Words.{App, Rule, Text, new_app, new_rule, with_rule}
 use Rattle.clap.specs.declared.builder.action.ArgAction.TheVariants.{Append, Set, SetTrue}
 use Rattle.road_network.specs.declared.query.AnswerKind.TheVariants.{Costs, Walks}
 use Rattle.command_words.specs.declared.apps.Name.{Name}
 use Rattle.command_words.specs.declared.apps.Name.TheVariants.{Batch, Check, Follow, Gen, Goal, Lanes, Prove, Serve, Single, Verify}
 
--- the word that names a command
-abbrev pub word_of : Name → Text
-word_of (Single Costs) = codes "costs"
-word_of (Single Walks) = codes "one"
-word_of Goal = codes "goal"
-word_of Check = codes "check"
-word_of Batch = codes "batch"
-word_of Gen = codes "gen"
-word_of Lanes = codes "lanes"
-word_of Serve = codes "serve"
-word_of Prove = codes "prove"
-word_of Verify = codes "verify"
-word_of Follow = codes "follow"
+-- the command that a word names
+abbrev pub name_of : Text → Option Name
+name_of word =
+    if bytes_eq word (codes "costs") then Some (Single Costs)
+    else if bytes_eq word (codes "one") then Some (Single Walks)
+    else if bytes_eq word (codes "goal") then Some Goal
+    else if bytes_eq word (codes "check") then Some Check
+    else if bytes_eq word (codes "batch") then Some Batch
+    else if bytes_eq word (codes "gen") then Some Gen
+    else if bytes_eq word (codes "lanes") then Some Lanes
+    else if bytes_eq word (codes "serve") then Some Serve
+    else if bytes_eq word (codes "prove") then Some Prove
+    else if bytes_eq word (codes "verify") then Some Verify
+    else if bytes_eq word (codes "follow") then Some Follow
+    else None
 
 -- an option with one value, `--name value` or `--name=value`, given at most once
 abbrev pub option_rule : Text → Bool → Rule
@@ -74,12 +77,12 @@ taken_of Follow =
 abbrev pub with_options : Bool → App → List Text → App
 with_options is_required = fold (λ app name. with_rule app (option_rule name is_required))
 
--- a command's word and its options
-abbrev pub options_app : Name → App
-options_app name = with_options false (with_options true (bare_app (word_of name)) (needed_of name)) (taken_of name)
+-- a command's options, behind the word that names it
+abbrev pub options_app : Text → Name → App
+options_app word name = with_options false (with_options true (bare_app word) (needed_of name)) (taken_of name)
 
 -- the arguments of a command: its options, of `batch` the flag `--goal`, and, except for `gen`, the names of files
-abbrev pub app_for : Name → App
-app_for Gen = options_app Gen
-app_for Batch = with_rule (with_rule (options_app Batch) (flag_rule (codes "goal"))) files_rule
-app_for name = with_rule (options_app name) files_rule
+abbrev pub app_for : Text → Name → App
+app_for word Gen = options_app word Gen
+app_for word Batch = with_rule (with_rule (options_app word Batch) (flag_rule (codes "goal"))) files_rule
+app_for word name = with_rule (options_app word name) files_rule

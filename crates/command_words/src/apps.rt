@@ -23,13 +23,33 @@ pub enum Name {
 }
 
 impl Name {
-    ghost use Rattle.command_words.specs.Apps.{app_for, needed_of, options_app, taken_of, word_of};
+    ghost use Rattle.command_words.specs.Apps.{app_for, name_of, needed_of, options_app, taken_of};
 
-    /// The arguments of the command.
-    pub(crate) fn app<'a>(self, alloc: Global) -> Result<Command<'a>, AllocError>
-        ensures { IfOk result (λ c. app_of c ≡ app_for self) }
+    /// The command that a word names.
+    pub(crate) fn of(word: &str) -> Option<Name>
+        ensures { result ≡ name_of word.now }
     {
-        let command = self.with_its_options(alloc)?;
+        match word {
+            "costs" => Some(Name::Single(AnswerKind::Costs)),
+            "one" => Some(Name::Single(AnswerKind::Walks)),
+            "goal" => Some(Name::Goal),
+            "check" => Some(Name::Check),
+            "batch" => Some(Name::Batch),
+            "gen" => Some(Name::Gen),
+            "lanes" => Some(Name::Lanes),
+            "serve" => Some(Name::Serve),
+            "prove" => Some(Name::Prove),
+            "verify" => Some(Name::Verify),
+            "follow" => Some(Name::Follow),
+            _ => None,
+        }
+    }
+
+    /// The arguments of the command, which this word names.
+    pub(crate) fn app<'a>(self, alloc: Global, word: &'a str) -> Result<Command<'a>, AllocError>
+        ensures { IfOk result (λ c. app_of c ≡ app_for word.entry.now self) }
+    {
+        let command = self.with_its_options(alloc, word)?;
         match self {
             Name::Gen => Ok(command),
             Name::Batch => with_files(alloc, with_flag(alloc, command, "goal")?),
@@ -37,31 +57,12 @@ impl Name {
         }
     }
 
-    fn with_its_options<'a>(self, alloc: Global) -> Result<Command<'a>, AllocError>
-        ensures { IfOk result (λ c. app_of c ≡ options_app self) }
+    fn with_its_options<'a>(self, alloc: Global, word: &'a str) -> Result<Command<'a>, AllocError>
+        ensures { IfOk result (λ c. app_of c ≡ options_app word.entry.now self) }
     {
-        let command = bare(alloc, self.word());
+        let command = bare(alloc, word);
         let command = with_options(alloc, command, self.needed(), true)?;
         with_options(alloc, command, self.taken(), false)
-    }
-
-    /// The word that names the command.
-    fn word<'a>(self) -> &'a str
-        ensures { result.now ≡ word_of self }
-    {
-        match self {
-            Name::Single(AnswerKind::Costs) => "costs",
-            Name::Single(AnswerKind::Walks) => "one",
-            Name::Goal => "goal",
-            Name::Check => "check",
-            Name::Batch => "batch",
-            Name::Gen => "gen",
-            Name::Lanes => "lanes",
-            Name::Serve => "serve",
-            Name::Prove => "prove",
-            Name::Verify => "verify",
-            Name::Follow => "follow",
-        }
     }
 
     /// The options that must be given.

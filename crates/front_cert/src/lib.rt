@@ -1,5 +1,5 @@
-//! Certificates as texts: a reader that tells the first faulty line, a checker that tells the first rule that fails, and a
-//! writer.
+//! Certificates as texts: a reader that tells the first faulty line, and a checker that tells the first rule that fails. Who
+//! writes them is `cert_writer`.
 //!
 //! A certificate is checked against a network without a search. What it means that no rule fails is said in `cert_rules`.
 #![tactic(auto)]

@@ -2,7 +2,6 @@
 ghost use Rattle.std.specs.Prelude.{◌≡◌, ◌≤◌, ◌<◌, IfOk, IfSome, OnOk};
 ghost use Rattle.graph_gen.specs.Grids.{IsOnGrid, arc_to, arcs_from, place_at, row_arcs};
 ghost use Rattle.cost_vector.specs.Costs.{max_criteria};
-ghost use Rattle.graph_gen.specs.Plans.{IsPlan};
 ghost use Rattle.graph_gen.specs.Sequence.{first_number};
 ghost use Rattle.graph_gen.specs.Texts.{sizes_line, weight_text};
 ghost use Rattle.graph_gen.specs.Writing.{PutsArcs};
@@ -42,13 +41,12 @@ impl Model for ArcLines {
 impl ArcLines {
     /// The first line alone. Room is taken for all lines.
     fn begin(alloc: Global, plan: &GenPlan, criterion: u32) -> Result<ArcLines, OutOfMemory>
-        requires plan { IsPlan plan.now }
-        requires criterion { criterion ≤ max_criteria }
+        requires { criterion ≤ max_criteria }
         ensures side { IfOk result (λ lines. lines.side ≡ plan.now.side) }
         ensures text { IfOk result (λ lines. lines.text ≡ sizes_line plan.now.side) }
         ensures last { IfOk result (λ lines. lines.last ≡ first_number plan.now.start criterion) }
     {
-        let side = plan.side;
+        let side = plan.side.get();
         let (nodes, arcs) = (side * side, 4 * side * (side - 1));
         let mut text = Vec::with_capacity(alloc, LINE_ROOM * (1 + arcs as usize))?;
         put_line(&mut text, b"p sp", &[nodes, arcs])?;
@@ -100,12 +98,11 @@ pub(crate) fn weight_file(
     plan: &GenPlan,
     criterion: u32,
 ) -> Result<Vec<u8>, OutOfMemory>
-    requires plan { IsPlan plan.now }
-    requires criterion { criterion ≤ max_criteria }
+    requires { criterion ≤ max_criteria }
     ensures { IfOk result (λ file. file.items ≡ weight_text plan.now criterion) }
 {
     let mut lines = ArcLines::begin(alloc, plan, criterion)?;
-    for row in 0..plan.side {
+    for row in 0..plan.side.get() {
         lines.put_row(row)?;
     }
     Ok(lines.text)

@@ -1,7 +1,6 @@
 //! The file of pairs.
 ghost use Rattle.std.specs.Prelude.{◌≡◌, ◌≤◌, ◌++◌, IfOk, OnOk};
 ghost use Rattle.graph_gen.specs.Grids.{IsOnGrid};
-ghost use Rattle.graph_gen.specs.Plans.{IsPlan};
 ghost use Rattle.graph_gen.specs.Texts.{diagonal_node, pair_line, pairs_text, reach, start_row};
 
 use crate::GenPlan;
@@ -18,12 +17,12 @@ const MAX_REACH: u32 = 4;
 
 /// Makes the file of pairs.
 pub(crate) fn pairs_file(alloc: Global, plan: &GenPlan) -> Result<Vec<u8>, OutOfMemory>
-    requires { IsPlan plan.now }
     ensures { IfOk result (λ file. file.items ≡ pairs_text plan.now) }
 {
-    let mut text = Vec::with_capacity(alloc, LINE_ROOM * (1 + plan.pairs as usize))?;
-    put_line(&mut text, b"p aux sp p2p", &[plan.pairs])?;
-    for number in 1..plan.pairs + 1 {
+    let pairs = plan.pairs.get();
+    let mut text = Vec::with_capacity(alloc, LINE_ROOM * (1 + pairs as usize))?;
+    put_line(&mut text, b"p aux sp p2p", &[pairs])?;
+    for number in 1..pairs + 1 {
         put_pair(&mut text, plan, number)?;
     }
     Ok(text)
@@ -31,15 +30,15 @@ pub(crate) fn pairs_file(alloc: Global, plan: &GenPlan) -> Result<Vec<u8>, OutOf
 
 /// Puts the pair of this number, from 1.
 fn put_pair(text: &mut Vec<u8>, plan: &GenPlan, number: u32) -> Result<(), OutOfMemory>
-    requires plan { IsPlan plan.now }
     requires some { 1 ≤ number }
     requires number { number ≤ plan.now.pairs }
     ensures { OnOk result (text.new.items ≡ text.old.items ++ pair_line plan.now number) }
 {
-    let reach = MAX_REACH.min(plan.side - 1);
-    let start = (number - 1) * (plan.side - 1 - reach) / plan.pairs;
+    let (side, pairs) = (plan.side.get(), plan.pairs.get());
+    let reach = MAX_REACH.min(side - 1);
+    let start = (number - 1) * (side - 1 - reach) / pairs;
     let (from, to) = (on_diagonal(start), on_diagonal(start + reach));
-    put_line(text, b"q", &[from.node(plan.side), to.node(plan.side)])
+    put_line(text, b"q", &[from.node(side), to.node(side)])
 }
 
 /// The place in this row and column.

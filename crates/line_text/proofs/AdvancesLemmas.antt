@@ -102,23 +102,25 @@ module _ (old now new : Lines) (before after : SourceState) (holds : Holds old n
 
   -- a step that loses no byte, as its answer says
   advances_by : (next : Lines) (result : Result Bool LineFault) → next.limits ≡ old.limits → next.ended ≡ now.ended → Counts old next result
-      → (result ≡ Err Read → now.ended ≡ false) → next.passed + length next.held ≡ old.passed + length now.held
+      → (result ≡ Err Read → (now.ended ≡ false) × (first_lf next.held ≡ length next.held)) → next.passed + length next.held ≡ old.passed + length now.held
       → ((more : List ℕ) → left_for now after ≡ Some more → Tells old next (now.held ++ more) (Some (next.held ++ more)) result)
       → Advances old next before after result
-  advances_by next result limits ended counts goes_on kept each = record {
+  advances_by next result limits ended counts fails kept each = record {
     limits = limits;
     counts = counts;
     lines = subst (λ is. IfSome (rest_of old before) (λ rest. Tells old next rest (prepend_known next.held (cond is (Some []) after.left)) result))
         (sym ended) (known _ _ now.held (λ rest left. Tells old next rest (prepend_known next.held left) result) holds.rest each);
     loses_none = loses_none-kept old now next before after holds.loses_none (omega (arith, kept, is_same));
-    ends = ends_by old now next before after result ended holds.stays_ended holds.knows_end goes_on;
+    ends = ends_by old now next before after result ended holds.stays_ended holds.knows_end (λ failed. (fails failed).0);
+    fails_within = λ failed. (fails failed).1;
   }
 
-  advances_same : (result : Result Bool LineFault) → (CountsNone old same → Counts old same result) → (result ≡ Err Read → now.ended ≡ false)
+  advances_same : (result : Result Bool LineFault) → (CountsNone old same → Counts old same result)
+      → (result ≡ Err Read → (now.ended ≡ false) × (first_lf now.held ≡ length now.held))
       → ((more : List ℕ) → left_for now after ≡ Some more → Tells old same (now.held ++ more) (Some (now.held ++ more)) result)
       → Advances old same before after result
-  advances_same result counts goes_on tells =
-      advances_by same result refl refl (counts (record { text = refl; number = refl; passed = refl })) goes_on refl tells
+  advances_same result counts fails tells =
+      advances_by same result refl refl (counts (record { text = refl; number = refl; passed = refl })) fails refl tells
 
   counts_line : 0 < length now.held → CountsLine old (past_line same)
   counts_line some =
@@ -186,8 +188,8 @@ module _ (old now new : Lines) (before after : SourceState) (holds : Holds old n
       let nothing : more ≡ [] = none_left now after more end left in record { answer = rw (last.0, nothing) refl; left = refl }))
 
   -- a read failed
-  pub advances_failed : now.ended ≡ false → Advances old now before after (Err Read)
-  advances_failed goes_on = rw holds.stays (advances_same (Err Read) (λ none. none) (λ e. goes_on) (λ more left. refl))
+  pub advances_failed : now.ended ≡ false → first_lf now.held ≡ length now.held → Advances old now before after (Err Read)
+  advances_failed goes_on part = rw holds.stays (advances_same (Err Read) (λ none. none) (λ e. (goes_on, part)) (λ more left. refl))
 
 -- a read behind the bytes that are held, which have no LF
 module _ (now mid next : Lines) (lacks : LacksLf now mid) (stays : next ≡ record mid { held = next.held; ended = next.ended })

@@ -1,12 +1,12 @@
 -- The first line of a text, and its fault.
-use Rattle.std.proofs.Common.{◌≡◌, ℕ, suc, ◌+◌, ◌-◌, ◌<◌, ◌≤◌, Bool, true, false, not, cond, List, [], ◌∷◌, ◌++◌, length, take, drop, get_or, refl, sym, ap, ◌∙◌, arith, one-add, length-append, eqb, Some, ⊎_elim}
+use Rattle.std.proofs.Common.{◌≡◌, ℕ, suc, ◌+◌, ◌-◌, ◌<◌, ◌≤◌, Bool, true, false, not, cond, List, [], ◌∷◌, ◌++◌, length, filter, take, drop, get_or, refl, sym, ap, ◌∙◌, arith, one-add, length-append, eqb, Some, ⊎_elim}
 use Rattle.std.specs.List.{onto_first}
 use Rattle.std.proofs.lemmas.Bool.Decides.{nat_tests}
 use Rattle.std.proofs.lemmas.List.{append-nil, take-append-drop, length-take, take-append-le, drop-append-le}
 use Rattle.std.proofs.lemmas.List.Folds.{prefix_len-append}
 use Rattle.std.proofs.lemmas.List.Sums.{prefix_len-le-length}
 use Rattle.std.proofs.lemmas.Bool.{cases_lt}
-use Rattle.line_text.specs.Lines.{is_lf, first_lf, raw_line, after_line, line_size, without_cr, lines_of}
+use Rattle.line_text.specs.Lines.{is_lf, first_lf, raw_line, after_line, line_size, lines_ended, without_cr, lines_of}
 use Rattle.line_text.specs.declared.limits.LineFault.{LineFault}
 use Rattle.line_text.specs.declared.limits.LineFault.TheVariants.{Read}
 use Rattle.line_text.specs.declared.limits.LineLimits.{LineLimits}
@@ -62,6 +62,29 @@ module _ (held more : List ℕ) where
         size = omega (arith, ap length raw, length-append held more, length-raw_line held);
         behind = ap (λ n. drop (n + 1) (held ++ more)) same ∙ drop-append-le (first_lf held + 1) held more (omega arith);
       }
+
+none_ended-step : (ends : Bool) (byte : ℕ) (text : List ℕ) → cond (not ends) (1 + first_lf text) 0 ≡ length (byte ∷ text)
+    → (first_lf text ≡ length text → lines_ended text ≡ 0) → length (cond ends (byte ∷ filter is_lf text) (filter is_lf text)) ≡ 0
+none_ended-step true byte text none later = absurd (omega arith)
+none_ended-step false byte text none later = later (omega arith)
+
+-- no line ends in bytes without an LF
+pub none_ended : (text : List ℕ) → first_lf text ≡ length text → lines_ended text ≡ 0
+none_ended [] none = refl
+none_ended (byte ∷ text) none = none_ended-step (is_lf byte) byte text none (none_ended text)
+
+one_ended-step : (ends : Bool) (byte : ℕ) (text : List ℕ) → is_lf byte ≡ ends → cond (not ends) (1 + first_lf text) 0 < length (byte ∷ text)
+    → (first_lf text < length text → lines_ended (take (first_lf text + 1) text) ≡ 1)
+    → lines_ended (take (cond (not ends) (1 + first_lf text) 0 + 1) (byte ∷ text)) ≡ 1
+one_ended-step true byte text e some later = rw e refl
+one_ended-step false byte text e some later =
+    let behind : 1 + first_lf text + 1 ≡ suc (first_lf text + 1) = omega arith in
+    rw (behind, e) (later (omega arith))
+
+-- one line ends up to the first LF
+pub one_ended : (text : List ℕ) → first_lf text < length text → lines_ended (take (first_lf text + 1) text) ≡ 1
+one_ended [] some = absurd (omega arith)
+one_ended (byte ∷ text) some = one_ended-step (is_lf byte) byte text refl some (one_ended text)
 
 -- where no LF stands before a place, the first one is the first from there on
 pub first_lf-behind : (bytes : List ℕ) (searched : ℕ) → searched ≤ first_lf bytes → first_lf bytes ≡ searched + first_lf (drop searched bytes)

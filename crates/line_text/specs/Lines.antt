@@ -1,5 +1,5 @@
 -- The lines of a text.
-use Rattle.std.specs.Prelude.{ℕ, ◌+◌, ◌-◌, ◌==◌, Bool, if◌then◌else◌, List, [], ◌∷◌, length, min, slice_index, take}
+use Rattle.std.specs.Prelude.{ℕ, ◌+◌, ◌-◌, ◌==◌, Bool, if◌then◌else◌, List, [], ◌∷◌, length, filter, min, slice_index, take}
 use Rattle.std.specs.List.{before_first, after_first, onto_first, position_or_len}
 
 -- the test that a byte ends a line
@@ -32,3 +32,7 @@ abbrev pub lines_of : List ℕ → List (List ℕ)
 lines_of [] = []
 lines_of (byte ∷ text) =
     if is_lf byte then [] ∷ lines_of text else onto_first byte (lines_of text)
+
+-- how many lines end in a text, each by an LF
+abbrev pub lines_ended : List ℕ → ℕ
+lines_ended text = length (filter is_lf text)

@@ -1,5 +1,5 @@
 -- What a reader of lines shows, and what the next line does to it.
-use Rattle.std.specs.Prelude.{◌≡◌, ◌≢◌, ◌+◌, ◌<◌, ◌≤◌, ℕ, if◌then◌else◌, Bool, true, false, List, [], ◌∷◌, length, Option, Some, None}
+use Rattle.std.specs.Prelude.{◌≡◌, ◌+◌, ◌<◌, ◌≤◌, ℕ, if◌then◌else◌, Bool, true, false, List, [], ◌∷◌, length, Option, Some, None}
 use Rattle.std.specs.Prelude.{IfSome, IsSomeAnd, Result, Ok, Err}
 use Rattle.std.specs.Io.KnownBytes.{IsAtEnd, prepend_known}
 use Rattle.route_io.specs.Sources.{SourceState}
@@ -32,6 +32,8 @@ pub record Lines : Type 0 where
   pub fault : Option LineFault
   -- whether the source said that it is at its end
   pub ended : Bool
+  -- whether the line that was taken last as a request is one of HTTP
+  pub http : Bool
 
 -- a reader before its first line
 abbrev pub begun : LineLimits → Lines
@@ -43,6 +45,7 @@ begun limits = record {
   passed = 0;
   fault = None;
   ended = false;
+  http = false;
 }
 
 -- what the source has left for a reader, where it tells: nothing where the input has ended
@@ -131,3 +134,5 @@ pub record Advances (old new : Lines) (before after : SourceState) (result : Res
   pub lines : IfSome (rest_of old before) (λ rest. Tells old new rest (rest_of new after) result)
   pub loses_none : LosesNone old new before after
   pub ends : Ends old new before after result
+  -- a read fails only where no whole line is held
+  pub fails_within : result ≡ Err fault.Read → first_lf new.held ≡ length new.held

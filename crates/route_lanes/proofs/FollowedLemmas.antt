@@ -16,6 +16,7 @@ use Rattle.route_io.specs.Sources.{SourceState}
 use Rattle.link_doors.specs.Links.{LinkState}
 use Rattle.route_lanes.specs.Followed.{BringFeedsOf, BringsFeed, CameWhole, ReportsSets}
 use Rattle.route_lanes.specs.Following.{FeedsLead, FollowReport, IsTakenFeed, RunsFollow, TakenFeed, max_feed, then, untaken}
+use Rattle.session_core.specs.declared.context.LinkPolicy.{LinkPolicy}
 
 module _ (g : Graph) (o : Origin) (leader : History) (graph : IsGraph g) (published : IsPublished (length g.ends) g.criteria o.first leader) where
   abbrev head : FeedHead
@@ -72,8 +73,8 @@ module _ (g : Graph) (o : Origin) (leader : History) (graph : IsGraph g) (publis
             (brought_up j one mid last (lead_keeps (others_bring feeds one bring) lead) taken (subst (CameWhole head leader j) same whole))
       ]
 
-module _ (g : Graph) (weights : Weights) (first budget bytes : ℕ) (feeds feeds_after : List SourceState) (before after : List LinkState)
-    (report : FollowReport) (leader : History) (run : RunsFollow g weights first budget bytes feeds feeds_after before after report)
+module _ (g : Graph) (weights : Weights) (first budget : ℕ) (policy : LinkPolicy) (feeds feeds_after : List SourceState) (before after : List LinkState)
+    (report : FollowReport) (leader : History) (run : RunsFollow g weights first budget policy feeds feeds_after before after report)
     (bring : BringFeedsOf g first leader feeds) where
   abbrev taken : List TakenFeed
   taken = run.feeds_taken.feeds

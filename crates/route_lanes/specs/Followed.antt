@@ -10,6 +10,7 @@ use Rattle.epoch_follow.specs.Text.{FeedHead, feed_text, head_of}
 use Rattle.link_doors.specs.Links.{LinkState}
 use Rattle.route_lanes.specs.Following.{FollowReport, RunsFollow, TakenFeed}
 use Rattle.route_lanes.specs.declared.feed_lane.FeedReport.{FeedReport}
+use Rattle.session_core.specs.declared.context.LinkPolicy.{LinkPolicy}
 
 -- The source tells its bytes, which are those of a feed of some of the leader's sets, up to where the link broke.
 pub record BringsFeed (head : FeedHead) (leader : History) (source : SourceState) : Type 0 where
@@ -40,15 +41,15 @@ pub record ReportsSets (first j : ℕ) (report : FeedReport) : Type 0 where
 -- whatever became of its feeds, a follower that ran has a part of its leader's history
 abbrev pub RunsKeepToTheirLeader : Type 0
 RunsKeepToTheirLeader =
-    (g : Graph) (weights : Weights) (first budget bytes : ℕ) (feeds feeds_after : List SourceState) (before after : List LinkState)
-    (report : FollowReport) (leader : History) → (run : RunsFollow g weights first budget bytes feeds feeds_after before after report)
+    (g : Graph) (weights : Weights) (first budget : ℕ) (policy : LinkPolicy) (feeds feeds_after : List SourceState) (before after : List LinkState)
+    (report : FollowReport) (leader : History) → (run : RunsFollow g weights first budget policy feeds feeds_after before after report)
     → BringFeedsOf g first leader feeds → IsPrefix run.last leader
 
 -- and a whole feed from the first set on brought it up to the feed's last one
 abbrev pub RunsCatchUp : Type 0
 RunsCatchUp =
-    (g : Graph) (weights : Weights) (first budget bytes : ℕ) (feeds feeds_after : List SourceState) (before after : List LinkState)
+    (g : Graph) (weights : Weights) (first budget : ℕ) (policy : LinkPolicy) (feeds feeds_after : List SourceState) (before after : List LinkState)
     (report : FollowReport) (leader : History) (j : ℕ) (feed : TakenFeed)
-    → (run : RunsFollow g weights first budget bytes feeds feeds_after before after report)
+    → (run : RunsFollow g weights first budget policy feeds feeds_after before after report)
     → BringFeedsOf g first leader feeds → Contains run.feeds_taken.feeds feed → CameWhole (head_of g first) leader j feed
     → ReportsSets first j feed.report

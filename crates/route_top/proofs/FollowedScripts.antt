@@ -17,7 +17,8 @@ use Rattle.route_io.specs.declared.fault.WriteFault.{WriteFault}
 use Rattle.session_core.specs.Links.{is_starved}
 use Rattle.session_core.specs.Operators.{IsOperatorBye, OperatorRun}
 use Rattle.session_core.specs.Sessions.{Scene}
-use Rattle.command_words.specs.Words.{TakeAsked, WriteAsked}
+use Rattle.command_words.specs.declared.commands.TakeWords.{TakeWords}
+use Rattle.command_words.specs.declared.commands.WriteWords.{WriteWords}
 use Rattle.route_lanes.specs.Following.{FollowReport, RunsFollow}
 use Rattle.route_lanes.specs.Lanes.{Lane, LaneReport}
 use Rattle.route_lanes.specs.Leading.{IsFeedWritten, WritesFeed}
@@ -31,7 +32,7 @@ use Rattle.route_top.specs.Follow.{FeedOfScript, RepliesBesideFeeds, WriteReplie
 use Rattle.route_top.specs.Lanes.{SaysScript, lanes_reply, max_script}
 use Rattle.route_top.proofs.FollowFeeds.{FeedsRun, feeds_run}
 use Rattle.route_top.proofs.FollowRuns.{sends_part, sends_whole}
-use Rattle.route_top.proofs.ServedScripts.{all_of_map, has_replied, lent_back, most_taken, sessions_exchange, state_of, unsent_sink}
+use Rattle.route_top.proofs.ServedScripts.{all_of_map, has_replied, lent_back, script_policy, sessions_exchange, state_of, unsent_sink}
 
 -- there is a feed for each name
 pub count_feeds : (files : Option FileMap) (names feeds : List (List ℕ)) → AllZip (SaysScript files) names feeds → length feeds ≡ length names
@@ -45,8 +46,8 @@ module _ {L : Type 0} (script_of : L → List ℕ) (sink_of : L → SureSink) wh
   weights_with criteria states = record { criteria = criteria; states = states }
 
   -- all feeds were taken, and all sessions have replied
-  pub followed : (asked : TakeAsked) (g : Graph) (w : Weights) → Match g w → (feeds rests : List (List ℕ)) (olds news : List L) (report : FollowReport)
-      → RunsFollow g w asked.epoch asked.limits.budget most_taken (map sure_source_state feeds) (map sure_source_state rests)
+  pub followed : (asked : TakeWords) (g : Graph) (w : Weights) → Match g w → (feeds rests : List (List ℕ)) (olds news : List L) (report : FollowReport)
+      → RunsFollow g w asked.epoch asked.limits.budget script_policy (map sure_source_state feeds) (map sure_source_state rests)
       (map (state_of script_of sink_of) olds) (map (state_of script_of sink_of) news) report
       → length feeds ≡ asked.links
       → All (λ link. length (script_of link) ≤ max_script) olds → All (λ link. sink_of link ≡ unsent_sink) olds
@@ -77,10 +78,10 @@ module _ {L : Type 0} (script_of : L → List ℕ) (sink_of : L → SureSink) wh
       }
 
   -- the same, where feeds and links were lent out of lists
-  pub followed_over : (asked : TakeAsked) (g : Graph) (w : Weights) → Match g w → (feeds lent rests : List (List ℕ)) (items olds news after : List L) (n : ℕ)
+  pub followed_over : (asked : TakeWords) (g : Graph) (w : Weights) → Match g w → (feeds lent rests : List (List ℕ)) (items olds news after : List L) (n : ℕ)
       (report : FollowReport) (text : List FeedReport) → lent ≡ feeds → olds ≡ items → n ≡ length items → after ≡ take n (news ++ drop (length news) items)
       → text ≡ report.feeds
-      → RunsFollow g w asked.epoch asked.limits.budget most_taken (map sure_source_state lent) (map sure_source_state rests)
+      → RunsFollow g w asked.epoch asked.limits.budget script_policy (map sure_source_state lent) (map sure_source_state rests)
       (map (state_of script_of sink_of) olds) (map (state_of script_of sink_of) news) report
       → length feeds ≡ asked.links
       → All (λ link. length (script_of link) ≤ max_script) items → All (λ link. sink_of link ≡ unsent_sink) items
@@ -100,7 +101,7 @@ module _ {L : Type 0} (script_of : L → List ℕ) (sink_of : L → SureSink) wh
         length-map runs.sessions (λ (lane : Lane). lane.before),
         length-map runs.sessions (λ (lane : Lane). lane.after),
       ) in
-      let Runs : List (List ℕ) → List L → Type 0 = λ fs ls. RunsFollow g w asked.epoch asked.limits.budget most_taken (map sure_source_state fs)
+      let Runs : List (List ℕ) → List L → Type 0 = λ fs ls. RunsFollow g w asked.epoch asked.limits.budget script_policy (map sure_source_state fs)
       (map sure_source_state rests) (map (state_of script_of sink_of) ls) (map (state_of script_of sink_of) news) report in
       let over = subst (λ fs. Runs fs items) same_feeds (subst (Runs lent) same runs) in
       let whole = followed asked g w matched feeds rests items news report over some short unsent no_feed_wants no_lane_wants in
@@ -109,18 +110,18 @@ module _ {L : Type 0} (script_of : L → List ℕ) (sink_of : L → SureSink) wh
 -- ---- the feed of a script
 
 -- the text that was sent of a feed, and how
-pub record SendsFeed (asked : WriteAsked) (net : Network) (script : List ℕ) (out sent : SinkState) (result : Result (Unit {0}) WriteFault) : Type 0 where
+pub record SendsFeed (asked : WriteWords) (net : Network) (script : List ℕ) (out sent : SinkState) (result : Result (Unit {0}) WriteFault) : Type 0 where
   pub text : List ℕ
   pub is : FeedOfScript asked net (script ∷ []) text
   pub sends : Sends out sent text result
 
-module _ (asked : WriteAsked) (g : Graph) (w : Weights) (matched : Match g w) (script rest : List ℕ) (to replied : SureSink)
+module _ (asked : WriteWords) (g : Graph) (w : Weights) (matched : Match g w) (script rest : List ℕ) (to replied : SureSink)
     (short : length script ≤ max_script) (unsent : to ≡ unsent_sink) (out sent : SinkState) where
   abbrev weights_of_states : ℕ → List (Option (List ℕ)) → Weights
   weights_of_states criteria states = record { criteria = criteria; states = states }
 
   sends_feed : (o : Origin) (result : Result (Unit {0}) WriteFault) → o.first ≡ asked.epoch → o.base ≡ w
-      → IsFeedWritten g o most_taken (record { from = sure_source_state script; to = sure_sink_state to })
+      → IsFeedWritten g o script_policy (record { from = sure_source_state script; to = sure_sink_state to })
       (record { from = sure_source_state rest; to = sure_sink_state replied }) out sent result → SendsFeed asked (network g w) script out sent result
   sends_feed o result first base written =
       let replies = has_replied (OperatorRun o) (IsOperatorBye o) (record { published = []; pending = [] }) written.left script rest to replied short unsent
@@ -142,7 +143,7 @@ module _ (asked : WriteAsked) (g : Graph) (w : Weights) (matched : Match g w) (s
       }
 
   abbrev writes : Result (Unit {0}) ReplyFault → Type 0
-  writes result = WritesFeed g w asked.epoch most_taken (record { from = sure_source_state script; to = sure_sink_state to })
+  writes result = WritesFeed g w asked.epoch script_policy (record { from = sure_source_state script; to = sure_sink_state to })
       (record { from = sure_source_state rest; to = sure_sink_state replied }) out sent result
 
   -- the feed was sent

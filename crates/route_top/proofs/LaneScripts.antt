@@ -6,7 +6,8 @@ use Rattle.std.proofs.lemmas.Slice.Zip.{all_zipped_more}
 use Rattle.std.specs.Global.{Vec}
 use Rattle.std.proofs.lemmas.List.FromFn.{get_or-map-range_with_len, length-map-range_with_len}
 use Rattle.route_io.specs.Files.{FileMap, Opens}
-use Rattle.command_words.specs.Words.{LanesAsked, scripts_of, session_name}
+use Rattle.command_words.specs.Words.{scripts_of, session_name}
+use Rattle.command_words.specs.declared.commands.LanesWords.{LanesWords}
 use Rattle.still_commands.specs.declared.stop.ScriptFault.{ScriptFault}
 use Rattle.still_commands.specs.declared.stop.ScriptFault.TheVariants as fault
 use Rattle.still_commands.specs.Outcome.{Outcome}
@@ -16,7 +17,7 @@ use Rattle.route_top.specs.Lanes.{SaysScript, ScriptStop, ScriptsStop, failed, m
 use Rattle.route_top.specs.Scripts.{WholeRead}
 
 -- the script behind the operator's and those of the sessions before is that of the next session
-pub session_at : (asked : LanesAsked) (n : ℕ) → 1 ≤ n → n ≤ asked.count → session_name asked.stem n ≡ get_or (scripts_of asked) n []
+pub session_at : (asked : LanesWords) (n : ℕ) → 1 ≤ n → n ≤ asked.count → session_name asked.stem n ≡ get_or (scripts_of asked) n []
 session_at asked zero some within = absurd (omega (arith, some))
 session_at asked (suc n) some within =
     sym (get_or-map-range_with_len (session_name asked.stem) 1 asked.count n (suc n) [] (omega (arith, within)) (omega arith))
@@ -59,6 +60,6 @@ module _ (files : Option FileMap) (names : List (List ℕ)) (n : ℕ) (within : 
   )
 
 -- there are one script more than sessions
-pub count_scripts : (asked : LanesAsked) → length (scripts_of asked) ≡ 1 + asked.count
+pub count_scripts : (asked : LanesWords) → length (scripts_of asked) ≡ 1 + asked.count
 count_scripts asked =
     let sessions = length-map-range_with_len (session_name asked.stem) 1 asked.count in omega (arith, sessions)

@@ -8,7 +8,10 @@ use Rattle.route_io.specs.declared.fault.WriteFault.{WriteFault}
 use Rattle.route_io.specs.Files.{FileMap}
 use Rattle.route_io.specs.Sinks.{SinkState, Sends}
 use Rattle.route_io.specs.Sources.{SourceState, ReadsFrom}
-use Rattle.command_words.specs.Words.{LanesAsked, lanes, scripts_of}
+use Rattle.command_words.specs.Words.{scripts_of}
+use Rattle.command_words.specs.declared.commands.Command.TheVariants.{Waiting}
+use Rattle.command_words.specs.declared.commands.LanesWords.{LanesWords}
+use Rattle.command_words.specs.declared.commands.WaitingCommand.TheVariants.{Lanes}
 use Rattle.still_commands.specs.declared.stop.Stop.TheVariants as stop
 use Rattle.still_commands.specs.FilesRead.{ReadAs}
 use Rattle.still_commands.specs.Outcome.{Outcome, done, no_memory, status_of}
@@ -50,7 +53,7 @@ script_leaves_out failed = record { no_fault = refl; no_want = refl }
 script_leaves_out (too_long exchanges) = record { no_fault = refl; no_want = refl }
 script_leaves_out starved = record { no_fault = refl; no_want = refl }
 
-module _ (asked : LanesAsked) (net : Network) (scripts : List (List ℕ)) where
+module _ (asked : LanesWords) (net : Network) (scripts : List (List ℕ)) where
   -- memory ran out before anything was sent
   pub lanes_starve : (out : SinkState) → Replies (LanesReplies asked net scripts) out out no_memory
   lanes_starve out = starves (LanesReplies asked net scripts) out refl
@@ -67,25 +70,25 @@ module _ (asked : LanesAsked) (net : Network) (scripts : List (List ℕ)) where
         (sent_part done text out replied fault sent)
 
 -- the network was read, and the run goes on to the scripts
-module _ (asked : LanesAsked) (folder mid after : SourceState) (net : Network) (read : ReadAs folder.files asked.files net)
+module _ (asked : LanesWords) (folder mid after : SourceState) (net : Network) (read : ReadAs folder.files asked.files net)
     (reads : ReadsFrom folder mid false) where
   goes_on_to_scripts : (out replied : SinkState) (outcome : Outcome)
       → RunsCommand (ScriptsEnd (LanesReplies asked net) mid.files (scripts_of asked)) mid after out replied outcome
-      → RunsCommand (Ends folder.files (lanes asked)) folder after out replied outcome
+      → RunsCommand (Ends folder.files (Waiting (Lanes asked))) folder after out replied outcome
   goes_on_to_scripts out replied outcome runs =
       ends_over (LanesEnd folder.files asked) asked.files folder after net mid out replied outcome read reads
       (subst (λ files. RunsCommand (ScriptsEnd (LanesReplies asked net) files (scripts_of asked)) mid after out replied outcome) reads.files runs)
 
   -- the scripts end the run
   pub ends_at_scripts : {outcome : Outcome} (out : SinkState) → ScriptsStop mid.files (scripts_of asked) outcome → ReadsFrom mid after (status_of outcome == 3)
-      → RunsCommand (Ends folder.files (lanes asked)) folder after out out outcome
+      → RunsCommand (Ends folder.files (Waiting (Lanes asked))) folder after out out outcome
   ends_at_scripts {outcome} out why more = goes_on_to_scripts out out outcome
       (nothing_sent (ScriptsEnd (LanesReplies asked net) mid.files (scripts_of asked)) outcome mid after out (script_leaves_out why.2) (scripts_stop why) more)
 
   -- they were read, and the run only replies
   pub ends_over_scripts : (scripts : List (List ℕ)) (out replied : SinkState) (outcome : Outcome)
       → AllZip (SaysScript mid.files) (scripts_of asked) scripts → ReadsFrom mid after false → Replies (LanesReplies asked net scripts) out replied outcome
-      → RunsCommand (Ends folder.files (lanes asked)) folder after out replied outcome
+      → RunsCommand (Ends folder.files (Waiting (Lanes asked))) folder after out replied outcome
   ends_over_scripts scripts out replied outcome says more replies = goes_on_to_scripts out replied outcome
       (runs_then (LanesReplies asked net scripts) (ScriptsEnd (LanesReplies asked net) mid.files (scripts_of asked))
       (λ o text then. scripts_read scripts says then) mid after after out replied outcome more (replies after))

@@ -17,7 +17,8 @@ use Rattle.epoch_follow.specs.declared.feed_end.FeedEnd.TheVariants.{Whole, Cut,
 use Rattle.epoch_follow.proofs.FollowLemmas.{feed_keeps}
 use Rattle.epoch_follow.proofs.WrittenLemmas.{IsHead}
 use Rattle.route_lanes.specs.Following.{max_feed}
-use Rattle.command_words.specs.Words.{TakeAsked, WriteAsked}
+use Rattle.command_words.specs.declared.commands.TakeWords.{TakeWords}
+use Rattle.command_words.specs.declared.commands.WriteWords.{WriteWords}
 use Rattle.route_top.specs.Follow.{FeedOfScript, RepliesBesideFeeds, history_after}
 use Rattle.route_top.specs.Followed.{AreFeedsOf}
 use Rattle.route_top.specs.Lanes.{graph_of}
@@ -59,14 +60,14 @@ module _ (g : Graph) (first : ℕ) (leader : History) (graph : IsGraph g) (publi
       (All-tail (ComesFrom head leader) bytes feeds come)
 
 -- the follower keeps to its leader
-pub follow_keeps : (asked : TakeAsked) (net : Network) (scripts : List (List ℕ)) (text : List ℕ) (leader : History)
+pub follow_keeps : (asked : TakeWords) (net : Network) (scripts : List (List ℕ)) (text : List ℕ) (leader : History)
     (replies : RepliesBesideFeeds asked net scripts text) → AreFeedsOf asked net leader replies.feeds
     → IsPrefix (history_after (head_of (graph_of net) asked.epoch) [] replies.feeds) leader
 follow_keeps asked net scripts text leader replies are =
     after_keeps (graph_of net) asked.epoch leader are.graph are.published [] replies.feeds (leader, refl) are.each
 
 -- a front of the feed that was written
-pub written_comes : (asked : WriteAsked) (net : Network) (scripts : List (List ℕ)) (text came : List ℕ) (feed : FeedOfScript asked net scripts text)
+pub written_comes : (asked : WriteWords) (net : Network) (scripts : List (List ℕ)) (text came : List ℕ) (feed : FeedOfScript asked net scripts text)
     → IsPrefix came text → ComesFrom (head_of (graph_of net) asked.epoch) feed.left.published came
 written_comes asked net scripts text came feed front = record {
   from = 1;

@@ -16,7 +16,13 @@ use Rattle.link_doors.specs.declared.town.TownFault.TheVariants as town
 use Rattle.arc_graph.specs.Graph.{Graph, Match, Weights, network}
 use Rattle.out_of_memory.specs.declared.OutOfMemory.{OutOfMemory}
 use Rattle.road_network.specs.Network.{Network}
-use Rattle.command_words.specs.Words.{Asked, ServeAsked}
+use Rattle.command_words.specs.Words.{Asks, Fails, asked}
+use Rattle.command_words.specs.declared.commands.Command.{Command}
+use Rattle.command_words.specs.declared.commands.Command.TheVariants.{Waiting}
+use Rattle.command_words.specs.declared.commands.ServeWords.{ServeWords}
+use Rattle.command_words.specs.declared.commands.WaitingCommand.TheVariants.{Serve}
+use Rattle.command_words.specs.declared.fault.WordsFault.{WordsFault}
+use Rattle.command_words.specs.declared.fault.WordsFault.TheVariants as reading
 use Rattle.route_lanes.proofs.VisitLemmas.{count_first}
 use Rattle.route_lanes.specs.Serving.{DoorLane, IsDoorLane, ServesLanes}
 use Rattle.route_lanes.specs.declared.serve.Served.{Served}
@@ -26,11 +32,11 @@ use Rattle.still_commands.specs.Outcome.{Outcome, done, no_memory, status_of, to
 use Rattle.still_commands.specs.Stops.{Replies, outcome_of, stop_of_town}
 use Rattle.still_commands.proofs.RunsLemmas.{nothing_sent, replies_so, sent_part, sent_whole, starves, stays}
 use Rattle.route_top.specs.Lanes.{graph_of, weights_of}
-use Rattle.route_top.specs.Serve.{ServeReplies, ServesDoors, ServesTown, EndsTown, TownByWords, asks, left_alone, listened, max_taken, ready_reply, refused, served, served_by, served_outcome, serves, unasked, unheard, unread, unready}
+use Rattle.route_top.specs.Serve.{ServeReplies, ServesDoors, ServesTown, EndsTown, TownByWords, asks, left_alone, listened, serve_policy, ready_reply, refused, served, served_by, served_outcome, serves, unasked, unheard, unread, unready}
 
 -- ---- what is sent
 
-module _ (asked : ServeAsked) (out replied : SinkState) where
+module _ (asked : ServeWords) (out replied : SinkState) where
   -- all was said, and the run ends in one of these ways
   said_whole : Sends {T = Unit {0}} out replied (ready_reply asked.lanes) (Ok tt) → (wanted broke : Bool)
       → Replies (ServeReplies asked) out replied (served_by wanted broke)
@@ -55,7 +61,7 @@ module _ (asked : ServeAsked) (out replied : SinkState) where
   doors_reply (served result sent lanes) = said_by sent result
 
 -- what a server sends, by what became of its town
-pub town_replies : (asked : ServeAsked) (net : Network) (old new : TownState) (out replied : SinkState) (outcome : Outcome)
+pub town_replies : (asked : ServeWords) (net : Network) (old new : TownState) (out replied : SinkState) (outcome : Outcome)
     → ServesTown asked net old new out replied outcome → Replies (ServeReplies asked) out replied outcome
 town_replies asked net old new out replied outcome (unheard same nothing) =
     subst (λ (sink : SinkState). Replies (ServeReplies asked) out sink no_memory) (sym nothing) (starves (ServeReplies asked) out (inl refl))
@@ -65,26 +71,26 @@ town_replies asked net old new out replied outcome (refused faults rose becomes 
 town_replies asked net old new out replied outcome (listened mid doors after hands does back) = doors_reply asked out replied does
 
 -- a town that doesn't listen ends the run
-pub not_listened : (asked : ServeAsked) (net : Network) (old new : TownState) (out : SinkState) (fault : TownFault)
+pub not_listened : (asked : ServeWords) (net : Network) (old new : TownState) (out : SinkState) (fault : TownFault)
     → Listens old new asked.lanes asked.links (Err fault) → ServesTown asked net old new out out (outcome_of (stop_of_town fault))
 not_listened asked net old new out town.Failed is = refused is.0 is.1 is.2 refl
 not_listened asked net old new out (town.OutOfMemory want) is = unheard is refl
 
 -- doors that weren't asked for a link, since it couldn't be said that links may come in
-pub not_ready : (asked : ServeAsked) (net : Network) (doors : List DoorState) (out replied : SinkState) (fault : WriteFault)
+pub not_ready : (asked : ServeWords) (net : Network) (doors : List DoorState) (out replied : SinkState) (fault : WriteFault)
     → Sends {T = Unit {0}} out replied (ready_reply asked.lanes) (Err fault) → ServesDoors asked net doors doors out replied (outcome_of (stop.Out fault))
 not_ready asked net doors out replied write.Failed sent = unready write.Failed sent refl
 not_ready asked net doors out replied (write.OutOfMemory want) sent = unready (write.OutOfMemory want) sent refl
 
 -- doors that were served over a graph and weights of its arcs were so over the network of both
-pub serves_over : (asked : ServeAsked) (g : Graph) (w : Weights) → Match g w → (doors after : List DoorState) (out replied : SinkState)
+pub serves_over : (asked : ServeWords) (g : Graph) (w : Weights) → Match g w → (doors after : List DoorState) (out replied : SinkState)
     (result : Result Served OutOfMemory) → Sends {T = Unit {0}} out replied (ready_reply asked.lanes) (Ok tt)
-    → ServesLanes g w asked.epoch asked.limits.budget max_taken doors after result
+    → ServesLanes g w asked.epoch asked.limits.budget serve_policy doors after result
     → ServesDoors asked (network g w) doors after out replied (served_outcome result)
 serves_over asked g w matched doors after out replied result sent lanes =
     let by : ℕ → Weights = λ n. record { criteria = n; states = w.states } in
     let whole : w ≡ weights_of (network g w) = ap by matched.criteria in
-    served result sent (subst (λ v. ServesLanes g v asked.epoch asked.limits.budget max_taken doors after result) whole lanes)
+    served result sent (subst (λ v. ServesLanes g v asked.epoch asked.limits.budget serve_policy doors after result) whole lanes)
 
 -- ---- the places of doors
 
@@ -96,7 +102,7 @@ same_places (lane ∷ lanes) all =
     let place : lane.after.place ≡ lane.before.place = ap (λ (door : DoorState). door.place) is.links in
     ap₂ ◌∷◌ place (same_places lanes (All-tail IsDoorLane lane lanes all))
 
-module _ (asked : ServeAsked) (net : Network) (doors after : List DoorState) (out replied : SinkState) where
+module _ (asked : ServeWords) (net : Network) (doors after : List DoorState) (out replied : SinkState) where
   places_stay : {outcome : Outcome} → ServesDoors asked net doors after out replied outcome
       → map (λ (door : DoorState). door.place) after ≡ map (λ (door : DoorState). door.place) doors
   places_stay (unready fault sent same) = ap (map (λ (door : DoorState). door.place)) same
@@ -166,9 +172,9 @@ zero_by true other not_ten not_nine = absurd (not_nine refl)
 zero_by false true not_ten not_nine = absurd (not_ten refl)
 zero_by false false not_ten not_nine = refl
 
-module _ (asked : ServeAsked) (net : Network) (links : ℕ) (doors after : List DoorState) (fresh : All (IsNewDoor links) doors) (out replied : SinkState) where
+module _ (asked : ServeWords) (net : Network) (links : ℕ) (doors after : List DoorState) (fresh : All (IsNewDoor links) doors) (out replied : SinkState) where
   -- the failed doors of lanes that were served
-  any_served : (tally : Served) → ServesLanes (graph_of net) (weights_of net) asked.epoch asked.limits.budget max_taken doors after (Ok tally)
+  any_served : (tally : Served) → ServesLanes (graph_of net) (weights_of net) asked.epoch asked.limits.budget serve_policy doors after (Ok tally)
       → any_failed after ≡ ltb 0 tally.failed
   any_served tally lanes =
       let all = lanes.operator ∷ lanes.sessions in
@@ -190,7 +196,7 @@ module _ (asked : ServeAsked) (net : Network) (links : ℕ) (doors after : List 
       any_served tally lanes ∙ zero_by (is_some tally.want) (ltb 0 tally.failed) not_ten not_nine
   no_failed_door (served (Err fault) sent lanes) not_ten not_nine = absurd (not_nine refl)
 
-module _ (asked : ServeAsked) (net : Network) (old new : TownState) (out replied : SinkState) where
+module _ (asked : ServeWords) (net : Network) (old new : TownState) (out replied : SinkState) where
   town_rose : {outcome : Outcome} → ServesTown asked net old new out replied outcome → status_of outcome ≡ 10 → Rose old.faults new.faults
   town_rose (unheard same nothing) ten = cc
   town_rose (refused faults rose becomes nothing) ten = subst (λ (n : ℕ). Rose old.faults n) (sym (ap (λ (t : TownState). t.faults) becomes)) rose
@@ -215,18 +221,18 @@ stop_not_ten (at_file name comes starved) = λ ten. cc
 stop_not_ten (disagree all) = λ ten. cc
 stop_not_ten unjoined = λ ten. cc
 
-module _ (IsAsked : Asked → Type 0) (files : Option FileMap) (old new : TownState) (out replied : SinkState) where
+module _ (IsAsked : Command → Type 0) (files : Option FileMap) (old new : TownState) (out replied : SinkState) where
   rose_by_words : {outcome : Outcome} → TownByWords IsAsked files old new out replied outcome → status_of outcome ≡ 10 → Rose old.faults new.faults
   rose_by_words (left_alone other never same) ten = absurd (never ten)
-  rose_by_words (unread same) ten = cc
-  rose_by_words (serves asked is (unasked stop same)) ten = absurd (stop_not_ten stop ten)
+  rose_by_words (unread same unsaid) ten = cc
+  rose_by_words (serves asked is (unasked stop same unsaid)) ten = absurd (stop_not_ten stop ten)
   rose_by_words (serves asked is (asks net read town)) ten = town_rose asked net old new out replied town ten
 
   still_by_words : {outcome : Outcome} → TownByWords IsAsked files old new out replied outcome → status_of outcome ≢ 10 → status_of outcome ≢ 9
       → new.faults ≡ old.faults
   still_by_words (left_alone other never same) not_ten not_nine = ap (λ (t : TownState). t.faults) same
-  still_by_words (unread same) not_ten not_nine = ap (λ (t : TownState). t.faults) same
-  still_by_words (serves asked is (unasked stop same)) not_ten not_nine = ap (λ (t : TownState). t.faults) same
+  still_by_words (unread same unsaid) not_ten not_nine = ap (λ (t : TownState). t.faults) same
+  still_by_words (serves asked is (unasked stop same unsaid)) not_ten not_nine = ap (λ (t : TownState). t.faults) same
   still_by_words (serves asked is (asks net read town)) not_ten not_nine = town_still asked net old new out replied town not_ten not_nine
 
   -- what a run did to the town and what the status says of it
@@ -239,3 +245,16 @@ module _ (IsAsked : Asked → Type 0) (files : Option FileMap) (old new : TownSt
     failed = λ ten. rose_by_words town (sym is ∙ ten);
     stands = λ not_ten not_nine. still_by_words town (λ ten. not_ten (is ∙ ten)) (λ nine. not_nine (is ∙ nine));
   }
+
+-- what a run did to the town by the command that its words ask for, or where none was read
+module _ (words : List (List ℕ)) (files : Option FileMap) (old new : TownState) (out replied : SinkState) where
+  pub town_by : {outcome : Outcome} (command : Command) → Asks words command → TownByWords (λ c. c ≡ command) files old new out replied outcome
+      → TownByWords (Asks words) files old new out replied outcome
+  town_by command said (left_alone none never same) = left_alone (λ s also. none s (cc)) never same
+  town_by command said (unread same unsaid) = unread same unsaid
+  town_by command said (serves s is town) = serves s (subst (Asks words) (sym is) said) town
+
+  pub town_unread : (fault : WordsFault) → Fails fault (asked words) → new ≡ old → replied ≡ out
+      → TownByWords (Asks words) files old new out replied (outcome_of (stop.Words fault))
+  town_unread reading.Refused none same unsaid = left_alone (λ s also. cc) (λ ten. cc) same
+  town_unread (reading.OutOfMemory want) none same unsaid = unread same unsaid

@@ -13,7 +13,11 @@ use Rattle.epoch_follow.specs.declared.feed_end.FeedEnd.{FeedEnd}
 use Rattle.epoch_follow.specs.declared.feed_end.FeedEnd.TheVariants as feed
 use Rattle.epoch_store.specs.Origin.{Origin}
 use Rattle.session_core.specs.Exchanges.{Exchange, text_exchanged}
-use Rattle.command_words.specs.Words.{FollowAsked, TakeAsked, WriteAsked, feeds_of, session_name, sessions_of, take, write}
+use Rattle.command_words.specs.Words.{feeds_of, session_name, sessions_of}
+use Rattle.command_words.specs.declared.commands.FollowWords.{FollowWords}
+use Rattle.command_words.specs.declared.commands.FollowWords.TheVariants.{Take, Write}
+use Rattle.command_words.specs.declared.commands.TakeWords.{TakeWords}
+use Rattle.command_words.specs.declared.commands.WriteWords.{WriteWords}
 use Rattle.route_lanes.specs.Following.{max_feed}
 use Rattle.route_lanes.specs.declared.feed_lane.FeedReport.{FeedReport}
 use Rattle.still_commands.specs.FilesRead.{FilesEnd}
@@ -27,7 +31,7 @@ numbered stem count = map (session_name stem) (range_with_len 1 count)
 -- ---- the feed of a script
 
 -- The text is the feed of all change sets that the lines of the operator's script publish.
-pub record FeedOfScript (asked : WriteAsked) (net : Network) (scripts : List (List ℕ)) (text : List ℕ) : Type 0 where
+pub record FeedOfScript (asked : WriteWords) (net : Network) (scripts : List (List ℕ)) (text : List ℕ) : Type 0 where
   pub origin : Origin
   pub first_is : origin.first ≡ asked.epoch
   pub base_is : origin.base ≡ weights_of net
@@ -39,13 +43,13 @@ pub record FeedOfScript (asked : WriteAsked) (net : Network) (scripts : List (Li
   pub text_is : text ≡ feed_text (head_of (graph_of net) asked.epoch) left.published 1 (sets left.published)
 
 -- the feed is sent, unless memory runs out in the operator's lane or before
-abbrev pub WriteReplies : WriteAsked → Network → List (List ℕ) → Outcome → List ℕ → Type 0
+abbrev pub WriteReplies : WriteWords → Network → List (List ℕ) → Outcome → List ℕ → Type 0
 WriteReplies asked net scripts done text = FeedOfScript asked net scripts text
 WriteReplies asked net scripts no_memory text = text ≡ []
 WriteReplies asked net scripts outcome text = ⊥
 
 -- how a run that writes a feed over a network ends, and what it sends
-abbrev pub WriteEnd : Option FileMap → WriteAsked → Network → Outcome → List ℕ → Type 0
+abbrev pub WriteEnd : Option FileMap → WriteWords → Network → Outcome → List ℕ → Type 0
 WriteEnd files asked net = ScriptsEnd (WriteReplies asked net) files (asked.operator ∷ [])
 
 -- ---- feeds that are taken
@@ -85,7 +89,7 @@ feed_lines i (report ∷ reports) = feed_line i report ++ feed_lines (i + 1) rep
 
 -- The text is the lines of the feeds, which come first, and the replies to the sessions' scripts. What the feeds lead to is,
 -- closed, the history of all sessions.
-pub record RepliesBesideFeeds (asked : TakeAsked) (net : Network) (scripts : List (List ℕ)) (text : List ℕ) : Type 0 where
+pub record RepliesBesideFeeds (asked : TakeWords) (net : Network) (scripts : List (List ℕ)) (text : List ℕ) : Type 0 where
   pub origin : Origin
   pub first_is : origin.first ≡ asked.epoch
   pub base_is : origin.base ≡ weights_of net
@@ -101,16 +105,16 @@ pub record RepliesBesideFeeds (asked : TakeAsked) (net : Network) (scripts : Lis
       ++ lanes_reply 1 (map text_exchanged sessions)
 
 -- all feeds are taken and all scripts have their replies, unless memory runs out in a lane or before
-abbrev pub TakeReplies : TakeAsked → Network → List (List ℕ) → Outcome → List ℕ → Type 0
+abbrev pub TakeReplies : TakeWords → Network → List (List ℕ) → Outcome → List ℕ → Type 0
 TakeReplies asked net scripts done text = RepliesBesideFeeds asked net scripts text
 TakeReplies asked net scripts no_memory text = text ≡ []
 TakeReplies asked net scripts outcome text = ⊥
 
 -- how a run that takes feeds over a network ends, and what it sends
-abbrev pub TakeEnd : Option FileMap → TakeAsked → Network → Outcome → List ℕ → Type 0
+abbrev pub TakeEnd : Option FileMap → TakeWords → Network → Outcome → List ℕ → Type 0
 TakeEnd files asked net = ScriptsEnd (TakeReplies asked net) files (feeds_of asked ++ sessions_of asked)
 
 -- how a run of `follow` ends, and what it sends, by its form
-abbrev pub FollowEnds : Option FileMap → FollowAsked → Outcome → List ℕ → Type 0
-FollowEnds files (write asked) = FilesEnd (WriteEnd files asked) files asked.files
-FollowEnds files (take asked) = FilesEnd (TakeEnd files asked) files asked.files
+abbrev pub FollowEnds : Option FileMap → FollowWords → Outcome → List ℕ → Type 0
+FollowEnds files (Write asked) = FilesEnd (WriteEnd files asked) files asked.files
+FollowEnds files (Take asked) = FilesEnd (TakeEnd files asked) files asked.files

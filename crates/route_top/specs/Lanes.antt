@@ -13,7 +13,8 @@ use Rattle.epoch_store.specs.Origin.{Origin}
 use Rattle.session_core.specs.Operators.{IsOperatorBye, OperatorRun}
 use Rattle.session_core.specs.Sessions.{IsSessionBye, Scene, SessionRun}
 use Rattle.session_core.specs.Exchanges.{Exchange, lines_exchanged, text_exchanged}
-use Rattle.command_words.specs.Words.{LanesAsked, scripts_of}
+use Rattle.command_words.specs.Words.{scripts_of}
+use Rattle.command_words.specs.declared.commands.LanesWords.{LanesWords}
 use Rattle.still_commands.specs.FilesRead.{Tells}
 use Rattle.still_commands.specs.Outcome.{Outcome, done, folder_failed, no_memory, script_too_long}
 
@@ -92,7 +93,7 @@ weights_of net = record { criteria = net.criteria; states = net.states }
 
 -- The text is the replies to the scripts, the operator's first. What the operator has published in the end is, closed,
 -- the history of all sessions.
-pub record RepliesToScripts (asked : LanesAsked) (net : Network) (scripts : List (List ℕ)) (text : List ℕ) : Type 0 where
+pub record RepliesToScripts (asked : LanesWords) (net : Network) (scripts : List (List ℕ)) (text : List ℕ) : Type 0 where
   pub origin : Origin
   pub first_is : origin.first ≡ asked.epoch
   pub base_is : origin.base ≡ weights_of net
@@ -108,11 +109,11 @@ pub record RepliesToScripts (asked : LanesAsked) (net : Network) (scripts : List
   pub text_is : text ≡ lanes_reply 0 (map text_exchanged (operator ∷ sessions))
 
 -- all scripts have their replies, unless memory runs out in a lane or before
-abbrev pub LanesReplies : LanesAsked → Network → List (List ℕ) → Outcome → List ℕ → Type 0
+abbrev pub LanesReplies : LanesWords → Network → List (List ℕ) → Outcome → List ℕ → Type 0
 LanesReplies asked net scripts done text = RepliesToScripts asked net scripts text
 LanesReplies asked net scripts no_memory text = text ≡ []
 LanesReplies asked net scripts outcome text = ⊥
 
 -- how lanes over a network end, and what they send
-abbrev pub LanesEnd : Option FileMap → LanesAsked → Network → Outcome → List ℕ → Type 0
+abbrev pub LanesEnd : Option FileMap → LanesWords → Network → Outcome → List ℕ → Type 0
 LanesEnd files asked net = ScriptsEnd (LanesReplies asked net) files (scripts_of asked)

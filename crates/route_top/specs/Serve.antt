@@ -10,7 +10,11 @@ use Rattle.link_doors.specs.Towns.{HandsOut, TakesBack, TownState}
 use Rattle.answer_writer.specs.Replies.{and_number, end_line}
 use Rattle.out_of_memory.specs.declared.OutOfMemory.{OutOfMemory}
 use Rattle.road_network.specs.Network.{Network}
-use Rattle.command_words.specs.Words.{Asked, ServeAsked, serve}
+use Rattle.command_words.specs.declared.commands.Command.{Command}
+use Rattle.command_words.specs.declared.commands.Command.TheVariants.{Waiting}
+use Rattle.command_words.specs.declared.commands.ServeWords.{ServeWords}
+use Rattle.command_words.specs.declared.commands.WaitingCommand.TheVariants.{Serve}
+use Rattle.session_core.specs.declared.context.LinkPolicy.{LinkPolicy}
 use Rattle.route_lanes.specs.Serving.{ServesLanes}
 use Rattle.route_lanes.specs.declared.serve.Served.{Served}
 use Rattle.still_commands.specs.FilesRead.{FilesStop, ReadAs}
@@ -21,12 +25,16 @@ use Rattle.route_top.specs.Lanes.{graph_of, weights_of}
 abbrev pub max_taken : ℕ
 max_taken = 2 ^ 40
 
+-- how each link is served: a line of HTTP ends it, so that no web page can have a line obeyed
+abbrev pub serve_policy : LinkPolicy
+serve_policy = record { bytes = max_taken; guarded = true }
+
 -- `ready L`: links may come in, for L lanes of sessions
 abbrev pub ready_reply : ℕ → List ℕ
 ready_reply lanes = codes "ready" ++ and_number lanes ++ end_line
 
 -- what is sent: that links may come in, unless the town failed or memory ran out before
-abbrev pub ServeReplies : ServeAsked → Outcome → List ℕ → Type 0
+abbrev pub ServeReplies : ServeWords → Outcome → List ℕ → Type 0
 ServeReplies asked done text = text ≡ ready_reply asked.lanes
 ServeReplies asked town_failed text = (text ≡ []) ⊎ (text ≡ ready_reply asked.lanes)
 ServeReplies asked no_memory text = (text ≡ []) ⊎ (text ≡ ready_reply asked.lanes)
@@ -49,18 +57,18 @@ served_outcome (Ok served) = served_by (is_some served.want) (ltb 0 served.faile
 served_outcome (Err fault) = no_memory
 
 -- What became of the doors that a town handed out, and how that ends the run.
-pub data ServesDoors (asked : ServeAsked) (net : Network) (doors after : List DoorState) (out replied : SinkState)
+pub data ServesDoors (asked : ServeWords) (net : Network) (doors after : List DoorState) (out replied : SinkState)
     : Outcome → Type 0 where
   -- it couldn't be said that links may come in, and no door was asked for one
   unready : (fault : WriteFault) → Sends {T = Unit {0}} out replied (ready_reply asked.lanes) (Err fault) → after ≡ doors
       → ServesDoors asked net doors after out replied (cut_outcome fault)
   -- it was said, and all lanes served their doors
   served : (result : Result Served OutOfMemory) → Sends {T = Unit {0}} out replied (ready_reply asked.lanes) (Ok tt)
-      → ServesLanes (graph_of net) (weights_of net) asked.epoch asked.limits.budget max_taken doors after result
+      → ServesLanes (graph_of net) (weights_of net) asked.epoch asked.limits.budget serve_policy doors after result
       → ServesDoors asked net doors after out replied (served_outcome result)
 
 -- How a town stands after it was asked to listen, what was sent then, and how that ends the run.
-pub data ServesTown (asked : ServeAsked) (net : Network) (old new : TownState) (out replied : SinkState) : Outcome → Type 0
+pub data ServesTown (asked : ServeWords) (net : Network) (old new : TownState) (out replied : SinkState) : Outcome → Type 0
   where
     -- it wanted memory, and is as it was
     unheard : new ≡ old → replied ≡ out → ServesTown asked net old new out replied no_memory
@@ -73,34 +81,35 @@ pub data ServesTown (asked : ServeAsked) (net : Network) (old new : TownState) (
         → ServesTown asked net old new out replied outcome
 
 -- What a run of `serve` does to the town, and how that ends it.
-pub data AsksTown (files : Option FileMap) (asked : ServeAsked) (old new : TownState) (out replied : SinkState)
+pub data AsksTown (files : Option FileMap) (asked : ServeWords) (old new : TownState) (out replied : SinkState)
     : Outcome → Type 0 where
-  -- the weight files ended the run, and the town wasn't asked
-  unasked : {outcome : Outcome} → FilesStop files asked.files outcome → new ≡ old → AsksTown files asked old new out replied outcome
+  -- the weight files ended the run, the town wasn't asked, and nothing was said
+  unasked : {outcome : Outcome} → FilesStop files asked.files outcome → new ≡ old → replied ≡ out
+      → AsksTown files asked old new out replied outcome
   -- they say this network, and the town was asked
   asks : {outcome : Outcome} (net : Network) → ReadAs files asked.files net → ServesTown asked net old new out replied outcome
       → AsksTown files asked old new out replied outcome
 
 -- what a run does to the town by what its words ask for, and how it ends
-pub data TownByWords (IsAsked : Asked → Type 0) (files : Option FileMap) (old new : TownState) (out replied : SinkState)
+pub data TownByWords (IsAsked : Command → Type 0) (files : Option FileMap) (old new : TownState) (out replied : SinkState)
     : Outcome → Type 0 where
   -- the words don't ask for `serve`, and the town wasn't asked
-  left_alone : {outcome : Outcome} → ((asked : ServeAsked) → ¬ IsAsked (serve asked)) → status_of outcome ≢ 10 → new ≡ old
+  left_alone : {outcome : Outcome} → ((asked : ServeWords) → ¬ IsAsked (Waiting (Serve asked))) → status_of outcome ≢ 10 → new ≡ old
       → TownByWords IsAsked files old new out replied outcome
-  -- memory ran out while they were read
-  unread : new ≡ old → TownByWords IsAsked files old new out replied no_memory
+  -- memory ran out while they were read, and nothing was said
+  unread : new ≡ old → replied ≡ out → TownByWords IsAsked files old new out replied no_memory
   -- they ask for `serve`
-  serves : {outcome : Outcome} (asked : ServeAsked) → IsAsked (serve asked) → AsksTown files asked old new out replied outcome
+  serves : {outcome : Outcome} (asked : ServeWords) → IsAsked (Waiting (Serve asked)) → AsksTown files asked old new out replied outcome
       → TownByWords IsAsked files old new out replied outcome
 
 -- The town wasn't asked yet, and may be asked for what words of `serve` say.
-abbrev pub IsReadyTown : (Asked → Type 0) → (List ℕ → List ℕ → ℕ → ℕ → Type 0) → TownState → Type 0
+abbrev pub IsReadyTown : (Command → Type 0) → (List ℕ → List ℕ → ℕ → ℕ → Type 0) → TownState → Type 0
 IsReadyTown IsAsked Admits town = (town.asked ≡ false)
-    × ((asked : ServeAsked) → IsAsked (serve asked) → Admits asked.listen asked.operator asked.lanes asked.links)
+    × ((asked : ServeWords) → IsAsked (Waiting (Serve asked)) → Admits asked.listen asked.operator asked.lanes asked.links)
 
 -- What a run did to the town, and how that ended it, by the exit status. Status 10 comes of the town's failures alone, and they
 -- lead to no other, unless memory runs out.
-pub record EndsTown (IsAsked : Asked → Type 0) (files : Option FileMap) (old new : TownState) (out replied : SinkState)
+pub record EndsTown (IsAsked : Command → Type 0) (files : Option FileMap) (old new : TownState) (out replied : SinkState)
     (status : ℕ) : Type 0 where
   pub outcome : Outcome
   pub by_words : TownByWords IsAsked files old new out replied outcome

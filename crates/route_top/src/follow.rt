@@ -6,16 +6,15 @@ ghost use Rattle.route_io.specs.Sources.{ReadsFrom};
 ghost use Rattle.epoch_follow.specs.Takes.{feed_starved};
 ghost use Rattle.answer_writer.specs.Replies.{and_number, end_line};
 ghost use Rattle.command_words.specs.Ranges.{max_feeds};
-ghost use Rattle.command_words.specs.Words.{AreFeeds, AreSearchLimits, CountInRange, FollowLanesInRange, FollowLimitsInRange};
-ghost use Rattle.command_words.specs.Words.{feeds_of, files_of_follow, follow_asked, names_of_follow, sessions_of};
-ghost use Rattle.command_words.specs.Words.{take, take_asked, write, write_asked};
+ghost use Rattle.command_words.specs.Words.{feeds_of, names_of_follow, sessions_of};
+ghost use Rattle.command_words.specs.declared.commands.FollowWords.TheVariants.{Take, Write};
 ghost use Rattle.still_commands.specs.Outcome.{status_of};
 ghost use Rattle.still_commands.specs.Output.{RunsCommand};
 ghost use Rattle.still_commands.specs.Stops.{outcome_of, run_outcome};
 ghost use Rattle.route_top.specs.Follow.{FollowEnds, feed_line, feed_lines, numbered};
 ghost use Rattle.route_top.specs.Lanes.{SaysScript, ScriptsStop, lanes_reply};
 
-use crate::lanes::{MAX_TAKEN, link_of, memory_sufficed, put_lanes};
+use crate::lanes::{SCRIPT_POLICY, link_of, memory_sufficed, put_lanes};
 use crate::script::read_script;
 use answer_writer::{Piece, put_line};
 use command_words::{FollowWords, TakeWords, WriteWords};
@@ -41,11 +40,8 @@ pub(crate) fn run<'a, R: Threads + Wait + Clock + Sync, G: Gate, F: Folder, K: S
     out: &mut K,
     gate: &G,
 ) -> Result<(), Stop<'a>>
-    requires admitted { All F.admits (names_of_follow (follow_asked asked.now)) }
-    requires files { CountInRange (files_of_follow (follow_asked asked.now)) }
-    requires limits { FollowLimitsInRange (follow_asked asked.now) }
-    requires lanes { FollowLanesInRange (follow_asked asked.now) }
-    ensures { RunsCommand (FollowEnds (F.state folder.old).files (follow_asked asked.now))
+    requires { All F.admits (names_of_follow asked.now) }
+    ensures { RunsCommand (FollowEnds (F.state folder.old).files asked.now)
         (F.state folder.old) (F.state folder.new) (K.state out.old) (K.state out.new)
         (run_outcome result) }
 {
@@ -64,14 +60,13 @@ fn write_script<'a, R: Threads + Wait + Clock + Sync, G: Gate, F: Folder, K: Sin
     out: &mut K,
     gate: &G,
 ) -> Result<(), Stop<'a>>
-    requires admitted { All F.admits (names_of_follow (write (write_asked asked.now))) }
-    requires files { CountInRange (files_of_follow (write (write_asked asked.now))) }
-    ensures { RunsCommand (FollowEnds (F.state folder.old).files (write (write_asked asked.now)))
+    requires { All F.admits (names_of_follow (Write asked.now)) }
+    ensures { RunsCommand (FollowEnds (F.state folder.old).files (Write asked.now))
         (F.state folder.old) (F.state folder.new) (K.state out.old) (K.state out.new)
         (run_outcome result) }
 {
     let (graph, weights) = read_network(alloc, folder, &asked.files)?;
-    let name = asked.operator;
+    let name = asked.operator.text();
     let bytes = read_script(alloc, folder, Script::Operator { name })?;
     let mut link = link_of(alloc, bytes);
     let workers = Workers::new(rt, 1, gate);
@@ -80,7 +75,7 @@ fn write_script<'a, R: Threads + Wait + Clock + Sync, G: Gate, F: Folder, K: Sin
         alloc,
         graph: &graph,
         budget: 0,
-        bytes: MAX_TAKEN,
+        policy: SCRIPT_POLICY,
     };
     write_feed(&context, weights, asked.epoch, &mut link, out)?;
     Ok(())
@@ -95,25 +90,23 @@ fn take_feeds<'a, R: Threads + Wait + Clock + Sync, G: Gate, F: Folder, K: Sink>
     out: &mut K,
     gate: &G,
 ) -> Result<(), Stop<'a>>
-    requires admitted { All F.admits (names_of_follow (take (take_asked asked.now))) }
-    requires files { CountInRange (files_of_follow (take (take_asked asked.now))) }
-    requires limits { AreSearchLimits asked.now.limits }
-    requires lanes { AreFeeds (take_asked asked.now) }
-    ensures { RunsCommand (FollowEnds (F.state folder.old).files (take (take_asked asked.now)))
+    requires { All F.admits (names_of_follow (Take asked.now)) }
+    ensures { RunsCommand (FollowEnds (F.state folder.old).files (Take asked.now))
         (F.state folder.old) (F.state folder.new) (K.state out.old) (K.state out.new)
         (run_outcome result) }
 {
     let (graph, weights) = read_network(alloc, folder, &asked.files)?;
     let (mut feeds, mut links) = read_all(alloc, folder, asked)?;
     let helpers = Helpers::new();
-    let workers = Workers::new(rt, asked.limits.workers, gate).watched(&helpers);
+    let workers = Workers::new(rt, asked.limits.workers.get(), gate).watched(&helpers);
     let context = ServeContext {
         workers: &workers,
         alloc,
         graph: &graph,
-        budget: asked.limits.budget,
-        bytes: MAX_TAKEN,
+        budget: asked.limits.budget.get(),
+        policy: SCRIPT_POLICY,
     };
+    prove!(asked.count.get() >= 1);
     let report = run_follow(&context, weights, asked.epoch, &mut feeds, &mut links)?;
     feeds_sufficed(report.feeds())?;
     memory_sufficed(report.lanes())?;
@@ -127,22 +120,21 @@ fn read_all<'a, F: Folder>(
     folder: &mut F,
     asked: &TakeWords<'a>,
 ) -> Result<(Vec<SureSource>, Vec<SureLink>), Stop<'a>>
-    requires feeds { All F.admits (feeds_of (take_asked asked.now)) }
-    requires sessions { All F.admits (sessions_of (take_asked asked.now)) }
-    requires lanes { AreFeeds (take_asked asked.now) }
+    requires feeds { All F.admits (feeds_of asked.now) }
+    requires sessions { All F.admits (sessions_of asked.now) }
     ensures feeds { IfOk result (λ r. AllZip (SaysScript (F.state folder.old).files)
-        (feeds_of (take_asked asked.now)) r.0.items) }
+        (feeds_of asked.now) r.0.items) }
     ensures sessions { IfOk result (λ r. AllZip (SaysScript (F.state folder.old).files)
-        (sessions_of (take_asked asked.now)) (map (λ l. l.from) r.1.items)) }
+        (sessions_of asked.now) (map (λ l. l.from) r.1.items)) }
     ensures unsent { IfOk result (λ r.
         All (λ l. l.to ≡ record { sent = []; wants = 0 }) r.1.items) }
     ensures stopped { IfErr result (λ stop. ScriptsStop (F.state folder.old).files
-        (feeds_of (take_asked asked.now) ++ sessions_of (take_asked asked.now)) (outcome_of stop)) }
+        (feeds_of asked.now ++ sessions_of asked.now) (outcome_of stop)) }
     ensures folder { ReadsFrom (F.state folder.old) (F.state folder.new)
         (status_of (run_outcome result) == 3) }
 {
-    let feeds = read_numbered(alloc, folder, asked.feeds, asked.links)?;
-    let scripts = read_numbered(alloc, folder, asked.sessions, asked.lanes)?;
+    let feeds = read_numbered(alloc, folder, asked.feeds.text(), asked.links.get())?;
+    let scripts = read_numbered(alloc, folder, asked.stem.text(), asked.count.get())?;
     let links = links_of(alloc, scripts)?;
     Ok((feeds, links))
 }

@@ -4,8 +4,9 @@ ghost use Rattle.std.specs.List.{AllZip};
 ghost use Rattle.route_io.specs.Sinks.{Sends};
 ghost use Rattle.route_io.specs.Sources.{ReadsFrom};
 ghost use Rattle.session_core.specs.Links.{is_starved};
-ghost use Rattle.command_words.specs.Words.{FilesInRange, AreLanes, AreSearchLimits, lanes};
-ghost use Rattle.command_words.specs.Words.{lanes_asked, names_of, scripts_of};
+ghost use Rattle.command_words.specs.Words.{names_of, scripts_of};
+ghost use Rattle.command_words.specs.declared.commands.Command.TheVariants.{Waiting};
+ghost use Rattle.command_words.specs.declared.commands.WaitingCommand.TheVariants.{Lanes};
 ghost use Rattle.still_commands.specs.Outcome.{status_of};
 ghost use Rattle.still_commands.specs.Output.{RunsCommand};
 ghost use Rattle.still_commands.specs.Stops.{outcome_of, run_outcome, script_name};
@@ -19,7 +20,7 @@ use out_of_memory::OutOfMemory;
 use route_io::sure::{SureSink, SureSource};
 use route_io::{Folder, Gate, Link, Sink, SureLink, WriteFault, put_all};
 use route_lanes::{LaneReport, run_lanes};
-use session_core::{ServeContext, SessionEnd};
+use session_core::{LinkPolicy, ServeContext, SessionEnd};
 use std::alloc::Global;
 use std::sync::Wait;
 use std::thread::Threads;
@@ -30,6 +31,12 @@ use work_claim::{Helpers, Workers};
 /// The most bytes that are taken from a link. No script has as many.
 pub(crate) const MAX_TAKEN: u64 = 1 << 40;
 
+/// How a script is served: a line of HTTP is one like any other.
+pub(crate) const SCRIPT_POLICY: LinkPolicy = LinkPolicy {
+    bytes: MAX_TAKEN,
+    guarded: false,
+};
+
 /// Serves the lanes of an operator and of sessions over the named files, and sends their replies lane by lane.
 pub(crate) fn run<'a, R: Threads + Wait + Clock + Sync, G: Gate, F: Folder, K: Sink>(
     rt: &R,
@@ -39,25 +46,23 @@ pub(crate) fn run<'a, R: Threads + Wait + Clock + Sync, G: Gate, F: Folder, K: S
     out: &mut K,
     gate: &G,
 ) -> Result<(), Stop<'a>>
-    requires admitted { All F.admits (names_of (lanes (lanes_asked asked.now))) }
-    requires files { FilesInRange (lanes (lanes_asked asked.now)) }
-    requires limits { AreSearchLimits asked.now.limits }
-    requires sessions { AreLanes asked.now.lanes }
-    ensures { RunsCommand (Ends (F.state folder.old).files (lanes (lanes_asked asked.now)))
+    requires { All F.admits (names_of (Waiting (Lanes asked.now))) }
+    ensures { RunsCommand (Ends (F.state folder.old).files (Waiting (Lanes asked.now)))
         (F.state folder.old) (F.state folder.new) (K.state out.old) (K.state out.new)
         (run_outcome result) }
 {
     let (graph, weights) = read_network(alloc, folder, &asked.files)?;
     let mut links = read_scripts(alloc, folder, asked)?;
     let helpers = Helpers::new();
-    let workers = Workers::new(rt, asked.limits.workers, gate).watched(&helpers);
+    let workers = Workers::new(rt, asked.limits.workers.get(), gate).watched(&helpers);
     let context = ServeContext {
         workers: &workers,
         alloc,
         graph: &graph,
-        budget: asked.limits.budget,
-        bytes: MAX_TAKEN,
+        budget: asked.limits.budget.get(),
+        policy: SCRIPT_POLICY,
     };
+    prove!(asked.count.get() >= 1);
     let reports = run_lanes(&context, weights, asked.epoch, &mut links)?;
     memory_sufficed(&reports)?;
     put_lanes(out, 0, &links)?;
@@ -70,19 +75,18 @@ fn read_scripts<'a, F: Folder>(
     folder: &mut F,
     asked: &LanesWords<'a>,
 ) -> Result<Vec<SureLink>, Stop<'a>>
-    requires admitted { All F.admits (scripts_of (lanes_asked asked.now)) }
-    requires sessions { AreLanes asked.now.lanes }
+    requires { All F.admits (scripts_of asked.now) }
     ensures read { IfOk result (λ links. AllZip (SaysScript (F.state folder.old).files)
-        (scripts_of (lanes_asked asked.now)) (map (λ l. l.from) links.items)) }
+        (scripts_of asked.now) (map (λ l. l.from) links.items)) }
     ensures unsent { IfOk result (λ links.
         All (λ l. l.to ≡ record { sent = []; wants = 0 }) links.items) }
     ensures stopped { IfErr result (λ stop. ScriptsStop (F.state folder.old).files
-        (scripts_of (lanes_asked asked.now)) (outcome_of stop)) }
+        (scripts_of asked.now) (outcome_of stop)) }
     ensures folder { ReadsFrom (F.state folder.old) (F.state folder.new)
         (status_of (run_outcome result) == 3) }
 {
     let mut links = Vec::new(alloc);
-    for number in 0..asked.lanes + 1 {
+    for number in 0..asked.count.get() + 1 {
         let bytes = read_script(alloc, folder, script_at(asked, number))?;
         if let Err(want) = links.push(link_of(alloc, bytes)) {
             return Err(Stop::OutOfMemory(want.into()));
@@ -93,15 +97,15 @@ fn read_scripts<'a, F: Folder>(
 
 /// The operator's script for 0, and then those of the sessions.
 fn script_at<'a>(asked: &LanesWords<'a>, number: u32) -> Script<'a>
-    requires { number ≤ asked.now.lanes }
-    ensures { script_name result ≡ get_or (scripts_of (lanes_asked asked.now)) number [] }
+    requires { number ≤ asked.now.count }
+    ensures { script_name result ≡ get_or (scripts_of asked.now) number [] }
 {
     if number == 0 {
         return Script::Operator {
-            name: asked.operator,
+            name: asked.operator.text(),
         };
     }
-    let stem = asked.sessions;
+    let stem = asked.stem.text();
     Script::Session { stem, number }
 }
 

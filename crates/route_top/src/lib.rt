@@ -1,10 +1,11 @@
 //! The top call: it does all that the program does, from the words of the command line to the exit status.
 #![tactic(auto)]
 
-ghost use Rattle.std.specs.Prelude.{◌≡◌, ◌==◌, ◌⊎◌, ◌↔◌, ℕ, List, IsTrue};
+ghost use Rattle.std.specs.Prelude.{◌≡◌, ◌==◌, ◌⊎◌, ℕ, List, All};
 ghost use Rattle.route_io.specs.Causes.{IsCounted};
 ghost use Rattle.route_io.specs.Sources.{ReadsFrom};
-ghost use Rattle.command_words.specs.Words.{AreWords, Asks, NamesWaiting, texts_of};
+ghost use Rattle.command_words.specs.Words.{AreWords, Asks, names_of, texts_of};
+ghost use Rattle.command_words.specs.declared.commands.Command.TheVariants.{Waiting};
 ghost use Rattle.still_commands.specs.Output.{EndsByWords, IsAskedName, Output, RunsCommand};
 ghost use Rattle.still_commands.specs.Stops.{run_outcome};
 ghost use Rattle.route_top.specs.Ends.{Ends};
@@ -16,7 +17,7 @@ mod laws;
 mod script;
 mod serve;
 
-use command_words::{Command, WordsFault, read_words};
+use command_words::{Command, WaitingCommand, read_words};
 pub use laws::{follow_keeps_to_its_leader, written_feeds_come_from_their_script};
 use link_doors::Town;
 use route_io::{Folder, Gate, Sink};
@@ -25,7 +26,7 @@ use std::sync::Wait;
 use std::thread::Threads;
 use std::time::Clock;
 pub use still_commands::{WANT_OF_MEMORY, run_still};
-use still_commands::{Stop, end};
+use still_commands::{Stop, carry_out, end};
 
 /// Runs the command that the words ask for over the folder's files, and answers the exit status. Replies go to `out`.
 /// On each status but 0 and 8 one line goes to `err`, whose faults only cut that line. `serve` asks the town for doors, and
@@ -55,7 +56,7 @@ pub fn route<R: Threads + Wait + Clock + Sync, G: Gate, F: Folder, K: Sink, E: S
     town: &mut T,
     gate: &G,
 ) -> u8
-    requires admitted { (name : List ℕ) → IsAskedName (Asks (texts_of words.now)) name → F.admits name }
+    requires admitted { (name : List ℕ) → IsAskedName names_of (Asks (texts_of words.now)) name → F.admits name }
     requires town { IsReadyTown (Asks (texts_of words.now)) T.admits (T.state town.old) }
 
     // One outcome says all: what was read and sent, what the folder and the sinks counted, the note and the status.
@@ -75,31 +76,11 @@ pub fn route<R: Threads + Wait + Clock + Sync, G: Gate, F: Folder, K: Sink, E: S
     ensures town { EndsTown (Asks (texts_of words.now)) (F.state folder.old).files
         (T.state town.old) (T.state town.new) (K.state out.old) (K.state out.new) result }
 {
-    if !names_waiting(words) {
-        return run_still(rt, alloc, words, folder, out, err, gate);
-    }
-    end(
-        alloc,
-        run_waiting(rt, alloc, words, folder, out, town, gate),
-        err,
-    )
+    end(alloc, run(rt, alloc, words, folder, out, town, gate), err)
 }
 
-/// Whether the words name a command that waits.
-fn names_waiting(words: &[String]) -> bool
-    ensures { IsTrue result ↔ NamesWaiting (texts_of words.now) }
-{
-    let Some(name) = words.first() else {
-        return false;
-    };
-    match name.as_str() {
-        "lanes" | "serve" | "follow" => true,
-        _ => false,
-    }
-}
-
-/// Runs a command that waits, which the words name, and says why where it isn't done.
-fn run_waiting<'a, R: Threads + Wait + Clock + Sync, G: Gate, F: Folder, K: Sink, T: Town>(
+/// Runs the command that the words ask for, and says why where it isn't done.
+fn run<'a, R: Threads + Wait + Clock + Sync, G: Gate, F: Folder, K: Sink, T: Town>(
     rt: &R,
     alloc: Global,
     words: &'a [String],
@@ -108,8 +89,7 @@ fn run_waiting<'a, R: Threads + Wait + Clock + Sync, G: Gate, F: Folder, K: Sink
     town: &mut T,
     gate: &G,
 ) -> Result<(), Stop<'a>>
-    requires named { NamesWaiting (texts_of words.now) }
-    requires admitted { (name : List ℕ) → IsAskedName (Asks (texts_of words.now)) name → F.admits name }
+    requires admitted { (name : List ℕ) → IsAskedName names_of (Asks (texts_of words.now)) name → F.admits name }
     requires town { IsReadyTown (Asks (texts_of words.now)) T.admits (T.state town.old) }
     ensures town { TownByWords (Asks (texts_of words.entry.now)) (F.state folder.old).files
         (T.state town.old) (T.state town.new) (K.state out.old) (K.state out.new)
@@ -120,11 +100,36 @@ fn run_waiting<'a, R: Threads + Wait + Clock + Sync, G: Gate, F: Folder, K: Sink
         (run_outcome result) }
 {
     match read_words(alloc, words) {
-        Ok(Command::Lanes(asked)) => lanes::run(rt, alloc, &asked, folder, out, gate),
-        Ok(Command::Serve(asked)) => serve::run(rt, alloc, &asked, folder, out, town, gate),
-        Ok(Command::Follow(asked)) => follow::run(rt, alloc, &asked, folder, out, gate),
-        Ok(_) => unreachable!(),
-        Err(WordsFault::Refused) => Err(Stop::Words),
-        Err(WordsFault::OutOfMemory) => Err(Stop::OutOfMemory),
+        Ok(Command::Still(command)) => carry_out(rt, alloc, &command, folder, out, gate),
+        Ok(Command::Waiting(command)) => {
+            run_waiting(rt, alloc, &command, folder, out, town, gate)
+        }
+        Err(fault) => Err(Stop::Words(fault)),
+    }
+}
+
+/// Carries out a command that may wait for others.
+fn run_waiting<'a, R: Threads + Wait + Clock + Sync, G: Gate, F: Folder, K: Sink, T: Town>(
+    rt: &R,
+    alloc: Global,
+    command: &WaitingCommand<'a>,
+    folder: &mut F,
+    out: &mut K,
+    town: &mut T,
+    gate: &G,
+) -> Result<(), Stop<'a>>
+    requires admitted { All F.admits (names_of (Waiting command.now)) }
+    requires town { IsReadyTown (λ c. c ≡ Waiting command.now) T.admits (T.state town.old) }
+    ensures town { TownByWords (λ c. c ≡ Waiting command.now) (F.state folder.old).files
+        (T.state town.old) (T.state town.new) (K.state out.old) (K.state out.new)
+        (run_outcome result) }
+    ensures runs { RunsCommand (Ends (F.state folder.old).files (Waiting command.now))
+        (F.state folder.old) (F.state folder.new) (K.state out.old) (K.state out.new)
+        (run_outcome result) }
+{
+    match command {
+        WaitingCommand::Lanes(asked) => lanes::run(rt, alloc, asked, folder, out, gate),
+        WaitingCommand::Serve(asked) => serve::run(rt, alloc, asked, folder, out, town, gate),
+        WaitingCommand::Follow(asked) => follow::run(rt, alloc, asked, folder, out, gate),
     }
 }

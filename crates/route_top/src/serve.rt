@@ -2,11 +2,13 @@
 ghost use Rattle.std.specs.Prelude.{◌≡◌, ◌≤◌, All, false, length, map};
 ghost use Rattle.arc_graph.specs.Graph.{Match, network};
 ghost use Rattle.route_io.specs.Sinks.{Sends};
-ghost use Rattle.command_words.specs.Words.{AreLanes, AreSearchLimits, FilesInRange, names_of, serve, serve_asked};
+ghost use Rattle.command_words.specs.Words.{names_of};
+ghost use Rattle.command_words.specs.declared.commands.Command.TheVariants.{Waiting};
+ghost use Rattle.command_words.specs.declared.commands.WaitingCommand.TheVariants.{Serve};
 ghost use Rattle.still_commands.specs.Output.{RunsCommand};
 ghost use Rattle.still_commands.specs.Stops.{run_outcome};
 ghost use Rattle.route_top.specs.Ends.{Ends};
-ghost use Rattle.route_top.specs.Serve.{AsksTown, ServesDoors, ServesTown, max_taken, ready_reply, served_outcome};
+ghost use Rattle.route_top.specs.Serve.{AsksTown, ServesDoors, ServesTown, ready_reply, serve_policy, served_outcome};
 
 use crate::lanes::MAX_TAKEN;
 use answer_writer::{Piece, put_line};
@@ -16,13 +18,19 @@ use link_doors::{Door, Town};
 use out_of_memory::OutOfMemory;
 use route_io::{Folder, Gate, Sink, WriteFault};
 use route_lanes::{Served, serve_lanes};
-use session_core::ServeContext;
+use session_core::{LinkPolicy, ServeContext};
 use std::alloc::Global;
 use std::sync::Wait;
 use std::thread::Threads;
 use std::time::Clock;
 use still_commands::{Stop, read_network};
 use work_claim::{Helpers, Workers};
+
+/// How each link is served: a line of HTTP ends it, so that no web page can have a line obeyed.
+const SERVE_POLICY: LinkPolicy = LinkPolicy {
+    bytes: MAX_TAKEN,
+    guarded: true,
+};
 
 /// Has the town listen over the network of the named files, and serves what its doors give until they give no more.
 pub(crate) fn run<'a, R: Threads + Wait + Clock + Sync, G: Gate, F: Folder, K: Sink, T: Town>(
@@ -34,29 +42,26 @@ pub(crate) fn run<'a, R: Threads + Wait + Clock + Sync, G: Gate, F: Folder, K: S
     town: &mut T,
     gate: &G,
 ) -> Result<(), Stop<'a>>
-    requires admitted { All F.admits (names_of (serve (serve_asked asked.now))) }
-    requires addresses { T.admits asked.now.listen.now asked.now.operator.now
+    requires admitted { All F.admits (names_of (Waiting (Serve asked.now))) }
+    requires addresses { T.admits asked.now.listen asked.now.operator
         asked.now.lanes asked.now.links }
     requires unasked { (T.state town.old).asked ≡ false }
-    requires files { FilesInRange (serve (serve_asked asked.now)) }
-    requires limits { AreSearchLimits asked.now.limits }
-    requires lanes { AreLanes asked.now.lanes }
-    ensures runs { RunsCommand (Ends (F.state folder.old).files (serve (serve_asked asked.now)))
+    ensures runs { RunsCommand (Ends (F.state folder.old).files (Waiting (Serve asked.now)))
         (F.state folder.old) (F.state folder.new) (K.state out.old) (K.state out.new)
         (run_outcome result) }
-    ensures town { AsksTown (F.state folder.old).files (serve_asked asked.now)
+    ensures town { AsksTown (F.state folder.old).files asked.now
         (T.state town.old) (T.state town.new) (K.state out.old) (K.state out.new)
         (run_outcome result) }
 {
     let (graph, weights) = read_network(alloc, folder, &asked.files)?;
     let helpers = Helpers::new();
-    let workers = Workers::new(rt, asked.limits.workers, gate).watched(&helpers);
+    let workers = Workers::new(rt, asked.limits.workers.get(), gate).watched(&helpers);
     let context = ServeContext {
         workers: &workers,
         alloc,
         graph: &graph,
-        budget: asked.limits.budget,
-        bytes: MAX_TAKEN,
+        budget: asked.limits.budget.get(),
+        policy: SERVE_POLICY,
     };
     serve_town(&context, weights, asked, out, town)
 }
@@ -69,19 +74,18 @@ fn serve_town<'a, R: Threads + Wait + Clock + Sync, G: Gate, K: Sink, T: Town>(
     out: &mut K,
     town: &mut T,
 ) -> Result<(), Stop<'a>>
-    requires addresses { T.admits asked.now.listen.now asked.now.operator.now
+    requires addresses { T.admits asked.now.listen asked.now.operator
         asked.now.lanes asked.now.links }
     requires unasked { (T.state town.old).asked ≡ false }
     requires weights { Match context.now.graph.now weights }
-    requires limits { AreSearchLimits asked.now.limits }
     requires budget { context.now.budget ≡ asked.now.limits.budget }
-    requires bytes { context.now.bytes ≡ max_taken }
-    requires lanes { AreLanes asked.now.lanes }
-    ensures { ServesTown (serve_asked asked.now) (network context.now.graph.now weights)
+    requires policy { context.now.policy ≡ serve_policy }
+    ensures { ServesTown asked.now (network context.now.graph.now weights)
         (T.state town.old) (T.state town.new) (K.state out.old) (K.state out.new)
         (run_outcome result) }
 {
-    let mut doors = town.listen(asked.listen, asked.operator, asked.lanes, asked.links)?;
+    let (lanes, links) = (asked.lanes.get(), asked.links.get());
+    let mut doors = town.listen(asked.listen.text(), asked.operator.text(), lanes, links)?;
     let served = serve_doors(context, weights, asked, out, &mut doors);
     town.take_back(doors);
     served
@@ -96,16 +100,16 @@ fn serve_doors<'a, R: Threads + Wait + Clock + Sync, G: Gate, K: Sink, D: Door +
     doors: &mut [D],
 ) -> Result<(), Stop<'a>>
     requires weights { Match context.now.graph.now weights }
-    requires limits { AreSearchLimits asked.now.limits }
     requires budget { context.now.budget ≡ asked.now.limits.budget }
-    requires bytes { context.now.bytes ≡ max_taken }
+    requires policy { context.now.policy ≡ serve_policy }
     requires some_session { 2 ≤ length doors.old }
     requires at_most_16_sessions { length doors.old ≤ 17 }
-    ensures { ServesDoors (serve_asked asked.now) (network context.now.graph.now weights)
+    ensures { ServesDoors asked.now (network context.now.graph.now weights)
         (map D.state doors.old) (map D.state doors.new)
         (K.state out.old) (K.state out.new) (run_outcome result) }
 {
-    put_ready(out, asked.lanes)?;
+    prove!(asked.limits.budget.get() >= 1);
+    put_ready(out, asked.lanes.get())?;
     end_of(serve_lanes(context, weights, asked.epoch, doors))
 }
 

@@ -1,5 +1,5 @@
 -- The lines of an answer's routes, sent part after part.
-use Rattle.std.proofs.Common.{◌≡◌, ℕ, ◌+◌, ◌-◌, ◌*◌, ◌<◌, ◌≤◌, List, ◌++◌, Result, Ok, Err, length, get_or, min, take, drop, refl, sym, ap, subst, arith, ◌∙◌}
+use Rattle.std.proofs.Common.{◌≡◌, ℕ, ◌+◌, ◌-◌, ◌*◌, ◌<◌, ◌≤◌, List, ◌++◌, Option, Some, Result, Ok, Err, length, get_or, min, take, drop, refl, sym, ap, subst, arith, ◌∙◌}
 use Rattle.std.specs.List.{between, flat_map}
 use Rattle.std.proofs.Math.Seq.{take-add}
 use Rattle.std.proofs.lemmas.List.{drop-drop}
@@ -56,16 +56,16 @@ module _ (kind : AnswerKind) (routes : List Route) where
         (Sends-cut old new _ _ fault (more_lines (Err fault) second))
 
 -- the texts of a window's pieces are sent one by one
-module _ (net : Network) (f : FoundCosts) (kind : AnswerKind) (from to : ℕ) (texts : List SureSink) (are : AreTexts net f kind from to texts)
+module _ (net : Network) (f : FoundCosts) (kind : AnswerKind) (from to : ℕ) (texts : List (Option SureSink)) (are : AreTexts net f kind from to texts)
     (routes : List Route) (its : AreRoutes net f routes) (old mid new : SinkState) (i : ℕ) (text : SureSink) (within : i < length texts)
-    (at : text ≡ get_or texts i text) (first : SentLines kind routes old mid from (min to (from + i * piece_size))) where
+    (at : Some text ≡ get_or texts i (Some text)) (first : SentLines kind routes old mid from (min to (from + i * piece_size))) where
   begins : from + i * piece_size < to
   begins = are.begin i within
 
   lines : text.sent ≡ lines_between kind routes (min to (from + i * piece_size)) (min to (from + (i + 1) * piece_size))
   lines =
       let start : from + i * piece_size ≡ min to (from + i * piece_size) = omega (arith, begins) in
-      are.each i text (slice_get_read texts (length texts) i text refl within at) routes its
+      are.each i text (slice_get_read texts (length texts) i (Some text) refl within at) routes its
       ∙ ap (λ n. lines_between kind routes n (min to (from + (i + 1) * piece_size))) start
 
   pub piece_sent : Sent mid new text.sent → SentLines kind routes old new from (min to (from + (i + 1) * piece_size))

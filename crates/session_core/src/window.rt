@@ -1,5 +1,5 @@
 //! The lines of an answer's routes, which workers make side by side.
-ghost use Rattle.std.specs.Prelude.{◌≡◌, ℕ, ◌+◌, ◌*◌, ◌<◌, ◌≤◌, List, length, IfOk};
+ghost use Rattle.std.specs.Prelude.{◌≡◌, ℕ, ◌+◌, ◌*◌, ◌<◌, ◌≤◌, List, length, All, IfOk, IsTrue, is_some};
 ghost use Rattle.road_network.specs.Answers.{Route};
 ghost use Rattle.route_io.specs.Sinks.{Sends};
 ghost use Rattle.walk_readback.specs.Found.{longest_in};
@@ -38,6 +38,7 @@ struct Window<'w, F> {
 }
 
 impl<F: FoundCosts + Sync> Job for Window<'_, F> {
+    ghost use Rattle.std.specs.Prelude.{IfSome};
     ghost use Rattle.session_core.specs.Windows.{CanMake, IsPiece};
 
     /// The text, where there was memory for it.
@@ -124,7 +125,7 @@ impl<F: FoundCosts + Sync> Window<'_, F> {
         ensures room { room.old.holds ≤ room.new.holds }
     {
         match self.make_texts(workers) {
-            Ok(texts) if texts.iter().all(Option::is_some) => self.send_texts(&texts, out),
+            Ok(texts) if texts.iter().all(|made| made.is_some()) => self.send_texts(&texts, out),
             _ => {
                 let places = self.from..self.to;
                 put_routes(out, self.kind, self.network, self.found, places, room)

@@ -12,7 +12,7 @@ use Rattle.query_reader.specs.declared.pairs.Pair.{Pair}
 use Rattle.session_core.specs.declared.made.MadeReply.{MadeReply}
 use Rattle.session_core.specs.Making.{AreMade}
 use Rattle.session_core.specs.declared.mode.SearchMode.{SearchMode}
-use Rattle.command_words.specs.declared.SearchLimits.{SearchLimits}
+use Rattle.command_words.specs.declared.limits.SearchLimits.{SearchLimits}
 use Rattle.still_commands.specs.Ahead.{AreAhead, IsAhead}
 use Rattle.still_commands.specs.Batch.{query_between}
 

@@ -14,8 +14,9 @@ use Rattle.route_io.specs.Sinks.{SinkState}
 use Rattle.route_io.specs.Sources.{SourceState, ReadsFrom}
 use Rattle.route_io.proofs.SendsLemmas.{Sent, Sends-then}
 use Rattle.road_network.specs.declared.query.AnswerKind.TheVariants.{Walks}
-use Rattle.command_words.specs.declared.SearchLimits.{SearchLimits}
-use Rattle.command_words.specs.Words.{BatchAsked, batch}
+use Rattle.command_words.specs.declared.limits.SearchLimits.{SearchLimits}
+use Rattle.command_words.specs.declared.commands.BatchWords.{BatchWords}
+use Rattle.command_words.specs.declared.commands.StillCommand.TheVariants.{Batch}
 use Rattle.session_core.specs.declared.reply.Reply.{Reply}
 use Rattle.session_core.specs.declared.fault.ReplyFault.{ReplyFault}
 use Rattle.session_core.specs.declared.fault.ReplyFault.TheVariants as fault
@@ -109,18 +110,18 @@ module _ (mode : SearchMode) (limits : SearchLimits) (net : Network) (pairs : Li
       replies_so (PairsReplies mode limits net pairs) done has.text out replied done all (sent_done has.text out replied has.sent)
 
 -- the network was read, and the run goes on to the file of pairs
-module _ (asked : BatchAsked) (folder mid after : SourceState) (net : Network) (read : ReadAs folder.files asked.files net)
+module _ (asked : BatchWords) (folder mid after : SourceState) (net : Network) (read : ReadAs folder.files asked.files net)
     (reads : ReadsFrom folder mid false) where
   goes_on_to_pairs : (out replied : SinkState) (outcome : Outcome)
       → RunsCommand (PairsEnd (PairsReplies (mode_of asked.goal) asked.limits net) mid.files asked.pairs) mid after out replied outcome
-      → RunsCommand (StillEnds folder.files (batch asked)) folder after out replied outcome
+      → RunsCommand (StillEnds folder.files (Batch asked)) folder after out replied outcome
   goes_on_to_pairs out replied outcome runs =
       ends_over (BatchReplies folder.files asked) asked.files folder after net mid out replied outcome read reads
       (subst (λ files. RunsCommand (PairsEnd (PairsReplies (mode_of asked.goal) asked.limits net) files asked.pairs) mid after out replied outcome) reads.files runs)
 
   -- that file ends the run
   pub ends_at_pairs : {outcome : Outcome} (out : SinkState) → PairsStop mid.files asked.pairs outcome → ReadsFrom mid after (status_of outcome == 3)
-      → RunsCommand (StillEnds folder.files (batch asked)) folder after out out outcome
+      → RunsCommand (StillEnds folder.files (Batch asked)) folder after out out outcome
   ends_at_pairs {outcome} out why more = goes_on_to_pairs out out outcome
       (nothing_sent (PairsEnd (PairsReplies (mode_of asked.goal) asked.limits net) mid.files asked.pairs) outcome mid after out
       (reading_leaves_out (λ line kind. record { no_fault = refl; no_want = refl }) why) (pairs_stop why) more)
@@ -128,7 +129,7 @@ module _ (asked : BatchAsked) (folder mid after : SourceState) (net : Network) (
   -- it says pairs, and the run only replies
   pub ends_over_pairs : (pairs : List Pair) (out replied : SinkState) (outcome : Outcome) → SaysPairs mid.files asked.pairs pairs
       → ReadsFrom mid after false → Replies (PairsReplies (mode_of asked.goal) asked.limits net pairs) out replied outcome
-      → RunsCommand (StillEnds folder.files (batch asked)) folder after out replied outcome
+      → RunsCommand (StillEnds folder.files (Batch asked)) folder after out replied outcome
   ends_over_pairs pairs out replied outcome says more replies = goes_on_to_pairs out replied outcome
       (runs_then (PairsReplies (mode_of asked.goal) asked.limits net pairs) (PairsEnd (PairsReplies (mode_of asked.goal) asked.limits net) mid.files asked.pairs)
       (λ o text then. pairs_read pairs says then) mid after after out replied outcome more (replies after))

@@ -33,7 +33,7 @@ use Rattle.graph_gen.specs.Plans.{IsPlan}
 use Rattle.graph_gen.specs.Grids.{node_count}
 use Rattle.graph_gen.specs.Texts.{file_text, pairs_text, weight_text}
 use Rattle.gen_laws.specs.Laws.{LeaveRoom, PairFilesAreRead, WeightFilesAgree, WeightFilesAreRead, file_of, files_of, pairs_of}
-use Rattle.command_words.specs.Words.{GenAsked}
+use Rattle.command_words.specs.declared.commands.GenWords.{GenWords}
 use Rattle.still_commands.specs.declared.summary.Summary.{Summary}
 use Rattle.still_commands.specs.FilesRead.{reading_limits}
 use Rattle.still_commands.specs.Summary.{ComesTo, IsFileWant, IsJoinWant, SumsUp, TakesWhole}
@@ -105,7 +105,7 @@ pub nodes_of_plan : (plan : GenPlan) (net : Network) → IsPlan plan → net ≡
 nodes_of_plan plan net is same = ap (λ (n : Network). n.nodes) same ∙ joined_nodes plan plan.criteria (omega (arith, is.some_criteria))
 
 -- the counts are those of a plan
-pub comes_to : (asked : GenAsked) (net : Network) (all : List Pair) (result : Result Summary OutOfMemory) → IsPlan asked.plan → WeightFilesAreRead
+pub comes_to : (asked : GenWords) (net : Network) (all : List Pair) (result : Result Summary OutOfMemory) → IsPlan asked.plan → WeightFilesAreRead
     → WeightFilesAgree → PairFilesAreRead → net ≡ joined (files_of asked.plan) → all ≡ pairs_of asked.plan
     → IfOk result (λ counts. SumsUp net asked.limits.budget all counts) → IfOk result (ComesTo asked)
 comes_to asked net all result is read agree pairs_read same same_pairs sums =

@@ -14,7 +14,8 @@ use Rattle.cert_rules.specs.Rules.{IsFirstFailure}
 use Rattle.cert_rules.specs.declared.rule.Rule.{Rule}
 use Rattle.front_cert.specs.Text.{read_text}
 use Rattle.answer_writer.specs.Replies.{reply_of}
-use Rattle.command_words.specs.Words.{VerifyAsked, verify}
+use Rattle.command_words.specs.declared.commands.StillCommand.TheVariants.{Verify}
+use Rattle.command_words.specs.declared.commands.VerifyWords.{VerifyWords}
 use Rattle.still_commands.specs.FilesRead.{ReadAs, Tells}
 use Rattle.still_commands.specs.Outcome.{Outcome, status_of}
 use Rattle.still_commands.specs.Output.{RunsCommand, StillEnds}
@@ -53,24 +54,24 @@ cert_leaves_out (refuted tells) = record { no_fault = refl; no_want = refl }
 cert_leaves_out starved = record { no_fault = refl; no_want = refl }
 
 -- the network was read, and the run goes on to the certificate
-module _ (asked : VerifyAsked) (folder mid after : SourceState) (net : Network) (read : ReadAs folder.files asked.files net)
+module _ (asked : VerifyWords) (folder mid after : SourceState) (net : Network) (read : ReadAs folder.files asked.files net)
     (reads : ReadsFrom folder mid false) where
   goes_on_to_cert : (out replied : SinkState) (outcome : Outcome) → RunsCommand (VerifyEnds mid.files asked.cert net) mid after out replied outcome
-      → RunsCommand (StillEnds folder.files (verify asked)) folder after out replied outcome
+      → RunsCommand (StillEnds folder.files (Verify asked)) folder after out replied outcome
   goes_on_to_cert out replied outcome runs =
       ends_over (VerifyEnds folder.files asked.cert) asked.files folder after net mid out replied outcome read reads
       (subst (λ files. RunsCommand (VerifyEnds files asked.cert net) mid after out replied outcome) reads.files runs)
 
   -- the certificate ends it
   pub ends_at_cert : {outcome : Outcome} (out : SinkState) → CertStop mid.files net asked.cert outcome → ReadsFrom mid after (status_of outcome == 3)
-      → RunsCommand (StillEnds folder.files (verify asked)) folder after out out outcome
+      → RunsCommand (StillEnds folder.files (Verify asked)) folder after out out outcome
   ends_at_cert {outcome} out stop more = goes_on_to_cert out out outcome
       (nothing_sent (VerifyEnds mid.files asked.cert net) outcome mid after out (cert_leaves_out stop) (cert_stops stop) more)
 
   -- no rule fails at it, and the run only replies
   pub ends_over_cert : (cert : Certificate) (out replied : SinkState) (outcome : Outcome) → IsCertificate net cert
       → Tells mid.files asked.cert (HoldsAt net cert) → ReadsFrom mid after false → Replies (CertReplies net cert) out replied outcome
-      → RunsCommand (StillEnds folder.files (verify asked)) folder after out replied outcome
+      → RunsCommand (StillEnds folder.files (Verify asked)) folder after out replied outcome
   ends_over_cert cert out replied outcome is says more replies = goes_on_to_cert out replied outcome
       (runs_then (CertReplies net cert) (VerifyEnds mid.files asked.cert net) (λ o text then. cert_holds cert is says then) mid after after
       out replied outcome more (replies after))

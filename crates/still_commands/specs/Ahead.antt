@@ -7,7 +7,7 @@ use Rattle.query_reader.specs.declared.pairs.Pair.{Pair}
 use Rattle.session_core.specs.declared.made.MadeReply.{MadeReply}
 use Rattle.session_core.specs.Making.{IsMade}
 use Rattle.session_core.specs.declared.mode.SearchMode.{SearchMode}
-use Rattle.command_words.specs.declared.SearchLimits.{SearchLimits}
+use Rattle.command_words.specs.declared.limits.SearchLimits.{SearchLimits}
 use Rattle.still_commands.specs.Batch.{query_between}
 
 -- what was made for the pair is the reply to it, where memory sufficed

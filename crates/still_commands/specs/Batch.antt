@@ -13,8 +13,8 @@ use Rattle.session_core.specs.declared.mode.SearchMode.{SearchMode}
 use Rattle.session_core.specs.declared.mode.SearchMode.TheVariants as search
 use Rattle.road_network.specs.declared.query.AnswerKind.TheVariants.{Walks}
 use Rattle.road_network.specs.declared.query.Query.{Query}
-use Rattle.command_words.specs.declared.SearchLimits.{SearchLimits}
-use Rattle.command_words.specs.Words.{BatchAsked}
+use Rattle.command_words.specs.declared.limits.SearchLimits.{SearchLimits}
+use Rattle.command_words.specs.declared.commands.BatchWords.{BatchWords}
 use Rattle.still_commands.specs.FilesRead.{ReadingStop, Tells, reading_limits}
 use Rattle.still_commands.specs.Outcome.{Outcome, done, bad_pairs, no_memory}
 
@@ -73,5 +73,5 @@ PairsReplies mode limits net pairs no_memory text = StarvesAtPair mode limits ne
 PairsReplies mode limits net pairs outcome text = ⊥
 
 -- how a batch ends over a network, and what it sends
-abbrev pub BatchReplies : Option FileMap → BatchAsked → Network → Outcome → List ℕ → Type 0
+abbrev pub BatchReplies : Option FileMap → BatchWords → Network → Outcome → List ℕ → Type 0
 BatchReplies files asked net = PairsEnd (PairsReplies (mode_of asked.goal) asked.limits net) files asked.pairs

@@ -7,7 +7,10 @@ use Rattle.route_io.specs.Sources.{SourceState, ReadsFrom}
 use Rattle.route_io.specs.declared.fault.WriteFault.{WriteFault}
 use Rattle.road_network.specs.declared.query.AnswerKind.TheVariants.{Walks}
 use Rattle.session_core.specs.declared.mode.SearchMode.TheVariants as search
-use Rattle.command_words.specs.Words.{Asked, Asks, IsStill, batch, check, follow, generate, goal, lanes, names_of, prove, serve, single, verify}
+use Rattle.command_words.specs.Words.{Asks}
+use Rattle.command_words.specs.declared.commands.Command.TheVariants.{Still}
+use Rattle.command_words.specs.declared.commands.StillCommand.{StillCommand}
+use Rattle.command_words.specs.declared.commands.StillCommand.TheVariants.{Batch, Check, Gen, Goal, Prove, Single, Verify}
 use Rattle.still_commands.specs.Batch.{BatchReplies}
 use Rattle.still_commands.specs.Check.{CheckReplies}
 use Rattle.still_commands.specs.FilesRead.{FilesEnd}
@@ -18,41 +21,37 @@ use Rattle.still_commands.specs.Prove.{ProveReplies}
 use Rattle.still_commands.specs.Queries.{QueryReplies}
 use Rattle.still_commands.specs.Verify.{VerifyEnds}
 
--- the words ask for this, and it is a command that waits for nobody
-pub record AsksStill (words : List (List ℕ)) (asked : Asked) : Type 0 where
-  pub asks : Asks words asked
-  pub still : IsStill asked
+-- the words ask for this command, which waits for nobody
+abbrev pub AsksStill : List (List ℕ) → StillCommand → Type 0
+AsksStill words command = Asks words (Still command)
 
 -- the words are those of a command that waits for nobody
 abbrev pub AreStillWords : List (List ℕ) → Type 0
-AreStillWords words = (asked : Asked) × AsksStill words asked
+AreStillWords words = (command : StillCommand) × AsksStill words command
 
 -- a name is one of those that are asked for
-abbrev pub IsAskedName : (Asked → Type 0) → List ℕ → Type 0
-IsAskedName IsAsked name = (asked : Asked) × IsAsked asked × Contains (names_of asked) name
+abbrev pub IsAskedName : {Command : Type 0} → (Command → List (List ℕ)) → (Command → Type 0) → List ℕ → Type 0
+IsAskedName {Command} names_of IsAsked name = (asked : Command) × IsAsked asked × Contains (names_of asked) name
 
 -- how a run of a command that waits for nobody ends, and what it sends to `out`, where nothing cuts that short
-abbrev pub StillEnds : Option FileMap → Asked → Outcome → List ℕ → Type 0
-StillEnds files (single asked) = FilesEnd (QueryReplies search.Plain asked.kind asked.query) files asked.files
-StillEnds files (goal asked) = FilesEnd (QueryReplies search.Goal Walks asked.query) files asked.files
-StillEnds files (check names) = FilesEnd CheckReplies files names
-StillEnds files (batch asked) = FilesEnd (BatchReplies files asked) files asked.files
-StillEnds files (generate asked) = GenEnds asked
-StillEnds files (prove asked) = FilesEnd (ProveReplies asked.query) files asked.files
-StillEnds files (verify asked) = FilesEnd (VerifyEnds files asked.cert) files asked.files
-StillEnds files (lanes asked) = λ outcome text. ⊥
-StillEnds files (serve asked) = λ outcome text. ⊥
-StillEnds files (follow asked) = λ outcome text. ⊥
+abbrev pub StillEnds : Option FileMap → StillCommand → Outcome → List ℕ → Type 0
+StillEnds files (Single asked) = FilesEnd (QueryReplies search.Plain asked.kind asked.query) files asked.files
+StillEnds files (Goal asked) = FilesEnd (QueryReplies search.Goal Walks asked.query) files asked.files
+StillEnds files (Check names) = FilesEnd CheckReplies files names
+StillEnds files (Batch asked) = FilesEnd (BatchReplies files asked) files asked.files
+StillEnds files (Gen asked) = GenEnds asked
+StillEnds files (Prove asked) = FilesEnd (ProveReplies asked.query) files asked.files
+StillEnds files (Verify asked) = FilesEnd (VerifyEnds files asked.cert) files asked.files
 
 -- the same of a run, by what its words ask for; `Ends` says it of each command
-pub data EndsByWords (Ends : Option FileMap → Asked → Outcome → List ℕ → Type 0) (IsAsked : Asked → Type 0) (files : Option FileMap)
-    : Outcome → List ℕ → Type 0 where
+pub data EndsByWords {Command : Type 0} (Ends : Option FileMap → Command → Outcome → List ℕ → Type 0) (IsAsked : Command → Type 0)
+    (files : Option FileMap) : Outcome → List ℕ → Type 0 where
   -- the words ask for no command
-  no_command : ¬ ((asked : Asked) × IsAsked asked) → EndsByWords Ends IsAsked files bad_words []
+  no_command : ¬ ((asked : Command) × IsAsked asked) → EndsByWords Ends IsAsked files bad_words []
   -- memory ran out while they were read
   starved : EndsByWords Ends IsAsked files no_memory []
   -- the words ask for a command, which ends so
-  asks : {outcome : Outcome} {text : List ℕ} (asked : Asked) → IsAsked asked → Ends files asked outcome text
+  asks : {outcome : Outcome} {text : List ℕ} (asked : Command) → IsAsked asked → Ends files asked outcome text
       → EndsByWords Ends IsAsked files outcome text
 
 -- A part from the front, short of the whole, of what a run sends that nothing cuts short.
@@ -89,7 +88,7 @@ abbrev pub TookNote : SinkState → SinkState → List ℕ → Type 0
 TookNote err noted note = (result : Result (Unit {0}) WriteFault) × Sends err noted note result
 
 -- What a run does, all of it by one outcome: what it reads and sends by what its words ask for, its note and its status.
-pub record Output (Ends : Option FileMap → Asked → Outcome → List ℕ → Type 0) (IsAsked : Asked → Type 0)
+pub record Output {Command : Type 0} (Ends : Option FileMap → Command → Outcome → List ℕ → Type 0) (IsAsked : Command → Type 0)
     (folder after : SourceState) (out replied err noted : SinkState) (status : ℕ) : Type 0 where
   pub outcome : Outcome
   pub runs : RunsCommand (EndsByWords Ends IsAsked folder.files) folder after out replied outcome

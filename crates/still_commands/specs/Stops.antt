@@ -1,5 +1,6 @@
 -- The outcomes that the code's answers stand for.
 use Rattle.std.specs.Prelude.{◌≡◌, ◌++◌, ℕ, List, Result, Ok, Err, decimal}
+use Rattle.command_words.specs.declared.fault.WordsFault.TheVariants as words
 use Rattle.arc_graph.specs.declared.join.JoinFault.{JoinFault}
 use Rattle.arc_graph.specs.declared.join.JoinFault.TheVariants as join
 use Rattle.link_doors.specs.declared.town.TownFault.{TownFault}
@@ -34,7 +35,8 @@ script_outcome name (script.OutOfMemory want) = no_memory
 
 -- the outcome that a reason is
 abbrev pub outcome_of : Stop → Outcome
-outcome_of stop.Words = bad_words
+outcome_of (stop.Words words.Refused) = bad_words
+outcome_of (stop.Words (words.OutOfMemory want)) = no_memory
 outcome_of (stop.Folder name) = folder_failed name.now
 outcome_of (stop.Out write.Failed) = out_failed
 outcome_of (stop.Out (write.OutOfMemory want)) = out_wanted

@@ -17,7 +17,7 @@ use Rattle.query_reader.specs.Grammar.{IsPairs}
 use Rattle.graph_gen.specs.declared.GenPlan.{GenPlan}
 use Rattle.graph_gen.specs.Texts.{file_text, pairs_text}
 use Rattle.road_network.specs.declared.query.Query.{Query}
-use Rattle.command_words.specs.Words.{GenAsked}
+use Rattle.command_words.specs.declared.commands.GenWords.{GenWords}
 use Rattle.still_commands.specs.declared.summary.Summary.{Summary}
 use Rattle.still_commands.specs.FilesRead.{reading_limits}
 use Rattle.still_commands.specs.Texts.{gen_reply}
@@ -77,14 +77,14 @@ pub record SumsUp (net : Network) (budget : ℕ) (pairs : List Pair) (counts : S
   pub counted : counts ≡ summary_of net ends
 
 -- The counts are the summary of all files of the plan, and of the answers to its pairs.
-pub record ComesTo (asked : GenAsked) (counts : Summary) : Type 0 where
+pub record ComesTo (asked : GenWords) (counts : Summary) : Type 0 where
   pub net : Network
   pub pairs : List Pair
   pub says : PlanSays asked.plan net pairs
   pub answers : SumsUp net asked.limits.budget pairs counts
 
 -- The text is the summary of the plan's files.
-pub record IsSummary (asked : GenAsked) (text : List ℕ) : Type 0 where
+pub record IsSummary (asked : GenWords) (text : List ℕ) : Type 0 where
   pub counts : Summary
   pub comes_to : ComesTo asked counts
   pub reply : text ≡ gen_reply counts

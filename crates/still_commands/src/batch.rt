@@ -2,7 +2,8 @@
 ghost use Rattle.std.specs.Prelude.{◌≡◌, ◌==◌, ◌≤◌, ◌<◌, ◌^◌, ℕ, List, ◌∷◌, All, IfOk, length};
 ghost use Rattle.road_network.specs.Network.{Network};
 ghost use Rattle.road_network.specs.Queries.{IsAsked};
-ghost use Rattle.command_words.specs.Words.{FilesInRange, AreSearchLimits, batch, batch_asked, names_of};
+ghost use Rattle.command_words.specs.Words.{names_of_still};
+ghost use Rattle.command_words.specs.declared.commands.StillCommand.TheVariants.{Batch};
 ghost use Rattle.route_io.specs.Sources.{ReadsFrom};
 ghost use Rattle.still_commands.specs.Ahead.{AreAhead, IsAhead};
 ghost use Rattle.still_commands.specs.Batch.{PairsReplies, mode_of, query_between};
@@ -39,26 +40,24 @@ pub(crate) fn run<'a, R: Threads + Sync, G: Gate, F: Folder, K: Sink>(
     out: &mut K,
     gate: &G,
 ) -> Result<(), Stop<'a>>
-    requires admitted { All F.admits (names_of (batch (batch_asked asked.now))) }
-    requires files { FilesInRange (batch (batch_asked asked.now)) }
-    requires limits { AreSearchLimits asked.now.limits }
-    ensures { RunsCommand (StillEnds (F.state folder.old).files (batch (batch_asked asked.now)))
+    requires { All F.admits (names_of_still (Batch asked.now)) }
+    ensures { RunsCommand (StillEnds (F.state folder.old).files (Batch asked.now))
         (F.state folder.old) (F.state folder.new) (K.state out.old) (K.state out.new)
         (run_outcome result) }
 {
     let (graph, weights) = read_network(alloc, folder, &asked.files)?;
     let mut room = Room::with(alloc, 0)?;
-    let pairs = read_pairs(alloc, folder, asked.pairs)?;
+    let pairs = read_pairs(alloc, folder, asked.pairs.text())?;
     let network = Network::new(&graph, &weights);
     let helpers = Helpers::new();
-    let workers = Workers::new(rt, asked.limits.workers, gate).watched(&helpers);
+    let workers = Workers::new(rt, asked.limits.workers.get(), gate).watched(&helpers);
     let answerer = Answerer {
         workers: &workers,
         alloc,
         network: &network,
         mode: mode_of(asked.goal),
     };
-    reply_each(&answerer, asked.limits, &pairs, &mut room, out)
+    reply_each(&answerer, &asked.limits, &pairs, &mut room, out)
 }
 
 /// How each query is searched, by whether the flag for the directed search is given.
@@ -97,13 +96,12 @@ fn read_pairs<'a, F: Folder>(
 /// Sends the reply to each pair in order. A refused pair ends nothing, and the room serves all pairs.
 fn reply_each<'a, R: Threads + Sync, G: Gate, K: Sink>(
     answerer: &Answerer<'_, R, G>,
-    limits: SearchLimits,
+    limits: &SearchLimits,
     pairs: &[Pair],
     room: &mut Room,
     out: &mut K,
 ) -> Result<(), Stop<'a>>
-    requires limits { AreSearchLimits limits }
-    ensures { Replies (PairsReplies answerer.now.mode limits answerer.now.network.now pairs.now)
+    ensures { Replies (PairsReplies answerer.now.mode limits.now answerer.now.network.now pairs.now)
         (K.state out.old) (K.state out.new) (run_outcome result) }
 {
     let mut ahead = Vec::new(answerer.alloc);
@@ -129,13 +127,12 @@ fn take_next(ahead: &mut Vec<Option<MadeReply>>) -> Option<MadeReply>
 /// made by one worker, nor to a last pair, of which the workers may share the search, nor where memory runs out.
 fn refill<R: Threads + Sync, G: Gate>(
     answerer: &Answerer<'_, R, G>,
-    limits: SearchLimits,
+    limits: &SearchLimits,
     pairs: &[Pair],
     ahead: &mut Vec<Option<MadeReply>>,
 )
-    requires limits { AreSearchLimits limits }
-    requires ahead { AreAhead answerer.now.mode limits answerer.now.network.now pairs.now ahead.old.items }
-    ensures { AreAhead answerer.now.mode limits answerer.now.network.now pairs.now ahead.new.items }
+    requires { AreAhead answerer.now.mode limits.now answerer.now.network.now pairs.now ahead.old.items }
+    ensures { AreAhead answerer.now.mode limits.now answerer.now.network.now pairs.now ahead.new.items }
 {
     if !ahead.is_empty() {
         return;
@@ -150,14 +147,14 @@ fn refill<R: Threads + Sync, G: Gate>(
 /// searches. A search is counted as a label for each node, or as its budget.
 fn count_ahead<R, G: Gate>(
     answerer: &Answerer<'_, R, G>,
-    limits: SearchLimits,
+    limits: &SearchLimits,
     left: usize,
 ) -> usize
     ensures within { result ≤ left }
     ensures few { result < 2 ^ 32 }
 {
     let window = left.min(MOST_PAIRS);
-    let labels = window * answerer.network.nodes().min(limits.budget) as usize;
+    let labels = window * answerer.network.nodes().min(limits.budget.get()) as usize;
     if left < 2 || answerer.workers.for_labels(labels).count() == 1 {
         return 0;
     }
@@ -167,12 +164,11 @@ fn count_ahead<R, G: Gate>(
 /// The replies to the first of these pairs, made in memory, the first of them last.
 fn make_ahead<R: Threads + Sync, G: Gate>(
     answerer: &Answerer<'_, R, G>,
-    limits: SearchLimits,
+    limits: &SearchLimits,
     pairs: &[Pair],
 ) -> Result<Vec<Option<MadeReply>>, OutOfMemory>
-    requires limits { AreSearchLimits limits }
-    requires few { length pairs.now < 2 ^ 32 }
-    ensures { IfOk result (λ ahead. AreAhead answerer.now.mode limits answerer.now.network.now pairs.now ahead.items) }
+    requires { length pairs.now < 2 ^ 32 }
+    ensures { IfOk result (λ ahead. AreAhead answerer.now.mode limits.now answerer.now.network.now pairs.now ahead.items) }
 {
     let mut queries = Vec::with_capacity(answerer.alloc, pairs.len())?;
     for pair in pairs {
@@ -184,15 +180,14 @@ fn make_ahead<R: Threads + Sync, G: Gate>(
 }
 
 /// The query from one node of a pair to the other, without a limit.
-pub(crate) fn query_between(limits: SearchLimits, pair: Pair) -> Query
-    requires { AreSearchLimits limits }
-    ensures value { result ≡ query_between limits pair }
+pub(crate) fn query_between(limits: &SearchLimits, pair: Pair) -> Query
+    ensures value { result ≡ query_between limits.now pair }
     ensures asked { (criteria : ℕ) → IsAsked criteria result }
 {
     Query {
         from: pair.from,
         to: pair.to,
         limit: None,
-        budget: limits.budget,
+        budget: limits.budget.get(),
     }
 }

@@ -1,6 +1,6 @@
 //! The command `check`.
 ghost use Rattle.std.specs.Prelude.{◌≡◌, [], OnOk, All};
-ghost use Rattle.command_words.specs.Words.{FilesInRange, check, check_asked, names_of};
+ghost use Rattle.command_words.specs.declared.commands.StillCommand.TheVariants.{Check};
 ghost use Rattle.still_commands.specs.Check.{TellsSizes};
 ghost use Rattle.still_commands.specs.Output.{RunsCommand, StillEnds};
 ghost use Rattle.still_commands.specs.Stops.{Replies, run_outcome};
@@ -10,7 +10,7 @@ use crate::network::read_sizes;
 use crate::reply::{kept, put_sizes, send};
 use crate::stop::Stop;
 use arc_graph::NetworkSizes;
-use command_words::CheckWords;
+use command_words::FileNames;
 use out_of_memory::OutOfMemory;
 use route_io::sure::SureSink;
 use route_io::{Folder, Sink};
@@ -19,17 +19,16 @@ use std::alloc::Global;
 /// Reads the named files, and tells the sizes of the network that they make up.
 pub(crate) fn run<'a, F: Folder, K: Sink>(
     alloc: Global,
-    asked: &CheckWords<'a>,
+    files: &FileNames<'a>,
     folder: &mut F,
     out: &mut K,
 ) -> Result<(), Stop<'a>>
-    requires admitted { All F.admits (names_of (check (check_asked asked.now))) }
-    requires files { FilesInRange (check (check_asked asked.now)) }
-    ensures { RunsCommand (StillEnds (F.state folder.old).files (check (check_asked asked.now)))
+    requires { All F.admits files.now }
+    ensures { RunsCommand (StillEnds (F.state folder.old).files (Check files.now))
         (F.state folder.old) (F.state folder.new) (K.state out.old) (K.state out.new)
         (run_outcome result) }
 {
-    let sizes = read_sizes(alloc, folder, &asked.files)?;
+    let sizes = read_sizes(alloc, folder, files)?;
     reply(alloc, sizes, out)
 }
 

@@ -6,7 +6,6 @@ ghost use Rattle.walk_readback.specs.Answers.{Answers};
 ghost use Rattle.walk_readback.specs.Found.{IsFound};
 ghost use Rattle.graph_gen.specs.Plans.{max_pairs};
 ghost use Rattle.gen_laws.specs.Laws.{HasNodes, IsSmall};
-ghost use Rattle.command_words.specs.Words.{AreSearchLimits};
 ghost use Rattle.still_commands.specs.Summary.{AreFew, CountsAnswer, CountsPair, Fits};
 ghost use Rattle.still_commands.specs.Summary.{HasAnswer, HasWhole, SumsUp, pair_of};
 
@@ -36,14 +35,13 @@ impl<R: Threads + Sync, G: Gate> Counter<'_, R, G> {
     /// Answers a query for each pair in order, and counts what comes of it.
     pub(crate) fn count_pairs(
         &self,
-        limits: SearchLimits,
+        limits: &SearchLimits,
         pairs: &[Pair],
     ) -> Result<Summary, OutOfMemory>
         requires small { IsSmall self.now.network.now }
-        requires limits { AreSearchLimits limits }
         requires nodes { All (HasNodes self.now.network.now.nodes) pairs.now }
         requires few { length pairs.now ≤ max_pairs }
-        ensures { IfOk result (λ counts. SumsUp self.now.network.now limits.budget pairs.now
+        ensures { IfOk result (λ counts. SumsUp self.now.network.now limits.now.budget pairs.now
             counts) }
     {
         let mut counts = Summary::of(self.network);

@@ -1,7 +1,6 @@
 //! The command `gen`.
 ghost use Rattle.std.specs.Prelude.{◌≡◌, ◌≤◌, [], IfOk, OnOk};
-ghost use Rattle.command_words.specs.Words.{GenInRange, AreSearchLimits, gen_asked};
-ghost use Rattle.graph_gen.specs.Plans.{IsPlan};
+ghost use Rattle.cost_vector.specs.Costs.{max_criteria};
 ghost use Rattle.still_commands.specs.Gen.{GenEnds, SendsFile, SendsSummary};
 ghost use Rattle.still_commands.specs.Stops.{Replies, run_outcome};
 ghost use Rattle.still_commands.specs.Summary.{ComesTo};
@@ -34,13 +33,11 @@ pub(crate) fn run<'a, R: Threads + Sync, G: Gate, K: Sink>(
     out: &mut K,
     gate: &G,
 ) -> Result<(), Stop<'a>>
-    requires plan { GenInRange (gen_asked asked.now) }
-    requires limits { AreSearchLimits asked.now.limits }
-    ensures { Replies (GenEnds (gen_asked asked.now))
+    ensures { Replies (GenEnds asked.now)
         (K.state out.old) (K.state out.new) (run_outcome result) }
 {
     match asked.file {
-        Some(number) => send_file(alloc, &asked.plan, number, out),
+        Some(number) => send_file(alloc, &asked.plan, number.get(), out),
         None => send_summary(rt, alloc, asked, out, gate),
     }
 }
@@ -52,8 +49,7 @@ fn send_file<'a, K: Sink>(
     number: u32,
     out: &mut K,
 ) -> Result<(), Stop<'a>>
-    requires plan { IsPlan plan.now }
-    requires number { number ≤ plan.now.criteria }
+    requires { number ≤ max_criteria }
     ensures { Replies (SendsFile plan.now number)
         (K.state out.old) (K.state out.new) (run_outcome result) }
 {
@@ -69,9 +65,7 @@ fn send_summary<'a, R: Threads + Sync, G: Gate, K: Sink>(
     out: &mut K,
     gate: &G,
 ) -> Result<(), Stop<'a>>
-    requires plan { IsPlan asked.now.plan }
-    requires limits { AreSearchLimits asked.now.limits }
-    ensures { Replies (SendsSummary (gen_asked asked.now))
+    ensures { Replies (SendsSummary asked.now)
         (K.state out.old) (K.state out.new) (run_outcome result) }
 {
     let counts = sum_up(rt, alloc, asked, gate)?;
@@ -95,10 +89,9 @@ fn sum_up<R: Threads + Sync, G: Gate>(
     asked: &GenWords,
     gate: &G,
 ) -> Result<Summary, OutOfMemory>
-    requires plan { IsPlan asked.now.plan }
-    requires limits { AreSearchLimits asked.now.limits }
-    ensures { IfOk result (ComesTo (gen_asked asked.now)) }
+    ensures { IfOk result (ComesTo asked.now) }
 {
+    asked.plan.numbers_are_in_range();
     weight_files_are_read();
     weight_files_agree();
     pair_files_are_read();
@@ -108,11 +101,11 @@ fn sum_up<R: Threads + Sync, G: Gate>(
     let pairs = plan_pairs(alloc, &asked.plan)?;
     let network = Network::new(&graph, &weights);
     let helpers = Helpers::new();
-    let workers = Workers::new(rt, asked.limits.workers, gate).watched(&helpers);
+    let workers = Workers::new(rt, asked.limits.workers.get(), gate).watched(&helpers);
     let counter = Counter {
         workers: &workers,
         alloc,
         network: &network,
     };
-    counter.count_pairs(asked.limits, &pairs)
+    counter.count_pairs(&asked.limits, &pairs)
 }

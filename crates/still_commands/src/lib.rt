@@ -1,11 +1,10 @@
 //! The commands that wait for nobody: from the words of the command line to the exit status.
 #![tactic(auto)]
 
-ghost use Rattle.std.specs.Prelude.{◌≡◌, ◌==◌, ◌⊎◌, ◌↔◌, ℕ, List, All, IsTrue};
+ghost use Rattle.std.specs.Prelude.{◌≡◌, ◌==◌, ◌⊎◌, ℕ, List, All};
 ghost use Rattle.route_io.specs.Causes.{IsCounted};
 ghost use Rattle.route_io.specs.Sources.{ReadsFrom};
-ghost use Rattle.command_words.specs.Words.{FilesInRange, IsStill, LimitsInRange, PlanInRange};
-ghost use Rattle.command_words.specs.Words.{asked_of, names_of, texts_of};
+ghost use Rattle.command_words.specs.Words.{names_of_still, texts_of};
 ghost use Rattle.still_commands.specs.Outcome.{note_of, status_of};
 ghost use Rattle.still_commands.specs.Output.{AreStillWords, AsksStill, EndsByWords, IsAskedName, Output};
 ghost use Rattle.still_commands.specs.Output.{RunsCommand, StillEnds, TookNote};
@@ -25,7 +24,7 @@ mod stop;
 mod summary;
 mod verify;
 
-use command_words::{Command, WordsFault, read_words};
+use command_words::{Command, StillCommand, WordsFault, read_words};
 pub use network::read_network;
 use route_io::{Folder, Gate, Sink};
 use status::DONE;
@@ -49,7 +48,7 @@ pub fn run_still<R: Threads + Sync, G: Gate, F: Folder, K: Sink, E: Sink>(
     err: &mut E,
     gate: &G,
 ) -> u8
-    requires { (name : List ℕ) → IsAskedName (AsksStill (texts_of words.now)) name → F.admits name }
+    requires { (name : List ℕ) → IsAskedName names_of_still (AsksStill (texts_of words.now)) name → F.admits name }
 
     // One outcome says all.
     ensures output { Output StillEnds (AsksStill (texts_of words.now))
@@ -91,61 +90,40 @@ fn run<'a, R: Threads + Sync, G: Gate, F: Folder, K: Sink>(
     out: &mut K,
     gate: &G,
 ) -> Result<(), Stop<'a>>
-    requires { (name : List ℕ) → IsAskedName (AsksStill (texts_of words.now)) name → F.admits name }
+    requires { (name : List ℕ) → IsAskedName names_of_still (AsksStill (texts_of words.now)) name → F.admits name }
     ensures { RunsCommand
         (EndsByWords StillEnds (AsksStill (texts_of words.entry.now)) (F.state folder.old).files)
         (F.state folder.old) (F.state folder.new) (K.state out.old) (K.state out.new)
         (run_outcome result) }
 {
     match read_words(alloc, words) {
-        Ok(command) => {
-            if !is_still(&command) {
-                return Err(Stop::Words);
-            }
-            carry_out(rt, alloc, &command, folder, out, gate)
-        }
-        Err(WordsFault::Refused) => Err(Stop::Words),
-        Err(WordsFault::OutOfMemory) => Err(Stop::OutOfMemory),
-    }
-}
-
-/// Whether a command waits for nobody.
-fn is_still(command: &Command<'_>) -> bool
-    ensures { IsTrue result ↔ IsStill (asked_of command.now) }
-{
-    match command {
-        Command::Lanes(_) | Command::Serve(_) | Command::Follow(_) => false,
-        Command::Single(_) | Command::Check(_) | Command::Batch(_) | Command::Gen(_) => true,
-        Command::Goal(_) | Command::Prove(_) | Command::Verify(_) => true,
+        Ok(Command::Still(command)) => carry_out(rt, alloc, &command, folder, out, gate),
+        Ok(Command::Waiting(_)) => Err(Stop::Words(WordsFault::Refused)),
+        Err(fault) => Err(Stop::Words(fault)),
     }
 }
 
 /// Carries out a command that waits for nobody.
-fn carry_out<'a, R: Threads + Sync, G: Gate, F: Folder, K: Sink>(
+pub fn carry_out<'a, R: Threads + Sync, G: Gate, F: Folder, K: Sink>(
     rt: &R,
     alloc: Global,
-    command: &Command<'a>,
+    command: &StillCommand<'a>,
     folder: &mut F,
     out: &mut K,
     gate: &G,
 ) -> Result<(), Stop<'a>>
-    requires still { IsStill (asked_of command.now) }
-    requires admitted { All F.admits (names_of (asked_of command.now)) }
-    requires files { FilesInRange (asked_of command.now) }
-    requires limits { LimitsInRange (asked_of command.now) }
-    requires plan { PlanInRange (asked_of command.now) }
-    ensures { RunsCommand (StillEnds (F.state folder.old).files (asked_of command.now))
+    requires { All F.admits (names_of_still command.now) }
+    ensures { RunsCommand (StillEnds (F.state folder.old).files command.now)
         (F.state folder.old) (F.state folder.new) (K.state out.old) (K.state out.new)
         (run_outcome result) }
 {
     match command {
-        Command::Single(asked) => single::run(rt, alloc, asked, folder, out, gate),
-        Command::Goal(asked) => single::run_goal(rt, alloc, asked, folder, out, gate),
-        Command::Check(asked) => check::run(alloc, asked, folder, out),
-        Command::Batch(asked) => batch::run(rt, alloc, asked, folder, out, gate),
-        Command::Gen(asked) => generate::run(rt, alloc, asked, out, gate),
-        Command::Prove(asked) => prove::run(rt, alloc, asked, folder, out, gate),
-        Command::Verify(asked) => verify::run(alloc, asked, folder, out),
-        Command::Lanes(_) | Command::Serve(_) | Command::Follow(_) => unreachable!(),
+        StillCommand::Single(asked) => single::run(rt, alloc, asked, folder, out, gate),
+        StillCommand::Goal(asked) => single::run_goal(rt, alloc, asked, folder, out, gate),
+        StillCommand::Check(files) => check::run(alloc, files, folder, out),
+        StillCommand::Batch(asked) => batch::run(rt, alloc, asked, folder, out, gate),
+        StillCommand::Gen(asked) => generate::run(rt, alloc, asked, out, gate),
+        StillCommand::Prove(asked) => prove::run(rt, alloc, asked, folder, out, gate),
+        StillCommand::Verify(asked) => verify::run(alloc, asked, folder, out),
     }
 }

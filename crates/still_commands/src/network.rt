@@ -2,7 +2,7 @@
 ghost use Rattle.std.specs.Prelude.{◌≡◌, ◌≤◌, ◌==◌, length, IfOk, All, map};
 ghost use Rattle.arc_graph.specs.Graph.{Match, network};
 ghost use Rattle.road_network.specs.Network.{IsNetwork};
-ghost use Rattle.command_words.specs.Ranges.{max_files, min_files};
+ghost use Rattle.command_words.specs.Ranges.{max_files};
 ghost use Rattle.gr_reader.specs.Sinks.{JoinerIsReady};
 ghost use Rattle.route_io.specs.Sources.{ReadsFrom};
 ghost use Rattle.still_commands.specs.Outcome.{status_of};
@@ -12,6 +12,7 @@ ghost use Rattle.still_commands.specs.Stops.{run_outcome};
 use crate::MAX_FILE_SIZE;
 use crate::stop::Stop;
 use arc_graph::{Graph, Joiner, NetworkSizes, Weights};
+use command_words::FileNames;
 use gr_reader::{FileFault, read_into};
 use line_text::{LineLimits, MAX_LINE};
 use route_io::Folder;
@@ -23,23 +24,20 @@ pub(crate) const LIMITS: LineLimits = LineLimits {
     total: MAX_FILE_SIZE,
 };
 
-/// Reads the named files in order, two to four of them, and joins them. The first fault of a file ends the run.
+/// Reads the named files in order, and joins them. The first fault of a file ends the run.
 pub fn read_network<'a, F: Folder>(
     alloc: Global,
     folder: &mut F,
-    names: &[&'a str],
+    names: &FileNames<'a>,
 ) -> Result<(Graph, Weights), Stop<'a>>
-    requires admitted { All F.admits (map (λ name. name.now) names.now) }
-    requires two { min_files ≤ length names.now }
-    requires four { length names.now ≤ max_files }
+    requires { All F.admits names.now }
     ensures is_network { IfOk result (λ r. IsNetwork (network r.0 r.1)) }
     ensures matched { IfOk result (λ r. Match r.0 r.1) }
-    ensures read { NetworkRead (F.state folder.old).files
-        (map (λ name. name.now) names.now) result }
+    ensures read { NetworkRead (F.state folder.old).files names.now result }
     ensures folder { ReadsFrom (F.state folder.old) (F.state folder.new)
         (status_of (run_outcome result) == 3) }
 {
-    let joiner = read_files(alloc, folder, names)?;
+    let joiner = read_files(alloc, folder, names.as_slice())?;
     Ok(joiner.finish()?)
 }
 
@@ -47,16 +45,14 @@ pub fn read_network<'a, F: Folder>(
 pub(crate) fn read_sizes<'a, F: Folder>(
     alloc: Global,
     folder: &mut F,
-    names: &[&'a str],
+    names: &FileNames<'a>,
 ) -> Result<NetworkSizes, Stop<'a>>
-    requires admitted { All F.admits (map (λ name. name.now) names.now) }
-    requires two { min_files ≤ length names.now }
-    requires four { length names.now ≤ max_files }
-    ensures read { SizesRead (F.state folder.old).files (map (λ name. name.now) names.now) result }
+    requires { All F.admits names.now }
+    ensures read { SizesRead (F.state folder.old).files names.now result }
     ensures folder { ReadsFrom (F.state folder.old) (F.state folder.new)
         (status_of (run_outcome result) == 3) }
 {
-    let joiner = read_files(alloc, folder, names)?;
+    let joiner = read_files(alloc, folder, names.as_slice())?;
     Ok(joiner.sizes()?)
 }
 

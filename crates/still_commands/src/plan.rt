@@ -4,7 +4,6 @@ ghost use Rattle.arc_graph.specs.Agreement.{joined};
 ghost use Rattle.arc_graph.specs.Graph.{Match, network};
 ghost use Rattle.road_network.specs.Network.{IsNetwork};
 ghost use Rattle.gr_reader.specs.Sinks.{JoinerIsReady};
-ghost use Rattle.graph_gen.specs.Plans.{IsPlan};
 ghost use Rattle.gen_laws.specs.Laws.{file_of, files_of, pairs_of};
 ghost use Rattle.still_commands.specs.Summary.{IsFileWant, IsJoinWant, TakesWhole};
 
@@ -20,14 +19,14 @@ use std::alloc::Global;
 
 /// Makes the weight files of a plan one by one, reads each, and joins them.
 pub(crate) fn plan_network(alloc: Global, plan: &GenPlan) -> Result<(Graph, Weights), OutOfMemory>
-    requires { IsPlan plan.now }
     ensures is_network { IfOk result (λ r. IsNetwork (network r.0 r.1)) }
     ensures matched { IfOk result (λ r. Match r.0 r.1) }
     ensures network { IfOk result (λ r. network r.0 r.1 ≡ joined (files_of plan.now)) }
 {
+    plan.numbers_are_in_range();
     weight_files_agree();
     let mut joiner = Joiner::new(alloc);
-    for before in 0..plan.criteria {
+    for before in 0..plan.criteria.get() {
         read_weights(alloc, plan, before + 1, &mut joiner)?;
     }
     match joiner.finish() {
@@ -53,12 +52,12 @@ fn read_weights(
     criterion: u32,
     joiner: &mut Joiner,
 ) -> Result<(), OutOfMemory>
-    requires plan { IsPlan plan.now }
     requires some { 1 ≤ criterion }
     requires criterion { criterion ≤ plan.now.criteria }
     requires ready { JoinerIsReady joiner.old }
     ensures { OnOk result (TakesWhole joiner.old joiner.new (file_of plan.now criterion)) }
 {
+    plan.numbers_are_in_range();
     weight_files_are_read();
     let mut source = SureSource::new(gen_file(alloc, plan, criterion)?);
     match read_into(alloc, &mut source, LIMITS, joiner) {
@@ -69,9 +68,9 @@ fn read_weights(
 
 /// Makes the file of pairs of a plan, and reads it.
 pub(crate) fn plan_pairs(alloc: Global, plan: &GenPlan) -> Result<Vec<Pair>, OutOfMemory>
-    requires { IsPlan plan.now }
     ensures { IfOk result (λ pairs. pairs.items ≡ pairs_of plan.now) }
 {
+    plan.numbers_are_in_range();
     pair_files_are_read();
     let mut source = SureSource::new(gen_file(alloc, plan, 0)?);
     match read_p2p(alloc, &mut source, LIMITS) {

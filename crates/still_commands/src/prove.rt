@@ -4,8 +4,7 @@ ghost use Rattle.road_network.specs.Queries.{HaveNodes, IsTooLarge, limit_of};
 ghost use Rattle.walk_readback.specs.Answers.{Answers};
 ghost use Rattle.walk_readback.specs.Found.{HasAllRelevant, IsOf};
 ghost use Rattle.command_words.specs.Ranges.{max_listed};
-ghost use Rattle.command_words.specs.Words.{FilesInRange, ProveInRange, names_of};
-ghost use Rattle.command_words.specs.Words.{prove, prove_asked};
+ghost use Rattle.command_words.specs.declared.commands.StillCommand.TheVariants.{Prove};
 ghost use Rattle.still_commands.specs.Output.{RunsCommand, StillEnds};
 ghost use Rattle.still_commands.specs.Prove.{ProveReplies};
 ghost use Rattle.still_commands.specs.Stops.{Replies, run_outcome};
@@ -33,18 +32,16 @@ pub(crate) fn run<'a, R: Threads + Sync, G: Gate, F: Folder, K: Sink>(
     out: &mut K,
     gate: &G,
 ) -> Result<(), Stop<'a>>
-    requires admitted { All F.admits (names_of (prove (prove_asked asked.now))) }
-    requires files { FilesInRange (prove (prove_asked asked.now)) }
-    requires limits { ProveInRange (prove_asked asked.now) }
-    ensures { RunsCommand (StillEnds (F.state folder.old).files (prove (prove_asked asked.now)))
+    requires { All F.admits asked.now.files }
+    ensures { RunsCommand (StillEnds (F.state folder.old).files (Prove asked.now))
         (F.state folder.old) (F.state folder.new) (K.state out.old) (K.state out.new)
         (run_outcome result) }
 {
     let (graph, weights) = read_network(alloc, folder, &asked.files)?;
     let network = Network::new(&graph, &weights);
     let helpers = Helpers::new();
-    let workers = Workers::new(rt, asked.workers, gate).watched(&helpers);
-    reply(&workers, alloc, &network, &asked.query, out)
+    let workers = Workers::new(rt, asked.workers.get(), gate).watched(&helpers);
+    reply(&workers, alloc, &network, asked.query.query(), out)
 }
 
 /// Sends the certificate of a query, or why it is refused.

@@ -1,8 +1,7 @@
 //! The commands `costs`, `one` and `goal`.
 ghost use Rattle.std.specs.Prelude.{All};
 ghost use Rattle.road_network.specs.Queries.{IsAsked};
-ghost use Rattle.command_words.specs.Words.{FilesInRange, GoalInRange, SingleInRange, names_of};
-ghost use Rattle.command_words.specs.Words.{goal, goal_asked, single, single_asked};
+ghost use Rattle.command_words.specs.declared.commands.StillCommand.TheVariants.{Goal, Single};
 ghost use Rattle.still_commands.specs.Output.{RunsCommand, StillEnds};
 ghost use Rattle.still_commands.specs.Queries.{QueryReplies};
 ghost use Rattle.still_commands.specs.Stops.{Replies, run_outcome};
@@ -29,24 +28,22 @@ pub(crate) fn run<'a, R: Threads + Sync, G: Gate, F: Folder, K: Sink>(
     out: &mut K,
     gate: &G,
 ) -> Result<(), Stop<'a>>
-    requires admitted { All F.admits (names_of (single (single_asked asked.now))) }
-    requires files { FilesInRange (single (single_asked asked.now)) }
-    requires limits { SingleInRange (single_asked asked.now) }
-    ensures { RunsCommand (StillEnds (F.state folder.old).files (single (single_asked asked.now)))
+    requires { All F.admits asked.now.files }
+    ensures { RunsCommand (StillEnds (F.state folder.old).files (Single asked.now))
         (F.state folder.old) (F.state folder.new) (K.state out.old) (K.state out.new)
         (run_outcome result) }
 {
     let (graph, weights) = read_network(alloc, folder, &asked.files)?;
     let network = Network::new(&graph, &weights);
     let helpers = Helpers::new();
-    let workers = Workers::new(rt, asked.workers, gate).watched(&helpers);
+    let workers = Workers::new(rt, asked.workers.get(), gate).watched(&helpers);
     let answerer = Answerer {
         workers: &workers,
         alloc,
         network: &network,
         mode: SearchMode::Plain,
     };
-    reply_once(&answerer, asked.kind, &asked.query, out)
+    reply_once(&answerer, asked.kind, asked.query.query(), out)
 }
 
 /// Answers one query over the named files by a search that is directed to its target. One worker makes it.
@@ -58,10 +55,8 @@ pub(crate) fn run_goal<'a, R: Threads + Sync, G: Gate, F: Folder, K: Sink>(
     out: &mut K,
     gate: &G,
 ) -> Result<(), Stop<'a>>
-    requires admitted { All F.admits (names_of (goal (goal_asked asked.now))) }
-    requires files { FilesInRange (goal (goal_asked asked.now)) }
-    requires limits { GoalInRange (goal_asked asked.now) }
-    ensures { RunsCommand (StillEnds (F.state folder.old).files (goal (goal_asked asked.now)))
+    requires { All F.admits asked.now.files }
+    ensures { RunsCommand (StillEnds (F.state folder.old).files (Goal asked.now))
         (F.state folder.old) (F.state folder.new) (K.state out.old) (K.state out.new)
         (run_outcome result) }
 {
@@ -73,7 +68,7 @@ pub(crate) fn run_goal<'a, R: Threads + Sync, G: Gate, F: Folder, K: Sink>(
         network: &network,
         mode: SearchMode::Goal,
     };
-    reply_once(&answerer, AnswerKind::Walks, &asked.query, out)
+    reply_once(&answerer, AnswerKind::Walks, asked.query.query(), out)
 }
 
 /// Sends the reply to the only query of a run.

@@ -12,6 +12,7 @@ use crate::status::{
 use answer_writer::{Piece, put_line};
 use arc_graph::{Disagreement, JoinFault};
 use cert_rules::Rule;
+use command_words::WordsFault;
 use gr_reader::LineKind;
 use itoa::Buffer;
 use link_doors::TownFault;
@@ -40,7 +41,8 @@ pub enum ScriptFault {
 /// Why a run isn't done. Commands that wait for nobody are never stopped by a script or by the town.
 #[derive(Clone, Copy, Debug)]
 pub enum Stop<'a> {
-    Words,
+    /// No command was read.
+    Words(WordsFault),
     /// The folder failed; the note names this file.
     Folder {
         name: &'a str,
@@ -92,7 +94,7 @@ impl Stop<'_> {
         ensures { result ≡ status_of (outcome_of self.now) }
     {
         match self {
-            Stop::Words => BAD_WORDS,
+            Stop::Words(WordsFault::Refused) => BAD_WORDS,
             Stop::Folder { .. } => FOLDER_FAILED,
             Stop::Script { fault, .. } => script_status(*fault),
             Stop::Out(WriteFault::Failed) => OUT_FAILED,
@@ -103,6 +105,7 @@ impl Stop<'_> {
             Stop::Rule { .. } => FAILED_RULE,
             Stop::Refused => REFUSED,
             Stop::Town => TOWN_FAILED,
+            Stop::Words(WordsFault::OutOfMemory(_)) => WANT_OF_MEMORY,
             Stop::Out(WriteFault::OutOfMemory(_)) | Stop::OutOfMemory(_) => WANT_OF_MEMORY,
         }
     }
@@ -128,7 +131,7 @@ impl Stop<'_> {
     {
         use Piece::Text;
         match self {
-            Stop::Words => put_all(err, b"route: words\n"),
+            Stop::Words(WordsFault::Refused) => put_all(err, b"route: words\n"),
             Stop::Folder { name } => {
                 put_line(err, &[Text("route: folder "), Text(name), Text("\n")])
             }
@@ -145,7 +148,9 @@ impl Stop<'_> {
             Stop::Rule { name, rule, label } => note_rule(err, name, *rule, *label),
             Stop::Refused => Ok(()),
             Stop::Town => put_all(err, b"route: town\n"),
-            Stop::Out(WriteFault::OutOfMemory(_)) | Stop::OutOfMemory(_) => {
+            Stop::Words(WordsFault::OutOfMemory(_))
+            | Stop::Out(WriteFault::OutOfMemory(_))
+            | Stop::OutOfMemory(_) => {
                 put_all(err, b"route: memory\n")
             }
         }

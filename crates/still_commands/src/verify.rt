@@ -6,7 +6,8 @@ ghost use Rattle.walk_readback.specs.Found.{IsWellFound};
 ghost use Rattle.cert_rules.specs.Certificates.{IsCertificate};
 ghost use Rattle.front_cert.specs.Found.{found_of};
 ghost use Rattle.front_cert.specs.Listing.{IsListingOf};
-ghost use Rattle.command_words.specs.Words.{FilesInRange, names_of, verify, verify_asked};
+ghost use Rattle.command_words.specs.Words.{names_of_still};
+ghost use Rattle.command_words.specs.declared.commands.StillCommand.TheVariants.{Verify};
 ghost use Rattle.still_commands.specs.Outcome.{status_of};
 ghost use Rattle.still_commands.specs.Output.{RunsCommand, StillEnds};
 ghost use Rattle.still_commands.specs.ReadResults.{CertRead};
@@ -32,15 +33,14 @@ pub(crate) fn run<'a, F: Folder, K: Sink>(
     folder: &mut F,
     out: &mut K,
 ) -> Result<(), Stop<'a>>
-    requires admitted { All F.admits (names_of (verify (verify_asked asked.now))) }
-    requires files { FilesInRange (verify (verify_asked asked.now)) }
-    ensures { RunsCommand (StillEnds (F.state folder.old).files (verify (verify_asked asked.now)))
+    requires { All F.admits (names_of_still (Verify asked.now)) }
+    ensures { RunsCommand (StillEnds (F.state folder.old).files (Verify asked.now))
         (F.state folder.old) (F.state folder.new) (K.state out.old) (K.state out.new)
         (run_outcome result) }
 {
     let (graph, weights) = read_network(alloc, folder, &asked.files)?;
     let network = Network::new(&graph, &weights);
-    let listing = read_cert(alloc, folder, asked.cert, &network)?;
+    let listing = read_cert(alloc, folder, asked.cert.text(), &network)?;
     reply(alloc, &network, &listing, out)
 }
 

@@ -73,7 +73,6 @@ fn mark_of_fault(fault: LineFault) -> u8 {
         LineFault::TooLong => b'l',
         LineFault::Total => b't',
         LineFault::Read => b'r',
-        LineFault::OutOfMemory => b'm',
     }
 }
 

@@ -28,7 +28,7 @@ fn shown_fault(
     match fault {
         FileFault::Line { kind, line } => format!(in alloc; "{} at {line}", kind.number()),
         FileFault::Read => format!(in alloc; "r, {} left", left_in(source)),
-        FileFault::OutOfMemory => String::from_str(alloc, "m"),
+        FileFault::OutOfMemory(_) => String::from_str(alloc, "m"),
     }
 }
 

@@ -1,6 +1,6 @@
 use command_words::{
     BatchWords, Command, FollowWords, GenWords, GoalWords, ProveWords, ServeWords, SingleWords,
-    TakeWords, VerifyWords, WordsFault, WriteWords, read_words,
+    StillCommand, TakeWords, VerifyWords, WaitingCommand, WordsFault, WriteWords, read_words,
 };
 use road_network::AnswerKind;
 use std::alloc::{AllocError, Global};
@@ -29,17 +29,29 @@ fn read(alloc: Global, first: &str, line: &str) -> Result<String, AllocError> {
 
 fn shown(alloc: Global, command: &Command) -> Result<String, AllocError> {
     match command {
-        Command::Single(asked) => shown_single(alloc, asked),
-        Command::Goal(asked) => shown_goal(alloc, asked),
-        Command::Check(check) => listed(alloc, "check", &[], &check.files),
-        Command::Batch(asked) => shown_batch(alloc, asked),
-        Command::Gen(asked) => shown_gen(alloc, asked),
-        Command::Lanes(asked) => String::from_str(alloc, asked.sessions),
-        Command::Serve(asked) => shown_serve(alloc, asked),
-        Command::Prove(asked) => shown_prove(alloc, asked),
-        Command::Verify(asked) => shown_verify(alloc, asked),
-        Command::Follow(FollowWords::Write(asked)) => shown_write(alloc, asked),
-        Command::Follow(FollowWords::Take(asked)) => shown_take(alloc, asked),
+        Command::Still(command) => shown_still(alloc, command),
+        Command::Waiting(WaitingCommand::Lanes(asked)) => {
+            String::from_str(alloc, asked.stem.text())
+        }
+        Command::Waiting(WaitingCommand::Serve(asked)) => shown_serve(alloc, asked),
+        Command::Waiting(WaitingCommand::Follow(FollowWords::Write(asked))) => {
+            shown_write(alloc, asked)
+        }
+        Command::Waiting(WaitingCommand::Follow(FollowWords::Take(asked))) => {
+            shown_take(alloc, asked)
+        }
+    }
+}
+
+fn shown_still(alloc: Global, command: &StillCommand) -> Result<String, AllocError> {
+    match command {
+        StillCommand::Single(asked) => shown_single(alloc, asked),
+        StillCommand::Goal(asked) => shown_goal(alloc, asked),
+        StillCommand::Check(files) => listed(alloc, "check", &[], files.as_slice()),
+        StillCommand::Batch(asked) => shown_batch(alloc, asked),
+        StillCommand::Gen(asked) => shown_gen(alloc, asked),
+        StillCommand::Prove(asked) => shown_prove(alloc, asked),
+        StillCommand::Verify(asked) => shown_verify(alloc, asked),
     }
 }
 
@@ -65,34 +77,35 @@ fn shown_single(alloc: Global, asked: &SingleWords) -> Result<String, AllocError
         AnswerKind::Costs => "costs",
         AnswerKind::Walks => "walks",
     };
-    let query = asked.query;
-    let numbers = [query.from, query.to, query.budget, asked.workers];
-    listed(alloc, name, &numbers, &asked.files)
+    let query = asked.query.query();
+    let numbers = [query.from, query.to, query.budget, asked.workers.get()];
+    listed(alloc, name, &numbers, asked.files.as_slice())
 }
 
 fn shown_goal(alloc: Global, asked: &GoalWords) -> Result<String, AllocError> {
-    let query = asked.query;
+    let query = asked.query.query();
     let numbers = [query.from, query.to, query.budget];
-    listed(alloc, "goal", &numbers, &asked.files)
+    listed(alloc, "goal", &numbers, asked.files.as_slice())
 }
 
 /// The name of the file of pairs stands last.
 fn shown_batch(alloc: Global, asked: &BatchWords) -> Result<String, AllocError> {
-    let numbers = [asked.limits.budget, asked.limits.workers];
-    let mut text = listed(alloc, "batch", &numbers, &asked.files)?;
-    let pairs = asked.pairs;
+    let numbers = [asked.limits.budget.get(), asked.limits.workers.get()];
+    let mut text = listed(alloc, "batch", &numbers, asked.files.as_slice())?;
+    let pairs = asked.pairs.text();
     write!(text, " of {pairs:?}")?;
     Ok(text)
 }
 
 /// The number of the file stands behind the plan.
 fn shown_gen(alloc: Global, asked: &GenWords) -> Result<String, AllocError> {
-    let (plan, limits) = (asked.plan, asked.limits);
-    let (start, side, criteria, pairs) = (plan.start, plan.side, plan.criteria, plan.pairs);
-    let (budget, workers) = (limits.budget, limits.workers);
+    let plan = &asked.plan;
+    let (start, side) = (plan.start, plan.side.get());
+    let (criteria, pairs) = (plan.criteria.get(), plan.pairs.get());
+    let (budget, workers) = (asked.limits.budget.get(), asked.limits.workers.get());
     match asked.file {
         Some(file) => {
-            let numbers = [start, side, criteria, pairs, file, budget, workers];
+            let numbers = [start, side, criteria, pairs, file.get(), budget, workers];
             listed(alloc, "file", &numbers, &[])
         }
         None => {
@@ -104,42 +117,42 @@ fn shown_gen(alloc: Global, asked: &GenWords) -> Result<String, AllocError> {
 
 /// The addresses stand last, that of the operator behind the other.
 fn shown_serve(alloc: Global, asked: &ServeWords) -> Result<String, AllocError> {
-    let (budget, workers) = (asked.limits.budget, asked.limits.workers);
-    let numbers = [asked.lanes, asked.links, asked.epoch, budget, workers];
-    let mut text = listed(alloc, "serve", &numbers, &asked.files)?;
-    let (listen, operator) = (asked.listen, asked.operator);
+    let (budget, workers) = (asked.limits.budget.get(), asked.limits.workers.get());
+    let numbers = [asked.lanes.get(), asked.links.get(), asked.epoch, budget, workers];
+    let mut text = listed(alloc, "serve", &numbers, asked.files.as_slice())?;
+    let (listen, operator) = (asked.listen.text(), asked.operator.text());
     write!(text, " at {listen:?} {operator:?}")?;
     Ok(text)
 }
 
 fn shown_prove(alloc: Global, asked: &ProveWords) -> Result<String, AllocError> {
-    let query = asked.query;
-    let numbers = [query.from, query.to, query.budget, asked.workers];
-    listed(alloc, "prove", &numbers, &asked.files)
+    let query = asked.query.query();
+    let numbers = [query.from, query.to, query.budget, asked.workers.get()];
+    listed(alloc, "prove", &numbers, asked.files.as_slice())
 }
 
 /// The name of the certificate stands last.
 fn shown_verify(alloc: Global, asked: &VerifyWords) -> Result<String, AllocError> {
-    let mut text = listed(alloc, "verify", &[], &asked.files)?;
-    let cert = asked.cert;
+    let mut text = listed(alloc, "verify", &[], asked.files.as_slice())?;
+    let cert = asked.cert.text();
     write!(text, " of {cert:?}")?;
     Ok(text)
 }
 
 /// The operator's script stands last.
 fn shown_write(alloc: Global, asked: &WriteWords) -> Result<String, AllocError> {
-    let mut text = listed(alloc, "write", &[asked.epoch], &asked.files)?;
-    let operator = asked.operator;
+    let mut text = listed(alloc, "write", &[asked.epoch], asked.files.as_slice())?;
+    let operator = asked.operator.text();
     write!(text, " of {operator:?}")?;
     Ok(text)
 }
 
 /// The stems stand last, that of the feeds first.
 fn shown_take(alloc: Global, asked: &TakeWords) -> Result<String, AllocError> {
-    let (budget, workers) = (asked.limits.budget, asked.limits.workers);
-    let numbers = [asked.links, asked.lanes, asked.epoch, budget, workers];
-    let mut text = listed(alloc, "take", &numbers, &asked.files)?;
-    let (feeds, sessions) = (asked.feeds, asked.sessions);
+    let (budget, workers) = (asked.limits.budget.get(), asked.limits.workers.get());
+    let numbers = [asked.links.get(), asked.count.get(), asked.epoch, budget, workers];
+    let mut text = listed(alloc, "take", &numbers, asked.files.as_slice())?;
+    let (feeds, sessions) = (asked.feeds.text(), asked.stem.text());
     write!(text, " of {feeds:?} {sessions:?}")?;
     Ok(text)
 }

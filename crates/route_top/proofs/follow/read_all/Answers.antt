@@ -1,6 +1,6 @@
 use Rattle.std.proofs.Common.{◌++◌, arith, length-append}
 use Rattle.std.proofs.lemmas.Result.{err_from_is_err_and}
-use Rattle.command_words.specs.Words.{feeds_of, sessions_of, take_asked}
+use Rattle.command_words.specs.Words.{feeds_of, sessions_of}
 use Rattle.route_top.proofs.FollowRuns.{starves_first, stops_first, stops_later}
 use Rattle.route_top.proofs.NumberedFiles.{count_numbered}
 use Rattle.route_top.proofs.follow.read_all.Goals as goal
@@ -8,19 +8,19 @@ use Rattle.route_top.proofs.follow.read_all.Goals as goal
 pub returns-in_err-feeds-clause-stopped : goal.returns-in_err-feeds-clause-stopped
 returns-in_err-feeds-clause-stopped g c =
     let p = err_from_is_err_and c.from_residual.result c.from_residual.ensures.1 in
-    let asked = take_asked c.args.asked.now in
+    let asked = c.args.asked.now in
     rw (p.1, p.2) (stops_first _ (feeds_of asked) (sessions_of asked) c.in_err-feeds.ensures.stopped)
 
 pub returns-in_err-scripts-clause-stopped : goal.returns-in_err-scripts-clause-stopped
 returns-in_err-scripts-clause-stopped g c =
     let p = err_from_is_err_and c.from_residual-in_err-scripts.result c.from_residual-in_err-scripts.ensures.1 in
-    let asked = take_asked c.args.asked.now in
+    let asked = c.args.asked.now in
     rw (p.1, p.2) (stops_later _ (feeds_of asked) (sessions_of asked) _ c.in_ok-feeds.ensures.read
     (rw c.in_ok-feeds.ensures.folder.files at c.in_err-scripts.ensures.stopped))
 
 pub returns-in_default-clause-stopped : goal.returns-in_default-clause-stopped
 returns-in_default-clause-stopped g c =
-    let asked = take_asked c.args.asked.now in
+    let asked = c.args.asked.now in
     let feeds = feeds_of asked in
     starves_first _ (feeds ++ sessions_of asked)
-    (omega (arith, length-append feeds (sessions_of asked), count_numbered asked.feeds asked.links, c.requires.lanes.some))
+    (omega (arith, length-append feeds (sessions_of asked), count_numbered asked.feeds asked.links, c.get.ensures.at_least))

@@ -1,6 +1,5 @@
 use Rattle.std.proofs.Common.{◌≡◌, [], ◌∷◌}
 use Rattle.std.proofs.lemmas.Result.{err_from_is_err_and}
-use Rattle.command_words.specs.Words.{write_asked}
 use Rattle.still_commands.proofs.FilesReadLemmas.{ends_at_files}
 use Rattle.route_top.specs.Follow.{WriteEnd, WriteReplies}
 use Rattle.route_top.proofs.FollowRuns.{ends_at_named, ends_over_named, stops_only}
@@ -10,23 +9,23 @@ use Rattle.route_top.proofs.follow.write_script.Goals as goal
 pub returns-in_err-graph : goal.returns-in_err-graph
 returns-in_err-graph g c =
     let p = err_from_is_err_and c.from_residual.result c.from_residual.ensures.1 in
-    let stop = rw c.deref.ensures.value at c.in_err-graph.ensures.read in
-    rw (p.1, p.2) (ends_at_files (WriteEnd (g.F.Source.state c.args.folder.now).files (write_asked c.args.asked.now)) _ _ _ _ stop
+    let stop = c.in_err-graph.ensures.read in
+    rw (p.1, p.2) (ends_at_files (WriteEnd (g.F.Source.state c.args.folder.now).files c.args.asked.now) _ _ _ _ stop
     c.in_err-graph.ensures.folder)
 
 pub returns-in_err-bytes : goal.returns-in_err-bytes
 returns-in_err-bytes g c =
     let p = err_from_is_err_and c.from_residual-in_err-bytes.result c.from_residual-in_err-bytes.ensures.1 in
-    let asked = write_asked c.args.asked.now in
-    let read = rw c.deref.ensures.value at c.in_ok-graph.ensures.read in
+    let asked = c.args.asked.now in
+    let read = c.in_ok-graph.ensures.read in
     rw (p.1, p.2) (ends_at_named (WriteReplies asked) asked.files (asked.operator ∷ []) _ _ _ _ read c.in_ok-graph.ensures.folder _
     (stops_only _ asked.operator c.in_err-bytes.ensures.read) c.in_err-bytes.ensures.folder)
 
 pub returns-in_err-write_feed : goal.returns-in_err-write_feed
 returns-in_err-write_feed g c =
     let p = err_from_is_err_and c.from_residual-in_err-write_feed.result c.from_residual-in_err-write_feed.ensures.1 in
-    let asked = write_asked c.args.asked.now in
-    let read = rw c.deref.ensures.value at c.in_ok-graph.ensures.read in
+    let asked = c.args.asked.now in
+    let read = c.in_ok-graph.ensures.read in
     let script = c.in_ok-bytes.bytes.items in
     let from : c.link_of-link.result.from ≡ script = c.link_of-link.ensures.from in
     rw (p.1, p.2) (ends_over_named (WriteReplies asked) asked.files (asked.operator ∷ []) _ _ _ _ read c.in_ok-graph.ensures.folder
@@ -36,8 +35,8 @@ returns-in_err-write_feed g c =
 
 pub returns : goal.returns
 returns g c =
-    let asked = write_asked c.args.asked.now in
-    let read = rw c.deref.ensures.value at c.in_ok-graph.ensures.read in
+    let asked = c.args.asked.now in
+    let read = c.in_ok-graph.ensures.read in
     let script = c.in_ok-bytes.bytes.items in
     let from : c.link_of-link.result.from ≡ script = c.link_of-link.ensures.from in
     ends_over_named (WriteReplies asked) asked.files (asked.operator ∷ []) _ _ _ _ read c.in_ok-graph.ensures.folder

@@ -1,7 +1,7 @@
 use Rattle.std.proofs.Common.{◌≡◌, [], false, map, take}
 use Rattle.std.specs.List.{All, AllZip}
 use Rattle.route_io.specs.Sources.{ReadsFrom}
-use Rattle.command_words.specs.Words.{lanes_asked, scripts_of}
+use Rattle.command_words.specs.Words.{scripts_of}
 use Rattle.route_top.specs.Lanes.{SaysScript}
 use Rattle.route_top.proofs.lanes.read_scripts.Given as goal
 
@@ -9,7 +9,7 @@ use Rattle.route_top.proofs.lanes.read_scripts.Given as goal
 abbrev pub invariant-loop-number : goal.invariant-loop-number
 invariant-loop-number g l = record {
   folder : ReadsFrom (g.F.Source.state l.fn.folder) (g.F.Source.state l.folder) false;
-  read : AllZip (SaysScript (g.F.Source.state l.fn.folder).files) (take l.number (scripts_of (lanes_asked l.asked)))
+  read : AllZip (SaysScript (g.F.Source.state l.fn.folder).files) (take l.number (scripts_of l.asked))
       (map (λ link. link.from) l.links.items);
   unsent : All (λ link. link.to ≡ record { sent = []; wants = 0 }) l.links.items;
 }

@@ -1,7 +1,6 @@
 use Rattle.std.proofs.Common.{arith}
-use Rattle.command_words.specs.Words.{lanes_asked}
 use Rattle.route_top.proofs.LaneScripts.{session_at}
 use Rattle.route_top.proofs.lanes.script_at.Goals as goal
 
 pub returns : goal.returns
-returns c = session_at (lanes_asked c.args.asked.now) c.args.number (omega (arith, c.if-number-eq0.false)) c.requires
+returns c = session_at c.args.asked.now c.args.number (omega (arith, c.if-number-eq0.false)) c.requires

@@ -17,14 +17,14 @@ blank = record { from = 0; to = 0 }
 
 pub loop-i-init : goal.loop-i-init
 loop-i-init g c = record {
-  replied = none_replied c.args.answerer.now.mode c.args.limits c.args.answerer.now.network.now c.args.pairs.now _;
+  replied = none_replied c.args.answerer.now.mode c.args.limits.now c.args.answerer.now.network.now c.args.pairs.now _;
   ahead = rw c.new-ahead.ensures.items tt;
 }
 
 pub reply_as_made-requires : goal.reply_as_made-requires
 reply_as_made-requires g c =
     let net = c.args.answerer.now.network.now in
-    let taken = taken_behind c.args.answerer.now.mode c.args.limits net c.args.pairs.now c.loop-i.i blank _ _ _ c.loop-i-test.true c.refill.ensures (c.take_next-made.ensures c.args.answerer.now.mode c.args.limits net) in
+    let taken = taken_behind c.args.answerer.now.mode c.args.limits.now net c.args.pairs.now c.loop-i.i blank _ _ _ c.loop-i-test.true c.refill.ensures (c.take_next-made.ensures c.args.answerer.now.mode c.args.limits.now net) in
     let made = subst (λ (query : Query). IfSome c.take_next-made.result (IsMade net c.args.answerer.now.mode 0 Walks query)) (sym c.query_between-query.ensures.value) taken.0 in
     search (rules, made, c.query_between-query.ensures.asked)
 
@@ -35,9 +35,9 @@ loop-i-preserved g c =
     let replied = g.K.Sink.state c.reply_as_made.new.out in
     let is = c.query_between-query.ensures.value in
     let sends = subst (λ (query : Query). Replied (RepliesToQuery net c.args.answerer.now.mode 0 Walks query) mid replied (Ok c.in_ok-reply_as_made.field-0)) is c.in_ok-reply_as_made.ensures in
-    let taken = taken_behind c.args.answerer.now.mode c.args.limits net c.args.pairs.now c.loop-i.i blank _ _ _ c.loop-i-test.true c.refill.ensures (c.take_next-made.ensures c.args.answerer.now.mode c.args.limits net) in
+    let taken = taken_behind c.args.answerer.now.mode c.args.limits.now net c.args.pairs.now c.loop-i.i blank _ _ _ c.loop-i-test.true c.refill.ensures (c.take_next-made.ensures c.args.answerer.now.mode c.args.limits.now net) in
     record {
-      replied = one_more_replied c.args.answerer.now.mode c.args.limits net c.args.pairs.now c.loop-i.i blank _ c.loop-i-test.true refl _ _ _ c.loop-i.invariant.replied _ sends;
+      replied = one_more_replied c.args.answerer.now.mode c.args.limits.now net c.args.pairs.now c.loop-i.i blank _ c.loop-i-test.true refl _ _ _ c.loop-i.invariant.replied _ sends;
       ahead = taken.1;
     }
 
@@ -50,9 +50,9 @@ returns-in_err-reply_as_made g c =
     let is = c.query_between-query.ensures.value in
     let sends = subst (λ (query : Query). Replied (RepliesToQuery net c.args.answerer.now.mode 0 Walks query) mid replied (Err c.in_err-reply_as_made.field-0.0)) is c.in_err-reply_as_made.ensures in
     rw (p.1, p.2)
-    (ends_at_pair c.args.answerer.now.mode c.args.limits net c.args.pairs.now c.loop-i.i blank _ c.loop-i-test.true refl _ _ _ c.loop-i.invariant.replied _ sends)
+    (ends_at_pair c.args.answerer.now.mode c.args.limits.now net c.args.pairs.now c.loop-i.i blank _ c.loop-i-test.true refl _ _ _ c.loop-i.invariant.replied _ sends)
 
 pub returns : goal.returns
 returns g c =
-    all_replied c.args.answerer.now.mode c.args.limits c.args.answerer.now.network.now c.args.pairs.now c.loop-i.i _ _
+    all_replied c.args.answerer.now.mode c.args.limits.now c.args.answerer.now.network.now c.args.pairs.now c.loop-i.i _ _
     (omega arith) c.loop-i.invariant.replied

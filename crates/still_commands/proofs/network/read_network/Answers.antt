@@ -5,12 +5,12 @@ use Rattle.still_commands.proofs.network.read_network.Goals as goal
 pub returns-in_err-finish-clause-read : goal.returns-in_err-finish-clause-read
 returns-in_err-finish-clause-read g c =
     let p = err_from_is_err_and c.from_residual-in_err-finish.result c.from_residual-in_err-finish.ensures.1 in
-    let has = c.in_ok-joiner.ensures.read in
+    let has = rw c.as_slice.ensures.names at c.in_ok-joiner.ensures.read in
     rw (p.1, p.2) (not_joined _ _ c.in_ok-joiner.joiner has c.in_err-finish.field-0.0 (c.in_err-finish.ensures.fault has.contents has.stands))
 
 pub returns-clause-read : goal.returns-clause-read
 returns-clause-read g c =
-    let has = c.in_ok-joiner.ensures.read in
+    let has = rw c.as_slice.ensures.names at c.in_ok-joiner.ensures.read in
     record {
       contents = has.contents;
       read = has.read;

@@ -9,13 +9,13 @@ use Rattle.still_commands.proofs.single.run.Goals as goal
 pub returns-in_err-graph : goal.returns-in_err-graph
 returns-in_err-graph g c =
     let p = err_from_is_err_and c.from_residual.result c.from_residual.ensures.1 in
-    let stop = rw c.deref.ensures.value at c.in_err-graph.ensures.read in
+    let stop = c.in_err-graph.ensures.read in
     rw (p.1, p.2) (ends_at_files (QueryReplies Plain c.args.asked.now.kind c.args.asked.now.query) _ _ _ _ stop c.in_err-graph.ensures.folder)
 
 pub reply_once-requires : goal.reply_once-requires
-reply_once-requires g c = (search rules, (search rules, asked_unlimited _ c.args.asked.now.query c.requires.limits.unlimited c.requires.limits.limits.budget))
+reply_once-requires g c = (search rules, (search rules, asked_unlimited _ c.query.result.now c.query.ensures.unlimited c.query.ensures.at_most))
 
 pub returns : goal.returns
 returns g c =
-    let read = rw c.deref.ensures.value at c.in_ok-graph.ensures.read in
-    ends_over (QueryReplies Plain c.args.asked.now.kind c.args.asked.now.query) _ _ _ _ _ _ _ _ read c.in_ok-graph.ensures.folder (rw c.new-network.ensures at c.reply_once.ensures _)
+    let read = c.in_ok-graph.ensures.read in
+    ends_over (QueryReplies Plain c.args.asked.now.kind c.args.asked.now.query) _ _ _ _ _ _ _ _ read c.in_ok-graph.ensures.folder (rw (c.new-network.ensures, c.query.ensures.query) at c.reply_once.ensures _)

@@ -33,4 +33,6 @@ pub returns-in-Err-refill-clause-advances : goal.returns-in-Err-refill-clause-ad
 returns-in-Err-refill-clause-advances g c =
     let lacks = rw c.in-Ok-false.field-0-test at c.in-Ok-false.ensures in
     let failed = rw c.in-Err-refill.is at c.refill.ensures.reads in
-    advances_failed _ _ c.refill.new.self _ _ (holds_more _ _ _ lacks c.refill.ensures.stays _ _ _ c.refill.ensures.reads _ _ c.loop-fault.invariant.holds) failed.answer.2
+    let same = held_same _ _ _ failed.grown failed.answer.0 in
+    advances_failed _ _ c.refill.new.self _ _ (holds_more _ _ _ lacks c.refill.ensures.stays _ _ _ c.refill.ensures.reads _ _ c.loop-fault.invariant.holds)
+    failed.answer.2 (rw same lacks.part)

@@ -6,6 +6,6 @@ use Rattle.session_core.proofs.WindowLemmas.{SentLines}
 use Rattle.session_core.proofs.window.Window.send_texts.Given as goal
 
 -- the lines of the first pieces were sent
-abbrev pub invariant-loop-text : goal.invariant-loop-text
-invariant-loop-text g l = (routes : List Route) → AreRoutes l.self.network.now (g.F.FoundCosts.state l.self.found.now) routes
-    → SentLines l.self.kind routes (g.K.Sink.state l.fn.out) (g.K.Sink.state l.out) l.self.from (min l.self.to (l.self.from + l.text-index * piece_size))
+abbrev pub invariant-loop-made : goal.invariant-loop-made
+invariant-loop-made g l = (routes : List Route) → AreRoutes l.self.network.now (g.F.FoundCosts.state l.self.found.now) routes
+    → SentLines l.self.kind routes (g.K.Sink.state l.fn.out) (g.K.Sink.state l.out) l.self.from (min l.self.to (l.self.from + l.made-index * piece_size))

@@ -17,7 +17,7 @@ loop-pair-init g c =
     record {
       come = ap (λ (s : Summary). s.pairs) none;
       fits = c.of-counts.ensures.fits;
-      sums = none_summed c.args.self.now.network.now c.args.limits.budget c.args.pairs.now c.of-counts.result none;
+      sums = none_summed c.args.self.now.network.now c.args.limits.now.budget c.args.pairs.now c.of-counts.result none;
     }
 
 pub count_pair-requires-clause-nodes : goal.count_pair-requires-clause-nodes
@@ -33,11 +33,11 @@ loop-pair-preserved g c =
     record {
       come = omega (arith, one_pair_more net _ _ c.loop-pair.counts c.count_pair.new.counts counts, c.loop-pair.invariant.come);
       fits = c.in_ok-count_pair.ensures.fits;
-      sums = one_more_summed net c.args.limits.budget c.args.pairs.now c.loop-pair.pair-index blank c.loop-pair.counts c.count_pair.new.counts
+      sums = one_more_summed net c.args.limits.now.budget c.args.pairs.now c.loop-pair.pair-index blank c.loop-pair.counts c.count_pair.new.counts
           c.loop-pair-test.true c.loop-pair.invariant.sums counts;
     }
 
 pub returns : goal.returns
 returns g c =
-    all_summed c.args.self.now.network.now c.args.limits.budget c.args.pairs.now c.loop-pair.pair-index c.loop-pair.counts
+    all_summed c.args.self.now.network.now c.args.limits.now.budget c.args.pairs.now c.loop-pair.pair-index c.loop-pair.counts
     (omega arith) c.loop-pair.invariant.sums

@@ -99,11 +99,12 @@ fn take_feeds<'a, R: Threads + Wait + Clock + Sync, G: Gate, F: Folder, K: Sink>
     let (mut feeds, mut links) = read_all(alloc, folder, asked)?;
     let helpers = Helpers::new();
     let workers = Workers::new(rt, asked.limits.workers.get(), gate).watched(&helpers);
+    let budget = asked.limits.budget.get();
     let context = ServeContext {
         workers: &workers,
         alloc,
         graph: &graph,
-        budget: asked.limits.budget.get(),
+        budget,
         bytes: MAX_TAKEN,
     };
     prove!(asked.count.get() >= 1);
